@@ -1,0 +1,38 @@
+-- Access classes and their traffic identifiers (IEEE 802.11-2012, 9.2.4.2 and table 9-1).
+use Rattle.std.specs.Prelude.{ℕ, zero, suc, ◌==◌, Bool, List, [], ◌∷◌}
+use Rattle.wf_frame.specs.declared.classes.Class.{Class}
+use Rattle.wf_frame.specs.declared.classes.Class.TheVariants.{Bk, Be, Vi, Vo}
+
+-- its place, the least urgent first
+abbrev pub class_number : Class → ℕ
+class_number Bk = 0
+class_number Be = 1
+class_number Vi = 2
+class_number Vo = 3
+
+abbrev pub lower_tid : Class → ℕ
+lower_tid Bk = 1
+lower_tid Be = 0
+lower_tid Vi = 4
+lower_tid Vo = 6
+
+abbrev pub upper_tid : Class → ℕ
+upper_tid Bk = 2
+upper_tid Be = 3
+upper_tid Vi = 5
+upper_tid Vo = 7
+
+-- the class of each of the TIDs from 0 on; what stands past them is of Vo
+abbrev pub class_among : List Class → ℕ → Class
+class_among [] tid = Vo
+class_among (c ∷ cs) zero = c
+class_among (c ∷ cs) (suc tid) = class_among cs tid
+
+abbrev pub class_of : ℕ → Class
+class_of tid = class_among (Be ∷ Bk ∷ Bk ∷ Be ∷ Vi ∷ Vi ∷ Vo ∷ Vo ∷ []) tid
+
+abbrev pub same_class : Class → Class → Bool
+same_class c d = class_number c == class_number d
+
+abbrev pub all_classes : List Class
+all_classes = Bk ∷ Be ∷ Vi ∷ Vo ∷ []

@@ -1,0 +1,155 @@
+//! A frame with its body.
+
+ghost use Rattle.std.specs.Prelude.{◌≡◌, ◌<◌, ◌≤◌, ◌⊎◌, length, IfOk, IfErr, MatchResult};
+ghost use Rattle.wf_frame.specs.Frames.{new_frame, sample_body};
+ghost use Rattle.wf_frame.specs.declared.classes.Fate.TheVariants.{Held};
+
+use crate::Fate;
+use std::alloc::{AllocError, Global};
+use std::marker::Model;
+
+/// A frame: its body of 1 to 2304 octets, where it goes, and what becomes of it.
+#[derive(Drop)]
+pub struct Frame {
+    body: Vec<u8>,
+    id: u64,
+    stamp: u64,
+    station: u16,
+    tid: u8,
+    flow: u32,
+    fate: Fate,
+}
+
+impl Model for Frame {
+    ghost use Rattle.std.specs.Prelude.{◌<◌, ◌≤◌, length};
+    ghost use Rattle.wf_frame.specs.Frames.{FrameValue};
+
+    ghost Value = { FrameValue };
+
+    ghost view = { λ f. record { body = f.body.items; id = f.id; stamp = f.stamp; station = f.station; tid = f.tid; flow = f.flow; fate = f.fate } };
+
+    ghost invariant = { λ f. (0 < length f.body.items) × (length f.body.items ≤ 2304) };
+}
+
+impl Frame {
+    /// A frame that is not accepted yet: id 0, stamp 0 and fate Held. Refused, with the body handed back, exactly where
+    /// the body has no octet or more than 2304 (the greatest MSDU, IEEE 802.11-2012, 8.2.3).
+    pub fn new(station: u16, tid: u8, flow: u32, body: Vec<u8>) -> Result<Frame, Vec<u8>>
+        ensures made { IfOk result (λ f. f ≡ new_frame station tid flow body.items) }
+        ensures within { IfOk result (λ f. (0 < length body.items) × (length body.items ≤ 2304)) }
+        ensures handed_back { IfErr result (λ b. b ≡ body) }
+        ensures refused { IfErr result (λ b. (length body.items ≡ 0) ⊎ (2304 < length body.items)) }
+    {
+        if body.is_empty() || 2304 < body.len() {
+            return Err(body);
+        }
+        Ok(Frame {
+            body,
+            id: 0,
+            stamp: 0,
+            station,
+            tid,
+            flow,
+            fate: Fate::Held,
+        })
+    }
+
+    /// The frame that a line of a trace names: octet j of its body is `(flow + j) mod 256`.
+    pub fn sample(
+        alloc: Global,
+        station: u16,
+        tid: u8,
+        flow: u32,
+        len: u16,
+    ) -> Result<Frame, AllocError>
+        requires within { (0 < len) × (len ≤ 2304) }
+        ensures { IfOk result (λ f. f ≡ new_frame station tid flow (sample_body flow len)) }
+    {
+        let mut body = Vec::new(alloc);
+        for j in 0..len {
+            body.push(((u64::from(flow) + u64::from(j)) % 256) as u8)?;
+        }
+        Ok(Frame {
+            body,
+            id: 0,
+            stamp: 0,
+            station,
+            tid,
+            flow,
+            fate: Fate::Held,
+        })
+    }
+
+    /// The number that the frame got when it was accepted.
+    pub fn id(&self) -> u64
+        ensures { result ≡ self.now.id }
+    {
+        self.id
+    }
+
+    /// The clock when the frame was accepted, in microseconds.
+    pub fn stamp(&self) -> u64
+        ensures { result ≡ self.now.stamp }
+    {
+        self.stamp
+    }
+
+    /// The station that it goes to.
+    pub fn station(&self) -> u16
+        ensures { result ≡ self.now.station }
+    {
+        self.station
+    }
+
+    /// Its traffic identifier.
+    pub fn tid(&self) -> u8
+        ensures { result ≡ self.now.tid }
+    {
+        self.tid
+    }
+
+    /// The flow that it belongs to.
+    pub fn flow(&self) -> u32
+        ensures { result ≡ self.now.flow }
+    {
+        self.flow
+    }
+
+    /// The length of its body in octets, 1 to 2304.
+    pub fn len(&self) -> u16
+        ensures exact { result ≡ length self.now.body }
+        ensures some { 0 < result }
+        ensures most { result ≤ 2304 }
+    {
+        self.body.len() as u16
+    }
+
+    /// Its body.
+    pub fn body(&self) -> &[u8]
+        ensures { result.now ≡ self.now.body }
+    {
+        self.body.as_slice()
+    }
+
+    /// What became of it.
+    pub fn fate(&self) -> Fate
+        ensures { result ≡ self.now.fate }
+    {
+        self.fate
+    }
+
+    /// Gives the frame its number and its stamp.
+    pub fn mark(&mut self, id: u64, stamp: u64)
+        ensures { self.new ≡ record self.old { id = id; stamp = stamp } }
+    {
+        self.id = id;
+        self.stamp = stamp;
+    }
+
+    /// Gives the frame its fate.
+    pub fn settle(&mut self, fate: Fate)
+        ensures { self.new ≡ record self.old { fate = fate } }
+    {
+        self.fate = fate;
+    }
+}

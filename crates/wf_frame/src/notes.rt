@@ -1,0 +1,220 @@
+//! Calls and their answers as numbers.
+
+use crate::{Class, Fate, Ids, Pairs};
+
+/// One of the thirteen calls that carry no frame.
+#[derive(Clone, Copy, Debug, PartialEq, Eq)]
+pub enum Ask {
+    /// A station joins: its window size in frames, first sequence number, A-MPDU length exponent and weight.
+    Join {
+        station: u16,
+        window: u16,
+        start: u16,
+        exponent: u8,
+        weight: u8,
+    },
+    /// A station leaves; its frames are dropped.
+    Leave {
+        station: u16,
+    },
+    /// A station is sent to at this rate from now on: MCS 0 to 15, 20 or 40 MHz, long or short guard interval.
+    Rate {
+        station: u16,
+        mcs: u8,
+        mhz: u8,
+        short: bool,
+    },
+    /// The clock moves on, by microseconds.
+    Tick {
+        by: u32,
+    },
+    /// The driver asks for the next exchange of a class.
+    Pull {
+        class: Class,
+    },
+    /// One transmission of an open exchange reached its station.
+    Arrive {
+        exchange: u64,
+        index: u16,
+    },
+    /// The station answers an open exchange with a block acknowledgement.
+    Answer {
+        exchange: u64,
+    },
+    /// An exchange ends; `heard` tells whether its answer was heard.
+    Done {
+        exchange: u64,
+        heard: bool,
+    },
+    /// A station goes to sleep.
+    Sleep {
+        station: u16,
+    },
+    /// A station wakes.
+    Wake {
+        station: u16,
+    },
+    /// A sleeping station asks for one frame (PS-Poll).
+    Poll {
+        station: u16,
+    },
+    /// A station used airtime to send, in microseconds.
+    Rx {
+        station: u16,
+        class: Class,
+        air: u32,
+    },
+    /// The caller takes the next finished frame.
+    Reap,
+}
+
+/// A call as numbers.
+#[derive(Clone, Copy, Debug, PartialEq, Eq)]
+pub enum Note {
+    /// A frame for a station, of this TID, flow and body length in octets.
+    Enqueue {
+        station: u16,
+        tid: u8,
+        flow: u32,
+        len: u16,
+    },
+    /// A call that carries no frame.
+    Asked(Ask),
+}
+
+/// What an exchange sends: frames with their sequence numbers, or a request with its start.
+#[derive(Drop)]
+pub enum Part {
+    /// The id and the sequence number of each frame of an aggregate.
+    Mpdus(Pairs),
+    /// The start of a BlockAckReq.
+    Request(u16),
+}
+
+/// Why a call was refused.
+#[derive(Clone, Copy, Debug, PartialEq, Eq)]
+pub enum Refusal {
+    /// The station number is not below `stations`.
+    BadStation,
+    /// The window is not 1 to 256.
+    BadWindow,
+    /// The first sequence number is above 4095.
+    BadStart,
+    /// The A-MPDU length exponent is above 3.
+    BadExponent,
+    /// The MCS is above 15, or the width neither 20 nor 40 MHz.
+    BadRate,
+    /// The clock would move by more than 10,000,000.
+    BadTick,
+    /// The TID is above 7.
+    BadTid,
+    /// The airtime is 0 or above 65,535.
+    BadAir,
+    /// The exchange has no transmission of that index.
+    BadIndex,
+    /// The station is live already.
+    Live,
+    /// The station is not live.
+    NoStation,
+    /// No open exchange has that number.
+    NoExchange,
+    /// The exchange was heard, but its station never answered.
+    NoAnswer,
+    /// The station has open exchanges, so many.
+    StillOpen { count: u32 },
+    /// `room` frames are accepted and not yet reaped.
+    Room { inside: u32 },
+    /// The station sleeps, and `sleeping` frames of the class or more are queued for it.
+    Sleeping { queued: u32 },
+    /// `inflight` exchanges of the class are open.
+    Full { count: u32 },
+    /// No station of the class is ready.
+    Idle,
+    /// The exchange was answered already.
+    Answered,
+    /// That transmission arrived already.
+    Arrived,
+    /// There is nothing to answer, to send or to reap.
+    Nothing,
+    /// The station is asleep already.
+    Asleep,
+    /// The station is awake.
+    Awake,
+    /// The station has a credit that is not spent yet.
+    Polled,
+    /// The deficit, which stays, would fall below -1,000,000.
+    Debt { deficit: i64 },
+    /// The history has `calls` entries; the call is none.
+    HistoryFull,
+    /// The weight is not 1 to 16.
+    BadWeight,
+}
+
+/// The answer to a call.
+#[derive(Drop)]
+pub enum ReplyNote {
+    /// The station is live.
+    Joined,
+    /// The station left, and so many of its frames were dropped.
+    Gone {
+        dropped: u32,
+    },
+    /// The rate is set.
+    RateSet,
+    /// The clock after the tick, in microseconds.
+    Ticked {
+        now: u64,
+    },
+    /// The frame's new id, and the id of the frame that was dropped for the limit, if any.
+    Accepted {
+        id: u64,
+        dropped: Option<u64>,
+    },
+    /// The exchange to send: its number, station, TID, charge in microseconds and transmissions; `more` is the More Data bit.
+    Send {
+        exchange: u64,
+        station: u16,
+        tid: u8,
+        air: u32,
+        part: Part,
+        more: bool,
+    },
+    /// The frames that the receiver passed up, in order.
+    Released {
+        ids: Ids,
+    },
+    /// The receiver's block acknowledgement: its start and its bits, offsets 0 to 63 in `b0`; a wide one has 256 of them.
+    Ba {
+        start: u16,
+        b0: u64,
+        b1: u64,
+        b2: u64,
+        b3: u64,
+        wide: bool,
+    },
+    /// How many of the exchange's frames are acknowledged, wait again, and are dropped.
+    Ended {
+        acked: u16,
+        waiting: u16,
+        failed: u16,
+    },
+    /// The station is asleep.
+    Slept,
+    /// The station is awake.
+    Woken,
+    /// The sleeping station is owed one frame of this class.
+    Credited {
+        class: Class,
+    },
+    /// The deficit after the charge, in microseconds.
+    Charged {
+        deficit: i64,
+    },
+    /// The first finished frame and its fate.
+    Reaped {
+        id: u64,
+        fate: Fate,
+    },
+    /// The call was refused.
+    Refused(Refusal),
+}

@@ -1,0 +1,64 @@
+//! Each call once, with ample memory.
+
+use crate::{Cause, Class, Config, Fate, Field, Frame, Ids, Pairs};
+use std::alloc::AllocError;
+
+#[test]
+fn a_sample_frame_has_its_numbers_and_its_body(rt: HostRuntime) -> Result<(), AllocError> {
+    let mut frame = Frame::sample(rt.alloc(), 3, 5, 254, 2304)?;
+    assert!(rt; frame.len() == 2304);
+    let short = Frame::sample(rt.alloc(), 3, 5, 254, 4)?;
+    assert!(rt; short.body() == [254, 255, 0, 1].as_slice());
+    assert!(rt; frame.station() == 3 && frame.tid() == 5 && frame.flow() == 254);
+    assert!(rt; frame.id() == 0 && frame.stamp() == 0 && frame.fate() == Fate::Held);
+    frame.mark(7, 9);
+    frame.settle(Fate::Dropped(Cause::Codel));
+    assert!(rt;
+        frame.id() == 7 && frame.stamp() == 9 && frame.fate() == Fate::Dropped(Cause::Codel)
+    );
+    Ok(())
+}
+
+#[test]
+fn settings_are_checked_in_order(rt: HostRuntime) {
+    let standard = Config::standard();
+    assert!(rt; standard.check() == None);
+    assert!(rt;
+        Config {
+            agg: 257,
+            ..standard
+        }
+        .check()
+            == Some(Field::Agg)
+    );
+    assert!(rt;
+        Config {
+            agg: 257,
+            calls: 0,
+            cap: 2999,
+            ..standard
+        }
+        .check()
+            == Some(Field::Agg)
+    );
+    assert!(rt;
+        Config {
+            stations: 0,
+            ..standard
+        }
+        .check()
+            == Some(Field::Stations)
+    );
+}
+
+#[test]
+fn fixed_lists_keep_what_is_pushed(rt: HostRuntime) {
+    let mut ids = Ids::new();
+    let mut pairs = Pairs::new();
+    ids.push(4);
+    ids.push(2);
+    pairs.push((9, 4095));
+    assert!(rt; ids.len() == 2 && ids.at(1) == 2);
+    assert!(rt; pairs.len() == 1 && pairs.at(0) == (9, 4095));
+    assert!(rt; Class::of_tid(3) == Class::Be && Class::Vi.tids() == [4, 5]);
+}
