@@ -1,0 +1,141 @@
+-- CoDel, RFC 8289 (section 5), on a queue seen as a list. The looks of one dequeue count from 0: look i sees the queue from its place i on.
+use Rattle.std.specs.Prelude.{length, take, drop, slice_get, ℕ, zero, suc, ◌+◌, ◌*◌, ◌-◌, ◌/◌, ◌==◌, min, nat_lt, nat_le, Bool, true, false, ◌&&◌, ◌||◌, not, List, [], ◌∷◌, Option, if◌then◌else◌, sum_by}
+
+-- a queued frame
+pub record Item : Type 0 where
+  pub id : ℕ
+  pub stamp : ℕ
+  pub len : ℕ
+
+pub record Params : Type 0 where
+  pub target : ℕ
+  pub interval : ℕ
+
+pub record Codel : Type 0 where
+  pub first_above : ℕ  -- 0 for none
+  pub drop_next : ℕ
+  pub count : ℕ
+  pub last_count : ℕ
+  pub dropping : Bool
+
+abbrev pub new_codel : Codel
+new_codel = record { first_above = 0; drop_next = 0; count = 0; last_count = 0; dropping = false }
+
+abbrev pub octets : List Item → ℕ
+octets items = sum_by (λ x. x.len) items
+
+-- the greatest root with root * root ≤ n, for n below 4 ^ digits
+abbrev pub root : ℕ → ℕ → ℕ
+root zero n = 0
+root (suc digits) n =
+    let r : ℕ = 2 * root digits (n / 4) in
+    if nat_le ((r + 1) * (r + 1)) n then r + 1 else r
+
+-- the greatest d with d * d * count ≤ interval * interval
+unfoldable pub step_of : ℕ → ℕ → ℕ
+step_of interval count = root 64 (interval * interval / count)
+
+abbrev pub law : Params → ℕ → ℕ → ℕ
+law p t c = t + step_of p.interval c
+
+abbrev pub rise : ℕ → ℕ
+rise count = min (count + 1) 4294967295
+
+-- A look at the queue: first_above after it, and whether the look is ok.
+pub record Look : Type 0 where
+  pub first_above : ℕ
+  pub ok : Bool
+
+abbrev pub look_at : Params → ℕ → ℕ → List Item → Look
+look_at p now above [] = record { first_above = 0; ok = false }
+look_at p now above (x ∷ rest) =
+    if nat_lt (now - x.stamp) p.target || nat_le (octets rest) 2304 then record { first_above = 0; ok = false }
+    else (if above == 0 then record { first_above = now + p.interval; ok = false }
+    else record { first_above = above; ok = nat_le above now })
+
+-- the count with which dropping begins again
+abbrev pub first_count : Params → ℕ → Codel → ℕ
+first_count p now c =
+    if nat_lt 1 (c.count - c.last_count) && nat_lt (now - c.drop_next) (16 * p.interval) then c.count - c.last_count else 1
+
+abbrev pub begin_dropping : Params → ℕ → Codel → Look → Codel
+begin_dropping p now c second =
+    record {
+      first_above = second.first_above;
+      drop_next = law p now (first_count p now c);
+      count = first_count p now c;
+      last_count = first_count p now c;
+      dropping = true;
+    }
+
+-- look i, where `first_above` is `above` before look 0
+abbrev pub look : Params → ℕ → ℕ → List Item → ℕ → Look
+look p now above items zero = look_at p now above items
+look p now above items (suc i) = look_at p now (look p now above items i).first_above (drop (suc i) items)
+
+-- the count behind i drops: one that would pass 4,294,967,295 is that number
+abbrev pub raised : ℕ → ℕ → ℕ
+raised count zero = count
+raised count (suc i) = min (count + suc i) 4294967295
+
+-- when drop i is due, counting from 0
+abbrev pub next : Params → ℕ → ℕ → ℕ → ℕ
+next p count due zero = due
+next p count due (suc i) = law p (next p count due i) (raised count (suc i))
+
+-- the least number that passes the test, or n where none below n does
+abbrev pub least : (ℕ → Bool) → ℕ → ℕ
+least test zero = 0
+least test (suc n) = if test 0 then 0 else suc (least (λ i. test (suc i)) n)
+
+-- While dropping, look i ends the drops where it is not ok or drop i is not due yet.
+abbrev pub ends : Params → ℕ → Codel → ℕ → List Item → ℕ → Bool
+ends p now c due items i = not (look p now c.first_above items i).ok || nat_lt now (next p c.count due i)
+
+unfoldable pub drops_dropping : Params → ℕ → Codel → ℕ → List Item → ℕ
+drops_dropping p now c due items = least (ends p now c due items) (length items)
+
+-- drop_next where look i is not ok
+abbrev pub last_due : Params → Codel → ℕ → ℕ → ℕ
+last_due p c due zero = c.drop_next
+last_due p c due (suc i) = next p c.count due i
+
+-- the state after i drops
+unfoldable pub state_dropping : Params → ℕ → Codel → ℕ → List Item → ℕ → Codel
+state_dropping p now c due items i = record c {
+  first_above = (look p now c.first_above items i).first_above;
+  drop_next = if (look p now c.first_above items i).ok then next p c.count due i else last_due p c due i;
+  count = raised c.count i;
+  dropping = (look p now c.first_above items i).ok;
+}
+
+-- While not dropping there is one drop exactly where look 0 is ok.
+unfoldable pub drops_plain : Params → ℕ → Codel → List Item → ℕ
+drops_plain p now c items = if (look p now c.first_above items 0).ok then 1 else 0
+
+unfoldable pub state_plain : Params → ℕ → Codel → List Item → Codel
+state_plain p now c items =
+    if (look p now c.first_above items 0).ok then begin_dropping p now c (look p now c.first_above items 1)
+    else record c { first_above = (look p now c.first_above items 0).first_above }
+
+-- how many frames a dequeue drops, and the state that it leaves
+unfoldable pub drops : Params → ℕ → Codel → List Item → ℕ
+drops p now c items = if c.dropping then drops_dropping p now c c.drop_next items else drops_plain p now c items
+
+unfoldable pub state_after : Params → ℕ → Codel → List Item → Codel
+state_after p now c items =
+    if c.dropping then state_dropping p now c c.drop_next items (drops p now c items) else state_plain p now c items
+
+-- what a dequeue gives, drops and leaves
+pub record Dequeued : Type 0 where
+  pub given : Option Item
+  pub dropped : List Item
+  pub rest : List Item
+  pub state : Codel
+
+-- The frame of the last look is given, those before it are dropped.
+abbrev pub dequeued_after : List Item → ℕ → Codel → Dequeued
+dequeued_after items n state = record { given = slice_get items n; dropped = take n items; rest = drop (suc n) items; state = state }
+
+unfoldable pub dequeue : Params → ℕ → Codel → List Item → Dequeued
+dequeue p now c items = dequeued_after items (drops p now c items) (state_after p now c items)

@@ -1,0 +1,7 @@
+pub mod Table
+pub mod Airtime
+pub mod Fit
+pub mod Codel
+pub mod Rotation
+pub mod Session
+pub mod Receiver

@@ -1,0 +1,4 @@
+pub mod Rehearsals
+pub mod Rows
+pub mod Texts
+pub mod Charges

@@ -1,0 +1,10 @@
+pub mod World
+pub mod FlowQueues
+pub mod CanSend
+pub mod Exchanges
+pub mod Refusals
+pub mod Step
+pub mod Run
+pub mod Text
+pub mod Computed
+pub mod Stretches
