@@ -1,0 +1,37 @@
+-- All laws of a history together.
+use Rattle.std.specs.Prelude.{List}
+use Rattle.wf_frame.specs.declared.settings.Config.{Config}
+use Rattle.wf_frame.specs.Settings.{IsInRange}
+use Rattle.wf_world.specs.Run.{Entry}
+use Rattle.wf_laws.specs.Laws.{Laws}
+use Rattle.wf_laws.proofs.Windows.Law.{window_law}
+use Rattle.wf_laws.proofs.Windows.Answers.{answer_law}
+use Rattle.wf_laws.proofs.Releases.Named.{release_law}
+use Rattle.wf_laws.proofs.Releases.Placed.{once_law}
+use Rattle.wf_laws.proofs.Frames.Delivered.{delivery_law}
+use Rattle.wf_laws.proofs.Frames.FateLaw.{fate_law}
+use Rattle.wf_laws.proofs.Frames.Tallies.{tally_law}
+use Rattle.wf_laws.proofs.Deficits.Law.{deficits}
+use Rattle.wf_laws.proofs.Deficits.Quiet.{quiet}
+use Rattle.wf_laws.proofs.Fairness.Law.{fairness}
+use Rattle.wf_laws.proofs.Frames.Places.{place_law}
+use Rattle.wf_laws.proofs.Windows.TwelveBits.{twelve_bit_law}
+use Rattle.wf_laws.proofs.Queues.Law.{queue_law, queue_deficit_law}
+
+pub laws : (config : Config) (history : List Entry) → IsInRange config → Laws config history
+laws config h range = record {
+  windows = window_law config h;
+  answers = answer_law config h;
+  releases = release_law config h;
+  once = once_law config h;
+  delivery = delivery_law config h;
+  fates = fate_law config h;
+  tallies = tally_law config h;
+  places = place_law config h range;
+  deficits = deficits config h range;
+  quiet = quiet config h range;
+  fairness = fairness config h range;
+  twelve_bits = twelve_bit_law config h;
+  queues = queue_law config h range;
+  queue_deficits = queue_deficit_law config h range;
+}

@@ -1,0 +1,6 @@
+-- What any of the laws may use: tables, counts in lists, rising lists of numbers, what a dequeue leaves, and a history cut at its moments.
+pub mod Tables
+pub mod Counts
+pub mod Numbers
+pub mod Dequeues
+pub mod Moments

@@ -1,0 +1,124 @@
+-- No exchange is charged more than the longest.
+use Rattle.std.proofs.Common.{◌≡◌, refl, ap, sym, ◌∙◌, subst, arith, ℕ, zero, suc, ◌+◌, ◌*◌, ◌-◌, ◌/◌, ◌<◌, ◌≤◌, Bool, true, false, if◌then◌else◌, List, [], ◌∷◌, ◌++◌, Option, Some, None, unwrap_or, option_map, not, length, map, nat_lt, ◌==◌}
+use Rattle.std.proofs.lemmas.Bool.{and_parts, leb-true}
+use Rattle.std.proofs.lemmas.Nat.{div_below}
+use Rattle.wf_rules.specs.Table.{at, ceil_div}
+use Rattle.wf_rules.specs.Airtime.{Rate, lowest_rate, bits, symbols, data_time, request_charge}
+use Rattle.wf_rules.specs.Fit.{octets_of}
+use Rattle.wf_world.specs.World.{World, Station, Mpdu, Request, no_station, station, session, is_wide}
+use Rattle.wf_world.specs.FlowQueues.{Taken, take}
+use Rattle.wf_rules.specs.Session.{request_due}
+use Rattle.wf_world.specs.CanSend.{can_give}
+use Rattle.wf_world.specs.Exchanges.{Filled, Prepared, fits_in, most_frames, waiting_mpdus, longest_fitting, fresh_mpdus, with_number, with_fresh, filled, prepared_frames, prepared}
+use Rattle.wf_laws.specs.Deficits.{longest_exchange}
+use Rattle.wf_laws.proofs.Deficits.Books.{Account, account, Books, books}
+use Rattle.wf_laws.proofs.Deficits.BookSteps.{books_take, books_with_number, books_filled}
+
+-- ---- the rate is in the books
+
+abbrev rate_or : Option Account → Rate
+rate_or None = lowest_rate
+rate_or (Some a) = a.rate
+
+rate_is : (o : Option Station) → (unwrap_or o no_station).rate ≡ rate_or (option_map account o)
+rate_is None = refl
+rate_is (Some x) = refl
+
+rate_same : (v w : World) (s : ℕ) → books v ≡ books w → (station v s).rate ≡ (station w s).rate
+rate_same v w s e = rate_is (at None v.stations s) ∙ (ap (λ (b : Books). rate_or (b.accounts s)) e ∙ sym (rate_is (at None w.stations s)))
+
+-- the frames take at most the greatest time
+abbrev pub IsTimely : World → ℕ → List Mpdu → Type 0
+IsTimely w s ms = data_time (station w s).rate (octets_of (map (λ m. m.len) ms)) ≤ w.config.cap
+
+timely_same : (v w : World) (s : ℕ) (ms : List Mpdu) → books v ≡ books w → IsTimely w s ms → IsTimely v s ms
+timely_same v w s ms e h =
+    subst (λ (n : ℕ). data_time (station v s).rate (octets_of (map (λ m. m.len) ms)) ≤ n) (sym (ap (λ (b : Books). b.config.cap) e))
+    (subst (λ (r : Rate). data_time r (octets_of (map (λ m. m.len) ms)) ≤ w.config.cap) (sym (rate_same v w s e)) h)
+
+timely_fits : (w : World) (s : ℕ) (ms : List Mpdu) → fits_in w s ms ≡ true → IsTimely w s ms
+timely_fits w s ms h =
+    let parts = and_parts _ _ h in
+    leb-true _ _ (and_parts _ _ parts.1).1
+
+few_symbols : (b : ℕ) → ceil_div 22 b ≤ 22
+few_symbols zero = omega arith
+few_symbols (suc b) =
+    let below : (22 + (suc b - 1)) / suc b < 23 = div_below (22 + (suc b - 1)) (suc b) 23 (omega arith) (omega arith) in
+    omega arith
+
+short_time : (b short : Bool) (n : ℕ) → n ≤ 22 → (if b then 36 else 40) + 4 * (if short then ceil_div (9 * n) 10 else n) ≤ 128
+short_time b short n h = go b short
+  where
+    less : ceil_div (9 * n) 10 ≤ 22
+    less = let below : (9 * n + (10 - 1)) / 10 < 23 = div_below (9 * n + (10 - 1)) 10 23 (omega arith) (omega arith) in omega arith
+
+    go : (b short : Bool) → (if b then 36 else 40) + 4 * (if short then ceil_div (9 * n) 10 else n) ≤ 128
+    go true true = omega (arith, less)
+    go true false = omega arith
+    go false true = omega (arith, less)
+    go false false = omega arith
+
+-- nothing at all is timely
+timely_none : (w : World) (s : ℕ) → 3000 ≤ w.config.cap → IsTimely w s []
+timely_none w s h =
+    let few : symbols (station w s).rate 0 ≤ 22 = few_symbols (bits (station w s).rate) in
+    let time : data_time (station w s).rate 0 ≤ 128 = short_time (nat_lt (station w s).rate.mcs 8) (station w s).rate.short (symbols (station w s).rate 0) few in
+    omega arith
+
+timely_if : (b : Bool) (w : World) (s : ℕ) (ms ls : List Mpdu) → (b ≡ true → IsTimely w s ms) → IsTimely w s ls → IsTimely w s (if b then ms else ls)
+timely_if true w s ms ls h k = h refl
+timely_if false w s ms ls h k = k
+
+timely_fitting : (ms : List Mpdu) (w : World) (s : ℕ) (chosen : List Mpdu) → IsTimely w s chosen → IsTimely w s (longest_fitting w s chosen ms)
+unfolding longest_fitting
+timely_fitting [] w s chosen h = h
+timely_fitting (m ∷ ms) w s chosen h = timely_if _ w s _ _ (λ e. timely_fitting ms w s (chosen ++ m ∷ []) (timely_fits w s _ e)) h
+
+filled_if : (b : Bool) (s : ℕ) (x y : Filled) → (b ≡ true → IsTimely x.world s x.mpdus) → IsTimely y.world s y.mpdus → IsTimely (if b then x else y).world s (if b then x else y).mpdus
+filled_if true s x y h k = h refl
+filled_if false s x y h k = k
+
+timely_fresh : (n : ℕ) (w : World) (s t : ℕ) (mpdus : List Mpdu) → IsTimely w s mpdus → IsTimely (with_fresh n w s t mpdus).world s (with_fresh n w s t mpdus).mpdus
+unfolding with_fresh
+timely_fresh zero w s t mpdus h = h
+timely_fresh (suc n) w s t mpdus h =
+    let taken : Taken = take w s t in
+    let numbered : World = with_number taken.world s t taken.item in
+    let longer : List Mpdu = mpdus ++ fresh_mpdus w s t taken.item in
+    let e : books numbered ≡ books w = books_with_number taken.item taken.world s t ∙ books_take w s t in
+    filled_if (not (can_give w s t)) s (record { world = w; mpdus = mpdus }) (if fits_in w s longer then with_fresh n numbered s t longer else record { world = numbered; mpdus = mpdus }) (λ _. h)
+    (filled_if (fits_in w s longer) s (with_fresh n numbered s t longer) (record { world = numbered; mpdus = mpdus })
+    (λ b. timely_fresh n numbered s t longer (timely_same numbered w s longer e (timely_fits w s longer b)))
+    (timely_same numbered w s mpdus e h))
+
+timely_filled : (w : World) (s t : ℕ) → 3000 ≤ w.config.cap → IsTimely (filled w s t).world s (filled w s t).mpdus
+unfolding filled
+timely_filled w s t h =
+    let waiting : List Mpdu = waiting_mpdus w s t in
+    let chosen : List Mpdu = longest_fitting w s [] waiting in
+    let fit : IsTimely w s chosen = timely_fitting waiting w s [] (timely_none w s h) in
+    filled_if (length chosen == length waiting) s (with_fresh (most_frames w s - length chosen) w s t chosen) (record { world = w; mpdus = chosen })
+    (λ _. timely_fresh (most_frames w s - length chosen) w s t chosen fit) fit
+
+charge_if : (b : Bool) (n : ℕ) (x y : Prepared) → x.charge ≤ n → y.charge ≤ n → (if b then x else y).charge ≤ n
+charge_if true n x y h k = h
+charge_if false n x y h k = k
+
+wide_if : (b : Bool) (n : ℕ) → n + (if b then 56 else 48) ≤ n + 56
+wide_if true n = omega arith
+wide_if false n = omega arith
+
+request_most : (b : Bool) (n : ℕ) → 3000 ≤ n → request_charge b ≤ n + 56
+request_most true n h = omega arith
+request_most false n h = omega arith
+
+pub charge_most : (w : World) (s t : ℕ) → 3000 ≤ w.config.cap → (prepared w s t).charge ≤ longest_exchange w.config
+unfolding prepared prepared_frames
+charge_most w s t h = charge_if (request_due (session w s t)) (longest_exchange w.config) (record { world = w; content = Request _; charge = request_charge (is_wide w s t) }) (prepared_frames s t (filled w s t))
+    (request_most (is_wide w s t) w.config.cap h)
+    (let cap : (filled w s t).world.config.cap ≡ w.config.cap = ap (λ (b : Books). b.config.cap) (books_filled w s t) in
+    let wide : (prepared_frames s t (filled w s t)).charge ≤ data_time (station (filled w s t).world s).rate (octets_of (map (λ m. m.len) (filled w s t).mpdus)) + 56 =
+    wide_if (is_wide (filled w s t).world s t) (data_time (station (filled w s t).world s).rate (octets_of (map (λ m. m.len) (filled w s t).mpdus))) in
+    let time : IsTimely (filled w s t).world s (filled w s t).mpdus = timely_filled w s t h in
+    omega arith)

@@ -1,0 +1,25 @@
+-- The proofs of the laws, a folder for each law. A file named Law, or the law's own name, ends in the lemma that answers it; AllLaws puts them together.
+--
+--   law of lib.rt                               ends in
+--   window_law, answer_law, twelve_bit_law      Windows (Law, Answers, TwelveBits)
+--   release_law, once_law                       Releases (Named, Placed)
+--   delivery_law, fate_law, place_law,          Frames (Delivered, FateLaw, Places, Tallies)
+--   tally_law
+--   queue_law, queue_deficit_law                Queues (Law)
+--   deficit_law, quiet_law                      Deficits (Law, Quiet)
+--   fairness_law                                Fairness (Law)
+--   turn_law                                    Pick (TurnLaw)
+--
+-- Each law is an invariant of worlds or a relation between a world and a later one. A lemma for each part of a call, named after that part, keeps it; then the call by cases
+-- (.._done), the refusal (.._refused), the answer (.._answer), the step (.._step) and the run (.._run).
+pub mod Common
+pub mod Sessions
+pub mod Pick
+pub mod Windows
+pub mod Releases
+pub mod Frames
+pub mod Queues
+pub mod Deficits
+pub mod Fairness
+pub mod Witnesses
+pub mod AllLaws

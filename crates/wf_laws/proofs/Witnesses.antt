@@ -1,0 +1,3 @@
+-- Histories in which the laws speak of something, computed.
+pub mod Airtime
+pub mod Releases

@@ -1,0 +1,5 @@
+use Rattle.wf_laws.proofs.Frames.Delivered.{delivery_law}
+use Rattle.wf_laws.proofs.delivery_law.Goals as goal
+
+pub returns : goal.returns
+returns c = delivery_law

@@ -1,0 +1,36 @@
+-- All laws of a history together. Each speaks of the worlds after each of its entries.
+use Rattle.std.specs.Prelude.{List}
+use Rattle.wf_frame.specs.declared.settings.Config.{Config}
+use Rattle.wf_world.specs.Run.{Entry}
+use Rattle.wf_laws.specs.Windows.{WindowLaw}
+use Rattle.wf_laws.specs.Answers.{AnswerLaw}
+use Rattle.wf_laws.specs.Releases.{ReleaseLaw, OnceLaw}
+use Rattle.wf_laws.specs.Delivery.{DeliveryLaw}
+use Rattle.wf_laws.specs.Fates.{FateLaw}
+use Rattle.wf_laws.specs.Tallies.{TallyLaw}
+use Rattle.wf_laws.specs.Places.{PlaceLaw}
+use Rattle.wf_laws.specs.TwelveBits.{TwelveBitLaw}
+use Rattle.wf_laws.specs.Queues.{QueueLaw, QueueDeficitLaw}
+use Rattle.wf_laws.specs.Deficits.{DeficitLaw, QuietLaw, FairnessLaw}
+
+pub record Laws (config : Config) (history : List Entry) : Type 0 where
+  -- the window law: items 1 to 5 and 7; the answer that a Done uses; and what is released
+  pub windows : WindowLaw config history
+  pub answers : AnswerLaw config history
+  pub releases : ReleaseLaw config history
+  -- no id is released twice, each acknowledged frame reached its receiver, and a fate stays
+  pub once : OnceLaw config history
+  pub delivery : DeliveryLaw config history
+  pub fates : FateLaw config history
+  -- the counts of frames by fate add up to the accepted ones
+  pub tallies : TallyLaw config history
+  -- each held frame stands in one place
+  pub places : PlaceLaw config history
+  -- the deficit law, which receive charges make a station one that is not quiet, and the fairness law
+  pub deficits : DeficitLaw config history
+  pub quiet : QuietLaw config history
+  pub fairness : FairnessLaw config history
+  -- what code with 12-bit numbers and with linked queues goes by
+  pub twelve_bits : TwelveBitLaw config history
+  pub queues : QueueLaw config history
+  pub queue_deficits : QueueDeficitLaw config history

@@ -1,0 +1,13 @@
+pub mod Lists
+pub mod Windows
+pub mod TwelveBits
+pub mod Answers
+pub mod Releases
+pub mod Delivery
+pub mod Fates
+pub mod Deficits
+pub mod Turns
+pub mod Queues
+pub mod Laws
+pub mod Places
+pub mod Tallies

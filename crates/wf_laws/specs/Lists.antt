@@ -1,0 +1,12 @@
+-- Lists of numbers without repeats, and rising ones.
+use Rattle.std.specs.Prelude.{◌≡◌, ℕ, suc, ◌≤◌, false, List, [], ◌∷◌}
+use Rattle.wf_rules.specs.Table.{has}
+
+abbrev pub IsOnce : List ℕ → Type 0
+IsOnce [] = Unit {0}
+IsOnce (x ∷ xs) = (has xs x ≡ false) × IsOnce xs
+
+-- the list rises strictly, from n on
+abbrev pub IsRising : ℕ → List ℕ → Type 0
+IsRising n [] = Unit {0}
+IsRising n (x ∷ xs) = (n ≤ x) × IsRising (suc x) xs

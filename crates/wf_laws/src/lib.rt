@@ -1,0 +1,103 @@
+//! The laws that hold over every run of the machine, for all settings in their ranges and every history whatever.
+//!
+//! Each law is a relation over settings and a history, in specs/; a function without a body names it in its contract. `laws` has them all, so a crate above cites one word
+//! for each law and answers with one lemma.
+#![tactic(auto)]
+
+ghost use Rattle.std.specs.Prelude.{List};
+ghost use Rattle.wf_frame.specs.declared.settings.Config.{Config};
+ghost use Rattle.wf_frame.specs.Settings.{IsInRange};
+ghost use Rattle.wf_world.specs.Run.{Entry};
+ghost use Rattle.wf_laws.specs.Answers.{AnswerLaw};
+ghost use Rattle.wf_laws.specs.Deficits.{DeficitLaw, FairnessLaw, QuietLaw};
+ghost use Rattle.wf_laws.specs.Delivery.{DeliveryLaw};
+ghost use Rattle.wf_laws.specs.Fates.{FateLaw};
+ghost use Rattle.wf_laws.specs.Laws.{Laws};
+ghost use Rattle.wf_laws.specs.Places.{PlaceLaw};
+ghost use Rattle.wf_laws.specs.Queues.{QueueDeficitLaw, QueueLaw};
+ghost use Rattle.wf_laws.specs.Releases.{OnceLaw, ReleaseLaw};
+ghost use Rattle.wf_laws.specs.Tallies.{TallyLaw};
+ghost use Rattle.wf_laws.specs.Turns.{TurnLaw};
+ghost use Rattle.wf_laws.specs.TwelveBits.{TwelveBitLaw};
+ghost use Rattle.wf_laws.specs.Windows.{WindowLaw};
+
+/// After every entry, what the sender keeps of each agreement and what its receiver has stay within a window of each other; a request is due while one is open;
+/// an acknowledged number has arrived; and no number is given while a request is due.
+pub fn window_law()
+    ensures { (config : Config) → (history : List Entry) → WindowLaw config history }
+{}
+
+/// From an Answer on, as long as its exchange is open, the exchange's numbers have arrived exactly where they had when the Answer was made.
+pub fn answer_law()
+    ensures { (config : Config) → (history : List Entry) → AnswerLaw config history }
+{}
+
+/// What the replies of one session release is the ids of its arrived numbers below the release's start, in strictly rising order of the numbers.
+pub fn release_law()
+    ensures { (config : Config) → (history : List Entry) → ReleaseLaw config history }
+{}
+
+/// No id is released twice in a run.
+pub fn once_law()
+    ensures { (config : Config) → (history : List Entry) → OnceLaw config history }
+{}
+
+/// Each acknowledged frame reached its receiver.
+pub fn delivery_law()
+    ensures { (config : Config) → (history : List Entry) → DeliveryLaw config history }
+{}
+
+/// A fate other than Held never changes.
+pub fn fate_law()
+    ensures { (config : Config) → (history : List Entry) → FateLaw config history }
+{}
+
+/// Each accepted frame has one fate: the counts by fate add up to the accepted frames.
+pub fn tally_law()
+    ensures { (config : Config) → (history : List Entry) → TallyLaw config history }
+{}
+
+/// A held frame stands in exactly one place: a flow queue that its TID lists, or a number of its TID that waits or is in flight. Nothing else stands there.
+pub fn place_law()
+    ensures { (config : Config) → (history : List Entry) → IsInRange config → PlaceLaw config history }
+{}
+
+/// After every entry, a station's deficit is what it was given less what it was charged, it stays between its bounds, and every ready station is listed.
+pub fn deficit_law()
+    ensures { (config : Config) → (history : List Entry) → IsInRange config → DeficitLaw config history }
+{}
+
+/// A live station's received airtime in a class is 0 exactly where it had no receive charge there since its join.
+pub fn quiet_law()
+    ensures { (config : Config) → (history : List Entry) → IsInRange config → QuietLaw config history }
+{}
+
+/// Two stations that stay on one class's old list, with no receive charge, are charged alike, each by its weight.
+pub fn fairness_law()
+    ensures { (config : Config) → (history : List Entry) → IsInRange config → FairnessLaw config history }
+{}
+
+/// The pick in closed form is the loop's: a turn of the loop that does not end it leaves the pick as it was.
+pub fn turn_law()
+    ensures { TurnLaw }
+{}
+
+/// All numbers of one agreement that are ever compared lie within 2047 of each other, so their low twelve bits compare as the whole numbers do.
+pub fn twelve_bit_law()
+    ensures { (config : Config) → (history : List Entry) → TwelveBitLaw config history }
+{}
+
+/// No queue with frames is unlisted; a queue is listed by one TID alone; all its frames are of that TID, in the order of their ids and stamps.
+pub fn queue_law()
+    ensures { (config : Config) → (history : List Entry) → IsInRange config → QueueLaw config history }
+{}
+
+/// The deficit of a listed queue is at most the setting, and above 0 less the longest frame.
+pub fn queue_deficit_law()
+    ensures { (config : Config) → (history : List Entry) → IsInRange config → QueueDeficitLaw config history }
+{}
+
+/// All laws of a history.
+pub fn laws()
+    ensures { (config : Config) → (history : List Entry) → IsInRange config → Laws config history }
+{}
