@@ -1,0 +1,41 @@
+-- Counts of the frames that were accepted, by what became of them.
+use Rattle.std.specs.Prelude.{ℕ, ◌+◌, ◌-◌}
+use Rattle.wf_frame.specs.declared.classes.Cause.TheVariants.{Overlimit, Codel, Retries, Left}
+use Rattle.wf_frame.specs.declared.classes.Fate.{Fate}
+use Rattle.wf_frame.specs.declared.classes.Fate.TheVariants.{Held, Acked, Dropped}
+use Rattle.wf_fate.specs.declared.Tally.{Tally}
+
+pub record Counts : Type 0 where
+  pub accepted : ℕ
+  pub acked : ℕ
+  pub overlimit : ℕ
+  pub codel : ℕ
+  pub retries : ℕ
+  pub left : ℕ
+
+abbrev pub counts_of : Tally → Counts
+counts_of t = record { accepted = t.accepted; acked = t.acked; overlimit = t.overlimit; codel = t.codel; retries = t.retries; left = t.left }
+
+abbrev pub no_counts : Counts
+no_counts = record { accepted = 0; acked = 0; overlimit = 0; codel = 0; retries = 0; left = 0 }
+
+-- frames that have a fate other than Held
+abbrev pub settled : Counts → ℕ
+settled c = c.acked + c.overlimit + c.codel + c.retries + c.left
+
+-- frames that are still held
+abbrev pub held_in : Counts → ℕ
+held_in c = c.accepted - settled c
+
+-- one frame more is accepted
+abbrev pub one_accepted : Counts → Counts
+one_accepted c = record c { accepted = c.accepted + 1 }
+
+-- one frame more has this fate
+abbrev pub settled_as : Fate → Counts → Counts
+settled_as Held c = c
+settled_as Acked c = record c { acked = c.acked + 1 }
+settled_as (Dropped Overlimit) c = record c { overlimit = c.overlimit + 1 }
+settled_as (Dropped Codel) c = record c { codel = c.codel + 1 }
+settled_as (Dropped Retries) c = record c { retries = c.retries + 1 }
+settled_as (Dropped Left) c = record c { left = c.left + 1 }

@@ -1,0 +1,3 @@
+pub mod Sleepers
+pub mod Tim
+pub mod TimFaults
