@@ -1,0 +1,148 @@
+//! How long transmissions take: IEEE 802.11-2012, high throughput (HT), mixed format at 5 GHz, one encoder.
+//! Durations are whole microseconds, lengths are octets.
+#![tactic(auto)]
+
+ghost use Rattle.std.specs.Prelude.{◌≡◌, ◌+◌, ◌≤◌, ◌<◌, if◌then◌else◌, IfOk, IfErr};
+ghost use Rattle.wf_rules.specs.Airtime.{lowest_rate, bits, kbps, symbols, data_time, data_charge, request_charge};
+ghost use Rattle.wf_airtime.specs.Rates.{IsRate, IsNoRate};
+
+use std::marker::Model;
+use thiserror::Error;
+
+/// Data bits in a symbol of 20 MHz for MCS 0 to 7, one stream (20.6, tables 20-30 and 20-31).
+const BITS_20: [u32; 8] = [26, 52, 78, 104, 156, 208, 234, 260];
+
+/// Data bits in a symbol of 40 MHz for MCS 0 to 7, one stream (20.6, tables 20-34 and 20-35).
+const BITS_40: [u32; 8] = [54, 108, 162, 216, 324, 432, 486, 540];
+
+/// A rate of HT with one or two streams: an MCS of 0 to 15, a channel of 20 or 40 MHz, and a long (800 ns) or short
+/// (400 ns) guard interval.
+#[derive(Clone, Copy, Debug, PartialEq, Eq)]
+pub struct Rate {
+    mcs: u8,
+    mhz: u8,
+    short: bool,
+}
+
+impl Model for Rate {
+    ghost use Rattle.wf_rules.specs.Airtime.{Rate as RateValue};
+    ghost use Rattle.wf_airtime.specs.Rates.{IsRate};
+
+    ghost Value = { RateValue };
+
+    ghost view = { λ r. record { mcs = r.mcs; mhz = r.mhz; short = r.short } };
+
+    ghost invariant = { λ r. IsRate r.mcs r.mhz };
+
+    ghost inverse = { λ v. record { mcs = v.mcs; mhz = v.mhz; short = v.short } };
+}
+
+/// There is no such rate: the MCS is above 15, or the channel is neither 20 nor 40 MHz wide.
+#[derive(Clone, Copy, Debug, PartialEq, Eq, Error)]
+#[error("no rate: an MCS is 0 to 15, a channel 20 or 40 MHz wide")]
+pub struct BadRate;
+
+impl Rate {
+    /// The rate of an MCS, a channel width in MHz and a guard interval.
+    pub fn new(mcs: u8, mhz: u8, short: bool) -> Result<Rate, BadRate>
+        ensures made { IfOk result (λ r. r ≡ record { mcs = mcs; mhz = mhz; short = short }) }
+        ensures within { IfOk result (λ _. IsRate mcs mhz) }
+        ensures refused { IfErr result (λ _. IsNoRate mcs mhz) }
+    {
+        if mcs > 15 || (mhz != 20 && mhz != 40) {
+            return Err(BadRate);
+        }
+        Ok(Rate { mcs, mhz, short })
+    }
+
+    /// The most robust rate: MCS 0, 20 MHz, long guard interval.
+    pub fn lowest() -> Rate
+        ensures { result ≡ lowest_rate }
+    {
+        Rate {
+            mcs: 0,
+            mhz: 20,
+            short: false,
+        }
+    }
+
+    // Data bits in a symbol.
+    fn bits(self) -> u32
+        ensures exact { result ≡ bits self }
+        ensures least { 26 ≤ result }
+        ensures most { result ≤ 1080 }
+    {
+        let row = if self.mhz == 40 { BITS_40 } else { BITS_20 };
+        let streams = 1 + u32::from(self.mcs / 8);
+        streams * row[usize::from(self.mcs % 8)]
+    }
+
+    /// The data rate in kbit/s, 6,500 to 300,000, rounded down.
+    pub fn kbps(self) -> u32
+        ensures exact { result ≡ kbps self }
+        ensures least { 6500 ≤ result }
+        ensures most { result ≤ 300000 }
+    {
+        if self.short {
+            2500 * self.bits() / 9
+        } else {
+            250 * self.bits()
+        }
+    }
+
+    // Symbols of this many octets with the service and tail bits (16 and 6), the last one begun counting whole.
+    #[tactic(auto, using(crate::proofs::Ceilings::same_ceiling))]
+    fn symbols(self, octets: u32) -> u32
+        requires { octets ≤ 65535 }
+        ensures exact { result ≡ symbols self octets }
+        ensures most { result ≤ 20166 }
+        ensures single { octets ≤ 2338 → result ≤ 721 }
+    {
+        (8 * octets + 22).div_ceil(self.bits())
+    }
+
+    /// How long an aggregate of this many octets takes: preamble and payload (TXTIME, 20.4.3). A single frame of 2304
+    /// octets has 2338 octets.
+    pub fn data_time(self, octets: u32) -> u32
+        requires { octets ≤ 65535 }
+        ensures exact { result ≡ data_time self octets }
+        ensures most { result ≤ 80704 }
+        ensures single { octets ≤ 2338 → result ≤ 2920 }
+    {
+        let preamble = if self.mcs < 8 { 36 } else { 40 };
+        let symbols = self.symbols(octets);
+        let intervals = if self.short {
+            (9 * symbols).div_ceil(10)
+        } else {
+            symbols
+        };
+        preamble + 4 * intervals
+    }
+
+    /// What a data exchange is charged: its data time, the pause (SIFS) of 16 and the block acknowledgement of 32, or
+    /// of 40 for a wide session, one whose window is above 64.
+    pub fn data_charge(self, octets: u32, wide: bool) -> u32
+        requires { octets ≤ 65535 }
+        ensures exact { result ≡ data_charge self octets wide }
+        ensures most { result ≤ data_time self octets + 56 }
+    {
+        self.data_time(octets) + 16 + answer_time(wide)
+    }
+}
+
+// How long a block acknowledgement takes at 24 Mbit/s.
+fn answer_time(wide: bool) -> u32
+    ensures { result ≡ (if wide then 40 else 32) }
+{
+    if wide { 40 } else { 32 }
+}
+
+/// What an exchange of a BlockAckReq is charged: the request of 32, the pause of 16 and its answer.
+pub fn request_charge(wide: bool) -> u32
+    ensures { result ≡ request_charge wide }
+{
+    32 + 16 + answer_time(wide)
+}
+
+#[cfg(test)]
+mod tests;

@@ -1,0 +1,26 @@
+-- An aggregate as contracts see it.
+use Rattle.std.specs.Prelude.{◌≡◌, ℕ, ◌+◌, ◌-◌, ◌^◌, nat_le, Bool, ◌&&◌, List, length}
+use Rattle.wf_rules.specs.Airtime.{Rate, data_time}
+use Rattle.wf_rules.specs.Fit.{octets_of}
+
+pub record RoomValue : Type 0 where
+  pub rate : Rate
+  pub exponent : ℕ
+  pub agg : ℕ
+  pub cap : ℕ
+  pub wide : Bool
+  pub count : ℕ
+  pub octets : ℕ
+
+abbrev pub empty_room : Rate → ℕ → ℕ → ℕ → Bool → RoomValue
+empty_room rate exponent agg cap wide =
+    record { rate = rate; exponent = exponent; agg = agg; cap = cap; wide = wide; count = 0; octets = 0 }
+
+-- the aggregate has frames of these body lengths
+pub record StandsFor (room : RoomValue) (lens : List ℕ) : Type 0 where
+  pub count : room.count ≡ length lens
+  pub octets : room.octets ≡ octets_of lens
+
+-- an aggregate of so many octets is within the length and the time
+abbrev pub is_short : RoomValue → ℕ → Bool
+is_short room octets = nat_le octets (2 ^ (13 + room.exponent) - 1) && nat_le (data_time room.rate octets) room.cap
