@@ -1,0 +1,9 @@
+-- The best of numbered leaves.
+use Rattle.std.specs.Prelude.{ℕ, ◌<◌, ◌≤◌, List, length, slice_index}
+
+-- the leaf has the greatest value, which is not 0, and it is the least of these leaves
+pub record IsBest (values : List ℕ) (leaf : ℕ) : Type 0 where
+  pub within : leaf < length values
+  pub some : 0 < slice_index values leaf
+  pub greatest : (other : ℕ) → slice_index values other ≤ slice_index values leaf
+  pub least : (other : ℕ) → other < leaf → slice_index values other < slice_index values leaf

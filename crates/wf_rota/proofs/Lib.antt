@@ -1,0 +1,17 @@
+pub mod OnLemmas
+pub mod LeastLemmas
+pub mod CountLemmas
+pub mod ListsLemmas
+pub mod LinkLemmas
+pub mod RotateLemmas
+pub mod ScanLemmas
+pub mod NewLemmas
+pub mod NeedLemmas
+pub mod HomeLemmas
+pub mod HasLemmas
+pub mod PassLemmas
+pub mod PickLemmas
+pub mod SettleLemmas
+pub mod WonLemmas
+pub mod RemoveLemmas
+pub mod RangeLemmas
