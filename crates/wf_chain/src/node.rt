@@ -1,0 +1,31 @@
+//! A node: a frame, and the way to the next node.
+
+ghost use Rattle.std.specs.Prelude.{◌≡◌};
+
+use std::alloc::Global;
+use std::marker::Send;
+use wf_frame::Frame;
+
+// `next` means nothing in a node that no other follows.
+#[derive(Drop)]
+pub(crate) struct Node {
+    pub(crate) next: *mut Node,
+    pub(crate) alloc: Global,
+    pub(crate) frame: Frame,
+}
+
+// `next` owns nothing.
+unsafe impl Send for Node {}
+
+impl Node {
+    // A node that no other follows. It keeps the allocator that its block comes from.
+    pub(crate) fn new(alloc: Global, frame: Frame) -> Node
+        ensures { result.frame ≡ frame }
+    {
+        Node {
+            next: std::ptr::null_mut(),
+            alloc,
+            frame,
+        }
+    }
+}

@@ -1,0 +1,9 @@
+pub mod Fronts
+pub mod Laws
+pub mod Due
+pub mod Calls
+pub mod Moving
+pub mod Steps
+pub mod Finding
+pub mod Callers
+pub mod Numbers

@@ -1,0 +1,26 @@
+use Rattle.std.proofs.Common.{None, length, ap, ◌∙◌, arith}
+use Rattle.wf_frame.specs.declared.classes.Fate.TheVariants.{Dropped}
+use Rattle.wf_frame.specs.declared.classes.Cause.TheVariants.{Left}
+use Rattle.wf_origwin.specs.Window.{WindowValue}
+use Rattle.wf_origwin.specs.Answers.{with_fate}
+use Rattle.wf_origwin.proofs.Laws.{places_length}
+use Rattle.wf_origwin.proofs.Steps.{order_moved, expel_step}
+use Rattle.wf_origwin.proofs.window.Window.expel.Goals as goal
+
+pub returns-then-len-eq0-clause-none : goal.returns-then-len-eq0-clause-none
+returns-then-len-eq0-clause-none c s bodies stands =
+    let same = ap (λ (w : WindowValue). length w.places) c.self.view_is in
+    (omega (arith, c.len.ensures.number, c.if-len-eq0.true, same, places_length _ s bodies stands), stands)
+
+pub invariant_of-self : goal.invariant_of-self
+invariant_of-self c =
+    let q = c.self.inside in
+    order_moved q.size q.due _ q.ring c.take_waiting-parcel.new.ring _ 0 None c.take_waiting-parcel.ensures.changed c.advance-moved.ensures.items c.advance-moved.ensures.due c.self.invariant
+
+pub returns-clause-some : goal.returns-clause-some
+returns-clause-some c s bodies stands =
+    let q = c.self.inside in
+    let t = c.take_waiting-parcel in
+    let a = c.advance-moved in
+    let step = expel_step q.size q.start c.plus-self-inside.result a.result.0 q.due a.result.1 q.ring t.new.ring a.new.ring c.args.self.now t.result.0 t.result.1 c.self.view_is t.ensures.found t.ensures.changed a.ensures.items a.ensures.moved a.ensures.due c.plus-self-inside.ensures.number s bodies stands in
+    (step.0, c.finished.ensures ∙ ap (with_fate (Dropped Left)) step.1, step.2)

@@ -1,0 +1,76 @@
+//! The slots of the numbers that are not settled.
+
+ghost use Rattle.std.specs.Prelude.{◌≡◌, ◌+◌, ◌<◌, ◌≤◌, [], ◌∷◌, ◌++◌, length, drop, IfOk, slice_set, slice_index_or};
+
+use crate::place::Place;
+use std::alloc::{AllocError, Global};
+use std::collections::VecDeque;
+use std::marker::Model;
+use std::mem::replace;
+
+/// At most 256 slots in a ring, where None is a number that was acknowledged. Only `new` takes memory.
+#[derive(Drop)]
+pub(crate) struct Ring {
+    slots: VecDeque<Option<Place>>,
+}
+
+impl Model for Ring {
+    ghost use Rattle.std.specs.Prelude.{◌≤◌};
+    ghost use Rattle.std.specs.VecDeque.{deque_capacity};
+    ghost use Rattle.wf_origwin.specs.Ring.{RingValue};
+
+    ghost Value = { RingValue };
+
+    ghost view = { λ r. record { capacity = deque_capacity r.slots; items = r.slots.items } };
+
+    ghost invariant = { λ r. deque_capacity r.slots ≤ 256 };
+}
+
+impl Ring {
+    pub(crate) fn new(alloc: Global, capacity: u16) -> Result<Ring, AllocError>
+        requires { capacity ≤ 256 }
+        ensures { IfOk result (λ r. r ≡ record { capacity = capacity; items = [] }) }
+    {
+        let slots = VecDeque::with_capacity(alloc, usize::from(capacity))?;
+        Ok(Ring { slots })
+    }
+
+    pub(crate) fn len(&self) -> usize
+        ensures number { result ≡ length self.now.items }
+        ensures fits { result ≤ self.now.capacity }
+        ensures bound { self.now.capacity ≤ 256 }
+    {
+        self.slots.len()
+    }
+
+    pub(crate) fn at(&self, i: usize) -> &Option<Place>
+        requires { i < length self.now.items }
+        ensures { result.now ≡ slice_index_or self.now.items i None }
+    {
+        &self.slots[i]
+    }
+
+    // Puts the item in place of the ith, which it gives.
+    pub(crate) fn replace(&mut self, i: usize, item: Option<Place>) -> Option<Place>
+        requires { i < length self.old.items }
+        ensures found { result ≡ slice_index_or self.old.items i None }
+        ensures changed { self.new ≡ record self.old { items = slice_set self.old.items i item } }
+    {
+        replace(&mut self.slots[i], item)
+    }
+
+    pub(crate) fn push_back(&mut self, item: Option<Place>)
+        requires { length self.old.items < self.old.capacity }
+        ensures { self.new ≡ record self.old { items = self.old.items ++ item ∷ [] } }
+    {
+        self.slots.push_back_reserved(item);
+    }
+
+    // Lets the first item go.
+    pub(crate) fn drop_front(&mut self)
+        requires { 0 < length self.old.items }
+        ensures { self.new ≡ record self.old { items = drop 1 self.old.items } }
+    {
+        let _ = self.slots.pop_front();
+    }
+}
