@@ -1,0 +1,31 @@
+-- The offsets of a scoreboard when its window moves.
+use Rattle.std.proofs.Common.{◌≡◌, ℕ, ◌+◌, ◌-◌, ◌<◌, ◌≤◌, min, List, [], ap, ap₂, ◌∙◌, sym, inl, inr, arith}
+use Rattle.std.proofs.lemmas.Bool.{cases_lt}
+use Rattle.wf_bits.specs.Offsets.{RisesBetween, IsOffsets, moved_down, with_offset}
+use Rattle.wf_bits.proofs.Sets.{has_not_above, has-moved_down, rises-moved_down, rises_wider, rises-with_offset, same_members}
+use Rattle.wf_score.specs.Board.{Board}
+
+-- a move past every offset leaves none
+pub moved_past : (from end n : ℕ) (xs : List ℕ) → RisesBetween from end xs → end ≤ n → moved_down n xs ≡ []
+moved_past from end n xs rises past =
+    same_members (from - n) 0 (end - n) 0 (moved_down n xs) [] (rises-moved_down from end n xs rises) tt
+    (λ i. has-moved_down n xs i ∙ has_not_above from end xs (i + n) rises (omega arith))
+
+-- a move of more than 256 numbers is as one of 256
+pub moved_least : (size n : ℕ) (xs : List ℕ) → size ≤ 256 → IsOffsets size xs → moved_down (min n 256) xs ≡ moved_down n xs
+moved_least size n xs small rises = elim (cases_lt 256 n) [
+  | inl far ↦ ap (λ k. moved_down k xs) (omega arith) ∙ moved_past 0 size 256 xs rises small ∙ sym (moved_past 0 size n xs rises (omega arith))
+  | inr near ↦ ap (λ k. moved_down k xs) (omega arith)
+]
+
+pub within_moved : (size n : ℕ) (xs : List ℕ) → IsOffsets size xs → IsOffsets size (moved_down n xs)
+within_moved size n xs rises = rises_wider (0 - n) (size - n) 0 size (moved_down n xs) (omega arith) (omega arith) (rises-moved_down 0 size n xs rises)
+
+pub within_marked : (size d : ℕ) (xs : List ℕ) → d < size → IsOffsets size xs → IsOffsets size (with_offset d xs)
+within_marked size d xs inside rises = rises-with_offset 0 size d xs (omega arith) inside rises
+
+abbrev pub board : ℕ → ℕ → List ℕ → Board
+board size start offsets = record { start = start; size = size; offsets = offsets }
+
+pub same_board : (size s t : ℕ) (xs ys : List ℕ) → s ≡ t → xs ≡ ys → board size s xs ≡ board size t ys
+same_board size s t xs ys e f = ap₂ (board size) e f

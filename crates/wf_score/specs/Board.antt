@@ -1,0 +1,38 @@
+-- The recipient's scoreboard of one block acknowledgement agreement, for every sequence of numbers whatever: IEEE 802.11-2012, 9.21.7.3 to
+-- 9.21.7.5. All comparisons are modulo 4096: a number stands as far past the start as `distance` says, and one that is more than 2047 past it
+-- stands behind it.
+use Rattle.std.specs.Prelude.{ℕ, ◌+◌, ◌-◌, ◌%◌, nat_lt, nat_le, List, [], if◌then◌else◌}
+use Rattle.wf_bits.specs.Offsets.{with_offset, moved_down}
+use Rattle.wf_seq12.specs.Distance.{distance}
+
+pub record Board : Type 0 where
+  pub start : ℕ  -- 0 to 4095
+  pub size : ℕ  -- of the window
+  pub offsets : List ℕ  -- how far past the start each number of the window stands that arrived, rising
+
+abbrev pub empty_board : ℕ → ℕ → Board
+empty_board start size = record { start = start; size = size; offsets = [] }
+
+-- the number that stands d past the start is shown as arrived
+abbrev pub with_arrived : ℕ → Board → Board
+with_arrived d b = record b { offsets = with_offset d b.offsets }
+
+-- the start moves n numbers on: a number that stays in the window stays as it was, and a new one has not arrived
+abbrev pub moved_on : ℕ → Board → Board
+moved_on n b = record b { start = (b.start + n) % 4096; offsets = moved_down n b.offsets }
+
+-- a number arrives that stands d past the start: it is in the window, or the window moves so that it is the last, or it stands behind
+abbrev pub after_arrival : ℕ → Board → Board
+after_arrival d b =
+    if nat_lt d b.size then with_arrived d b
+    else (if nat_le d 2047 then with_arrived (b.size - 1) (moved_on (d + 1 - b.size) b) else b)
+
+abbrev pub arrived : ℕ → Board → Board
+arrived n b = after_arrival (distance n b.start) b
+
+-- a BlockAckReq arrives whose start stands d past the start: the window moves to it, or it stands behind
+abbrev pub after_request : ℕ → Board → Board
+after_request d b = if nat_le d 2047 then moved_on d b else b
+
+abbrev pub requested : ℕ → Board → Board
+requested start b = after_request (distance start b.start) b
