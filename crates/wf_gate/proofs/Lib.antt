@@ -1,0 +1,5 @@
+mod Calls
+pub mod Clients
+mod Counts
+mod Elements
+mod Steps

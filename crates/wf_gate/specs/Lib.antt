@@ -1,0 +1,5 @@
+pub mod Faults
+pub mod Pairs
+pub mod Passes
+pub mod Seats
+pub mod Turns

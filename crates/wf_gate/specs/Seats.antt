@@ -1,0 +1,121 @@
+-- What contracts see of a gate and its seats, and the facts that they state of them.
+use Rattle.std.specs.Prelude.{◌≡◌, ℕ, ◌-◌, ◌<◌, ◌≤◌, List, [], ◌∷◌, ◌++◌, length, take, drop, Option, Some, None, slice_get, slice_index_or, All, Any, EachIndex}
+use mathlib.Core.Option.{some}
+use lib.ListN.{get_elem?}
+use Rattle.atomic_table.specs.Seated.{TableId}
+use Rattle.atomic_table.specs.declared.shared.Seat.{Seat}
+use Rattle.wf_gate.specs.declared.view.Face.{Face}
+use Rattle.wf_gate.specs.declared.view.Key.{Key}
+use Rattle.wf_gate.specs.declared.view.Opening.{Opening}
+use Rattle.wf_gate.specs.declared.view.View.{View}
+use Rattle.wf_gate.specs.declared.view.Stage.{Stage}
+use Rattle.wf_gate.specs.declared.view.Stage.TheVariants.{Idle}
+use Rattle.wf_gate.specs.Turns.{places, faces_of, opening_of}
+
+-- A gate is known by its table, which no other gate has. Its opening is the machine as it was when the gate was made, and the quotas by seat number
+pub record GateView (M : Type 0) : Type 0 where
+  pub table : TableId
+  pub opening : Opening M
+
+-- A seat. An entry is its caller's number and its call's note
+pub record SeatView (M N : Type 0) : Type 0 where
+  -- the gate that it is of, which is known by its table, and that gate's opening
+  pub table : TableId
+  pub opening : Option (Opening M)
+  pub number : ℕ
+  -- how many calls it may make, and how many it has made
+  pub quota : ℕ
+  pub used : ℕ
+  -- the entries made since the gate was made, as far as it has seen them
+  pub seen : List (ℕ × N)
+  -- the places in `seen` of its own calls, rising
+  pub own : List ℕ
+  -- of each of its tries that found no turn, the number that it read from serving and the ticket that it found
+  pub looks : List (ℕ × ℕ)
+  -- whether it has a ticket or its turn
+  pub stage : Stage
+  -- the number that it last loaded from serving and has not spent yet
+  pub read : Option ℕ
+
+-- the gate that is the table with this key
+abbrev pub gate_of : {M : Type 0} → TableId → Key M → GateView M
+gate_of table key = record { table = table; opening = opening_of key }
+
+-- the gate's opening: this machine and these quotas
+abbrev pub opened : {M : Type 0} → M → List ℕ → Opening M
+opened machine quotas = record { machine = machine; quotas = quotas }
+
+module _ {M N : Type 0} where
+  -- the seat with this number, quota and count of calls, that steps by this pass
+  abbrev pub view_of : ℕ → ℕ → ℕ → Seat (Option M) (View M N) → SeatView M N
+  view_of number quota used p = record { table = p.table_id; opening = p.me.0.opening; number = number; quota = quota; used = used; seen = p.me.0.face.seen; own = p.me.0.face.own; looks = p.me.0.face.looks; stage = p.me.0.stage; read = p.me.0.read }
+
+  -- true of every seat: it has no ticket, no turn, no number read and no slot, and it counts its calls, which are no more than its quota
+  pub record IsAtGate (number quota used : ℕ) (p : Seat (Option M) (View M N)) : Type 0 where
+    pub numbered : number ≡ p.me.0.face.number
+    pub counted : used ≡ length p.me.0.face.own
+    pub within : used ≤ quota
+    pub allotted : (o : Opening M) → p.me.0.opening ≡ Some o → quota ≡ slice_index_or o.quotas number 0
+    pub idle : p.me.0.stage ≡ Idle
+    pub unread : p.me.0.read ≡ None
+    pub free : p.me.1 ≡ []
+
+  -- what a seat has seen and done
+  abbrev pub face_of : SeatView M N → Face N
+  face_of s = record { number = s.number; seen = s.seen; own = s.own; looks = s.looks }
+
+  -- the view has the face of the seat s, as its own or in a record
+  abbrev pub IsRecorded : SeatView M N → View M N → Type 0
+  IsRecorded s v = (i : ℕ) × (get_elem? (faces_of v) i ≡ some (face_of s))
+
+  -- the seat is one of this gate
+  abbrev pub IsOf : GateView M → SeatView M N → Type 0
+  IsOf g s = (s.table ≡ g.table) × (s.opening ≡ Some g.opening)
+
+  -- the seat k of a new gate: with its quota, and three empty lists
+  abbrev pub new_seat : GateView M → ℕ → SeatView M N
+  new_seat g k = record { table = g.table; opening = Some g.opening; number = k; quota = slice_index_or g.opening.quotas k 0; used = 0; seen = []; own = []; looks = []; stage = Idle; read = None }
+
+  -- of each seat number, the seat is among these
+  abbrev pub AreAll : GateView M → List (SeatView M N) → Type 0
+  AreAll g seats = EachIndex g.opening.quotas (λ n. Any (λ s. s.number ≡ n) seats)
+
+  -- it is the same seat of the same gate, with the same quota
+  pub record IsSameSeat (old new : SeatView M N) : Type 0 where
+    pub table : new.table ≡ old.table
+    pub opening : new.opening ≡ old.opening
+    pub number : new.number ≡ old.number
+    pub quota : new.quota ≡ old.quota
+
+  -- it has no ticket, no turn and no number read
+  abbrev pub IsAtRest : SeatView M N → Type 0
+  IsAtRest s = (s.stage ≡ Idle) × (s.read ≡ None)
+
+  -- each entry's caller is a seat's number
+  abbrev pub AreOfSeats : GateView M → List (ℕ × N) → Type 0
+  AreOfSeats g entries = All (λ e. e.0 < length g.opening.quotas) entries
+
+-- the places of the entries of the seat with this number
+abbrev pub places_of : {N : Type 0} → ℕ → List (ℕ × N) → List ℕ
+places_of number entries = places number 0 entries
+
+-- at these places of the entries stand the calls with these notes of the seat with this number, in order
+abbrev pub HasCalls : {N : Type 0} → ℕ → List (ℕ × N) → List ℕ → List N → Type 0
+HasCalls number entries [] [] = Unit {0}
+HasCalls number entries (place ∷ places) (note ∷ notes) = (slice_get entries place ≡ Some (number, note)) × HasCalls number entries places notes
+HasCalls number entries _ _ = ⊥
+
+-- the last entry is this one
+abbrev pub EndsWith : {A : Type 0} → List A → A → Type 0
+EndsWith {A} entries e = (before : List A) × (entries ≡ before ++ e ∷ [])
+
+abbrev pub last_place : {A : Type 0} → List A → ℕ
+last_place entries = length entries - 1
+
+-- the reply to the call is right at this place of the entries: for the opening settings, and the opening history with the entries before the place
+abbrev pub IsRightAt : {M N T C A : Type 0} → (M → List (ℕ × N)) → (M → T) → (T → List (ℕ × N) → ℕ → C → A → Type 0) → GateView M → List (ℕ × N) → ℕ → ℕ → C → A → Type 0
+IsRightAt past settings right g entries place caller call reply = right (settings g.opening.machine) (past g.opening.machine ++ take place entries) caller call reply
+
+-- the entries of the machine's history that were made since the gate was made
+abbrev pub made_since : {M N : Type 0} → (M → List (ℕ × N)) → GateView M → M → List (ℕ × N)
+made_since past g m = drop (length (past g.opening.machine)) (past m)

@@ -1,0 +1,133 @@
+//! The gate and its calls.
+ghost use Rattle.std.specs.Prelude.{◌≡◌, ℕ, ◌+◌, ◌<◌, ◌≤◌, ◌∷◌, [], ◌++◌, length, sum, All, EachIndex, slice_get, Some, IfOk, IfErr, OnOk, OnErr};
+ghost use mathlib.Core.List.{IsPrefix};
+ghost use Rattle.wf_gate.specs.Seats.{IsOf, IsSameSeat, IsAtRest, new_seat, AreAll, EndsWith, last_place, AreOfSeats, IsRightAt, places_of, made_since, opened};
+
+use crate::dealing::{deal, gather};
+use crate::machine::Machine;
+use crate::seat::Seat;
+use crate::turn::{draw, serve, wait};
+use crate::view::{Key, MACHINE, Turns, View};
+use atomic_table::{Refused, Table};
+use std::alloc::{AllocError, Global};
+use std::marker::Model;
+use std::snapshot::Snapshot;
+use std::sync::Wait;
+
+/// A gate before a machine. Contracts see it as a `GateView`: which gate it is, the machine as it was when the gate was made, and the quotas.
+#[derive(Drop)]
+pub struct Gate<M: Machine> {
+    pub(crate) table: Table<Option<M>, View<M, M::Note>, Key<M>, Turns<M>, Global>,
+}
+
+impl<M: Machine> Model for Gate<M> {
+    ghost use Rattle.std.specs.Prelude.{◌<◌, length};
+    ghost use Rattle.wf_gate.specs.Seats.{GateView, gate_of};
+    ghost use Rattle.wf_gate.specs.Passes.{IsSized};
+
+    ghost Value = { GateView M };
+
+    ghost view = { λ g. gate_of g.table.shared.table_id g.table.shared.key };
+
+    ghost invariant = { λ g. IsSized g.table.shared.table_id × (0 < length g.table.shared.key.quotas.items) };
+}
+
+/// The seat's quota is used up.
+#[derive(Debug, Drop)]
+pub struct Spent;
+
+impl<M: Machine + Drop> Gate<M> {
+    /// A gate before the machine, and its seats in the order of their numbers.
+    /// A list of 2^32 quotas or more, which has no numbers for its seats, is answered as want of memory. After that the machine is dropped.
+    pub fn new(
+        alloc: Global,
+        machine: M,
+        quotas: &[u32],
+    ) -> Result<(Gate<M>, Vec<Seat<M>>), AllocError>
+        requires some { 0 < length quotas.now }
+        requires room { sum quotas.now ≤ M.room machine }
+        ensures opening { IfOk result (λ r. r.0.opening ≡ opened machine quotas.now) }
+        ensures count { IfOk result (λ r. length r.1.items ≡ length quotas.now) }
+        ensures seats { IfOk result (λ r. EachIndex quotas.now (λ k. slice_get r.1.items k ≡ Some (new_seat r.0 k))) }
+        ensures own { IfOk result (λ r. All (IsOf r.0) r.1.items) }
+        ensures all { IfOk result (λ r. AreAll r.0 r.1.items) }
+    {
+        // The machine's room, a `u64`, bounds every ticket.
+        machine.room();
+        if quotas.len() >= 1 << 32 {
+            return Err(AllocError);
+        }
+        let key = Key {
+            machine: Snapshot::of(&machine),
+            quotas: quotas.to_vec(alloc)?,
+        };
+        let seats = Vec::with_capacity(alloc, quotas.len())?;
+        let mut slots = Vec::with_capacity(alloc, 1)?;
+        slots.push_reserved(Some(machine));
+        match Table::new(alloc, &[0, 0], slots, &key) {
+            Ok((table, first)) => {
+                let seats = deal(&table.shared, first, quotas, seats);
+                Ok((Gate { table }, seats))
+            }
+            Err(Refused { slots: _ }) => Err(AllocError),
+        }
+    }
+
+    /// One call of the machine, made once the seats that drew their tickets before have made theirs. It may wait for them.
+    pub fn call<R: Wait>(
+        &self,
+        rt: &R,
+        seat: &mut Seat<M>,
+        call: M::Call,
+    ) -> Result<M::Reply, (Spent, M::Call)>
+        requires own { IsOf self.now seat.old }
+        ensures same { IsSameSeat seat.old seat.new }
+        ensures rest { IsAtRest seat.new }
+
+        // The call was made.
+        ensures left { OnOk result (seat.old.used < seat.old.quota) }
+        ensures used { OnOk result (seat.new.used ≡ seat.old.used + 1) }
+        ensures seen { OnOk result (IsPrefix seat.old.seen seat.new.seen) }
+        ensures entry { OnOk result (EndsWith seat.new.seen (seat.old.number, M.note call)) }
+        ensures own { OnOk result (seat.new.own ≡ seat.old.own ++ last_place seat.new.seen ∷ []) }
+        ensures looks { OnOk result (seat.new.looks ≡ seat.old.looks) }
+        ensures callers { OnOk result (AreOfSeats self.now seat.new.seen) }
+        ensures reply { IfOk result (IsRightAt M.past M.settings M.right self.now seat.new.seen (last_place seat.new.seen) seat.old.number call) }
+
+        // The quota was used up.
+        ensures spent { OnErr result (seat.old.used ≡ seat.old.quota) }
+        ensures unchanged { OnErr result (seat.new ≡ seat.old) }
+        ensures back { IfErr result (λ e. e.1 ≡ call) }
+    {
+        if seat.used == seat.quota {
+            return Err((Spent, call));
+        }
+        let shared = &self.table.shared;
+        let ticket = draw(shared, &mut seat.pass);
+        wait(rt, shared, &mut seat.pass, ticket);
+        let reply = serve(shared, &mut seat.pass, seat.number, call);
+        seat.used += 1;
+        Ok(reply)
+    }
+
+    /// The machine, once all seats have come back.
+    pub fn close(self, seats: Vec<Seat<M>>) -> M
+        requires own { All (IsOf self) seats.items }
+        requires all { AreAll self seats.items }
+        ensures settings { M.settings result ≡ M.settings self.opening.machine }
+        ensures history { M.past result ≡ M.past self.opening.machine ++ made_since M.past self result }
+        ensures callers { AreOfSeats self (made_since M.past self result) }
+        ensures seen { All (λ s. IsPrefix s.seen (made_since M.past self result)) seats.items }
+        ensures own { All (λ s. s.own ≡ places_of s.number (made_since M.past self result)) seats.items }
+        ensures looks { All (λ s. All (λ look. look.1 ≤ length (made_since M.past self result)) s.looks) seats.items }
+    {
+        let Gate { table } = self;
+        let pass = gather(&table.shared, seats);
+        let mut closed = table.close_with(pass);
+        let Some(machine) = closed.take(MACHINE) else {
+            unreachable!()
+        };
+        closed.free();
+        machine
+    }
+}

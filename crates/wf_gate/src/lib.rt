@@ -1,0 +1,22 @@
+//! A gate before a machine that many threads share: a ticket lock whose seats know what they have seen.
+//!
+//! A seat draws a ticket, waits until its number is served, makes one step of the machine and serves the next number.
+//! So all calls stand in one history, each once, in the order of their tickets.
+#![tactic(auto)]
+
+mod crossing;
+mod dealing;
+mod gate;
+mod machine;
+mod plays;
+mod seat;
+#[cfg(test)]
+mod tests;
+mod tries;
+mod turn;
+mod view;
+
+pub use gate::{Gate, Spent};
+pub use machine::Machine;
+pub use seat::{Seat, SeatOf};
+pub use tries::TryFault;

@@ -1,0 +1,83 @@
+//! The steps of one turn.
+ghost use Rattle.std.specs.Prelude.{◌≡◌, ◌≢◌, ◌+◌, ◌<◌, ◌≤◌, ◌∷◌, [], ◌++◌, length};
+ghost use Rattle.wf_gate.specs.declared.view.Stage.TheVariants.{Idle, Waits};
+ghost use Rattle.wf_gate.specs.Turns.{opening_of, waiting, after_turn, in_vain};
+ghost use Rattle.wf_gate.specs.Passes.{IsSized, IsPassOf, MayDraw, HasTurn, AtTurn};
+
+use crate::machine::Machine;
+use crate::plays::{Draw, Look, Peek, Serve, Try};
+use crate::view::{MACHINE, Pass, SERVING, Shared, TICKET};
+use std::sync::Wait;
+use std::thread;
+
+/// Draws the next ticket.
+pub(crate) fn draw<M: Machine + Drop>(shared: &Shared<M>, pass: &mut Pass<M>) -> u64
+    requires table { IsSized shared.now.table_id }
+    requires own { IsPassOf shared.now.table_id (opening_of shared.now.key) pass.old }
+    requires idle { (pass.old.me.0.stage ≡ Idle) × (pass.old.me.1 ≡ []) }
+    requires left { MayDraw (opening_of shared.now.key) pass.old.me.0.face }
+    ensures { (pass.new.table_id ≡ pass.old.table_id) × (pass.new.id ≡ pass.old.id) × (pass.new.me ≡ (waiting pass.old.me.0 result, [])) }
+{
+    shared.fetch_add::<Draw>(pass, TICKET, 1)
+}
+
+/// Waits until the ticket is served, and takes the slot.
+pub(crate) fn wait<M: Machine + Drop, R: Wait>(
+    rt: &R,
+    shared: &Shared<M>,
+    pass: &mut Pass<M>,
+    ticket: u64,
+)
+    requires table { IsSized shared.now.table_id }
+    requires own { IsPassOf shared.now.table_id (opening_of shared.now.key) pass.old }
+    requires waits { (pass.old.me.0.stage ≡ Waits ticket) × (pass.old.me.1 ≡ []) }
+    ensures { (pass.new.table_id ≡ pass.old.table_id) × (pass.new.id ≡ pass.old.id) × HasTurn M.past M.settings M.room (opening_of shared.now.key) ticket pass.old.me.0 pass.new.me }
+{
+    for _ in rt.forever() {
+        let serving = shared.load::<Look<M>>(pass, SERVING);
+        if serving == ticket {
+            return;
+        }
+        // Who only turns here would keep a processor from the seat that is served.
+        thread::yield_now();
+    }
+    unreachable!()
+}
+
+/// Reads the number served and tries to draw that very ticket. Gives the number and the ticket found: where they are one, the seat has its turn.
+pub(crate) fn attempt<M: Machine + Drop>(shared: &Shared<M>, pass: &mut Pass<M>) -> (u64, u64)
+    requires table { IsSized shared.now.table_id }
+    requires own { IsPassOf shared.now.table_id (opening_of shared.now.key) pass.old }
+    requires idle { (pass.old.me.0.stage ≡ Idle) × (pass.old.me.1 ≡ []) }
+    requires left { MayDraw (opening_of shared.now.key) pass.old.me.0.face }
+    ensures same { (pass.new.table_id ≡ pass.old.table_id) × (pass.new.id ≡ pass.old.id) × (length pass.old.me.0.face.seen ≤ result.0) }
+    ensures turn { result.1 ≡ result.0 → HasTurn M.past M.settings M.room (opening_of shared.now.key) result.0 pass.old.me.0 pass.new.me }
+    ensures vain { result.1 ≢ result.0 → (pass.new.me ≡ (in_vain pass.old.me.0 result.0 result.1, [])) × (result.0 < result.1) }
+{
+    let serving = shared.load::<Peek>(pass, SERVING);
+    let ticket = shared.compare_exchange::<Try<M>>(pass, TICKET, serving, serving + 1);
+    (serving, ticket)
+}
+
+/// Makes one step of the machine, by the seat whose turn has come, and serves the next number.
+pub(crate) fn serve<M: Machine + Drop>(
+    shared: &Shared<M>,
+    pass: &mut Pass<M>,
+    number: u32,
+    call: M::Call,
+) -> M::Reply
+    requires table { IsSized shared.now.table_id }
+    requires own { IsPassOf shared.now.table_id (opening_of shared.now.key) pass.old }
+    requires turn { AtTurn M.past M.settings M.room (opening_of shared.now.key) pass.old.me }
+    requires number { number ≡ pass.old.me.0.face.number }
+    ensures seat { (pass.new.table_id ≡ pass.old.table_id) × (pass.new.id ≡ pass.old.id) × (pass.new.me ≡ (after_turn pass.old.me.0 (number, M.note call), [])) }
+    ensures reply { let o = opening_of shared.now.key in M.right (M.settings o.machine) (M.past o.machine ++ pass.old.me.0.face.seen) number call result }
+{
+    let Some(mut machine) = shared.exchange(pass, MACHINE, None) else {
+        unreachable!()
+    };
+    let reply = machine.step(number, call);
+    drop(shared.exchange(pass, MACHINE, Some(machine)));
+    shared.fetch_add::<Serve<M>>(pass, SERVING, 1);
+    reply
+}
