@@ -1,0 +1,88 @@
+//! Each call once, with ample memory.
+
+use crate::{Fault, Machine};
+use wf_frame::{Ask, Class, Config, Fate, Note, Part, ReplyNote};
+
+fn pull(machine: &mut Machine, class: Class) -> Result<(u64, u16, u32, u64), Fault> {
+    match machine.step(&Note::Asked(Ask::Pull { class }))? {
+        ReplyNote::Send {
+            exchange,
+            station: _,
+            tid: _,
+            air,
+            part: Part::Mpdus(pairs),
+            more: _,
+        } => if pairs.len() == 1 {
+            Ok((exchange, pairs.at(0).1, air, pairs.at(0).0))
+        } else {
+            Err(Fault::TooLarge)
+        },
+        _ => Err(Fault::TooLarge),
+    }
+}
+
+#[test]
+fn one_frame_is_acknowledged(rt: HostRuntime) -> Result<(), Fault> {
+    let mut machine = Machine::new(rt.alloc(), Config::standard());
+    assert!(rt; machine.config() == Config::standard());
+    machine.step(&Note::Asked(Ask::Join {
+        station: 0,
+        window: 64,
+        start: 100,
+        exponent: 3,
+        weight: 1,
+    }))?;
+    machine.step(&Note::Enqueue {
+        station: 0,
+        tid: 0,
+        flow: 1,
+        len: 1500,
+    })?;
+    let (exchange, number, air, id) = pull(&mut machine, Class::Be)?;
+    assert!(rt; exchange == 0 && number == 100 && air == 1976 && id == 0);
+    assert!(rt; machine.exchanges() == 1 && machine.open_exchanges() == 1);
+    machine.step(&Note::Asked(Ask::Arrive {
+        exchange: 0,
+        index: 0,
+    }))?;
+    machine.step(&Note::Asked(Ask::Answer { exchange: 0 }))?;
+    machine.step(&Note::Asked(Ask::Done {
+        exchange: 0,
+        heard: true,
+    }))?;
+    assert!(rt; machine.accepted() == 1 && machine.open_exchanges() == 0);
+    let acked = machine.tally(Fate::Acked)?;
+    let held = machine.tally(Fate::Held)?;
+    assert!(rt; acked == 1 && held == 0);
+    let share = machine.share(0, Class::Be);
+    assert!(rt; share.charged() == 1976 && share.received() == 0 && share.deficit() == -1676);
+    Ok(())
+}
+
+#[test]
+fn a_sleeper_with_traffic_is_in_the_map(rt: HostRuntime) -> Result<(), Fault> {
+    let mut machine = Machine::new(rt.alloc(), Config::standard());
+    machine.step(&Note::Asked(Ask::Join {
+        station: 0,
+        window: 64,
+        start: 0,
+        exponent: 3,
+        weight: 1,
+    }))?;
+    machine.step(&Note::Asked(Ask::Sleep { station: 0 }))?;
+    machine.step(&Note::Enqueue {
+        station: 0,
+        tid: 0,
+        flow: 7,
+        len: 100,
+    })?;
+    machine.step(&Note::Asked(Ask::Tick { by: 5 }))?;
+    assert!(rt; machine.clock() == 5);
+    let live = machine.live_stations()?;
+    let traffic = machine.traffic()?;
+    let map = machine.traffic_map()?;
+    assert!(rt; live.as_slice() == [0].as_slice());
+    assert!(rt; traffic.as_slice() == [1].as_slice());
+    assert!(rt; map.as_slice() == [5, 4, 0, 1, 0, 2].as_slice());
+    Ok(())
+}

@@ -1,0 +1,2 @@
+pub mod Puts
+mod Steps

@@ -1,0 +1,3 @@
+mod DropLemmas
+mod Roots
+mod SameDequeue

@@ -1,0 +1,9 @@
+//! All that a cell knows, its flow queues, and who can send.
+#![tactic(auto)]
+
+mod flows;
+mod ready;
+mod world;
+
+pub use ready::{lower_tid, upper_tid};
+pub use world::World;
