@@ -1,0 +1,136 @@
+//! A line that is being made.
+
+ghost use Rattle.std.specs.Prelude.{◌≡◌, ◌+◌, ◌<◌, ◌≤◌, List, [], ◌∷◌, ◌++◌, ℕ, length, map, sum_by, decimal};
+ghost use Rattle.std.specs.Fmt.{signed_decimal};
+
+use arrayvec::ArrayVec;
+use std::marker::Model;
+
+/// A word of a line.
+#[derive(Clone, Copy, Debug, PartialEq, Eq)]
+pub enum Word {
+    /// A word as it stands.
+    Text(&'static [u8]),
+    /// A number in decimal digits.
+    Number(u64),
+    /// A number in decimal digits, with `-` in front where it is below 0.
+    Signed(i64),
+}
+
+/// The octets of a line that is being made: at most 8192, in a buffer of fixed size.
+#[derive(Drop)]
+pub struct Line {
+    buffer: ArrayVec<u8, 8192>,
+}
+
+impl Model for Line {
+    ghost Value = { List ℕ };
+
+    ghost view = { λ line. line.buffer.items };
+}
+
+impl Line {
+    ghost use Rattle.wf_io.specs.Words.{text_of, width_of, spaced};
+
+    /// The empty line.
+    pub fn new() -> Self
+        ensures { result ≡ [] }
+    {
+        Line {
+            buffer: ArrayVec::new(),
+        }
+    }
+
+    /// Appends an octet; the line must have fewer than 8192.
+    pub fn push(&mut self, octet: u8)
+        requires { length self.old < 8192 }
+        ensures { self.new ≡ self.old ++ octet ∷ [] }
+    {
+        self.buffer.push(octet);
+    }
+
+    /// Appends octets; with them the line must have at most 8192.
+    pub fn push_all(&mut self, octets: &[u8])
+        requires { length self.old + length octets.now ≤ 8192 }
+        ensures octets { self.new ≡ self.old ++ octets.now }
+        ensures len { length self.new ≡ length self.old + length octets.now }
+    {
+        for octet in octets {
+            self.push(*octet);
+        }
+    }
+
+    // Appends a number digit by digit, the last one at the end.
+    #[tactic(auto, using(std::proofs::lemmas::Fmt::decimal_step, std::proofs::lemmas::Fmt::decimal_digit))]
+    fn push_digits(&mut self, number: u64)
+        requires { length self.old + length (decimal number) ≤ 8192 }
+        ensures { self.new ≡ self.old ++ decimal number }
+    {
+        if number < 10 {
+            self.push(b'0' + number as u8);
+        } else {
+            self.push_digits(number / 10);
+            self.push(b'0' + (number % 10) as u8);
+        }
+    }
+
+    /// Appends a number in decimal digits, at most 20.
+    pub fn push_number(&mut self, number: u64)
+        requires { length self.old + 20 ≤ 8192 }
+        ensures digits { self.new ≡ self.old ++ decimal number }
+        ensures len { length self.new ≤ length self.old + 20 }
+    {
+        self.push_digits(number);
+    }
+
+    /// Appends a number in decimal digits, with `-` in front where it is below 0: at most 21 octets.
+    pub fn push_signed(&mut self, number: i64)
+        requires { length self.old + 21 ≤ 8192 }
+        ensures digits { self.new ≡ self.old ++ signed_decimal number }
+        ensures len { length self.new ≤ length self.old + 21 }
+    {
+        if number < 0 {
+            self.push(b'-');
+        }
+        self.push_number(number.unsigned_abs());
+    }
+
+    /// Appends a word; with it the line must have room for at most 8192 octets.
+    pub fn push_word(&mut self, word: Word)
+        requires { length self.old + width_of word ≤ 8192 }
+        ensures text { self.new ≡ self.old ++ text_of word }
+        ensures len { length self.new ≤ length self.old + width_of word }
+    {
+        match word {
+            Word::Text(text) => self.push_all(text),
+            Word::Number(number) => self.push_number(number),
+            Word::Signed(number) => self.push_signed(number),
+        }
+    }
+
+    /// Appends words, each with a space in front.
+    pub fn push_words(&mut self, words: &[Word])
+        requires { length self.old + sum_by (λ w. width_of w + 1) words.now ≤ 8192 }
+        ensures text { self.new ≡ self.old ++ spaced (map text_of words.now) }
+        ensures len { length self.new ≤ length self.old + sum_by (λ w. width_of w + 1) words.now }
+    {
+        for word in words {
+            self.push(b' ');
+            self.push_word(*word);
+        }
+    }
+
+    /// The octets so far.
+    pub fn octets(&self) -> &[u8]
+        ensures { result.now ≡ self.now }
+    {
+        self.buffer.as_slice()
+    }
+
+    /// Empties the line.
+    pub fn clear(&mut self)
+        ensures { self.new ≡ [] }
+    {
+        self.buffer.clear();
+    }
+}

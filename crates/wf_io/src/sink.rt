@@ -1,0 +1,38 @@
+//! Where octets go.
+
+ghost use Rattle.std.specs.Prelude.{◌≡◌, ℕ, ◌<◌, ◌≤◌, List, length, take, IfOk, OnOk, OnErr, Option};
+ghost use Rattle.std.specs.Io.KnownBytes.{append_known};
+ghost use Rattle.wf_io.specs.Faults.{CountsFaults};
+
+use crate::Failed;
+
+/// Octets that go to the outside.
+pub trait Sink {
+    /// The octets taken so far, where the sink tells them.
+    ghost held: { Self → Option (List ℕ) };
+
+    /// How often the sink has failed.
+    ghost faults: { Self → ℕ };
+
+    /// Takes octets from the front, at least one; there must be some.
+    fn write(&mut self, octets: &[u8]) -> Result<usize, Failed>
+        requires { 0 < length octets.now }
+        ensures count { IfOk result (λ n. (0 < n) × (n ≤ length octets.now)) }
+        ensures octets { IfOk result (λ n. held self.new ≡ append_known (held self.old) (take n octets.now)) }
+        ensures kept { OnErr result (held self.new ≡ held self.old) }
+        ensures cause { CountsFaults (faults self.old) (faults self.new) result };
+}
+
+/// Writes all the octets. After a fault, some from their front have been written.
+pub fn write_all<K: Sink>(sink: &mut K, octets: &[u8]) -> Result<(), Failed>
+    ensures written { OnOk result (K.held sink.new ≡ append_known (K.held sink.old) octets.now) }
+    ensures prefix { (n : ℕ) × (n ≤ length octets.now)
+        × (K.held sink.new ≡ append_known (K.held sink.old) (take n octets.now)) }
+    ensures cause { CountsFaults (K.faults sink.old) (K.faults sink.new) result }
+{
+    let mut done = 0;
+    while done < octets.len() {
+        done += sink.write(&octets[done..])?;
+    }
+    Ok(())
+}

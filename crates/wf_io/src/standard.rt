@@ -1,0 +1,89 @@
+//! The real source and sink, over std's readers and writers. They tell no octets.
+
+ghost use Rattle.std.specs.Prelude.{◌≡◌, None};
+
+use crate::{Failed, Sink, Source};
+use std::io::{Read, Write};
+use std::marker::Model;
+
+/// A source over a reader of std. Its count rises at each error.
+#[derive(Drop)]
+pub struct StdSource<I> {
+    reader: I,
+    faults: u64,
+}
+
+// Contracts see its count of faults.
+impl<I> Model for StdSource<I> {
+    ghost use Rattle.std.specs.Prelude.{ℕ};
+
+    ghost Value = { ℕ };
+
+    ghost view = { λ s. s.faults };
+}
+
+impl<I: Read> StdSource<I> {
+    /// A source that has not failed yet.
+    pub fn new(reader: I) -> StdSource<I>
+        ensures { result ≡ 0 }
+    {
+        StdSource { reader, faults: 0 }
+    }
+}
+
+impl<I: Read> Source for StdSource<I> {
+    ghost left = { λ s. None };
+
+    ghost faults = { λ s. s };
+
+    fn read(&mut self, buffer: &mut [u8]) -> Result<usize, Failed> {
+        match self.reader.read(buffer) {
+            Ok(count) => Ok(count),
+            Err(_) => {
+                self.faults = self.faults.saturating_add(1);
+                Err(Failed)
+            }
+        }
+    }
+}
+
+/// A sink over a writer of std. Its count rises at each error, and at a write that took nothing.
+#[derive(Drop)]
+pub struct StdSink<O> {
+    writer: O,
+    faults: u64,
+}
+
+// Contracts see its count of faults.
+impl<O> Model for StdSink<O> {
+    ghost use Rattle.std.specs.Prelude.{ℕ};
+
+    ghost Value = { ℕ };
+
+    ghost view = { λ s. s.faults };
+}
+
+impl<O: Write> StdSink<O> {
+    /// A sink that has not failed yet.
+    pub fn new(writer: O) -> StdSink<O>
+        ensures { result ≡ 0 }
+    {
+        StdSink { writer, faults: 0 }
+    }
+}
+
+impl<O: Write> Sink for StdSink<O> {
+    ghost held = { λ s. None };
+
+    ghost faults = { λ s. s };
+
+    fn write(&mut self, octets: &[u8]) -> Result<usize, Failed> {
+        match self.writer.write(octets) {
+            Ok(count) if count > 0 => Ok(count),
+            _ => {
+                self.faults = self.faults.saturating_add(1);
+                Err(Failed)
+            }
+        }
+    }
+}

@@ -1,0 +1,190 @@
+//! The canonical line of an entry.
+
+ghost use Rattle.std.specs.Prelude.{◌≡◌, ◌+◌, ◌<◌, ◌≤◌, ◌++◌, ◌∷◌, [], length, map, sum_by, decimal, codes, true, Some, Ok};
+ghost use Rattle.std.specs.List.{join_with_byte, list_all};
+ghost use Rattle.wf_io.specs.Words.{text_of, width_of};
+ghost use Rattle.wf_trace.specs.declared.meaning.Place.{Place};
+ghost use Rattle.wf_trace.specs.declared.meaning.Meaning.TheVariants.{Entry};
+ghost use Rattle.wf_trace.specs.Lines.{is_printable};
+ghost use Rattle.wf_trace.specs.Words.{words as words_of};
+ghost use Rattle.wf_trace.specs.Meanings.{meant};
+ghost use Rattle.wf_note.specs.Printing.{class_word as word_of_class, guard_word as word_of_guard, heard_word as word_of_heard, ask_words, note_words, weight_words, note_text, note_line, IsAskPrintable, IsPrintable, IsAskInRange, IsInRange};
+
+use wf_frame::{Ask, Class, Note};
+use wf_io::{Line, Word};
+
+// The word of a class.
+fn class_word(class: Class) -> &'static [u8]
+    ensures word { result.now ≡ word_of_class class }
+    ensures short { length result.now ≤ 5 }
+{
+    match class {
+        Class::Bk => b"bk",
+        Class::Be => b"be",
+        Class::Vi => b"vi",
+        Class::Vo => b"vo",
+    }
+}
+
+// The word of a guard interval.
+fn guard_word(short: bool) -> &'static [u8]
+    ensures word { result.now ≡ word_of_guard short }
+    ensures short { length result.now ≤ 5 }
+{
+    if short { b"short" } else { b"long" }
+}
+
+// The word that tells whether an answer was heard.
+fn heard_word(heard: bool) -> &'static [u8]
+    ensures word { result.now ≡ word_of_heard heard }
+    ensures short { length result.now ≤ 5 }
+{
+    if heard { b"heard" } else { b"lost" }
+}
+
+// The word of a call, and its arguments behind it, each with one space in front.
+fn push_call(out: &mut Line, name: &'static [u8], words: &[Word])
+    requires { length out.old + length name.now + sum_by (λ w. width_of w + 1) words.now ≤ 8192 }
+    ensures text { out.new ≡ out.old ++ join_with_byte 32 (name.now ∷ map text_of words.now) }
+    ensures len { length out.new ≤ length out.old + length name.now + sum_by (λ w. width_of w + 1) words.now }
+{
+    out.push_all(name);
+    out.push_words(words);
+}
+
+// A `join`, whose weight is left out where it is 1.
+fn push_join(out: &mut Line, words: &[Word], weight: u8)
+    requires room { length out.old ≤ 22 }
+    requires narrow { sum_by (λ w. width_of w + 1) words.now ≤ 84 }
+    ensures text { out.new ≡ out.old ++ join_with_byte 32 (codes "join" ∷ (map text_of words.now ++ weight_words weight)) }
+    ensures len { length out.new ≤ length out.old + 120 }
+{
+    push_call(out, b"join", words);
+    if weight != 1 {
+        out.push_words(&[Word::Number(u64::from(weight))]);
+    }
+}
+
+// The words of a call that carries no frame.
+fn push_ask(ask: Ask, out: &mut Line)
+    requires room { length out.old ≤ 22 }
+    requires printable { IsAskPrintable ask }
+    ensures text { out.new ≡ out.old ++ join_with_byte 32 (ask_words ask) }
+    ensures len { length out.new ≤ length out.old + 120 }
+    ensures range { IsAskInRange ask }
+{
+    match ask {
+        Ask::Join {
+            station,
+            window,
+            start,
+            exponent,
+            weight,
+        } => push_join(
+            out,
+            &[
+                Word::Number(u64::from(station)),
+                Word::Number(u64::from(window)),
+                Word::Number(u64::from(start)),
+                Word::Number(u64::from(exponent)),
+            ],
+            weight,
+        ),
+        Ask::Leave { station } => push_call(out, b"leave", &[Word::Number(u64::from(station))]),
+        Ask::Rate {
+            station,
+            mcs,
+            mhz,
+            short,
+        } => push_call(
+            out,
+            b"rate",
+            &[
+                Word::Number(u64::from(station)),
+                Word::Number(u64::from(mcs)),
+                Word::Number(u64::from(mhz)),
+                Word::Text(guard_word(short)),
+            ],
+        ),
+        Ask::Tick { by } => push_call(out, b"tick", &[Word::Number(u64::from(by))]),
+        Ask::Pull { class } => push_call(out, b"pull", &[Word::Text(class_word(class))]),
+        Ask::Arrive { exchange, index } => push_call(
+            out,
+            b"arrive",
+            &[Word::Number(exchange), Word::Number(u64::from(index))],
+        ),
+        Ask::Answer { exchange } => push_call(out, b"answer", &[Word::Number(exchange)]),
+        Ask::Done { exchange, heard } => push_call(
+            out,
+            b"done",
+            &[Word::Number(exchange), Word::Text(heard_word(heard))],
+        ),
+        Ask::Sleep { station } => push_call(out, b"sleep", &[Word::Number(u64::from(station))]),
+        Ask::Wake { station } => push_call(out, b"wake", &[Word::Number(u64::from(station))]),
+        Ask::Poll { station } => push_call(out, b"poll", &[Word::Number(u64::from(station))]),
+        Ask::Rx {
+            station,
+            class,
+            air,
+        } => push_call(
+            out,
+            b"rx",
+            &[
+                Word::Number(u64::from(station)),
+                Word::Text(class_word(class)),
+                Word::Number(u64::from(air)),
+            ],
+        ),
+        Ask::Reap => push_call(out, b"reap", &[]),
+    }
+}
+
+// The words of a call.
+fn push_note(note: &Note, out: &mut Line)
+    requires room { length out.old ≤ 22 }
+    requires printable { IsPrintable note.now }
+    ensures text { out.new ≡ out.old ++ join_with_byte 32 (note_words note.now) }
+    ensures len { length out.new ≤ length out.old + 120 }
+    ensures range { IsInRange note.now }
+{
+    match note {
+        Note::Enqueue {
+            station,
+            tid,
+            flow,
+            len,
+        } => push_call(
+            out,
+            b"enq",
+            &[
+                Word::Number(u64::from(*station)),
+                Word::Number(u64::from(*tid)),
+                Word::Number(u64::from(*flow)),
+                Word::Number(u64::from(*len)),
+            ],
+        ),
+        Note::Asked(ask) => push_ask(*ask, out),
+    }
+}
+
+/// Writes the canonical line of an entry to an empty line: the words of the call parted by one space, `@` and the
+/// caller in front exactly where it is not 0, and the octet 10 at the end. The weight of a `join` stands exactly
+/// where it is not 1. An exchange number must be below 2^32, and a length 1 to 2304 octets: a line names no other.
+/// Behind a head that allows one more call the line is read as this entry.
+pub fn print_note(caller: u32, note: &Note, out: &mut Line)
+    requires empty { out.old ≡ [] }
+    requires caller { caller ≤ 65535 }
+    requires printable { IsPrintable note.now }
+    ensures line { out.new ≡ note_line caller note.now }
+    ensures read { (place : Place) → place.count < place.limit → meant (Some place) (words_of (note_text caller note.now)) ≡ Ok (Entry caller note.now) }
+    ensures short { length (note_text caller note.now) ≤ 160 }
+    ensures plain { list_all is_printable (note_text caller note.now) ≡ true }
+{
+    if caller != 0 {
+        out.push(b'@');
+        out.push_number(u64::from(caller));
+        out.push(b' ');
+    }
+    push_note(note, out);
+    out.push(b'\n');
+}

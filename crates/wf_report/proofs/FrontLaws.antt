@@ -1,0 +1,88 @@
+-- Texts that are written piece by piece.
+use Rattle.std.proofs.Common.{◌≡◌, ℕ, zero, suc, ◌+◌, ◌-◌, ◌≤◌, ◌<◌, List, [], ◌∷◌, ◌++◌, length, take, drop, Bool, true, false, cond, refl, sym, ◌∙◌, ap, append_assoc, append-nil, arith}
+use Rattle.std.specs.Prelude.{Option, None, Some, map, filter}
+use Rattle.std.specs.List.{concat}
+use Rattle.std.specs.Io.KnownBytes.{append_known}
+use Rattle.std.proofs.lemmas.List.{take-append-drop, map-append}
+use Rattle.wf_rules.specs.Table.{upto}
+use Rattle.wf_world.specs.World.{World, is_live}
+use Rattle.wf_world.specs.Text.{share_lines}
+use Rattle.wf_report.specs.Fronts.{HoldsFront, lines_of, shares_of}
+use Rattle.wf_report.proofs.Rows.{upto-more, kept-more, kept-same, concat-append, filter-append}
+
+pub append_known-nil : (held : Option (List ℕ)) → append_known held [] ≡ held
+append_known-nil None = refl
+append_known-nil (Some xs) = ap Some (append-nil xs)
+
+pub append_known-append : (held : Option (List ℕ)) (one two : List ℕ) → append_known (append_known held one) two ≡ append_known held (one ++ two)
+append_known-append None one two = refl
+append_known-append (Some xs) one two = ap Some (append_assoc xs one two)
+
+pub front_partly : (line : List ℕ) (old new : Option (List ℕ)) → (n : ℕ) × (n ≤ length line) × (new ≡ append_known old (take n line)) → HoldsFront old new line
+front_partly line old new some = record { written = take some.0 line; rest = drop some.0 line; is = sym (take-append-drop some.0 line); holds = some.2 }
+
+pub front_first : (old new : Option (List ℕ)) (one two : List ℕ) → HoldsFront old new one → HoldsFront old new (one ++ two)
+front_first old new one two front = record {
+  written = front.written;
+  rest = front.rest ++ two;
+  is = ap (λ l. l ++ two) front.is ∙ append_assoc front.written front.rest two;
+  holds = front.holds;
+}
+
+pub front_next : (old now new : Option (List ℕ)) (one two : List ℕ) → now ≡ append_known old one → HoldsFront now new two → HoldsFront old new (one ++ two)
+front_next old now new one two wrote front = record {
+  written = one ++ front.written;
+  rest = front.rest;
+  is = ap (λ l. one ++ l) front.is ∙ sym (append_assoc one front.written front.rest);
+  holds = front.holds ∙ ap (λ h. append_known h front.written) wrote ∙ append_known-append old one front.written;
+}
+
+pub front_whole : (old new : Option (List ℕ)) (one : List ℕ) → new ≡ append_known old one → HoldsFront old new one
+front_whole old new one wrote = record { written = one; rest = []; is = sym (append-nil one); holds = wrote }
+
+pub two_written : (old now new : Option (List ℕ)) (one two : List ℕ) → now ≡ append_known old one → new ≡ append_known now two → new ≡ append_known old (one ++ two)
+two_written old now new one two first second = second ∙ ap (λ h. append_known h two) first ∙ append_known-append old one two
+
+pub three_written : (old now later new : Option (List ℕ)) (one two three : List ℕ) → now ≡ append_known old one → later ≡ append_known now two → new ≡ append_known later three →
+    new ≡ append_known old ((one ++ two) ++ three)
+three_written old now later new one two three first second third = two_written old later new (one ++ two) three (two_written old now later one two first second) third
+
+-- the lines of the stations below a number
+abbrev pub shares_below : World → ℕ → List ℕ
+shares_below w n = concat (map (share_lines w) (filter (is_live w) (upto n)))
+
+pub shares-more : (w : World) (n : ℕ) → shares_below w n ++ lines_of w n ≡ shares_below w (n + 1)
+shares-more w n = by_live (is_live w n) refl
+  where
+    by_live : (b : Bool) → is_live w n ≡ b → shares_below w n ++ cond b (share_lines w n) [] ≡ shares_below w (n + 1)
+    by_live true is =
+        rw (kept-more (is_live w) n is, map-append (share_lines w) (filter (is_live w) (upto n)) (n ∷ []), concat-append (map (share_lines w) (filter (is_live w) (upto n))) (share_lines w n ∷ []), append-nil (share_lines w n)) refl
+    by_live false is = rw (kept-same (is_live w) n is) (append-nil (shares_below w n))
+
+upto-rest : (n k : ℕ) → (more : List ℕ) × (upto (n + k) ≡ upto n ++ more)
+upto-rest n zero = ([], let same : n + 0 ≡ n = omega arith in ap upto same ∙ sym (append-nil (upto n)))
+upto-rest n (suc k) =
+    let rest = upto-rest n k in
+    let next : n + suc k ≡ (n + k) + 1 = omega arith in (
+      rest.0 ++ (n + k) ∷ [],
+      ap upto next ∙ upto-more (n + k) ∙ ap (λ l. l ++ (n + k) ∷ []) rest.1 ∙ append_assoc (upto n) rest.0 ((n + k) ∷ []),
+    )
+
+pub shares-rest : (w : World) (n : ℕ) → n ≤ w.config.stations → (more : List ℕ) × (shares_of w ≡ shares_below w n ++ more)
+shares-rest w n below =
+    let rest = upto-rest n (w.config.stations - n) in
+    let all : n + (w.config.stations - n) ≡ w.config.stations = omega arith in
+    let whole : upto w.config.stations ≡ upto n ++ rest.0 = ap upto (sym all) ∙ rest.1 in (
+      concat (map (share_lines w) (filter (is_live w) rest.0)),
+      ap (λ l. concat (map (share_lines w) (filter (is_live w) l))) whole
+          ∙ ap (λ l. concat (map (share_lines w) l)) (filter-append (is_live w) (upto n) rest.0)
+          ∙ ap concat (map-append (share_lines w) (filter (is_live w) (upto n)) (filter (is_live w) rest.0))
+          ∙ concat-append (map (share_lines w) (filter (is_live w) (upto n))) (map (share_lines w) (filter (is_live w) rest.0)),
+    )
+
+-- a station's lines were written in part
+pub front_share : (w : World) (n : ℕ) (old now new : Option (List ℕ)) → n < w.config.stations → now ≡ append_known old (shares_below w n) → HoldsFront now new (lines_of w n) → HoldsFront old new (shares_of w)
+front_share w n old now new below wrote front =
+    let rest = shares-rest w (n + 1) (omega arith) in
+    let whole : shares_of w ≡ (shares_below w n ++ lines_of w n) ++ rest.0 = rest.1 ∙ ap (λ l. l ++ rest.0) (sym (shares-more w n)) in
+    rw whole (front_first old new (shares_below w n ++ lines_of w n) rest.0 (front_next old now new (shares_below w n) (lines_of w n) wrote front))

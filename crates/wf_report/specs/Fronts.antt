@@ -1,0 +1,28 @@
+-- What a sink holds after a text was written to it, or some of it.
+use Rattle.std.specs.Prelude.{◌≡◌, ℕ, List, [], ◌∷◌, ◌++◌, Option, if◌then◌else◌, codes, decimal, length, map}
+use Rattle.std.specs.List.{concat}
+use Rattle.std.specs.Io.KnownBytes.{append_known}
+use Rattle.wf_world.specs.World.{World, is_live, live_stations}
+use Rattle.wf_world.specs.Text.{line, share_lines, tally_words, traffic_map, with_traffic, hex}
+
+-- octets of a text's front were written
+pub record HoldsFront (old new : Option (List ℕ)) (text : List ℕ) : Type 0 where
+  pub written : List ℕ
+  pub rest : List ℕ
+  pub is : text ≡ written ++ rest
+  pub holds : new ≡ append_known old written
+
+-- the first four lines of a summary, those of a station and of all stations, and the last
+abbrev pub counts_of : World → ℕ → List ℕ
+counts_of w calls =
+    line (codes "calls" ∷ decimal calls ∷ []) ++ line (codes "now" ∷ decimal w.clock ∷ []) ++ line (tally_words w)
+    ++ line (codes "exchanges" ∷ decimal w.exchanges ∷ codes "open" ∷ decimal (length w.opened) ∷ [])
+
+abbrev pub lines_of : World → ℕ → List ℕ
+lines_of w s = if is_live w s then share_lines w s else []
+
+abbrev pub shares_of : World → List ℕ
+shares_of w = concat (map (share_lines w) (live_stations w))
+
+abbrev pub map_line : World → List ℕ
+map_line w = line (codes "tim" ∷ concat (map (hex 2) (traffic_map (with_traffic w))) ∷ [])

@@ -1,0 +1,94 @@
+-- Replies that fit a line.
+use Rattle.std.specs.Prelude.{ℕ, ◌≤◌, List, [], ◌∷◌, ◌++◌, length, codes, decimal}
+use Rattle.std.specs.Fmt.{signed_decimal}
+use Rattle.wf_frame.specs.declared.notes.Refusal.{Refusal}
+use Rattle.wf_frame.specs.declared.notes.Refusal.TheVariants.{BadStation, BadWindow, BadStart, BadExponent, BadRate, BadTick, BadTid, BadAir, BadIndex, Live, NoStation, NoExchange, NoAnswer, StillOpen, Room, Sleeping, Full, Idle, Answered, Arrived, Nothing, Asleep, Awake, Polled, Debt, HistoryFull, BadWeight}
+use Rattle.wf_frame.specs.declared.notes.Part.{Part}
+use Rattle.wf_frame.specs.declared.notes.Part.TheVariants.{Mpdus, Request}
+use Rattle.wf_frame.specs.declared.notes.ReplyNote.{ReplyNote}
+use Rattle.wf_frame.specs.declared.notes.ReplyNote.TheVariants.{Joined, Gone, RateSet, Ticked, Accepted, Send, Released, Ba, Ended, Slept, Woken, Credited, Charged, Reaped, Refused}
+
+abbrev pub IsShortPart : Part → Type 0
+IsShortPart (Mpdus pairs) = length pairs ≤ 256
+IsShortPart (Request start) = Unit {0}
+
+-- the fixed lists of a reply have at most 256 items
+abbrev pub IsShort : ReplyNote → Type 0
+IsShort (Send e s t air part more) = IsShortPart part
+IsShort (Released ids) = length ids ≤ 256
+IsShort Joined = Unit {0}
+IsShort (Gone dropped) = Unit {0}
+IsShort RateSet = Unit {0}
+IsShort (Ticked now) = Unit {0}
+IsShort (Accepted id dropped) = Unit {0}
+IsShort (Ba start b0 b1 b2 b3 wide) = Unit {0}
+IsShort (Ended acked waiting failed) = Unit {0}
+IsShort Slept = Unit {0}
+IsShort Woken = Unit {0}
+IsShort (Credited class) = Unit {0}
+IsShort (Charged deficit) = Unit {0}
+IsShort (Reaped id fate) = Unit {0}
+IsShort (Refused refusal) = Unit {0}
+
+-- the word of a refusal, and its number where it has one
+abbrev pub refusal_name : Refusal → List ℕ
+refusal_name BadStation = codes "bad-station"
+refusal_name BadWindow = codes "bad-window"
+refusal_name BadStart = codes "bad-start"
+refusal_name BadExponent = codes "bad-exponent"
+refusal_name BadRate = codes "bad-rate"
+refusal_name BadTick = codes "bad-tick"
+refusal_name BadTid = codes "bad-tid"
+refusal_name BadAir = codes "bad-air"
+refusal_name BadIndex = codes "bad-index"
+refusal_name Live = codes "live"
+refusal_name NoStation = codes "no-station"
+refusal_name NoExchange = codes "no-exchange"
+refusal_name NoAnswer = codes "no-answer"
+refusal_name (StillOpen count) = codes "open"
+refusal_name (Room inside) = codes "room"
+refusal_name (Sleeping queued) = codes "sleeping"
+refusal_name (Full count) = codes "full"
+refusal_name Idle = codes "idle"
+refusal_name Answered = codes "answered"
+refusal_name Arrived = codes "arrived"
+refusal_name Nothing = codes "nothing"
+refusal_name Asleep = codes "asleep"
+refusal_name Awake = codes "awake"
+refusal_name Polled = codes "polled"
+refusal_name (Debt deficit) = codes "debt"
+refusal_name HistoryFull = codes "history-full"
+refusal_name BadWeight = codes "bad-weight"
+
+abbrev pub refusal_numbers : Refusal → List (List ℕ)
+refusal_numbers BadStation = []
+refusal_numbers BadWindow = []
+refusal_numbers BadStart = []
+refusal_numbers BadExponent = []
+refusal_numbers BadRate = []
+refusal_numbers BadTick = []
+refusal_numbers BadTid = []
+refusal_numbers BadAir = []
+refusal_numbers BadIndex = []
+refusal_numbers Live = []
+refusal_numbers NoStation = []
+refusal_numbers NoExchange = []
+refusal_numbers NoAnswer = []
+refusal_numbers (StillOpen count) = decimal count ∷ []
+refusal_numbers (Room inside) = decimal inside ∷ []
+refusal_numbers (Sleeping queued) = decimal queued ∷ []
+refusal_numbers (Full count) = decimal count ∷ []
+refusal_numbers Idle = []
+refusal_numbers Answered = []
+refusal_numbers Arrived = []
+refusal_numbers Nothing = []
+refusal_numbers Asleep = []
+refusal_numbers Awake = []
+refusal_numbers Polled = []
+refusal_numbers (Debt deficit) = signed_decimal deficit ∷ []
+refusal_numbers HistoryFull = []
+refusal_numbers BadWeight = []
+
+-- a frame of an aggregate: its id and its sequence number
+abbrev pub pair_text : ℕ × ℕ → List ℕ
+pair_text p = decimal p.0 ++ codes ":" ++ decimal p.1

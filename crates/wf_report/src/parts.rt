@@ -1,0 +1,58 @@
+//! Parts of lines: names, and hexadecimal digits.
+
+ghost use Rattle.std.specs.Prelude.{◌≡◌, ◌+◌, ◌^◌, ◌<◌, ◌≤◌, ◌++◌, length};
+ghost use Rattle.wf_world.specs.Text.{class_name as name_of_class, fate_name as name_of_fate, hex, hex_digit as digit_of};
+
+use wf_frame::{Cause, Class, Fate};
+use wf_io::Line;
+
+/// The word of a class.
+pub fn class_name(class: Class) -> &'static [u8]
+    ensures name { result.now ≡ name_of_class class }
+    ensures short { length result.now ≤ 2 }
+{
+    match class {
+        Class::Bk => b"bk",
+        Class::Be => b"be",
+        Class::Vi => b"vi",
+        Class::Vo => b"vo",
+    }
+}
+
+/// The word of a fate.
+pub fn fate_name(fate: Fate) -> &'static [u8]
+    ensures name { result.now ≡ name_of_fate fate }
+    ensures short { length result.now ≤ 9 }
+{
+    match fate {
+        Fate::Held => b"held",
+        Fate::Acked => b"acked",
+        Fate::Dropped(Cause::Overlimit) => b"overlimit",
+        Fate::Dropped(Cause::Codel) => b"codel",
+        Fate::Dropped(Cause::Retries) => b"retries",
+        Fate::Dropped(Cause::Left) => b"left",
+    }
+}
+
+fn hex_digit(value: u8) -> u8
+    requires { value < 16 }
+    ensures { result ≡ digit_of value }
+{
+    if value < 10 {
+        b'0' + value
+    } else {
+        b'a' + (value - 10)
+    }
+}
+
+/// Appends the last `digits` hexadecimal digits of a number.
+pub fn push_hex(out: &mut Line, digits: u32, value: u64)
+    requires { length out.old + digits ≤ 8192 }
+    ensures digits { out.new ≡ out.old ++ hex digits value }
+    ensures len { length out.new ≡ length out.old + digits }
+{
+    if digits > 0 {
+        push_hex(out, digits - 1, value / 16);
+        out.push(hex_digit((value % 16) as u8));
+    }
+}

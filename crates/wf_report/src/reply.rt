@@ -1,0 +1,327 @@
+//! The answer line of a reply.
+
+ghost use Rattle.std.specs.Prelude.{◌≡◌, ◌+◌, ◌<◌, ◌≤◌, ◌++◌, ◌∷◌, [], ◌↔◌, IsTrue, length, map, decimal, sum_by, codes, slice_index, ◌*◌, if◌then◌else◌, true};
+ghost use Rattle.std.specs.List.{join_with_byte};
+ghost use Rattle.wf_io.specs.Words.{text_of, width_of, spaced};
+ghost use Rattle.wf_world.specs.Text.{answer_line, reply_words, refusal_words, part_words, score_digits};
+ghost use Rattle.wf_report.specs.Replies.{refusal_name, refusal_numbers, pair_text, IsShort, IsShortPart};
+
+use crate::parts::{class_name, fate_name, push_hex};
+use wf_frame::{Ids, Pairs, Part, Refusal, ReplyNote};
+use wf_io::{Line, Word};
+
+/// Whether the lists of a reply have at most 256 items, as they always do.
+pub fn is_short(note: &ReplyNote) -> bool
+    ensures { IsTrue result ↔ IsShort note.now }
+{
+    match note {
+        ReplyNote::Send {
+            part: Part::Mpdus(pairs),
+            ..
+        } => pairs.len() <= 256,
+        ReplyNote::Released { ids } => ids.len() <= 256,
+        _ => true,
+    }
+}
+
+// A word, and words behind it.
+fn start(out: &mut Line, word: &'static [u8], words: &[Word])
+    requires { length out.old + length word.now + sum_by (λ w. width_of w + 1) words.now ≤ 8192 }
+    ensures text { out.new ≡ out.old ++ (word.now ++ spaced (map text_of words.now)) }
+    ensures len { length out.new ≤ length out.old + length word.now + sum_by (λ w. width_of w + 1) words.now }
+{
+    out.push_all(word);
+    out.push_words(words);
+}
+
+// The word of a refusal.
+fn name_of(refusal: Refusal) -> &'static [u8]
+    ensures name { result.now ≡ refusal_name refusal }
+    ensures short { length result.now ≤ 12 }
+{
+    match refusal {
+        Refusal::BadStation => b"bad-station",
+        Refusal::BadWindow => b"bad-window",
+        Refusal::BadStart => b"bad-start",
+        Refusal::BadExponent => b"bad-exponent",
+        Refusal::BadRate => b"bad-rate",
+        Refusal::BadTick => b"bad-tick",
+        Refusal::BadTid => b"bad-tid",
+        Refusal::BadAir => b"bad-air",
+        Refusal::BadIndex => b"bad-index",
+        Refusal::Live => b"live",
+        Refusal::NoStation => b"no-station",
+        Refusal::NoExchange => b"no-exchange",
+        Refusal::NoAnswer => b"no-answer",
+        Refusal::StillOpen { .. } => b"open",
+        Refusal::Room { .. } => b"room",
+        Refusal::Sleeping { .. } => b"sleeping",
+        Refusal::Full { .. } => b"full",
+        Refusal::Idle => b"idle",
+        Refusal::Answered => b"answered",
+        Refusal::Arrived => b"arrived",
+        Refusal::Nothing => b"nothing",
+        Refusal::Asleep => b"asleep",
+        Refusal::Awake => b"awake",
+        Refusal::Polled => b"polled",
+        Refusal::Debt { .. } => b"debt",
+        Refusal::HistoryFull => b"history-full",
+        Refusal::BadWeight => b"bad-weight",
+    }
+}
+
+// The number of a refusal, where it has one.
+fn push_refusal_number(out: &mut Line, refusal: Refusal)
+    requires { length out.old + 22 ≤ 8192 }
+    ensures text { out.new ≡ out.old ++ spaced (refusal_numbers refusal) }
+    ensures len { length out.new ≤ length out.old + 22 }
+{
+    match refusal {
+        Refusal::StillOpen { count } | Refusal::Full { count } => out.push_words(&[Word::Number(
+            u64::from(count),
+        )]),
+        Refusal::Room { inside } => out.push_words(&[Word::Number(u64::from(inside))]),
+        Refusal::Sleeping { queued } => out.push_words(&[Word::Number(u64::from(queued))]),
+        Refusal::Debt { deficit } => out.push_words(&[Word::Signed(deficit)]),
+        _ => {}
+    }
+}
+
+// A refusal.
+fn push_refusal(out: &mut Line, refusal: Refusal)
+    requires { length out.old + 60 ≤ 8192 }
+    ensures text { out.new ≡ out.old ++ join_with_byte 32 (codes "refused" ∷ refusal_words refusal) }
+    ensures len { length out.new ≤ length out.old + 60 }
+{
+    start(out, b"refused", &[Word::Text(name_of(refusal))]);
+    push_refusal_number(out, refusal);
+}
+
+// The frames of an aggregate, each with its sequence number.
+fn push_pairs(out: &mut Line, pairs: &Pairs)
+    requires few { length pairs.now ≤ 256 }
+    requires room { length out.old ≤ 200 }
+    ensures text { out.new ≡ out.old ++ spaced (map pair_text pairs.now) }
+    ensures len { length out.new ≤ length out.old + 27 * length pairs.now }
+{
+    for i in 0..pairs.len() {
+        let (id, number) = pairs.at(i);
+        out.push(b' ');
+        out.push_number(id);
+        out.push(b':');
+        push_short(out, number);
+    }
+}
+
+// A number of at most five digits.
+fn push_short(out: &mut Line, number: u16)
+    requires { length out.old + 20 ≤ 8192 }
+    ensures text { out.new ≡ out.old ++ decimal number }
+    ensures len { length out.new ≤ length out.old + 5 }
+{
+    out.push_number(u64::from(number));
+}
+
+// The ids of the frames that were passed up.
+fn push_ids(out: &mut Line, ids: &Ids)
+    requires few { length ids.now ≤ 256 }
+    requires room { length out.old ≤ 200 }
+    ensures text { out.new ≡ out.old ++ spaced (map decimal ids.now) }
+    ensures len { length out.new ≤ length out.old + 21 * length ids.now }
+{
+    for i in 0..ids.len() {
+        out.push(b' ');
+        out.push_number(ids.at(i));
+    }
+}
+
+// What an exchange sends.
+fn push_part(out: &mut Line, part: &Part)
+    requires short { IsShortPart part.now }
+    requires room { length out.old ≤ 190 }
+    ensures text { out.new ≡ out.old ++ spaced (part_words part.now) }
+    ensures len { length out.new ≤ 7200 }
+{
+    match part {
+        Part::Mpdus(pairs) => {
+            out.push_words(&[Word::Text(b"data")]);
+            push_pairs(out, pairs);
+        }
+        Part::Request(start) => {
+            out.push_words(&[Word::Text(b"bar"), Word::Number(u64::from(*start))]);
+        }
+    }
+}
+
+// The More Data bit, as a word where it is set.
+fn push_more(out: &mut Line, more: bool)
+    requires { length out.old ≤ 7200 }
+    ensures text { out.new ≡ out.old ++ spaced (if more then codes "more" ∷ [] else []) }
+    ensures len { length out.new ≤ length out.old + 5 }
+{
+    if more {
+        out.push_words(&[Word::Text(b"more")]);
+    }
+}
+
+// An exchange to send.
+fn push_send(out: &mut Line, words: &[Word], part: &Part, more: bool)
+    requires short { IsShortPart part.now }
+    requires room { length out.old + sum_by (λ w. width_of w + 1) words.now ≤ 180 }
+    ensures text { out.new ≡ out.old ++ join_with_byte 32 (codes "send" ∷ (map text_of words.now ++ (part_words part.now ++ (if more then codes "more" ∷ [] else [])))) }
+    ensures len { length out.new ≤ 7300 }
+{
+    start(out, b"send", words);
+    push_part(out, part);
+    push_more(out, more);
+}
+
+// The bits of a wide block acknowledgement, offset 255 first.
+fn push_wide(out: &mut Line, words: &[u64; 4])
+    requires { length out.old ≤ 100 }
+    ensures text { out.new ≡ out.old ++ score_digits (slice_index words.now 0) (slice_index words.now 1) (slice_index words.now 2) (slice_index words.now 3) true }
+    ensures len { length out.new ≤ length out.old + 64 }
+{
+    push_hex(out, 16, words[3]);
+    push_hex(out, 16, words[2]);
+    push_hex(out, 16, words[1]);
+    push_hex(out, 16, words[0]);
+}
+
+// The bits of a block acknowledgement.
+fn push_bits(out: &mut Line, words: &[u64; 4], wide: bool)
+    requires { length out.old ≤ 100 }
+    ensures text { out.new ≡ out.old ++ score_digits (slice_index words.now 0) (slice_index words.now 1) (slice_index words.now 2) (slice_index words.now 3) wide }
+    ensures len { length out.new ≤ length out.old + 64 }
+{
+    if wide {
+        push_wide(out, words);
+    } else {
+        push_hex(out, 16, words[0]);
+    }
+}
+
+// A block acknowledgement: its start and its bits.
+fn push_answer(out: &mut Line, first: u16, words: &[u64; 4], wide: bool)
+    requires { length out.old ≤ 60 }
+    ensures text { out.new ≡ out.old ++ join_with_byte 32 (codes "ba" ∷ decimal first
+        ∷ score_digits (slice_index words.now 0) (slice_index words.now 1) (slice_index words.now 2) (slice_index words.now 3) wide ∷ []) }
+    ensures len { length out.new ≤ 200 }
+{
+    start(out, b"ba", &[Word::Number(u64::from(first))]);
+    out.push(b' ');
+    push_bits(out, words, wide);
+}
+
+// How an exchange ended.
+fn push_ended(out: &mut Line, acked: u16, waiting: u16, failed: u16)
+    requires { length out.old ≤ 60 }
+    ensures text { out.new ≡ out.old ++ join_with_byte 32 (codes "done" ∷ codes "acked" ∷ decimal acked ∷ codes "waiting" ∷ decimal waiting ∷ codes "failed" ∷ decimal failed ∷ []) }
+    ensures len { length out.new ≤ length out.old + 100 }
+{
+    let (acked, waiting, failed) = (u64::from(acked), u64::from(waiting), u64::from(failed));
+    start(
+        out,
+        b"done",
+        &[
+            Word::Text(b"acked"),
+            Word::Number(acked),
+            Word::Text(b"waiting"),
+            Word::Number(waiting),
+            Word::Text(b"failed"),
+            Word::Number(failed),
+        ],
+    );
+}
+
+/// Writes the answer line of a reply to an empty line.
+pub fn print_reply(note: &ReplyNote, out: &mut Line)
+    requires empty { out.old ≡ [] }
+    requires short { IsShort note.now }
+    ensures { out.new ≡ answer_line note.now }
+{
+    push_reply(note, out);
+    out.push(b'\n');
+}
+
+// The words of a reply.
+fn push_reply(note: &ReplyNote, out: &mut Line)
+    requires empty { out.old ≡ [] }
+    requires short { IsShort note.now }
+    ensures text { out.new ≡ join_with_byte 32 (reply_words note.now) }
+    ensures len { length out.new ≤ 8000 }
+{
+    match note {
+        ReplyNote::Joined => start(out, b"joined", &[]),
+        ReplyNote::Gone { dropped } => start(out, b"left", &[Word::Number(u64::from(*dropped))]),
+        ReplyNote::RateSet => start(out, b"set", &[]),
+        ReplyNote::Ticked { now } => start(out, b"now", &[Word::Number(*now)]),
+        ReplyNote::Accepted { id, dropped: None } => start(out, b"accepted", &[Word::Number(*id)]),
+        ReplyNote::Accepted {
+            id,
+            dropped: Some(dropped),
+        } => start(
+            out,
+            b"accepted",
+            &[
+                Word::Number(*id),
+                Word::Text(b"dropped"),
+                Word::Number(*dropped),
+            ],
+        ),
+        ReplyNote::Send {
+            exchange,
+            station,
+            tid,
+            air,
+            part,
+            more,
+        } => {
+            push_send(
+                out,
+                &[
+                    Word::Number(*exchange),
+                    Word::Text(b"sta"),
+                    Word::Number(u64::from(*station)),
+                    Word::Text(b"tid"),
+                    Word::Number(u64::from(*tid)),
+                    Word::Text(b"air"),
+                    Word::Number(u64::from(*air)),
+                ],
+                part,
+                *more,
+            );
+        }
+        ReplyNote::Released { ids } => {
+            start(out, b"released", &[]);
+            push_ids(out, ids);
+        }
+        ReplyNote::Ba {
+            start: first,
+            b0,
+            b1,
+            b2,
+            b3,
+            wide,
+        } => {
+            push_answer(out, *first, &[*b0, *b1, *b2, *b3], *wide);
+        }
+        ReplyNote::Ended {
+            acked,
+            waiting,
+            failed,
+        } => push_ended(out, *acked, *waiting, *failed),
+        ReplyNote::Slept => start(out, b"slept", &[]),
+        ReplyNote::Woken => start(out, b"woken", &[]),
+        ReplyNote::Credited { class } => {
+            start(out, b"polled", &[Word::Text(class_name(*class))]);
+        }
+        ReplyNote::Charged { deficit } => start(out, b"charged", &[Word::Signed(*deficit)]),
+        ReplyNote::Reaped { id, fate } => start(
+            out,
+            b"reaped",
+            &[Word::Number(*id), Word::Text(fate_name(*fate))],
+        ),
+        ReplyNote::Refused(refusal) => push_refusal(out, *refusal),
+    }
+}

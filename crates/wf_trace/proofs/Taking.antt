@@ -1,0 +1,109 @@
+-- What was taken from a source while no line ended, and what comes of it.
+use Rattle.std.proofs.Common.{◌≡◌, ℕ, List, [], ◌++◌, Bool, true, false, refl, sym, ◌∙◌, ap, subst, append_assoc}
+use Rattle.std.specs.Prelude.{Option, Some, None, Ok, Err, MatchOption, IsSome}
+use Rattle.std.specs.Io.KnownBytes.{prepend_known, IsAtEnd}
+use Rattle.wf_trace.specs.declared.fault.FaultKind.{FaultKind}
+use Rattle.wf_trace.specs.declared.fault.FaultKind.TheVariants.{TooBig}
+use Rattle.wf_trace.specs.declared.fault.End.{End}
+use Rattle.wf_trace.specs.declared.fault.End.TheVariants.{Flaw}
+use Rattle.wf_trace.specs.declared.scanner.Found.TheVariants as found
+use Rattle.wf_trace.specs.declared.cutter.Piece.{Piece}
+use Rattle.wf_trace.specs.declared.cutter.Piece.TheVariants.{Text, Ended}
+use Rattle.wf_trace.specs.Lines.{before, flaw, texts_of}
+use Rattle.wf_trace.specs.Scanning.{Scanning, Finds, lines_behind, texts_from, texts_behind}
+use Rattle.wf_trace.specs.Cutting.{Cutting, Takes, Fits, Follows, to_come}
+
+-- Octets were taken, and the texts to come stayed.
+pub record Took (first now : Scanning) (left left_now : Option (List ℕ)) : Type 0 where
+  pub octets : List ℕ
+  pub taken : left ≡ prepend_known octets left_now
+  pub same : (closed : Bool) (more : List ℕ) → texts_from first closed (octets ++ more) ≡ texts_from now closed more
+
+pub prepend_known-nil : (left : Option (List ℕ)) → left ≡ prepend_known [] left
+prepend_known-nil None = refl
+prepend_known-nil (Some xs) = refl
+
+pub prepend_known-append : (one two : List ℕ) (left : Option (List ℕ)) → prepend_known one (prepend_known two left) ≡ prepend_known (one ++ two) left
+prepend_known-append one two None = refl
+prepend_known-append one two (Some xs) = ap Some (sym (append_assoc one two xs))
+
+pub took_none : (s : Scanning) (left : Option (List ℕ)) → Took s s left left
+took_none s left = record { octets = []; taken = prepend_known-nil left; same = λ closed more. refl }
+
+pub took_scan : (first s t : Scanning) (left left_now : Option (List ℕ)) → Took first s left left_now → Finds s None t → Took first t left left_now
+took_scan first s t left left_now took finds = record {
+  octets = took.octets;
+  taken = took.taken;
+  same = λ closed more. took.same closed more ∙ finds closed more;
+}
+
+pub took_refill : (first s t : Scanning) (left left_now left_new : Option (List ℕ)) → Took first s left left_now →
+    s.waiting ≡ [] → left_now ≡ prepend_known t.waiting left_new → t ≡ record s { waiting = t.waiting } → Took first t left left_new
+took_refill first s t left left_now left_new took dry refilled same = record {
+  octets = took.octets ++ t.waiting;
+  taken = took.taken ∙ ap (λ l. prepend_known took.octets l) refilled ∙ prepend_known-append took.octets t.waiting left_new;
+  same = λ closed more.
+      ap (λ l. texts_from first closed l) (append_assoc took.octets t.waiting more)
+      ∙ took.same closed (t.waiting ++ more)
+      ∙ ap (λ w. texts_of closed (lines_behind closed s.looked s.line (w ++ (t.waiting ++ more)))) dry
+      ∙ ap (λ (u : Scanning). texts_of closed (lines_behind closed u.looked u.line (t.waiting ++ more))) (sym same);
+}
+
+-- a cutter that is under way
+abbrev pub going : Scanning → Cutting
+going s = record { scanner = s; given = false; ended = None }
+
+abbrev pub Judged : Option FaultKind → Piece → Scanning → Cutting → Type 0
+Judged f piece s new = MatchOption f ((piece ≡ Text) × (new ≡ record { scanner = s; given = true; ended = None }))
+    (λ kind. (piece ≡ Ended (Flaw kind)) × (new ≡ record { scanner = s; given = false; ended = Some (Flaw kind) }))
+
+judged : (f : Option FaultKind) (first s t : Scanning) (left left_now : Option (List ℕ)) (piece : Piece) (new : Cutting) → (took : Took first s left left_now) →
+    ((closed : Bool) (more : List ℕ) → texts_from s closed more ≡ before f t.line (texts_behind t closed more)) →
+    Judged f piece t new → Takes (going first) left (Ok piece) new left_now took.octets
+judged None first s t left left_now piece new took finds is = record {
+  taken = took.taken;
+  gives = rw (is.0, is.1) (λ closed more fits. took.same closed more ∙ finds closed more);
+}
+judged (Some kind) first s t left left_now piece new took finds is = record {
+  taken = took.taken;
+  gives = rw (is.0, is.1) (λ closed more fits. (refl, took.same closed more ∙ finds closed more));
+}
+
+-- a line ended
+pub takes_line : (first s t : Scanning) (left left_now : Option (List ℕ)) (piece : Piece) (new : Cutting) → Took first s left left_now →
+    Finds s (Some found.Line) t → Judged (flaw t.looked t.line) piece t new → (octets : List ℕ) × Takes (going first) left (Ok piece) new left_now octets
+takes_line first s t left left_now piece new took finds is = (took.octets, judged (flaw t.looked t.line) first s t left left_now piece new took finds is)
+
+-- the line goes past the end of any trace
+pub takes_big : (first s t : Scanning) (left left_now : Option (List ℕ)) → Took first s left left_now → Finds s (Some found.TooBig) t →
+    (octets : List ℕ) × Takes (going first) left (Ok (Ended (Flaw TooBig))) (record { scanner = t; given = false; ended = Some (Flaw TooBig) }) left_now octets
+takes_big first s t left left_now took finds = (
+  took.octets,
+  record {
+    taken = took.taken;
+    gives = λ closed more fits. (refl, rw (fits.0) (took.same true more ∙ finds more));
+  },
+)
+
+-- the source failed
+pub takes_none : (first s : Scanning) (left left_now : Option (List ℕ)) → Took first s left left_now →
+    (octets : List ℕ) × Takes (going first) left (Err (record {})) (going s) left_now octets
+takes_none first s left left_now took = (took.octets, record { taken = took.taken; gives = λ closed more fits. took.same closed more })
+
+-- the source is at its end
+nothing_left : (e : Option End) (now new : Option (List ℕ)) (closed : Bool) (more : List ℕ) → IsSome e → IsAtEnd now → now ≡ prepend_known [] new → Fits e new closed more → (closed ≡ true) × (more ≡ [])
+nothing_left None now new closed more some at_end is fits = absurd (cc)
+nothing_left (Some e) now new closed more some at_end is fits =
+    (fits.0, let told : now ≡ Some more = is ∙ rw (fits.1) refl in subst (λ (l : Option (List ℕ)). IsAtEnd l) told at_end)
+
+pub takes_end : (first s : Scanning) (left left_now left_new : Option (List ℕ)) (piece : Piece) (new : Cutting) → Took first s left left_new →
+    IsAtEnd left_now → left_now ≡ prepend_known [] left_new → IsSome new.ended →
+    Follows (Ok piece) new (to_come (going s) true []) (to_come new true []) → (octets : List ℕ) × Takes (going first) left (Ok piece) new left_new octets
+takes_end first s left left_now left_new piece new took at_end is ended follows = (
+  took.octets,
+  record {
+    taken = took.taken;
+    gives = λ closed more fits. let nothing = nothing_left new.ended left_now left_new closed more ended at_end is fits in
+        rw (nothing.0, nothing.1, took.same true []) follows;
+  },
+)

@@ -1,0 +1,46 @@
+-- Laws of the words of a line.
+use Rattle.std.proofs.Common.{◌≡◌, ◌≢◌, ℕ, zero, suc, ◌<◌, ◌≤◌, List, [], ◌∷◌, length, take, drop, get_or, true, false, nat_eq, refl, ◌∙◌, ap, add-zero, arith}
+use Rattle.std.specs.Prelude.{filter}
+use Rattle.std.proofs.lemmas.Bool.Decides.{nat_tests}
+use Rattle.std.proofs.lemmas.List.{length-drop, length-take-le, get_or-drop}
+use Rattle.wf_trace.specs.Words.{parts, in_front, words, is_word}
+
+-- octets in front of the first part
+abbrev ahead : List ℕ → List (List ℕ) → List (List ℕ)
+ahead [] others = others
+ahead (octet ∷ octets) others = in_front octet (ahead octets others)
+
+ahead_word : (word : List ℕ) (others : List (List ℕ)) → ahead word ([] ∷ others) ≡ word ∷ others
+ahead_word [] others = refl
+ahead_word (octet ∷ word) others = ap (in_front octet) (ahead_word word others)
+
+parts_at : (line : List ℕ) (n : ℕ) → n ≤ length line → ((k : ℕ) → k < n → get_or line k 0 ≢ 32) → parts line ≡ ahead (take n line) (parts (drop n line))
+parts_at line zero within before = refl
+parts_at [] (suc n) within before = absurd (omega arith)
+parts_at (octet ∷ octets) (suc n) within before =
+    let other = before 0 (omega arith) in
+    let test : nat_eq octet 32 ≡ false = grind (arith, nat_tests) in
+    let more = parts_at octets n (omega arith) (λ k below. before (suc k) (omega arith)) in
+    rw test (ap (in_front octet) more)
+
+space_or_end : (line : List ℕ) → (0 < length line → get_or line 0 0 ≡ 32) → (others : List (List ℕ)) × (parts line ≡ [] ∷ others)
+space_or_end [] first = ([], refl)
+space_or_end (octet ∷ octets) first =
+    let test : nat_eq octet 32 ≡ true = let is = first (omega arith) in grind (arith, nat_tests) in
+    (parts octets, rw test refl)
+
+first_word : (line : List ℕ) (word : List ℕ) (others : List (List ℕ)) → 0 < length word → filter is_word (word ∷ others) ≡ word ∷ filter is_word others
+first_word line [] others some = absurd (omega arith)
+first_word line (octet ∷ word) others some = refl
+
+-- octets up to a space or the end are a word
+pub words_first : (line : List ℕ) (n : ℕ) → n ≤ length line → 0 < n → ((k : ℕ) → k < n → get_or line k 0 ≢ 32) →
+    (n < length line → get_or line n 0 ≡ 32) → words line ≡ take n line ∷ words (drop n line)
+words_first line n within some before found =
+    let behind = space_or_end (drop n line) (λ more. get_or-drop n line 0 0 ∙ rw (add-zero n) (found (omega (arith, more, length-drop n line)))) in
+    let whole = parts_at line n within before ∙ ap (ahead (take n line)) behind.1 ∙ ahead_word (take n line) behind.0 in
+    rw (whole, behind.1) (first_word line (take n line) behind.0 (omega (arith, length-take-le n line within)))
+
+pub some_octets : (line : List ℕ) (n : ℕ) → 0 < length line → get_or line 0 0 ≢ 32 → (n < length line → get_or line n 0 ≡ 32) → 0 < n
+some_octets line zero some first found = absurd (first (found some))
+some_octets line (suc n) some first found = omega arith

@@ -1,0 +1,15 @@
+use Rattle.std.proofs.Common.{arith}
+use Rattle.wf_trace.proofs.Taking.{took_scan, took_refill}
+use Rattle.wf_trace.proofs.cutter.Cutter.advance.Goals as goal
+
+pub lines-preserved : goal.lines-preserved
+lines-preserved g c =
+    let took = rw (← c.self.view_is) at c.lines.invariant.0 in
+    let given = rw (← c.self.view_is) at c.lines.invariant.1 in
+    let ended = rw (← c.self.view_is) at c.lines.invariant.2 in (
+      took_refill _ _ _ _ _ _ (took_scan _ _ _ _ _ took c.in-None.ensures.finds) c.in-None.ensures.dry c.in_ok-refill.ensures.octets c.in_ok-refill.ensures.same,
+      given,
+      ended,
+      (let before = rw (← c.self.view_is) at c.lines.invariant.3 in rw (c.in_ok-refill.ensures.same) (omega (arith, before, c.scan.ensures.grows))),
+      omega (arith, c.lines.invariant.4, c.in_ok-refill.ensures.cause.never_falls),
+    )

@@ -1,0 +1,27 @@
+use Rattle.std.proofs.Common.{[], arith}
+use Rattle.wf_trace.proofs.ScanLaws.{waiting_first, finds_big, finds_line, finds_more, finds_long}
+use Rattle.wf_trace.proofs.scanner.Scanner.step.Goals as goal
+
+pub returns-then-self-eq-MOST-clause-finds : goal.returns-then-self-eq-MOST-clause-finds
+returns-then-self-eq-MOST-clause-finds c =
+    let some = rw (← c.self.view_is) at c.requires in
+    let waits = waiting_first c.self.inside.buffer.items c.self.inside.from c.self.inside.to c.index-octet.result.now c.self.invariant.0 c.self.invariant.1 some c.index-octet.ensures in
+    rw (← c.self.view_is) (finds_big _ _ _ (record { looked = 0; line = []; waiting = [] }) waits c.if-self-eq-MOST.true)
+
+pub returns-then-octet-eq10-clause-finds : goal.returns-then-octet-eq10-clause-finds
+returns-then-octet-eq10-clause-finds c =
+    let some = rw (← c.self.view_is) at c.requires in
+    let waits = waiting_first c.self.inside.buffer.items c.self.inside.from c.self.inside.to c.index-octet.result.now c.self.invariant.0 c.self.invariant.1 some c.index-octet.ensures in
+    rw (← c.self.view_is) (finds_line _ _ _ waits c.if-octet-eq10.true)
+
+pub returns-then-len-le-LONGEST-clause-finds : goal.returns-then-len-le-LONGEST-clause-finds
+returns-then-len-le-LONGEST-clause-finds c =
+    let some = rw (← c.self.view_is) at c.requires in
+    let waits = waiting_first c.self.inside.buffer.items c.self.inside.from c.self.inside.to c.index-octet.result.now c.self.invariant.0 c.self.invariant.1 some c.index-octet.ensures in
+    rw (← c.self.view_is, c.push.ensures.items) (finds_more _ _ _ waits c.if-octet-eq10.false)
+
+pub returns-else-len-le-LONGEST-clause-finds : goal.returns-else-len-le-LONGEST-clause-finds
+returns-else-len-le-LONGEST-clause-finds c =
+    let some = rw (← c.self.view_is) at c.requires in
+    let waits = waiting_first c.self.inside.buffer.items c.self.inside.from c.self.inside.to c.index-octet.result.now c.self.invariant.0 c.self.invariant.1 some c.index-octet.ensures in
+    rw (← c.self.view_is) (finds_long _ _ _ waits c.if-octet-eq10.false (omega (arith, c.if-len-le-LONGEST.false, c.len.ensures.value)))

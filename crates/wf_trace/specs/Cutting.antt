@@ -1,0 +1,48 @@
+-- What contracts see of a cutter of lines, and what a call of it gives.
+use Rattle.std.specs.Prelude.{◌≡◌, ℕ, ◌+◌, ◌-◌, List, [], ◌∷◌, ◌++◌, Bool, true, false, Option, Some, None, Result, Ok, Err}
+use Rattle.std.specs.Io.KnownBytes.{prepend_known}
+use Rattle.wf_io.specs.declared.source.Failed.{Failed}
+use Rattle.wf_trace.specs.declared.fault.End.{End}
+use Rattle.wf_trace.specs.declared.cutter.Piece.{Piece}
+use Rattle.wf_trace.specs.declared.cutter.Piece.TheVariants.{Text, Ended}
+use Rattle.wf_trace.specs.Lines.{Texts}
+use Rattle.wf_trace.specs.Scanning.{Scanning, texts_from, texts_behind}
+
+-- the octets taken, whether their line was given, and whether no more are
+pub record Cutting : Type 0 where
+  pub scanner : Scanning
+  pub given : Bool
+  pub ended : Option End
+
+-- the texts that still come where these octets follow, and the input ends with them if closed
+abbrev pub to_come_of : Option End → Bool → Scanning → Bool → List ℕ → Texts
+to_come_of (Some end) given scanner closed more = record { texts = []; ending = Some end }
+to_come_of None true scanner closed more = texts_behind scanner closed more
+to_come_of None false scanner closed more = texts_from scanner closed more
+
+abbrev pub to_come : Cutting → Bool → List ℕ → Texts
+to_come c closed more = to_come_of c.ended c.given c.scanner closed more
+
+-- whatever follows may be spoken of, and once the end is known only what is left of the input
+abbrev pub Fits : Option End → Option (List ℕ) → Bool → List ℕ → Type 0
+Fits None left closed more = Unit {0}
+Fits (Some end) left closed more = (closed ≡ true) × (left ≡ Some more)
+
+-- what was to come before a call, by its answer and what is to come after it
+abbrev pub Follows : Result Piece Failed → Cutting → Texts → Texts → Type 0
+Follows (Ok Text) new before after = before ≡ record { texts = new.scanner.line ∷ after.texts; ending = after.ending }
+Follows (Ok (Ended end)) new before after = (new.ended ≡ Some end) × (before ≡ after)
+Follows (Err failed) new before after = before ≡ after
+
+-- the octets that a call took, and what it gave of them
+pub record Takes (old : Cutting) (left : Option (List ℕ)) (result : Result Piece Failed) (new : Cutting) (left_new : Option (List ℕ)) (octets : List ℕ) : Type 0 where
+  pub taken : left ≡ prepend_known octets left_new
+  pub gives : (closed : Bool) (more : List ℕ) → Fits new.ended left_new closed more → Follows result new (to_come old closed (octets ++ more)) (to_come new closed more)
+
+-- how much may still come before the end
+abbrev pub room_of : ℕ → Option End → ℕ
+room_of looked None = (268435456 - looked) + 1
+room_of looked (Some end) = 268435456 - looked
+
+abbrev pub room : Cutting → ℕ
+room c = room_of c.scanner.looked c.ended

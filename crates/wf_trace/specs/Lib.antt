@@ -1,0 +1,11 @@
+pub mod Lines
+pub mod Scanning
+pub mod Cutting
+pub mod Words
+pub mod Grammar
+pub mod Notes
+pub mod Meanings
+pub mod Reading
+pub mod Reader
+pub mod Endings
+pub mod Settings

@@ -1,0 +1,58 @@
+-- A trace as lines: parted by the octet 10, and a rest that is not empty is a line too.
+use Rattle.std.specs.Prelude.{ℕ, ◌+◌, List, [], ◌∷◌, length, Bool, true, false, ◌==◌, ◌&&◌, nat_lt, nat_le, if◌then◌else◌, Option, Some, None}
+use Rattle.std.specs.List.{list_all}
+use Rattle.wf_trace.specs.declared.fault.FaultKind.{FaultKind}
+use Rattle.wf_trace.specs.declared.fault.FaultKind.TheVariants.{TooBig, LongLine, NotAscii}
+use Rattle.wf_trace.specs.declared.fault.End.{End}
+use Rattle.wf_trace.specs.declared.fault.End.TheVariants.{Over, Flaw}
+
+-- a line without its octet 10, and how many octets the input has up to its end, that octet counted
+pub record Line : Type 0 where
+  pub octets : List ℕ
+  pub end : ℕ
+
+-- an octet in front of the first line; where none comes, it is a line only if the input ends there
+abbrev pub onto : Bool → ℕ → ℕ → List Line → List Line
+onto false octet at [] = []
+onto true octet at [] = record { octets = octet ∷ []; end = at } ∷ []
+onto closed octet at (line ∷ others) = record { octets = octet ∷ line.octets; end = line.end } ∷ others
+
+-- the lines of octets that stand behind `at` others, closed where the input ends with them
+abbrev pub lines : Bool → ℕ → List ℕ → List Line
+lines closed at [] = []
+lines closed at (octet ∷ octets) =
+    if octet == 10 then record { octets = []; end = at + 1 } ∷ lines closed (at + 1) octets
+    else onto closed octet (at + 1) (lines closed (at + 1) octets)
+
+-- the most octets of a trace, and of a line
+abbrev pub most : ℕ
+most = 268435456
+
+abbrev pub longest : ℕ
+longest = 160
+
+abbrev pub is_printable : ℕ → Bool
+is_printable octet = nat_le 32 octet && nat_le octet 126
+
+-- the first that is wrong with a line as octets
+abbrev pub flaw : ℕ → List ℕ → Option FaultKind
+flaw end octets =
+    if nat_lt most end then Some TooBig
+    else if nat_lt longest (length octets) then Some LongLine
+    else if list_all is_printable octets then None
+    else Some NotAscii
+
+-- the texts of lines in order, and why no more come, as far as it is known
+pub record Texts : Type 0 where
+  pub texts : List (List ℕ)
+  pub ending : Option End
+
+-- a text in front of others, if nothing is wrong with it
+abbrev pub before : Option FaultKind → List ℕ → Texts → Texts
+before None text others = record { texts = text ∷ others.texts; ending = others.ending }
+before (Some kind) text others = record { texts = []; ending = Some (Flaw kind) }
+
+-- the texts of lines up to the first in which something is wrong
+abbrev pub texts_of : Bool → List Line → Texts
+texts_of closed [] = record { texts = []; ending = if closed then Some Over else None }
+texts_of closed (line ∷ others) = before (flaw line.end line.octets) line.octets (texts_of closed others)

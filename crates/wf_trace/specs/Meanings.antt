@@ -1,0 +1,88 @@
+-- What a line says in its place.
+use Rattle.std.specs.Prelude.{◌≡◌, ℕ, ◌<◌, List, [], ◌∷◌, codes, Bool, true, false, ◌==◌, nat_le, if◌then◌else◌, Option, Some, None, Result, Ok, Err, replicate}
+use Rattle.std.specs.Str.{bytes_eq}
+use Rattle.wf_trace.specs.declared.fault.FaultKind.{FaultKind}
+use Rattle.wf_trace.specs.declared.fault.FaultKind.TheVariants as kind
+use Rattle.wf_trace.specs.declared.call.Arg.TheVariants.{Number}
+use Rattle.wf_frame.specs.declared.settings.Config.{Config}
+use Rattle.wf_frame.specs.declared.notes.Note.{Note}
+use Rattle.wf_trace.specs.declared.meaning.Meaning.{Meaning}
+use Rattle.wf_trace.specs.declared.meaning.Meaning.TheVariants.{Head, Entry, Finish}
+use Rattle.wf_trace.specs.declared.meaning.Place.{Place}
+use Rattle.wf_trace.specs.Grammar.{read_arg, earlier}
+use Rattle.wf_trace.specs.Notes.{read_call}
+use Rattle.wf_frame.specs.Settings.{standard}
+use Rattle.wf_trace.specs.Settings.{read_words}
+
+-- a line without words, or whose first octet that is not a space is #
+abbrev pub skipped : List (List ℕ) → Bool
+skipped [] = true
+skipped ([] ∷ words) = false
+skipped ((octet ∷ octets) ∷ words) = octet == 35
+
+-- the settings of the head
+abbrev pub read_head : List (List ℕ) → Result Config FaultKind
+read_head words = read_words words (replicate 12 false) standard
+
+-- a call, where one may stand
+abbrev pub allowed : ℕ → Option Place → Result Note FaultKind → Result Meaning FaultKind
+allowed caller place (Err fault) = Err fault
+allowed caller None (Ok note) = Err kind.NoHead
+allowed caller (Some place) (Ok note) = if nat_le place.limit place.count then Err kind.TooLong else Ok (Entry caller note)
+
+abbrev pub entry_of : ℕ → Option Place → List (List ℕ) → Result Meaning FaultKind
+entry_of caller place words = allowed caller place (read_call words)
+
+-- a call behind the word of its caller
+abbrev pub against : FaultKind → Result Meaning FaultKind → Result Meaning FaultKind
+against fault (Ok meaning) = Err fault
+against fault (Err other) = Err (earlier fault other)
+
+abbrev pub caller_first : Result ℕ FaultKind → Option Place → List (List ℕ) → Result Meaning FaultKind
+caller_first (Ok caller) place words = entry_of caller place words
+caller_first (Err fault) place words = against fault (entry_of 0 place words)
+
+abbrev pub headed : Option Place → Result Config FaultKind → Result Meaning FaultKind
+headed (Some place) read = Err kind.Word
+headed None (Ok config) = Ok (Head config)
+headed None (Err fault) = Err fault
+
+abbrev pub finished : Option Place → List (List ℕ) → Result Meaning FaultKind
+finished place (word ∷ words) = Err kind.Count
+finished None [] = Err kind.NoHead
+finished (Some place) [] = Ok Finish
+
+-- a line by its first word
+abbrev pub named : Option Place → List ℕ → List (List ℕ) → Result Meaning FaultKind
+named place word words =
+    if bytes_eq word (codes "cell") then headed place (read_head words)
+    else if bytes_eq word (codes "end") then finished place words
+    else entry_of 0 place (word ∷ words)
+
+abbrev pub meant : Option Place → List (List ℕ) → Result Meaning FaultKind
+meant place [] = Err kind.Word
+meant place ([] ∷ words) = Err kind.Word
+meant place ((octet ∷ octets) ∷ words) =
+    if octet == 64 then caller_first (read_arg (Number 0 65535) octets) place words
+    else named place (octet ∷ octets) words
+
+-- the word of a head, and its settings
+abbrev pub is_head : List (List ℕ) → Bool
+is_head [] = false
+is_head (word ∷ words) = bytes_eq word (codes "cell")
+
+abbrev pub settings_if : Result Config FaultKind → Option Config
+settings_if (Ok config) = Some config
+settings_if (Err fault) = None
+
+abbrev pub settings_of : List (List ℕ) → Option Config
+settings_of [] = None
+settings_of (word ∷ words) = settings_if (read_head words)
+
+-- a head stands first, and a call only where the head allows one more
+abbrev pub HasRoom : Result Meaning FaultKind → Option Place → Type 0
+HasRoom (Ok (Entry caller note)) None = ⊥
+HasRoom (Ok (Entry caller note)) (Some p) = p.count < p.limit
+HasRoom (Ok (Head config)) place = place ≡ None
+HasRoom (Ok Finish) place = Unit {0}
+HasRoom (Err kind) place = Unit {0}

@@ -1,0 +1,40 @@
+-- What contracts see of the octets that were taken and not yet given as lines.
+use Rattle.std.specs.Prelude.{◌≡◌, ℕ, ◌+◌, ◌==◌, if◌then◌else◌, List, [], ◌∷◌, ◌++◌, Bool, true, false, Option, Some, None}
+use Rattle.wf_trace.specs.declared.fault.FaultKind.TheVariants.{TooBig}
+use Rattle.wf_trace.specs.declared.fault.End.TheVariants.{Flaw}
+use Rattle.wf_trace.specs.declared.scanner.Found.{Found}
+use Rattle.wf_trace.specs.declared.scanner.Found.TheVariants as found
+use Rattle.wf_trace.specs.Lines.{Line, Texts, texts_of, before, flaw}
+
+-- how many octets were looked at, the begun line up to 161 octets, and the octets that were taken and not looked at
+pub record Scanning : Type 0 where
+  pub looked : ℕ
+  pub line : List ℕ
+  pub waiting : List ℕ
+
+-- the begun line, where no octet 10 comes any more
+abbrev pub rest_line : Bool → ℕ → List ℕ → List Line
+rest_line false at begun = []
+rest_line true at [] = []
+rest_line true at (octet ∷ octets) = record { octets = octet ∷ octets; end = at } ∷ []
+
+-- the lines that still end, behind `at` octets of which the last ones are the begun line
+abbrev pub lines_behind : Bool → ℕ → List ℕ → List ℕ → List Line
+lines_behind closed at begun [] = rest_line closed at begun
+lines_behind closed at begun (octet ∷ octets) =
+    if octet == 10 then record { octets = begun; end = at + 1 } ∷ lines_behind closed (at + 1) [] octets
+    else lines_behind closed (at + 1) (begun ++ octet ∷ []) octets
+
+-- the texts that still come, where these octets follow
+abbrev pub texts_from : Scanning → Bool → List ℕ → Texts
+texts_from s closed more = texts_of closed (lines_behind closed s.looked s.line (s.waiting ++ more))
+
+-- the same behind the line that has just ended
+abbrev pub texts_behind : Scanning → Bool → List ℕ → Texts
+texts_behind s closed more = texts_of closed (lines_behind closed s.looked [] (s.waiting ++ more))
+
+-- what was found among the octets: no end of a line, the end of the begun line, or that it goes past the end of any trace
+abbrev pub Finds : Scanning → Option Found → Scanning → Type 0
+Finds old None new = (closed : Bool) (more : List ℕ) → texts_from old closed more ≡ texts_from new closed more
+Finds old (Some found.Line) new = (closed : Bool) (more : List ℕ) → texts_from old closed more ≡ before (flaw new.looked new.line) new.line (texts_behind new closed more)
+Finds old (Some found.TooBig) new = (more : List ℕ) → texts_from old true more ≡ record { texts = []; ending = Some (Flaw TooBig) }

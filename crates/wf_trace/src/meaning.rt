@@ -1,0 +1,153 @@
+//! What a line says in its place.
+
+ghost use Rattle.std.specs.Prelude.{◌≡◌, ◌∷◌, slice_index};
+ghost use Rattle.wf_trace.specs.Words.{words};
+ghost use Rattle.wf_trace.specs.Notes.{read_call};
+ghost use Rattle.wf_trace.specs.Meanings.{skipped, entry_of, caller_first, meant, named as named_line, HasRoom};
+ghost use Rattle.wf_trace.specs.Grammar.{read_arg};
+ghost use Rattle.wf_trace.specs.declared.call.Arg.TheVariants.{Number};
+
+use crate::args::{read_all, read_one};
+use crate::call::{Arg, Call};
+use crate::fault::FaultKind;
+use crate::note::made;
+use crate::settings::read_head;
+use crate::words::next_word;
+use arrayvec::ArrayVec;
+use wf_frame::{Config, Note};
+
+/// What a line says: it is the head, a call of a caller, or the end.
+#[derive(Clone, Copy, Debug, PartialEq, Eq)]
+pub enum Meaning {
+    Head(Config),
+    Entry(u32, Note),
+    Finish,
+}
+
+/// Where a line stands behind the head: how many calls the head allows, and how many stood before.
+#[derive(Clone, Copy, Debug, PartialEq, Eq)]
+pub struct Place {
+    pub limit: u32,
+    pub count: u32,
+}
+
+const CALLER: Arg = Arg::Number {
+    low: 0,
+    high: 65535,
+};
+
+/// Whether a line says nothing: it has no words, or is a comment.
+pub fn is_skipped(line: &[u8]) -> bool
+    ensures { result ≡ skipped (words line.now) }
+{
+    match next_word(line) {
+        Some(([b'#', ..], _)) | None => true,
+        Some(_) => false,
+    }
+}
+
+// A value, or 0 where there is none.
+fn value_at(values: &ArrayVec<u32, 5>, i: usize) -> u32
+    ensures { result ≡ slice_index values.now.items i }
+{
+    let values = values.as_slice();
+    if i < values.len() { values[i] } else { 0 }
+}
+
+// The call that a line names.
+fn call(line: &[u8]) -> Result<Note, FaultKind>
+    ensures { result ≡ read_call (words line.now) }
+{
+    let Some((name, rest)) = next_word(line) else {
+        return Err(FaultKind::Word);
+    };
+    let Some(call) = Call::named(name) else {
+        return Err(FaultKind::Word);
+    };
+    match read_all(call.args(), rest) {
+        Ok(values) => Ok(made(
+            call,
+            value_at(&values, 0),
+            value_at(&values, 1),
+            value_at(&values, 2),
+            value_at(&values, 3),
+            value_at(&values, 4),
+        )),
+        Err(fault) => Err(fault),
+    }
+}
+
+// A call of this caller, where one may stand.
+fn entry(caller: u32, place: Option<Place>, line: &[u8]) -> Result<Meaning, FaultKind>
+    ensures says { result ≡ entry_of caller place (words line.now) }
+    ensures room { HasRoom result place }
+{
+    match (call(line), place) {
+        (Err(fault), _) => Err(fault),
+        (Ok(_), None) => Err(FaultKind::NoHead),
+        (Ok(note), Some(place)) => {
+            if place.limit <= place.count {
+                Err(FaultKind::TooLong)
+            } else {
+                Ok(Meaning::Entry(caller, note))
+            }
+        }
+    }
+}
+
+// A call behind the word of its caller.
+fn called(caller: &[u8], place: Option<Place>, line: &[u8]) -> Result<Meaning, FaultKind>
+    ensures says { result ≡ caller_first (read_arg (Number 0 65535) caller.now) place (words line.now) }
+    ensures room { HasRoom result place }
+{
+    match read_one(CALLER, caller) {
+        Ok(caller) => entry(caller, place, line),
+        Err(fault) => match entry(0, place, line) {
+            Ok(_) => Err(fault),
+            Err(other) => Err(fault.earlier(other)),
+        },
+    }
+}
+
+// What a line says whose first word names no caller.
+fn named(place: Option<Place>, word: &[u8], rest: &[u8], line: &[u8]) -> Result<Meaning, FaultKind>
+    requires { words line.now ≡ word.now ∷ words rest.now }
+    ensures says { result ≡ named_line place word.now (words rest.now) }
+    ensures room { HasRoom result place }
+{
+    if word == b"cell".as_slice() {
+        return match (place, read_head(rest)) {
+            (Some(_), _) => Err(FaultKind::Word),
+            (None, Ok(config)) => Ok(Meaning::Head(config)),
+            (None, Err(fault)) => Err(fault),
+        };
+    }
+    if word == b"end".as_slice() {
+        return if next_word(rest).is_some() {
+            Err(FaultKind::Count)
+        } else if place.is_none() {
+            Err(FaultKind::NoHead)
+        } else {
+            Ok(Meaning::Finish)
+        };
+    }
+    entry(0, place, line)
+}
+
+/// What a line says in its place, or the fault that it is judged by.
+pub fn meaning_of(place: Option<Place>, line: &[u8]) -> Result<Meaning, FaultKind>
+    ensures says { result ≡ meant place (words line.now) }
+    ensures room { HasRoom result place }
+{
+    let Some((word, rest)) = next_word(line) else {
+        return Err(FaultKind::Word);
+    };
+    let Some((first, caller)) = word.split_first() else {
+        return Err(FaultKind::Word);
+    };
+    if *first == b'@' {
+        called(caller, place, rest)
+    } else {
+        named(place, word, rest, line)
+    }
+}

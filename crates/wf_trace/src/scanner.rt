@@ -1,0 +1,146 @@
+//! Octets of a source, looked at one by one for the ends of lines.
+
+ghost use Rattle.std.specs.Prelude.{◌≡◌, ◌==◌, ◌+◌, ◌<◌, ◌≤◌, [], ◌++◌, length, IfNone, IfOk, OnErr, Some};
+ghost use Rattle.std.specs.Io.KnownBytes.{prepend_known, IsAtEnd};
+ghost use Rattle.wf_io.specs.Faults.{CountsFaults};
+
+use arrayvec::ArrayVec;
+use std::alloc::{AllocError, Global};
+use std::marker::Model;
+use wf_io::{Failed, Source};
+
+const MOST: u64 = 268_435_456;
+
+const LONGEST: usize = 160;
+
+const BUFFER: usize = 4096;
+
+/// What was found among the octets that wait.
+#[derive(Clone, Copy, Debug, PartialEq, Eq)]
+pub enum Found {
+    Line,
+    TooBig,
+}
+
+/// A buffer of octets that were taken from a source, and the line that has begun.
+#[derive(Drop)]
+pub struct Scanner {
+    buffer: Vec<u8>,
+    from: usize,
+    to: usize,
+    line: ArrayVec<u8, 161>,
+    looked: u64,
+}
+
+impl Model for Scanner {
+    ghost use Rattle.std.specs.Prelude.{◌≡◌, ◌≤◌, length, slice_range};
+    ghost use Rattle.wf_trace.specs.Scanning.{Scanning};
+
+    ghost Value = { Scanning };
+
+    ghost view = { λ s. record { looked = s.looked; line = s.line.items; waiting = slice_range s.buffer.items s.from s.to } };
+
+    ghost invariant = { λ s. (s.from ≤ s.to) × (s.to ≤ length s.buffer.items) × (length s.buffer.items ≡ 4096) × (s.looked ≤ 268435456) };
+}
+
+impl Scanner {
+    ghost use Rattle.wf_trace.specs.Scanning.{Finds};
+
+    pub fn new(alloc: Global) -> Result<Self, AllocError>
+        ensures { IfOk result (λ s. s ≡ record { looked = 0; line = []; waiting = [] }) }
+    {
+        let buffer = vec![in alloc; 0; BUFFER]?;
+        Ok(Scanner {
+            buffer,
+            from: 0,
+            to: 0,
+            line: ArrayVec::new(),
+            looked: 0,
+        })
+    }
+
+    /// Begins the next line.
+    pub fn begin(&mut self)
+        ensures { self.new ≡ record self.old { line = [] } }
+    {
+        self.line.clear();
+    }
+
+    pub fn line(&self) -> &[u8]
+        ensures { result.now ≡ self.now.line }
+    {
+        self.line.as_slice()
+    }
+
+    pub fn looked(&self) -> u64
+        ensures value { result ≡ self.now.looked }
+        ensures most { result ≤ 268435456 }
+    {
+        self.looked
+    }
+
+    // Looks at the first octet that waits.
+    fn step(&mut self) -> Option<Found>
+        requires { 0 < length self.old.waiting }
+        ensures shorter { length self.new.waiting + 1 ≡ length self.old.waiting }
+        ensures looked { IfNone result (self.new.looked ≡ self.old.looked + 1) }
+        ensures grows { self.old.looked ≤ self.new.looked }
+        ensures line { result ≡ Some Found.Line → self.old.looked < self.new.looked }
+        ensures most { self.new.looked ≤ 268435456 }
+        ensures finds { Finds self.old result self.new }
+    {
+        let octet = self.buffer[self.from];
+        self.from += 1;
+        if self.looked == MOST {
+            return Some(Found::TooBig);
+        }
+        self.looked += 1;
+        if octet == b'\n' {
+            return Some(Found::Line);
+        }
+        if self.line.len() <= LONGEST {
+            self.line.push(octet);
+        }
+        None
+    }
+
+    fn is_dry(&self) -> bool
+        ensures value { result ≡ (length self.now.waiting == 0) }
+        ensures most { self.now.looked ≤ 268435456 }
+    {
+        self.from == self.to
+    }
+
+    /// Looks at the octets that wait, up to the end of a line.
+    pub fn scan(&mut self) -> Option<Found>
+        ensures finds { Finds self.old result self.new }
+        ensures dry { IfNone result (self.new.waiting ≡ []) }
+        ensures looked { IfNone result (self.new.looked ≡ self.old.looked + length self.old.waiting) }
+        ensures grows { self.old.looked ≤ self.new.looked }
+        ensures line { result ≡ Some Found.Line → self.old.looked < self.new.looked }
+        ensures most { self.new.looked ≤ 268435456 }
+    {
+        while !self.is_dry() {
+            if let Some(found) = self.step() {
+                return Some(found);
+            }
+        }
+        None
+    }
+
+    /// Takes octets from the source. Without any, the input has ended.
+    pub fn refill<S: Source>(&mut self, source: &mut S) -> Result<usize, Failed>
+        requires { self.old.waiting ≡ [] }
+        ensures same { self.new ≡ record self.old { waiting = self.new.waiting } }
+        ensures octets { S.left source.old ≡ prepend_known self.new.waiting (S.left source.new) }
+        ensures count { IfOk result (λ n. n ≡ length self.new.waiting) }
+        ensures end { IfOk result (λ n. n ≡ 0 → IsAtEnd (S.left source.old)) }
+        ensures failed { OnErr result (self.new.waiting ≡ []) }
+        ensures cause { CountsFaults (S.faults source.old) (S.faults source.new) result }
+    {
+        self.from = 0;
+        self.to = 0;
+        self.to = source.read(&mut self.buffer)?;
+        Ok(self.to)
+    }
+}

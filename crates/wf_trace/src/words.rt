@@ -1,0 +1,87 @@
+//! The words of a line, and the numbers that words are.
+
+ghost use Rattle.std.specs.Prelude.{◌≡◌, ◌+◌, ◌<◌, ◌≤◌, ◌^◌, ◌∷◌, [], ℕ, List, length, MatchOption, IsTrue, ◌≢◌, slice_index};
+ghost use Rattle.std.specs.List.{list_all};
+ghost use Rattle.wf_trace.specs.Words.{words, is_digit, is_number, number_of, value_from};
+
+/// The line behind the spaces at its front.
+fn trimmed(line: &[u8]) -> &[u8]
+    ensures words { words result.now ≡ words line.now }
+    ensures shorter { length result.now ≤ length line.now }
+    ensures first { 0 < length result.now → slice_index result.now 0 ≢ 32 }
+{
+    let mut rest = line;
+    while let [b' ', after @ ..] = rest {
+        rest = after;
+    }
+    rest
+}
+
+/// How many octets come before the first space.
+fn word_len(line: &[u8]) -> usize
+    ensures within { result ≤ length line.now }
+    ensures before { (k : ℕ) → k < result → slice_index line.now k ≢ 32 }
+    ensures found { result < length line.now → slice_index line.now result ≡ 32 }
+{
+    for (i, octet) in line.iter().enumerate() {
+        if *octet == b' ' {
+            return i;
+        }
+    }
+    line.len()
+}
+
+/// The first word of a line, and what is behind it.
+pub fn next_word(line: &[u8]) -> Option<(&[u8], &[u8])>
+    ensures { MatchOption result (words line.now ≡ []) (λ found. (words line.now ≡ found.0.now ∷ words found.1.now)
+        × (length found.1.now < length line.now)) }
+{
+    let line = trimmed(line);
+    if line.is_empty() {
+        return None;
+    }
+    let (word, rest) = line.split_at(word_len(line));
+    Some((word, rest))
+}
+
+fn are_digits(word: &[u8]) -> bool
+    ensures { result ≡ list_all is_digit word.now }
+{
+    word.iter().all(|octet| b'0' <= *octet && *octet <= b'9')
+}
+
+/// One to ten digits without a needless zero.
+fn is_numeral(word: &[u8]) -> bool
+    ensures { result ≡ is_number word.now }
+{
+    match word {
+        [] => false,
+        [first, more @ ..] => word.len() <= 10
+            && are_digits(word)
+            && (more.is_empty() || *first != b'0'),
+    }
+}
+
+/// The value of at most ten digits.
+fn value_of(digits: &[u8]) -> u64
+    requires few { length digits.now ≤ 10 }
+    requires digits { IsTrue (list_all is_digit digits.now) }
+    ensures { result ≡ value_from 0 digits.now }
+{
+    let mut value = 0;
+    for digit in digits {
+        value = value * 10 + u64::from(*digit - b'0');
+    }
+    value
+}
+
+/// The number that a word is.
+pub fn number(word: &[u8]) -> Option<u64>
+    ensures { result ≡ number_of word.now }
+{
+    if is_numeral(word) {
+        Some(value_of(word))
+    } else {
+        None
+    }
+}
