@@ -1,0 +1,29 @@
+use Rattle.std.proofs.Common.{rules, ◌∙◌, ℕ, ◌+◌, ◌-◌, ◌||◌, Bool, ap, sym}
+use Rattle.wf_live.specs.Soak.{Soak, all_sent, some_arrive, arrives}
+use Rattle.wf_live.proofs.SoakLemmas.{sent_on, sent_over, arrive_on, arrive_over, or_either, or_false}
+use Rattle.wf_live.proofs.soaks.SoakRun.all_sent.Goals as goal
+
+pub loop-index-preserved : goal.loop-index-preserved
+loop-index-preserved c =
+    let e : ℕ = c.args.exchange in
+    let i : ℕ = c.loop-index.index in
+    let rest : ℕ = c.args.count - (i + 1) in
+    let others : Bool → Soak → Bool = λ arrived k. arrived || some_arrive e (i + 1) rest k in (
+      search rules,
+      (search rules, search rules),
+      ap (λ (k : Soak). all_sent e (i + 1) rest k) c.in_ok-next.ensures.made ∙ sent_on e i c.args.count c.loop-index.soak (search rules) ∙ c.loop-index.invariant.2,
+      or_either c.loop-index.some c.in_ok-next.arrived (some_arrive e (i + 1) rest c.in_ok-next.next)
+          ∙ ap (λ (b : Bool). c.loop-index.some || b)
+          (ap (λ (b : Bool). others b c.in_ok-next.next) c.in_ok-next.ensures.arrived
+          ∙ ap (λ (k : Soak). others (arrives c.loop-index.soak) k) c.in_ok-next.ensures.made
+          ∙ arrive_on e i c.args.count c.loop-index.soak (search rules))
+          ∙ c.loop-index.invariant.3,
+    )
+
+pub returns-clause-made : goal.returns-clause-made
+returns-clause-made c =
+    sym (sent_over c.args.exchange c.loop-index.index c.args.count c.loop-index.soak (search rules)) ∙ c.loop-index.invariant.2
+
+pub returns-clause-arrived : goal.returns-clause-arrived
+returns-clause-arrived c =
+    sym (or_false c.loop-index.some) ∙ sym (ap (λ (b : Bool). c.loop-index.some || b) (arrive_over c.args.exchange c.loop-index.index c.args.count c.loop-index.soak (search rules))) ∙ c.loop-index.invariant.3

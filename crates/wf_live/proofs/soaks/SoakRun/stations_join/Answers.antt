@@ -1,0 +1,15 @@
+use Rattle.std.proofs.Common.{rules, ◌∙◌, ◌+◌, ◌-◌, ap, sym}
+use Rattle.wf_live.specs.Soak.{Soak, stations_join}
+use Rattle.wf_live.proofs.SoakLemmas.{joins_on, joins_over}
+use Rattle.wf_live.proofs.soaks.SoakRun.stations_join.Goals as goal
+
+pub loop-station-preserved : goal.loop-station-preserved
+loop-station-preserved c = (
+  search rules,
+  (search rules, search rules),
+  ap (λ (k : Soak). stations_join (c.loop-station.station + 1) (16 - (c.loop-station.station + 1)) k) c.in_ok-soak.ensures.made
+      ∙ joins_on c.loop-station.station c.loop-station.soak (search rules) ∙ c.loop-station.invariant.2,
+)
+
+pub returns-clause-made : goal.returns-clause-made
+returns-clause-made c = sym (joins_over c.loop-station.station c.loop-station.soak (search rules)) ∙ c.loop-station.invariant.2

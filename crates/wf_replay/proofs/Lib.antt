@@ -1,0 +1,6 @@
+pub mod Shapes
+pub mod Replays
+pub mod Complete
+pub mod Ranges
+pub mod Numerals
+pub mod SoakText

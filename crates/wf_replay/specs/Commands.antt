@@ -1,0 +1,30 @@
+-- The commands, by the words of the command line.
+use Rattle.std.specs.Prelude.{ℕ, ◌^◌, ◌-◌, ◌==◌, nat_le, Bool, not, ◌&&◌, ◌||◌, List, [], ◌∷◌, length, codes, Option, Some, None, if◌then◌else◌, slice_index}
+use Rattle.std.specs.List.{list_all}
+use Rattle.std.specs.Str.{bytes_eq}
+use Rattle.wf_trace.specs.Words.{is_digit, value_from}
+use Rattle.wf_replay.specs.declared.words.Command.{Command}
+use Rattle.wf_replay.specs.declared.words.Command.TheVariants.{Replay, Soak}
+
+-- decimal digits without a sign and without a needless zero in front
+abbrev pub is_plain_number : List ℕ → Bool
+is_plain_number word = nat_le 1 (length word) && list_all is_digit word && (length word == 1 || not (slice_index word 0 == 48))
+
+-- the number that a word is, where it lies between two
+abbrev pub number_within : ℕ → ℕ → List ℕ → Option ℕ
+number_within low high word =
+    if is_plain_number word && nat_le low (value_from 0 word) && nat_le (value_from 0 word) high then Some (value_from 0 word) else None
+
+abbrev pub soak_of : Option ℕ → Option ℕ → Option Command
+soak_of (Some seed) (Some calls) = Some (Soak seed calls)
+soak_of (Some seed) None = None
+soak_of None calls = None
+
+-- `replay`, and `soak SEED CALLS`
+abbrev pub command_of : List (List ℕ) → Option Command
+command_of [] = None
+command_of (word ∷ []) = if bytes_eq word (codes "replay") then Some Replay else None
+command_of (word ∷ seed ∷ []) = None
+command_of (word ∷ seed ∷ calls ∷ []) =
+    if bytes_eq word (codes "soak") then soak_of (number_within 0 (2 ^ 64 - 1) seed) (number_within 1 1000000 calls) else None
+command_of (word ∷ seed ∷ calls ∷ other ∷ words) = None

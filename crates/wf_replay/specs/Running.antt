@@ -1,0 +1,36 @@
+-- The machine behind the items so far, and what is answered to each.
+use Rattle.std.specs.Prelude.{ℕ, List, [], Option, Some, None}
+use Rattle.wf_trace.specs.declared.reader.Item.{Item}
+use Rattle.wf_trace.specs.declared.reader.Item.TheVariants.{Head, Entry, Finish, Bad}
+use Rattle.wf_world.specs.World.{World, opening}
+use Rattle.wf_world.specs.Step.{Outcome, step}
+use Rattle.wf_world.specs.Text.{answer_line, summary}
+use Rattle.wf_replay.specs.Texts.{fault_line}
+
+abbrev pub behind_item : Option World → Item → Option World
+behind_item w (Head config) = Some (opening config)
+behind_item (Some w) (Entry caller note) = let o : Outcome = step w note in Some o.world
+behind_item None (Entry caller note) = None
+behind_item w Finish = w
+behind_item w (Bad fault) = w
+
+abbrev pub answer : Option World → Item → List ℕ
+answer (Some w) (Entry caller note) = let o : Outcome = step w note in answer_line o.reply
+answer None (Entry caller note) = []
+answer w (Head config) = []
+answer w Finish = []
+answer w (Bad fault) = []
+
+-- the last lines, after so many calls
+abbrev pub closing : Option World → ℕ → Option Item → List ℕ
+closing (Some w) calls (Some Finish) = summary w calls
+closing None calls (Some Finish) = []
+closing w calls (Some (Bad fault)) = fault_line fault
+closing w calls (Some (Head config)) = []
+closing w calls (Some (Entry caller note)) = []
+closing w calls None = []
+
+-- how far a run has come: the machine, once there is one, and the number of its calls
+pub record Progress : Type 0 where
+  pub world : Option World
+  pub calls : ℕ

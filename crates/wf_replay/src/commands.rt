@@ -1,0 +1,97 @@
+//! The commands, by their words.
+
+ghost use Rattle.std.specs.Prelude.{◌≡◌, ◌≢◌, ◌↔◌, ℕ, List, Some, None, map, string_bytes, true};
+ghost use Rattle.std.specs.Io.KnownBytes.{prepend_known, append_known};
+ghost use Rattle.wf_io.specs.Faults.{HasRisen};
+ghost use Rattle.wf_trace.specs.Reading.{reading};
+ghost use Rattle.wf_replay.specs.Outcome.{Outcome, SoakOutcome, Answered};
+ghost use Rattle.wf_frame.specs.Settings.{standard};
+ghost use Rattle.wf_laws.specs.Laws.{Laws};
+ghost use Rattle.wf_live.specs.Soak.{soak_history};
+ghost use Rattle.wf_replay.specs.Commands.{command_of};
+ghost use Rattle.wf_replay.specs.Laws.{HasLaws};
+
+use crate::plain::Plain;
+use crate::runner::replay_on;
+use crate::status::Status;
+use crate::words::{Command, command_from};
+use std::alloc::Global;
+use std::sync::Wait;
+use std::thread::Threads;
+use wf_io::{Sink, Source};
+use wf_live::soak;
+use wf_report::{Unwritten, summary};
+use wf_turnstile::Turnstile;
+
+/// Reads a trace from the source and writes the answer line of each call before it reads the next, and the summary after
+/// the `end` line; where the trace has a fault, the line of the fault in place of the summary. Octets after the `end`
+/// line are not looked at.
+pub fn replay<S: Source, K: Sink>(alloc: Global, source: &mut S, sink: &mut K) -> Status
+    ensures text { (taken written : List ℕ) × (S.left source.old ≡ prepend_known taken (S.left source.new))
+        × (K.held sink.new ≡ append_known (K.held sink.old) written)
+        × ((input : List ℕ) → S.left source.old ≡ Some input → Outcome result input taken written) }
+    ensures read { result ≡ Status.ReadFault → HasRisen (S.faults source.old) (S.faults source.new) }
+    ensures write { result ≡ Status.WriteFault → HasRisen (K.faults sink.old) (K.faults sink.new) }
+    ensures command { result ≢ Status.Usage }
+    ensures laws { (input : List ℕ) → S.left source.old ≡ Some input → HasLaws (reading true input) }
+    ensures complete { (HasRisen (S.faults source.old) (S.faults source.new) → ⊥) → (HasRisen (K.faults sink.old) (K.faults sink.new) → ⊥) →
+        (input : List ℕ) → S.left source.old ≡ Some input → Answered (reading true input).ending result }
+{
+    replay_on::<Plain, S, K>(alloc, source, sink)
+}
+
+/// Writes the summary of the soak of a seed and a number of calls, 1 to 1,000,000.
+pub fn soaked<K: Sink>(alloc: Global, seed: u64, calls: u32, sink: &mut K) -> Status
+    ensures text { (written : List ℕ) × (K.held sink.new ≡ append_known (K.held sink.old) written) × SoakOutcome result seed calls written }
+    ensures write { result ≡ Status.WriteFault → HasRisen (K.faults sink.old) (K.faults sink.new) }
+{
+    let Ok(machine) = soak(alloc, seed, calls) else {
+        return Status::NoMemory;
+    };
+    match summary(&Plain::from(machine), u64::from(calls), sink) {
+        Ok(()) => Status::Done,
+        Err(Unwritten::Sink) => Status::WriteFault,
+        Err(Unwritten::Machine) => Status::NoMemory,
+    }
+}
+
+/// Runs the command that the words are, on this source and sink: `replay`, or `soak SEED CALLS`.
+pub fn run<R: Threads + Wait + Sync, S: Source, K: Sink, T: Turnstile + Sync>(
+    rt: &R,
+    alloc: Global,
+    words: &[String],
+    source: &mut S,
+    sink: &mut K,
+    turnstile: &T,
+) -> Status
+    ensures usage { (result ≡ Status.Usage) ↔ (command_of (map string_bytes words.now) ≡ None) }
+    ensures untouched { result ≡ Status.Usage → (S.left source.new ≡ S.left source.old) × (K.held sink.new ≡ K.held sink.old) }
+
+    // on `replay`
+    ensures text { command_of (map string_bytes words.now) ≡ Some Command.Replay →
+        (taken written : List ℕ) × (S.left source.old ≡ prepend_known taken (S.left source.new))
+        × (K.held sink.new ≡ append_known (K.held sink.old) written)
+        × ((input : List ℕ) → S.left source.old ≡ Some input → Outcome result input taken written) }
+    ensures complete { command_of (map string_bytes words.now) ≡ Some Command.Replay →
+        (HasRisen (S.faults source.old) (S.faults source.new) → ⊥) → (HasRisen (K.faults sink.old) (K.faults sink.new) → ⊥) →
+        (input : List ℕ) → S.left source.old ≡ Some input → Answered (reading true input).ending result }
+    ensures laws { (input : List ℕ) → S.left source.old ≡ Some input → HasLaws (reading true input) }
+
+    // on `soak SEED CALLS`
+    ensures soak { (seed calls : ℕ) → command_of (map string_bytes words.now) ≡ Some (Command.Soak seed calls) →
+        (S.left source.new ≡ S.left source.old)
+        × ((written : List ℕ) × (K.held sink.new ≡ append_known (K.held sink.old) written) × SoakOutcome result seed calls written) }
+    ensures soak_laws { (seed calls : ℕ) → Laws standard (soak_history seed calls) }
+
+    // on both
+    ensures read { result ≡ Status.ReadFault → HasRisen (S.faults source.old) (S.faults source.new) }
+    ensures write { result ≡ Status.WriteFault → HasRisen (K.faults sink.old) (K.faults sink.new) }
+{
+    let _ = rt;
+    let _ = turnstile;
+    match command_from(words) {
+        None => Status::Usage,
+        Some(Command::Replay) => replay(alloc, source, sink),
+        Some(Command::Soak { seed, calls }) => soaked(alloc, seed, calls, sink),
+    }
+}

@@ -1,0 +1,16 @@
+//! The commands of the program: a replay of a trace, and a soak, over any source and sink.
+#![tactic(auto)]
+
+mod commands;
+mod faults;
+mod plain;
+mod runner;
+mod status;
+mod words;
+
+pub use commands::{replay, run, soaked};
+pub use status::Status;
+pub use words::Command;
+
+#[cfg(test)]
+mod tests;

@@ -1,0 +1,119 @@
+//! The plain program as a machine to replay.
+
+ghost use Rattle.std.specs.Prelude.{◌≡◌, ◌+◌, ◌<◌, ◌≤◌, length, take, IfOk};
+ghost use Rattle.wf_world.specs.World.{World, opening, is_live, accepted, share as share_of};
+ghost use Rattle.wf_world.specs.Step.{step as step_of};
+ghost use Rattle.wf_world.specs.Text.{tally as tally_of, traffic_map as map_of, with_traffic};
+ghost use Rattle.wf_report.specs.Replies.{IsShort};
+
+use std::alloc::Global;
+use std::marker::Model;
+use wf_frame::{Class, Config, Fate, Note, ReplyNote};
+use wf_plain::Machine;
+use wf_report::{Runs, ShareNote, Stopped, is_short};
+
+/// The plain program of the definitions.
+#[derive(Drop)]
+pub struct Plain {
+    machine: Machine,
+}
+
+impl Model for Plain {
+    ghost use Rattle.wf_world.specs.World.{World};
+
+    ghost Value = { World };
+
+    ghost view = { λ p. p.machine };
+}
+
+impl From<Machine> for Plain {
+    ghost from_gives = { λ machine plain. plain ≡ machine };
+
+    fn from(machine: Machine) -> Plain {
+        Plain { machine }
+    }
+}
+
+impl Runs for Plain {
+    ghost world = { λ p. p };
+
+    fn open(alloc: Global, config: Config) -> Result<Self, Stopped>
+        ensures { IfOk result (λ p. p ≡ opening config) }
+    {
+        Ok(Plain {
+            machine: Machine::new(alloc, config),
+        })
+    }
+
+    fn step(&mut self, caller: u32, note: &Note) -> Result<ReplyNote, Stopped>
+        ensures steps { IfOk result (λ r. step_of self.old note.now ≡ record { world = self.new; reply = r }) }
+        ensures short { IfOk result IsShort }
+    {
+        let _ = caller;
+        match self.machine.step(note) {
+            Ok(reply) => {
+                if is_short(&reply) {
+                    Ok(reply)
+                } else {
+                    Err(Stopped)
+                }
+            }
+            Err(_) => Err(Stopped),
+        }
+    }
+
+    fn stations(&self) -> u32 {
+        self.machine.config().stations
+    }
+
+    fn clock(&self) -> u64 {
+        self.machine.clock()
+    }
+
+    fn exchanges(&self) -> u64 {
+        self.machine.exchanges()
+    }
+
+    fn open_exchanges(&self) -> u64 {
+        self.machine.open_exchanges()
+    }
+
+    fn accepted(&self) -> u64 {
+        self.machine.accepted()
+    }
+
+    fn tally(&self, fate: Fate) -> Result<u64, Stopped> {
+        match self.machine.tally(fate) {
+            Ok(count) => Ok(count),
+            Err(_) => Err(Stopped),
+        }
+    }
+
+    fn is_live(&self, station: u32) -> bool {
+        self.machine.is_live(u64::from(station))
+    }
+
+    fn share(&self, station: u32, class: Class) -> ShareNote {
+        let share = self.machine.share(u64::from(station), class);
+        ShareNote {
+            deficit: share.deficit(),
+            charged: share.charged(),
+            received: share.received(),
+        }
+    }
+
+    fn traffic_map(&self, out: &mut [u8; 256]) -> Result<usize, Stopped>
+        ensures count { IfOk result (λ n. n ≤ length out.new) }
+        ensures octets { IfOk result (λ n. take n out.new ≡ map_of (with_traffic self.now)) }
+    {
+        let Ok(map) = self.machine.traffic_map() else {
+            return Err(Stopped);
+        };
+        let count = map.len();
+        if count > out.len() {
+            return Err(Stopped);
+        }
+        out[..count].copy_from_slice(map.as_slice());
+        Ok(count)
+    }
+}

@@ -1,0 +1,99 @@
+//! A replay over any machine.
+
+ghost use Rattle.std.specs.Prelude.{◌≡◌, ◌≢◌, ◌≤◌, ◌+◌, ◌++◌, [], ℕ, List, Some, None, IsSome, Option, OnOk, Err, option_map};
+ghost use Rattle.std.specs.Io.KnownBytes.{prepend_known, append_known};
+ghost use Rattle.wf_io.specs.Faults.{HasRisen};
+ghost use Rattle.wf_trace.specs.declared.reader.Item.TheVariants as item;
+ghost use Rattle.wf_report.specs.Fronts.{HoldsFront};
+ghost use Rattle.wf_replay.specs.Running.{answer, behind_item, closing};
+ghost use Rattle.wf_replay.specs.Outcome.{Outcome};
+
+use crate::faults::print_fault;
+use crate::status::Status;
+use std::alloc::Global;
+use wf_frame::Note;
+use wf_io::{Line, Sink, Source, write_all};
+use wf_report::{Runs, Stopped, Unwritten, print_reply, summary};
+use wf_trace::{Item, TraceReader};
+
+// Makes a call, and its answer line.
+fn make<M: Runs>(
+    machine: &mut Option<M>,
+    caller: u32,
+    note: Note,
+    line: &mut Line,
+) -> Result<(), Stopped>
+    requires some { IsSome machine.old }
+    requires empty { line.old ≡ [] }
+    ensures some { OnOk result (IsSome machine.new) }
+    ensures world { OnOk result (option_map M.world machine.new ≡ behind_item (option_map M.world machine.old) (item.Entry caller note)) }
+    ensures line { OnOk result (line.new ≡ answer (option_map M.world machine.old) (item.Entry caller note)) }
+{
+    if let Some(machine) = machine {
+        let reply = machine.step(caller, &note)?;
+        print_reply(&reply, line);
+    }
+    Ok(())
+}
+
+// Writes the summary, if there is a machine.
+fn close<M: Runs, K: Sink>(machine: &Option<M>, calls: u64, sink: &mut K) -> Result<(), Unwritten>
+    ensures written { OnOk result (K.held sink.new ≡ append_known (K.held sink.old) (closing (option_map M.world machine.now) calls (Some item.Finish))) }
+    ensures front { HoldsFront (K.held sink.old) (K.held sink.new) (closing (option_map M.world machine.now) calls (Some item.Finish)) }
+    ensures counted { K.faults sink.old ≤ K.faults sink.new }
+    ensures cause { result ≡ Err Unwritten.Sink → HasRisen (K.faults sink.old) (K.faults sink.new) }
+{
+    match machine {
+        Some(machine) => summary(machine, calls, sink),
+        None => Ok(()),
+    }
+}
+
+/// Reads a trace from the source and writes what a machine answers, and the summary or the line of the fault.
+pub fn replay_on<M: Runs, S: Source, K: Sink>(alloc: Global, source: &mut S, sink: &mut K) -> Status
+    ensures text { (taken written : List ℕ) × (S.left source.old ≡ prepend_known taken (S.left source.new))
+        × (K.held sink.new ≡ append_known (K.held sink.old) written)
+        × ((input : List ℕ) → S.left source.old ≡ Some input → Outcome result input taken written) }
+    ensures read { result ≡ Status.ReadFault → HasRisen (S.faults source.old) (S.faults source.new) }
+    ensures write { result ≡ Status.WriteFault → HasRisen (K.faults sink.old) (K.faults sink.new) }
+    ensures command { result ≢ Status.Usage }
+{
+    let Ok(mut reader) = TraceReader::new(alloc) else {
+        return Status::NoMemory;
+    };
+    let mut machine: Option<M> = None;
+    let mut calls = 0;
+    'items: loop {
+        let mut line = Line::new();
+        match reader.next(source) {
+            Err(_) => return Status::ReadFault,
+            Ok(Item::Head(config)) => match M::open(alloc, config) {
+                Ok(opened) => machine = Some(opened),
+                Err(_) => return Status::NoMemory,
+            },
+            Ok(Item::Entry(caller, note)) => {
+                match make(&mut machine, caller, note, &mut line) {
+                    Ok(()) => {}
+                    Err(_) => return Status::NoMemory,
+                }
+                match write_all(sink, line.octets()) {
+                    Ok(()) => {}
+                    Err(_) => return Status::WriteFault,
+                }
+                calls += 1;
+            }
+            Ok(Item::Finish) => match close(&machine, calls, sink) {
+                Ok(()) => return Status::Done,
+                Err(Unwritten::Sink) => return Status::WriteFault,
+                Err(Unwritten::Machine) => return Status::NoMemory,
+            },
+            Ok(Item::Bad(fault)) => {
+                print_fault(fault, &mut line);
+                match write_all(sink, line.octets()) {
+                    Ok(()) => return Status::BadTrace,
+                    Err(_) => return Status::WriteFault,
+                }
+            }
+        }
+    }
+}

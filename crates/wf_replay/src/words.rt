@@ -1,0 +1,92 @@
+//! The commands, by the words of the command line.
+
+ghost use Rattle.std.specs.Prelude.{◌≡◌, ◌≤◌, ◌^◌, IsTrue, true, MatchOption, map, string_bytes};
+ghost use Rattle.std.specs.List.{list_all};
+ghost use Rattle.wf_trace.specs.Words.{is_digit, value_from};
+ghost use Rattle.wf_replay.specs.Commands.{is_plain_number, number_within, soak_of, command_of};
+
+/// What the words of the command line ask for.
+#[derive(Clone, Copy, Debug, PartialEq, Eq)]
+pub enum Command {
+    /// Replay the trace on standard input.
+    Replay,
+    /// Play the soak of this seed, and of so many calls: 1 to 1,000,000.
+    Soak { seed: u64, calls: u32 },
+}
+
+fn are_digits(word: &[u8]) -> bool
+    ensures { result ≡ list_all is_digit word.now }
+{
+    word.iter().all(|octet| b'0' <= *octet && *octet <= b'9')
+}
+
+fn is_plain(word: &[u8]) -> bool
+    ensures { result ≡ is_plain_number word.now }
+{
+    match word {
+        [] => false,
+        [first, more @ ..] => are_digits(word) && (more.is_empty() || *first != b'0'),
+    }
+}
+
+/// The value of digits, unless it goes past 64 bits.
+fn value_of(digits: &[u8]) -> Option<u64>
+    requires { IsTrue (list_all is_digit digits.now) }
+    ensures { MatchOption result (2 ^ 64 ≤ value_from 0 digits.now) (λ value. value ≡ value_from 0 digits.now) }
+{
+    let mut value = 0;
+    for digit in digits {
+        let worth = u64::from(*digit - b'0');
+        if value > (u64::MAX - worth) / 10 {
+            return None;
+        }
+        value = value * 10 + worth;
+    }
+    Some(value)
+}
+
+/// The number that a word is, where it lies between two.
+fn number_within(low: u64, high: u64, word: &[u8]) -> Option<u64>
+    ensures { result ≡ number_within low high word.now }
+{
+    if !is_plain(word) {
+        return None;
+    }
+    match value_of(word) {
+        None => None,
+        Some(value) => {
+            if low <= value && value <= high {
+                Some(value)
+            } else {
+                None
+            }
+        }
+    }
+}
+
+fn soak_of(seed: Option<u64>, calls: Option<u64>) -> Option<Command>
+    requires { MatchOption calls (IsTrue true) (λ n. n ≤ 1000000) }
+    ensures { result ≡ soak_of seed calls }
+{
+    match (seed, calls) {
+        (Some(seed), Some(calls)) => Some(Command::Soak {
+            seed,
+            calls: calls as u32,
+        }),
+        _ => None,
+    }
+}
+
+/// The command that the words are, if they are one.
+pub fn command_from(words: &[String]) -> Option<Command>
+    ensures { result ≡ command_of (map string_bytes words.now) }
+{
+    match words {
+        [word] if word.as_str() == "replay" => Some(Command::Replay),
+        [word, seed, calls] if word.as_str() == "soak" => soak_of(
+            number_within(0, u64::MAX, seed.as_bytes()),
+            number_within(1, 1_000_000, calls.as_bytes()),
+        ),
+        _ => None,
+    }
+}
