@@ -1,6 +1,6 @@
 //! Lists of a fixed capacity, for the answers of calls that take no memory.
 
-ghost use Rattle.std.specs.Prelude.{◌≡◌, ◌<◌, ◌++◌, ◌∷◌, [], length, slice_get, Some};
+ghost use Rattle.std.specs.Prelude.{◌≡◌, ◌<◌, ◌≤◌, ◌++◌, ◌∷◌, [], length, slice_get, Some};
 
 use arrayvec::ArrayVec;
 use std::marker::Model;
@@ -37,9 +37,10 @@ impl Ids {
         self.list.push(item);
     }
 
-    /// How many items it has.
+    /// How many items it has, at most 256.
     pub fn len(&self) -> usize
-        ensures { result ≡ length self.now }
+        ensures count { result ≡ length self.now }
+        ensures short { result ≤ 256 }
     {
         self.list.len()
     }
@@ -85,9 +86,10 @@ impl Pairs {
         self.list.push(item);
     }
 
-    /// How many items it has.
+    /// How many items it has, at most 256.
     pub fn len(&self) -> usize
-        ensures { result ≡ length self.now }
+        ensures count { result ≡ length self.now }
+        ensures short { result ≤ 256 }
     {
         self.list.len()
     }
