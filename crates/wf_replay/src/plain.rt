@@ -4,13 +4,12 @@ ghost use Rattle.std.specs.Prelude.{◌≡◌, ◌+◌, ◌<◌, ◌≤◌, leng
 ghost use Rattle.wf_world.specs.World.{World, opening, is_live, accepted, share as share_of};
 ghost use Rattle.wf_world.specs.Step.{step as step_of};
 ghost use Rattle.wf_world.specs.Text.{tally as tally_of, traffic_map as map_of, with_traffic};
-ghost use Rattle.wf_report.specs.Replies.{IsShort};
 
 use std::alloc::Global;
 use std::marker::Model;
 use wf_frame::{Class, Config, Fate, Note, ReplyNote};
 use wf_plain::Machine;
-use wf_report::{Runs, ShareNote, Stopped, is_short};
+use wf_report::{Runs, ShareNote, Stopped};
 
 /// The plain program of the definitions.
 #[derive(Drop)]
@@ -47,17 +46,10 @@ impl Runs for Plain {
 
     fn step(&mut self, caller: u32, note: &Note) -> Result<ReplyNote, Stopped>
         ensures steps { IfOk result (λ r. step_of self.old note.now ≡ record { world = self.new; reply = r }) }
-        ensures short { IfOk result IsShort }
     {
         let _ = caller;
         match self.machine.step(note) {
-            Ok(reply) => {
-                if is_short(&reply) {
-                    Ok(reply)
-                } else {
-                    Err(Stopped)
-                }
-            }
+            Ok(reply) => Ok(reply),
             Err(_) => Err(Stopped),
         }
     }

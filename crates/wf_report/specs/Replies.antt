@@ -1,34 +1,8 @@
--- Replies that fit a line.
-use Rattle.std.specs.Prelude.{ℕ, ◌≤◌, List, [], ◌∷◌, ◌++◌, length, codes, decimal}
+-- The words of refusals, and of the frames of an aggregate.
+use Rattle.std.specs.Prelude.{ℕ, List, [], ◌∷◌, ◌++◌, codes, decimal}
 use Rattle.std.specs.Fmt.{signed_decimal}
 use Rattle.wf_frame.specs.declared.notes.Refusal.{Refusal}
 use Rattle.wf_frame.specs.declared.notes.Refusal.TheVariants.{BadStation, BadWindow, BadStart, BadExponent, BadRate, BadTick, BadTid, BadAir, BadIndex, Live, NoStation, NoExchange, NoAnswer, StillOpen, Room, Sleeping, Full, Idle, Answered, Arrived, Nothing, Asleep, Awake, Polled, Debt, HistoryFull, BadWeight}
-use Rattle.wf_frame.specs.declared.notes.Part.{Part}
-use Rattle.wf_frame.specs.declared.notes.Part.TheVariants.{Mpdus, Request}
-use Rattle.wf_frame.specs.declared.notes.ReplyNote.{ReplyNote}
-use Rattle.wf_frame.specs.declared.notes.ReplyNote.TheVariants.{Joined, Gone, RateSet, Ticked, Accepted, Send, Released, Ba, Ended, Slept, Woken, Credited, Charged, Reaped, Refused}
-
-abbrev pub IsShortPart : Part → Type 0
-IsShortPart (Mpdus pairs) = length pairs ≤ 256
-IsShortPart (Request start) = Unit {0}
-
--- the fixed lists of a reply have at most 256 items
-abbrev pub IsShort : ReplyNote → Type 0
-IsShort (Send e s t air part more) = IsShortPart part
-IsShort (Released ids) = length ids ≤ 256
-IsShort Joined = Unit {0}
-IsShort (Gone dropped) = Unit {0}
-IsShort RateSet = Unit {0}
-IsShort (Ticked now) = Unit {0}
-IsShort (Accepted id dropped) = Unit {0}
-IsShort (Ba start b0 b1 b2 b3 wide) = Unit {0}
-IsShort (Ended acked waiting failed) = Unit {0}
-IsShort Slept = Unit {0}
-IsShort Woken = Unit {0}
-IsShort (Credited class) = Unit {0}
-IsShort (Charged deficit) = Unit {0}
-IsShort (Reaped id fate) = Unit {0}
-IsShort (Refused refusal) = Unit {0}
 
 -- the word of a refusal, and its number where it has one
 abbrev pub refusal_name : Refusal → List ℕ

@@ -6,7 +6,7 @@ mod reply;
 mod report;
 mod runs;
 
-pub use reply::{is_short, print_reply};
+pub use reply::print_reply;
 pub use report::{Unwritten, summary};
 pub use runs::{Runs, ShareNote, Stopped};
 

@@ -1,28 +1,15 @@
 //! The answer line of a reply.
 
-ghost use Rattle.std.specs.Prelude.{◌≡◌, ◌+◌, ◌<◌, ◌≤◌, ◌++◌, ◌∷◌, [], ◌↔◌, IsTrue, length, map, decimal, sum_by, codes, slice_index, ◌*◌, if◌then◌else◌, true};
+ghost use Rattle.std.specs.Prelude.{◌≡◌, ◌+◌, ◌<◌, ◌≤◌, ◌++◌, ◌∷◌, [], length, map, decimal, sum_by, codes, slice_index, ◌*◌, if◌then◌else◌, true};
 ghost use Rattle.std.specs.List.{join_with_byte};
 ghost use Rattle.wf_io.specs.Words.{text_of, width_of, spaced};
 ghost use Rattle.wf_world.specs.Text.{answer_line, reply_words, refusal_words, part_words, score_digits};
-ghost use Rattle.wf_report.specs.Replies.{refusal_name, refusal_numbers, pair_text, IsShort, IsShortPart};
+ghost use Rattle.wf_frame.specs.declared.notes.ReplyNote.TheVariants.{Accepted, Send};
+ghost use Rattle.wf_report.specs.Replies.{refusal_name, refusal_numbers, pair_text};
 
 use crate::parts::{class_name, fate_name, push_hex};
 use wf_frame::{Ids, Pairs, Part, Refusal, ReplyNote};
 use wf_io::{Line, Word};
-
-/// Whether the lists of a reply have at most 256 items, as they always do.
-pub fn is_short(note: &ReplyNote) -> bool
-    ensures { IsTrue result ↔ IsShort note.now }
-{
-    match note {
-        ReplyNote::Send {
-            part: Part::Mpdus(pairs),
-            ..
-        } => pairs.len() <= 256,
-        ReplyNote::Released { ids } => ids.len() <= 256,
-        _ => true,
-    }
-}
 
 // A word, and words behind it.
 fn start(out: &mut Line, word: &'static [u8], words: &[Word])
@@ -99,10 +86,9 @@ fn push_refusal(out: &mut Line, refusal: Refusal)
 
 // The frames of an aggregate, each with its sequence number.
 fn push_pairs(out: &mut Line, pairs: &Pairs)
-    requires few { length pairs.now ≤ 256 }
-    requires room { length out.old ≤ 200 }
+    requires { length out.old ≤ 200 }
     ensures text { out.new ≡ out.old ++ spaced (map pair_text pairs.now) }
-    ensures len { length out.new ≤ length out.old + 27 * length pairs.now }
+    ensures len { length out.new ≤ length out.old + 27 * 256 }
 {
     for i in 0..pairs.len() {
         let (id, number) = pairs.at(i);
@@ -124,10 +110,9 @@ fn push_short(out: &mut Line, number: u16)
 
 // The ids of the frames that were passed up.
 fn push_ids(out: &mut Line, ids: &Ids)
-    requires few { length ids.now ≤ 256 }
-    requires room { length out.old ≤ 200 }
+    requires { length out.old ≤ 200 }
     ensures text { out.new ≡ out.old ++ spaced (map decimal ids.now) }
-    ensures len { length out.new ≤ length out.old + 21 * length ids.now }
+    ensures len { length out.new ≤ length out.old + 21 * 256 }
 {
     for i in 0..ids.len() {
         out.push(b' ');
@@ -137,8 +122,7 @@ fn push_ids(out: &mut Line, ids: &Ids)
 
 // What an exchange sends.
 fn push_part(out: &mut Line, part: &Part)
-    requires short { IsShortPart part.now }
-    requires room { length out.old ≤ 190 }
+    requires { length out.old ≤ 190 }
     ensures text { out.new ≡ out.old ++ spaced (part_words part.now) }
     ensures len { length out.new ≤ 7200 }
 {
@@ -166,8 +150,7 @@ fn push_more(out: &mut Line, more: bool)
 
 // An exchange to send.
 fn push_send(out: &mut Line, words: &[Word], part: &Part, more: bool)
-    requires short { IsShortPart part.now }
-    requires room { length out.old + sum_by (λ w. width_of w + 1) words.now ≤ 180 }
+    requires { length out.old + sum_by (λ w. width_of w + 1) words.now ≤ 180 }
     ensures text { out.new ≡ out.old ++ join_with_byte 32 (codes "send" ∷ (map text_of words.now ++ (part_words part.now ++ (if more then codes "more" ∷ [] else [])))) }
     ensures len { length out.new ≤ 7300 }
 {
@@ -236,18 +219,61 @@ fn push_ended(out: &mut Line, acked: u16, waiting: u16, failed: u16)
 
 /// Writes the answer line of a reply to an empty line.
 pub fn print_reply(note: &ReplyNote, out: &mut Line)
-    requires empty { out.old ≡ [] }
-    requires short { IsShort note.now }
+    requires { out.old ≡ [] }
     ensures { out.new ≡ answer_line note.now }
 {
     push_reply(note, out);
     out.push(b'\n');
 }
 
+// A frame that was accepted, and the one that was dropped for it.
+fn push_accepted(out: &mut Line, id: u64, dropped: Option<u64>)
+    requires { out.old ≡ [] }
+    ensures text { out.new ≡ join_with_byte 32 (reply_words (Accepted id dropped)) }
+    ensures len { length out.new ≤ 100 }
+{
+    match dropped {
+        None => start(out, b"accepted", &[Word::Number(id)]),
+        Some(dropped) => {
+            let words = [
+                Word::Number(id),
+                Word::Text(b"dropped"),
+                Word::Number(dropped),
+            ];
+            start(out, b"accepted", &words);
+        }
+    }
+}
+
+// An exchange to send, from its numbers on.
+fn push_exchange(
+    out: &mut Line,
+    exchange: u64,
+    station: u16,
+    tid: u8,
+    air: u32,
+    part: &Part,
+    more: bool,
+)
+    requires { out.old ≡ [] }
+    ensures text { out.new ≡ join_with_byte 32 (reply_words (Send exchange station tid air part.now more)) }
+    ensures len { length out.new ≤ 7300 }
+{
+    let words = [
+        Word::Number(exchange),
+        Word::Text(b"sta"),
+        Word::Number(u64::from(station)),
+        Word::Text(b"tid"),
+        Word::Number(u64::from(tid)),
+        Word::Text(b"air"),
+        Word::Number(u64::from(air)),
+    ];
+    push_send(out, &words, part, more);
+}
+
 // The words of a reply.
 fn push_reply(note: &ReplyNote, out: &mut Line)
-    requires empty { out.old ≡ [] }
-    requires short { IsShort note.now }
+    requires { out.old ≡ [] }
     ensures text { out.new ≡ join_with_byte 32 (reply_words note.now) }
     ensures len { length out.new ≤ 8000 }
 {
@@ -256,19 +282,7 @@ fn push_reply(note: &ReplyNote, out: &mut Line)
         ReplyNote::Gone { dropped } => start(out, b"left", &[Word::Number(u64::from(*dropped))]),
         ReplyNote::RateSet => start(out, b"set", &[]),
         ReplyNote::Ticked { now } => start(out, b"now", &[Word::Number(*now)]),
-        ReplyNote::Accepted { id, dropped: None } => start(out, b"accepted", &[Word::Number(*id)]),
-        ReplyNote::Accepted {
-            id,
-            dropped: Some(dropped),
-        } => start(
-            out,
-            b"accepted",
-            &[
-                Word::Number(*id),
-                Word::Text(b"dropped"),
-                Word::Number(*dropped),
-            ],
-        ),
+        ReplyNote::Accepted { id, dropped } => push_accepted(out, *id, *dropped),
         ReplyNote::Send {
             exchange,
             station,
@@ -276,22 +290,7 @@ fn push_reply(note: &ReplyNote, out: &mut Line)
             air,
             part,
             more,
-        } => {
-            push_send(
-                out,
-                &[
-                    Word::Number(*exchange),
-                    Word::Text(b"sta"),
-                    Word::Number(u64::from(*station)),
-                    Word::Text(b"tid"),
-                    Word::Number(u64::from(*tid)),
-                    Word::Text(b"air"),
-                    Word::Number(u64::from(*air)),
-                ],
-                part,
-                *more,
-            );
-        }
+        } => push_exchange(out, *exchange, *station, *tid, *air, part, *more),
         ReplyNote::Released { ids } => {
             start(out, b"released", &[]);
             push_ids(out, ids);
@@ -303,9 +302,7 @@ fn push_reply(note: &ReplyNote, out: &mut Line)
             b2,
             b3,
             wide,
-        } => {
-            push_answer(out, *first, &[*b0, *b1, *b2, *b3], *wide);
-        }
+        } => push_answer(out, *first, &[*b0, *b1, *b2, *b3], *wide),
         ReplyNote::Ended {
             acked,
             waiting,
@@ -317,11 +314,10 @@ fn push_reply(note: &ReplyNote, out: &mut Line)
             start(out, b"polled", &[Word::Text(class_name(*class))]);
         }
         ReplyNote::Charged { deficit } => start(out, b"charged", &[Word::Signed(*deficit)]),
-        ReplyNote::Reaped { id, fate } => start(
-            out,
-            b"reaped",
-            &[Word::Number(*id), Word::Text(fate_name(*fate))],
-        ),
+        ReplyNote::Reaped { id, fate } => {
+            let words = [Word::Number(*id), Word::Text(fate_name(*fate))];
+            start(out, b"reaped", &words);
+        }
         ReplyNote::Refused(refusal) => push_refusal(out, *refusal),
     }
 }

@@ -4,7 +4,6 @@ ghost use Rattle.std.specs.Prelude.{◌≡◌, ◌+◌, ◌<◌, ◌≤◌, leng
 ghost use Rattle.wf_world.specs.World.{World, opening, is_live, accepted, share as share_of};
 ghost use Rattle.wf_world.specs.Step.{step as step_of};
 ghost use Rattle.wf_world.specs.Text.{tally as tally_of, traffic_map as map_of, with_traffic};
-ghost use Rattle.wf_report.specs.Replies.{IsShort};
 
 use std::alloc::Global;
 use wf_frame::{Class, Config, Fate, Note, ReplyNote};
@@ -34,8 +33,7 @@ pub trait Runs: Drop {
 
     /// Makes a call.
     fn step(&mut self, caller: u32, note: &Note) -> Result<ReplyNote, Stopped>
-        ensures steps { IfOk result (λ r. step_of (world self.old) note.now ≡ record { world = world self.new; reply = r }) }
-        ensures short { IfOk result IsShort };
+        ensures steps { IfOk result (λ r. step_of (world self.old) note.now ≡ record { world = world self.new; reply = r }) };
 
     /// How many station numbers there are.
     fn stations(&self) -> u32

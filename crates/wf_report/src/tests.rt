@@ -1,15 +1,13 @@
 //! Answer lines as they are written.
 
-use crate::{is_short, print_reply};
+use crate::print_reply;
 use wf_frame::{Cause, Fate, Ids, Pairs, Part, Refusal, ReplyNote};
 use wf_io::Line;
 
 // The answer line of a reply.
 fn printed(note: &ReplyNote) -> Line {
     let mut line = Line::new();
-    if is_short(note) {
-        print_reply(note, &mut line);
-    }
+    print_reply(note, &mut line);
     line
 }
 
