@@ -15,6 +15,10 @@ use Rattle.wf_laws.proofs.Deficits.Law.{deficits}
 use Rattle.wf_laws.proofs.Deficits.Quiet.{quiet}
 use Rattle.wf_laws.proofs.Fairness.Law.{fairness}
 use Rattle.wf_laws.proofs.Frames.Places.{place_law}
+use Rattle.wf_laws.proofs.Frames.Rooms.{room_law}
+use Rattle.wf_laws.proofs.Queues.Limit.{limit_law}
+use Rattle.wf_laws.proofs.Ranges.Law.{range_law}
+use Rattle.wf_laws.proofs.Deficits.Numbers.{number_law}
 use Rattle.wf_laws.proofs.Windows.TwelveBits.{twelve_bit_law}
 use Rattle.wf_laws.proofs.Queues.Law.{queue_law, queue_deficit_law}
 
@@ -28,10 +32,14 @@ laws config h range = record {
   fates = fate_law config h;
   tallies = tally_law config h;
   places = place_law config h range;
+  room = room_law config h range;
+  limit = limit_law config h range;
   deficits = deficits config h range;
   quiet = quiet config h range;
   fairness = fairness config h range;
   twelve_bits = twelve_bit_law config h;
   queues = queue_law config h range;
   queue_deficits = queue_deficit_law config h range;
+  ranges = range_law config h range;
+  numbers = number_law config h range;
 }

@@ -3,10 +3,11 @@
 --   law of lib.rt                               ends in
 --   window_law, answer_law, twelve_bit_law      Windows (Law, Answers, TwelveBits)
 --   release_law, once_law                       Releases (Named, Placed)
---   delivery_law, fate_law, place_law,          Frames (Delivered, FateLaw, Places, Tallies)
---   tally_law
---   queue_law, queue_deficit_law                Queues (Law)
---   deficit_law, quiet_law                      Deficits (Law, Quiet)
+--   delivery_law, fate_law, place_law,          Frames (Delivered, FateLaw, Places, Rooms, Tallies)
+--   room_law, tally_law
+--   queue_law, queue_deficit_law, limit_law     Queues (Law, Limit)
+--   range_law                                   Ranges (Law)
+--   deficit_law, quiet_law, number_law          Deficits (Law, Quiet, Numbers)
 --   fairness_law                                Fairness (Law)
 --   turn_law                                    Pick (TurnLaw)
 --
@@ -20,6 +21,7 @@ pub mod Releases
 pub mod Frames
 pub mod Queues
 pub mod Deficits
+pub mod Ranges
 pub mod Fairness
 pub mod Witnesses
 pub mod AllLaws

@@ -1,3 +1,5 @@
 -- Histories in which the laws speak of something, computed.
 pub mod Airtime
 pub mod Releases
+pub mod Places
+pub mod Turns

@@ -9,9 +9,12 @@ use Rattle.wf_laws.specs.Delivery.{DeliveryLaw}
 use Rattle.wf_laws.specs.Fates.{FateLaw}
 use Rattle.wf_laws.specs.Tallies.{TallyLaw}
 use Rattle.wf_laws.specs.Places.{PlaceLaw}
+use Rattle.wf_laws.specs.Room.{RoomLaw, LimitLaw}
 use Rattle.wf_laws.specs.TwelveBits.{TwelveBitLaw}
 use Rattle.wf_laws.specs.Queues.{QueueLaw, QueueDeficitLaw}
 use Rattle.wf_laws.specs.Deficits.{DeficitLaw, QuietLaw, FairnessLaw}
+use Rattle.wf_laws.specs.Ranges.{RangeLaw}
+use Rattle.wf_laws.specs.Numbers.{NumberLaw}
 
 pub record Laws (config : Config) (history : List Entry) : Type 0 where
   -- the window law: items 1 to 5 and 7; the answer that a Done uses; and what is released
@@ -26,6 +29,9 @@ pub record Laws (config : Config) (history : List Entry) : Type 0 where
   pub tallies : TallyLaw config history
   -- each held frame stands in one place
   pub places : PlaceLaw config history
+  -- the frames that are inside are those accepted less those reaped, and there is room for them; the flow queues stay within their limit
+  pub room : RoomLaw config history
+  pub limit : LimitLaw config history
   -- the deficit law, which receive charges make a station one that is not quiet, and the fairness law
   pub deficits : DeficitLaw config history
   pub quiet : QuietLaw config history
@@ -34,3 +40,6 @@ pub record Laws (config : Config) (history : List Entry) : Type 0 where
   pub twelve_bits : TwelveBitLaw config history
   pub queues : QueueLaw config history
   pub queue_deficits : QueueDeficitLaw config history
+  -- what code with numbers of so many bits goes by
+  pub ranges : RangeLaw config history
+  pub numbers : NumberLaw config history

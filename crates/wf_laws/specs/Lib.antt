@@ -11,3 +11,6 @@ pub mod Queues
 pub mod Laws
 pub mod Places
 pub mod Tallies
+pub mod Room
+pub mod Ranges
+pub mod Numbers

@@ -57,6 +57,15 @@ abbrev pub IsAtMost : ℕ → Note → Type 0
 IsAtMost most (Enqueue s t flow len) = len ≤ most
 IsAtMost most (Asked ask) = Unit {0}
 
+-- each frame has at least one octet
+abbrev pub HasLength : Note → Type 0
+HasLength (Enqueue s t flow len) = 1 ≤ len
+HasLength (Asked ask) = Unit {0}
+
+abbrev pub HaveLengths : List Entry → Type 0
+HaveLengths [] = Unit {0}
+HaveLengths (e ∷ es) = HasLength e.1 × HaveLengths es
+
 abbrev pub AreAtMost : ℕ → List Entry → Type 0
 AreAtMost most [] = Unit {0}
 AreAtMost most (e ∷ es) = IsAtMost most e.1 × AreAtMost most es

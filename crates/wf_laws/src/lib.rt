@@ -13,9 +13,12 @@ ghost use Rattle.wf_laws.specs.Deficits.{DeficitLaw, FairnessLaw, QuietLaw};
 ghost use Rattle.wf_laws.specs.Delivery.{DeliveryLaw};
 ghost use Rattle.wf_laws.specs.Fates.{FateLaw};
 ghost use Rattle.wf_laws.specs.Laws.{Laws};
+ghost use Rattle.wf_laws.specs.Numbers.{NumberLaw};
 ghost use Rattle.wf_laws.specs.Places.{PlaceLaw};
 ghost use Rattle.wf_laws.specs.Queues.{QueueDeficitLaw, QueueLaw};
+ghost use Rattle.wf_laws.specs.Ranges.{RangeLaw};
 ghost use Rattle.wf_laws.specs.Releases.{OnceLaw, ReleaseLaw};
+ghost use Rattle.wf_laws.specs.Room.{LimitLaw, RoomLaw};
 ghost use Rattle.wf_laws.specs.Tallies.{TallyLaw};
 ghost use Rattle.wf_laws.specs.Turns.{TurnLaw};
 ghost use Rattle.wf_laws.specs.TwelveBits.{TwelveBitLaw};
@@ -62,6 +65,23 @@ pub fn place_law()
     ensures { (config : Config) → (history : List Entry) → IsInRange config → PlaceLaw config history }
 {}
 
+/// After every entry, the frames in flow queues, those at numbers that wait or are in flight, and those on the finished list are together the frames accepted less
+/// those reaped, and at most as many as the setting `room` has room for.
+pub fn room_law()
+    ensures { (config : Config) → (history : List Entry) → IsInRange config → RoomLaw config history }
+{}
+
+/// Where each frame has an octet or more, all flow queues together have at most as many frames as the setting `limit` after every entry.
+pub fn limit_law()
+    ensures { (config : Config) → (history : List Entry) → IsInRange config → LimitLaw config history }
+{}
+
+/// After every entry, what a live station has is in its range: number, weight, rate, exponent and windows; only a station that sleeps has a credit; and CoDel's counts
+/// are at least 1 while it drops and fit 32 bits.
+pub fn range_law()
+    ensures { (config : Config) → (history : List Entry) → IsInRange config → RangeLaw config history }
+{}
+
 /// After every entry, a station's deficit is what it was given less what it was charged, it stays between its bounds, and every ready station is listed.
 pub fn deficit_law()
     ensures { (config : Config) → (history : List Entry) → IsInRange config → DeficitLaw config history }
@@ -95,6 +115,12 @@ pub fn queue_law()
 /// The deficit of a listed queue is at most the setting, and above 0 less the longest frame.
 pub fn queue_deficit_law()
     ensures { (config : Config) → (history : List Entry) → IsInRange config → QueueDeficitLaw config history }
+{}
+
+/// After every entry, open exchanges are charged 1 to 5456 microseconds, a class has at most eight of them, and the deficits of live stations lie between figures far within
+/// 32 bits; so do those of listed queues, where no frame is longer than 2304 octets.
+pub fn number_law()
+    ensures { (config : Config) → (history : List Entry) → IsInRange config → NumberLaw config history }
 {}
 
 /// All laws of a history.

@@ -21,6 +21,7 @@ pub record IsOpen (b : Books) (x : Exchange) : Type 0 where
   pub live : is_some (b.accounts x.station) ≡ true
   pub below : x.number < b.exchanges
   pub charge : x.charge ≤ longest_exchange b.config
+  pub some : 1 ≤ x.charge
 
 -- a live station's account
 pub record IsGood (config : Config) (opened : List Exchange) (s : ℕ) (a : Account) : Type 0 where
@@ -58,7 +59,7 @@ kept_on b s g i h = record {
   range = i.range;
   once = i.once;
   live = λ c y stands. live_upd b s g y ∙ i.live c y stands;
-  opens = every_map (IsOpen b) (IsOpen (with_account b s (option_map g (b.accounts s)))) (λ x o. record { live = live_upd b s g x.station ∙ o.live; below = o.below; charge = o.charge }) b.opened i.opens;
+  opens = every_map (IsOpen b) (IsOpen (with_account b s (option_map g (b.accounts s)))) (λ x o. record { live = live_upd b s g x.station ∙ o.live; below = o.below; charge = o.charge; some = o.some }) b.opened i.opens;
   rising = i.rising;
   few = i.few;
   goods = each_upd (λ y o. IfSome o (IsGood b.config b.opened y)) b.accounts s _ i.goods (if_map (IsGood b.config b.opened s) (IsGood b.config b.opened s) g (b.accounts s) (i.goods s) h);
@@ -71,7 +72,7 @@ kept_lists b c r i h = record {
   range = i.range;
   once = each_updc (λ d z. (y : ℕ) → on (in_order z) y ≤ 1) b.rotations c r i.once (λ y. omega (arith, h y, i.once c y));
   live = each_updc (λ d z. (y : ℕ) → 0 < on (in_order z) y → is_some (b.accounts y) ≡ true) b.rotations c r i.live (λ y stands. i.live c y (omega (arith, h y)));
-  opens = every_map (IsOpen b) (IsOpen (with_lists b c r)) (λ x o. record { live = o.live; below = o.below; charge = o.charge }) b.opened i.opens;
+  opens = every_map (IsOpen b) (IsOpen (with_lists b c r)) (λ x o. record { live = o.live; below = o.below; charge = o.charge; some = o.some }) b.opened i.opens;
   rising = i.rising;
   few = i.few;
   goods = i.goods;
@@ -99,7 +100,7 @@ kept_add b c s i off_lists is = record {
     | inl e ↦ subst (λ (z : ℕ). is_some (b.accounts z) ≡ true) e is
     | inr other ↦ i.live c y (omega (arith, added-on (b.rotations c) s y, on-cons_other s y [] other, on-nil y))
   ]);
-  opens = every_map (IsOpen b) (IsOpen (with_lists b c (add_new (b.rotations c) s))) (λ x o. record { live = o.live; below = o.below; charge = o.charge }) b.opened i.opens;
+  opens = every_map (IsOpen b) (IsOpen (with_lists b c (add_new (b.rotations c) s))) (λ x o. record { live = o.live; below = o.below; charge = o.charge; some = o.some }) b.opened i.opens;
   rising = i.rising;
   few = i.few;
   goods = i.goods;
@@ -121,7 +122,7 @@ kept_fresh b s weight i some = record {
   range = i.range;
   once = i.once;
   live = λ c y stands. more y (i.live c y stands);
-  opens = every_map (IsOpen b) (IsOpen (with_account b s (Some (fresh_account b.config.quantum weight)))) (λ x o. record { live = more x.station o.live; below = o.below; charge = o.charge }) b.opened i.opens;
+  opens = every_map (IsOpen b) (IsOpen (with_account b s (Some (fresh_account b.config.quantum weight)))) (λ x o. record { live = more x.station o.live; below = o.below; charge = o.charge; some = o.some }) b.opened i.opens;
   rising = i.rising;
   few = i.few;
   goods = each_upd (λ y o. IfSome o (IsGood b.config b.opened y)) b.accounts s _ i.goods (record { weight = some; bounds = λ c. bounded_fresh b.config (owed s c b.opened) weight (omega (arith, i.range.quantum.0)) some (owed_kept b i s c) });
@@ -166,13 +167,13 @@ kept_gone b s i away = record {
 
     both : (xs : List Exchange) → Every (IsOpen b) xs → Every (λ x. x.station ≢ s) xs → Every (IsOpen (with_account (all_off b s) s None)) xs
     both [] e h = tt
-    both (x ∷ xs) e h = (record { live = ap is_some (upd_other b.accounts s x.station None h.0) ∙ e.0.live; below = e.0.below; charge = e.0.charge }, both xs e.1 h.1)
+    both (x ∷ xs) e h = (record { live = ap is_some (upd_other b.accounts s x.station None h.0) ∙ e.0.live; below = e.0.below; charge = e.0.charge; some = e.0.some }, both xs e.1 h.1)
 
 -- ---- exchanges
 
-pub kept_opened : (b : Books) (x : Exchange) → IsKept b → is_some (b.accounts x.station) ≡ true → x.number ≡ b.exchanges → x.charge ≤ longest_exchange b.config → many x.class b.opened < b.config.inflight
+pub kept_opened : (b : Books) (x : Exchange) → IsKept b → is_some (b.accounts x.station) ≡ true → x.number ≡ b.exchanges → x.charge ≤ longest_exchange b.config → 1 ≤ x.charge → many x.class b.opened < b.config.inflight
     → IfSome (b.accounts x.station) (λ a. pos 1 ≤ℤ (a.shares x.class).deficit) → IsKept (with_opened b x)
-kept_opened b x i is number charge room above = record {
+kept_opened b x i is number charge some room above = record {
   range = i.range;
   once = i.once;
   live = i.live;
@@ -184,8 +185,8 @@ kept_opened b x i is number charge room above = record {
   where
     opens : Every (IsOpen (with_opened b x)) (b.opened ++ core x ∷ [])
     opens = every_append (IsOpen (with_opened b x)) b.opened (core x)
-        (every_map (IsOpen b) (IsOpen (with_opened b x)) (λ y o. record { live = o.live; below = omega (arith, o.below); charge = o.charge }) b.opened i.opens)
-        (record { live = is; below = omega arith; charge = charge })
+        (every_map (IsOpen b) (IsOpen (with_opened b x)) (λ y o. record { live = o.live; below = omega (arith, o.below); charge = o.charge; some = o.some }) b.opened i.opens)
+        (record { live = is; below = omega arith; charge = charge; some = some })
 
     few : (c : Class) → many c (b.opened ++ core x ∷ []) ≤ b.config.inflight
     few c = elim (cases_class x.class c) [
@@ -221,7 +222,7 @@ kept_ended b x e i found = record {
   range = i.range;
   once = i.once;
   live = λ c y stands. same_live y ∙ i.live c y stands;
-  opens = every_filter (IsOpen (with_charge (without b e) x.station x.class x.charge)) _ b.opened (every_map (IsOpen b) (IsOpen (with_charge (without b e) x.station x.class x.charge)) (λ y o. record { live = same_live y.station ∙ o.live; below = o.below; charge = o.charge }) b.opened i.opens);
+  opens = every_filter (IsOpen (with_charge (without b e) x.station x.class x.charge)) _ b.opened (every_map (IsOpen b) (IsOpen (with_charge (without b e) x.station x.class x.charge)) (λ y o. record { live = same_live y.station ∙ o.live; below = o.below; charge = o.charge; some = o.some }) b.opened i.opens);
   rising = rising_filter _ 0 b.opened i.rising;
   few = λ c. omega (arith, many-filter c (λ y. not (y.number == e)) b.opened, i.few c);
   goods = each_upd (λ y o. IfSome o (IsGood b.config (without b e).opened y)) b.accounts x.station _
@@ -276,7 +277,7 @@ kept_after b c p i k = kept_lists (all_paid b c p.quanta (in_order (b.rotations 
       range = i.range;
       once = i.once;
       live = λ d y stands. same_live y ∙ i.live d y stands;
-      opens = every_map (IsOpen b) (IsOpen (all_paid b c p.quanta (in_order (b.rotations c)))) (λ x o. record { live = same_live x.station ∙ o.live; below = o.below; charge = o.charge }) b.opened i.opens;
+      opens = every_map (IsOpen b) (IsOpen (all_paid b c p.quanta (in_order (b.rotations c)))) (λ x o. record { live = same_live x.station ∙ o.live; below = o.below; charge = o.charge; some = o.some }) b.opened i.opens;
       rising = i.rising;
       few = i.few;
       goods = λ s. if_map (IsGood b.config b.opened s) (IsGood b.config b.opened s) (paid b.config.quantum c (on (in_order (b.rotations c)) s * p.quanta s)) (b.accounts s) (i.goods s) (λ a e good. record {

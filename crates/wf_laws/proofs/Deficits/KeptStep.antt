@@ -28,7 +28,7 @@ use Rattle.wf_laws.proofs.Deficits.BookSteps.{books_after_turn, books_prepared, 
 use Rattle.wf_laws.proofs.Deficits.Openings.{Every, every_map, every_find, only_one, many, many-count, many-core}
 use Rattle.wf_laws.proofs.Deficits.Bounds.{IsBounded, bounded_receive}
 use Rattle.wf_laws.proofs.Deficits.Kept.{IsKept, some_map, if_same, kept_on, kept_add, owed_kept, kept_fresh, kept_gone, kept_opened, kept_ended, IsPick, kept_after, above_after}
-use Rattle.wf_laws.proofs.Deficits.LongestCharge.{charge_most}
+use Rattle.wf_laws.proofs.Deficits.LongestCharge.{charge_most, charge_some}
 
 -- ---- a call that is not refused
 
@@ -123,7 +123,7 @@ kept_sent v c s t i m =
     let k : IsKept (books p.world) = subst IsKept (sym e) i in
     let n : MaySend c s (books p.world) = subst (MaySend c s) (sym e) m in
     let cap : longest_exchange p.world.config ≡ longest_exchange v.config = ap (λ (b : Books). longest_exchange b.config) e in
-    is _ _ (books_sent s t c p) (kept_opened (books p.world) (exchange_of s t c p) k n.live refl (subst (λ (l : ℕ). p.charge ≤ l) (sym cap) (charge_most v s t (i.range.cap.0))) n.room n.above)
+    is _ _ (books_sent s t c p) (kept_opened (books p.world) (exchange_of s t c p) k n.live refl (subst (λ (l : ℕ). p.charge ≤ l) (sym cap) (charge_most v s t (i.range.cap.0))) (charge_some v s t) n.room n.above)
 
 kept_pulled_by : (o : Option ℕ) (v : World) (c : Class) → IsKept (books v) → ((s : ℕ) → o ≡ Some s → MaySend c s (books v)) → IsKept (books (pulled_by v c o).world)
 unfolding pulled_by

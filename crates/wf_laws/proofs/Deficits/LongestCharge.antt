@@ -1,4 +1,4 @@
--- No exchange is charged more than the longest.
+-- No exchange is charged more than the longest, and each is charged something.
 use Rattle.std.proofs.Common.{◌≡◌, refl, ap, sym, ◌∙◌, subst, arith, ℕ, zero, suc, ◌+◌, ◌*◌, ◌-◌, ◌/◌, ◌<◌, ◌≤◌, Bool, true, false, if◌then◌else◌, List, [], ◌∷◌, ◌++◌, Option, Some, None, unwrap_or, option_map, not, length, map, nat_lt, ◌==◌}
 use Rattle.std.proofs.lemmas.Bool.{and_parts, leb-true}
 use Rattle.std.proofs.lemmas.Nat.{div_below}
@@ -122,3 +122,20 @@ charge_most w s t h = charge_if (request_due (session w s t)) (longest_exchange 
     wide_if (is_wide (filled w s t).world s t) (data_time (station (filled w s t).world s).rate (octets_of (map (λ m. m.len) (filled w s t).mpdus))) in
     let time : IsTimely (filled w s t).world s (filled w s t).mpdus = timely_filled w s t h in
     omega arith)
+
+some_if : (b : Bool) (x y : Prepared) → 1 ≤ x.charge → 1 ≤ y.charge → 1 ≤ (if b then x else y).charge
+some_if true x y h k = h
+some_if false x y h k = k
+
+wide_some : (b : Bool) (n : ℕ) → 1 ≤ n + (if b then 56 else 48)
+wide_some true n = omega arith
+wide_some false n = omega arith
+
+request_some : (b : Bool) → 1 ≤ request_charge b
+request_some true = omega arith
+request_some false = omega arith
+
+pub charge_some : (w : World) (s t : ℕ) → 1 ≤ (prepared w s t).charge
+unfolding prepared prepared_frames
+charge_some w s t = some_if (request_due (session w s t)) (record { world = w; content = Request _; charge = request_charge (is_wide w s t) }) (prepared_frames s t (filled w s t))
+    (request_some (is_wide w s t)) (wide_some (is_wide (filled w s t).world s t) (data_time (station (filled w s t).world s).rate (octets_of (map (λ m. m.len) (filled w s t).mpdus))))

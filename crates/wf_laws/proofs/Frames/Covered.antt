@@ -16,7 +16,8 @@ use Rattle.wf_laws.proofs.Windows.Opened.{some_along, left_true, pick_ready}
 use Rattle.wf_laws.proofs.Windows.Agreed.{IsLawful, IsReady, ready_filled, lawful_same, session_same, session_on_session}
 use Rattle.wf_laws.proofs.Releases.Placed.{Placing, Any, placed_less, slot_new_id}
 use Rattle.wf_laws.proofs.Frames.Fewer.{Less, then_less, less_pay_queues, less_with_queues, less_after_turn, less_after_pick, queues_dropped}
-use Rattle.wf_laws.proofs.Frames.Fates.{Fresh, Safe, safe_calm, safe_numbered, dropped_dequeue, given_dequeued-is, frames_on_queue, frames_with_queues, frames_pay_queues, frames_on_session, frames_spent, frames_after_turn, frames_after_pick}
+use Rattle.wf_laws.proofs.Frames.Fates.{Fresh, Safe, safe_calm, safe_numbered, dropped_dequeue, given_dequeued-is}
+use Rattle.wf_laws.proofs.Frames.Untouched.{untouched_on_queue, untouched_with_queues, untouched_pay_queues, untouched_on_session, untouched_spent, untouched_after_turn, untouched_after_pick}
 use Rattle.wf_laws.proofs.Queues.Shelves.{Shelves, shelves_pay_queues}
 use Rattle.wf_laws.proofs.Queues.ShelvedStep.{live_number}
 use Rattle.wf_laws.proofs.Releases.Kept.{KeptSession, kept_on_slot}
@@ -37,7 +38,7 @@ use Rattle.wf_laws.proofs.Common.Dequeues.{each_dequeue}
 use Rattle.wf_laws.proofs.Windows.Sides.{each_side_on}
 use Rattle.wf_laws.proofs.Frames.Fewer.{carries, queue_on}
 use Rattle.wf_laws.proofs.Frames.Fates.{IsHeld, InQueue, InHand, Carries, ids_in, ids_carried, IsGivenId, at_slot_same, session_on_queue}
-use Rattle.wf_laws.proofs.Queues.ShelvedStep.{length_finish}
+use Rattle.wf_laws.proofs.Common.Sums.{length_put}
 
 -- each held frame is one that P names
 pub record Covers (P : ℕ → Type 0) (w : World) : Type 0 where
@@ -54,14 +55,14 @@ covers_more P Q w f c = record { covers = λ k l h. f k (c.covers k l h) }
 
 pub accepted_finish : (w : World) (fate : Fate) (id : ℕ) → id < accepted w → accepted (finish w fate id) ≡ accepted w
 unfolding finish with_fate
-accepted_finish w fate id l = length_finish w.frames id _ l
+accepted_finish w fate id l = length_put no_frame w.frames id _ l
 
 pub covers_finish : (P Q : ℕ → Type 0) (w : World) (fate : Fate) (id : ℕ) → (fate ≡ Held → ⊥) → id < accepted w → Covers P w → ((k : ℕ) → k ≢ id → P k → Q k) → Covers Q (finish w fate id)
 unfolding finish with_fate
 covers_finish P Q w fate id never l c f = record {
   covers = λ k below h. elim (cases_eq id k) [
     | inl e ↦ absurd (never (sym (ap (λ (x : Frame). x.fate) (at_put_same no_frame w.frames id (record (frame w id) { fate = fate }))) ∙ ap (λ (j : ℕ). (at no_frame (put no_frame w.frames id (record (frame w id) { fate = fate })) j).fate) e ∙ h))
-    | inr other ↦ f k (λ e. other (sym e)) (c.covers k (omega (arith, below, length_finish w.frames id (record (frame w id) { fate = fate }) l)) (sym (ap (λ (x : Frame). x.fate) (at_put_other no_frame w.frames id k (record (frame w id) { fate = fate }) other)) ∙ h))
+    | inr other ↦ f k (λ e. other (sym e)) (c.covers k (omega (arith, below, length_put no_frame w.frames id (record (frame w id) { fate = fate }) l)) (sym (ap (λ (x : Frame). x.fate) (at_put_other no_frame w.frames id k (record (frame w id) { fate = fate }) other)) ∙ h))
   ];
 }
 
@@ -199,8 +200,8 @@ covers_dequeued l w q d p there parts c =
     let u : World = on_queue w q g in
     let v : World = finish_all u (Dropped By_codel) (map (λ x. x.id) d.dropped) in
     covers_all (ids_in d.dropped) (InHand w) (λ k. InHand v k ⊎ IsGivenId d.given k) u (Dropped By_codel) (never_dropped By_codel)
-    (λ k e. subst (λ (fs : List Frame). k < length fs) (sym (frames_on_queue w q g)) (p.queued q k (there k e)).old)
-    (covers_frames (InHand w) w u (frames_on_queue w q g) c)
+    (λ k e. subst (λ (fs : List Frame). k < length fs) (sym (untouched_on_queue w q g).frames) (p.queued q k (there k e)).old)
+    (covers_frames (InHand w) w u (untouched_on_queue w q g).frames c)
     (λ k none i. elim (hand_queue w q k g i) [
       | inl a ↦ inl (hand_finish_all (map (λ x. x.id) d.dropped) u (Dropped By_codel) k a)
       | inr b ↦ elim (parts k b) [
@@ -229,7 +230,7 @@ covers_take l w s t p c =
     let u : World = with_queues a s t (picked_queue w s t).lists in
     let h : Less Any w u = then_less Any w a u (less_pay_queues Any ks w _) (less_with_queues Any a s t _) in
     let k : Same w u = then_same w a u (same_pay_queues ks w _) (same_with_queues a s t _) in
-    let e : u.frames ≡ w.frames = frames_with_queues a s t _ ∙ frames_pay_queues ks w _ in
+    let e : u.frames ≡ w.frames = (untouched_with_queues a s t _).frames ∙ (untouched_pay_queues ks w _).frames in
     covers_taken (picked_queue w s t).winner l u s (placed_less l w u h k.sides p)
     (covers_frames (InHand u) w u e (covers_more (InHand w) (InHand u) w (λ j i. hand_same w u j (λ q m. paid_items w s t (picked_queue w s t).quanta (picked_queue w s t).lists ks q j m) (λ i j. sym (session_same w u k i j)) i) c))
 
@@ -237,7 +238,7 @@ covers_give : (w : World) (s t id : ℕ) → is_live w s ≡ true → Covers (λ
 covers_give w s t id live c =
     let y : Session = session w s t in
     let v : World = on_session w s t (λ y. give y id) in
-    covers_frames (InHand v) w v (frames_on_session w s t (λ y. give y id)) (covers_more (λ k. InHand w k ⊎ (k ≡ id)) (InHand v) w (λ k i. elim i [
+    covers_frames (InHand v) w v (untouched_on_session w s t (λ y. give y id)).frames (covers_more (λ k. InHand w k ⊎ (k ≡ id)) (InHand v) w (λ k i. elim i [
       | inl a ↦ hand_session w s t k (λ y. give y id) (λ n h.
           let d : slot (give y id) n ≡ slot y n = slot_give y id n h.from h.below in
           record { from = h.from; below = omega (arith, h.below, next-give y id); unsettled = ap (λ (x : Slot). is_settled x.state) d ∙ h.unsettled; id = ap (λ (x : Slot). x.id) d ∙ h.id }) a
@@ -288,7 +289,7 @@ carries_fly (m ∷ ms) y e lo hi k n b r c =
     carries_fly ms (on_slot m.number f y) e (suc m.number) hi k n (omega (arith, b, r.0)) r.2 (carries_on_slot y m.number k n f (omega (arith, b, r.0)) (λ x. refl) refl c)
 
 pub covers_session : (w : World) (s t : ℕ) (f : Session → Session) → ((k n : ℕ) → Carries (session w s t) k n → Carries (f (session w s t)) k n) → Full w → Full (on_session w s t f)
-covers_session w s t f h c = covers_frames (InHand (on_session w s t f)) w _ (frames_on_session w s t f) (covers_more (InHand w) (InHand (on_session w s t f)) w (λ k i. hand_session w s t k f (λ n d. h k n d) i) c)
+covers_session w s t f h c = covers_frames (InHand (on_session w s t f)) w _ (untouched_on_session w s t f).frames (covers_more (InHand w) (InHand (on_session w s t f)) w (λ k i. hand_session w s t k f (λ n d. h k n d) i) c)
 
 covers_frames_fly : (s t : ℕ) (f : Filled) → IsReady s t f.world f.mpdus → Full f.world → Full (prepared_frames s t f).world
 unfolding prepared_frames
@@ -312,7 +313,7 @@ unfolding sent opening_exchange
 covers_sent s t c q k =
     let x : Exchange = exchange_of s t c q in
     let u : World = record q.world { exchanges = q.world.exchanges + 1; opened = q.world.opened ++ x ∷ [] } in
-    covers_calm u (spent u s) (λ q k h. queues_spent u s q k h) (session_same u (spent u s) (same_spent u s)) (frames_spent u s) (covers_calm q.world u (λ q k h. h) (λ i j. refl) refl k)
+    covers_calm u (spent u s) (λ q k h. queues_spent u s q k h) (session_same u (spent u s) (same_spent u s)) (untouched_spent u s).frames (covers_calm q.world u (λ q k h. h) (λ i j. refl) refl k)
 
 covers_pulled_by : (o : Option ℕ) (l : List ℕ) (w : World) (c : Class) → IfSome o (λ s. is_live w s ≡ true) → IsLawful w → Placing l w → Fresh w → Full w → Full (pulled_by w c o).world
 unfolding pulled_by
@@ -321,15 +322,15 @@ covers_pulled_by (Some s) l w c live a p f k =
     let t : ℕ = sending_tid w s c in
     let v : World = after_turn w s c t in
     let same_v : Same w v = same_after_turn w s c t in
-    let b : Safe l w v = safe_calm l w v (less_after_turn Any w s c _) same_v (frames_after_turn w s c _) p f in
-    covers_sent s t c _ (covers_prepared l v s t (lawful_same _ _ same_v a) (same_v.live s ∙ live) b.placing b.fresh (covers_calm w v (λ q k h. queues_after_turn w s c t q k h) (session_same w v same_v) (frames_after_turn w s c t) k))
+    let b : Safe l w v = safe_calm l w v (less_after_turn Any w s c _) same_v (untouched_after_turn w s c _) p f in
+    covers_sent s t c _ (covers_prepared l v s t (lawful_same _ _ same_v a) (same_v.live s ∙ live) b.placing b.fresh (covers_calm w v (λ q k h. queues_after_turn w s c t q k h) (session_same w v same_v) (untouched_after_turn w s c t).frames k))
 
 pub covers_pulled : (l : List ℕ) (w : World) (c : Class) → IsLawful w → Placing l w → Fresh w → Full w → Full (pulled w c).world
 unfolding pulled
 covers_pulled l w c a p f k =
     let v : World = after_pick w c in
     let same_v : Same w v = same_after_pick w c in
-    let b : Safe l w v = safe_calm l w v (less_after_pick Any w c) same_v (frames_after_pick w c) p f in
+    let b : Safe l w v = safe_calm l w v (less_after_pick Any w c) same_v (untouched_after_pick w c) p f in
     covers_pulled_by (picked_station w c).winner l v c
     (some_along (λ s. is_ready w c s ≡ true) (λ s. is_live v s ≡ true) (picked_station w c).winner (λ s h. same_v.live s ∙ left_true (is_live w s) _ h) (pick_ready (station_need w c) (is_ready w c) (rotation w c)))
-    (lawful_same _ _ same_v a) b.placing b.fresh (covers_calm w v (λ q k h. queues_after_pick w c q k h) (session_same w v same_v) (frames_after_pick w c) k)
+    (lawful_same _ _ same_v a) b.placing b.fresh (covers_calm w v (λ q k h. queues_after_pick w c q k h) (session_same w v same_v) (untouched_after_pick w c).frames k)

@@ -29,7 +29,8 @@ use Rattle.wf_laws.proofs.Releases.Released.{side_with_station}
 use Rattle.wf_laws.proofs.Releases.Placed.{Placing, Any, placed_less, placed_settled, placed_without, accepted_with_frame, side_with_frame, IsIdOf, has_ids}
 use Rattle.wf_laws.proofs.Frames.Fewer.{carries, queue_on, less_charged, less_drop_all}
 use Rattle.wf_laws.proofs.Frames.Delivered.{Labelled, labelled_kept}
-use Rattle.wf_laws.proofs.Frames.Fates.{IsHeld, InHand, Carries, ids_in, ids_carried, session_on_queue, frames_on_queue, frames_on_session, frames_with_queues, frames_without, frames_charged, frames_off_lists, frames_with_station, frames_put_in, fate_with_frame, head_gone, held_ids, waiting_member, IsWaiting, Pend, same_purge_queue, less_purge_queue}
+use Rattle.wf_laws.proofs.Frames.Fates.{IsHeld, InHand, Carries, ids_in, ids_carried, session_on_queue, fate_with_frame, head_gone, held_ids, waiting_member, IsWaiting, Pend, same_purge_queue, less_purge_queue}
+use Rattle.wf_laws.proofs.Frames.Untouched.{untouched_on_queue, untouched_on_session, untouched_with_queues, untouched_without, untouched_charged, untouched_off_lists, untouched_with_station, untouched_put_in}
 use Rattle.wf_laws.proofs.Frames.Owners.{IsOwned}
 use Rattle.wf_laws.proofs.Deficits.MildStep.{on_upto}
 use Rattle.wf_laws.proofs.Queues.ShelvedStep.{accepted_limit, accepted_put}
@@ -94,8 +95,8 @@ covers_head (x ∷ rest) l w q e p c =
     let u : World = on_queue w q g in
     let v : World = finish u (Dropped Overlimit) x.id in
     let there : carries (queue w q).items x.id ≡ true = ap (λ (ys : List Item). carries ys x.id) e ∙ or_left (x.id == x.id) (carries rest x.id) (yes_eq x.id x.id refl) in
-    covers_finish (InHand w) (InHand v) u (Dropped Overlimit) x.id (λ d. cc d) (subst (λ (fs : List Frame). x.id < length fs) (sym (frames_on_queue w q g)) (p.queued q x.id there).old)
-    (covers_frames (InHand w) w u (frames_on_queue w q g) c)
+    covers_finish (InHand w) (InHand v) u (Dropped Overlimit) x.id (λ d. cc d) (subst (λ (fs : List Frame). x.id < length fs) (sym (untouched_on_queue w q g).frames) (p.queued q x.id there).old)
+    (covers_frames (InHand w) w u (untouched_on_queue w q g).frames c)
     (λ k other i. elim (hand_queue w q k g i) [
       | inl a ↦ hand_finish u (Dropped Overlimit) x.id k a
       | inr b ↦ elim (either (x.id == k) (carries rest k) (ap (λ (ys : List Item). carries ys k) (sym e) ∙ b)) [
@@ -155,7 +156,7 @@ covers_enqueued l w s t flow len p c =
         | inl e ↦ inl (record { place = q; there = forward q j (subst (λ (n : ℕ). carries (queue (appended u q x) q).items n ≡ true) (sym e) (append_last u q x)) })
         | inr other ↦ (
             let old : j < accepted u = omega (arith, below, accepted_with_frame a note, same_id, accepted_limit l w p, other) in
-            let held : IsHeld u j = sym (ap (λ (fs : List Frame). (at no_frame fs j).fate) (frames_put_in u s t q x)) ∙ (sym (fate_with_frame a note j) ∙ h) in
+            let held : IsHeld u j = sym (ap (λ (fs : List Frame). (at no_frame fs j).fate) (untouched_put_in u s t q x).frames) ∙ (sym (fate_with_frame a note j) ∙ h) in
             hand_same u v j (λ r m. forward r j (append_keeps u q x r j m)) sides (k.covers j old held))
       ];
     }
@@ -172,7 +173,7 @@ covers_slot : (l : List ℕ) (e s t : ℕ) (acked : ℕ → Bool) (w : World) (m
 covers_slot l e s t acked w m ms f fate never same_id n own p c =
     let y : Session = session w s t in
     let v : World = on_session w s t (on_slot m.number f) in
-    let frames : v.frames ≡ w.frames = frames_on_session w s t (on_slot m.number f) in
+    let frames : v.frames ≡ w.frames = (untouched_on_session w s t (on_slot m.number f)).frames in
     let old : (slot y m.number).id < accepted w = (p.numbered s t m.number n.flies.rising.0 n.flies.rising.1).old in
     covers_finish (InHand w) (InHand (finish v fate m.id)) v fate m.id never (subst (λ (fs : List Frame). m.id < length fs) (sym frames) (subst (λ (i : ℕ). i < accepted w) own old))
     (covers_frames (InHand w) w v frames c)
@@ -212,7 +213,7 @@ covers_after (Request g) l w i x heard e f a p c =
 
 covers_without : (w : World) (x : Exchange) → Full w → Full (charged (without_exchange w x.number) x)
 unfolding charged without_exchange on_share
-covers_without w x c = covers_calm w _ (λ q k h. queues_charged w x q k h) (λ s t. session_same _ _ (same_charged (without_exchange w x.number) x) s t ∙ without_same w x.number s t) (frames_charged (without_exchange w x.number) x ∙ frames_without w x.number) c
+covers_without w x c = covers_calm w _ (λ q k h. queues_charged w x q k h) (λ s t. session_same _ _ (same_charged (without_exchange w x.number) x) s t ∙ without_same w x.number s t) ((untouched_charged (without_exchange w x.number) x).frames ∙ (untouched_without w x.number).frames) c
 
 pub covers_ended : (l : List ℕ) (w : World) (i : IsLawful w) (x : Exchange) (heard : Bool) → IsFound w i x → Labelled (session w x.station x.tid) (mpdus_of x.content) → Placing l w → Full w → Full (ended w x heard).world
 unfolding ended
@@ -286,8 +287,8 @@ pend_one l w s ts q p c =
     let ids : List ℕ = ids_in (queue w q).items in
     let v : World = finish_all u (Dropped Left) ids in
     covers_all ids (Pend s ts w) (Pend s ts v) u (Dropped Left) (λ d. cc d)
-    (λ k h. subst (λ (fs : List Frame). k < length fs) (sym (frames_on_queue w q g)) (p.queued q k (sym (ids_carried (queue w q).items k) ∙ h)).old)
-    (covers_frames (Pend s ts w) w u (frames_on_queue w q g) c)
+    (λ k h. subst (λ (fs : List Frame). k < length fs) (sym (untouched_on_queue w q g).frames) (p.queued q k (sym (ids_carried (queue w q).items k) ∙ h)).old)
+    (covers_frames (Pend s ts w) w u (untouched_on_queue w q g).frames c)
     (λ k none i. elim i [
       | inl r ↦ elim (queue_hand w q k g r) [
         | inl b ↦ inl (record { place = b.place; there = queue_rest ids u (Dropped Left) b.place k b.there })
@@ -314,7 +315,7 @@ pend_left l w s t ts p q c =
     let v : World = with_queues b s t no_keys in
     let ka : Covers (Pend s ts a) a = pend_held l w s t ts p q c in
     let kb : Covers (Pend s ts b) b = pend_purged qs l a s ts (placed_less l w a (less_drop_all Any ids w (Dropped Left) (λ e. cc e)) (same_finish_all ids w (Dropped Left)).sides p) ka in
-    covers_frames (Pend s ts v) b v (frames_with_queues b s t no_keys) (covers_more (Pend s ts b) (Pend s ts v) b (λ k i. forward_pend s ts b v k (λ r h. queues_with_queues b s t no_keys r k h) (session_same b v (same_with_queues b s t no_keys)) i) kb)
+    covers_frames (Pend s ts v) b v (untouched_with_queues b s t no_keys).frames (covers_more (Pend s ts b) (Pend s ts v) b (λ k i. forward_pend s ts b v k (λ r h. queues_with_queues b s t no_keys r k h) (session_same b v (same_with_queues b s t no_keys)) i) kb)
 
 pend_all : (ts : List ℕ) (l : List ℕ) (w : World) (s : ℕ) → Placing l w → IsQuiet s w → Covers (Pend s ts w) w → Covers (Pend s [] (left_tids w s ts)) (left_tids w s ts)
 unfolding left_tids
@@ -335,7 +336,7 @@ covers_gone l w s p q o c =
       | inr d ↦ inr (record { spot = d; other = inr (on-has (upto 8) d.tid (on_upto 8 d.tid (o.mine d.station d.tid k d.number d.slot_of).1)) })
     ]) c in
     let k : Covers (Pend s [] a) a = pend_all (upto 8) l w s p q first in
-    let frames : v.frames ≡ a.frames = frames_with_station b s None ∙ frames_off_lists all_classes a s in
+    let frames : v.frames ≡ a.frames = (untouched_with_station b s None).frames ∙ (untouched_off_lists all_classes a s).frames in
     covers_frames (InHand v) a v frames (covers_more (Pend s [] a) (InHand v) a (λ j i. elim i [
       | inl r ↦ inl (record { place = r.place; there = queues_gone a s r.place j r.there })
       | inr d ↦ elim d.other [
@@ -354,7 +355,7 @@ covers_gone l w s p q o c =
 pub covers_joined : (w : World) (s window start exponent weight : ℕ) → is_live w s ≡ false → Full w → Full (joined w s window start exponent weight).world
 unfolding joined
 covers_joined w s window start exponent weight dead c =
-    covers_frames (InHand (with_station w s _)) w _ (frames_with_station w s _) (covers_more (InHand w) (InHand (with_station w s _)) w (λ j i. elim i [
+    covers_frames (InHand (with_station w s _)) w _ (untouched_with_station w s _).frames (covers_more (InHand w) (InHand (with_station w s _)) w (λ j i. elim i [
       | inl r ↦ inl (record { place = r.place; there = queues_with_station w s _ r.place j r.there })
       | inr d ↦ on_bool (s == d.station)
           (λ own.

@@ -323,7 +323,7 @@ unfolding after_done
 less_after (Frames ms) w x heard = less_all ms _ w x.station x.tid _ (λ id k. k)
 less_after (Request f) w x heard = less_on_session _ w x.station x.tid _
 
-less_ended : (w : World) (x : Exchange) (heard : Bool) → Less (AckedAmong (is_acked heard x.answer) (mpdus_of x.content)) w (ended w x heard).world
+pub less_ended : (w : World) (x : Exchange) (heard : Bool) → Less (AckedAmong (is_acked heard x.answer) (mpdus_of x.content)) w (ended w x heard).world
 unfolding ended
 less_ended w x heard = then_less _ _ _ _ (less_without _ w x.number) (then_less _ _ _ _ (less_charged _ _ x) (less_after x.content _ x heard))
 
@@ -428,7 +428,7 @@ unfolding pulled_by
 less_pulled_by None P w c = less P w
 less_pulled_by (Some s) P w c = less_sent P w s _ c _ (then_less P w _ _ (less_after_turn P w s c _) (less_prepared P _ s _))
 
-less_pulled : (P : ℕ → Type 0) (w : World) (c : Class) → Less P w (pulled w c).world
+pub less_pulled : (P : ℕ → Type 0) (w : World) (c : Class) → Less P w (pulled w c).world
 unfolding pulled
 less_pulled P w c = then_less P w _ _ (less_after_pick P w c) (less_pulled_by (picked_station w c).winner P (after_pick w c) c)
 
@@ -446,23 +446,23 @@ less_with_station : (P : ℕ → Type 0) (w : World) (s : ℕ) (o : Option Stati
 unfolding with_station
 less_with_station P w s o = less_plain P w _ refl refl
 
-less_gone : (P : ℕ → Type 0) (w : World) (s : ℕ) → Less P w (gone w s).world
+pub less_gone : (P : ℕ → Type 0) (w : World) (s : ℕ) → Less P w (gone w s).world
 unfolding gone
 less_gone P w s = then_less P w _ _ (then_less P _ _ _ (less_left_tids (upto 8) P w s) (less_off_lists all_classes P _ s)) (less_with_station P _ s None)
 
-less_joined : (P : ℕ → Type 0) (w : World) (s window start exponent weight : ℕ) → Less P w (joined w s window start exponent weight).world
+pub less_joined : (P : ℕ → Type 0) (w : World) (s window start exponent weight : ℕ) → Less P w (joined w s window start exponent weight).world
 unfolding joined
 less_joined P w s window start exponent weight = less_with_station P w s _
 
-less_arrived : (P : ℕ → Type 0) (w : World) (x : Exchange) (n : ℕ) → Less P w (arrived w x n).world
+pub less_arrived : (P : ℕ → Type 0) (w : World) (x : Exchange) (n : ℕ) → Less P w (arrived w x n).world
 unfolding arrived with_exchange
 less_arrived P w x n = then_less P w _ _ (less_on_receiver P w x.station x.tid _) (less_plain P _ _ refl refl)
 
-less_answered : (P : ℕ → Type 0) (w : World) (x : Exchange) → Less P w (answered w x).world
+pub less_answered : (P : ℕ → Type 0) (w : World) (x : Exchange) → Less P w (answered w x).world
 unfolding answered with_exchange
 less_answered P w x = less_plain P w _ refl refl
 
-less_reaped : (ids : List ℕ) (P : ℕ → Type 0) (w : World) → Less P w (reaped w ids).world
+pub less_reaped : (ids : List ℕ) (P : ℕ → Type 0) (w : World) → Less P w (reaped w ids).world
 unfolding reaped
 less_reaped [] P w = less P w
 less_reaped (id ∷ ids) P w = less_plain P w _ refl refl

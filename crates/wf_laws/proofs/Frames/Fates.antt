@@ -6,14 +6,14 @@ use Rattle.wf_frame.specs.declared.classes.Fate.{Fate}
 use Rattle.wf_rules.specs.Table.{at, has, upto}
 use Rattle.wf_rules.specs.Codel.{Item, Params, Codel, new_codel, Dequeued, dequeue}
 use Rattle.wf_laws.proofs.Common.Dequeues.{giving_none, giving_head, dropping_first, each_dequeue}
-use Rattle.wf_rules.specs.Rotation.{Rotation, in_order}
+use Rattle.wf_rules.specs.Rotation.{in_order}
 use Rattle.wf_rules.specs.Receiver.{Receiver}
 use Rattle.wf_rules.specs.Session.{is_waiting, request_due, waiting_numbers, with_state, Session, Slot, State, is_settled, is_failed, missed_slot, slot, on_slot, give, missed, new_session, next_number}
-use Rattle.wf_world.specs.World.{World, Station, Share, Queue, Exchange, Mpdu, Content, Frames, Request, new_tid, no_tid, rotation, session, tid_of, is_live, exchange, with_station, on_station, on_tid, on_session, on_receiver, with_queues, on_share, on_queue, with_rotation, with_fate, finish, finish_all, with_exchange, without_exchange, opening}
+use Rattle.wf_world.specs.World.{World, Station, Share, Queue, Exchange, Mpdu, Content, Frames, Request, new_tid, no_tid, rotation, session, tid_of, is_live, exchange, with_station, on_station, on_tid, on_session, on_receiver, with_queues, on_share, on_queue, with_fate, finish, finish_all, with_exchange, without_exchange, opening}
 use Rattle.wf_frame.specs.Classes.{all_classes}
-use Rattle.wf_world.specs.FlowQueues.{without_head, within_limit, listed_queue, appended, put_in, pay_queues, dequeued, taken_from, take, purge_queue, purge_queues}
-use Rattle.wf_world.specs.CanSend.{is_ready, listed_in, listed_in_all, listed, can_give}
-use Rattle.wf_world.specs.Exchanges.{is_acked, station_need, most_frames, picked_station, after_arrival, exchange_of, sending_tid, heard_start, Filled, Prepared, mpdus_of, pay_station, pay_stations, after_pick, after_turn, with_fresh, filled, with_number, numbers_fly, waiting_mpdus, longest_fitting, spent, prepared_frames, prepared, opening_exchange, charged, settled_slot, settled, all_settled, after_done}
+use Rattle.wf_world.specs.FlowQueues.{without_head, within_limit, appended, put_in, pay_queues, dequeued, taken_from, take, purge_queue, purge_queues}
+use Rattle.wf_world.specs.CanSend.{is_ready, listed, can_give}
+use Rattle.wf_world.specs.Exchanges.{is_acked, station_need, most_frames, picked_station, after_arrival, exchange_of, sending_tid, heard_start, Filled, Prepared, mpdus_of, after_pick, after_turn, with_fresh, filled, with_number, numbers_fly, waiting_mpdus, longest_fitting, spent, prepared_frames, prepared, opening_exchange, charged, settled_slot, settled, all_settled, after_done}
 use Rattle.wf_frame.specs.declared.notes.Ask.TheVariants.{Join, Leave, Rate, Tick, Pull, Arrive, Answer, Done, Sleep, Wake, Poll, Rx, Reap}
 use Rattle.wf_frame.specs.declared.notes.Note.{Note}
 use Rattle.wf_frame.specs.declared.notes.Note.TheVariants.{Enqueue, Asked}
@@ -22,6 +22,14 @@ use Rattle.wf_frame.specs.declared.notes.Refusal.TheVariants.{Idle}
 use Rattle.wf_world.specs.Refusals.{refusal}
 use Rattle.wf_world.specs.Step.{Outcome, joined, left_tid, left_tids, off_lists, gone, with_rate, ticked, with_frame, enqueued, sent, pulled_by, pulled, arrived, answered, ended, on_open, slept, woken, credited, received, reaped, done, refused, answer, step}
 use Rattle.wf_world.specs.Run.{Entry, world_after}
+use Rattle.std.proofs.Common.{is_none, count_by}
+use Rattle.std.proofs.lemmas.List.{length-append}
+use Rattle.std.proofs.lemmas.List.Sums.{sum_by-append}
+use Rattle.wf_world.specs.World.{inside, is_held}
+use Rattle.wf_world.specs.Refusals.{refusals}
+use Rattle.wf_laws.proofs.Windows.Opened.{NoRow, no_row}
+use Rattle.wf_laws.proofs.Common.Sums.{sum_put_within, length_put}
+use Rattle.wf_laws.proofs.Frames.Untouched.{Untouched, untouched, then_untouched, untouched_on_session, untouched_on_queue, untouched_pay_queues, untouched_with_queues, untouched_spent, untouched_after_turn, untouched_after_pick, untouched_without, untouched_charged, untouched_put_in, untouched_off_lists, untouched_with_station, untouched_on_station, untouched_on_receiver, untouched_listed}
 use Rattle.wf_laws.proofs.Common.Tables.{each_put}
 use Rattle.wf_laws.proofs.Sessions.Flights.{AllIn, Rises, all_in_later, next-give}
 use Rattle.wf_laws.proofs.Common.Numbers.{Climbs, climbs_from, on_bool, on_if, lt_yes, lt_no, eq_yes, eq_no, yes_eq, not_eq, either, or_left, or_right, climbs_at}
@@ -52,23 +60,52 @@ use Rattle.wf_laws.specs.Lists.{IsOnce}
 use Rattle.wf_laws.specs.Releases.{named_by, named_from}
 use Rattle.wf_laws.proofs.Windows.Agreed.{IsLawful, IsReady, IsEnding, IsFound, found, ready_filled, ending_settled, ending_of, lawful_same, lawful_step, lawful_at_first, session_same, session_on_session, same_off_lists}
 use Rattle.wf_laws.proofs.Frames.Fewer.{Ordered, carries, carries_from, Fewer, Less, then_less, less_plain, less_on_station, less_on_session, less_on_queue, less_with_queues, less_pay_queues, less_after_pick, less_after_turn, less_spent, less_listed, less_charged, fewer_tail, less_drop_all, less_purge_queues, less_finish, less_take, given_take, less_dequeued, queue_on, queues_dropped, right_dequeue}
-use Rattle.wf_laws.proofs.Releases.Placed.{Queued, Numbered, Placing, Any, placed_less, placed_number, placed_frames, placed_session, placed_enqueued, placed_without, next-heard, queue_appended, less_put_in, less_with_frame, side_with_frame, less_with_station, less_off_lists, placed_gone, placed_joined, placed_step, once_ids, has_ids, IsIdOf, placed_at_first, slot_new_id}
+use Rattle.wf_laws.proofs.Releases.Placed.{Queued, Numbered, Placing, Any, placed_less, placed_number, placed_frames, placed_session, placed_without, next-heard, queue_appended, less_put_in, less_with_frame, side_with_frame, less_with_station, less_off_lists, placed_gone, placed_joined, placed_step, once_ids, has_ids, IsIdOf, placed_at_first, slot_new_id}
 
 abbrev pub IsHeld : World → ℕ → Type 0
 IsHeld w k = (frame w k).fate ≡ Held
 
+-- a frame that is not held keeps its fate
+pub record Remains (w v : World) : Type 0 where
+  pub remains : (k : ℕ) → IsHeld w k ⊎ ((frame v k).fate ≡ (frame w k).fate)
+
+-- and no frame is accepted or reaped: only held frames get a fate, and each goes on the finished list
 pub record Stays (w v : World) : Type 0 where
   pub stays : (k : ℕ) → IsHeld w k ⊎ ((frame v k).fate ≡ (frame w k).fate)
+  pub accepted : accepted v ≡ accepted w
+  pub inside : inside v ≡ inside w
 
 -- the frames that P names are held
 pub record HeldOn (P : ℕ → Type 0) (w : World) : Type 0 where
   pub held : (k : ℕ) → P k → IsHeld w k
 
-stays_frames : (w v : World) → v.frames ≡ w.frames → Stays w v
-stays_frames w v e = record { stays = λ k. inr (ap (λ (fs : List Frame). (at no_frame fs k).fate) e) }
+inside_same : (w v : World) → Untouched w v → inside v ≡ inside w
+inside_same w v u = omega (arith, ap (λ (fs : List Frame). count_by (λ f. is_held f.fate) fs) u.frames, ap (length {A = ℕ}) u.finished)
+
+fate_same : (w v : World) → v.frames ≡ w.frames → (k : ℕ) → (frame v k).fate ≡ (frame w k).fate
+fate_same w v e k = ap (λ (fs : List Frame). (at no_frame fs k).fate) e
+
+old_same : (w v : World) (k : ℕ) → Untouched w v → k < accepted w → k < accepted v
+old_same w v k u h = omega (arith, h, ap (length {A = Frame}) u.frames)
+
+stays_same : (w v : World) → Untouched w v → Stays w v
+stays_same w v u = record { stays = λ k. inr (fate_same w v u.frames k); accepted = ap (length {A = Frame}) u.frames; inside = inside_same w v u }
+
+remains_same : (w v : World) → v.frames ≡ w.frames → Remains w v
+remains_same w v e = record { remains = λ k. inr (fate_same w v e k) }
+
+remains_of : (w v : World) → Stays w v → Remains w v
+remains_of w v h = record { remains = h.stays }
+
+then_remains : (u v w : World) → Remains u v → Remains v w → Remains u w
+then_remains u v w h k = record { remains = λ n. elim (h.remains n) [ inl a ↦ inl a | inr b ↦ elim (k.remains n) [ inl c ↦ inl (sym b ∙ c) | inr d ↦ inr (d ∙ b) ] ] }
 
 then_stays : (u v w : World) → Stays u v → Stays v w → Stays u w
-then_stays u v w h k = record { stays = λ n. elim (h.stays n) [ inl a ↦ inl a | inr b ↦ elim (k.stays n) [ inl c ↦ inl (sym b ∙ c) | inr d ↦ inr (d ∙ b) ] ] }
+then_stays u v w h k = record {
+  stays = (then_remains u v w (remains_of u v h) (remains_of v w k)).remains;
+  accepted = k.accepted ∙ h.accepted;
+  inside = k.inside ∙ h.inside;
+}
 
 held_frames : (P : ℕ → Type 0) (w v : World) → v.frames ≡ w.frames → HeldOn P w → HeldOn P v
 held_frames P w v e h = record { held = λ k p. ap (λ (fs : List Frame). (at no_frame fs k).fate) e ∙ h.held k p }
@@ -76,10 +113,23 @@ held_frames P w v e h = record { held = λ k p. ap (λ (fs : List Frame). (at no
 held_less : (P Q : ℕ → Type 0) (w : World) → ((k : ℕ) → Q k → P k) → HeldOn P w → HeldOn Q w
 held_less P Q w f h = record { held = λ k q. h.held k (f k q) }
 
-stays_finish : (w : World) (fate : Fate) (id : ℕ) → IsHeld w id → Stays w (finish w fate id)
+abbrev as_one : Bool → ℕ
+as_one b = if b then 1 else 0
+
+inside_finish : (w : World) (fate : Fate) (id : ℕ) → id < accepted w → IsHeld w id → is_held fate ≡ false → inside (finish w fate id) ≡ inside w
 unfolding finish with_fate
-stays_finish w fate id h = record {
+inside_finish w fate id old h settles =
+    let sums = sum_put_within (λ (f : Frame). if is_held f.fate then 1 else 0) no_frame w.frames id (record (frame w id) { fate = fate }) old in
+    let was : as_one (is_held (frame w id).fate) ≡ 1 = ap (λ (z : Fate). as_one (is_held z)) h in
+    let is : as_one (is_held fate) ≡ 0 = ap as_one settles in
+    omega (arith, sums, was, is, length-append w.finished (id ∷ []))
+
+stays_finish : (w : World) (fate : Fate) (id : ℕ) → id < accepted w → IsHeld w id → is_held fate ≡ false → Stays w (finish w fate id)
+unfolding finish with_fate
+stays_finish w fate id old h settles = record {
   stays = λ k. each_put (λ j x. j ≡ k → IsHeld w k ⊎ (x.fate ≡ (frame w k).fate)) no_frame w.frames id _ (λ j e. inr (ap (λ (i : ℕ). (frame w i).fate) e)) (λ e. inl (subst (IsHeld w) e h)) k refl;
+  accepted = length_put no_frame w.frames id _ old;
+  inside = inside_finish w fate id old h settles;
 }
 
 held_finish : (P Q : ℕ → Type 0) (w : World) (fate : Fate) (id : ℕ) → HeldOn P w → ((k : ℕ) → Q k → P k × (k ≢ id)) → HeldOn Q (finish w fate id)
@@ -93,20 +143,22 @@ record Finished (Q : ℕ → Type 0) (w v : World) : Type 0 where
   held : HeldOn Q v
 
 -- different held frames get a fate
-finish_ids : (ids : List ℕ) (P Q : ℕ → Type 0) (w : World) (fate : Fate) → HeldOn P w → IsOnce ids → ((k : ℕ) → has ids k ≡ true → P k) → ((k : ℕ) → Q k → P k × (has ids k ≡ false)) → Finished Q w (finish_all w fate ids)
+finish_ids : (ids : List ℕ) (P Q : ℕ → Type 0) (w : World) (fate : Fate) → is_held fate ≡ false → HeldOn P w → IsOnce ids → ((k : ℕ) → has ids k ≡ true → P k × (k < accepted w)) → ((k : ℕ) → Q k → P k × (has ids k ≡ false)) → Finished Q w (finish_all w fate ids)
 unfolding finish_all
-finish_ids [] P Q w fate h once own apart = record { stays = stays_frames w w refl; held = held_less P Q w (λ k q. (apart k q).0) h }
-finish_ids (x ∷ xs) P Q w fate h once own apart =
+finish_ids [] P Q w fate settles h once own apart = record { stays = stays_same w w (untouched w); held = held_less P Q w (λ k q. (apart k q).0) h }
+finish_ids (x ∷ xs) P Q w fate settles h once own apart =
+    let first = own x (or_left (x == x) (has xs x) (yes_eq x x refl)) in
+    let one : Stays w (finish w fate x) = stays_finish w fate x first.1 (h.held x first.0) settles in
     let rest : Finished Q (finish w fate x) (finish_all (finish w fate x) fate xs) =
-    finish_ids xs (λ k. P k × (k ≢ x)) Q (finish w fate x) fate
+    finish_ids xs (λ k. P k × (k ≢ x)) Q (finish w fate x) fate settles
     (held_finish P (λ k. P k × (k ≢ x)) w fate x h (λ k q. q)) once.1
-    (λ k e. (own k (or_right (x == k) (has xs k) e), (λ d. cc (e, once.0, ap (has xs) d))))
+    (λ k e. let o = own k (or_right (x == k) (has xs k) e) in ((o.0, (λ d. cc (e, once.0, ap (has xs) d))), omega (arith, o.1, one.accepted)))
     (λ k q.
     let a = apart k q in
     let n = neither (x == k) (has xs k) a.1 in
     ((a.0, (λ d. cc (n.0, yes_eq x k (sym d)))), n.1))
     in
-    record { stays = then_stays w _ _ (stays_finish w fate x (h.held x (own x (or_left (x == x) (has xs x) (yes_eq x x refl))))) rest.stays; held = rest.held }
+    record { stays = then_stays w _ _ one rest.stays; held = rest.held }
   where
     neither : (a b : Bool) → (a || b) ≡ false → (a ≡ false) × (b ≡ false)
     neither true b h = absurd (cc h)
@@ -163,12 +215,8 @@ in_hand_session w s t f u k i = elim i [
   | inr a ↦ inr (at_slot_on w s t f k (AtSlot w k) (λ i j n c. record { station = i; tid = j; number = n; slot_of = c }) (λ n c. record { station = s; tid = t; number = n; slot_of = u.was k n c }) a)
 ]
 
-pub frames_on_session : (w : World) (s t : ℕ) (f : Session → Session) → (on_session w s t f).frames ≡ w.frames
-unfolding on_session on_tid on_station with_station
-frames_on_session w s t f = refl
-
 fresh_session : (w : World) (s t : ℕ) (f : Session → Session) → Unsettles (session w s t) (f (session w s t)) → Fresh w → Fresh (on_session w s t f)
-fresh_session w s t f u h = held_frames (InHand (on_session w s t f)) w _ (frames_on_session w s t f) (held_less (InHand w) (InHand (on_session w s t f)) w (λ k i. in_hand_session w s t f u k i) h)
+fresh_session w s t f u h = held_frames (InHand (on_session w s t f)) w _ (untouched_on_session w s t f).frames (held_less (InHand w) (InHand (on_session w s t f)) w (λ k i. in_hand_session w s t f u k i) h)
 
 pub unsettles_on_slot : (y : Session) (m : ℕ) (f : Slot → Slot) → y.first ≤ m → is_settled (slot y m).state ≡ false → ((x : Slot) → (f x).id ≡ x.id) → Unsettles y (on_slot m f y)
 unsettles_on_slot y m f l h same_id = record {
@@ -262,10 +310,6 @@ given_of : (o : Option Item) (ys : List Item) (ds : List ℕ) (k : ℕ) → IfSo
 given_of None ys ds k h g = absurd g
 given_of (Some x) ys ds k h g = (ap (has ds) g ∙ h.0, ap (carries ys) g ∙ h.1)
 
-pub frames_on_queue : (w : World) (q : ℕ) (f : Queue → Queue) → (on_queue w q f).frames ≡ w.frames
-unfolding on_queue
-frames_on_queue w q f = refl
-
 pub session_on_queue : (w : World) (q : ℕ) (f : Queue → Queue) (s t : ℕ) → session (on_queue w q f) s t ≡ session w s t
 unfolding on_queue
 session_on_queue w q f s t = refl
@@ -295,10 +339,10 @@ then_safe : (l : List ℕ) (u v w : World) → Stays u v → Safe l v w → Safe
 then_safe l u v w h k = record { placing = k.placing; fresh = k.fresh; stays = then_stays u v w h k.stays }
 
 safe_here : (l : List ℕ) (w : World) → Placing l w → Fresh w → Safe l w w
-safe_here l w p h = record { placing = p; fresh = h; stays = stays_frames w w refl }
+safe_here l w p h = record { placing = p; fresh = h; stays = stays_same w w (untouched w) }
 
-pub safe_calm : (l : List ℕ) (w v : World) → Less Any w v → Same w v → v.frames ≡ w.frames → Placing l w → Fresh w → Safe l w v
-safe_calm l w v h k e p f = record { placing = placed_less l w v h k.sides p; fresh = fresh_calm w v h (session_same w v k) e f; stays = stays_frames w v e }
+pub safe_calm : (l : List ℕ) (w v : World) → Less Any w v → Same w v → Untouched w v → Placing l w → Fresh w → Safe l w v
+safe_calm l w v h k e p f = record { placing = placed_less l w v h k.sides p; fresh = fresh_calm w v h (session_same w v k) e.frames f; stays = stays_same w v e }
 
 same_taken_from_some : (w : World) (q : ℕ) (d : Dequeued) → Same w (dequeued w q d).world
 unfolding dequeued
@@ -312,14 +356,14 @@ safe_dequeued l w q d p right h same_sides f =
     let v : World = finish_all u (Dropped By_codel) (map (λ x. x.id) d.dropped) in
     let items : (queue v q).items ≡ d.rest = ap (λ (qs : List Queue). (at new_queue qs q).items) (queues_dropped (map (λ x. x.id) d.dropped) u (Dropped By_codel)) ∙ ap (λ (y : Queue). y.items) (queue_on w q g) in
     let r : Finished (λ k. InHand v k ⊎ IsGivenId d.given k) u v =
-    finish_ids (ids_in d.dropped) (InHand w) (λ k. InHand v k ⊎ IsGivenId d.given k) u (Dropped By_codel) (held_frames (InHand w) w u (frames_on_queue w q g) f) right.once
-    (λ k e. inl (record { place = q; there = right.there k e }))
+    finish_ids (ids_in d.dropped) (InHand w) (λ k. InHand v k ⊎ IsGivenId d.given k) u (Dropped By_codel) refl (held_frames (InHand w) w u (untouched_on_queue w q g).frames f) right.once
+    (λ k e. (inl (record { place = q; there = right.there k e }), old_same w u k (untouched_on_queue w q g) (p.queued q k (right.there k e)).old))
     (λ k i. elim i [
       | inl c ↦ (in_hand_less w v k h (session_same w v same_sides) c, on_bool (has (ids_in d.dropped) k) (λ e. absurd (in_place l w v p q k h (session_same w v same_sides) (right.there k e) (ap (λ (ys : List Item). carries ys k) items ∙ right.gone k e) c)) (λ e. e))
       | inr c ↦ (let a = given_of d.given (queue w q).items (ids_in d.dropped) k right.given c in (inl (record { place = q; there = a.1 }), a.0))
     ])
     in
-    record { stays = then_stays w u v (stays_frames w u (frames_on_queue w q g)) r.stays; held = r.held }
+    record { stays = then_stays w u v (stays_same w u (untouched_on_queue w q g)) r.stays; held = r.held }
 
 pub given_dequeued-is : (w : World) (q : ℕ) (d : Dequeued) → (dequeued w q d).item ≡ d.given
 unfolding dequeued
@@ -327,20 +371,11 @@ given_dequeued-is w q d = refl
 
 safe_taken_from : (o : Option ℕ) (l : List ℕ) (w : World) (s : ℕ) → Placing l w → Fresh w → Finished (λ k. InHand (taken_from w s o).world k ⊎ IsGivenId (taken_from w s o).item k) w (taken_from w s o).world
 unfolding taken_from
-safe_taken_from None l w s p f = record { stays = stays_frames w w refl; held = record { held = λ k i. elim i [ inl a ↦ f.held k a | inr b ↦ absurd b ] } }
+safe_taken_from None l w s p f = record { stays = stays_same w w (untouched w); held = record { held = λ k i. elim i [ inl a ↦ f.held k a | inr b ↦ absurd b ] } }
 safe_taken_from (Some q) l w s p f =
     let d : Dequeued = dequeue (params w s) w.clock (queue w q).codel (queue w q).items in
     subst (λ (o : Option Item). Finished (λ k. InHand (dequeued w q d).world k ⊎ IsGivenId o k) w (dequeued w q d).world) (sym (given_dequeued-is w q d))
     (safe_dequeued l w q d p (dropped_dequeue (queue w q).items (params w s) w.clock (queue w q).codel 0 (p.ordered q)) (less_dequeued Any w q d (right_dequeue (queue w q).items (params w s) w.clock (queue w q).codel)) (same_taken_from_some w q d) f)
-
-pub frames_pay_queues : (qs : List ℕ) (w : World) (quanta : ℕ → ℕ) → (pay_queues w quanta qs).frames ≡ w.frames
-unfolding pay_queues
-frames_pay_queues [] w quanta = refl
-frames_pay_queues (q ∷ qs) w quanta = frames_pay_queues qs _ quanta ∙ frames_on_queue w q _
-
-pub frames_with_queues : (w : World) (s t : ℕ) (r : Rotation) → (with_queues w s t r).frames ≡ w.frames
-unfolding with_queues on_tid on_station with_station
-frames_with_queues w s t r = refl
 
 safe_take : (l : List ℕ) (w : World) (s t : ℕ) → Placing l w → Fresh w → Finished (λ k. InHand (take w s t).world k ⊎ IsGivenId (take w s t).item k) w (take w s t).world
 unfolding take
@@ -350,7 +385,7 @@ safe_take l w s t p f =
     let u : World = with_queues a s t (picked_queue w s t).lists in
     let h : Less Any w u = then_less Any w a u (less_pay_queues Any ks w _) (less_with_queues Any a s t _) in
     let k : Same w u = then_same w a u (same_pay_queues ks w _) (same_with_queues a s t _) in
-    let e : u.frames ≡ w.frames = frames_with_queues a s t _ ∙ frames_pay_queues ks w _ in
+    let e : Untouched w u = then_untouched w a u (untouched_pay_queues ks w _) (untouched_with_queues a s t _) in
     let b : Safe l w u = safe_calm l w u h k e p f in
     let r = safe_taken_from (picked_queue w s t).winner l u s b.placing b.fresh in
     record { stays = then_stays w u _ b.stays r.stays; held = r.held }
@@ -358,7 +393,7 @@ safe_take l w s t p f =
 fresh_give : (w : World) (s t id : ℕ) → HeldOn (λ k. InHand w k ⊎ (k ≡ id)) w → Fresh (on_session w s t (λ y. give y id))
 fresh_give w s t id h =
     let y : Session = session w s t in
-    held_frames (InHand (on_session w s t (λ y. give y id))) w _ (frames_on_session w s t _) (held_less (λ k. InHand w k ⊎ (k ≡ id)) (InHand (on_session w s t (λ y. give y id))) w (λ k i. elim i [
+    held_frames (InHand (on_session w s t (λ y. give y id))) w _ (untouched_on_session w s t _).frames (held_less (λ k. InHand w k ⊎ (k ≡ id)) (InHand (on_session w s t (λ y. give y id))) w (λ k i. elim i [
       | inl q ↦ inl (inl (in_queue_less w _ k (less_on_session Any w s t _) q))
       | inr a ↦ at_slot_on w s t (λ y. give y id) k (InHand w k ⊎ (k ≡ id)) (λ i j n c. inl (inr (record { station = i; tid = j; number = n; slot_of = c })))
           (λ n c. on_bool (nat_lt n (next_number y))
@@ -375,8 +410,8 @@ fresh_number (Some x) w s t h = fresh_give w s t x.id h
 
 stays_number : (o : Option Item) (w : World) (s t : ℕ) → Stays w (with_number w s t o)
 unfolding with_number
-stays_number None w s t = stays_frames w w refl
-stays_number (Some x) w s t = stays_frames w _ (frames_on_session w s t _)
+stays_number None w s t = stays_same w w (untouched w)
+stays_number (Some x) w s t = stays_same w _ (untouched_on_session w s t _)
 
 pub safe_numbered : (l : List ℕ) (w : World) (s t : ℕ) → Placing l w → Fresh w → Safe l w (with_number (take w s t).world s t (take w s t).item)
 safe_numbered l w s t p f =
@@ -412,7 +447,7 @@ frames_fresh s t f h = h
 
 frames_stays : (s t : ℕ) (f : Filled) → Stays f.world (prepared_frames s t f).world
 unfolding prepared_frames
-frames_stays s t f = stays_frames f.world _ (frames_on_session f.world s t _)
+frames_stays s t f = stays_same f.world _ (untouched_on_session f.world s t _)
 
 safe_frames : (l : List ℕ) (w : World) (s t : ℕ) (f : Filled) → IsReady s t f.world f.mpdus → Safe l w f.world → Safe l w (prepared_frames s t f).world
 safe_frames l w s t f r k =
@@ -431,23 +466,6 @@ safe_prepared : (l : List ℕ) (w : World) (s t : ℕ) → IsLawful w → is_liv
 unfolding prepared
 safe_prepared l w s t i live p f = safe_prepared_if (request_due (session w s t)) l w _ _ (safe_here l w p f) (λ quiet. safe_frames l w s t (filled w s t) (ready_filled w s t i live quiet) (safe_filled l w s t p f))
 
-pub frames_spent : (w : World) (s : ℕ) → (spent w s).frames ≡ w.frames
-unfolding spent on_station with_station
-frames_spent w s = refl
-
-pub frames_after_turn : (w : World) (s : ℕ) (c : Class) (t : ℕ) → (after_turn w s c t).frames ≡ w.frames
-unfolding after_turn on_share on_station with_station
-frames_after_turn w s c t = refl
-
-frames_pay_stations : (ss : List ℕ) (w : World) (c : Class) (quanta : ℕ → ℕ) → (pay_stations w c quanta ss).frames ≡ w.frames
-unfolding pay_stations pay_station on_share on_station with_station
-frames_pay_stations [] w c quanta = refl
-frames_pay_stations (s ∷ ss) w c quanta = frames_pay_stations ss _ c quanta
-
-pub frames_after_pick : (w : World) (c : Class) → (after_pick w c).frames ≡ w.frames
-unfolding after_pick with_rotation
-frames_after_pick w c = frames_pay_stations (in_order (rotation w c)) w c _
-
 safe_sent : (l : List ℕ) (w : World) (s t : ℕ) (c : Class) (q : Prepared) → Safe l w q.world → Safe l w (sent s t c q).world
 unfolding sent opening_exchange
 safe_sent l w s t c q k =
@@ -455,7 +473,7 @@ safe_sent l w s t c q k =
     let u : World = record q.world { exchanges = q.world.exchanges + 1; opened = q.world.opened ++ x ∷ [] } in
     let a : Placing l u = placed_less l q.world u (less_plain Any q.world u refl refl) (λ i j. refl) k.placing in
     let b : Fresh u = fresh_calm q.world u (less_plain Any q.world u refl refl) (λ i j. refl) refl k.fresh in
-    then_safe l w u _ (then_stays w q.world u k.stays (stays_frames q.world u refl)) (safe_calm l u (spent u s) (less_spent Any u s) (same_spent u s) (frames_spent u s) a b)
+    then_safe l w u _ (then_stays w q.world u k.stays (stays_same q.world u (record { frames = refl; finished = refl }))) (safe_calm l u (spent u s) (less_spent Any u s) (same_spent u s) (untouched_spent u s) a b)
 
 safe_pulled_by : (o : Option ℕ) (l : List ℕ) (w : World) (c : Class) → IfSome o (λ s. is_live w s ≡ true) → IsLawful w → Placing l w → Fresh w → Safe l w (pulled_by w c o).world
 unfolding pulled_by
@@ -463,7 +481,7 @@ safe_pulled_by None l w c live i p f = safe_here l w p f
 safe_pulled_by (Some s) l w c live i p f =
     let v : World = after_turn w s c (sending_tid w s c) in
     let k : Same w v = same_after_turn w s c (sending_tid w s c) in
-    let a : Safe l w v = safe_calm l w v (less_after_turn Any w s c _) k (frames_after_turn w s c _) p f in
+    let a : Safe l w v = safe_calm l w v (less_after_turn Any w s c _) k (untouched_after_turn w s c _) p f in
     safe_sent l w s _ c _ (then_safe l w v _ a.stays (safe_prepared l v s _ (lawful_same _ _ k i) (k.live s ∙ live) a.placing a.fresh))
 
 safe_pulled : (l : List ℕ) (w : World) (c : Class) → IsLawful w → Placing l w → Fresh w → Safe l w (pulled w c).world
@@ -471,7 +489,7 @@ unfolding pulled
 safe_pulled l w c i p f =
     let v : World = after_pick w c in
     let k : Same w v = same_after_pick w c in
-    let a : Safe l w v = safe_calm l w v (less_after_pick Any w c) k (frames_after_pick w c) p f in
+    let a : Safe l w v = safe_calm l w v (less_after_pick Any w c) k (untouched_after_pick w c) p f in
     then_safe l w v _ a.stays (safe_pulled_by (picked_station w c).winner l v c (some_along (λ s. is_ready w c s ≡ true) (λ s. is_live v s ≡ true) (picked_station w c).winner (λ s h. k.live s ∙ left_true (is_live w s) _ h) (pick_ready (station_need w c) (is_ready w c) (rotation w c))) (lawful_same _ _ k i) a.placing a.fresh)
 
 -- ---- the end of an exchange
@@ -493,8 +511,8 @@ settled_not_in_hand l w p s t n id from below e settled i =
     ]
 
 -- a number that was settled just now: its frame gets its fate
-safe_finish : (l : List ℕ) (w : World) (s t n id : ℕ) (fate : Fate) → Placing l w → Fresh w → IsHeld w id → (session w s t).first ≤ n → n < next_number (session w s t) → (slot (session w s t) n).id ≡ id → is_settled (slot (session w s t) n).state ≡ true → Safe l w (finish w fate id)
-safe_finish l w s t n id fate p f held from below e settled =
+safe_finish : (l : List ℕ) (w : World) (s t n id : ℕ) (fate : Fate) → is_held fate ≡ false → Placing l w → Fresh w → IsHeld w id → (session w s t).first ≤ n → n < next_number (session w s t) → (slot (session w s t) n).id ≡ id → is_settled (slot (session w s t) n).state ≡ true → Safe l w (finish w fate id)
+safe_finish l w s t n id fate settles p f held from below e settled =
     let v : World = finish w fate id in
     let k : Same w v = same_finish w fate id in
     let h : Less Any w v = less_finish Any w fate id (λ _. tt) in
@@ -503,7 +521,7 @@ safe_finish l w s t n id fate p f held from below e settled =
       fresh = held_finish (InHand w) (InHand v) w fate id f (λ i c.
           let a : InHand w i = in_hand_less w v i h (session_same w v k) c in
           (a, (λ d. settled_not_in_hand l w p s t n id from below e settled (subst (InHand w) d a))));
-      stays = stays_finish w fate id held;
+      stays = stays_finish w fate id (subst (λ (k : ℕ). k < accepted w) e (p.numbered s t n from below).old) held settles;
     }
 
 safe_if : (b : Bool) (l : List ℕ) (w u v : World) → (b ≡ true → Safe l w u) → (b ≡ false → Safe l w v) → Safe l w (if b then u else v)
@@ -534,15 +552,15 @@ stopped l e s t acked w m ms f same_id n own p h =
     let below : m.number < next_number y = n.flies.rising.1 in
     let unsettled : is_settled (slot y m.number).state ≡ false = ap is_settled n.flies.flying.0 in
     let d : session v s t ≡ z = session_on_session w s t (on_slot m.number f) n.live in
-    let frames : v.frames ≡ w.frames = frames_on_session w s t _ in
+    let calm : Untouched w v = untouched_on_session w s t _ in
     let next : next_number z ≡ next_number y = next-on_slot y m.number f unsettled in
     record {
       safe = record {
         placing = placed_session l w s t (on_slot m.number f) (kept_on_slot y m.number f same_id) next p;
         fresh = fresh_session w s t (on_slot m.number f) (unsettles_on_slot y m.number f from unsettled same_id) h;
-        stays = stays_frames w v frames;
+        stays = stays_same w v calm;
       };
-      held = ap (λ (fs : List Frame). (at no_frame fs m.id).fate) frames ∙ h.held m.id (inr (record { station = s; tid = t; number = m.number; slot_of = record { from = from; below = below; unsettled = unsettled; id = own } }));
+      held = fate_same w v calm.frames m.id ∙ h.held m.id (inr (record { station = s; tid = t; number = m.number; slot_of = record { from = from; below = below; unsettled = unsettled; id = own } }));
       from = omega (arith, from, ap (λ (u : Session). u.first) d);
       below = omega (arith, below, next, ap next_number d);
       id = ap (λ (u : Session). (slot u m.number).id) d ∙ ap (λ (x : Slot). x.id) (slot_same y m.number f) ∙ same_id (slot y m.number) ∙ own;
@@ -554,12 +572,12 @@ unfolding settled settled_slot
 safe_settled true l e s t acked w m ms n own p h =
     let v : World = on_session w s t (with_state State.Acked m.number) in
     let k : IsStopped l w v s t m (λ x. record x { state = State.Acked }) = stopped l e s t acked w m ms (λ x. record x { state = State.Acked }) (λ x. refl) n own p h in
-    then_safe l w v _ k.safe.stays (safe_finish l v s t m.number m.id _ k.safe.placing k.safe.fresh k.held k.from k.below k.id (ap is_settled k.state))
+    then_safe l w v _ k.safe.stays (safe_finish l v s t m.number m.id _ refl k.safe.placing k.safe.fresh k.held k.from k.below k.id (ap is_settled k.state))
 safe_settled false l e s t acked w m ms n own p h =
     let v : World = on_session w s t (missed w.config.attempts m.number) in
     let k : IsStopped l w v s t m (missed_slot w.config.attempts) = stopped l e s t acked w m ms (missed_slot w.config.attempts) (λ x. refl) n own p h in
     safe_if (is_failed (slot (session v s t) m.number).state) l w _ v
-    (λ b. then_safe l w v _ k.safe.stays (safe_finish l v s t m.number m.id _ k.safe.placing k.safe.fresh k.held k.from k.below k.id (failed_settled _ b)))
+    (λ b. then_safe l w v _ k.safe.stays (safe_finish l v s t m.number m.id _ refl k.safe.placing k.safe.fresh k.held k.from k.below k.id (failed_settled _ b)))
     (λ _. k.safe)
 
 safe_all : (ms : List Mpdu) (l : List ℕ) (e s t : ℕ) (acked : ℕ → Bool) (w : World) → IsEnding e s t acked w ms → Labelled (session w s t) ms → Placing l w → Fresh w → Safe l w (all_settled w s t acked ms)
@@ -571,14 +589,6 @@ safe_all (m ∷ ms) l e s t acked w n a p h =
     let kept : Kept w v = keep_settled (acked m.number) w s t m in
     then_safe l w v _ k.stays (safe_all ms l e s t acked v (ending_settled (acked m.number) e s t acked w m ms refl n)
     (labelled_kept ms (session w s t) (session v s t) (suc m.number) (kept.sessions s t) (omega (arith, n.flies.rising.0)) n.flies.rising.2 a.1) k.placing k.fresh)
-
-pub frames_without : (w : World) (e : ℕ) → (without_exchange w e).frames ≡ w.frames
-unfolding without_exchange
-frames_without w e = refl
-
-pub frames_charged : (w : World) (x : Exchange) → (charged w x).frames ≡ w.frames
-unfolding charged on_share on_station with_station
-frames_charged w x = refl
 
 fresh_without : (w : World) (e : ℕ) → Fresh w → Fresh (without_exchange w e)
 unfolding without_exchange
@@ -595,7 +605,7 @@ safe_after (Request g) l w i x heard e f a p h =
     record {
       placing = placed_session l v x.station x.tid (heard_start heard g) (kept_heard heard g _) (next-heard heard g _) p;
       fresh = fresh_session v x.station x.tid (heard_start heard g) (unsettles_heard heard g (session v x.station x.tid)) h;
-      stays = stays_frames v _ (frames_on_session v x.station x.tid _);
+      stays = stays_same v _ (untouched_on_session v x.station x.tid _);
     }
 
 safe_ended : (l : List ℕ) (w : World) (i : IsLawful w) (x : Exchange) (heard : Bool) → IsFound w i x → Labelled (session w x.station x.tid) (mpdus_of x.content) → Placing l w → Fresh w → Safe l w (ended w x heard).world
@@ -603,8 +613,8 @@ unfolding ended
 safe_ended l w i x heard f a p h =
     let u : World = without_exchange w x.number in
     let pu : Placing l u = placed_without l w x.number p in
-    let k : Safe l u (charged u x) = safe_calm l u (charged u x) (less_charged Any u x) (same_charged u x) (frames_charged u x) pu (fresh_without w x.number h) in
-    then_safe l w u _ (stays_frames w u (frames_without w x.number)) (then_safe l u (charged u x) _ k.stays (safe_after x.content l w i x heard refl f a k.placing k.fresh))
+    let k : Safe l u (charged u x) = safe_calm l u (charged u x) (less_charged Any u x) (same_charged u x) (untouched_charged u x) pu (fresh_without w x.number h) in
+    then_safe l w u _ (stays_same w u (untouched_without w x.number)) (then_safe l u (charged u x) _ k.stays (safe_after x.content l w i x heard refl f a k.placing k.fresh))
 
 -- ---- a frame is queued
 
@@ -623,10 +633,6 @@ pub fate_with_frame : (w : World) (note : Note) (k : ℕ) → (frame (with_frame
 unfolding with_frame
 fate_with_frame w note k = new_fate w.frames (record { note = note; fate = Held }) k refl
 
-pub frames_put_in : (u : World) (s t q : ℕ) (x : Item) → (put_in u s t q x).frames ≡ u.frames
-unfolding put_in appended listed_queue on_queue with_queues on_tid on_station with_station
-frames_put_in u s t q x = on_if (λ (v : World). v.frames ≡ u.frames) _ _ _ (λ _. refl) (λ _. refl)
-
 -- a frame that is new, or in hand
 abbrev OrNew : World → ℕ → ℕ → Type 0
 OrNew w c k = InHand w k ⊎ (k ≡ c)
@@ -637,7 +643,7 @@ head_gone w q rest fate id = ap (λ (y : Queue). y.items) (queue_on w q (λ y. r
 
 limit_head : (items : List Item) (l : List ℕ) (w : World) (q : ℕ) → (queue w q).items ≡ items → Placing l w → Fresh w → Finished (OrNew (without_head w q items) (accepted w)) w (without_head w q items)
 unfolding without_head
-limit_head [] l w q e p h = record { stays = stays_frames w w refl; held = record { held = λ k i. elim i [ inl a ↦ h.held k a | inr b ↦ default_frame w.frames k (omega (arith, b)) ] } }
+limit_head [] l w q e p h = record { stays = stays_same w w (untouched w); held = record { held = λ k i. elim i [ inl a ↦ h.held k a | inr b ↦ default_frame w.frames k (omega (arith, b)) ] } }
 limit_head (x ∷ rest) l w q e p h =
     let g : Queue → Queue = λ y. record y { items = rest } in
     let u : World = on_queue w q g in
@@ -647,10 +653,11 @@ limit_head (x ∷ rest) l w q e p h =
     let gone : carries (queue v q).items x.id ≡ false = ap (λ (ys : List Item). carries ys x.id) (head_gone w q rest (Dropped Overlimit) x.id) ∙ on_bool (carries rest x.id) (λ c. absurd (omega (arith, carries_from rest (suc x.id) x.id o.1 c))) (λ c. c) in
     let less_u : Less Any w v = then_less Any w u v (less_on_queue Any w q g (subst (λ (ys : List Item). Fewer ys rest) (sym e) (fewer_tail x rest))) (less_finish Any u (Dropped Overlimit) x.id (λ _. tt)) in
     let k : Same w v = then_same w u v (same_on_queue w q g) (same_finish u (Dropped Overlimit) x.id) in
-    let held_u : HeldOn (OrNew w (accepted w)) u = held_frames (OrNew w (accepted w)) w u (frames_on_queue w q g) (record { held = λ j i. elim i [ inl a ↦ h.held j a | inr b ↦ default_frame w.frames j (omega (arith, b)) ] }) in
+    let calm : Untouched w u = untouched_on_queue w q g in
+    let held_u : HeldOn (OrNew w (accepted w)) u = held_frames (OrNew w (accepted w)) w u calm.frames (record { held = λ j i. elim i [ inl a ↦ h.held j a | inr b ↦ default_frame w.frames j (omega (arith, b)) ] }) in
     let own : InHand w x.id = inl (record { place = q; there = there }) in
     record {
-      stays = then_stays w u v (stays_frames w u (frames_on_queue w q g)) (stays_finish u (Dropped Overlimit) x.id (held_u.held x.id (inl own)));
+      stays = then_stays w u v (stays_same w u calm) (stays_finish u (Dropped Overlimit) x.id (old_same w u x.id calm (p.queued q x.id there).old) (held_u.held x.id (inl own)) refl);
       held = held_finish (OrNew w (accepted w)) (OrNew v (accepted w)) u (Dropped Overlimit) x.id held_u (λ j i. elim i [
         | inl a ↦ (inl (in_hand_less w v j less_u (session_same w v k) a), (λ d. in_place l w v p q x.id less_u (session_same w v k) there gone (subst (InHand v) d a)))
         | inr b ↦ (inr b, (λ d. omega (arith, b, d, (p.queued q x.id there).old)))
@@ -662,12 +669,24 @@ unfolding within_limit
 limit_kept l w p h =
     on_if (λ (v : World). Finished (OrNew v (accepted w)) w v) (total_queued w == w.config.limit) (without_head w (longest w) (queue w (longest w)).items) w
     (λ _. limit_head (queue w (longest w)).items l w (longest w) refl p h)
-    (λ _. record { stays = stays_frames w w refl; held = record { held = λ k i. elim i [ inl a ↦ h.held k a | inr b ↦ default_frame w.frames k (omega (arith, b)) ] } })
+    (λ _. record { stays = stays_same w w (untouched w); held = record { held = λ k i. elim i [ inl a ↦ h.held k a | inr b ↦ default_frame w.frames k (omega (arith, b)) ] } })
 
-stays_with_frame : (w : World) (note : Note) → Stays w (with_frame w note)
-stays_with_frame w note = record { stays = λ k. inr (fate_with_frame w note k) }
+inside_with_frame : (w : World) (note : Note) → inside (with_frame w note) ≡ suc (inside w)
+unfolding with_frame
+inside_with_frame w note = omega (arith, sum_by-append (λ (f : Frame). if is_held f.fate then 1 else 0) w.frames (record { note = note; fate = Held } ∷ []))
 
-enqueue_kept : (l : List ℕ) (w : World) (s t flow len : ℕ) → Placing l w → Fresh w → Finished (InHand (enqueued w s t flow len).world) w (enqueued w s t flow len).world
+accepted_with_frame : (w : World) (note : Note) → accepted (with_frame w note) ≡ suc (accepted w)
+unfolding with_frame
+accepted_with_frame w note = omega (arith, length-append w.frames (record { note = note; fate = Held } ∷ []))
+
+-- a frame more is accepted, and is inside
+record Entered (w v : World) : Type 0 where
+  held : Fresh v
+  remains : Remains w v
+  accepted : accepted v ≡ suc (accepted w)
+  inside : inside v ≡ suc (inside w)
+
+enqueue_kept : (l : List ℕ) (w : World) (s t flow len : ℕ) → Placing l w → Fresh w → Entered w (enqueued w s t flow len).world
 unfolding enqueued
 enqueue_kept l w s t flow len p h =
     let u : World = within_limit w in
@@ -677,24 +696,20 @@ enqueue_kept l w s t flow len p h =
     let note : Note = Enqueue s t flow len in
     let v : World = with_frame a note in
     let k : Finished (OrNew u (accepted w)) w u = limit_kept l w p h in
+    let put : Stays u a = stays_same u a (untouched_put_in u s t q x) in
     let more : Less Any (appended u q x) v = then_less Any _ a v (less_put_in u s t q x) (less_with_frame a note) in
     let sides : (i j : ℕ) → session v i j ≡ session u i j = λ i j. ap (λ (b : Side). b.session) (side_with_frame a note i j ∙ (same_put_in u s t q x).sides i j) in
     record {
-      stays = then_stays w u v k.stays (then_stays u a v (stays_frames u a (frames_put_in u s t q x)) (stays_with_frame a note));
+      remains = then_remains w u v (remains_of w u k.stays) (then_remains u a v (remains_of u a put) (record { remains = λ i. inr (fate_with_frame a note i) }));
+      accepted = accepted_with_frame a note ∙ ap suc (put.accepted ∙ k.stays.accepted);
+      inside = inside_with_frame a note ∙ ap suc (put.inside ∙ k.stays.inside);
       held = record {
-        held = λ i c. fate_with_frame a note i ∙ ap (λ (fs : List Frame). (at no_frame fs i).fate) (frames_put_in u s t q x) ∙ k.held.held i (elim c [
+        held = λ i c. fate_with_frame a note i ∙ ap (λ (fs : List Frame). (at no_frame fs i).fate) (untouched_put_in u s t q x).frames ∙ k.held.held i (elim c [
           | inl d ↦ elim (queue_appended u q x d.place i ((more.queues d.place).has i d.there)) [ inl old ↦ inl (inl (record { place = d.place; there = old })) | inr new ↦ inr new.1 ]
           | inr d ↦ inl (inr (at_slot_same u v i sides d))
         ]);
       };
     }
-
-safe_enqueued : (l : List ℕ) (w : World) (s t flow len : ℕ) → Placing l w → Fresh w → Safe l w (enqueued w s t flow len).world
-safe_enqueued l w s t flow len p h = record {
-  placing = placed_enqueued l w s t flow len p;
-  fresh = (enqueue_kept l w s t flow len p h).held;
-  stays = (enqueue_kept l w s t flow len p h).stays;
-}
 
 -- ---- a station leaves
 
@@ -778,12 +793,14 @@ left_slots l w s t ts p apart h =
     let e : ids ≡ ids_of y ns = held_ids y.slots y y.first (λ i. ap (at no_slot y.slots) (omega arith)) in
     let member : (n : ℕ) → has ns n ≡ true → IsWaiting y y.first (next_number y) n = λ n d. waiting_member y.slots y y.first n (λ i. ap (at no_slot y.slots) (omega arith)) d in
     let label : (n : ℕ) → has ns n ≡ true → p.home (slot y n).id ≡ Numbered s t n = λ n d. (p.numbered s t n (member n d).from (member n d).below).place in
-    finish_ids ids (Pend s (t ∷ ts) w) (Pend s ts v) w (Dropped Left) h
+    finish_ids ids (Pend s (t ∷ ts) w) (Pend s ts v) w (Dropped Left) refl h
     (subst IsOnce (sym e) (once_ids ns y.first y p.home s t (numbers_climb is_waiting y.slots y.first) label))
     (λ i d.
     let o : IsIdOf y ns i = has_ids ns y i (ap (λ (xs : List ℕ). has xs i) (sym e) ∙ d) in
-    let m = member o.number o.among in
-    inr (record { spot = record { station = s; tid = t; number = o.number; slot_of = record { from = m.from; below = m.below; unsettled = m.unsettled; id = o.id } }; other = inr (or_left (t == t) (has ts t) (yes_eq t t refl)) }))
+    let m = member o.number o.among in (
+      inr (record { spot = record { station = s; tid = t; number = o.number; slot_of = record { from = m.from; below = m.below; unsettled = m.unsettled; id = o.id } }; other = inr (or_left (t == t) (has ts t) (yes_eq t t refl)) }),
+      subst (λ (k : ℕ). k < accepted w) o.id (p.numbered s t o.number m.from m.below).old,
+    ))
     (λ i d.
     let b : Pend s ts w i = pend_less s ts w v i less_v (session_same w v k) d in (
       fewer_tids s t ts w i b,
@@ -818,11 +835,11 @@ left_queue l w s ts q p h less_v k =
     let v : World = finish_all u (Dropped Left) ids in
     let items : (queue v q).items ≡ [] = ap (λ (qs : List Queue). (at new_queue qs q).items) (queues_dropped ids u (Dropped Left)) ∙ ap (λ (y : Queue). y.items) (queue_on w q g) in
     let r : Finished (Pend s ts v) u v =
-    finish_ids ids (Pend s ts w) (Pend s ts v) u (Dropped Left) (held_frames (Pend s ts w) w u (frames_on_queue w q g) h) (ordered_once (queue w q).items 0 (p.ordered q))
-    (λ i d. inl (record { place = q; there = sym (ids_carried (queue w q).items i) ∙ d }))
+    finish_ids ids (Pend s ts w) (Pend s ts v) u (Dropped Left) refl (held_frames (Pend s ts w) w u (untouched_on_queue w q g).frames h) (ordered_once (queue w q).items 0 (p.ordered q))
+    (λ i d. let c : carries (queue w q).items i ≡ true = sym (ids_carried (queue w q).items i) ∙ d in (inl (record { place = q; there = c }), old_same w u i (untouched_on_queue w q g) (p.queued q i c).old))
     (λ i d. (pend_less s ts w v i less_v (session_same w v k) d, on_bool (has ids i) (λ e. absurd (in_place l w v p q i less_v (session_same w v k) (sym (ids_carried (queue w q).items i) ∙ e) (ap (λ (ys : List Item). carries ys i) items) (pend_hand s ts v i d))) (λ e. e)))
     in
-    record { stays = then_stays w u v (stays_frames w u (frames_on_queue w q g)) r.stays; held = r.held }
+    record { stays = then_stays w u v (stays_same w u (untouched_on_queue w q g)) r.stays; held = r.held }
 
 -- a part of a leave
 record Leaving (l : List ℕ) (s : ℕ) (ts : List ℕ) (w v : World) : Type 0 where
@@ -843,7 +860,7 @@ less_purge_queue w q = less_purge_queues Any (q ∷ []) w
 
 left_queues : (qs : List ℕ) (l : List ℕ) (w : World) (s : ℕ) (ts : List ℕ) → Placing l w → HeldOn (Pend s ts w) w → Leaving l s ts w (purge_queues w qs)
 unfolding purge_queues
-left_queues [] l w s ts p h = record { placing = p; held = h; stays = stays_frames w w refl }
+left_queues [] l w s ts p h = record { placing = p; held = h; stays = stays_same w w (untouched w) }
 left_queues (q ∷ qs) l w s ts p h =
     let v : World = purge_queue w q in
     let r : Finished (Pend s ts v) w v = left_queue l w s ts q p h (less_purge_queue w q) (same_purge_queue w q) in
@@ -862,28 +879,19 @@ left_one l w s t ts p apart h =
     let rb : Leaving l s ts a b = left_queues qs l a s ts (placed_less l w a (less_drop_all Any ids w (Dropped Left) (λ e. cc e)) ka.sides p) ra.held in
     let kv : Same b v = same_with_queues b s t no_keys in
     let less_v : Less Any b v = less_with_queues Any b s t no_keys in
-    let frames : v.frames ≡ b.frames = frames_with_queues b s t no_keys in
+    let calm : Untouched b v = untouched_with_queues b s t no_keys in
     record {
       placing = placed_less l b v less_v kv.sides rb.placing;
-      held = held_frames (Pend s ts v) b v frames (held_less (Pend s ts b) (Pend s ts v) b (λ i d. pend_less s ts b v i less_v (session_same b v kv) d) rb.held);
-      stays = then_stays w a v ra.stays (then_stays a b v rb.stays (stays_frames b v frames));
+      held = held_frames (Pend s ts v) b v calm.frames (held_less (Pend s ts b) (Pend s ts v) b (λ i d. pend_less s ts b v i less_v (session_same b v kv) d) rb.held);
+      stays = then_stays w a v ra.stays (then_stays a b v rb.stays (stays_same b v calm));
     }
 
 left_all : (ts : List ℕ) (l : List ℕ) (w : World) (s : ℕ) → IsOnce ts → Placing l w → HeldOn (Pend s ts w) w → Leaving l s [] w (left_tids w s ts)
 unfolding left_tids
-left_all [] l w s once p h = record { placing = p; held = h; stays = stays_frames w w refl }
+left_all [] l w s once p h = record { placing = p; held = h; stays = stays_same w w (untouched w) }
 left_all (t ∷ ts) l w s once p h =
     let r : Leaving l s ts w (left_tid w s t) = left_one l w s t ts p once.0 h in
     then_leaving l s [] w (left_tid w s t) _ r.stays (left_all ts l (left_tid w s t) s once.1 r.placing r.held)
-
-pub frames_off_lists : (cs : List Class) (w : World) (s : ℕ) → (off_lists w s cs).frames ≡ w.frames
-unfolding off_lists with_rotation
-frames_off_lists [] w s = refl
-frames_off_lists (c ∷ cs) w s = frames_off_lists cs _ s
-
-pub frames_with_station : (w : World) (i : ℕ) (o : Option Station) → (with_station w i o).frames ≡ w.frames
-unfolding with_station
-frames_with_station w i o = refl
 
 bare_carries : (y : Session) (k n : ℕ) → next_number y ≡ y.first → Carries y k n → ⊥
 bare_carries y k n e c = omega (arith, e, c.from, c.below)
@@ -915,15 +923,11 @@ gone_kept l w s p h =
     let r : Leaving l s [] w a = left_all (upto 8) l w s (climbs_once (upto 8) 0 (count_climbs 8 0)) p (held_less (InHand w) (Pend s (upto 8) w) w (λ k d. pend_hand s (upto 8) w k d) h) in
     let kb : Same a b = same_off_lists all_classes a s in
     let less_b : Less Any a b = less_off_lists all_classes a s in
-    let frames : v.frames ≡ a.frames = frames_with_station b s None ∙ frames_off_lists all_classes a s in
+    let calm : Untouched a v = then_untouched a b v (untouched_off_lists all_classes a s) (untouched_with_station b s None) in
     record {
-      stays = then_stays w a v r.stays (stays_frames a v frames);
-      held = held_frames (InHand v) a v frames (held_less (Pend s [] a) (InHand v) a (λ k i. pend_less s [] a b k less_b (session_same a b kb) (station_gone b s k None (λ t. bare_none) i)) r.held);
+      stays = then_stays w a v r.stays (stays_same a v calm);
+      held = held_frames (InHand v) a v calm.frames (held_less (Pend s [] a) (InHand v) a (λ k i. pend_less s [] a b k less_b (session_same a b kb) (station_gone b s k None (λ t. bare_none) i)) r.held);
     }
-
-pub frames_on_station : (w : World) (s : ℕ) (f : Station → Station) → (on_station w s f).frames ≡ w.frames
-unfolding on_station with_station
-frames_on_station w s f = refl
 
 pub session_on_receiver : (w : World) (s t : ℕ) (g : Receiver → Receiver) (i j : ℕ) → session (on_receiver w s t g) i j ≡ session w i j
 unfolding on_receiver
@@ -935,7 +939,7 @@ safe_gone l w s p h = record { placing = placed_gone l w s p; fresh = (gone_kept
 -- ---- the step
 
 fresh_station : (w : World) (i : ℕ) (o : Option Station) → ((t : ℕ) → next_number (sides_of o t).session ≡ (sides_of o t).session.first) → Fresh w → Fresh (with_station w i o)
-fresh_station w i o bare h = held_frames (InHand (with_station w i o)) w _ (frames_with_station w i o) (held_less (InHand w) (InHand (with_station w i o)) w (λ k c. pend_hand i [] w k (station_gone w i k o bare c)) h)
+fresh_station w i o bare h = held_frames (InHand (with_station w i o)) w _ (untouched_with_station w i o).frames (held_less (InHand w) (InHand (with_station w i o)) w (λ k c. pend_hand i [] w k (station_gone w i k o bare c)) h)
 
 bare_new : (first size : ℕ) → next_number (new_session first size) ≡ first
 bare_new first size = omega arith
@@ -943,7 +947,7 @@ bare_new first size = omega arith
 joined_kept : (w : World) (s window start exponent weight : ℕ) → Fresh w → Finished (InHand (joined w s window start exponent weight).world) w (joined w s window start exponent weight).world
 unfolding joined
 joined_kept w s window start exponent weight h = record {
-  stays = stays_frames w _ (frames_with_station w s _);
+  stays = stays_same w _ (untouched_with_station w s _);
   held = fresh_station w s _ (eight (λ y. next_number y.session ≡ y.session.first) (new_tid start window) (bare_new start window) (bare_new 0 0)) h;
 }
 
@@ -952,47 +956,64 @@ safe_joined l w s window start exponent weight p h =
     let r = joined_kept w s window start exponent weight h in
     record { placing = placed_joined l w s window start exponent weight p; fresh = r.held; stays = r.stays }
 
--- what is kept of held frames and fates, whatever was passed up
-record Kept_fates (w v : World) : Type 0 where
+-- what is kept of held frames and fates, whatever was passed up: n frames are accepted, and r are reaped
+record Kept_fates (n r : ℕ) (w v : World) : Type 0 where
   fresh : Fresh v
-  stays : Stays w v
+  remains : Remains w v
+  accepted : accepted v ≡ n + accepted w
+  inside : r + inside v ≡ n + inside w
 
-of_safe : (l : List ℕ) (w v : World) → Safe l w v → Kept_fates w v
-of_safe l w v k = record { fresh = k.fresh; stays = k.stays }
+of_stays : (w v : World) → Fresh v → Stays w v → Kept_fates 0 0 w v
+of_stays w v h k = record { fresh = h; remains = remains_of w v k; accepted = omega (arith, k.accepted); inside = omega (arith, k.inside) }
 
-fates_plain : (w v : World) → w.queues ≡ v.queues → v.frames ≡ w.frames → ((s t : ℕ) → session v s t ≡ session w s t) → Fresh w → Kept_fates w v
-fates_plain w v a b d h = record { fresh = fresh_calm w v (less_plain Any w v a (sym b)) d b h; stays = stays_frames w v b }
+of_safe : (l : List ℕ) (w v : World) → Safe l w v → Kept_fates 0 0 w v
+of_safe l w v k = of_stays w v k.fresh k.stays
 
-fates_station : (w : World) (s : ℕ) (f : Station → Station) → ((x : Station) (t : ℕ) → side_of (at no_tid (f x).tids t) ≡ side_of (at no_tid x.tids t)) → Fresh w → Kept_fates w (on_station w s f)
-fates_station w s f g h = record { fresh = fresh_calm w _ (less_on_station Any w s f) (session_same w _ (same_on_station w s f g)) (frames_on_station w s f) h; stays = stays_frames w _ (frames_on_station w s f) }
+of_entered : (w v : World) → Entered w v → Kept_fates 1 0 w v
+of_entered w v k = record { fresh = k.held; remains = k.remains; accepted = omega (arith, k.accepted); inside = omega (arith, k.inside) }
 
-fates_answered : (w : World) (x : Exchange) → Fresh w → Kept_fates w (answered w x).world
+fates_here : (w : World) → Fresh w → Kept_fates 0 0 w w
+fates_here w h = of_stays w w h (stays_same w w (untouched w))
+
+fates_plain : (w v : World) → w.queues ≡ v.queues → Untouched w v → ((s t : ℕ) → session v s t ≡ session w s t) → Fresh w → Kept_fates 0 0 w v
+fates_plain w v a u d h = of_stays w v (fresh_calm w v (less_plain Any w v a (sym u.frames)) d u.frames h) (stays_same w v u)
+
+fates_station : (w : World) (s : ℕ) (f : Station → Station) → ((x : Station) (t : ℕ) → side_of (at no_tid (f x).tids t) ≡ side_of (at no_tid x.tids t)) → Fresh w → Kept_fates 0 0 w (on_station w s f)
+fates_station w s f g h =
+    let u : Untouched w (on_station w s f) = untouched_on_station w s f in
+    of_stays w _ (fresh_calm w _ (less_on_station Any w s f) (session_same w _ (same_on_station w s f g)) u.frames h) (stays_same w _ u)
+
+fates_answered : (w : World) (x : Exchange) → Fresh w → Kept_fates 0 0 w (answered w x).world
 unfolding answered with_exchange
-fates_answered w x h = fates_plain w _ refl refl (λ s t. refl) h
+fates_answered w x h = fates_plain w _ refl (record { frames = refl; finished = refl }) (λ s t. refl) h
 
 queues_on_receiver : (w : World) (s t : ℕ) (g : Receiver → Receiver) → w.queues ≡ (on_receiver w s t g).queues
 unfolding on_receiver on_tid on_station with_station
 queues_on_receiver w s t g = refl
 
-pub frames_on_receiver : (w : World) (s t : ℕ) (g : Receiver → Receiver) → (on_receiver w s t g).frames ≡ w.frames
-unfolding on_receiver on_tid on_station with_station
-frames_on_receiver w s t g = refl
-
-fates_arrived : (w : World) (x : Exchange) (n : ℕ) → Fresh w → Kept_fates w (arrived w x n).world
+fates_arrived : (w : World) (x : Exchange) (n : ℕ) → Fresh w → Kept_fates 0 0 w (arrived w x n).world
 unfolding arrived with_exchange
-fates_arrived w x n h = fates_plain w _ (queues_on_receiver w x.station x.tid _) (frames_on_receiver w x.station x.tid _) (session_on_receiver w x.station x.tid (after_arrival x.content n)) h
+fates_arrived w x n h =
+    let u : Untouched w (on_receiver w x.station x.tid (after_arrival x.content n)) = untouched_on_receiver w x.station x.tid (after_arrival x.content n) in
+    fates_plain w _ (queues_on_receiver w x.station x.tid _) (record { frames = u.frames; finished = u.finished }) (session_on_receiver w x.station x.tid (after_arrival x.content n)) h
 
-fates_reaped : (ids : List ℕ) (w : World) → Fresh w → Kept_fates w (reaped w ids).world
+-- the first of the finished list is reaped
+fates_reaped : (ids : List ℕ) (w : World) → w.finished ≡ ids → (length ids == 0) ≡ false → Fresh w → Kept_fates 0 1 w (reaped w ids).world
 unfolding reaped
-fates_reaped [] w h = record { fresh = h; stays = stays_frames w w refl }
-fates_reaped (id ∷ ids) w h = fates_plain w _ refl refl (λ s t. refl) h
+fates_reaped [] w e some h = absurd (cc some)
+fates_reaped (id ∷ ids) w e some h = record {
+  fresh = fresh_calm w _ (less_plain Any w _ refl refl) (λ s t. refl) refl h;
+  remains = remains_same w _ refl;
+  accepted = omega arith;
+  inside = omega (arith, ap (length {A = ℕ}) e);
+}
 
-fates_open : (P : Exchange → Type 0) (o : Option Exchange) (w : World) (f : Exchange → Outcome) → IfSome o P → Fresh w → ((x : Exchange) → P x → Kept_fates w (f x).world) → Kept_fates w (on_open w o f).world
+fates_open : (P : Exchange → Type 0) (o : Option Exchange) (w : World) (f : Exchange → Outcome) → IfSome o P → Fresh w → ((x : Exchange) → P x → Kept_fates 0 0 w (f x).world) → Kept_fates 0 0 w (on_open w o f).world
 unfolding on_open
-fates_open P None w f k h g = record { fresh = h; stays = stays_frames w w refl }
+fates_open P None w f k h g = fates_here w h
 fates_open P (Some x) w f k h g = g x k
 
-fates_share : (w : World) (s : ℕ) (c : Class) (f : Share → Share) → Fresh w → Kept_fates w (on_share w s c f)
+fates_share : (w : World) (s : ℕ) (c : Class) (f : Share → Share) → Fresh w → Kept_fates 0 0 w (on_share w s c f)
 unfolding on_share
 fates_share w s c f h = fates_station w s _ (λ x t. refl) h
 
@@ -1007,51 +1028,61 @@ both_found (Some x) w i h k = record { found_one = h; labels = k }
 pub found_named : (w : World) (i : IsLawful w) (a : IsLabelled w) (e : ℕ) → IfSome (exchange w e) (IsFoundNamed w i)
 found_named w i a e = both_found (exchange w e) w i (found w i e) (each_find (λ x. Labelled (session w x.station x.tid) (mpdus_of x.content)) (λ x. Labelled (session w x.station x.tid) (mpdus_of x.content)) (λ x. x.number == e) w.opened (λ x _ f. f) a.labels)
 
-fates_done : (note : Note) (l : List ℕ) (w : World) (i : IsLawful w) → IsLabelled w → Placing l w → Fresh w → Kept_fates w (done w note).world
+-- how many frames a call accepts, and how many it reaps, where it is not refused
+abbrev pub brought : Note → ℕ
+brought (Enqueue s t flow len) = 1
+brought _ = 0
+
+abbrev pub fetched : Note → ℕ
+fetched (Asked Reap) = 1
+fetched _ = 0
+
+fates_done : (note : Note) (l : List ℕ) (w : World) (i : IsLawful w) → NoRow (refusals w note) → IsLabelled w → Placing l w → Fresh w → Kept_fates (brought note) (fetched note) w (done w note).world
 unfolding done ticked with_rate slept woken credited received
-fates_done (Enqueue s t flow len) l w i a p h = of_safe l w _ (safe_enqueued l w s t flow len p h)
-fates_done (Asked (Join s window start exponent weight)) l w i a p h = of_safe l w _ (safe_joined l w s window start exponent weight p h)
-fates_done (Asked (Leave s)) l w i a p h = of_safe l w _ (safe_gone l w s p h)
-fates_done (Asked (Rate s mcs mhz short)) l w i a p h = fates_station w s _ (λ x t. refl) h
-fates_done (Asked (Tick by)) l w i a p h = fates_plain w _ refl refl (λ s t. refl) h
-fates_done (Asked (Pull c)) l w i a p h = of_safe l w _ (safe_pulled l w c i p h)
-fates_done (Asked (Arrive x n)) l w i a p h = fates_open (IsFoundNamed w i) (exchange w x) w _ (found_named w i a x) h (λ y f. fates_arrived w y n h)
-fates_done (Asked (Answer x)) l w i a p h = fates_open (IsFoundNamed w i) (exchange w x) w _ (found_named w i a x) h (λ y f. fates_answered w y h)
-fates_done (Asked (Done x heard)) l w i a p h = fates_open (IsFoundNamed w i) (exchange w x) w _ (found_named w i a x) h (λ y f. of_safe l w _ (safe_ended l w i y heard f.found_one f.labels p h))
-fates_done (Asked (Sleep s)) l w i a p h = fates_station w s _ (λ x t. refl) h
-fates_done (Asked (Wake s)) l w i a p h = fates_station w s _ (λ x t. refl) h
-fates_done (Asked (Poll s)) l w i a p h = fates_station w s _ (λ x t. refl) h
-fates_done (Asked (Rx s c air)) l w i a p h = fates_share w s c _ h
-fates_done (Asked Reap) l w i a p h = fates_reaped w.finished w h
+fates_done (Enqueue s t flow len) l w i e a p h = of_entered w _ (enqueue_kept l w s t flow len p h)
+fates_done (Asked (Join s window start exponent weight)) l w i e a p h = of_safe l w _ (safe_joined l w s window start exponent weight p h)
+fates_done (Asked (Leave s)) l w i e a p h = of_safe l w _ (safe_gone l w s p h)
+fates_done (Asked (Rate s mcs mhz short)) l w i e a p h = fates_station w s _ (λ x t. refl) h
+fates_done (Asked (Tick by)) l w i e a p h = fates_plain w _ refl (record { frames = refl; finished = refl }) (λ s t. refl) h
+fates_done (Asked (Pull c)) l w i e a p h = of_safe l w _ (safe_pulled l w c i p h)
+fates_done (Asked (Arrive x n)) l w i e a p h = fates_open (IsFoundNamed w i) (exchange w x) w _ (found_named w i a x) h (λ y f. fates_arrived w y n h)
+fates_done (Asked (Answer x)) l w i e a p h = fates_open (IsFoundNamed w i) (exchange w x) w _ (found_named w i a x) h (λ y f. fates_answered w y h)
+fates_done (Asked (Done x heard)) l w i e a p h = fates_open (IsFoundNamed w i) (exchange w x) w _ (found_named w i a x) h (λ y f. of_safe l w _ (safe_ended l w i y heard f.found_one f.labels p h))
+fates_done (Asked (Sleep s)) l w i e a p h = fates_station w s _ (λ x t. refl) h
+fates_done (Asked (Wake s)) l w i e a p h = fates_station w s _ (λ x t. refl) h
+fates_done (Asked (Poll s)) l w i e a p h = fates_station w s _ (λ x t. refl) h
+fates_done (Asked (Rx s c air)) l w i e a p h = fates_share w s c _ h
+fates_done (Asked Reap) l w i e a p h = fates_reaped w.finished w refl e.0 h
 
-fates_refused : (note : Note) (r : Refusal) (w : World) → Fresh w → Kept_fates w (refused w note r)
+fates_refused : (note : Note) (r : Refusal) (w : World) → Fresh w → Kept_fates 0 0 w (refused w note r)
 unfolding refused
-fates_refused (Asked (Pull c)) Idle w h = record { fresh = fresh_calm w _ (less_after_pick Any w c) (session_same w _ (same_after_pick w c)) (frames_after_pick w c) h; stays = stays_frames w _ (frames_after_pick w c) }
-fates_refused _ _ w h = record { fresh = h; stays = stays_frames w w refl }
+fates_refused (Asked (Pull c)) Idle w h =
+    let u : Untouched w (after_pick w c) = untouched_after_pick w c in
+    of_stays w _ (fresh_calm w _ (less_after_pick Any w c) (session_same w _ (same_after_pick w c)) u.frames h) (stays_same w _ u)
+fates_refused _ _ w h = fates_here w h
 
-frames_listed_in_all : (cs : List Class) (w : World) (s : ℕ) → (listed_in_all w s cs).frames ≡ w.frames
-unfolding listed_in_all listed_in with_rotation
-frames_listed_in_all [] w s = refl
-frames_listed_in_all (c ∷ cs) w s = frames_listed_in_all cs _ s ∙ on_if (λ (v : World). v.frames ≡ w.frames) _ _ w (λ _. refl) (λ _. refl)
+fates_listed : (n r : ℕ) (w u v : World) → Less Any u v → Same u v → Untouched u v → Kept_fates n r w u → Kept_fates n r w v
+fates_listed n r w u v h same_sides calm k =
+    let e : Stays u v = stays_same u v calm in
+    record {
+      fresh = fresh_calm u v h (session_same u v same_sides) calm.frames k.fresh;
+      remains = then_remains w u v k.remains (remains_of u v e);
+      accepted = e.accepted ∙ k.accepted;
+      inside = omega (arith, e.inside, k.inside);
+    }
 
-pub frames_listed : (o : Option ℕ) (w : World) → (listed w o).frames ≡ w.frames
-unfolding listed
-frames_listed None w = refl
-frames_listed (Some s) w = frames_listed_in_all all_classes w s
-
-fates_answer : (r : Option Refusal) (l : List ℕ) (w : World) (i : IsLawful w) (note : Note) → IsLabelled w → Placing l w → Fresh w → Kept_fates w (answer w note r).world
+fates_answer : (r : Option Refusal) (l : List ℕ) (w : World) (i : IsLawful w) (note : Note) → refusal w note ≡ r → IsLabelled w → Placing l w → Fresh w
+    → Kept_fates (if is_none r then brought note else 0) (if is_none r then fetched note else 0) w (answer w note r).world
 unfolding answer
-fates_answer (Some r) l w i note a p h = fates_refused note r w h
-fates_answer None l w i note a p h =
+fates_answer (Some r) l w i note e a p h = fates_refused note r w h
+fates_answer None l w i note e a p h =
     let u : World = (done w note).world in
-    let k : Kept_fates w u = fates_done note l w i a p h in
-    let v : World = listed u (concerned w note) in
-    let e : v.frames ≡ u.frames = frames_listed (concerned w note) u in
-    record { fresh = fresh_calm u v (less_listed Any (concerned w note) u) (session_same u v (same_listed (concerned w note) u)) e k.fresh; stays = then_stays w u v k.stays (stays_frames u v e) }
+    fates_listed (brought note) (fetched note) w u (listed u (concerned w note)) (less_listed Any (concerned w note) u) (same_listed (concerned w note) u) (untouched_listed (concerned w note) u) (fates_done note l w i (no_row (refusals w note) e) a p h)
 
-fates_step : (l : List ℕ) (w : World) (i : IsLawful w) (note : Note) → IsLabelled w → Placing l w → Fresh w → Kept_fates w (step w note).world
+fates_step : (l : List ℕ) (w : World) (i : IsLawful w) (note : Note) → IsLabelled w → Placing l w → Fresh w
+    → Kept_fates (if is_none (refusal w note) then brought note else 0) (if is_none (refusal w note) then fetched note else 0) w (step w note).world
 unfolding step
-fates_step l w i note a p h = fates_answer (refusal w note) l w i note a p h
+fates_step l w i note a p h = fates_answer (refusal w note) l w i note refl a p h
 
 -- ---- the run
 
@@ -1074,10 +1105,16 @@ unfolding named_from world_after
 steady_run [] l w k = k
 steady_run (e ∷ es) l w k = steady_run es _ (step w e.1).world (steady_step l w e.1 k)
 
-stays_run : (h : List Entry) (l : List ℕ) (w : World) → Steady l w → Stays w (world_after w h)
+-- how many frames are accepted and inside after a call
+pub counted_step : (l : List ℕ) (w : World) (note : Note) → Steady l w
+    → (accepted (step w note).world ≡ (if is_none (refusal w note) then brought note else 0) + accepted w)
+    × ((if is_none (refusal w note) then fetched note else 0) + inside (step w note).world ≡ (if is_none (refusal w note) then brought note else 0) + inside w)
+counted_step l w note k = let f = fates_step l w k.lawful note k.labelled k.placing k.fresh in (f.accepted, f.inside)
+
+remains_run : (h : List Entry) (l : List ℕ) (w : World) → Steady l w → Remains w (world_after w h)
 unfolding world_after
-stays_run [] l w k = stays_frames w w refl
-stays_run (e ∷ es) l w k = then_stays w (step w e.1).world _ (fates_step l w k.lawful e.1 k.labelled k.placing k.fresh).stays (stays_run es _ (step w e.1).world (steady_step l w e.1 k))
+remains_run [] l w k = remains_same w w refl
+remains_run (e ∷ es) l w k = then_remains w (step w e.1).world _ (fates_step l w k.lawful e.1 k.labelled k.placing k.fresh).remains (remains_run es _ (step w e.1).world (steady_step l w e.1 k))
 
 pub steady_first : (config : Config) → Steady [] (opening config)
 steady_first config = record {
@@ -1094,7 +1131,7 @@ world_after-append (e ∷ h) w k = world_after-append h (step w e.1).world k
 
 pub fate_stays : (config : Config) (before after : List Entry) (id : ℕ) → ((frame (world_after (opening config) before) id).fate ≡ Held) ⊎ ((frame (world_after (opening config) (before ++ after)) id).fate ≡ (frame (world_after (opening config) before) id).fate)
 fate_stays config before after id =
-    elim ((stays_run after (named_from (opening config) [] before) (world_after (opening config) before) (steady_run before [] (opening config) (steady_first config))).stays id) [
+    elim ((remains_run after (named_from (opening config) [] before) (world_after (opening config) before) (steady_run before [] (opening config) (steady_first config))).remains id) [
       | inl h ↦ inl h
       | inr e ↦ inr (ap (λ (w : World). (frame w id).fate) (world_after-append before (opening config) after) ∙ e)
     ]

@@ -12,6 +12,7 @@ use Rattle.wf_world.specs.World.{World, Station, Share, Tid, Queue, Exchange, wi
 use Rattle.wf_world.specs.FlowQueues.{without_head, within_limit, listed_queue, pay_queues, dequeued, taken_from, take, purge_queue, purge_queues}
 use Rattle.wf_world.specs.CanSend.{listed_in, listed_in_all, listed}
 use Rattle.wf_world.specs.Exchanges.{pay_station, pay_stations, after_pick, after_turn, spent, charged}
+use Rattle.wf_laws.specs.Queues.{EachItem}
 use Rattle.wf_laws.proofs.Common.Tables.{each_put, at_put_same}
 use Rattle.wf_laws.proofs.Common.Numbers.{on_bool, eq_yes, yes_eq, either, or_left, or_right}
 use Rattle.wf_frame.specs.declared.classes.Fate.TheVariants.{Acked}
@@ -31,25 +32,31 @@ abbrev pub carries : List Item → ℕ → Bool
 carries [] k = false
 carries (x ∷ xs) k = (x.id == k) || carries xs k
 
+-- a frame of one octet or more
+abbrev pub HasOctets : Item → Type 0
+HasOctets x = 1 ≤ x.len
+
 pub record Fewer (ys xs : List Item) : Type 0 where
   pub ordered : (lo : ℕ) → Ordered lo ys → Ordered lo xs
   pub has : (k : ℕ) → carries xs k ≡ true → carries ys k ≡ true
+  pub short : length xs ≤ length ys
+  pub sized : EachItem HasOctets ys → EachItem HasOctets xs
 
 pub fewer : (xs : List Item) → Fewer xs xs
-fewer xs = record { ordered = λ lo o. o; has = λ k h. h }
+fewer xs = record { ordered = λ lo o. o; has = λ k h. h; short = omega arith; sized = λ h. h }
 
 pub then_fewer : (zs ys xs : List Item) → Fewer zs ys → Fewer ys xs → Fewer zs xs
-then_fewer zs ys xs h k = record { ordered = λ lo o. k.ordered lo (h.ordered lo o); has = λ n e. h.has n (k.has n e) }
+then_fewer zs ys xs h k = record { ordered = λ lo o. k.ordered lo (h.ordered lo o); has = λ n e. h.has n (k.has n e); short = omega (arith, h.short, k.short); sized = λ e. k.sized (h.sized e) }
 
 fewer_none : (ys : List Item) → Fewer ys []
-fewer_none ys = record { ordered = λ lo o. tt; has = λ k h. absurd (cc h) }
+fewer_none ys = record { ordered = λ lo o. tt; has = λ k h. absurd (cc h); short = omega arith; sized = λ h. tt }
 
 pub ordered_from : (xs : List Item) (a b : ℕ) → b ≤ a → Ordered a xs → Ordered b xs
 ordered_from [] a b h o = tt
 ordered_from (x ∷ xs) a b h o = (omega (arith, o.0, h), o.1)
 
 pub fewer_tail : (x : Item) (xs : List Item) → Fewer (x ∷ xs) xs
-fewer_tail x xs = record { ordered = λ lo o. ordered_from xs (suc x.id) lo (omega (arith, o.0)) o.1; has = λ k h. or_right (x.id == k) (carries xs k) h }
+fewer_tail x xs = record { ordered = λ lo o. ordered_from xs (suc x.id) lo (omega (arith, o.0)) o.1; has = λ k h. or_right (x.id == k) (carries xs k) h; short = omega arith; sized = λ h. h.1 }
 
 pub carries_from : (xs : List Item) (lo k : ℕ) → Ordered lo xs → carries xs k ≡ true → lo ≤ k
 carries_from [] lo k o h = absurd (cc h)

@@ -22,7 +22,8 @@ use Rattle.wf_laws.proofs.Windows.Opened.{some_along, left_true, pick_ready}
 use Rattle.wf_laws.proofs.Windows.Agreed.{IsLawful, IsReady, IsEnding, IsFound, ready_filled, ending_settled, ending_of, lawful_same, session_same}
 use Rattle.wf_laws.proofs.Windows.Settling.{without_same}
 use Rattle.wf_laws.proofs.Releases.Placed.{slot_new_id}
-use Rattle.wf_laws.proofs.Frames.Fates.{unsettles_fly, unsettles_on_slot, unsettles_heard, frames_with_queues, frames_pay_queues, frames_on_session, frames_spent, frames_after_turn, frames_after_pick}
+use Rattle.wf_laws.proofs.Frames.Fates.{unsettles_fly, unsettles_on_slot, unsettles_heard}
+use Rattle.wf_laws.proofs.Frames.Untouched.{untouched_with_queues, untouched_pay_queues, untouched_on_session, untouched_spent, untouched_after_turn, untouched_after_pick}
 use Rattle.wf_laws.proofs.Queues.Shelves.{Shelves, shelves, shelves_pay_queues, shelves_finish_all, shelves_after_turn, shelves_after_pick, shelves_ended}
 use Rattle.wf_laws.proofs.Queues.Shelved.{IsOf, IsShelved, each_item}
 use Rattle.wf_laws.proofs.Queues.ShelvedStep.{shelves_number, live_number, shelved_take}
@@ -100,7 +101,7 @@ unfolding take
 notes_take w s t =
     let u : World = pay_queues w (picked_queue w s t).quanta (in_order (tid_of w s t).queues) in
     let v : World = with_queues u s t (picked_queue w s t).lists in
-    record { same = λ k. (notes_taken (picked_queue w s t).winner v s).same k ∙ (notes_frames w v (frames_with_queues u s t _ ∙ frames_pay_queues _ w _)).same k }
+    record { same = λ k. (notes_taken (picked_queue w s t).winner v s).same k ∙ (notes_frames w v ((untouched_with_queues u s t _).frames ∙ (untouched_pay_queues _ w _).frames)).same k }
 
 given_by : (w : World) (s t id : ℕ) → ((a b k n : ℕ) → Carries (session w a b) k n → IsFor a b (frame w k).note × (b < 8)) → ((k n : ℕ) → Carries (give (session w s t) id) k n → IsFor s t (frame w k).note × (t < 8)) →
     (a b k n : ℕ) → Carries (session (on_session w s t (λ y. give y id)) a b) k n → IsFor a b (frame w k).note × (b < 8)
@@ -111,7 +112,7 @@ owned_give : (w : World) (s t id : ℕ) → IsFor s t (frame w id).note × (t < 
 owned_give w s t id h i =
     let y : Session = session w s t in
     record {
-      mine = λ a b k n c. subst (λ (z : Note). IsFor a b z × (b < 8)) (sym ((notes_frames w (on_session w s t (λ y. give y id)) (frames_on_session w s t (λ y. give y id))).same k)) (given a b k n c);
+      mine = λ a b k n c. subst (λ (z : Note). IsFor a b z × (b < 8)) (sym ((notes_frames w (on_session w s t (λ y. give y id)) (untouched_on_session w s t (λ y. give y id)).frames).same k)) (given a b k n c);
     }
   where
     at_own : (k n : ℕ) → Carries (give (session w s t) id) k n → IsFor s t (frame w k).note × (t < 8)
@@ -164,7 +165,7 @@ owned_frames : (s t : ℕ) (f : Filled) → IsReady s t f.world f.mpdus → IsOw
 unfolding prepared_frames
 owned_frames s t f r o =
     let y : Session = session f.world s t in
-    owned_along f.world _ (slots_session f.world s t (numbers_fly f.world.exchanges f.mpdus) (unsettles_fly f.mpdus y f.world.exchanges y.first (next_number y) (omega arith) r.chosen.rising r.chosen.waiting)) (notes_frames f.world _ (frames_on_session f.world s t _)) o
+    owned_along f.world _ (slots_session f.world s t (numbers_fly f.world.exchanges f.mpdus) (unsettles_fly f.mpdus y f.world.exchanges y.first (next_number y) (omega arith) r.chosen.rising r.chosen.waiting)) (notes_frames f.world _ (untouched_on_session f.world s t _).frames) o
 
 owned_prepared_if : (b : Bool) (x y : Prepared) → IsOwned x.world → (b ≡ false → IsOwned y.world) → IsOwned (if b then x else y).world
 owned_prepared_if true x y h k = h
@@ -182,7 +183,7 @@ unfolding sent opening_exchange
 owned_sent s t c q o =
     let x : Exchange = exchange_of s t c q in
     let u : World = record q.world { exchanges = q.world.exchanges + 1; opened = q.world.opened ++ x ∷ [] } in
-    owned_calm u (spent u s) (same_spent u s) (frames_spent u s) (owned_along q.world u (slots_same q.world u (λ i j. refl)) (record { same = λ k. refl }) o)
+    owned_calm u (spent u s) (same_spent u s) (untouched_spent u s).frames (owned_along q.world u (slots_same q.world u (λ i j. refl)) (record { same = λ k. refl }) o)
 
 owned_pulled_by : (r : Option ℕ) (most : ℕ) (w : World) (c : Class) → IfSome r (λ s. is_live w s ≡ true) → IsLawful w → IsShelved most (shelves w) → IsOwned w → IsOwned (pulled_by w c r).world
 unfolding pulled_by
@@ -191,7 +192,7 @@ owned_pulled_by (Some s) most w c live a i o =
     let t : ℕ = sending_tid w s c in
     let v : World = after_turn w s c t in
     let k : Same w v = same_after_turn w s c t in
-    owned_sent s t c _ (owned_prepared most v s t (lawful_same _ _ k a) (k.live s ∙ live) (subst (IsShelved most) (sym (shelves_after_turn w s c t)) i) (owned_calm w v k (frames_after_turn w s c t) o))
+    owned_sent s t c _ (owned_prepared most v s t (lawful_same _ _ k a) (k.live s ∙ live) (subst (IsShelved most) (sym (shelves_after_turn w s c t)) i) (owned_calm w v k (untouched_after_turn w s c t).frames o))
 
 pub owned_pulled : (most : ℕ) (w : World) (c : Class) → IsLawful w → IsShelved most (shelves w) → IsOwned w → IsOwned (pulled w c).world
 unfolding pulled
@@ -200,7 +201,7 @@ owned_pulled most w c a i o =
     let k : Same w v = same_after_pick w c in
     owned_pulled_by (picked_station w c).winner most v c
     (some_along (λ s. is_ready w c s ≡ true) (λ s. is_live v s ≡ true) (picked_station w c).winner (λ s h. k.live s ∙ left_true (is_live w s) _ h) (pick_ready (station_need w c) (is_ready w c) (rotation w c)))
-    (lawful_same _ _ k a) (subst (IsShelved most) (sym (shelves_after_pick w c)) i) (owned_calm w v k (frames_after_pick w c) o)
+    (lawful_same _ _ k a) (subst (IsShelved most) (sym (shelves_after_pick w c)) i) (owned_calm w v k (untouched_after_pick w c).frames o)
 
 -- ---- the end of an exchange
 

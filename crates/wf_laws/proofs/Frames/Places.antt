@@ -36,7 +36,8 @@ use Rattle.wf_laws.proofs.Releases.Released.{side_with_station, side_own_station
 use Rattle.wf_laws.proofs.Releases.Placed.{Placing}
 use Rattle.wf_laws.proofs.Frames.Fewer.{carries}
 use Rattle.wf_laws.proofs.Frames.Delivered.{same_enqueued}
-use Rattle.wf_laws.proofs.Frames.Fates.{IsHeld, InQueue, AtSlot, InHand, Carries, Unsettles, unsettles_refl, ids_carried, Steady, steady_step, steady_first, IsFoundNamed, found_named, frames_on_queue, frames_put_in, frames_with_station, frames_off_lists, frames_on_station, frames_on_receiver, frames_after_pick, frames_listed, session_on_receiver}
+use Rattle.wf_laws.proofs.Frames.Fates.{IsHeld, InQueue, AtSlot, InHand, Carries, Unsettles, unsettles_refl, ids_carried, Steady, steady_step, steady_first, IsFoundNamed, found_named, session_on_receiver}
+use Rattle.wf_laws.proofs.Frames.Untouched.{untouched_on_queue, untouched_put_in, untouched_with_station, untouched_off_lists, untouched_on_station, untouched_on_receiver, untouched_after_pick, untouched_listed}
 use Rattle.wf_laws.proofs.Frames.Owners.{SlotsFrom, slots_same, then_slots, IsOwned, notes_frames, owned_along, owned_calm, owned_pulled, owned_ended}
 use Rattle.wf_laws.proofs.Frames.Covered.{Full, covers_calm, covers_pulled, queues_pay_stations}
 use Rattle.wf_laws.proofs.Frames.CoveredStep.{IsQuiet, covers_enqueued, covers_ended, covers_gone, covers_joined}
@@ -51,7 +52,7 @@ use Rattle.wf_laws.proofs.Queues.Law.{shelved_step, shelved_first, longest_in, w
 notes_head : (items : List Item) (w : World) (q k : ℕ) → (frame (without_head w q items) k).note ≡ (frame w k).note
 unfolding without_head
 notes_head [] w q k = refl
-notes_head (x ∷ rest) w q k = ap (λ (b : Shelves). b.notes k) (shelves_finish _ (Dropped Overlimit) x.id) ∙ ap (λ (fs : List Frame). (at no_frame fs k).note) (frames_on_queue w q (λ y. record y { items = rest }))
+notes_head (x ∷ rest) w q k = ap (λ (b : Shelves). b.notes k) (shelves_finish _ (Dropped Overlimit) x.id) ∙ ap (λ (fs : List Frame). (at no_frame fs k).note) (untouched_on_queue w q (λ y. record y { items = rest })).frames
 
 notes_limit : (w : World) (k : ℕ) → (frame (within_limit w) k).note ≡ (frame w k).note
 unfolding within_limit
@@ -67,7 +68,7 @@ notes_enqueued l w s t flow len k p below =
     let note : Note = Enqueue s t flow len in
     let same_id : accepted a ≡ accepted w = accepted_put u s t q x ∙ accepted_limit l w p in
     ap (λ (b : Shelves). b.notes k) (shelves_with_frame a note) ∙ (upd_other (shelves a).notes (accepted a) k note (λ e. omega (arith, e, below, same_id))
-    ∙ (ap (λ (fs : List Frame). (at no_frame fs k).note) (frames_put_in u s t q x) ∙ notes_limit w k))
+    ∙ (ap (λ (fs : List Frame). (at no_frame fs k).note) (untouched_put_in u s t q x).frames ∙ notes_limit w k))
 
 owned_enqueued : (l : List ℕ) (w : World) (s t flow len : ℕ) → Placing l w → IsOwned w → IsOwned (enqueued w s t flow len).world
 owned_enqueued l w s t flow len p o = record {
@@ -98,7 +99,7 @@ bare_new first size = omega arith
 owned_joined : (w : World) (s window start exponent weight : ℕ) → IsOwned w → IsOwned (joined w s window start exponent weight).world
 unfolding joined
 owned_joined w s window start exponent weight o =
-    owned_along w (with_station w s _) (slots_station w s _ (eight (λ y. next_number y.session ≡ y.session.first) (new_tid start window) (bare_new start window) (bare_new 0 0))) (notes_frames w (with_station w s _) (frames_with_station w s _)) o
+    owned_along w (with_station w s _) (slots_station w s _ (eight (λ y. next_number y.session ≡ y.session.first) (new_tid start window) (bare_new start window) (bare_new 0 0))) (notes_frames w (with_station w s _) (untouched_with_station w s _).frames) o
 
 notes_purge : (qs : List ℕ) (w : World) (k : ℕ) → (frame (purge_queues w qs) k).note ≡ (frame w k).note
 unfolding purge_queues purge_queue on_queue
@@ -118,7 +119,7 @@ owned_gone w s o =
     let v : World = with_station b s None in
     owned_along w v
     (then_slots w b v (slots_same w b (session_same w b (then_same w a b (same_left_tids (upto 8) w s) (same_off_lists all_classes a s)))) (slots_station b s None (λ t. bare_zero)))
-    (record { same = λ k. ap (λ (fs : List Frame). (at no_frame fs k).note) (frames_with_station b s None ∙ frames_off_lists all_classes a s) ∙ notes_left (upto 8) w s k }) o
+    (record { same = λ k. ap (λ (fs : List Frame). (at no_frame fs k).note) ((untouched_with_station b s None).frames ∙ (untouched_off_lists all_classes a s).frames) ∙ notes_left (upto 8) w s k }) o
 
 -- ---- of a station with no open exchange no number is in flight
 
@@ -150,7 +151,7 @@ unfolding on_station with_station
 queues_on_station w s f = refl
 
 stood_station : (w : World) (s : ℕ) (f : Station → Station) → ((x : Station) (t : ℕ) → side_of (at no_tid (f x).tids t) ≡ side_of (at no_tid x.tids t)) → Stood w → Stood (on_station w s f)
-stood_station w s f g i = stood_calm w (on_station w s f) (same_on_station w s f g) (frames_on_station w s f) (queues_on_station w s f) i
+stood_station w s f g i = stood_calm w (on_station w s f) (same_on_station w s f g) (untouched_on_station w s f).frames (queues_on_station w s f) i
 
 stood_share : (w : World) (s : ℕ) (c : Class) (f : Share → Share) → Stood w → Stood (on_share w s c f)
 unfolding on_share
@@ -183,7 +184,7 @@ stood_arrived : (w : World) (x : Exchange) (n : ℕ) → Stood w → Stood (arri
 unfolding arrived with_exchange
 stood_arrived w x n i =
     let s : (a b : ℕ) → session (on_receiver w x.station x.tid (after_arrival x.content n)) a b ≡ session w a b = session_on_receiver w x.station x.tid (after_arrival x.content n) in
-    let e : (on_receiver w x.station x.tid (after_arrival x.content n)).frames ≡ w.frames = frames_on_receiver w x.station x.tid (after_arrival x.content n) in
+    let e : (on_receiver w x.station x.tid (after_arrival x.content n)).frames ≡ w.frames = (untouched_on_receiver w x.station x.tid (after_arrival x.content n)).frames in
     record {
       owned = owned_along w _ (slots_same w _ s) (notes_frames w _ e) i.owned;
       full = covers_calm w _ (λ q j h. queues_kept w x n q j h) s e i.full;
@@ -223,7 +224,7 @@ stood_done (Asked Reap) l most w k r f h i = stood_reaped w.finished w i
 
 stood_refused : (note : Note) (r : Refusal) (w : World) → Stood w → Stood (refused w note r)
 unfolding refused
-stood_refused (Asked (Pull c)) Idle w i = stood_calm w (after_pick w c) (same_after_pick w c) (frames_after_pick w c) (all_queues_after_pick w c) i
+stood_refused (Asked (Pull c)) Idle w i = stood_calm w (after_pick w c) (same_after_pick w c) (untouched_after_pick w c).frames (all_queues_after_pick w c) i
 stood_refused _ _ w i = i
 
 stood_answer : (r : Option Refusal) (l : List ℕ) (most : ℕ) (w : World) (note : Note) (k : Steady l w) → refusal w note ≡ r → IsFlown_by w → IsShelved most (shelves w) → Stood w → Stood (answer w note r).world
@@ -231,7 +232,7 @@ unfolding answer
 stood_answer (Some r) l most w note k e f h i = stood_refused note r w i
 stood_answer None l most w note k e f h i =
     let u : World = (done w note).world in
-    stood_calm u (listed u (concerned w note)) (same_listed (concerned w note) u) (frames_listed (concerned w note) u) (queues_listed (concerned w note) u) (stood_done note l most w k (no_row (refusals w note) e) f h i)
+    stood_calm u (listed u (concerned w note)) (same_listed (concerned w note) u) (untouched_listed (concerned w note) u).frames (queues_listed (concerned w note) u) (stood_done note l most w k (no_row (refusals w note) e) f h i)
 
 stood_step : (l : List ℕ) (most : ℕ) (w : World) (note : Note) (k : Steady l w) → IsFlown_by w → IsShelved most (shelves w) → Stood w → Stood (step w note).world
 unfolding step

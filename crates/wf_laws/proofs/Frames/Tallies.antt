@@ -7,7 +7,7 @@ use Rattle.wf_frame.specs.declared.classes.Cause.TheVariants.{Overlimit, Codel, 
 use Rattle.wf_frame.specs.declared.classes.Fate.{Fate}
 use Rattle.wf_frame.specs.declared.classes.Fate.TheVariants.{Held, Acked, Dropped}
 use Rattle.wf_frame.specs.declared.notes.Note.{Note}
-use Rattle.wf_world.specs.World.{World, Frame}
+use Rattle.wf_world.specs.World.{Frame}
 use Rattle.wf_world.specs.Run.{Entry}
 use Rattle.wf_world.specs.Text.{same_fate}
 use Rattle.wf_world.specs.Stretches.{world_at}

@@ -3,6 +3,7 @@ use Rattle.wf_laws.specs.Lists.{IsOnce}
 use Rattle.std.proofs.Common.{◌≡◌, refl, ap, sym, ◌∙◌, subst, arith, ℕ, ◌+◌, ◌-◌, min, max, append_assoc, append-nil, Bool, true, false, if◌then◌else◌, not, ◌&&◌, ◌||◌, ◌==◌, nat_le, List, [], ◌∷◌, ◌++◌, filter, find, Option, Some, None}
 use Rattle.wf_rules.specs.Table.{has}
 use Rattle.wf_rules.specs.Rotation.{Rotation, lists, in_order, before, from, round, earlier, first_least, Picked, none_ready, picked_now, old_visits, visits, is_out, picked_later, pick_later, pick_from, pick}
+use Rattle.wf_laws.proofs.Common.Joined.{has_append}
 use Rattle.wf_laws.proofs.Pick.Order.{eq_true, eq_self, filter_has}
 
 pub by_bool : (P : Type 0) (b : Bool) → (b ≡ true → P) → (b ≡ false → P) → P
@@ -76,14 +77,6 @@ or_false : (b : Bool) → b || false ≡ b
 or_false true = refl
 or_false false = refl
 
-has-append : (xs ys : List ℕ) (k : ℕ) → has (xs ++ ys) k ≡ (has xs k || has ys k)
-has-append [] ys k = refl
-has-append (x ∷ xs) ys k = ap (λ (b : Bool). (x == k) || b) (has-append xs ys k) ∙ or_is (x == k) (has xs k) (has ys k)
-  where
-    or_is : (a b c : Bool) → a || (b || c) ≡ (a || b) || c
-    or_is true b c = refl
-    or_is false b c = refl
-
 distinct_tail : (xs : List ℕ) (k : ℕ) (ys : List ℕ) → IsOnce (xs ++ k ∷ ys) → has ys k ≡ false
 distinct_tail [] k ys d = d.0
 distinct_tail (x ∷ xs) k ys d = distinct_tail xs k ys d.1
@@ -152,7 +145,7 @@ module _ (need need' : ℕ → ℕ) (ready : ℕ → Bool) (k x : ℕ) (new old 
   lists_other : (y : ℕ) → (k == y) ≡ false → lists r y ≡ lists r' y
   lists_other y e =
       ap (λ (b : Bool). b || has old y) (new_other y e)
-      ∙ ap (λ (b : Bool). has new y || b) (sym (has-append old (k ∷ []) y ∙ ap (λ (b : Bool). has old y || (b || false)) e ∙ or_false (has old y)))
+      ∙ ap (λ (b : Bool). has new y || b) (sym (has_append old (k ∷ []) y ∙ ap (λ (b : Bool). has old y || (b || false)) e ∙ or_false (has old y)))
 
   lists_k : lists r k ≡ true
   lists_k = ap (λ (b : Bool). b || has old k) new_k
@@ -162,7 +155,7 @@ module _ (need need' : ℕ → ℕ) (ready : ℕ → Bool) (k x : ℕ) (new old 
   or_true false = refl
 
   lists_k' : lists r' k ≡ true
-  lists_k' = ap (λ (b : Bool). b || has (old ++ k ∷ []) k) absent ∙ has-append old (k ∷ []) k ∙ ap (λ (b : Bool). has old k || (b || false)) (eq_self k) ∙ or_true (has old k)
+  lists_k' = ap (λ (b : Bool). b || has (old ++ k ∷ []) k) absent ∙ has_append old (k ∷ []) k ∙ ap (λ (b : Bool). has old k || (b || false)) (eq_self k) ∙ or_true (has old k)
 
   round_other : (y : ℕ) → (k == y) ≡ false → round need r y ≡ round need' r' y
   round_other y e =
@@ -383,7 +376,7 @@ module _ (need : ℕ → ℕ) (ready : ℕ → Bool) (k : ℕ) (old : List ℕ) 
         ∙ filter_same keep keep' (from w m ++ before w m) (λ y there. keep_other y (other_member k (from w m ++ before w m) absent_ring y there))
       where
         absent_ring : has (from w m ++ before w m) k ≡ false
-        absent_ring = has-append (from w m) (before w m) k ∙ both_false (has (from w m) k) (has (before w m) k) (from_absent w m k d.0) (before_absent w m k d.0)
+        absent_ring = has_append (from w m) (before w m) k ∙ both_false (has (from w m) k) (has (before w m) k) (from_absent w m k d.0) (before_absent w m k d.0)
 
     min_zero : (n : ℕ) → min n 0 ≡ 0
     min_zero n = omega arith
@@ -507,7 +500,7 @@ module _ (need need' : ℕ → ℕ) (ready : ℕ → Bool) (k : ℕ) (old : List
   order_v' = append-nil (old ++ k ∷ [])
 
   back_lists : (y : ℕ) → lists v y ≡ lists v' y
-  back_lists y = flip (k == y) (has old y) ∙ sym (has-append old (k ∷ []) y)
+  back_lists y = flip (k == y) (has old y) ∙ sym (has_append old (k ∷ []) y)
     where
       flip : (a b : Bool) → (a || b) ≡ (b || (a || false))
       flip true true = refl

@@ -40,14 +40,6 @@ pub place_back : (xs ys : List ℕ) (k : ℕ) → has xs k ≡ false → place k
 place_back [] ys k h = omega arith
 place_back (x ∷ xs) ys k h = back_if (x == k) _ (length xs + place k ys) (has xs k) h (place_back xs ys k) ∙ omega arith
 
-has_front_if : (b P Q : Bool) → (b || P) ≡ true → (P ≡ true → Q ≡ true) → (b || Q) ≡ true
-has_front_if true P Q h k = refl
-has_front_if false P Q h k = k h
-
-pub has_front : (xs ys : List ℕ) (k : ℕ) → has xs k ≡ true → has (xs ++ ys) k ≡ true
-has_front [] ys k h = absurd (cc h)
-has_front (x ∷ xs) ys k h = has_front_if (x == k) (has xs k) _ h (has_front xs ys k)
-
 inside_if : (b P : Bool) (m n : ℕ) → (b || P) ≡ true → (P ≡ true → m < n) → (if b then 0 else suc m) < suc n
 inside_if true P m n h k = omega arith
 inside_if false P m n h k = omega (arith, k h)

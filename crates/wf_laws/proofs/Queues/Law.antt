@@ -22,6 +22,7 @@ use Rattle.wf_laws.specs.Lists.{IsOnce, IsRising}
 use Rattle.wf_laws.specs.Queues.{KeepsQueues, QueueLaw, IsAtMost, AreAtMost, QueueDeficitLaw}
 use Rattle.wf_laws.proofs.Common.Counts.{on, on-nil, on-cons_same, on-cons}
 use Rattle.wf_laws.proofs.Common.Numbers.{on_bool}
+use Rattle.wf_laws.proofs.Queues.Drops.{counts_new}
 use Rattle.wf_laws.proofs.Windows.Opened.{NoRow, no_row}
 use Rattle.wf_laws.proofs.Windows.Agreed.{IsLawful, lawful_step, lawful_at_first}
 use Rattle.wf_laws.proofs.Releases.Placed.{Placing, placed_step, placed_at_first}
@@ -86,6 +87,7 @@ shelved_first config most range = record {
   mine = λ s t q l. absurd (omega (arith, on-nil q, l));
   stamps = λ q. omega arith;
   deficits = λ s t q l. absurd (omega (arith, on-nil q, l));
+  counts = λ q. counts_new;
 }
 
 pub shelved : (config : Config) (h : List Entry) (most : ℕ) → IsInRange config → AreAtMost most h → IsShelved most (shelves (world_after (opening config) h))

@@ -8,6 +8,7 @@ use Rattle.wf_rules.specs.Rotation.{need_of}
 use Rattle.wf_world.specs.World.{Queue}
 use Rattle.wf_world.specs.FlowQueues.{len_given}
 use Rattle.wf_laws.specs.Queues.{EachItem, IsAged, IsFor}
+use Rattle.wf_laws.specs.Ranges.{CountsRight}
 use Rattle.wf_laws.proofs.Common.Dequeues.{dropping_first, each_dequeue}
 use Rattle.wf_laws.proofs.Deficits.Books.{upd, upd_other, each_upd}
 use Rattle.wf_laws.proofs.Deficits.Bounds.{paid_most}
@@ -44,6 +45,7 @@ pub record IsShelved (most : ℕ) (b : Shelves) : Type 0 where
   pub mine : (s t q : ℕ) → 0 < (b.spots s).listed t q → EachItem (IsOf b.notes most s t) (b.queues q).items
   pub stamps : (q : ℕ) → IsAged 0 b.clock (b.queues q).items
   pub deficits : (s t q : ℕ) → 0 < (b.spots s).listed t q → IsWithin b.config.flow_quantum most (b.queues q).deficit
+  pub counts : (q : ℕ) → CountsRight (b.queues q).codel
 
 -- ---- lists of frames
 
@@ -105,8 +107,8 @@ left_dequeue xs p now c = each_dequeue IsLeft
 
 -- ---- a queue changes
 
-pub keep_queue : (most : ℕ) (b : Shelves) (q : ℕ) (y : Queue) → IsPart (b.queues q).items y.items → ((s t : ℕ) → 0 < (b.spots s).listed t q → IsWithin b.config.flow_quantum most y.deficit) → IsShelved most b → IsShelved most (with_queue b q y)
-keep_queue most b q y part within i = record {
+pub keep_queue : (most : ℕ) (b : Shelves) (q : ℕ) (y : Queue) → IsPart (b.queues q).items y.items → ((s t : ℕ) → 0 < (b.spots s).listed t q → IsWithin b.config.flow_quantum most y.deficit) → CountsRight y.codel → IsShelved most b → IsShelved most (with_queue b q y)
+keep_queue most b q y part within right i = record {
   flows = i.flows;
   quantum = i.quantum;
   range = i.range;
@@ -119,6 +121,7 @@ keep_queue most b q y part within i = record {
   mine = λ s t p l. each_upd (λ p z. 0 < (b.spots s).listed t p → EachItem (IsOf b.notes most s t) z.items) b.queues q y (λ p l. i.mine s t p l) (λ l. part.each b.notes most s t (i.mine s t q l)) p l;
   stamps = each_upd (λ p z. IsAged 0 b.clock z.items) b.queues q y i.stamps (part.aged b.clock (i.stamps q));
   deficits = λ s t p l. each_upd (λ p z. 0 < (b.spots s).listed t p → IsWithin b.config.flow_quantum most z.deficit) b.queues q y (λ p l. i.deficits s t p l) (λ l. within s t l) p l;
+  counts = each_upd (λ p z. CountsRight z.codel) b.queues q y i.counts right;
 }
 
 -- ---- a TID lists other queues
@@ -186,13 +189,14 @@ module _ (most : ℕ) (b : Shelves) (s t : ℕ) (g : ℕ → ℕ) (few : (p : �
     mine = by_was (λ j k p. EachItem (IsOf b.notes most j k) (b.queues p).items) i.mine (own_items i);
     stamps = i.stamps;
     deficits = by_was (λ j k p. IsWithin b.config.flow_quantum most (b.queues p).deficit) i.deficits (λ p c. c.deficit);
+    counts = i.counts;
   }
 
 -- ---- a frame joins a queue that TID t of station s lists
 
-pub appended_to : (most : ℕ) (b : Shelves) (s t q : ℕ) (x : Item) (y : Queue) → 0 < (b.spots s).listed t q → IsOf b.notes most s t x → x.stamp ≡ b.clock → y.items ≡ (b.queues q).items ++ x ∷ [] → y.deficit ≡ (b.queues q).deficit →
+pub appended_to : (most : ℕ) (b : Shelves) (s t q : ℕ) (x : Item) (y : Queue) → 0 < (b.spots s).listed t q → IsOf b.notes most s t x → x.stamp ≡ b.clock → y.items ≡ (b.queues q).items ++ x ∷ [] → y.deficit ≡ (b.queues q).deficit → CountsRight y.codel →
     IsShelved most b → IsShelved most (with_queue b q y)
-appended_to most b s t q x y listed own now items same i = record {
+appended_to most b s t q x y listed own now items same right i = record {
   flows = i.flows;
   quantum = i.quantum;
   range = i.range;
@@ -213,6 +217,7 @@ appended_to most b s t q x y listed own now items same i = record {
   stamps = each_upd (λ p z. IsAged 0 b.clock z.items) b.queues q y i.stamps (subst (IsAged 0 b.clock) (sym items) (aged_append (b.queues q).items x 0 b.clock now (i.stamps q)));
   deficits = λ j k p l. each_upd (λ p z. 0 < (b.spots j).listed k p → IsWithin b.config.flow_quantum most z.deficit) b.queues q y (λ p l. i.deficits j k p l)
       (λ l. subst (IsWithin b.config.flow_quantum most) (sym same) (i.deficits j k q l)) p l;
+  counts = each_upd (λ p z. CountsRight z.codel) b.queues q y i.counts right;
 }
 
 -- ---- a new note, the clock, and a station that comes or goes
@@ -231,6 +236,7 @@ noted most b k note fresh i = record {
   mine = λ s t q l. both (b.queues q).items s t (fresh q) (i.mine s t q l);
   stamps = i.stamps;
   deficits = i.deficits;
+  counts = i.counts;
 }
   where
     both : (xs : List Item) (s t : ℕ) → EachItem (λ x. x.id ≡ k → ⊥) xs → EachItem (IsOf b.notes most s t) xs → EachItem (IsOf (upd b.notes k note) most s t) xs
@@ -251,6 +257,7 @@ later most b by i = record {
   mine = i.mine;
   stamps = λ q. aged_later (b.queues q).items 0 b.clock (b.clock + by) (omega arith) (i.stamps q);
   deficits = i.deficits;
+  counts = i.counts;
 }
 
 -- a station that lists no queue
@@ -268,6 +275,7 @@ restated most b s x none empty low i = record {
   mine = λ j t q l. i.mine j t q (old j t q l);
   stamps = i.stamps;
   deficits = λ j t q l. i.deficits j t q (old j t q l);
+  counts = i.counts;
 }
   where
     old : (j t q : ℕ) → 0 < ((with_spot b s x).spots j).listed t q → 0 < (b.spots j).listed t q
@@ -301,4 +309,5 @@ paid most b quanta f few needs i = record {
   mine = i.mine;
   stamps = i.stamps;
   deficits = λ s t q l. paid_within b.config.flow_quantum most (f q * quanta q) (b.queues q).deficit (once_times (f q) (quanta q) _ (few q) (needs q)) (i.deficits s t q l);
+  counts = i.counts;
 }

@@ -1,5 +1,8 @@
 -- Each call keeps the shelves.
 use Rattle.wf_laws.proofs.Queues.Shelved.{part_none}
+use Rattle.wf_laws.specs.Ranges.{CountsRight}
+use Rattle.wf_laws.proofs.Queues.Drops.{counts_new, counts_dequeue}
+use Rattle.wf_laws.proofs.Common.Sums.{length_put}
 use Rattle.wf_rules.specs.Rotation.{no_keys}
 use Rattle.wf_laws.proofs.Common.Counts.{on-has}
 use Rattle.std.proofs.Common.{map}
@@ -40,10 +43,10 @@ use Rattle.wf_frame.specs.declared.classes.Cause.TheVariants.{Overlimit}
 use Rattle.wf_frame.specs.declared.classes.Fate.TheVariants.{Dropped}
 use Rattle.wf_frame.specs.declared.notes.Note.{Note}
 use Rattle.wf_frame.specs.declared.notes.Note.TheVariants.{Enqueue}
-use Rattle.wf_rules.specs.Table.{put, has, upto}
+use Rattle.wf_rules.specs.Table.{has, upto}
 use Rattle.wf_rules.specs.Codel.{Item, Dequeued, dequeue}
 use Rattle.wf_rules.specs.Rotation.{Rotation, lists, in_order, add_new}
-use Rattle.wf_world.specs.World.{World, Queue, Frame, no_frame, queue, tid_of, is_live, accepted, live_stations, params, on_queue, with_queues, finish, with_fate, on_tid, on_station, with_station}
+use Rattle.wf_world.specs.World.{World, Queue, no_frame, queue, tid_of, is_live, accepted, live_stations, params, on_queue, with_queues, finish, with_fate, on_tid, on_station, with_station}
 use Rattle.wf_world.specs.FlowQueues.{total_queued, longest, without_head, within_limit, is_listed_elsewhere, overflow_queue, queue_for, listed_queue, appended, put_in, queue_need, has_frames, pay_queues, len_given, dequeued, taken_from, picked_queue, take}
 use Rattle.wf_laws.specs.Queues.{EachItem, IsFor}
 use Rattle.wf_laws.proofs.Common.Counts.{on, on-nil, on-cons_same, on-cons_other, on-append, on-filter, has-on}
@@ -67,7 +70,7 @@ unfolding without_head
 shelved_without_head [] most w q e i = i
 shelved_without_head (x ∷ rest) most w q e i =
     subst (IsShelved most) (sym (shelves_finish _ (Dropped Overlimit) x.id ∙ shelves_on_queue w q _))
-    (keep_queue most (shelves w) q (record (queue w q) { items = rest }) (subst (λ (ys : List Item). IsPart ys rest) (sym e) (part_tail x rest)) (λ s t l. i.deficits s t q l) i)
+    (keep_queue most (shelves w) q (record (queue w q) { items = rest }) (subst (λ (ys : List Item). IsPart ys rest) (sym e) (part_tail x rest)) (λ s t l. i.deficits s t q l) (i.counts q) i)
 
 shelved_within_limit : (most : ℕ) (w : World) → IsShelved most (shelves w) → IsShelved most (shelves (within_limit w))
 unfolding within_limit
@@ -134,7 +137,7 @@ put_new most b s t q x r same unlisted c own now i =
     was p = ap (λ (f : ℕ → ℕ). f p) same
 
     first : IsShelved most (with_queue b q y)
-    first = keep_queue most b q y (whole (b.queues q).items) (λ j k l. fresh_within b.config.flow_quantum most i.quantum) i
+    first = keep_queue most b q y (whole (b.queues q).items) (λ j k l. fresh_within b.config.flow_quantum most i.quantum) (i.counts q) i
 
     fresh : (with_queue b q y).queues q ≡ y
     fresh = upd_same b.queues q y
@@ -164,7 +167,7 @@ put_new most b s t q x r same unlisted c own now i =
 
     put : IsShelved most (with_queue (with_listed (with_queue b q y) s t g) q z)
     put = appended_to most (with_listed (with_queue b q y) s t g) s t q x z here own now
-        (ap (λ (u : Queue). u.items ++ x ∷ []) (sym fresh)) (ap (λ (u : Queue). u.deficit) (sym fresh)) second
+        (ap (λ (u : Queue). u.items ++ x ∷ []) (sym fresh)) (ap (λ (u : Queue). u.deficit) (sym fresh)) (i.counts q) second
 
 any_false : (p : ℕ → Bool) (xs : List ℕ) (y : ℕ) → list_any p xs ≡ false → 0 < on xs y → p y ≡ false
 any_false p [] y h k = absurd (let none : on [] y ≡ 0 = on-nil y in omega arith)
@@ -240,23 +243,17 @@ shelved_put true most w s t q x note listed live c for short now apart i =
     let b : Shelves = with_note (shelves w) x.id note in
     let own : IsOf b.notes most s t x = (subst (IsFor s t) (sym (upd_same (shelves w).notes x.id note)) for, short) in
     subst (λ (u : Shelves). IsShelved most (with_note u x.id note)) (sym (put_listed w q x))
-    (appended_to most b s t q x (record (queue w q) { items = (queue w q).items ++ x ∷ [] }) (on_listed (tid_of w s t).queues q listed) own now refl refl (noted most (shelves w) x.id note apart i))
+    (appended_to most b s t q x (record (queue w q) { items = (queue w q).items ++ x ∷ [] }) (on_listed (tid_of w s t).queues q listed) own now refl refl (i.counts q) (noted most (shelves w) x.id note apart i))
 shelved_put false most w s t q x note listed live c for short now apart i =
     let b : Shelves = with_note (shelves w) x.id note in
     let own : IsOf b.notes most s t x = (subst (IsFor s t) (sym (upd_same (shelves w).notes x.id note)) for, short) in
     subst (λ (u : Shelves). IsShelved most (with_note u x.id note)) (sym (put_made w s t q x (add_new (tid_of w s t).queues q) live))
     (put_new most b s t q x (tid_of w s t).queues refl listed (record { live = c.live; below = c.below; owned = c.owned; apart = c.apart }) own now (noted most (shelves w) x.id note apart i))
 
--- a frame's fate leaves the number of frames
-pub length_finish : (fs : List Frame) (k : ℕ) (v : Frame) → k < length fs → length (put no_frame fs k v) ≡ length fs
-length_finish [] k v h = absurd (omega (arith, h))
-length_finish (x ∷ fs) zero v h = refl
-length_finish (x ∷ fs) (suc k) v h = ap suc (length_finish fs k v (omega (arith, h)))
-
 accepted_head : (items : List Item) (w : World) (q : ℕ) → ((k : ℕ) → carries items k ≡ true → k < accepted w) → accepted (without_head w q items) ≡ accepted w
 unfolding without_head finish with_fate on_queue
 accepted_head [] w q h = refl
-accepted_head (x ∷ rest) w q h = length_finish w.frames x.id _ (h x.id (or_left (x.id == x.id) (carries rest x.id) (yes_eq x.id x.id refl)))
+accepted_head (x ∷ rest) w q h = length_put no_frame w.frames x.id _ (h x.id (or_left (x.id == x.id) (carries rest x.id) (yes_eq x.id x.id refl)))
 
 pub accepted_limit : (l : List ℕ) (w : World) → Placing l w → accepted (within_limit w) ≡ accepted w
 unfolding within_limit
@@ -307,12 +304,12 @@ shelved_enqueued l most w s t flow len p live below short i =
 
 -- ---- a frame is taken
 
-shelved_dequeued : (most : ℕ) (w : World) (q : ℕ) (d : Dequeued) → IsPart (queue w q).items d.rest → len_given d.given ≤ most → pos 1 ≤ℤ (queue w q).deficit → IsShelved most (shelves w) → IsShelved most (shelves (dequeued w q d).world)
+shelved_dequeued : (most : ℕ) (w : World) (q : ℕ) (d : Dequeued) → IsPart (queue w q).items d.rest → len_given d.given ≤ most → pos 1 ≤ℤ (queue w q).deficit → CountsRight d.state → IsShelved most (shelves w) → IsShelved most (shelves (dequeued w q d).world)
 unfolding dequeued
-shelved_dequeued most w q d part short above i =
+shelved_dequeued most w q d part short above right i =
     subst (IsShelved most) (sym (shelves_finish_all _ _ _ ∙ shelves_on_queue w q _))
     (keep_queue most (shelves w) q (record { items = d.rest; deficit = (queue w q).deficit -ℤ pos (len_given d.given); codel = d.state }) part
-    (λ s t l. let k : IsWithin w.config.flow_quantum most (queue w q).deficit = i.deficits s t q l in record { highest = omega (arith, ints, k.highest); lowest = omega (arith, ints, short, above) }) i)
+    (λ s t l. let k : IsWithin w.config.flow_quantum most (queue w q).deficit = i.deficits s t q l in record { highest = omega (arith, ints, k.highest); lowest = omega (arith, ints, short, above) }) right i)
 
 shelved_taken : (o : Option ℕ) (most : ℕ) (w : World) (s : ℕ) → IfSome o (λ q. pos 1 ≤ℤ (queue w q).deficit × EachItem (λ x. x.len ≤ most) (queue w q).items) → IsShelved most (shelves w) → IsShelved most (shelves (taken_from w s o).world)
 unfolding taken_from
@@ -320,7 +317,7 @@ shelved_taken None most w s h i = i
 shelved_taken (Some q) most w s h i =
     let d : Dequeued = dequeue (params w s) w.clock (queue w q).codel (queue w q).items in
     let k : IsLeft (queue w q).items d = left_dequeue (queue w q).items (params w s) w.clock (queue w q).codel in
-    shelved_dequeued most w q d k.part (if_longer d.given most (k.given most h.1)) h.0 i
+    shelved_dequeued most w q d k.part (if_longer d.given most (k.given most h.1)) h.0 (counts_dequeue (params w s) w.clock (queue w q).codel (queue w q).items (i.counts q)) i
 
 all_once : (m n k : ℕ) → m ≤ 1 → 0 < m → n ≡ k → m * n ≡ k
 all_once m n k h some e = let one : m ≡ 1 = omega (arith, h, some) in rw (one, e) (omega arith)
@@ -463,7 +460,7 @@ purged_one most w q i =
     let y : Queue = record (queue w q) { items = []; codel = new_codel } in
     let is : shelves (finish_all (on_queue w q (λ y. record y { items = []; codel = new_codel })) (Dropped Left) (map (λ x. x.id) (queue w q).items)) ≡ with_queue (shelves w) q y = shelves_finish_all _ _ _ ∙ shelves_on_queue w q _ in
     record {
-      shelved = subst (IsShelved most) (sym is) (keep_queue most (shelves w) q y (part_none (queue w q).items) (λ s t l. i.deficits s t q l) i);
+      shelved = subst (IsShelved most) (sym is) (keep_queue most (shelves w) q y (part_none (queue w q).items) (λ s t l. i.deficits s t q l) counts_new i);
       spots = ap (λ (b : Shelves). b.spots) is;
       fewer = λ p. subst (λ (z : Queue). length z.items ≤ length (queue w p).items) (sym (ap (λ (b : Shelves). b.queues p) is)) (each_upd (λ p z. length z.items ≤ length (queue w p).items) (shelves w).queues q y (λ p. omega arith) (omega arith) p);
       none = λ p h. elim (either (q == p) false h) [

@@ -18,7 +18,8 @@ use Rattle.wf_world.specs.Exchanges.{ids_of}
 use Rattle.wf_laws.specs.Releases.{joins, arrives, passed_by, passed_from, passed, named_by, named_from, numbers_passed, ReleaseLaw}
 use Rattle.wf_laws.proofs.Windows.Agreed.{lawful}
 use Rattle.wf_laws.proofs.Releases.Released.{passed_all, rising_passed}
-use Rattle.wf_laws.proofs.Releases.Placed.{Placing, placed, has_append}
+use Rattle.wf_laws.proofs.Common.Joined.{has_append}
+use Rattle.wf_laws.proofs.Releases.Placed.{Placing, placed}
 
 -- every number of l is in m
 record Within (l m : List ℕ) : Type 0 where

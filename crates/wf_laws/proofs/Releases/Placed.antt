@@ -20,6 +20,7 @@ use Rattle.wf_frame.specs.declared.notes.Refusal.TheVariants.{Idle}
 use Rattle.wf_world.specs.Refusals.{refusals, refusal}
 use Rattle.wf_world.specs.Step.{Outcome, joined, left_tid, left_tids, off_lists, gone, with_rate, ticked, with_frame, enqueued, sent, pulled_by, pulled, arrived, answered, ended, on_open, slept, woken, credited, received, reaped, done, refused, answer, step}
 use Rattle.wf_world.specs.Run.{Entry, world_after}
+use Rattle.wf_laws.proofs.Common.Joined.{has_append, once_append}
 use Rattle.wf_laws.proofs.Common.Tables.{each_put}
 use Rattle.wf_laws.proofs.Sessions.Starts.{length-change, at_append}
 use Rattle.wf_laws.proofs.Sessions.Flights.{flown, next-give}
@@ -276,21 +277,6 @@ unfolding ended
 placed_ended l w i x heard f p = placed_after x.content l w i x heard refl f (placed_same l _ _ (same_charged _ x) (less_charged Any _ x) (placed_without l w x.number p))
 
 -- ---- arrivals
-
-pub has_append : (xs ys : List ℕ) (k : ℕ) → has (xs ++ ys) k ≡ (has xs k || has ys k)
-has_append [] ys k = refl
-has_append (x ∷ xs) ys k = ap (λ (b : Bool). (x == k) || b) (has_append xs ys k) ∙ sym (joined_or (x == k) (has xs k) (has ys k))
-  where
-    joined_or : (a b c : Bool) → ((a || b) || c) ≡ (a || (b || c))
-    joined_or true b c = refl
-    joined_or false b c = refl
-
-once_append : (xs ys : List ℕ) → IsOnce xs → IsOnce ys → ((k : ℕ) → has ys k ≡ true → has xs k ≡ false) → IsOnce (xs ++ ys)
-once_append [] ys h k apart = k
-once_append (x ∷ xs) ys h k apart = (
-  has_append xs ys x ∙ ap (λ (b : Bool). b || has ys x) h.0 ∙ on_bool (has ys x) (λ e. absurd (cc (apart x e, or_left (x == x) (has xs x) (yes_eq x x refl)))) (λ e. e),
-  once_append xs ys h.1 k (λ n e. on_bool (has xs n) (λ d. absurd (cc (apart n e, or_right (x == n) (has xs n) d))) (λ d. d)),
-)
 
 pub record IsIdOf (y : Session) (ns : List ℕ) (k : ℕ) : Type 0 where
   pub number : ℕ

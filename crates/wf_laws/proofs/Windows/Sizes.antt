@@ -1,20 +1,22 @@
--- No window is larger than 256.
-use Rattle.std.proofs.Common.{◌≡◌, refl, ap, sym, ◌∙◌, subst, arith, ℕ, ◌≤◌, ◌==◌, not, nat_le, Bool, true, false, List, [], ◌∷◌, Option, Some, None}
+-- Each window of a live station is 1 to 256.
+use Rattle.std.proofs.Common.{◌≡◌, ◌≢◌, refl, ap, sym, ◌∙◌, subst, arith, ℕ, zero, suc, ◌<◌, ◌≤◌, ◌==◌, not, nat_le, true, false, List, [], ◌∷◌, Option, Some, None, is_some}
+use Rattle.std.proofs.lemmas.Bool.{not-false}
 use Rattle.wf_frame.specs.declared.settings.Config.{Config}
 use Rattle.wf_frame.specs.declared.notes.Note.{Note}
 use Rattle.wf_frame.specs.declared.notes.Note.TheVariants.{Enqueue, Asked}
 use Rattle.wf_frame.specs.declared.notes.Ask.TheVariants.{Join, Leave, Rate, Tick, Pull, Arrive, Answer, Done, Sleep, Wake, Poll, Rx, Reap}
 use Rattle.wf_frame.specs.declared.notes.Refusal.{Refusal}
 use Rattle.wf_frame.specs.Classes.{all_classes}
-use Rattle.wf_rules.specs.Table.{upto}
+use Rattle.wf_rules.specs.Table.{at, upto}
+use Rattle.wf_laws.proofs.Common.Tables.{at_put_same, at_put_other}
 use Rattle.wf_rules.specs.Session.{Session}
-use Rattle.wf_world.specs.World.{with_exchange, on_receiver, World, Station, Exchange, new_tid, session, exchange, with_station, opening}
+use Rattle.wf_world.specs.World.{with_exchange, on_receiver, World, Station, Exchange, Tid, no_tid, is_live, new_tid, session, exchange, with_station, opening}
 use Rattle.wf_world.specs.Exchanges.{after_arrival}
 use Rattle.wf_world.specs.Refusals.{refusals, refusal, is_within}
 use Rattle.wf_world.specs.Step.{Outcome, joined, gone, arrived, on_open, concerned, done, answer, step}
 use Rattle.wf_world.specs.Run.{Entry, world_after}
 use Rattle.wf_laws.proofs.Common.Numbers.{on_bool, eq_yes, eq_no, both, le_yes}
-use Rattle.wf_laws.proofs.Windows.Sides.{each_side_on, Side, sides_of, same_listed}
+use Rattle.wf_laws.proofs.Windows.Sides.{each_side_on, on_live, Side, sides_of, same_listed}
 use Rattle.wf_laws.proofs.Windows.Opened.{eight, NoRow, no_row}
 use Rattle.wf_laws.proofs.Windows.Agreed.{same_left_tids, same_off_lists}
 use Rattle.wf_laws.proofs.Releases.Kept.{Kept, kept_same, then_keep, keep_pulled, keep_ended, keep_answered, keep_enqueued, keep_reaped}
@@ -22,12 +24,24 @@ use Rattle.wf_laws.proofs.Releases.Released.{side_with_station, side_own_station
 
 pub record IsSized (w : World) : Type 0 where
   pub size : (s t : ℕ) → (session w s t).size ≤ 256
+  pub some : (s t : ℕ) → is_live w s ≡ true → t < 8 → 1 ≤ (session w s t).size
 
 sized_kept : (w v : World) → Kept w v → IsSized w → IsSized v
-sized_kept w v k i = record { size = λ s t. subst (λ (n : ℕ). n ≤ 256) (sym (k.sessions s t).size) (i.size s t) }
+sized_kept w v k i = record {
+  size = λ s t. subst (λ (n : ℕ). n ≤ 256) (sym (k.sessions s t).size) (i.size s t);
+  some = λ s t live below. subst (λ (n : ℕ). 1 ≤ n) (sym (k.sessions s t).size) (i.some s t (sym (k.live s) ∙ live) below);
+}
 
-sized_station : (w : World) (s : ℕ) (o : Option Station) → ((t : ℕ) → (sides_of o t).session.size ≤ 256) → IsSized w → IsSized (with_station w s o)
-sized_station w s o h i = record {
+live_station : (w : World) (s : ℕ) (o : Option Station) (i : ℕ) → s ≢ i → is_live (with_station w s o) i ≡ is_live w i
+unfolding with_station
+live_station w s o i ne = ap (λ (x : Option Station). is_some x) (at_put_other None w.stations s i o ne)
+
+live_own : (w : World) (s : ℕ) (o : Option Station) → is_live (with_station w s o) s ≡ is_some o
+unfolding with_station
+live_own w s o = ap (λ (x : Option Station). is_some x) (at_put_same None w.stations s o)
+
+sized_station : (w : World) (s : ℕ) (o : Option Station) → ((t : ℕ) → (sides_of o t).session.size ≤ 256) → (is_some o ≡ true → (t : ℕ) → t < 8 → 1 ≤ (sides_of o t).session.size) → IsSized w → IsSized (with_station w s o)
+sized_station w s o h k i = record {
   size = λ j t. on_bool (s == j)
       (λ own.
       let e : session (with_station w s o) j t ≡ (sides_of o t).session = ap (λ (k : ℕ). session (with_station w s o) k t) (sym (eq_yes s j own)) ∙ ap (λ (b : Side). b.session) (side_own_station w s t o) in
@@ -35,22 +49,38 @@ sized_station w s o h i = record {
       (λ other.
       let e : session (with_station w s o) j t ≡ session w j t = ap (λ (b : Side). b.session) (side_with_station w s j t o (eq_no s j other)) in
       subst (λ (y : Session). y.size ≤ 256) (sym e) (i.size j t));
+  some = λ j t live below. on_bool (s == j)
+      (λ own.
+      let same_s : s ≡ j = eq_yes s j own in
+      let e : session (with_station w s o) j t ≡ (sides_of o t).session = ap (λ (k : ℕ). session (with_station w s o) k t) (sym same_s) ∙ ap (λ (b : Side). b.session) (side_own_station w s t o) in
+      subst (λ (y : Session). 1 ≤ y.size) (sym e) (k (sym (live_own w s o) ∙ (ap (is_live (with_station w s o)) same_s ∙ live)) t below))
+      (λ other.
+      let e : session (with_station w s o) j t ≡ session w j t = ap (λ (b : Side). b.session) (side_with_station w s j t o (eq_no s j other)) in
+      subst (λ (y : Session). 1 ≤ y.size) (sym e) (i.some j t (sym (live_station w s o j (eq_no s j other)) ∙ live) below));
 }
 
-not_false : (b : Bool) → not b ≡ false → b ≡ true
-not_false true h = refl
-not_false false h = absurd (cc h)
+-- each of a station's eight TIDs
+each_eight : (P : Tid → Type 0) (y : Tid) → P y → (j : ℕ) → j < 8 → P (at no_tid (y ∷ y ∷ y ∷ y ∷ y ∷ y ∷ y ∷ y ∷ []) j)
+each_eight P y h zero b = h
+each_eight P y h (suc zero) b = h
+each_eight P y h (suc (suc zero)) b = h
+each_eight P y h (suc (suc (suc zero))) b = h
+each_eight P y h (suc (suc (suc (suc zero)))) b = h
+each_eight P y h (suc (suc (suc (suc (suc zero))))) b = h
+each_eight P y h (suc (suc (suc (suc (suc (suc zero)))))) b = h
+each_eight P y h (suc (suc (suc (suc (suc (suc (suc zero))))))) b = h
+each_eight P y h (suc (suc (suc (suc (suc (suc (suc (suc j)))))))) b = absurd (omega (arith, b))
 
 sized_joined : (w : World) (s window start exponent weight : ℕ) → not (is_within 1 256 window) ≡ false → IsSized w → IsSized (joined w s window start exponent weight).world
 unfolding joined
 sized_joined w s window start exponent weight h i =
-    let most : window ≤ 256 = le_yes window 256 (both (nat_le 1 window) (nat_le window 256) (not_false _ h)).1 in
-    sized_station w s _ (eight (λ y. y.session.size ≤ 256) (new_tid start window) most (omega arith)) i
+    let range = both (nat_le 1 window) (nat_le window 256) (not-false _ h) in
+    sized_station w s _ (eight (λ y. y.session.size ≤ 256) (new_tid start window) (le_yes window 256 range.1) (omega arith)) (λ _. each_eight (λ y. 1 ≤ y.session.size) (new_tid start window) (le_yes 1 window range.0)) i
 
 sized_gone : (w : World) (s : ℕ) → IsSized w → IsSized (gone w s).world
 unfolding gone
 sized_gone w s i =
-    sized_station _ s None (λ t. omega arith) (sized_kept w _ (then_keep w _ _ (kept_same w _ (same_left_tids (upto 8) w s)) (kept_same _ _ (same_off_lists all_classes _ s))) i)
+    sized_station _ s None (λ t. omega arith) (λ e. absurd (cc e)) (sized_kept w _ (then_keep w _ _ (kept_same w _ (same_left_tids (upto 8) w s)) (kept_same _ _ (same_off_lists all_classes _ s))) i)
 
 sized_open : (o : Option Exchange) (w : World) (f : Exchange → Outcome) → ((x : Exchange) → IsSized (f x).world) → IsSized w → IsSized (on_open w o f).world
 unfolding on_open
@@ -61,6 +91,8 @@ sized_arrived : (w : World) (x : Exchange) (n : ℕ) → IsSized w → IsSized (
 unfolding arrived with_exchange on_receiver
 sized_arrived w x n i = record {
   size = each_side_on (λ s t y. y.session.size ≤ 256) w x.station x.tid (λ y. record y { receiver = after_arrival x.content n y.receiver }) (λ s t. i.size s t) (i.size x.station x.tid);
+  some = λ s t live below. each_side_on (λ s t y. is_live w s ≡ true → t < 8 → 1 ≤ y.session.size) w x.station x.tid (λ y. record y { receiver = after_arrival x.content n y.receiver }) (λ s t. i.some s t) (i.some x.station x.tid) s t
+      (sym (on_live w x.station x.tid (λ y. record y { receiver = after_arrival x.content n y.receiver }) s) ∙ live) below;
 }
 
 sized_done : (note : Note) (w : World) → NoRow (refusals w note) → IsSized w → IsSized (done w note).world
@@ -95,4 +127,4 @@ sized_run [] w i = i
 sized_run (e ∷ es) w i = sized_run es _ (sized_step w e.1 i)
 
 pub sized : (config : Config) (h : List Entry) → IsSized (world_after (opening config) h)
-sized config h = sized_run h (opening config) (record { size = λ s t. omega arith })
+sized config h = sized_run h (opening config) (record { size = λ s t. omega arith; some = λ s t live. absurd (cc live) })

@@ -1,0 +1,205 @@
+-- All flow queues together have at most `limit` frames, in every world of a run.
+use Rattle.std.proofs.Common.{◌≡◌, refl, ap, ◌∙◌, subst, arith, ℕ, zero, suc, ◌+◌, ◌<◌, ◌≤◌, ◌==◌, max, nat_lt, if◌then◌else◌, inr, List, [], ◌∷◌, ◌++◌, length, take, Option, Some, None}
+use Rattle.std.proofs.lemmas.List.{length-append}
+use Rattle.std.proofs.lemmas.List.Sums.{sum_by-cons}
+use Rattle.std.specs.Prelude.{sum_by}
+use Rattle.wf_frame.specs.declared.settings.Config.{Config}
+use Rattle.wf_frame.specs.Settings.{IsInRange}
+use Rattle.wf_frame.specs.declared.notes.Ask.{Ask}
+use Rattle.wf_frame.specs.declared.notes.Ask.TheVariants.{Join, Leave, Rate, Tick, Pull, Arrive, Answer, Done, Sleep, Wake, Poll, Rx, Reap}
+use Rattle.wf_frame.specs.declared.notes.Note.{Note}
+use Rattle.wf_frame.specs.declared.notes.Note.TheVariants.{Enqueue, Asked}
+use Rattle.wf_frame.specs.declared.notes.Refusal.{Refusal}
+use Rattle.wf_frame.specs.declared.notes.Refusal.TheVariants.{Idle}
+use Rattle.wf_rules.specs.Table.{at}
+use Rattle.wf_rules.specs.Codel.{Item, octets}
+use Rattle.wf_world.specs.World.{World, Queue, Exchange, new_queue, queue, accepted, exchange, on_queue, finish, with_fate, opening}
+use Rattle.wf_world.specs.FlowQueues.{total_queued, longest_after, longest, without_head, within_limit, queue_for, appended, put_in}
+use Rattle.wf_world.specs.Refusals.{refusal}
+use Rattle.wf_world.specs.Step.{Outcome, ticked, with_rate, slept, woken, credited, received, with_frame, enqueued, on_open, concerned, done, refused, answer, step}
+use Rattle.wf_world.specs.Run.{Entry, world_after}
+use Rattle.wf_world.specs.Stretches.{world_at}
+use Rattle.wf_laws.specs.Queues.{EachItem, HasLength, HaveLengths}
+use Rattle.wf_laws.specs.Room.{LimitLaw}
+use Rattle.wf_laws.proofs.Common.Numbers.{on_if, lt_yes, lt_no, eq_yes, eq_no}
+use Rattle.wf_laws.proofs.Common.Tables.{each_put}
+use Rattle.wf_laws.proofs.Common.Sums.{sum_put, sum_below}
+use Rattle.wf_laws.proofs.Deficits.Configs.{config_step}
+use Rattle.wf_laws.proofs.Frames.Fewer.{HasOctets, Less, less, less_plain, less_on_station, less_on_share, less_after_pick, less_listed, less_within_limit}
+use Rattle.wf_laws.proofs.Frames.Delivered.{less_joined, less_gone, less_pulled, less_arrived, less_answered, less_reaped, less_ended}
+use Rattle.wf_laws.proofs.Queues.Shelved.{each_append}
+use Rattle.wf_laws.proofs.Releases.Placed.{Any, less_put_in}
+
+-- ---- the longest queue
+
+each_octet : (xs : List Item) → EachItem HasOctets xs → length xs ≤ octets xs
+each_octet [] h = omega arith
+each_octet (x ∷ xs) h = omega (arith, sum_by-cons (λ (y : Item). y.len) x xs, h.0, each_octet xs h.1)
+
+-- g: the octets of each queue
+record IsLongest (g : ℕ → ℕ) (best most : ℕ) (qs : List Queue) : Type 0 where
+  most_so_far : most ≤ g best
+  each : (k : ℕ) → octets (at new_queue qs k).items ≤ g best
+
+longest_of : (qs : List Queue) (g : ℕ → ℕ) (best most n : ℕ) → most ≤ g best → ((k : ℕ) → octets (at new_queue qs k).items ≤ g (n + k)) → IsLongest g (longest_after best most n qs) most qs
+longest_of [] g best most n h k = record { most_so_far = h; each = λ i. omega arith }
+longest_of (q ∷ qs) g best most n h k =
+    let here : octets q.items ≤ g n = subst (λ (j : ℕ). octets q.items ≤ g j) (plus_zero n) (k zero) in
+    let next : max most (octets q.items) ≤ g (if nat_lt most (octets q.items) then n else best) =
+    on_if (λ (b : ℕ). max most (octets q.items) ≤ g b) (nat_lt most (octets q.items)) n best
+    (λ e. omega (arith, here, lt_yes most (octets q.items) e)) (λ e. omega (arith, h, lt_no most (octets q.items) e)) in
+    let rest = longest_of qs g (if nat_lt most (octets q.items) then n else best) (max most (octets q.items)) (suc n) next (λ i. subst (λ (j : ℕ). octets (at new_queue qs i).items ≤ g j) (plus_suc n i) (k (suc i))) in
+    record { most_so_far = omega (arith, rest.most_so_far); each = each_here rest.most_so_far rest.each }
+  where
+    plus_zero : (n : ℕ) → n + 0 ≡ n
+    plus_zero n = omega arith
+
+    plus_suc : (n i : ℕ) → n + suc i ≡ suc n + i
+    plus_suc n i = omega arith
+
+    each_here : {m : ℕ} → max most (octets q.items) ≤ m → ((i : ℕ) → octets (at new_queue qs i).items ≤ m) → (i : ℕ) → octets (at new_queue (q ∷ qs) i).items ≤ m
+    each_here a f zero = omega (arith, a)
+    each_here a f (suc i) = f i
+
+-- no queue has frames where the longest has none
+none_queued : (w : World) → ((q : ℕ) → EachItem HasOctets (queue w q).items) → (queue w (longest w)).items ≡ [] → total_queued w ≡ 0
+none_queued w sized e =
+    let l = longest_of w.queues (λ q. octets (queue w q).items) 0 0 0 (omega arith) (λ k. subst (λ (j : ℕ). octets (queue w k).items ≤ octets (queue w j).items) (zero_plus k) (omega arith)) in
+    let none : octets (queue w (longest w)).items ≡ 0 = ap octets e in
+    let empty : sum_by (λ (q : Queue). length q.items) w.queues ≤ 0 = sum_below (λ (q : Queue). length q.items) new_queue [] w.queues refl (λ k. omega (arith, each_octet (queue w k).items (sized k), l.each k, none)) in
+    omega (arith, empty)
+  where
+    zero_plus : (k : ℕ) → k ≡ 0 + k
+    zero_plus k = omega arith
+
+-- ---- how many frames are queued
+
+total_less : (P : ℕ → Type 0) (w v : World) → Less P w v → total_queued v ≤ total_queued w
+total_less P w v h = sum_below (λ (q : Queue). length q.items) new_queue w.queues v.queues refl (λ k. (h.queues k).short)
+
+total_on_queue : (w : World) (q : ℕ) (f : Queue → Queue) → total_queued (on_queue w q f) + length (queue w q).items ≡ total_queued w + length (f (queue w q)).items
+unfolding on_queue
+total_on_queue w q f = sum_put (λ (y : Queue). length y.items) new_queue w.queues q (f (queue w q)) refl
+
+-- one frame fewer
+total_head : (items : List Item) (w : World) (q : ℕ) → (queue w q).items ≡ items → 0 < length items → suc (total_queued (without_head w q items)) ≡ total_queued w
+unfolding without_head finish with_fate
+total_head [] w q e h = absurd (omega (arith, h))
+total_head (x ∷ rest) w q e h = omega (arith, total_on_queue w q (λ y. record y { items = rest }), ap (length {A = Item}) e)
+
+below_limit : (w : World) → 0 < w.config.limit → ((q : ℕ) → EachItem HasOctets (queue w q).items) → total_queued w ≤ w.config.limit → total_queued (within_limit w) < w.config.limit
+unfolding within_limit
+below_limit w some sized h =
+    let items : List Item = (queue w (longest w)).items in
+    on_if (λ (v : World). total_queued v < w.config.limit) (total_queued w == w.config.limit) (without_head w (longest w) items) w
+    (λ e. on_length items refl
+    (λ none. absurd (omega (arith, none_queued w sized none, eq_yes (total_queued w) w.config.limit e, some)))
+    (λ l. omega (arith, total_head items w (longest w) refl l, eq_yes (total_queued w) w.config.limit e)))
+    (λ e. omega (arith, h, eq_no (total_queued w) w.config.limit e))
+  where
+    on_length : {P : Type 0} (xs : List Item) {ys : List Item} → ys ≡ xs → (ys ≡ [] → P) → (0 < length xs → P) → P
+    on_length [] e f g = f e
+    on_length (x ∷ xs) e f g = g (omega arith)
+
+-- ---- the step
+
+-- n: the limit
+record IsLimited (n : ℕ) (w : World) : Type 0 where
+  limit : w.config.limit ≡ n
+  sized : (q : ℕ) → EachItem HasOctets (queue w q).items
+  most : total_queued w ≤ n
+
+-- a world's queues, whatever its settings are
+record IsSmall (n : ℕ) (w : World) : Type 0 where
+  sized : (q : ℕ) → EachItem HasOctets (queue w q).items
+  most : total_queued w ≤ n
+
+small_less : (n : ℕ) (P : ℕ → Type 0) (w v : World) → Less P w v → IsSmall n w → IsSmall n v
+small_less n P w v h i = record { sized = λ q. (h.queues q).sized (i.sized q); most = omega (arith, total_less P w v h, i.most) }
+
+sized_on : (u : World) (q : ℕ) (x : Item) → HasOctets x → ((r : ℕ) → EachItem HasOctets (queue u r).items) → (r : ℕ) → EachItem HasOctets (queue (on_queue u q (λ y. record y { items = y.items ++ x ∷ [] })) r).items
+unfolding on_queue
+sized_on u q x one sized = each_put (λ r y. EachItem HasOctets y.items) new_queue u.queues q _ sized (each_append HasOctets (queue u q).items x (sized q) one)
+
+small_appended : (n : ℕ) (u : World) (q : ℕ) (x : Item) → HasOctets x → total_queued u < n → ((r : ℕ) → EachItem HasOctets (queue u r).items) → IsSmall n (appended u q x)
+unfolding appended
+small_appended n u q x one h sized = record {
+  sized = sized_on u q x one sized;
+  most = omega (arith, total_on_queue u q (λ y. record y { items = y.items ++ x ∷ [] }), length-append (queue u q).items (x ∷ []), h);
+}
+
+small_with_frame : (n : ℕ) (w : World) (note : Note) → IsSmall n w → IsSmall n (with_frame w note)
+unfolding with_frame
+small_with_frame n w note i = record { sized = i.sized; most = i.most }
+
+small_enqueued : (n : ℕ) (w : World) (s t flow len : ℕ) → 0 < n → 1 ≤ len → IsLimited n w → IsSmall n (enqueued w s t flow len).world
+unfolding enqueued
+small_enqueued n w s t flow len some one i =
+    let u : World = within_limit w in
+    let q : ℕ = queue_for u s t flow in
+    let x : Item = record { id = accepted w; stamp = w.clock; len = len } in
+    let below : total_queued u < w.config.limit = below_limit w (omega (arith, some, i.limit)) i.sized (omega (arith, i.most, i.limit)) in
+    small_with_frame n (put_in u s t q x) (Enqueue s t flow len)
+    (small_less n Any (appended u q x) (put_in u s t q x) (less_put_in u s t q x)
+    (small_appended n u q x one (omega (arith, below, i.limit)) (λ r. ((less_within_limit Any w).queues r).sized (i.sized r))))
+
+less_any : (P : ℕ → Type 0) (w v : World) → Less P w v → Less Any w v
+less_any P w v h = record { queues = h.queues; accepted = h.accepted; fates = λ id a. inr tt }
+
+less_open : (o : Option Exchange) (w : World) (f : Exchange → Outcome) → ((x : Exchange) → Less Any w (f x).world) → Less Any w (on_open w o f).world
+unfolding on_open
+less_open None w f h = less Any w
+less_open (Some x) w f h = h x
+
+-- no call but Enqueue queues a frame
+less_asked : (ask : Ask) (w : World) → Less Any w (done w (Asked ask)).world
+unfolding done ticked with_rate slept woken credited received
+less_asked (Join s window start exponent weight) w = less_joined Any w s window start exponent weight
+less_asked (Leave s) w = less_gone Any w s
+less_asked (Rate s mcs mhz short) w = less_on_station Any w s _
+less_asked (Tick by) w = less_plain Any w _ refl refl
+less_asked (Pull c) w = less_pulled Any w c
+less_asked (Arrive e n) w = less_open (exchange w e) w _ (λ x. less_arrived Any w x n)
+less_asked (Answer e) w = less_open (exchange w e) w _ (λ x. less_answered Any w x)
+less_asked (Done e heard) w = less_open (exchange w e) w _ (λ x. less_any _ w _ (less_ended w x heard))
+less_asked (Sleep s) w = less_on_station Any w s _
+less_asked (Wake s) w = less_on_station Any w s _
+less_asked (Poll s) w = less_on_station Any w s _
+less_asked (Rx s c air) w = less_on_share Any w s c _
+less_asked Reap w = less_reaped w.finished Any w
+
+small_done : (note : Note) (n : ℕ) (w : World) → 0 < n → HasLength note → IsLimited n w → IsSmall n (done w note).world
+unfolding done
+small_done (Enqueue s t flow len) n w some one i = small_enqueued n w s t flow len some one i
+small_done (Asked ask) n w some one i = small_less n Any w _ (less_asked ask w) (record { sized = i.sized; most = i.most })
+
+small_refused : (note : Note) (r : Refusal) (n : ℕ) (w : World) → IsSmall n w → IsSmall n (refused w note r)
+unfolding refused
+small_refused (Asked (Pull c)) Idle n w i = small_less n Any w _ (less_after_pick Any w c) i
+small_refused _ _ n w i = i
+
+small_answer : (r : Option Refusal) (n : ℕ) (w : World) (note : Note) → 0 < n → HasLength note → IsLimited n w → IsSmall n (answer w note r).world
+unfolding answer
+small_answer (Some r) n w note some one i = small_refused note r n w (record { sized = i.sized; most = i.most })
+small_answer None n w note some one i = small_less n Any (done w note).world _ (less_listed Any (concerned w note) (done w note).world) (small_done note n w some one i)
+
+limited_step : (n : ℕ) (w : World) (note : Note) → 0 < n → HasLength note → IsLimited n w → IsLimited n (step w note).world
+unfolding step
+limited_step n w note some one i =
+    let k : IsSmall n (step w note).world = small_answer (refusal w note) n w note some one i in
+    record { limit = ap (λ (c : Config). c.limit) (config_step w note) ∙ i.limit; sized = k.sized; most = k.most }
+
+limited_run : (h : List Entry) (n : ℕ) (w : World) → 0 < n → HaveLengths h → IsLimited n w → IsLimited n (world_after w h)
+unfolding world_after
+limited_run [] n w some long i = i
+limited_run (e ∷ es) n w some long i = limited_run es n (step w e.1).world some long.1 (limited_step n w e.1 some long.0 i)
+
+pub have_lengths_taken : (m : ℕ) (h : List Entry) → HaveLengths h → HaveLengths (take m h)
+have_lengths_taken zero h a = tt
+have_lengths_taken (suc m) [] a = tt
+have_lengths_taken (suc m) (e ∷ es) a = (a.0, have_lengths_taken m es a.1)
+
+pub limit_law : (config : Config) (h : List Entry) → IsInRange config → LimitLaw config h
+limit_law config h range long m =
+    let i : IsLimited config.limit (world_at config h m) = limited_run (take m h) config.limit (opening config) (omega (arith, range.limit.0)) (have_lengths_taken m h long) (record { limit = refl; sized = λ q. tt; most = omega arith }) in
+    i.most
