@@ -114,8 +114,8 @@ impl Machine {
     }
 
     /// How many accepted frames have a fate.
-    pub fn tally(&self, fate: Fate) -> Result<u64, Fault>
-        ensures { IfOk result (λ r. r ≡ tally self.now fate) }
+    pub fn tally(&self, fate: Fate) -> u64
+        ensures { result ≡ tally self.now fate }
     {
         traffic::tally(self.world.frames(), fate)
     }

@@ -8,29 +8,13 @@ ghost use Rattle.wf_frame.specs.declared.notes.Note.TheVariants.{Asked, Enqueue}
 ghost use Rattle.wf_world.specs.CanSend.{can_send};
 ghost use Rattle.wf_world.specs.Refusals.{bad_station, can_send_any, first_of, open_of_class, open_of_station, queued_in_class, refusal, refusals, refusals_of};
 ghost use Rattle.wf_world.specs.Step.{concerned, station_of};
-ghost use Rattle.wf_world.specs.World.{exchange as exchange_at, inside, is_held};
+ghost use Rattle.wf_world.specs.World.{exchange as exchange_at};
 
 use wf_frame::{Ask, Class, Note, Refusal};
 use wf_plain_exchanges::picked_station;
 use wf_plain_lists::{Fault, decreased, sum, to_u32};
-use wf_plain_parts::{Accepted, Exchange};
+use wf_plain_parts::Exchange;
 use wf_plain_world::{World, lower_tid, upper_tid};
-
-fn held_among(frames: &[Accepted]) -> Result<u64, Fault>
-    ensures { IfOk result (λ r. r ≡ count_by (λ f. is_held f.fate) frames.now) }
-{
-    match frames.split_first() {
-        None => Ok(0),
-        Some((first, rest)) => {
-            let later = held_among(rest)?;
-            if first.is_held() {
-                sum(later, 1)
-            } else {
-                Ok(later)
-            }
-        }
-    }
-}
 
 fn class_of(tid: u64) -> Class
     ensures { result ≡ class_of tid }
@@ -76,12 +60,6 @@ fn open_in(exchanges: &[Exchange], class: Class) -> Result<u64, Fault>
             }
         }
     }
-}
-
-fn inside(world: &World) -> Result<u64, Fault>
-    ensures { IfOk result (λ r. r ≡ inside world.now) }
-{
-    sum(held_among(world.frames())?, world.finished().len() as u64)
 }
 
 fn bad_station(world: &World, station: u64) -> bool
@@ -359,7 +337,7 @@ fn enqueue_refusal(
 {
     let _flow = flow;
     let _len = len;
-    let inside = to_u32(inside(world)?)?;
+    let inside = to_u32(world.inside()?)?;
     let queued = to_u32(queued_in_class(world, station, class_of(tid))?)?;
     if bad_station(world, station) {
         Ok(Some(Refusal::BadStation))

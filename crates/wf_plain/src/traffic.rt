@@ -40,20 +40,13 @@ fn same_fate(one: Fate, other: Fate) -> bool
 }
 
 /// How many of these frames have a fate.
-pub fn tally(frames: &[Accepted], fate: Fate) -> Result<u64, Fault>
-    ensures { IfOk result (λ r. r ≡ count_by (λ f. same_fate f.fate fate) frames.now) }
+pub fn tally(frames: &[Accepted], fate: Fate) -> u64
+    ensures { result ≡ count_by (λ f. same_fate f.fate fate) frames.now }
 {
-    match frames.split_first() {
-        None => Ok(0),
-        Some((first, rest)) => {
-            let later = tally(rest, fate)?;
-            if same_fate(first.fate(), fate) {
-                sum(later, 1)
-            } else {
-                Ok(later)
-            }
-        }
-    }
+    frames
+        .iter()
+        .filter(|frame| same_fate(frame.fate(), fate))
+        .count() as u64
 }
 
 // ---- the sleeping stations with traffic

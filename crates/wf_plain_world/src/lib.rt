@@ -2,6 +2,7 @@
 #![tactic(auto)]
 
 mod flows;
+mod frames;
 mod ready;
 mod world;
 

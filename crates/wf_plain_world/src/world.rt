@@ -6,8 +6,9 @@ ghost use Rattle.wf_rules.specs.Session.{has_room, next_number, request_due, slo
 ghost use Rattle.wf_rules.specs.Table.{at};
 ghost use Rattle.wf_world.specs.Exchanges.{opening_exchange};
 ghost use Rattle.wf_world.specs.Step.{held_slots, with_frame};
-ghost use Rattle.wf_world.specs.World.{accepted, exchange as exchange_at, finish, finish_all, frame, is_live, is_wide, new_queue, no_tid, on_queue, on_share, on_tid, opening, quantum, queue as queue_at, receiver, rotation, session, share, station as station_in, tid_of, with_exchange, with_fate, with_rotation, with_station, without_exchange};
+ghost use Rattle.wf_world.specs.World.{accepted, exchange as exchange_at, finish, finish_all, frame, inside, is_live, is_wide, new_queue, no_tid, on_queue, on_share, on_tid, opening, quantum, queue as queue_at, receiver, rotation, session, share, station as station_in, tid_of, with_exchange, with_fate, with_rotation, with_station, without_exchange};
 
+use crate::frames::Frames;
 use std::alloc::Global;
 use std::marker::Model;
 use wf_frame::{Class, Config, Fate, Note};
@@ -29,7 +30,7 @@ pub struct World {
     pub(crate) queues: Vec<Queue>,
     rotations: Vec<Rotation>,
     pub(crate) opened: Vec<Exchange>,
-    frames: Vec<Accepted>,
+    frames: Frames,
     finished: Vec<u64>,
 }
 
@@ -38,7 +39,7 @@ impl Model for World {
 
     ghost Value = { Value_of_world };
 
-    ghost view = { λ w. record { config = w.config; clock = w.clock; exchanges = w.exchanges; stations = w.stations.items; queues = w.queues.items; rotations = w.rotations.items; opened = w.opened.items; frames = w.frames.items; finished = w.finished.items } };
+    ghost view = { λ w. record { config = w.config; clock = w.clock; exchanges = w.exchanges; stations = w.stations.items; queues = w.queues.items; rotations = w.rotations.items; opened = w.opened.items; frames = w.frames; finished = w.finished.items } };
 }
 
 fn find_exchange(alloc: Global, opened: &[Exchange], number: u64) -> Result<Option<Exchange>, Fault>
@@ -100,7 +101,7 @@ impl World {
             queues: Vec::new(alloc),
             rotations: Vec::new(alloc),
             opened: Vec::new(alloc),
-            frames: Vec::new(alloc),
+            frames: Frames::new(alloc),
             finished: Vec::new(alloc),
         }
     }
@@ -142,14 +143,14 @@ impl World {
     pub fn frames(&self) -> &[Accepted]
         ensures { result.now ≡ self.now.frames }
     {
-        &self.frames
+        self.frames.as_slice()
     }
 
     /// How many frames were accepted.
     pub fn accepted(&self) -> u64
         ensures { result ≡ accepted self.now }
     {
-        self.frames.len() as u64
+        self.frames.as_slice().len() as u64
     }
 
     /// The finished frames that are not yet reaped.
@@ -157,6 +158,13 @@ impl World {
         ensures { result.now ≡ self.now.finished }
     {
         &self.finished
+    }
+
+    /// How many frames are held or finished, and not yet reaped.
+    pub fn inside(&self) -> Result<u64, Fault>
+        ensures { IfOk result (λ r. r ≡ inside self.now) }
+    {
+        sum(self.frames.held(), self.finished.len() as u64)
     }
 
     /// The clock moves on.
@@ -179,8 +187,7 @@ impl World {
     pub fn accept(&mut self, note: Note) -> Result<(), Fault>
         ensures { OnOk result (self.new ≡ with_frame self.old note) }
     {
-        self.frames.push(Accepted::new(note, Fate::Held))?;
-        Ok(())
+        self.frames.accept(note)
     }
 
     // ---- stations
@@ -512,15 +519,14 @@ impl World {
     pub fn frame(&self, id: u64) -> Accepted
         ensures { result ≡ frame self.now id }
     {
-        at(self.alloc, &self.frames, id)
+        at(self.alloc, self.frames.as_slice(), id)
     }
 
     #[tactic(auto, unfolding(wf_world::specs::World::with_fate))]
     fn set_fate(&mut self, id: u64, fate: Fate) -> Result<(), Fault>
         ensures { OnOk result (self.new ≡ with_fate self.old id fate) }
     {
-        let frame = at(self.alloc, &self.frames, id).with_fate(fate);
-        put(self.alloc, &mut self.frames, id, frame)
+        self.frames.set_fate(self.alloc, id, fate)
     }
 
     /// A frame gets its fate and goes last on the finished list.

@@ -74,11 +74,8 @@ impl Runs for Plain {
         self.machine.accepted()
     }
 
-    fn tally(&self, fate: Fate) -> Result<u64, Stopped> {
-        match self.machine.tally(fate) {
-            Ok(count) => Ok(count),
-            Err(_) => Err(Stopped),
-        }
+    fn tally(&self, fate: Fate) -> u64 {
+        self.machine.tally(fate)
     }
 
     fn is_live(&self, station: u32) -> bool {

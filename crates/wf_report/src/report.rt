@@ -47,16 +47,16 @@ fn write_line<K: Sink>(sink: &mut K, line: &Line) -> Result<(), Failed>
 }
 
 // The lines of calls, clock, frames and exchanges.
-fn push_counts<M: Runs>(machine: &M, calls: u64, out: &mut Line) -> Result<(), Stopped>
+fn push_counts<M: Runs>(machine: &M, calls: u64, out: &mut Line)
     requires { out.old ≡ [] }
-    ensures { OnOk result (out.new ≡ counts_of (M.world machine.now) calls) }
+    ensures { out.new ≡ counts_of (M.world machine.now) calls }
 {
-    let acked = machine.tally(Fate::Acked)?;
-    let overlimit = machine.tally(Fate::Dropped(Cause::Overlimit))?;
-    let codel = machine.tally(Fate::Dropped(Cause::Codel))?;
-    let retries = machine.tally(Fate::Dropped(Cause::Retries))?;
-    let left = machine.tally(Fate::Dropped(Cause::Left))?;
-    let held = machine.tally(Fate::Held)?;
+    let acked = machine.tally(Fate::Acked);
+    let overlimit = machine.tally(Fate::Dropped(Cause::Overlimit));
+    let codel = machine.tally(Fate::Dropped(Cause::Codel));
+    let retries = machine.tally(Fate::Dropped(Cause::Retries));
+    let left = machine.tally(Fate::Dropped(Cause::Left));
+    let held = machine.tally(Fate::Held);
     push_line(out, b"calls", &[Word::Number(calls)]);
     push_line(out, b"now", &[Word::Number(machine.clock())]);
     push_line(
@@ -87,7 +87,6 @@ fn push_counts<M: Runs>(machine: &M, calls: u64, out: &mut Line) -> Result<(), S
             Word::Number(machine.open_exchanges()),
         ],
     );
-    Ok(())
 }
 
 // The line of what a station has in a class, if it used any airtime.
@@ -189,12 +188,10 @@ pub fn summary<M: Runs, K: Sink>(machine: &M, calls: u64, sink: &mut K) -> Resul
 {
     let mut counts = Line::new();
     let mut last = Line::new();
-    match (
-        push_counts(machine, calls, &mut counts),
-        push_map(machine, &mut last),
-    ) {
-        (Ok(()), Ok(())) => write_parts(machine, calls, &counts, &last, sink),
-        _ => Err(Unwritten::Machine),
+    push_counts(machine, calls, &mut counts);
+    match push_map(machine, &mut last) {
+        Ok(()) => write_parts(machine, calls, &counts, &last, sink),
+        Err(_) => Err(Unwritten::Machine),
     }
 }
 

@@ -56,8 +56,8 @@ pub trait Runs: Drop {
         ensures { result ≡ accepted (world self.now) };
 
     /// How many of them have a fate.
-    fn tally(&self, fate: Fate) -> Result<u64, Stopped>
-        ensures { IfOk result (λ n. n ≡ tally_of (world self.now) fate) };
+    fn tally(&self, fate: Fate) -> u64
+        ensures { result ≡ tally_of (world self.now) fate };
 
     /// Whether a station is live.
     fn is_live(&self, station: u32) -> bool

@@ -1,5 +1,0 @@
-use Rattle.std.proofs.Common.{length}
-use Rattle.wf_plain.proofs.refuse.+held_among.Given as goal
-
-abbrev pub decreases-held_among : goal.decreases-held_among
-decreases-held_among l = length l.frames.now
