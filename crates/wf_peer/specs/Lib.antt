@@ -1,0 +1,4 @@
+pub mod Agreements
+pub mod Answering
+pub mod Frames
+pub mod Receiving
