@@ -1,0 +1,15 @@
+pub mod Waiting
+pub mod Listing
+pub mod Picks
+pub mod Paid
+pub mod Flags
+pub mod Owners
+pub mod Puts
+pub mod Purges
+pub mod Keeps
+pub mod Moves
+pub mod Picking
+pub mod Leaves
+pub mod Whole
+pub mod Settings
+pub mod Fresh

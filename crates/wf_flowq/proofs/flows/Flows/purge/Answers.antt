@@ -1,0 +1,36 @@
+use Rattle.std.proofs.Common.{◌≡◌, ◌<◌, ◌∙◌, refl, ap, arith}
+use Rattle.wf_flowq.specs.Flows.{FlowsValue, tid_number, tids, queues, settings, purged}
+use Rattle.wf_flowq.specs.Kept.{without_queue}
+use Rattle.wf_flowq.proofs.Purges.{purged-first, purged-next, purged_last, tids_below, queues_below, kept_apart, kept_low}
+use Rattle.wf_flowq.proofs.Settings.{settings_purged}
+use Rattle.wf_flowq.proofs.flows.Flows.purge.Goals as goal
+
+pub loop-q-init : goal.loop-q-init
+loop-q-init c =
+    let list : c.number_of-list.result < tids c.args.self.now = omega (arith, c.number_of-list.ensures) in
+    record { purged = purged-first c.args.self.now c.number_of-list.result (kept_apart _ _ _ c.self.view_is c.self.invariant) (kept_low _ _ _ _ c.self.view_is c.self.invariant list); held = refl }
+
+pub purge_queue-requires-clause-list : goal.purge_queue-requires-clause-list
+purge_queue-requires-clause-list c = omega (arith, c.number_of-list.ensures, ap (λ (w : FlowsValue). tids w) c.loop-q.invariant.purged, tids_below c.args.self.now c.number_of-list.result c.loop-q.q)
+
+pub purge_queue-requires-clause-queue : goal.purge_queue-requires-clause-queue
+purge_queue-requires-clause-queue c = omega (arith, ap (λ (w : FlowsValue). queues w) c.loop-q.invariant.purged, queues_below c.args.self.now c.number_of-list.result c.loop-q.q, ap (λ (w : FlowsValue). queues w) c.self.view_is)
+
+pub loop-q-preserved : goal.loop-q-preserved
+loop-q-preserved c =
+    let list : c.number_of-list.result < tids c.args.self.now = omega (arith, c.number_of-list.ensures) in
+    record {
+      purged = c.purge_queue.ensures.gone ∙ ap (λ (w : FlowsValue). without_queue w c.number_of-list.result c.loop-q.q) c.loop-q.invariant.purged
+          ∙ purged-next c.args.self.now c.number_of-list.result (kept_apart _ _ _ c.self.view_is c.self.invariant) (kept_low _ _ _ _ c.self.view_is c.self.invariant list) c.loop-q.q;
+      held = c.purge_queue.ensures.held ∙ c.loop-q.invariant.held;
+    }
+
+pub returns-clause-purged : goal.returns-clause-purged
+returns-clause-purged c =
+    let list : c.number_of-list.result < tids c.args.self.now = omega (arith, c.number_of-list.ensures) in
+    let end : c.loop-q.q ≡ queues c.args.self.now = omega (arith, ap (λ (w : FlowsValue). queues w) c.self.view_is) in
+    c.loop-q.invariant.purged ∙ purged_last c.args.self.now c.number_of-list.result (kept_apart _ _ _ c.self.view_is c.self.invariant) (kept_low _ _ _ _ c.self.view_is c.self.invariant list) c.loop-q.q end
+    ∙ ap (purged c.args.self.now) c.number_of-list.ensures
+
+pub returns-clause-settings : goal.returns-clause-settings
+returns-clause-settings c = ap settings (returns-clause-purged c) ∙ settings_purged c.args.self.now (tid_number c.args.station c.args.tid)

@@ -1,0 +1,199 @@
+-- The flow queues: which frames wait in which queue, which TID lists which queues, and how a frame goes in and comes out.
+-- "Ending the Anomaly" (USENIX ATC 2017), section 3.1, algorithms 1 and 2; that a queue's deficit is set when it is listed is this project's own rule.
+use Rattle.std.specs.Prelude.{◌≡◌, ◌<◌, ◌≤◌, ℕ, suc, ◌+◌, ◌*◌, ◌%◌, ◌==◌, nat_lt, ℤ, pos, ◌+ℤ◌, ◌-ℤ◌, Bool, true, not, ◌&&◌, List, [], ◌∷◌, ◌++◌, Option, Some, None, if◌then◌else◌, length, map, filter, replicate, sum_by, slice_index_or, slice_set}
+use Rattle.std.specs.List.{list_any}
+use Rattle.wf_frame.specs.Frames.{FrameValue}
+use Rattle.wf_rules.specs.Table.{upto}
+use Rattle.wf_frame.specs.declared.settings.Config.{Config}
+use Rattle.wf_rules.specs.Codel.{Params, new_codel}
+use Rattle.wf_rules.specs.Rotation.{Rotation, no_keys, lists, in_order, add_new, Picked, pick}
+use Rattle.wf_rota.specs.Lists.{lists_at}
+use Rattle.wf_rota.specs.Rotas.{Rotas, deficit_at, need_at}
+use Rattle.wf_world.specs.World.{Queue}
+use Rattle.wf_world.specs.FlowQueues.{longest_after}
+use Rattle.wf_backlog.specs.Backlog.{BacklogValue, frames_at, in_queues, first_id, item_of, with_frames, head_dropped, flushed, given_at, taken}
+
+-- Queues below `flows` are shared by all TIDs; each TID has one more, its overflow queue. Queue q is key q of the rotations.
+pub record FlowsValue : Type 0 where
+  pub flows : ℕ
+  pub stations : ℕ
+  pub limit : ℕ
+  pub flow_quantum : ℕ
+  pub backlog : BacklogValue
+  pub rotas : Rotas
+
+-- what no call changes
+pub record SettingsValue : Type 0 where
+  pub flows : ℕ
+  pub stations : ℕ
+  pub limit : ℕ
+  pub flow_quantum : ℕ
+  pub room : ℕ
+
+abbrev pub settings : FlowsValue → SettingsValue
+settings v = record { flows = v.flows; stations = v.stations; limit = v.limit; flow_quantum = v.flow_quantum; room = v.backlog.room }
+
+-- the number of TID t of station s, among the TIDs of all stations
+abbrev pub tid_number : ℕ → ℕ → ℕ
+tid_number s t = 8 * s + t
+
+abbrev pub tids : FlowsValue → ℕ
+tids v = 8 * v.stations
+
+abbrev pub queues : FlowsValue → ℕ
+queues v = v.flows + tids v
+
+-- the queues that TID i lists
+abbrev pub rotation : FlowsValue → ℕ → Rotation
+rotation v i = lists_at v.rotas.lists i
+
+abbrev pub is_listed : FlowsValue → ℕ → ℕ → Bool
+is_listed v i q = lists (rotation v i) q
+
+abbrev pub has_frames : BacklogValue → ℕ → Bool
+has_frames b q = nat_lt 0 (length (frames_at b q))
+
+-- the frames in these queues
+abbrev pub waiting : List (List FrameValue) → List ℕ → ℕ
+waiting all qs = sum_by (λ q. length (slice_index_or all q [])) qs
+
+-- the frames in the queues of TID i
+abbrev pub queued : FlowsValue → ℕ → ℕ
+queued v i = waiting v.backlog.queues (in_order (rotation v i))
+
+-- no frame and no list, with these settings
+abbrev pub empty_flows : Config → FlowsValue
+empty_flows c =
+    let n : ℕ = c.flows + 8 * c.stations in
+    record {
+      flows = c.flows;
+      stations = c.stations;
+      limit = c.limit;
+      flow_quantum = c.flow_quantum;
+      backlog = record { room = c.room; queues = replicate n []; codels = replicate n new_codel; finished = [] };
+      rotas = record { lists = replicate (8 * c.stations) no_keys; deficits = replicate n (pos c.flow_quantum); quanta = replicate n c.flow_quantum };
+    }
+
+-- A queue with frames is listed by exactly one TID, and the overflow queue of a TID by that TID alone.
+pub record AreListedOnce (v : FlowsValue) : Type 0 where
+  pub listed : (q : ℕ) → 0 < length (frames_at v.backlog q) → (i : ℕ) × (i < tids v) × (is_listed v i q ≡ true)
+  pub once : (q i j : ℕ) → is_listed v i q ≡ true → is_listed v j q ≡ true → i ≡ j
+  pub overflow : (q i : ℕ) → is_listed v i q ≡ true → v.flows ≤ q → q ≡ v.flows + i
+
+-- ---- the limit
+
+-- a queue as the machine's world has it, for its octets
+abbrev pub as_queue : List FrameValue → Queue
+as_queue frames = record { items = map item_of frames; deficit = pos 0; codel = new_codel }
+
+-- the longest queue, the least number on a tie
+unfoldable pub longest : BacklogValue → ℕ
+longest b = longest_after 0 0 0 (map as_queue b.queues)
+
+-- where the queues hold `limit` frames, the head of the longest is dropped as Overlimit
+unfoldable pub within_limit : FlowsValue → FlowsValue
+within_limit v = if in_queues v.backlog == v.limit then record v { backlog = head_dropped v.backlog (longest v.backlog) } else v
+
+unfoldable pub dropped_for_limit : FlowsValue → Option ℕ
+dropped_for_limit v = if in_queues v.backlog == v.limit then first_id (frames_at v.backlog (longest v.backlog)) else None
+
+-- ---- putting a frame in
+
+-- whether a TID other than i lists q
+abbrev pub is_listed_elsewhere : FlowsValue → ℕ → ℕ → Bool
+is_listed_elsewhere v i q = list_any (λ j. not (j == i) && is_listed v j q) (upto (tids v))
+
+abbrev pub overflow_queue : FlowsValue → ℕ → ℕ
+overflow_queue v i = v.flows + i
+
+unfoldable pub queue_for : FlowsValue → ℕ → ℕ → ℕ
+queue_for v i flow = if is_listed_elsewhere v i (flow % v.flows) then overflow_queue v i else flow % v.flows
+
+-- the queue goes last on the TID's new list, with a fresh deficit, where it is not listed
+unfoldable pub listed_queue : FlowsValue → ℕ → ℕ → FlowsValue
+listed_queue v i q =
+    if is_listed v i q then v
+    else record v {
+      rotas = record v.rotas {
+        lists = slice_set v.rotas.lists i (add_new (rotation v i) q);
+        deficits = slice_set v.rotas.deficits q (pos v.flow_quantum);
+      };
+    }
+
+abbrev pub appended : FlowsValue → ℕ → FrameValue → FlowsValue
+appended v q f = record v { backlog = with_frames v.backlog q (frames_at v.backlog q ++ f ∷ []) }
+
+abbrev pub put_in : FlowsValue → ℕ → ℕ → FrameValue → FlowsValue
+put_in v i q f = listed_queue (appended v q f) i q
+
+-- TID i puts a frame in
+unfoldable pub put : FlowsValue → ℕ → FrameValue → FlowsValue
+put v i f = put_in (within_limit v) i (queue_for (within_limit v) i f.flow) f
+
+-- ---- taking a frame out
+
+-- the pick among the queues of TID i, of which those with frames are ready
+abbrev pub picked : FlowsValue → ℕ → Picked
+picked v i = pick (need_at v.rotas) (has_frames v.backlog) (rotation v i)
+
+-- the deficits from queue q on, each with its quanta
+abbrev pub paid : (ℕ → ℕ) → ℕ → ℕ → List ℤ → List ℤ
+paid quanta quantum q [] = []
+paid quanta quantum q (d ∷ ds) = (d +ℤ pos (quanta q * quantum)) ∷ paid quanta quantum (suc q) ds
+
+unfoldable pub after_pick : FlowsValue → ℕ → FlowsValue
+after_pick v i = record v {
+  rotas = record v.rotas {
+    lists = slice_set v.rotas.lists i (picked v i).lists;
+    deficits = paid (picked v i).quanta v.flow_quantum 0 v.rotas.deficits;
+  };
+}
+
+-- what a take leaves and gives
+pub record Taken : Type 0 where
+  pub flows : FlowsValue
+  pub frame : Option FrameValue
+
+abbrev pub length_given : Option FrameValue → ℕ
+length_given None = 0
+length_given (Some f) = length f.body
+
+-- CoDel takes a frame from the queue, and its length leaves the queue's deficit
+abbrev pub dequeued : FlowsValue → ℕ → ℕ → Params → Option FrameValue → Taken
+dequeued v q now params given = record {
+  flows = record v {
+    backlog = taken params now v.backlog q;
+    rotas = record v.rotas { deficits = slice_set v.rotas.deficits q (deficit_at v.rotas.deficits q -ℤ pos (length_given given)) };
+  };
+  frame = given;
+}
+
+abbrev pub taken_from : FlowsValue → Option ℕ → ℕ → Params → Taken
+taken_from v None now params = record { flows = v; frame = None }
+taken_from v (Some q) now params = dequeued v q now params (given_at params now v.backlog q)
+
+-- the take leaves these flow queues, and gives this frame
+abbrev pub Gives : FlowsValue → FrameValue → Taken → Type 0
+Gives after f t = (after ≡ t.flows) × (Some f ≡ t.frame)
+
+-- TID i takes a frame out
+unfoldable pub take : FlowsValue → ℕ → ℕ → Params → Taken
+take v i now params = taken_from (after_pick v i) (picked v i).winner now params
+
+-- ---- leaving
+
+-- the queues of TID i, by their numbers
+abbrev pub queues_of : FlowsValue → ℕ → List ℕ
+queues_of v i = filter (is_listed v i) (upto (queues v))
+
+-- all frames of these queues are dropped as Left, and their CoDel states become new
+unfoldable pub all_flushed : BacklogValue → List ℕ → BacklogValue
+all_flushed b [] = b
+all_flushed b (q ∷ qs) = all_flushed (flushed b q) qs
+
+-- all frames of TID i are dropped, and its queues leave its rotation
+unfoldable pub purged : FlowsValue → ℕ → FlowsValue
+purged v i = record v {
+  backlog = all_flushed v.backlog (queues_of v i);
+  rotas = record v.rotas { lists = slice_set v.rotas.lists i no_keys };
+}
