@@ -1,0 +1,20 @@
+-- The proofs of the laws, from the ground up.
+--
+-- Parts: what each change of a world does to the part that the flow queues stand for. Ends: frames are finished and reaped. Changes: one queue changes, or the
+-- lists of one TID, on both sides; all other calls are made of these and of Ends. Readers: what is read is the same. Limits and Puts: a frame is put in. Picking and
+-- Takes: one is taken out. Rising and Purges: a TID's frames are dropped. Leaves: what does not matter. Holdings: which frames are held.
+-- Elsewhere: what the calls leave of a world.
+pub mod Parts
+pub mod Ends
+pub mod Changes
+pub mod Readers
+pub mod Opening
+pub mod Limits
+pub mod Puts
+pub mod Picking
+pub mod Takes
+pub mod Rising
+pub mod Purges
+pub mod Leaves
+pub mod Holdings
+pub mod Elsewhere
