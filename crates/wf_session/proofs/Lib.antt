@@ -1,0 +1,5 @@
+-- The agreement law: what the messages on their way say, that no token opens twice, and that both ends agree. Then a worked list of events.
+pub mod Sound
+pub mod Once
+pub mod Agreements
+pub mod Rows

@@ -1,0 +1,5 @@
+use Rattle.wf_session.proofs.Agreements.{agreements}
+use Rattle.wf_session.proofs.laws.agreement_law.Goals as goal
+
+pub returns : goal.returns
+returns c = agreements

@@ -1,0 +1,37 @@
+-- What holds of the two ends whatever is lost, repeated, put in another order or restarted.
+use Rattle.std.specs.Prelude.{◌≡◌, ℕ, ◌+◌, ◌≤◌, ◌&&◌, not, Bool, List, [], ◌∷◌, Option, Some, if◌then◌else◌}
+use Rattle.wf_session.specs.declared.agreement.Agreement.{Agreement}
+use Rattle.wf_session.specs.Ends.{has_token}
+use Rattle.wf_session.specs.World.{Parley, Event, opening, after_event, after_events}
+
+abbrev pub originators : Parley → Option Agreement
+originators w = w.originator.opened
+
+abbrev pub recipients : Parley → Option Agreement
+recipients w = w.recipient.opened
+
+-- where both ends are open, they hold the same token, window and start
+abbrev pub EndsAgree : Parley → Type 0
+EndsAgree w = (a b : Agreement) → originators w ≡ Some a → recipients w ≡ Some b → a ≡ b
+
+-- where the originator is open, the recipient's last token is that token: so it opened this agreement
+abbrev pub RecipientOpened : Parley → Type 0
+RecipientOpened w = (a : Agreement) → originators w ≡ Some a → w.recipient.last ≡ a.token
+
+-- whether an end that was `before` opens with this token where it becomes `after`
+abbrev pub opens : ℕ → Option Agreement → Option Agreement → Bool
+opens token before after = has_token token after && not (has_token token before)
+
+-- how often an end opens with this token in a list of events
+unfoldable pub times_opened : (Parley → Option Agreement) → ℕ → Parley → List Event → ℕ
+times_opened end token w [] = 0
+times_opened end token w (event ∷ later) =
+    (if opens token (end w) (end (after_event event w)) then 1 else 0) + times_opened end token (after_event event w) later
+
+-- after every list of events the ends agree, the recipient opened what is open at the originator, and each token opened at most once at
+-- each end
+pub record AgreementLaw (tid limit : ℕ) (events : List Event) : Type 0 where
+  pub agree : EndsAgree (after_events (opening tid limit) events)
+  pub recipient_opened : RecipientOpened (after_events (opening tid limit) events)
+  pub once_originator : (token : ℕ) → times_opened originators token (opening tid limit) events ≤ 1
+  pub once_recipient : (token : ℕ) → times_opened recipients token (opening tid limit) events ≤ 1

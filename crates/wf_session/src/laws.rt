@@ -1,0 +1,18 @@
+ghost use Rattle.std.specs.Prelude.{◌≡◌, ℕ, ◌++◌, List, Ok};
+ghost use Rattle.wf_session.specs.Faults.{decoded};
+ghost use Rattle.wf_session.specs.Layout.{CanBeWritten, FitsFields, octets_of};
+ghost use Rattle.wf_session.specs.Laws.{AgreementLaw};
+ghost use Rattle.wf_session.specs.World.{Event};
+ghost use Rattle.wf_session.specs.declared.action.Action.{Action};
+
+/// An action that is written is read back as itself, whatever octets follow.
+pub fn codec_law()
+    ensures { (a : Action) (later : List ℕ) → CanBeWritten a → FitsFields a → decoded (octets_of a ++ later) ≡ Ok a }
+{}
+
+/// Over every list of events, messages lost, repeated, put in another order and restarts of either end among
+/// them: where both ends are open they hold the same agreement; where the originator is open the recipient
+/// opened that agreement last; and each token opens at most once at each end.
+pub fn agreement_law()
+    ensures { (tid limit : ℕ) (events : List Event) → AgreementLaw tid limit events }
+{}

@@ -1,0 +1,182 @@
+ghost use Rattle.std.specs.Prelude.{◌≡◌, ◌≤◌, ◌<◌, true, None, IfOk, IfSome};
+ghost use Rattle.wf_session.specs.Layout.{CanBeWritten};
+ghost use Rattle.wf_session.specs.Ends.{HasWindow, new_offer, ask_answer, after_ask, asked_again, request_of, offer_heard, with_response, settled, teardown_of};
+ghost use Rattle.wf_session.specs.declared.agreement.Agreement.{Agreement};
+
+use crate::{Action, Agreement};
+use std::marker::Model;
+use thiserror::Error;
+use wf_seq12::Seq12;
+
+/// Why nothing is asked.
+#[derive(Clone, Copy, Debug, PartialEq, Eq, Error)]
+pub enum OfferFault {
+    /// All 255 tokens were used.
+    #[error("all tokens are spent")]
+    Spent,
+    /// An agreement is open.
+    #[error("the agreement with token {token} is open")]
+    Open {
+        /// The token of that agreement.
+        token: u8,
+    },
+}
+
+/// The originator's end of one TID's agreement.
+#[derive(Drop)]
+pub struct Offer {
+    tid: u8,
+    last: u8,
+    asked: Option<Agreement>,
+    opened: Option<Agreement>,
+}
+
+impl Model for Offer {
+    ghost use Rattle.wf_session.specs.Ends.{OfferValue, HasWindow};
+
+    ghost Value = { OfferValue };
+
+    ghost view = { λ s. record { tid = s.tid; last = s.last; asked = s.asked; opened = s.opened } };
+
+    ghost inverse = { λ v. record { tid = v.tid; last = v.last; asked = v.asked; opened = v.opened } };
+
+    ghost invariant = { λ s. HasWindow s.asked × HasWindow s.opened };
+}
+
+impl Offer {
+    /// An end that has asked nothing, for the TID `tid`, whose last token was `last`: 0 for the first.
+    pub fn new(tid: u8, last: u8) -> Offer
+        ensures { result ≡ new_offer tid last }
+    {
+        Offer {
+            tid,
+            last,
+            asked: None,
+            opened: None,
+        }
+    }
+
+    /// Asks for an agreement of a window of 1 to 256 numbers from `start` on, in place of what was asked
+    /// before, and gives the request. After an error nothing has changed.
+    pub fn ask(&mut self, window: u16, start: Seq12) -> Result<Action, OfferFault>
+        requires { (1 ≤ window) × (window ≤ 256) }
+        ensures answer { result ≡ ask_answer window start self.old }
+        ensures after { self.new ≡ after_ask window start self.old }
+        ensures writable { self.old.tid < 8 → IfOk result (λ action. CanBeWritten action) }
+    {
+        if self.last == 255 {
+            return Err(OfferFault::Spent);
+        }
+        if let Some(agreement) = self.opened {
+            return Err(OfferFault::Open {
+                token: agreement.token,
+            });
+        }
+        self.last += 1;
+        let wish = Agreement {
+            token: self.last,
+            window,
+            start,
+        };
+        self.asked = Some(wish);
+        Ok(request_of(self.tid, &wish))
+    }
+
+    /// The request once more: none where nothing was asked, or what was asked is settled.
+    pub fn again(&self) -> Option<Action>
+        ensures answer { result ≡ asked_again self.now }
+        ensures writable { self.now.tid < 8 → IfSome result (λ action. CanBeWritten action) }
+    {
+        let wish = self.asked?;
+        Some(request_of(self.tid, &wish))
+    }
+
+    /// A message from the recipient arrives.
+    pub fn hear(&mut self, action: &Action)
+        ensures { self.new ≡ offer_heard action.now self.old }
+    {
+        match *action {
+            Action::Response {
+                token,
+                status,
+                tid,
+                window,
+            } => {
+                if tid == self.tid {
+                    self.hear_response(token, status, window);
+                }
+            }
+            Action::Teardown { tid, initiator, .. } => {
+                if tid == self.tid && !initiator {
+                    self.opened = None;
+                }
+            }
+            Action::Request { .. } => {}
+        }
+    }
+
+    /// Ends the agreement, and gives the message that tells the recipient: none where none is open.
+    pub fn close(&mut self) -> Option<Action>
+        ensures answer { result ≡ teardown_of self.old.tid true self.old.opened }
+        ensures after { self.new ≡ record self.old { opened = None } }
+        ensures writable { self.old.tid < 8 → IfSome result (λ action. CanBeWritten action) }
+    {
+        self.opened.take()?;
+        Some(Action::Teardown {
+            tid: self.tid,
+            initiator: true,
+            reason: 1,
+        })
+    }
+
+    /// The agreement, where one is open.
+    pub fn state(&self) -> Option<Agreement>
+        ensures opened { result ≡ self.now.opened }
+        ensures window { HasWindow result }
+    {
+        self.opened
+    }
+
+    /// The last token, which a restart has to keep.
+    pub fn last(&self) -> u8
+        ensures { result ≡ self.now.last }
+    {
+        self.last
+    }
+
+    /// A response of this TID arrives.
+    fn hear_response(&mut self, token: u8, status: u16, window: u16)
+        ensures { self.new ≡ with_response token status window self.old }
+    {
+        if let Some(wish) = self.asked {
+            if wish.token == token {
+                self.settle(status, window, wish);
+            }
+        }
+    }
+
+    /// A response to what was asked arrives.
+    fn settle(&mut self, status: u16, window: u16, wish: Agreement)
+        requires { wish.window ≤ 256 }
+        ensures { self.new ≡ settled status window wish self.old }
+    {
+        if status != 0 {
+            self.asked = None;
+        } else if 1 <= window && window <= wish.window {
+            self.asked = None;
+            self.opened = Some(Agreement { window, ..wish });
+        }
+    }
+}
+
+/// The request that asks for an agreement.
+fn request_of(tid: u8, wish: &Agreement) -> Action
+    ensures { result ≡ request_of tid wish.now }
+{
+    Action::Request {
+        token: wish.token,
+        tid,
+        window: wish.window,
+        start: wish.start,
+    }
+}
