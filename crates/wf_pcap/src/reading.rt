@@ -1,0 +1,178 @@
+//! The headers of a capture file, as they are read.
+
+ghost use Rattle.std.specs.Prelude.{◌≡◌, ◌+◌, ◌≤◌, IfOk, Ok, length};
+ghost use Rattle.wf_pcap.specs.Capture.{number_at, IsHead, packet_in};
+ghost use Rattle.wf_pcap.specs.Faults.{precision_of, form_of, head_fault, packet_fault, fault_of};
+ghost use Rattle.wf_pcap.specs.declared.reading.Form.{Form};
+
+use byteorder::{BigEndian, ByteOrder, LittleEndian};
+
+/// The octets of a file header.
+pub(crate) const HEAD: usize = 24;
+/// The octets of a packet header.
+pub(crate) const PACKET_HEAD: usize = 16;
+/// The magic number of a file in microseconds.
+pub(crate) const MICROSECONDS: u32 = 0xa1b2_c3d4;
+/// The magic number of a file in nanoseconds.
+const NANOSECONDS: u32 = 0xa1b2_3c4d;
+/// The version of the format: 2.4.
+pub(crate) const MAJOR: u16 = 2;
+
+pub(crate) const MINOR: u16 = 4;
+/// The link type of IEEE 802.11 frames with no radio fields before them.
+pub(crate) const FRAMES: u32 = 105;
+/// The most octets that a packet may have captured.
+const MOST_CAPTURED: u32 = 262_144;
+
+/// How the numbers of a capture file are written.
+#[derive(Clone, Copy, Debug, PartialEq, Eq)]
+pub struct Form {
+    /// Whether the highest octet of a number comes first.
+    pub big: bool,
+    /// Whether the parts of a second are nanoseconds, and not microseconds.
+    pub nanos: bool,
+}
+
+/// A packet header.
+#[derive(Clone, Copy, Debug, PartialEq, Eq)]
+pub struct Packet {
+    /// When the packet was captured: whole seconds.
+    pub seconds: u32,
+    /// The part of a second past them, in the file's microseconds or nanoseconds.
+    pub fraction: u32,
+    /// The octets that follow the header, at most 262,144.
+    pub captured: u32,
+    /// The octets that the packet had on the air.
+    pub original: u32,
+}
+
+/// Why octets are no header of a capture file of frames.
+#[derive(Clone, Copy, Debug, PartialEq, Eq)]
+pub enum PcapFault {
+    /// There are fewer octets than the header has.
+    Short {
+        /// The octets that the header has: 24 of a file's, 16 of a packet's.
+        need: usize,
+        /// The octets that are there.
+        have: usize,
+    },
+    /// The first number is no magic number in either byte order.
+    Magic,
+    /// The version is not 2.4.
+    Version {
+        /// The first number of the version.
+        major: u16,
+        /// The second.
+        minor: u16,
+    },
+    /// The low 16 bits of the field of the link type are not 105; the whole field is told.
+    Link(u32),
+    /// More octets were captured than a packet may have.
+    Long {
+        /// The captured octets that the header tells, above 262,144.
+        captured: u32,
+    },
+}
+
+/// Reads the header that a capture file begins with. Zone, accuracy and snap length are ignored, and so are octets past
+/// the header.
+pub fn read_head(octets: &[u8]) -> Result<Form, PcapFault>
+    ensures read { IfOk result (λ form. IsHead octets.now form) }
+    ensures complete { (form : Form) → IsHead octets.now form → result ≡ Ok form }
+
+    // it is refused for the first check that fails, and for nothing else
+    ensures fault { fault_of result ≡ head_fault octets.now }
+{
+    let have = octets.len();
+    if have < HEAD {
+        return Err(PcapFault::Short { need: HEAD, have });
+    }
+    let Some(form) = form_at(octets) else {
+        return Err(PcapFault::Magic);
+    };
+    let major = two_at(form.big, octets, 4);
+    let minor = two_at(form.big, octets, 6);
+    if major != MAJOR || minor != MINOR {
+        return Err(PcapFault::Version { major, minor });
+    }
+    let link = four_at(form.big, octets, 20);
+    if link % 0x1_0000 != FRAMES {
+        return Err(PcapFault::Link(link));
+    }
+    Ok(form)
+}
+
+/// Reads the header that a packet begins with, in the form of its file. Octets past the header are ignored.
+pub fn read_packet(form: Form, octets: &[u8]) -> Result<Packet, PcapFault>
+    ensures read { IfOk result (λ packet. packet ≡ packet_in form octets.now) }
+
+    // it is refused for the first check that fails, and for nothing else
+    ensures fault { fault_of result ≡ packet_fault form octets.now }
+{
+    let have = octets.len();
+    if have < PACKET_HEAD {
+        return Err(PcapFault::Short {
+            need: PACKET_HEAD,
+            have,
+        });
+    }
+    let captured = four_at(form.big, octets, 8);
+    if captured > MOST_CAPTURED {
+        return Err(PcapFault::Long { captured });
+    }
+    Ok(Packet {
+        seconds: four_at(form.big, octets, 0),
+        fraction: four_at(form.big, octets, 4),
+        captured,
+        original: four_at(form.big, octets, 12),
+    })
+}
+
+// The form that the magic number tells.
+fn form_at(octets: &[u8]) -> Option<Form>
+    requires { 4 ≤ length octets.now }
+    ensures { result ≡ form_of octets.now }
+{
+    if let Some(nanos) = precision(four_at(false, octets, 0)) {
+        return Some(Form { big: false, nanos });
+    }
+    let nanos = precision(four_at(true, octets, 0))?;
+    Some(Form { big: true, nanos })
+}
+
+// Whether a magic number is that of nanoseconds, where it is one.
+fn precision(magic: u32) -> Option<bool>
+    ensures { result ≡ precision_of magic }
+{
+    match magic {
+        MICROSECONDS => Some(false),
+        NANOSECONDS => Some(true),
+        _ => None,
+    }
+}
+
+// The number in the two octets from a place on.
+fn two_at(big: bool, octets: &[u8], place: usize) -> u16
+    requires { place + 2 ≤ length octets.now }
+    ensures { result ≡ number_at big 2 octets.now place }
+{
+    let field = &octets[place..];
+    if big {
+        BigEndian::read_u16(field)
+    } else {
+        LittleEndian::read_u16(field)
+    }
+}
+
+// The number in the four octets from a place on.
+fn four_at(big: bool, octets: &[u8], place: usize) -> u32
+    requires { place + 4 ≤ length octets.now }
+    ensures { result ≡ number_at big 4 octets.now place }
+{
+    let field = &octets[place..];
+    if big {
+        BigEndian::read_u32(field)
+    } else {
+        LittleEndian::read_u32(field)
+    }
+}

@@ -1,0 +1,64 @@
+//! A capture file as it is written: little-endian, in microseconds.
+
+ghost use Rattle.std.specs.Prelude.{◌≡◌, ℕ, ◌*◌, ◌^◌, ◌<◌, ◌≤◌, length, take, OnOk};
+ghost use Rattle.std.specs.Io.KnownBytes.{append_known};
+ghost use Rattle.wf_io.specs.Faults.{CountsFaults};
+ghost use Rattle.wf_pcap.specs.Capture.{head_octets, packet_head, packet_octets};
+
+use crate::reading::{FRAMES, HEAD, MAJOR, MICROSECONDS, MINOR, PACKET_HEAD};
+use byteorder::{ByteOrder, LittleEndian};
+use wf_io::{Failed, Sink, write_all};
+
+/// The most octets that a packet has, as the file header tells it.
+const SNAP_LENGTH: u32 = 65_535;
+
+/// Writes the header of a capture file. After a fault, some octets from its front have been written.
+pub fn write_head<K: Sink>(sink: &mut K) -> Result<(), Failed>
+    ensures written { OnOk result (K.held sink.new ≡ append_known (K.held sink.old) head_octets) }
+    ensures prefix { (n : ℕ) × (n ≤ length head_octets)
+        × (K.held sink.new ≡ append_known (K.held sink.old) (take n head_octets)) }
+    ensures cause { CountsFaults (K.faults sink.old) (K.faults sink.new) result }
+{
+    write_all(sink, &head())
+}
+
+/// Writes a packet that was captured whole at a time in microseconds: its header, and its octets. After a fault, some
+/// octets from their front have been written.
+pub fn write_packet<K: Sink>(sink: &mut K, at: u64, octets: &[u8]) -> Result<(), Failed>
+    requires time { at < 2 ^ 32 * 1000000 }
+    requires some { 1 ≤ length octets.now }
+    requires most { length octets.now ≤ 65535 }
+    ensures written { OnOk result (K.held sink.new ≡ append_known (K.held sink.old) (packet_octets at octets.now)) }
+    ensures prefix { (n : ℕ) × (n ≤ length (packet_octets at octets.now))
+        × (K.held sink.new ≡ append_known (K.held sink.old) (take n (packet_octets at octets.now))) }
+    ensures cause { CountsFaults (K.faults sink.old) (K.faults sink.new) result }
+{
+    write_all(sink, &packet_head(at, octets.len() as u32))?;
+    write_all(sink, octets)
+}
+
+// The file header.
+fn head() -> [u8; HEAD]
+    ensures { result ≡ head_octets }
+{
+    let mut head = [0; HEAD];
+    LittleEndian::write_u32(&mut head, MICROSECONDS);
+    LittleEndian::write_u16(&mut head[4..], MAJOR);
+    LittleEndian::write_u16(&mut head[6..], MINOR);
+    LittleEndian::write_u32(&mut head[16..], SNAP_LENGTH);
+    LittleEndian::write_u32(&mut head[20..], FRAMES);
+    head
+}
+
+// The header of a packet of so many octets.
+fn packet_head(at: u64, count: u32) -> [u8; PACKET_HEAD]
+    requires { at < 2 ^ 32 * 1000000 }
+    ensures { result ≡ packet_head at count }
+{
+    let mut head = [0; PACKET_HEAD];
+    LittleEndian::write_u32(&mut head, (at / 1_000_000) as u32);
+    LittleEndian::write_u32(&mut head[4..], (at % 1_000_000) as u32);
+    LittleEndian::write_u32(&mut head[8..], count);
+    LittleEndian::write_u32(&mut head[12..], count);
+    head
+}
