@@ -1,4 +1,4 @@
--- The settings that a trace's head names are in their ranges.
+-- The settings that a trace's head names are in their ranges, and its frames have 1 to 2304 octets.
 use Rattle.std.proofs.Common.{◌≡◌, ℕ, ◌≤◌, nat_le, Bool, true, false, ◌&&◌, ◌==◌, List, [], ◌∷◌, ◌++◌, ◌+◌, length, Option, Some, None, Result, Ok, Err, refl, subst, arith, codes, replicate, if◌then◌else◌, slice_set}
 use Rattle.std.specs.Str.{bytes_eq}
 use Rattle.wf_frame.specs.declared.settings.Config.{Config}
@@ -16,15 +16,19 @@ use Rattle.wf_trace.specs.declared.meaning.Meaning.TheVariants as meaning
 use Rattle.wf_trace.specs.declared.meaning.Place.{Place}
 use Rattle.wf_trace.specs.declared.reader.Item.{Item}
 use Rattle.wf_trace.specs.declared.reader.Item.TheVariants as item
-use Rattle.wf_trace.specs.Grammar.{in_range, read_arg}
-use Rattle.wf_trace.specs.Notes.{read_call}
+use Rattle.wf_trace.specs.declared.call.Call.{Call}
+use Rattle.wf_trace.specs.declared.call.Call.TheVariants as call
+use Rattle.wf_trace.specs.Grammar.{in_range, read_arg, args_of, call_named, read_args}
+use Rattle.wf_trace.specs.Notes.{Within, note_of, noted, called, read_call}
+use Rattle.wf_trace.proofs.ArgLaws.{within_read}
 use Rattle.wf_trace.specs.Lines.{Texts, texts_of, lines}
 use Rattle.wf_trace.specs.Words.{words, number_of}
 use Rattle.wf_trace.specs.Settings.{worse, placed, set_one, read_words, range_of, was_seen, named_field, split_once, place_of}
 use Rattle.wf_trace.specs.Meanings.{read_head, allowed, entry_of, against, caller_first, headed, finished, named, meant, skipped}
 use Rattle.wf_trace.specs.Reading.{Reading, told, stopped, read_behind, place_behind, reading}
 use Rattle.wf_replay.specs.Texts.{settings_among, history_among}
-use Rattle.wf_replay.specs.Laws.{HasLaws}
+use Rattle.wf_replay.specs.Laws.{HasLengths, HasLaws}
+use Rattle.wf_laws.specs.Queues.{HasLength, IsAtMost}
 use Rattle.wf_laws.proofs.AllLaws.{laws}
 use Rattle.wf_frame.specs.declared.notes.Note.{Note}
 
@@ -90,12 +94,54 @@ standard_in = standard_in_range standard refl
 head_in : (ws : List (List ℕ)) (c : Config) → read_head ws ≡ Ok c → IsInRange c
 head_in ws c e = words_in ws (replicate 12 false) standard c standard_in e
 
+-- ---- a call
+
+-- a frame has 1 to 2304 octets
+abbrev IsSized : Note → Type 0
+IsSized note = HasLength note × IsAtMost 2304 note
+
+abbrev IsSizedCall : Result Note FaultKind → Type 0
+IsSizedCall (Ok note) = IsSized note
+IsSizedCall (Err fault) = Unit {0}
+
+enqueue_sized : (values : List ℕ) → Within (args_of call.Enq) values → IsSized (note_of call.Enq values)
+enqueue_sized [] w = absurd w
+enqueue_sized (s ∷ []) w = absurd w.2
+enqueue_sized (s ∷ t ∷ []) w = absurd w.2.2
+enqueue_sized (s ∷ t ∷ f ∷ []) w = absurd w.2.2.2
+enqueue_sized (s ∷ t ∷ f ∷ len ∷ more) w = (w.2.2.2.0, w.2.2.2.1)
+
+noted_sized : (c : Call) (ws : List (List ℕ)) (read : Result (List ℕ) FaultKind) → read_args (args_of c) ws ≡ read → IsSizedCall (noted c read)
+noted_sized c ws (Err fault) is = tt
+noted_sized call.Enq ws (Ok values) is = enqueue_sized values (within_read (args_of call.Enq) ws values tt is)
+noted_sized call.Join ws (Ok values) is = (tt, tt)
+noted_sized call.Leave ws (Ok values) is = (tt, tt)
+noted_sized call.Rate ws (Ok values) is = (tt, tt)
+noted_sized call.Tick ws (Ok values) is = (tt, tt)
+noted_sized call.Pull ws (Ok values) is = (tt, tt)
+noted_sized call.Arrive ws (Ok values) is = (tt, tt)
+noted_sized call.Answer ws (Ok values) is = (tt, tt)
+noted_sized call.Done ws (Ok values) is = (tt, tt)
+noted_sized call.Sleep ws (Ok values) is = (tt, tt)
+noted_sized call.Wake ws (Ok values) is = (tt, tt)
+noted_sized call.Poll ws (Ok values) is = (tt, tt)
+noted_sized call.Rx ws (Ok values) is = (tt, tt)
+noted_sized call.Reap ws (Ok values) is = (tt, tt)
+
+called_sized : (c : Option Call) (ws : List (List ℕ)) → IsSizedCall (called c ws)
+called_sized None ws = tt
+called_sized (Some c) ws = noted_sized c ws (read_args (args_of c) ws) refl
+
+call_sized : (ws : List (List ℕ)) → IsSizedCall (read_call ws)
+call_sized [] = tt
+call_sized (name ∷ ws) = called_sized (call_named name) ws
+
 -- ---- a line
 
--- a line that is a head has settings in range
+-- a line that is a head has settings in range, and one that is a call a frame of the right length
 abbrev HeadIn : Result Meaning FaultKind → Type 0
 HeadIn (Ok (meaning.Head config)) = IsInRange config
-HeadIn (Ok (meaning.Entry caller note)) = Unit {0}
+HeadIn (Ok (meaning.Entry caller note)) = IsSized note
 HeadIn (Ok meaning.Finish) = Unit {0}
 HeadIn (Err fault) = Unit {0}
 
@@ -104,21 +150,21 @@ headed_in (Some place) ws read is = tt
 headed_in None ws (Ok config) is = head_in ws config is
 headed_in None ws (Err fault) is = tt
 
-may_in : (caller : ℕ) (note : Note) (b : Bool) → HeadIn (if b then Err kind.TooLong else Ok (meaning.Entry caller note))
-may_in caller note true = tt
-may_in caller note false = tt
+may_in : (caller : ℕ) (note : Note) (b : Bool) → IsSized note → HeadIn (if b then Err kind.TooLong else Ok (meaning.Entry caller note))
+may_in caller note true sized = tt
+may_in caller note false sized = sized
 
-allowed_in : (caller : ℕ) (place : Option Place) (read : Result Note FaultKind) → HeadIn (allowed caller place read)
-allowed_in caller place (Err fault) = tt
-allowed_in caller None (Ok note) = tt
-allowed_in caller (Some place) (Ok note) = may_in caller note (nat_le place.limit place.count)
+allowed_in : (caller : ℕ) (place : Option Place) (read : Result Note FaultKind) → IsSizedCall read → HeadIn (allowed caller place read)
+allowed_in caller place (Err fault) sized = tt
+allowed_in caller None (Ok note) sized = tt
+allowed_in caller (Some place) (Ok note) sized = may_in caller note (nat_le place.limit place.count) sized
 
 against_in : (fault : FaultKind) (line : Result Meaning FaultKind) → HeadIn (against fault line)
 against_in fault (Ok said) = tt
 against_in fault (Err other) = tt
 
 caller_in : (caller : Result ℕ FaultKind) (place : Option Place) (ws : List (List ℕ)) → HeadIn (caller_first caller place ws)
-caller_in (Ok caller) place ws = allowed_in caller place (read_call ws)
+caller_in (Ok caller) place ws = allowed_in caller place (read_call ws) (call_sized ws)
 caller_in (Err fault) place ws = against_in fault (entry_of 0 place ws)
 
 finished_in : (place : Option Place) (ws : List (List ℕ)) → HeadIn (finished place ws)
@@ -130,7 +176,7 @@ named_in : (place : Option Place) (word : List ℕ) (ws : List (List ℕ)) (cell
     → HeadIn (if cell then headed place (read_head ws) else if end then finished place ws else entry_of 0 place (word ∷ ws))
 named_in place word ws true end = headed_in place ws (read_head ws) refl
 named_in place word ws false true = finished_in place ws
-named_in place word ws false false = allowed_in 0 place (read_call (word ∷ ws))
+named_in place word ws false false = allowed_in 0 place (read_call (word ∷ ws)) (call_sized (word ∷ ws))
 
 first_in : (place : Option Place) (octet : ℕ) (octets : List ℕ) (ws : List (List ℕ)) (caller : Bool)
     → HeadIn (if caller then caller_first (read_arg (Number 0 65535) octets) place ws else named place (octet ∷ octets) ws)
@@ -144,17 +190,17 @@ meant_in place ((octet ∷ octets) ∷ ws) = first_in place octet octets ws (oct
 
 -- ---- a trace
 
--- each head among items has settings in range
+-- each head among items has settings in range, and each call a frame of the right length
 abbrev HeadsIn : List Item → Type 0
 HeadsIn [] = Unit {0}
 HeadsIn (item.Head config ∷ items) = IsInRange config × HeadsIn items
-HeadsIn (item.Entry caller note ∷ items) = HeadsIn items
+HeadsIn (item.Entry caller note ∷ items) = IsSized note × HeadsIn items
 HeadsIn (item.Finish ∷ items) = HeadsIn items
 HeadsIn (item.Bad fault ∷ items) = HeadsIn items
 
 told_in : (n : ℕ) (line : Result Meaning FaultKind) (others : Reading) → HeadIn line → HeadsIn others.items → HeadsIn (told n line others).items
 told_in n (Ok (meaning.Head config)) others head rest = (head, rest)
-told_in n (Ok (meaning.Entry caller note)) others head rest = rest
+told_in n (Ok (meaning.Entry caller note)) others head rest = (head, rest)
 told_in n (Ok meaning.Finish) others head rest = tt
 told_in n (Err fault) others head rest = tt
 
@@ -176,16 +222,29 @@ behind_in (text ∷ texts) front end =
 among_in : (items : List Item) (c : Config) → HeadsIn items → settings_among items ≡ Some c → IsInRange c
 among_in [] c heads e = absurd (cc)
 among_in (item.Head config ∷ items) c heads e = let same : config ≡ c = cc in subst IsInRange same heads.0
-among_in (item.Entry caller note ∷ items) c heads e = among_in items c heads e
+among_in (item.Entry caller note ∷ items) c heads e = among_in items c heads.1 e
 among_in (item.Finish ∷ items) c heads e = among_in items c heads e
 among_in (item.Bad fault ∷ items) c heads e = among_in items c heads e
 
+lengths_among : (items : List Item) → HeadsIn items → HasLengths (history_among items)
+lengths_among [] heads = (tt, tt)
+lengths_among (item.Head config ∷ items) heads = lengths_among items heads.1
+lengths_among (item.Entry caller note ∷ items) heads =
+    let rest : HasLengths (history_among items) = lengths_among items heads.1 in
+    ((heads.0.0, rest.0), (heads.0.1, rest.1))
+lengths_among (item.Finish ∷ items) heads = lengths_among items heads
+lengths_among (item.Bad fault ∷ items) heads = lengths_among items heads
+
+heads_in : (closed : Bool) (octets : List ℕ) → HeadsIn (reading closed octets).items
+heads_in closed octets = let t : Texts = texts_of closed (lines closed 0 octets) in behind_in t.texts [] t.ending
+
 pub reading_in : (closed : Bool) (octets : List ℕ) (c : Config) → settings_among (reading closed octets).items ≡ Some c → IsInRange c
-reading_in closed octets c e =
-    let t : Texts = texts_of closed (lines closed 0 octets) in
-    among_in (reading closed octets).items c (behind_in t.texts [] t.ending) e
+reading_in closed octets c e = among_in (reading closed octets).items c (heads_in closed octets) e
 
 -- ---- the laws over a trace's run
 
 pub trace_laws : (closed : Bool) (octets : List ℕ) → HasLaws (reading closed octets)
-trace_laws closed octets config is = laws config (history_among (reading closed octets).items) (reading_in closed octets config is)
+trace_laws closed octets config is = (
+  laws config (history_among (reading closed octets).items) (reading_in closed octets config is),
+  lengths_among (reading closed octets).items (heads_in closed octets),
+)
