@@ -3,6 +3,7 @@ pub mod Lengths
 pub mod Airtime
 pub mod Fit
 pub mod Codel
+pub mod Parameters
 pub mod Rotation
 pub mod Session
 pub mod Receiver

@@ -1,3 +1,4 @@
+pub mod Bounds
 pub mod World
 pub mod FlowQueues
 pub mod CanSend
