@@ -11,6 +11,9 @@ ghost use Rattle.wf_airtime.specs.Rates.{IsRate, IsNoRate};
 use std::marker::Model;
 use thiserror::Error;
 
+/// The greatest MCS of two spatial streams (20.6).
+const GREATEST_MCS: u8 = 15;
+
 /// Data bits in a symbol of 20 MHz for MCS 0 to 7, one stream (20.6, tables 20-30 and 20-31).
 const BITS_20: [u32; 8] = [26, 52, 78, 104, 156, 208, 234, 260];
 
@@ -84,7 +87,7 @@ impl Rate {
         ensures within { IfOk result (λ _. IsRate mcs mhz) }
         ensures refused { IfErr result (λ _. IsNoRate mcs mhz) }
     {
-        if mcs > 15 || (mhz != 20 && mhz != 40) {
+        if mcs > GREATEST_MCS || (mhz != 20 && mhz != 40) {
             return Err(BadRate);
         }
         Ok(Rate { mcs, mhz, short })

@@ -1,5 +1,6 @@
 pub mod Table
 pub mod Lengths
+pub mod Bounds
 pub mod Airtime
 pub mod Fit
 pub mod Codel

@@ -1,4 +1,3 @@
-pub mod Bounds
 pub mod World
 pub mod FlowQueues
 pub mod CanSend

@@ -9,7 +9,7 @@ use Rattle.wf_frame.specs.declared.notes.Note.TheVariants.{Enqueue, Asked}
 use Rattle.wf_frame.specs.declared.notes.Refusal.{Refusal}
 use Rattle.wf_frame.specs.declared.notes.Refusal.TheVariants.{BadStation, BadWindow, BadStart, BadExponent, BadRate, BadTick, BadTid, BadAir, BadIndex, Live, NoStation, NoExchange, NoAnswer, StillOpen, Room, Sleeping, Full, Idle, Answered, Arrived, Nothing, Asleep, Awake, Polled, Debt, BadWeight}
 use Rattle.wf_rules.specs.Table.{has, upto}
-use Rattle.wf_world.specs.Bounds.{greatest_window, greatest_start, greatest_exponent, greatest_weight, greatest_mcs, greatest_tid, greatest_tick, greatest_air, deepest_deficit}
+use Rattle.wf_rules.specs.Bounds.{greatest_window, greatest_start, greatest_exponent, greatest_weight, greatest_mcs, greatest_tid, greatest_tick, greatest_air, deepest_deficit}
 use Rattle.wf_world.specs.World.{World, Exchange, station, is_live, inside, share, exchange}
 use Rattle.wf_frame.specs.Classes.{same_class, lower_tid, upper_tid, class_of}
 use Rattle.wf_world.specs.FlowQueues.{queued}

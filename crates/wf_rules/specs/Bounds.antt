@@ -1,11 +1,11 @@
--- The bounds of what a call may name, and of what it may leave.
+-- The bounds of what a call may name, and of what it may leave (IEEE 802.11-2012, where a section stands).
 use Rattle.std.specs.Prelude.{ℕ, ℤ, pos, ◌-ℤ◌}
 
 -- the greatest window of a station's agreements, in numbers: this project's own, and a wide session's BlockAck has a bit for each
 abbrev pub greatest_window : ℕ
 greatest_window = 256
 
--- the greatest sequence number, of twelve bits (IEEE 802.11-2012, 8.2.4.4.2)
+-- the greatest sequence number, of twelve bits (8.2.4.4.2)
 abbrev pub greatest_start : ℕ
 greatest_start = 4095
 
