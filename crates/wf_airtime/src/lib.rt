@@ -4,9 +4,7 @@
 
 ghost use Rattle.std.specs.Prelude.{◌≡◌, ◌+◌, ◌≤◌, ◌<◌, true, if◌then◌else◌, IfOk, IfErr};
 ghost use Rattle.wf_rules.specs.Airtime.{lowest_rate, streams, bits, kbps, symbols, data_time, control_time, answer_time, longest_answer, data_charge, request_charge};
-ghost use Rattle.wf_rules.specs.Fit.{subframe_octets};
-ghost use Rattle.wf_rules.specs.Lengths.{greatest_body};
-ghost use Rattle.wf_airtime.specs.Rates.{IsRate, IsNoRate};
+ghost use Rattle.wf_airtime.specs.Rates.{IsRate, IsNoRate, highest_rate, longest_aggregate, longest_single};
 
 use std::marker::Model;
 use thiserror::Error;
@@ -115,8 +113,8 @@ impl Rate {
     // Data bits in a symbol.
     fn bits(self) -> u32
         ensures exact { result ≡ bits self }
-        ensures least { 26 ≤ result }
-        ensures most { result ≤ 1080 }
+        ensures least { bits lowest_rate ≤ result }
+        ensures most { result ≤ bits highest_rate }
     {
         let row = if self.mhz == 40 { BITS_40 } else { BITS_20 };
         self.streams() * row[usize::from(self.mcs % 8)]
@@ -125,8 +123,8 @@ impl Rate {
     /// The data rate in kbit/s, 6,500 to 300,000, rounded down.
     pub fn kbps(self) -> u32
         ensures exact { result ≡ kbps self }
-        ensures least { 6500 ≤ result }
-        ensures most { result ≤ 300000 }
+        ensures least { kbps lowest_rate ≤ result }
+        ensures most { result ≤ kbps highest_rate }
     {
         if self.short {
             2500 * self.bits() / 9
@@ -138,10 +136,10 @@ impl Rate {
     // Symbols of this many octets with the service and tail bits (16 and 6), the last one begun counting whole.
     #[tactic(auto, using(crate::proofs::Ceilings::same_ceiling))]
     fn symbols(self, octets: u32) -> u32
-        requires { octets ≤ 65535 }
+        requires { octets ≤ longest_aggregate }
         ensures exact { result ≡ symbols self octets }
-        ensures most { result ≤ 20166 }
-        ensures single { octets ≤ subframe_octets greatest_body → result ≤ 721 }
+        ensures most { result ≤ symbols lowest_rate longest_aggregate }
+        ensures single { octets ≤ longest_single → result ≤ symbols lowest_rate longest_single }
     {
         (8 * octets + SERVICE_AND_TAIL_BITS).div_ceil(self.bits())
     }
@@ -149,10 +147,10 @@ impl Rate {
     /// How long an aggregate of this many octets takes: preamble and payload (TXTIME, 20.4.3). An aggregate of one frame
     /// takes at most 2920 microseconds.
     pub fn data_time(self, octets: u32) -> u32
-        requires { octets ≤ 65535 }
+        requires { octets ≤ longest_aggregate }
         ensures exact { result ≡ data_time self octets }
-        ensures most { result ≤ 80704 }
-        ensures single { octets ≤ subframe_octets greatest_body → result ≤ 2920 }
+        ensures most { result ≤ data_time lowest_rate longest_aggregate }
+        ensures single { octets ≤ longest_single → result ≤ data_time lowest_rate longest_single }
     {
         let preamble = PREAMBLE_HEAD_TIME + TRAINING_TIME * self.streams();
         let symbols = self.symbols(octets);
@@ -167,7 +165,7 @@ impl Rate {
     /// What a data exchange is charged, in microseconds: its data time, SIFS and the BlockAck, which takes longer in a
     /// wide session, one whose window is above 64.
     pub fn data_charge(self, octets: u32, wide: bool) -> u32
-        requires { octets ≤ 65535 }
+        requires { octets ≤ longest_aggregate }
         ensures exact { result ≡ data_charge self octets wide }
         ensures most { result ≤ data_time self octets + longest_answer }
     {
@@ -178,7 +176,7 @@ impl Rate {
 // How long a control frame of this many octets takes at 24 Mbit/s (18.4.3).
 #[tactic(auto, using(crate::proofs::Ceilings::same_ceiling))]
 fn control_time(octets: u32) -> u32
-    requires { octets ≤ 65535 }
+    requires { octets ≤ longest_aggregate }
     ensures { result ≡ control_time octets }
 {
     let symbols = (8 * octets + SERVICE_AND_TAIL_BITS).div_ceil(CONTROL_BITS);

@@ -5,7 +5,8 @@
 ghost use Rattle.std.specs.Prelude.{◌≡◌, ◌+◌, ◌-◌, ◌<◌, ◌≤◌, ◌^◌, ◌++◌, [], ◌∷◌, ℕ, List, length, nat_lt, ◌&&◌, IsTrue, IsFalse};
 ghost use Rattle.wf_rules.specs.Lengths.{greatest_body};
 ghost use Rattle.wf_rules.specs.Airtime.{data_charge, longest_answer};
-ghost use Rattle.wf_rules.specs.Fit.{subframe_octets, most_octets, octets_of, fits};
+ghost use Rattle.wf_rules.specs.Fit.{most_octets, octets_of, fits};
+ghost use Rattle.wf_airtime.specs.Rates.{longest_aggregate, longest_single};
 ghost use Rattle.wf_ampdu.specs.Rooms.{empty_room, is_short, StandsFor};
 
 use std::marker::Model;
@@ -95,7 +96,7 @@ impl Room {
     // Whether one frame more fits, with which the aggregate has so many octets.
     fn has_room_for(&self, octets: u32) -> bool
         ensures exact { result ≡ (nat_lt self.now.count self.now.agg && is_short self.now octets) }
-        ensures first { self.now.count ≡ 0 → octets ≤ subframe_octets greatest_body → IsTrue result }
+        ensures first { self.now.count ≡ 0 → octets ≤ longest_single → IsTrue result }
     {
         self.count < self.agg && self.is_short(octets)
     }
@@ -103,7 +104,7 @@ impl Room {
     // Whether an aggregate of so many octets is within the length and the time. A single frame always is.
     fn is_short(&self, octets: u32) -> bool
         ensures exact { result ≡ is_short self.now octets }
-        ensures single { octets ≤ subframe_octets greatest_body → IsTrue result }
+        ensures single { octets ≤ longest_single → IsTrue result }
     {
         octets <= self.most_octets() && self.rate.data_time(octets) <= self.cap
     }
@@ -111,8 +112,8 @@ impl Room {
     // The most octets of an aggregate (8.4.2.58.3).
     fn most_octets(&self) -> u32
         ensures exact { result ≡ most_octets self.now.exponent }
-        ensures least { 8191 ≤ result }
-        ensures most { result ≤ 65535 }
+        ensures least { most_octets 0 ≤ result }
+        ensures most { result ≤ longest_aggregate }
     {
         (1 << (13 + self.exponent)) - 1
     }

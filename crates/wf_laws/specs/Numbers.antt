@@ -1,4 +1,5 @@
--- How large the numbers of a run get, in figures that hold for all settings in their ranges. Each is far within 32 bits with a sign.
+-- How large the numbers of a run get, in figures that hold for all settings in their ranges. Each is far within 32 bits
+-- with a sign.
 use Rattle.std.specs.Prelude.{ℕ, ◌+◌, ◌*◌, ◌≤◌, ℤ, pos, ◌+ℤ◌, ◌-ℤ◌, ◌≤ℤ◌, true, ◌≡◌, List}
 use Rattle.wf_frame.specs.declared.settings.Config.{Config}
 use Rattle.wf_frame.specs.declared.settings.Field.TheVariants.{FlowQuantum, Quantum, Inflight, Cap}
@@ -14,7 +15,8 @@ use Rattle.wf_world.specs.Stretches.{world_at}
 use Rattle.wf_laws.specs.Queues.{IsListed, AreAtMost}
 use Rattle.wf_laws.specs.Windows.{EachOpen}
 
--- the greatest charge of an exchange, in microseconds: the greatest time of its data, the pause and the longest BlockAck
+-- the greatest charge of an exchange, in microseconds: the greatest time of its data, the pause and the longest
+-- BlockAck
 abbrev pub greatest_charge : ℕ
 greatest_charge = greatest_of Cap + longest_answer
 
@@ -22,7 +24,7 @@ greatest_charge = greatest_of Cap + longest_answer
 abbrev pub greatest_owed : ℕ
 greatest_owed = greatest_of Inflight * greatest_charge
 
--- the least deficit of a station in a class, in microseconds: the greatest debt, and all open exchanges of the class
+-- the least deficit of a station in a class, in microseconds: the greatest debt with all open exchanges of the class
 abbrev pub least_deficit : ℤ
 least_deficit = pos 0 -ℤ pos (greatest_debt + greatest_owed)
 
@@ -30,13 +32,16 @@ least_deficit = pos 0 -ℤ pos (greatest_debt + greatest_owed)
 abbrev pub greatest_deficit : ℤ
 greatest_deficit = pos (greatest_of Quantum * greatest_weight)
 
+-- the numbers of a world of this history lie in their ranges
 pub record NumbersFit (history : List Entry) (w : World) : Type 0 where
   -- what an open exchange is charged
   pub charges : EachOpen (λ x. (1 ≤ x.charge) × (x.charge ≤ greatest_charge)) w.opened
   pub opened : (c : Class) → open_of_class w c ≤ greatest_of Inflight
   -- a live station's deficit
-  pub deficits : (s : ℕ) (c : Class) → is_live w s ≡ true → (least_deficit ≤ℤ (share w s c).deficit) × ((share w s c).deficit ≤ℤ greatest_deficit)
-  -- where no frame is longer than the greatest body, a listed queue's deficit: above 0 less the longest frame, and at most the greatest quantum
+  pub deficits : (s : ℕ) (c : Class) → is_live w s ≡ true
+      → (least_deficit ≤ℤ (share w s c).deficit) × ((share w s c).deficit ≤ℤ greatest_deficit)
+  -- where no frame is longer than the greatest body, a listed queue's deficit: above 0 less the longest frame, and at
+  -- most the greatest quantum
   pub queue_deficits : AreAtMost greatest_body history → (s t q : ℕ) → IsListed w s t q
       → (pos 1 ≤ℤ ((queue w q).deficit +ℤ pos greatest_body)) × ((queue w q).deficit ≤ℤ pos (greatest_of FlowQuantum))
 

@@ -1,9 +1,11 @@
--- How long a transmission takes, in whole microseconds: IEEE 802.11-2012, high throughput (HT), mixed format at 5 GHz.
--- Data has HT timing (20.3.7, 20.4.3) at the rates of 20.6; control frames have OFDM timing (18.4.3) at 24 Mbit/s.
+-- How long a transmission takes, in whole microseconds, and what an exchange is charged: IEEE 802.11-2012, high
+-- throughput (HT), mixed format at 5 GHz. Data has HT timing (20.3.7, 20.4.3) at the rates of 20.6; control frames have
+-- OFDM timing (18.4.3) at 24 Mbit/s.
 use Rattle.std.specs.Prelude.{ℕ, ◌+◌, ◌*◌, ◌/◌, ◌%◌, ◌==◌, nat_lt, Bool, true, false, List, [], ◌∷◌, if◌then◌else◌, slice_index}
 use Rattle.wf_rules.specs.Table.{ceil_div}
 
--- a rate: its MCS, 0 to 15, the channel's width in MHz, 20 or 40, and whether the guard interval is short (400 ns) or long (800 ns)
+-- a rate: its MCS, 0 to 15, the channel's width in MHz, 20 or 40, and whether the guard interval is short (400 ns) or
+-- long (800 ns)
 pub record Rate : Type 0 where
   pub mcs : ℕ
   pub mhz : ℕ
@@ -29,7 +31,8 @@ bits_40 = 54 ∷ 108 ∷ 162 ∷ 216 ∷ 324 ∷ 432 ∷ 486 ∷ 540 ∷ []
 abbrev pub bits : Rate → ℕ
 bits r = streams r * slice_index (if r.mhz == 40 then bits_40 else bits_20) (r.mcs % 8)
 
--- the data rate in kbit/s, rounded down: the bits of a symbol every 4 microseconds, or every 3.6 with the short guard interval
+-- the data rate in kbit/s, rounded down: the bits of a symbol every 4 microseconds, or every 3.6 with the short guard
+-- interval
 abbrev pub kbps : Rate → ℕ
 kbps r = if r.short then 2500 * bits r / 9 else 250 * bits r
 
@@ -63,11 +66,12 @@ symbols r octets = ceil_div (8 * octets + service_and_tail_bits) (bits r)
 abbrev pub symbol_time : ℕ
 symbol_time = 4
 
--- the HT mixed preamble up to its HT long training fields, in microseconds: L-STF 8, L-LTF 8, L-SIG 4, HT-SIG 8, HT-STF 4 (20.3.7)
+-- the HT mixed preamble up to its HT long training fields, in microseconds: L-STF 8, L-LTF 8, L-SIG 4, HT-SIG 8 and
+-- HT-STF 4 (20.3.7)
 abbrev pub preamble_head_time : ℕ
 preamble_head_time = 32
 
--- one HT long training field, in microseconds: one or two streams have as many (20.3.7)
+-- an HT long training field, one for each of one or two streams, in microseconds (20.3.7)
 abbrev pub training_time : ℕ
 training_time = 4
 
@@ -75,7 +79,8 @@ training_time = 4
 abbrev pub preamble_time : Rate → ℕ
 preamble_time r = preamble_head_time + training_time * streams r
 
--- how many long symbols' time the payload takes: with the short guard interval a symbol takes 9/10 of one, and the sum ends with a long one (20.4.3)
+-- how many long symbols' time the payload takes: a symbol with the short guard interval takes 9/10 of a long one, and
+-- the last one begun counts whole (20.4.3)
 abbrev pub symbol_slots : Rate → ℕ → ℕ
 symbol_slots r octets = if r.short then ceil_div (9 * symbols r octets) 10 else symbols r octets
 
@@ -105,7 +110,8 @@ check_octets = 4
 abbrev pub request_octets : ℕ
 request_octets = 20
 
--- the octets of a BlockAck without its check sequence: with a bitmap of 8 octets (8.3.1.9), or this project's own of 32 for a wide session
+-- the octets of a BlockAck without its check sequence: that with a bitmap of 8 octets (8.3.1.9), or, for a wide session,
+-- this project's own with one of 32
 abbrev pub block_ack_octets : Bool → ℕ
 block_ack_octets wide = if wide then 52 else 28
 

@@ -1,9 +1,15 @@
 -- The bounds of what a call may name, and of what it may leave (IEEE 802.11-2012, where a section stands).
 use Rattle.std.specs.Prelude.{ℕ, ℤ, pos, ◌-ℤ◌}
 
--- the greatest window of a station's agreements, in numbers: this project's own, and a wide session's BlockAck has a bit for each
+-- the greatest window of a station's agreements, in numbers, this project's own: a wide session's BlockAck has a bit for
+-- each
 abbrev pub greatest_window : ℕ
 greatest_window = 256
+
+-- the greatest window of a session that is not wide, in numbers: a BlockAck's bitmap of 8 octets has a bit for each
+-- (8.3.1.9.3)
+abbrev pub narrow_window : ℕ
+narrow_window = 64
 
 -- the greatest sequence number, of twelve bits (8.2.4.4.2)
 abbrev pub greatest_start : ℕ

@@ -1,4 +1,5 @@
--- Which frames fit one aggregate (A-MPDU): IEEE 802.11-2012, 8.6.1 (format and padding of subframes) and 9.12.2 (length limit).
+-- Which frames fit one aggregate (A-MPDU): IEEE 802.11-2012, 8.6.1 (format and padding of subframes) and 9.12.2 (length
+-- limit).
 use Rattle.std.specs.Prelude.{ℕ, ◌+◌, ◌*◌, ◌-◌, ◌^◌, nat_le, Bool, ◌&&◌, List, [], ◌∷◌, length}
 use Rattle.wf_rules.specs.Table.{ceil_div}
 use Rattle.wf_rules.specs.Airtime.{Rate, check_octets, data_time}
@@ -37,7 +38,9 @@ octets_of (len ∷ next ∷ lens) = padded (subframe_octets len) + octets_of (ne
 abbrev pub most_octets : ℕ → ℕ
 most_octets exponent = 2 ^ (13 + exponent) - 1
 
--- whether frames of these body lengths fit one aggregate: at most `most` of them, within the length and `cap` microseconds of data time
+-- whether frames of these body lengths fit one aggregate: at most `most` of them, within the length, and within `cap`
+-- microseconds of data time
 abbrev pub fits : Rate → ℕ → ℕ → ℕ → List ℕ → Bool
 fits rate exponent most cap lens =
-    nat_le (length lens) most && (nat_le (octets_of lens) (most_octets exponent) && nat_le (data_time rate (octets_of lens)) cap)
+    nat_le (length lens) most
+    && (nat_le (octets_of lens) (most_octets exponent) && nat_le (data_time rate (octets_of lens)) cap)

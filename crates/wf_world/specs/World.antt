@@ -9,6 +9,7 @@ use Rattle.wf_frame.specs.declared.notes.Note.{Note}
 use Rattle.wf_frame.specs.declared.notes.Note.TheVariants.{Enqueue, Asked}
 use Rattle.wf_frame.specs.declared.notes.Ask.TheVariants.{Reap}
 use Rattle.wf_rules.specs.Table.{at, put, change, upto}
+use Rattle.wf_rules.specs.Bounds.{narrow_window}
 use Rattle.wf_rules.specs.Airtime.{Rate, lowest_rate}
 use Rattle.wf_rules.specs.Codel.{Item, Codel, Params, new_codel}
 use Rattle.wf_rules.specs.Parameters.{params_at}
@@ -164,7 +165,7 @@ abbrev pub params : World → ℕ → Params
 params w s = params_at (station w s).rate
 
 abbrev pub is_wide : World → ℕ → ℕ → Bool
-is_wide w s t = nat_lt 64 (session w s t).size
+is_wide w s t = nat_lt narrow_window (session w s t).size
 
 abbrev pub exchange : World → ℕ → Option Exchange
 exchange w e = find (λ x. x.number == e) w.opened
