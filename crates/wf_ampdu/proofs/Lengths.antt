@@ -2,12 +2,11 @@
 use Rattle.std.proofs.Common.{◌≡◌, ℕ, ◌+◌, ◌*◌, ◌∙◌, refl, sym, ap, arith, List, [], ◌∷◌, ◌++◌, length, length-append, ◌&&◌}
 use Rattle.std.specs.Prelude.{nat_lt, nat_le}
 use Rattle.std.proofs.lemmas.Bool.Decides.{nat_tests}
-use Rattle.wf_rules.specs.Table.{ceil_div}
-use Rattle.wf_rules.specs.Fit.{octets_of, fits}
+use Rattle.wf_rules.specs.Fit.{subframe_octets, padded, octets_of, fits}
 use Rattle.wf_ampdu.specs.Rooms.{RoomValue, StandsFor, is_short}
 
 -- What was last is padded: the octets are rounded up to a multiple of 4.
-pub octets_of-append : (lens : List ℕ) (len : ℕ) → octets_of (lens ++ len ∷ []) ≡ 4 * ceil_div (octets_of lens) 4 + (34 + len)
+pub octets_of-append : (lens : List ℕ) (len : ℕ) → octets_of (lens ++ len ∷ []) ≡ padded (octets_of lens) + subframe_octets len
 octets_of-append [] len = omega arith
 octets_of-append (x ∷ []) len = refl
 octets_of-append (x ∷ y ∷ lens) len = omega (arith, octets_of-append (y ∷ lens) len)
@@ -15,9 +14,9 @@ octets_of-append (x ∷ y ∷ lens) len = omega (arith, octets_of-append (y ∷ 
 suc_fits : (n m : ℕ) → nat_le (n + 1) m ≡ nat_lt n m
 suc_fits n m = grind (arith, nat_tests)
 
-module _ (room : RoomValue) (lens : List ℕ) (len octets : ℕ) (octets_is : octets ≡ 4 * ceil_div room.octets 4 + (34 + len)) (stands : StandsFor room lens) where
+module _ (room : RoomValue) (lens : List ℕ) (len octets : ℕ) (octets_is : octets ≡ padded room.octets + subframe_octets len) (stands : StandsFor room lens) where
   octets_more : octets_of (lens ++ len ∷ []) ≡ octets
-  octets_more = octets_of-append lens len ∙ ap (λ n. 4 * ceil_div n 4 + (34 + len)) (sym stands.octets) ∙ sym octets_is
+  octets_more = octets_of-append lens len ∙ ap (λ n. padded n + subframe_octets len) (sym stands.octets) ∙ sym octets_is
 
   count_more : length (lens ++ len ∷ []) ≡ room.count + 1
   count_more = omega (arith, length-append lens (len ∷ []), stands.count)

@@ -1,6 +1,7 @@
 -- How the fields of a `Room` stand for its value.
-use Rattle.std.specs.Prelude.{◌≡◌, ◌+◌, ◌-◌, ◌^◌, ◌≤◌}
+use Rattle.std.specs.Prelude.{◌≡◌, ◌≤◌}
 use Rattle.wf_rules.specs.Airtime.{data_time}
+use Rattle.wf_rules.specs.Fit.{most_octets}
 use Rattle.wf_ampdu.specs.Rooms.{RoomValue}
 use Rattle.wf_ampdu.specs.declared.Room.TheInside.{Inside}
 
@@ -13,6 +14,6 @@ pub record IsRoom (r : Inside) : Type 0 where
   pub agg_in : 1 ≤ r.agg
   pub cap_in : 3000 ≤ r.cap
   pub count_in : r.count ≤ r.agg
-  pub octets_in : r.octets ≤ 2 ^ (13 + r.exponent) - 1
+  pub octets_in : r.octets ≤ most_octets r.exponent
   pub empty : r.count ≡ 0 → r.octets ≡ 0
   pub timely : 1 ≤ r.count → data_time r.rate r.octets ≤ r.cap

@@ -1,7 +1,7 @@
 -- An aggregate as contracts see it.
-use Rattle.std.specs.Prelude.{◌≡◌, ℕ, ◌+◌, ◌-◌, ◌^◌, nat_le, Bool, ◌&&◌, List, length}
+use Rattle.std.specs.Prelude.{◌≡◌, ℕ, nat_le, Bool, ◌&&◌, List, length}
 use Rattle.wf_rules.specs.Airtime.{Rate, data_time}
-use Rattle.wf_rules.specs.Fit.{octets_of}
+use Rattle.wf_rules.specs.Fit.{most_octets, octets_of}
 
 pub record RoomValue : Type 0 where
   pub rate : Rate
@@ -21,6 +21,6 @@ pub record StandsFor (room : RoomValue) (lens : List ℕ) : Type 0 where
   pub count : room.count ≡ length lens
   pub octets : room.octets ≡ octets_of lens
 
--- an aggregate of so many octets is within the length and the time
+-- whether an aggregate of so many octets is within the length and the time
 abbrev pub is_short : RoomValue → ℕ → Bool
-is_short room octets = nat_le octets (2 ^ (13 + room.exponent) - 1) && nat_le (data_time room.rate octets) room.cap
+is_short room octets = nat_le octets (most_octets room.exponent) && nat_le (data_time room.rate octets) room.cap

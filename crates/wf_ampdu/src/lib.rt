@@ -3,17 +3,28 @@
 #![tactic(auto)]
 
 ghost use Rattle.std.specs.Prelude.{◌≡◌, ◌+◌, ◌-◌, ◌<◌, ◌≤◌, ◌^◌, ◌++◌, [], ◌∷◌, ℕ, List, length, nat_lt, ◌&&◌, IsTrue, IsFalse};
-ghost use Rattle.wf_rules.specs.Airtime.{data_charge};
-ghost use Rattle.wf_rules.specs.Fit.{fits, octets_of};
+ghost use Rattle.wf_rules.specs.Lengths.{greatest_body};
+ghost use Rattle.wf_rules.specs.Airtime.{data_charge, longest_answer};
+ghost use Rattle.wf_rules.specs.Fit.{most_octets, octets_of, fits};
+ghost use Rattle.wf_airtime.specs.Rates.{longest_aggregate, longest_single};
 ghost use Rattle.wf_ampdu.specs.Rooms.{empty_room, is_short, StandsFor};
 
 use std::marker::Model;
 use wf_airtime::Rate;
 
-/// An MPDU's header of 26 octets and check sequence of 4, and the delimiter of 4 before it.
-const OVERHEAD: u32 = 34;
+/// The octets of the delimiter before an MPDU (8.6.1).
+const DELIMITER_OCTETS: u32 = 4;
 
-/// Each subframe but the last is padded to a multiple of 4 octets.
+/// The octets of the MAC header of a QoS Data frame with three addresses (8.3.2.1).
+const HEADER_OCTETS: u32 = 26;
+
+/// The octets of a frame check sequence (8.2.4.8).
+const CHECK_OCTETS: u32 = 4;
+
+/// The octets of a subframe besides its body.
+const OVERHEAD: u32 = DELIMITER_OCTETS + HEADER_OCTETS + CHECK_OCTETS;
+
+/// Each subframe but the last is padded to a multiple of 4 octets (8.6.1).
 const PADDING: u32 = 4;
 
 /// An aggregate to which frames are added, one at a time: how many it has, and its octets.
@@ -65,7 +76,7 @@ impl Room {
     /// Takes a frame with a body of this length, 1 to 2304, behind those it has; refused, with no change, exactly where
     /// it does not fit. The first frame always fits.
     pub fn add(&mut self, len: u16) -> bool
-        requires { (1 ≤ len) × (len ≤ 2304) }
+        requires { (1 ≤ len) × (len ≤ greatest_body) }
         ensures exact { (lens : List ℕ) → StandsFor self.old lens →
             result ≡ fits self.old.rate self.old.exponent self.old.agg self.old.cap (lens ++ len ∷ []) }
         ensures taken { (lens : List ℕ) → StandsFor self.old lens → IsTrue result → StandsFor self.new (lens ++ len ∷ []) }
@@ -85,7 +96,7 @@ impl Room {
     // Whether one frame more fits, with which the aggregate has so many octets.
     fn has_room_for(&self, octets: u32) -> bool
         ensures exact { result ≡ (nat_lt self.now.count self.now.agg && is_short self.now octets) }
-        ensures first { self.now.count ≡ 0 → octets ≤ 2338 → IsTrue result }
+        ensures first { self.now.count ≡ 0 → octets ≤ longest_single → IsTrue result }
     {
         self.count < self.agg && self.is_short(octets)
     }
@@ -93,16 +104,16 @@ impl Room {
     // Whether an aggregate of so many octets is within the length and the time. A single frame always is.
     fn is_short(&self, octets: u32) -> bool
         ensures exact { result ≡ is_short self.now octets }
-        ensures single { octets ≤ 2338 → IsTrue result }
+        ensures single { octets ≤ longest_single → IsTrue result }
     {
         octets <= self.most_octets() && self.rate.data_time(octets) <= self.cap
     }
 
-    // The most octets of an aggregate.
+    // The most octets of an aggregate (8.4.2.58.3).
     fn most_octets(&self) -> u32
-        ensures exact { result ≡ 2 ^ (13 + self.now.exponent) - 1 }
-        ensures least { 8191 ≤ result }
-        ensures most { result ≤ 65535 }
+        ensures exact { result ≡ most_octets self.now.exponent }
+        ensures least { most_octets 0 ≤ result }
+        ensures most { result ≤ longest_aggregate }
     {
         (1 << (13 + self.exponent)) - 1
     }
@@ -116,12 +127,12 @@ impl Room {
         self.count
     }
 
-    /// What a data exchange of its frames is charged, at most `cap + 56`.
+    /// What a data exchange of its frames is charged, in microseconds: at most `cap`, SIFS and the longest BlockAck.
     pub fn air(&self) -> u32
         requires { 1 ≤ self.now.count }
         ensures exact { (lens : List ℕ) → StandsFor self.now lens →
             result ≡ data_charge self.now.rate (octets_of lens) self.now.wide }
-        ensures most { result ≤ self.now.cap + 56 }
+        ensures most { result ≤ self.now.cap + longest_answer }
     {
         self.rate.data_charge(self.octets, self.wide)
     }

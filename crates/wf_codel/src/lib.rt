@@ -7,13 +7,25 @@ ghost use Rattle.wf_rules.specs.Codel.{ends, step_of, octets, new_codel, dequeue
 ghost use Rattle.wf_codel.specs.Steps.{stepped};
 ghost use Rattle.wf_codel.specs.Takes.{IsGreatestStep, Takes};
 ghost use Rattle.wf_codel.specs.Looks.{look_by, count_again, started};
-ghost use Rattle.wf_codel.specs.Params.{params_of, params_at};
+ghost use Rattle.wf_rules.specs.Parameters.{params_at};
+ghost use Rattle.wf_codel.specs.Params.{params_of};
 
 use std::marker::Model;
 use wf_airtime::Rate;
 
 /// The greatest body of a frame, in octets: where no more is left, nothing is dropped (MAXPACKET).
 const MAX_PACKET: u64 = 2304;
+
+/// A station at a rate of fewer kbit/s is slow.
+const SLOW_BELOW: u32 = 12_000;
+
+/// The target and the interval of a station that is not slow, in microseconds.
+const USUAL_TARGET: u32 = 20_000;
+const USUAL_INTERVAL: u32 = 100_000;
+
+/// The target and the interval of a slow station, in microseconds.
+const SLOW_TARGET: u32 = 50_000;
+const SLOW_INTERVAL: u32 = 300_000;
 
 /// How much later the next drop is due: the greatest d with `d*d*count <= interval*interval`, the interval over the
 /// root of the count, rounded down (RFC 8289, 5.5).
@@ -101,19 +113,20 @@ pub struct Params {
 }
 
 impl Params {
-    /// The parameters of a station of this rate: 20,000 and 100,000, and 50,000 and 300,000 below 12,000 kbit/s.
+    /// The parameters of a station of this rate, in microseconds: 20,000 and 100,000, and 50,000 and 300,000 below
+    /// 12,000 kbit/s.
     pub fn of(rate: Rate) -> Params
         ensures { params_of result ≡ params_at rate }
     {
-        if rate.kbps() < 12_000 {
+        if rate.kbps() < SLOW_BELOW {
             Params {
-                target: 50_000,
-                interval: 300_000,
+                target: SLOW_TARGET,
+                interval: SLOW_INTERVAL,
             }
         } else {
             Params {
-                target: 20_000,
-                interval: 100_000,
+                target: USUAL_TARGET,
+                interval: USUAL_INTERVAL,
             }
         }
     }

@@ -1,6 +1,7 @@
 -- What the flow queues keep.
-use Rattle.std.specs.Prelude.{◌≡◌, ℕ, ◌+◌, ◌*◌, ◌<◌, ◌≤◌, pos, negsuc, ◌+ℤ◌, ◌≤ℤ◌, Option, IfSome, Bool, true, if◌then◌else◌, List, length, map, filter, nat_lt, nat_le, slice_index_or, slice_set, [], get_or}
+use Rattle.std.specs.Prelude.{◌≡◌, ℕ, ◌+◌, ◌*◌, ◌<◌, ◌≤◌, pos, ◌-ℤ◌, ◌+ℤ◌, ◌≤ℤ◌, Option, IfSome, Bool, true, if◌then◌else◌, List, length, map, filter, nat_lt, nat_le, slice_index_or, slice_set, [], get_or}
 use Rattle.wf_frame.specs.Frames.{FrameValue}
+use Rattle.wf_rules.specs.Lengths.{greatest_body}
 use Rattle.wf_rules.specs.Table.{upto}
 use Rattle.wf_rules.specs.Rotation.{Rotation, lists as lists_of, in_order, without_key}
 use Rattle.wf_rota.specs.Lists.{AreDisjoint, lists_at, on_at}
@@ -40,7 +41,7 @@ pub record AreSized (v : FlowsValue) (counts : List ℕ) : Type 0 where
   pub small_room : v.backlog.room ≤ 131072
   pub positive : 1 ≤ v.flow_quantum
   pub quanta : (q : ℕ) → q < v.flows + 8 * v.stations → quantum_at v.rotas.quanta q ≡ v.flow_quantum
-  pub low : (q : ℕ) → negsuc 2302 ≤ℤ deficit_at v.rotas.deficits q
+  pub low : (q : ℕ) → (pos 1 -ℤ pos greatest_body) ≤ℤ deficit_at v.rotas.deficits q
 
 pub record IsKept (v : FlowsValue) (counts : List ℕ) : Type 0 where
   pub sized : AreSized v counts

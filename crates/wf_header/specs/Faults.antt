@@ -6,7 +6,7 @@ use Rattle.wf_header.specs.declared.header.Kind.TheVariants.{QosData, QosNull, P
 use Rattle.wf_header.specs.declared.decoding.HeaderFault.{HeaderFault}
 use Rattle.wf_header.specs.declared.decoding.HeaderFault.TheVariants.{Short, Version, Form}
 use Rattle.wf_header.specs.declared.decoding.HeaderFault.TheVariants.{Kind as Unknown}
-use Rattle.wf_header.specs.Layout.{size_of, is_qos}
+use Rattle.wf_header.specs.Layout.{flags_at, sequence_at, qos_at, size_of, is_qos}
 
 -- the kind whose headers have this first octet
 abbrev pub kind_of : ℕ → Option Kind
@@ -21,9 +21,9 @@ kind_of octet =
 -- what a QoS header may not have: both DS flags, More Fragments, Protected, Order, a fragment number, an A-MSDU
 abbrev pub is_malformed : List ℕ → Bool
 is_malformed octets =
-    (is_set (slice_index octets 1) 0 && is_set (slice_index octets 1) 1) || is_set (slice_index octets 1) 2
-    || is_set (slice_index octets 1) 6 || is_set (slice_index octets 1) 7 || not (number_at octets 22 % 16 == 0)
-    || is_set (slice_index octets 24) 7
+    (is_set (slice_index octets flags_at) 0 && is_set (slice_index octets flags_at) 1) || is_set (slice_index octets flags_at) 2
+    || is_set (slice_index octets flags_at) 6 || is_set (slice_index octets flags_at) 7 || not (number_at octets sequence_at % 16 == 0)
+    || is_set (slice_index octets qos_at) 7
 
 abbrev pub fault_of_kind : List ℕ → Kind → Option HeaderFault
 fault_of_kind octets kind =

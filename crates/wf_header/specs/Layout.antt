@@ -15,6 +15,33 @@ first_octet Ack = 0xD4
 first_octet BlockAckReq = 0x84
 first_octet BlockAck = 0x94
 
+-- where a header's fields begin, in octets (8.2.4): the second octet of Frame Control, Duration, the addresses, and a QoS frame's
+-- Sequence Control and QoS Control
+abbrev pub flags_at : ℕ
+flags_at = 1
+
+abbrev pub duration_at : ℕ
+duration_at = 2
+
+abbrev pub address_1_at : ℕ
+address_1_at = 4
+
+abbrev pub address_2_at : ℕ
+address_2_at = 10
+
+abbrev pub address_3_at : ℕ
+address_3_at = 16
+
+abbrev pub sequence_at : ℕ
+sequence_at = 22
+
+abbrev pub qos_at : ℕ
+qos_at = 24
+
+-- the octets of an address (8.2.4.3)
+abbrev pub address_octets : ℕ
+address_octets = 6
+
 -- the octets of a header
 abbrev pub size_of : Kind → ℕ
 size_of QosData = 26
@@ -54,26 +81,26 @@ pub record HasNoFlags (h : Header) : Type 0 where
 -- QoS Data and QoS Null, past Address 1: the second octet of Frame Control, two addresses, Sequence Control with fragment
 -- number 0 in its bits 0 to 3, and QoS Control, of which bits 4 to 6 and 8 to 15 are free
 pub record HasQosFields (octets : List ℕ) (h : Header) : Type 0 where
-  pub to_ds : is_set (slice_index octets 1) 0 ≡ h.to_ds
-  pub from_ds : is_set (slice_index octets 1) 1 ≡ h.from_ds
-  pub more_fragments : is_set (slice_index octets 1) 2 ≡ false
-  pub retry : is_set (slice_index octets 1) 3 ≡ h.retry
-  pub power : is_set (slice_index octets 1) 4 ≡ h.power
-  pub more : is_set (slice_index octets 1) 5 ≡ h.more
-  pub protected : is_set (slice_index octets 1) 6 ≡ false
-  pub order : is_set (slice_index octets 1) 7 ≡ false
+  pub to_ds : is_set (slice_index octets flags_at) 0 ≡ h.to_ds
+  pub from_ds : is_set (slice_index octets flags_at) 1 ≡ h.from_ds
+  pub more_fragments : is_set (slice_index octets flags_at) 2 ≡ false
+  pub retry : is_set (slice_index octets flags_at) 3 ≡ h.retry
+  pub power : is_set (slice_index octets flags_at) 4 ≡ h.power
+  pub more : is_set (slice_index octets flags_at) 5 ≡ h.more
+  pub protected : is_set (slice_index octets flags_at) 6 ≡ false
+  pub order : is_set (slice_index octets flags_at) 7 ≡ false
   pub not_both : (h.to_ds && h.from_ds) ≡ false
-  pub address_2 : part octets 10 6 ≡ h.a2
-  pub address_3 : part octets 16 6 ≡ h.a3
-  pub sequence : number_at octets 22 ≡ 16 * h.seq
-  pub tid : slice_index octets 24 % 16 ≡ h.tid
-  pub a_msdu : is_set (slice_index octets 24) 7 ≡ false
+  pub address_2 : part octets address_2_at address_octets ≡ h.a2
+  pub address_3 : part octets address_3_at address_octets ≡ h.a3
+  pub sequence : number_at octets sequence_at ≡ 16 * h.seq
+  pub tid : slice_index octets qos_at % 16 ≡ h.tid
+  pub a_msdu : is_set (slice_index octets qos_at) 7 ≡ false
 
 -- Ack, PS-Poll, BlockAckReq and BlockAck, past Address 1: the second octet of Frame Control is free, an Ack has no Address 2,
 -- and the fields that such a header does not carry are false or 0
 pub record HasShortFields (octets : List ℕ) (h : Header) : Type 0 where
   pub flags : HasNoFlags h
-  pub address_2 : h.a2 ≡ (if has_address_2 h.kind then part octets 10 6 else no_address)
+  pub address_2 : h.a2 ≡ (if has_address_2 h.kind then part octets address_2_at address_octets else no_address)
   pub address_3 : h.a3 ≡ no_address
   pub sequence : h.seq ≡ 0
   pub tid : h.tid ≡ 0
@@ -82,8 +109,8 @@ pub record HasShortFields (octets : List ℕ) (h : Header) : Type 0 where
 pub record BeginsWith (octets : List ℕ) (h : Header) : Type 0 where
   pub long : size_of h.kind ≤ length octets
   pub first : slice_index octets 0 ≡ first_octet h.kind
-  pub duration : number_at octets 2 ≡ h.duration
-  pub address_1 : part octets 4 6 ≡ h.a1
+  pub duration : number_at octets duration_at ≡ h.duration
+  pub address_1 : part octets address_1_at address_octets ≡ h.a1
   pub others : MatchBool (is_qos h.kind) (HasQosFields octets h) (HasShortFields octets h)
 
 -- each field that the header's kind does not carry is false or 0, not both DS flags are set, and the TID has four bits

@@ -8,6 +8,16 @@ use thiserror::Error;
 use wf_fields::{address_at, is_set, number_at};
 use wf_seq12::Seq12;
 
+/// Where a header's fields begin, in octets (8.2.4): the second octet of Frame Control, Duration, the addresses, and a
+/// QoS frame's Sequence Control and QoS Control.
+const FLAGS_AT: usize = 1;
+const DURATION_AT: usize = 2;
+const ADDRESS_1_AT: usize = 4;
+const ADDRESS_2_AT: usize = 10;
+const ADDRESS_3_AT: usize = 16;
+const SEQUENCE_AT: usize = 22;
+const QOS_AT: usize = 24;
+
 /// Why octets are no header.
 #[derive(Clone, Copy, Debug, PartialEq, Eq, Error)]
 pub enum HeaderFault {
@@ -70,13 +80,13 @@ fn is_malformed(octets: &[u8]) -> bool
     requires { 26 ≤ length octets.now }
     ensures { result ≡ is_malformed octets.now }
 {
-    let flags = octets[1];
+    let flags = octets[FLAGS_AT];
     is_set(flags, 0) && is_set(flags, 1)
         || is_set(flags, 2)
         || is_set(flags, 6)
         || is_set(flags, 7)
-        || number_at(octets, 22) % 16 != 0
-        || is_set(octets[24], 7)
+        || number_at(octets, SEQUENCE_AT) % 16 != 0
+        || is_set(octets[QOS_AT], 7)
 }
 
 /// The header of a QoS frame.
@@ -88,7 +98,7 @@ fn qos_header(kind: Kind, octets: &[u8]) -> Header
     ensures kind { result.kind ≡ kind }
     ensures read { BeginsWith octets.now result }
 {
-    let flags = octets[1];
+    let flags = octets[FLAGS_AT];
     Header {
         kind,
         to_ds: is_set(flags, 0),
@@ -96,12 +106,12 @@ fn qos_header(kind: Kind, octets: &[u8]) -> Header
         retry: is_set(flags, 3),
         power: is_set(flags, 4),
         more: is_set(flags, 5),
-        duration: number_at(octets, 2),
-        a1: address_at(octets, 4),
-        a2: address_at(octets, 10),
-        a3: address_at(octets, 16),
-        seq: Seq12::of(u64::from(number_at(octets, 22) / 16)),
-        tid: octets[24] % 16,
+        duration: number_at(octets, DURATION_AT),
+        a1: address_at(octets, ADDRESS_1_AT),
+        a2: address_at(octets, ADDRESS_2_AT),
+        a3: address_at(octets, ADDRESS_3_AT),
+        seq: Seq12::of(u64::from(number_at(octets, SEQUENCE_AT) / 16)),
+        tid: octets[QOS_AT] % 16,
     }
 }
 
@@ -120,10 +130,10 @@ fn short_header(kind: Kind, octets: &[u8]) -> Header
         retry: false,
         power: false,
         more: false,
-        duration: number_at(octets, 2),
-        a1: address_at(octets, 4),
+        duration: number_at(octets, DURATION_AT),
+        a1: address_at(octets, ADDRESS_1_AT),
         a2: if kind.has_address_2() {
-            address_at(octets, 10)
+            address_at(octets, ADDRESS_2_AT)
         } else {
             [0; 6]
         },

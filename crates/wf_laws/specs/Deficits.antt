@@ -5,7 +5,9 @@ use Rattle.wf_frame.specs.declared.classes.Class.{Class}
 use Rattle.wf_frame.specs.declared.notes.Ask.TheVariants.{Join, Rx}
 use Rattle.wf_frame.specs.declared.notes.Note.{Note}
 use Rattle.wf_frame.specs.declared.notes.Note.TheVariants.{Asked}
+use Rattle.wf_rules.specs.Airtime.{longest_answer}
 use Rattle.wf_rules.specs.Rotation.{lists}
+use Rattle.wf_rules.specs.Bounds.{greatest_debt}
 use Rattle.wf_world.specs.World.{World, Exchange, station, share, rotation, is_live, opening}
 use Rattle.wf_frame.specs.Classes.{same_class}
 use Rattle.wf_world.specs.CanSend.{is_ready}
@@ -14,11 +16,11 @@ use Rattle.wf_world.specs.Step.{step}
 use Rattle.wf_world.specs.Run.{Entry}
 use Rattle.wf_world.specs.Stretches.{world_at, charged_between, IsStretch, IsQuiet}
 
--- the longest exchange
+-- the greatest charge of an exchange, in microseconds: the greatest time of its data, the pause and the longest BlockAck
 abbrev pub longest_exchange : Config → ℕ
-longest_exchange config = config.cap + 56
+longest_exchange config = config.cap + longest_answer
 
--- what the open exchanges of a class can be charged together
+-- what the open exchanges of a class can be charged together, in microseconds
 abbrev pub most_owed : Config → ℕ
 most_owed config = config.inflight * longest_exchange config
 
@@ -35,7 +37,7 @@ own_quantum config w s = config.quantum * (station w s).weight
 pub record IsAccounted (config : Config) (w : World) (s : ℕ) (c : Class) : Type 0 where
   pub exact : (share w s c).deficit ≡ pos (own_quantum config w s + own_quantum config w s * (share w s c).quanta) -ℤ pos ((share w s c).charged + (share w s c).received)
   pub most : (share w s c).deficit ≤ℤ pos (own_quantum config w s)
-  pub least : (pos 0 -ℤ pos (1000000 + most_owed config)) ≤ℤ (share w s c).deficit
+  pub least : (pos 0 -ℤ pos (greatest_debt + most_owed config)) ≤ℤ (share w s c).deficit
   pub quiet : IsQuiet w s c → (pos 1 -ℤ pos (most_owed config)) ≤ℤ ((share w s c).deficit -ℤ pos (owed s c w.opened))
   pub floor : IsQuiet w s c → (pos 1 -ℤ pos (most_owed config)) ≤ℤ (share w s c).deficit
   pub ready : IsTrue (is_ready w c s) → IsTrue (lists (rotation w c) s)

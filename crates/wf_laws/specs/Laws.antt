@@ -17,7 +17,7 @@ use Rattle.wf_laws.specs.Ranges.{RangeLaw}
 use Rattle.wf_laws.specs.Numbers.{NumberLaw}
 
 pub record Laws (config : Config) (history : List Entry) : Type 0 where
-  -- the window law: items 1 to 5 and 7; the answer that a Done uses; and what is released
+  -- the window law, how far the two sides of an agreement lie apart; the answer that a Done uses; and what is released
   pub windows : WindowLaw config history
   pub answers : AnswerLaw config history
   pub releases : ReleaseLaw config history

@@ -3,25 +3,26 @@ use Rattle.std.specs.Prelude.{◌≡◌, ℕ, ◌<◌, ◌≤◌, true, ◌⊎�
 use Rattle.wf_frame.specs.declared.settings.Config.{Config}
 use Rattle.wf_rules.specs.Airtime.{Rate}
 use Rattle.wf_rules.specs.Codel.{Codel}
+use Rattle.wf_rules.specs.Bounds.{greatest_window, greatest_exponent, greatest_weight, greatest_mcs}
 use Rattle.wf_world.specs.World.{World, station, session, receiver, queue, is_live}
 use Rattle.wf_world.specs.Run.{Entry}
 use Rattle.wf_world.specs.Stretches.{world_at}
 
 -- a rate of one or two streams, on 20 or 40 MHz
 pub record IsRate (r : Rate) : Type 0 where
-  pub mcs : r.mcs ≤ 15
+  pub mcs : r.mcs ≤ greatest_mcs
   pub mhz : (r.mhz ≡ 20) ⊎ (r.mhz ≡ 40)
 
 -- a live station
 pub record IsStation (config : Config) (w : World) (s : ℕ) : Type 0 where
   pub number : s < config.stations
-  pub weight : (1 ≤ (station w s).weight) × ((station w s).weight ≤ 16)
-  pub exponent : (station w s).exponent ≤ 3
+  pub weight : (1 ≤ (station w s).weight) × ((station w s).weight ≤ greatest_weight)
+  pub exponent : (station w s).exponent ≤ greatest_exponent
   pub rate : IsRate (station w s).rate
   -- only a station that sleeps has a credit
   pub credit : IfSome (station w s).credit (λ _. (station w s).asleep ≡ true)
   -- both sides of each TID's agreement have its window
-  pub window : (t : ℕ) → t < 8 → (1 ≤ (session w s t).size) × ((session w s t).size ≤ 256)
+  pub window : (t : ℕ) → t < 8 → (1 ≤ (session w s t).size) × ((session w s t).size ≤ greatest_window)
   pub both : (t : ℕ) → (receiver w s t).size ≡ (session w s t).size
 
 -- CoDel's counts: at least 1 while it drops, so that a next drop is due, and never past 32 bits

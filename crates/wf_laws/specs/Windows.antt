@@ -1,7 +1,8 @@
 -- The window law: what holds between the two sides of each TID's agreement (IEEE 802.11-2012, 9.21.7), after every entry of every run.
 --
 -- Of a session y and its receiver r: `start_of y` is the least number that is not settled, `next_number y` the next fresh one, `y.heard` the greatest start of a
--- request that ended as heard, `release_start r` the least number that r has not passed up, `score_start r` where its scoreboard starts, and `y.size` the window.
+-- request that ended as heard, `release_start r` the least number that has not arrived and is below no start that did,
+-- `score_start r` where its scoreboard starts, and `y.size` the window.
 use Rattle.std.specs.Prelude.{◌≡◌, ℕ, suc, ◌==◌, ◌&&◌, Bool, map, count_by, ◌+◌, ◌*◌, ◌<◌, ◌≤◌, true, false, ◌⊎◌, ◌↔◌, List, [], ◌∷◌, IfSome}
 use Rattle.wf_frame.specs.declared.settings.Config.{Config}
 use Rattle.wf_frame.specs.declared.notes.Ask.TheVariants.{Pull, Done}

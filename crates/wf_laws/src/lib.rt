@@ -117,8 +117,8 @@ pub fn queue_deficit_law()
     ensures { (config : Config) → (history : List Entry) → IsInRange config → QueueDeficitLaw config history }
 {}
 
-/// After every entry, open exchanges are charged 1 to 5456 microseconds, a class has at most eight of them, and the deficits of live stations lie between figures far within
-/// 32 bits; so do those of listed queues, where no frame is longer than 2304 octets.
+/// After every entry, open exchanges are charged 1 to 5456 microseconds (the greatest time of data, 5400, with SIFS and the longest BlockAck), a class has at most eight of
+/// them, and the deficits of live stations lie between figures far within 32 bits; so do those of listed queues, where no frame is longer than the greatest body.
 pub fn number_law()
     ensures { (config : Config) → (history : List Entry) → IsInRange config → NumberLaw config history }
 {}

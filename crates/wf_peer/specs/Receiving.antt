@@ -4,7 +4,7 @@ use Rattle.std.specs.Option.{option_map, option_or}
 use Rattle.std.specs.Str.{bytes_eq}
 use Rattle.wf_fields.specs.Fields.{number_at, part}
 use Rattle.wf_header.specs.Addresses.{base, address_of_station}
-use Rattle.wf_header.specs.Layout.{first_octet}
+use Rattle.wf_header.specs.Layout.{address_1_at, address_2_at, sequence_at, qos_at, address_octets, first_octet}
 use Rattle.wf_header.specs.Faults.{first_fault as first_header_fault}
 use Rattle.wf_header.specs.declared.header.Kind.TheVariants.{QosData, BlockAckReq}
 use Rattle.wf_blockack.specs.Layout.{request}
@@ -24,7 +24,7 @@ is_request octets = slice_index octets 0 == first_octet BlockAckReq
 -- of a request the TID in the high four bits of the control field and the start in the high twelve of Starting Sequence Control
 abbrev pub reading_of : List ℕ → Reading
 reading_of octets =
-    if is_data octets then Data (slice_index octets 24 % 16) (number_at octets 22 / 16)
+    if is_data octets then Data (slice_index octets qos_at % 16) (number_at octets sequence_at / 16)
     else Request (slice_index octets 17 / 16) (number_at octets 18 / 16)
 
 abbrev pub tid_of : Reading → ℕ
@@ -45,7 +45,7 @@ block_fault octets = if is_request octets then option_map Block (first_block_fau
 -- Address 1 is to be the station's, and Address 2 the access point's
 abbrev pub address_fault : ℕ → List ℕ → Option PeerFault
 address_fault station octets =
-    if bytes_eq (part octets 4 6) (address_of_station station) && bytes_eq (part octets 10 6) base then None else Some NotMine
+    if bytes_eq (part octets address_1_at address_octets) (address_of_station station) && bytes_eq (part octets address_2_at address_octets) base then None else Some NotMine
 
 abbrev pub tid_fault : List ℕ → Option PeerFault
 tid_fault octets = if nat_lt (tid_of (reading_of octets)) 8 then None else Some (Tid (tid_of (reading_of octets)))

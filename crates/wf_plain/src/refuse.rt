@@ -16,6 +16,33 @@ use wf_plain_lists::{Fault, decreased, sum, to_u32};
 use wf_plain_parts::Exchange;
 use wf_plain_world::{World, lower_tid, upper_tid};
 
+/// The greatest window of a station's agreements, in numbers.
+const GREATEST_WINDOW: u64 = 256;
+
+/// The greatest sequence number, of twelve bits.
+const GREATEST_START: u64 = 4095;
+
+/// The greatest maximum A-MPDU length exponent.
+const GREATEST_EXPONENT: u64 = 3;
+
+/// The greatest weight of a station, in quanta.
+const GREATEST_WEIGHT: u64 = 16;
+
+/// The greatest MCS of two spatial streams.
+const GREATEST_MCS: u8 = 15;
+
+/// The greatest traffic identifier that names a user priority.
+const GREATEST_TID: u64 = 7;
+
+/// By how much the clock goes on at most in one call, in microseconds.
+const GREATEST_TICK: u32 = 10_000_000;
+
+/// The greatest airtime of one receive charge, in microseconds.
+const GREATEST_AIR: u32 = 65_535;
+
+/// How far below 0 a receive charge may bring a deficit, in microseconds.
+const GREATEST_DEBT: i64 = 1_000_000;
+
 fn class_of(tid: u64) -> Class
     ensures { result ≡ class_of tid }
 {
@@ -123,13 +150,13 @@ fn join_refusal(
 {
     if bad_station(world, station) {
         Some(Refusal::BadStation)
-    } else if !(1 <= window && window <= 256) {
+    } else if !(1 <= window && window <= GREATEST_WINDOW) {
         Some(Refusal::BadWindow)
-    } else if 4095 < start {
+    } else if GREATEST_START < start {
         Some(Refusal::BadStart)
-    } else if 3 < exponent {
+    } else if GREATEST_EXPONENT < exponent {
         Some(Refusal::BadExponent)
-    } else if !(1 <= weight && weight <= 16) {
+    } else if !(1 <= weight && weight <= GREATEST_WEIGHT) {
         Some(Refusal::BadWeight)
     } else if world.is_live(station) {
         Some(Refusal::Live)
@@ -161,7 +188,7 @@ fn rate_refusal(world: &World, station: u64, mcs: u8, mhz: u8, short: bool) -> O
     let _short = short;
     if bad_station(world, station) {
         Some(Refusal::BadStation)
-    } else if 15 < mcs || !(mhz == 20 || mhz == 40) {
+    } else if GREATEST_MCS < mcs || !(mhz == 20 || mhz == 40) {
         Some(Refusal::BadRate)
     } else if !world.is_live(station) {
         Some(Refusal::NoStation)
@@ -175,7 +202,7 @@ fn tick_refusal(world: &World, by: u32) -> Option<Refusal>
     ensures { result ≡ first_of (refusals_of world.now (Tick by)) }
 {
     let _world = world;
-    if 10_000_000 < by {
+    if GREATEST_TICK < by {
         Some(Refusal::BadTick)
     } else {
         None
@@ -303,11 +330,11 @@ fn rx_refusal(world: &World, station: u64, class: Class, air: u32) -> Result<Opt
     let left = decreased(deficit, air as u64)?;
     if bad_station(world, station) {
         Ok(Some(Refusal::BadStation))
-    } else if !(1 <= air && air <= 65535) {
+    } else if !(1 <= air && air <= GREATEST_AIR) {
         Ok(Some(Refusal::BadAir))
     } else if !world.is_live(station) {
         Ok(Some(Refusal::NoStation))
-    } else if left < -1_000_000 {
+    } else if left < -GREATEST_DEBT {
         Ok(Some(Refusal::Debt { deficit }))
     } else {
         Ok(None)
@@ -341,7 +368,7 @@ fn enqueue_refusal(
     let queued = to_u32(queued_in_class(world, station, class_of(tid))?)?;
     if bad_station(world, station) {
         Ok(Some(Refusal::BadStation))
-    } else if 7 < tid {
+    } else if GREATEST_TID < tid {
         Ok(Some(Refusal::BadTid))
     } else if !world.is_live(station) {
         Ok(Some(Refusal::NoStation))

@@ -246,9 +246,10 @@ pub fn prepare(world: &mut World, station: u64, tid: u64) -> Result<Prepared, Fa
 {
     if world.request_due(station, tid)? {
         let start = world.start_of(station, tid)?;
+        let charge = request_charge(world.is_wide(station, tid))?;
         Ok(Prepared {
             content: Content::Request(start),
-            charge: request_charge(world.is_wide(station, tid)),
+            charge,
         })
     } else {
         let prepared = prepare_frames(world, station, tid)?;

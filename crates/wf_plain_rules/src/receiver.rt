@@ -104,7 +104,7 @@ impl Receiver {
         Ok(())
     }
 
-    /// The first number that is not passed up.
+    /// The least number that has not arrived and is below no start that did.
     pub fn release_start(&self) -> Result<u64, Fault>
         ensures { IfOk result (λ r. r ≡ release_start self.now) }
     {

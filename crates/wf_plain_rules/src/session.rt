@@ -2,11 +2,15 @@
 
 ghost use Rattle.std.specs.Prelude.{◌≡◌, ◌-◌, map, max, nat_lt, if◌then◌else◌, IfOk, OnOk};
 ghost use Rattle.wf_plain_rules.specs.States.{state_of};
+ghost use Rattle.wf_rules.specs.Bounds.{narrow_window};
 ghost use Rattle.wf_rules.specs.Session.{first_unsettled, give, has_room, is_failed, is_settled, is_waiting, missed, new_session, next_number, numbers_where, request_due, slot, start_of, waiting_numbers, with_state};
 
 use std::alloc::Global;
 use std::marker::Model;
 use wf_plain_lists::{Blank, Fault, at, in_front, put, sum};
+
+/// The greatest window of a session that is not wide: a BlockAck's bitmap of 8 octets has a bit for each of its numbers.
+const NARROW_WINDOW: u64 = 64;
 
 /// What became of a number.
 #[derive(Clone, Copy)]
@@ -218,11 +222,11 @@ impl Session {
         &self.slots
     }
 
-    /// Whether its window is above 64.
+    /// Whether its window is above that of a BlockAck with a bitmap of 8 octets.
     pub fn is_wide(&self) -> bool
-        ensures { result ≡ nat_lt 64 self.now.size }
+        ensures { result ≡ nat_lt narrow_window self.now.size }
     {
-        64 < self.size
+        NARROW_WINDOW < self.size
     }
 
     /// The next fresh number.

@@ -17,6 +17,14 @@ use wf_plain_parts::{Queue, head_id, ids_of_items, len_given};
 use wf_plain_pick::{Keys, Picked, Rotation, need_of, pick};
 use wf_plain_rules::{Codel, Dequeued, Item, Params};
 
+/// CoDel's target and interval for a station that is not slow, in microseconds.
+const USUAL_TARGET: u64 = 20_000;
+const USUAL_INTERVAL: u64 = 100_000;
+
+/// CoDel's target and interval for a slow station, in microseconds.
+const SLOW_TARGET: u64 = 50_000;
+const SLOW_INTERVAL: u64 = 300_000;
+
 fn total_of(queues: &[Queue]) -> Result<u64, Fault>
     ensures { IfOk result (λ r. r ≡ sum_by (λ x. length x.items) queues.now) }
 {
@@ -332,9 +340,9 @@ impl World {
         ensures { IfOk result (λ r. r ≡ params self.now station) }
     {
         if self.rate(station).is_slow()? {
-            Ok(Params::new(50000, 300000))
+            Ok(Params::new(SLOW_TARGET, SLOW_INTERVAL))
         } else {
-            Ok(Params::new(20000, 100000))
+            Ok(Params::new(USUAL_TARGET, USUAL_INTERVAL))
         }
     }
 

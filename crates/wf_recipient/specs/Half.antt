@@ -1,7 +1,8 @@
 -- The receive half of one agreement, a scoreboard and a reordering buffer over sequence numbers of 12 bits, beside a receiver, whose numbers have no bound
 -- (IEEE 802.11-2012, 9.21.7.3 to 9.21.7.6).
 --
--- Of a receiver r with a window of w numbers: `release_start r` is the least number that it has not passed up, and `score_start r` is where its scoreboard starts.
+-- Of a receiver r with a window of w numbers: `release_start r` is the least number that has not arrived and is below no start that did, and
+-- `score_start r` is where its scoreboard starts.
 use Rattle.std.specs.Prelude.{◌≡◌, ℕ, ◌+◌, ◌%◌, ◌<◌, ◌≤◌, List, map, Option, Some, None, if◌then◌else◌}
 use Rattle.wf_rules.specs.Table.{has, count_from}
 use Rattle.wf_rules.specs.Receiver.{Receiver, release_start, score_start, score}

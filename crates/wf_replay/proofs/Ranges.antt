@@ -1,10 +1,11 @@
--- The settings that a trace's head names are in their ranges, and its frames have 1 to 2304 octets.
+-- The settings that a trace's head names are in their ranges, and so are the lengths of its frames.
 use Rattle.std.proofs.Common.{◌≡◌, ℕ, ◌≤◌, nat_le, Bool, true, false, ◌&&◌, ◌==◌, List, [], ◌∷◌, ◌++◌, ◌+◌, length, Option, Some, None, Result, Ok, Err, refl, subst, arith, codes, replicate, if◌then◌else◌, slice_set}
 use Rattle.std.specs.Str.{bytes_eq}
 use Rattle.wf_frame.specs.declared.settings.Config.{Config}
 use Rattle.wf_frame.specs.declared.settings.Field.{Field}
 use Rattle.wf_frame.specs.declared.settings.Field.TheVariants.{Stations, Flows, Limit, Room, FlowQuantum, Quantum, Inflight, Attempts, Agg, Cap, Sleeping, Calls}
 use Rattle.wf_frame.specs.Settings.{standard, lowest_of, greatest_of, with_value, IsInRange}
+use Rattle.wf_rules.specs.Lengths.{greatest_body}
 use Rattle.wf_frame.proofs.Ranges.{in_range as standard_in_range}
 use Rattle.wf_trace.specs.declared.call.Arg.TheVariants.{Number}
 use Rattle.wf_trace.specs.declared.fault.End.{End}
@@ -96,9 +97,9 @@ head_in ws c e = words_in ws (replicate 12 false) standard c standard_in e
 
 -- ---- a call
 
--- a frame has 1 to 2304 octets
+-- a frame has at least one octet, and at most those of the greatest body
 abbrev IsSized : Note → Type 0
-IsSized note = HasLength note × IsAtMost 2304 note
+IsSized note = HasLength note × IsAtMost greatest_body note
 
 abbrev IsSizedCall : Result Note FaultKind → Type 0
 IsSizedCall (Ok note) = IsSized note

@@ -1,14 +1,46 @@
--- Which frames fit one aggregate (A-MPDU): IEEE 802.11-2012, 8.6.1 (format and padding of subframes) and 9.12.2 (length limit).
+-- Which frames fit one aggregate (A-MPDU): IEEE 802.11-2012, 8.6.1 (format and padding of subframes) and 9.12.2 (length
+-- limit).
 use Rattle.std.specs.Prelude.{ℕ, ◌+◌, ◌*◌, ◌-◌, ◌^◌, nat_le, Bool, ◌&&◌, List, [], ◌∷◌, length}
 use Rattle.wf_rules.specs.Table.{ceil_div}
-use Rattle.wf_rules.specs.Airtime.{Rate, data_time}
+use Rattle.wf_rules.specs.Airtime.{Rate, check_octets, data_time}
+
+-- the octets of the delimiter before an MPDU (8.6.1)
+abbrev pub delimiter_octets : ℕ
+delimiter_octets = 4
+
+-- the octets of an MPDU's MAC header: that of a QoS Data frame with three addresses (8.3.2.1)
+abbrev pub header_octets : ℕ
+header_octets = 26
+
+-- the octets of a subframe besides its body
+abbrev pub overhead_octets : ℕ
+overhead_octets = delimiter_octets + header_octets + check_octets
+
+-- the octets of a subframe with a body of so many octets, without padding
+abbrev pub subframe_octets : ℕ → ℕ
+subframe_octets len = overhead_octets + len
+
+-- each subframe but the last is padded to a multiple of so many octets (8.6.1)
+abbrev pub padding : ℕ
+padding = 4
+
+-- so many octets, padded
+abbrev pub padded : ℕ → ℕ
+padded octets = padding * ceil_div octets padding
 
 -- the octets of an aggregate of these body lengths: each subframe but the last is padded
 abbrev pub octets_of : List ℕ → ℕ
 octets_of [] = 0
-octets_of (len ∷ []) = 34 + len
-octets_of (len ∷ next ∷ lens) = 4 * ceil_div (34 + len) 4 + octets_of (next ∷ lens)
+octets_of (len ∷ []) = subframe_octets len
+octets_of (len ∷ next ∷ lens) = padded (subframe_octets len) + octets_of (next ∷ lens)
 
+-- the most octets of an aggregate for a receiver's maximum A-MPDU length exponent, 0 to 3 (8.4.2.58.3)
+abbrev pub most_octets : ℕ → ℕ
+most_octets exponent = 2 ^ (13 + exponent) - 1
+
+-- whether frames of these body lengths fit one aggregate: at most `most` of them, within the length, and within `cap`
+-- microseconds of data time
 abbrev pub fits : Rate → ℕ → ℕ → ℕ → List ℕ → Bool
 fits rate exponent most cap lens =
-    nat_le (length lens) most && (nat_le (octets_of lens) (2 ^ (13 + exponent) - 1) && nat_le (data_time rate (octets_of lens)) cap)
+    nat_le (length lens) most
+    && (nat_le (octets_of lens) (most_octets exponent) && nat_le (data_time rate (octets_of lens)) cap)

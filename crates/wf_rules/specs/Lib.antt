@@ -1,7 +1,10 @@
 pub mod Table
+pub mod Lengths
+pub mod Bounds
 pub mod Airtime
 pub mod Fit
 pub mod Codel
+pub mod Parameters
 pub mod Rotation
 pub mod Session
 pub mod Receiver

@@ -2,6 +2,7 @@
 
 ghost use Rattle.std.specs.Prelude.{◌≡◌, ◌↔◌, ◌*◌, ◌^◌, ◌<◌, ◌≤◌, ◌-◌, true, false, length, map, IfOk, IfNone, IfSome, IsErr, MatchResult, pos, negsuc, ◌-ℤ◌, ◌≤ℤ◌, ◌<ℤ◌};
 ghost use Rattle.wf_frame.specs.Classes.{class_number};
+ghost use Rattle.wf_rules.specs.Bounds.{deepest_deficit};
 ghost use Rattle.wf_rules.specs.Rotation.{lists, add_new};
 ghost use Rattle.wf_rules.specs.Table.{has};
 ghost use Rattle.wf_picks.specs.Renamed.{IsIdle};
@@ -119,7 +120,7 @@ impl Sched {
     /// Refused, with nothing changed, exactly where the deficit would be below -1,000,000.
     pub fn charge_rx(&mut self, station: u16, class: Class, air: u32) -> Result<i64, Debt>
         requires { station < self.old.stations }
-        ensures refused { IsErr result ↔ (deficit self.old class station -ℤ pos air) <ℤ negsuc 999999 }
+        ensures refused { IsErr result ↔ (deficit self.old class station -ℤ pos air) <ℤ deepest_deficit }
         ensures outcome { MatchResult result (λ left. (left ≡ deficit self.old class station -ℤ pos air) × (self.new ≡ with_deficit self.old class station left))
             (λ debt. (debt.deficit ≡ deficit self.old class station) × (self.new ≡ self.old)) }
     {

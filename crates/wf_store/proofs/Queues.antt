@@ -3,13 +3,14 @@ use Rattle.std.proofs.Common.{◌≡◌, ℕ, suc, ◌+◌, ◌*◌, ◌-◌, �
 use Rattle.std.specs.Prelude.{All}
 use Rattle.std.proofs.lemmas.List.Sums.{sum_by-cons, sum_by-le}
 use Rattle.wf_frame.specs.Frames.{FrameValue}
+use Rattle.wf_rules.specs.Lengths.{greatest_body}
 use Rattle.wf_store.specs.Queues.{octets_of, IsSized, IsWeighed}
 
 octets-cons : (f : FrameValue) (fs : List FrameValue) → octets_of (f ∷ fs) ≡ length f.body + octets_of fs
 octets-cons f fs = sum_by-cons (λ g. length g.body) f fs
 
-pub octets_bound : (frames : List FrameValue) → All IsSized frames → octets_of frames ≤ length frames * 2304
-octets_bound frames sized = sum_by-le (λ f. length f.body) 2304 frames (λ k d h. (sized k d h).1)
+pub octets_bound : (frames : List FrameValue) → All IsSized frames → octets_of frames ≤ length frames * greatest_body
+octets_bound frames sized = sum_by-le (λ f. length f.body) greatest_body frames (λ k d h. (sized k d h).1)
 
 -- a queue of no octets has no frame
 pub empty_if_light : (frames : List FrameValue) → All IsSized frames → octets_of frames ≡ 0 → frames ≡ []

@@ -17,6 +17,7 @@ use Rattle.wf_world.specs.Refusals.{refusal, refusals}
 use Rattle.wf_world.specs.Step.{Outcome, on_open, ended, arrived, answered, pulled, done, concerned, refused, answer, step}
 use Rattle.wf_world.specs.Run.{Entry}
 use Rattle.wf_world.specs.Stretches.{world_at}
+use Rattle.wf_laws.specs.Numbers.{least_deficit}
 use Rattle.wf_laws.proofs.Deficits.KeptStep.{NoRow, no_row}
 use Rattle.wf_laws.proofs.Deficits.Numbers.{number_law}
 use Rattle.wf_sched.specs.Turns.{SchedValue, deficit, joined, left}
@@ -100,5 +101,5 @@ refusal_stands v u w note r e h k = subst (λ (o : Option Refusal). StandsFor u 
 pub charge_fits : (config : Config) (history : List Entry) (m : ℕ) (v : SchedValue) (s : ℕ) (c : Class) (air : ℕ) → IsInRange config → StandsFor v (world_at config history m) → is_live (world_at config history m) s ≡ true → air < 2 ^ 32 →
     negsuc (2 ^ 62 - 1) ≤ℤ (deficit v c s -ℤ pos air)
 charge_fits config history m v s c air range h is low =
-    let least : (pos 0 -ℤ pos 1043648) ≤ℤ deficit v c s = subst (λ (z : ℤ). (pos 0 -ℤ pos 1043648) ≤ℤ z) (sym (h.deficits s c is)) ((number_law config history range m).deficits s c is).0 in
+    let least : least_deficit ≤ℤ deficit v c s = subst (λ (z : ℤ). least_deficit ≤ℤ z) (sym (h.deficits s c is)) ((number_law config history range m).deficits s c is).0 in
     omega (arith, ints)

@@ -1,7 +1,8 @@
 -- A charge leaves a deficit.
-use Rattle.std.proofs.Common.{◌≡◌, refl, ap, sym, ◌∙◌, subst, arith, ℕ, ◌*◌, ◌<◌, ℤ, pos, negsuc, ◌-ℤ◌, ◌<ℤ◌, int_lt, ◌↔◌, Bool, true, Some, is_some, option_map, inl, inr}
+use Rattle.std.proofs.Common.{◌≡◌, refl, ap, sym, ◌∙◌, subst, arith, ℕ, ◌*◌, ◌<◌, ℤ, pos, ◌-ℤ◌, ◌<ℤ◌, int_lt, ◌↔◌, Bool, true, Some, is_some, option_map, inl, inr}
 use Rattle.wf_frame.specs.declared.classes.Class.{Class}
 use Rattle.wf_frame.specs.declared.notes.ReplyNote.TheVariants.{Charged}
+use Rattle.wf_rules.specs.Bounds.{deepest_deficit}
 use Rattle.wf_world.specs.World.{World, Share, Exchange, share, is_live}
 use Rattle.wf_world.specs.Exchanges.{charged}
 use Rattle.wf_world.specs.Step.{received, ended}
@@ -58,8 +59,8 @@ receive_reply v w s c air h is = ap (λ (z : ℤ). Charged (z -ℤ pos air)) (sy
 
 -- the test of a receive charge that is refused
 pub debt_same : (v : SchedValue) (w : World) (s : ℕ) (c : Class) (air : ℕ) → StandsFor v w → is_live w s ≡ true →
-    ((deficit v c s -ℤ pos air) <ℤ negsuc 999999 ↔ int_lt ((share w s c).deficit -ℤ pos air) (negsuc 999999) ≡ true)
-debt_same v w s c air h is = subst (λ (z : ℤ). (deficit v c s -ℤ pos air) <ℤ negsuc 999999 ↔ int_lt (z -ℤ pos air) (negsuc 999999) ≡ true) (h.deficits s c is) (by_test (deficit v c s -ℤ pos air) (negsuc 999999))
+    ((deficit v c s -ℤ pos air) <ℤ deepest_deficit ↔ int_lt ((share w s c).deficit -ℤ pos air) deepest_deficit ≡ true)
+debt_same v w s c air h is = subst (λ (z : ℤ). (deficit v c s -ℤ pos air) <ℤ deepest_deficit ↔ int_lt (z -ℤ pos air) deepest_deficit ≡ true) (h.deficits s c is) (by_test (deficit v c s -ℤ pos air) deepest_deficit)
   where
     by_test : (a b : ℤ) → (a <ℤ b ↔ int_lt a b ≡ true)
     by_test a b = grind arith

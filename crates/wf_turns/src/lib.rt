@@ -15,6 +15,7 @@ ghost use Rattle.wf_frame.specs.declared.notes.ReplyNote.TheVariants.{Charged};
 ghost use Rattle.wf_frame.specs.declared.notes.Refusal.{Refusal};
 ghost use Rattle.wf_frame.specs.Classes.{all_classes};
 ghost use Rattle.wf_frame.specs.Settings.{IsInRange};
+ghost use Rattle.wf_rules.specs.Bounds.{deepest_deficit};
 ghost use Rattle.wf_rules.specs.Rotation.{Rotation, lists};
 ghost use Rattle.wf_rules.specs.Session.{Session};
 ghost use Rattle.wf_rules.specs.Receiver.{Receiver};
@@ -64,7 +65,7 @@ pub fn a_receive_charge()
     ensures reply { (v : SchedValue) (w : World) (s : ℕ) (c : Class) (air : ℕ) → StandsFor v w → is_live w s ≡ true →
         (received w s c air).reply ≡ Charged (deficit v c s -ℤ pos air) }
     ensures refused { (v : SchedValue) (w : World) (s : ℕ) (c : Class) (air : ℕ) → StandsFor v w → is_live w s ≡ true →
-        ((deficit v c s -ℤ pos air) <ℤ negsuc 999999 ↔ int_lt ((share w s c).deficit -ℤ pos air) (negsuc 999999) ≡ true) }
+        ((deficit v c s -ℤ pos air) <ℤ deepest_deficit ↔ int_lt ((share w s c).deficit -ℤ pos air) deepest_deficit ≡ true) }
 {}
 
 /// A station joins: in each class its quantum, and its deficit, are its weight's multiple of the setting.

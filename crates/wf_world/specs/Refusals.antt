@@ -1,5 +1,5 @@
 -- When a call is refused: the first row whose test holds.
-use Rattle.std.specs.Prelude.{ℕ, ◌+◌, ◌==◌, nat_lt, nat_le, pos, negsuc, ◌-ℤ◌, int_lt, Bool, false, not, ◌&&◌, ◌||◌, List, [], ◌∷◌, Option, Some, None, is_some, is_none, if◌then◌else◌, length, count_by}
+use Rattle.std.specs.Prelude.{ℕ, ◌+◌, ◌==◌, nat_lt, nat_le, pos, ◌-ℤ◌, int_lt, Bool, false, not, ◌&&◌, ◌||◌, List, [], ◌∷◌, Option, Some, None, is_some, is_none, if◌then◌else◌, length, count_by}
 use Rattle.std.specs.List.{list_any}
 use Rattle.wf_frame.specs.declared.classes.Class.{Class}
 use Rattle.wf_frame.specs.declared.notes.Ask.{Ask}
@@ -9,6 +9,7 @@ use Rattle.wf_frame.specs.declared.notes.Note.TheVariants.{Enqueue, Asked}
 use Rattle.wf_frame.specs.declared.notes.Refusal.{Refusal}
 use Rattle.wf_frame.specs.declared.notes.Refusal.TheVariants.{BadStation, BadWindow, BadStart, BadExponent, BadRate, BadTick, BadTid, BadAir, BadIndex, Live, NoStation, NoExchange, NoAnswer, StillOpen, Room, Sleeping, Full, Idle, Answered, Arrived, Nothing, Asleep, Awake, Polled, Debt, BadWeight}
 use Rattle.wf_rules.specs.Table.{has, upto}
+use Rattle.wf_rules.specs.Bounds.{greatest_window, greatest_start, greatest_exponent, greatest_weight, greatest_mcs, greatest_tid, greatest_tick, greatest_air, deepest_deficit}
 use Rattle.wf_world.specs.World.{World, Exchange, station, is_live, inside, share, exchange}
 use Rattle.wf_frame.specs.Classes.{same_class, lower_tid, upper_tid, class_of}
 use Rattle.wf_world.specs.FlowQueues.{queued}
@@ -35,7 +36,7 @@ abbrev pub open_of_class : World → Class → ℕ
 open_of_class w c = count_by (λ x. same_class x.class c) w.opened
 
 abbrev pub can_send_any : World → ℕ → Bool
-can_send_any w s = list_any (can_send w s) (upto 8)
+can_send_any w s = list_any (can_send w s) (upto (1 + greatest_tid))
 
 -- a fact about an open exchange
 abbrev pub on_exchange : Option Exchange → (Exchange → Bool) → Bool
@@ -44,13 +45,13 @@ on_exchange (Some x) p = p x
 
 abbrev pub refusals_of : World → Ask → List (Bool × Refusal)
 refusals_of w (Join s window start exponent weight) = (
-    (bad_station w s, BadStation) ∷ (not (is_within 1 256 window), BadWindow) ∷ (nat_lt 4095 start, BadStart) ∷
-    (nat_lt 3 exponent, BadExponent) ∷ (not (is_within 1 16 weight), BadWeight) ∷ (is_live w s, Live) ∷ [])
+    (bad_station w s, BadStation) ∷ (not (is_within 1 greatest_window window), BadWindow) ∷ (nat_lt greatest_start start, BadStart) ∷
+    (nat_lt greatest_exponent exponent, BadExponent) ∷ (not (is_within 1 greatest_weight weight), BadWeight) ∷ (is_live w s, Live) ∷ [])
 refusals_of w (Leave s) = (
     (bad_station w s, BadStation) ∷ (not (is_live w s), NoStation) ∷ (nat_lt 0 (open_of_station w s), StillOpen (open_of_station w s)) ∷ [])
 refusals_of w (Rate s mcs mhz short) = (
-    (bad_station w s, BadStation) ∷ (nat_lt 15 mcs || not ((mhz == 20) || (mhz == 40)), BadRate) ∷ (not (is_live w s), NoStation) ∷ [])
-refusals_of w (Tick by) = ((nat_lt 10000000 by, BadTick) ∷ [])
+    (bad_station w s, BadStation) ∷ (nat_lt greatest_mcs mcs || not ((mhz == 20) || (mhz == 40)), BadRate) ∷ (not (is_live w s), NoStation) ∷ [])
+refusals_of w (Tick by) = ((nat_lt greatest_tick by, BadTick) ∷ [])
 refusals_of w (Pull c) = (
     (open_of_class w c == w.config.inflight, Full (open_of_class w c)) ∷ (is_none (picked_station w c).winner, Idle) ∷ [])
 refusals_of w (Arrive e i) = (
@@ -69,14 +70,14 @@ refusals_of w (Poll s) = (
     (bad_station w s, BadStation) ∷ (not (is_live w s), NoStation) ∷ (not (station w s).asleep, Awake) ∷
     (is_some (station w s).credit, Polled) ∷ (not (can_send_any w s), Nothing) ∷ [])
 refusals_of w (Rx s c air) = (
-    (bad_station w s, BadStation) ∷ (not (is_within 1 65535 air), BadAir) ∷ (not (is_live w s), NoStation) ∷
-    (int_lt ((share w s c).deficit -ℤ pos air) (negsuc 999999), Debt (share w s c).deficit) ∷ [])
+    (bad_station w s, BadStation) ∷ (not (is_within 1 greatest_air air), BadAir) ∷ (not (is_live w s), NoStation) ∷
+    (int_lt ((share w s c).deficit -ℤ pos air) deepest_deficit, Debt (share w s c).deficit) ∷ [])
 refusals_of w Reap = ((length w.finished == 0, Nothing) ∷ [])
 
 -- the rows of a call, in order: when it is refused, and by what
 abbrev pub refusals : World → Note → List (Bool × Refusal)
 refusals w (Enqueue s t flow len) = (
-    (bad_station w s, BadStation) ∷ (nat_lt 7 t, BadTid) ∷ (not (is_live w s), NoStation) ∷
+    (bad_station w s, BadStation) ∷ (nat_lt greatest_tid t, BadTid) ∷ (not (is_live w s), NoStation) ∷
     (inside w == w.config.room, Room (inside w)) ∷
     ((station w s).asleep && nat_le w.config.sleeping (queued_in_class w s (class_of t)), Sleeping (queued_in_class w s (class_of t))) ∷ [])
 refusals w (Asked ask) = refusals_of w ask

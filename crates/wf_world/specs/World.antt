@@ -9,8 +9,10 @@ use Rattle.wf_frame.specs.declared.notes.Note.{Note}
 use Rattle.wf_frame.specs.declared.notes.Note.TheVariants.{Enqueue, Asked}
 use Rattle.wf_frame.specs.declared.notes.Ask.TheVariants.{Reap}
 use Rattle.wf_rules.specs.Table.{at, put, change, upto}
-use Rattle.wf_rules.specs.Airtime.{Rate, lowest_rate, is_slow}
+use Rattle.wf_rules.specs.Bounds.{narrow_window}
+use Rattle.wf_rules.specs.Airtime.{Rate, lowest_rate}
 use Rattle.wf_rules.specs.Codel.{Item, Codel, Params, new_codel}
+use Rattle.wf_rules.specs.Parameters.{params_at}
 use Rattle.wf_rules.specs.Rotation.{Rotation, no_keys}
 use Rattle.wf_rules.specs.Session.{Session, new_session}
 use Rattle.wf_rules.specs.Receiver.{Receiver, new_receiver, Score}
@@ -158,11 +160,12 @@ inside w = count_by (λ f. is_held f.fate) w.frames + length w.finished
 abbrev pub live_stations : World → List ℕ
 live_stations w = filter (is_live w) (upto w.config.stations)
 
+-- CoDel's parameters for the station's queues
 abbrev pub params : World → ℕ → Params
-params w s = if is_slow (station w s).rate then record { target = 50000; interval = 300000 } else record { target = 20000; interval = 100000 }
+params w s = params_at (station w s).rate
 
 abbrev pub is_wide : World → ℕ → ℕ → Bool
-is_wide w s t = nat_lt 64 (session w s t).size
+is_wide w s t = nat_lt narrow_window (session w s t).size
 
 abbrev pub exchange : World → ℕ → Option Exchange
 exchange w e = find (λ x. x.number == e) w.opened

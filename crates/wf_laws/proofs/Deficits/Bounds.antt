@@ -4,6 +4,7 @@ use Rattle.std.proofs.lemmas.Int.{ints}
 use Rattle.std.proofs.lemmas.Nat.{div-add-mod', mod_below}
 use Rattle.wf_frame.specs.declared.settings.Config.{Config}
 use Rattle.wf_rules.specs.Rotation.{need_of}
+use Rattle.wf_rules.specs.Bounds.{greatest_debt, deepest_deficit}
 use Rattle.wf_world.specs.World.{Share}
 use Rattle.wf_laws.specs.Deficits.{most_owed}
 use Rattle.wf_laws.proofs.Deficits.BookSteps.{pay_share, charge_share, receive_share, fresh_share}
@@ -11,7 +12,7 @@ use Rattle.wf_laws.proofs.Deficits.BookSteps.{pay_share, charge_share, receive_s
 -- with m owed by open exchanges
 pub record IsBounded (config : Config) (m weight : ℕ) (x : Share) : Type 0 where
   pub most : x.deficit ≤ℤ pos (config.quantum * weight)
-  pub least : pos m ≤ℤ (x.deficit +ℤ pos (1000000 + most_owed config))
+  pub least : pos m ≤ℤ (x.deficit +ℤ pos (greatest_debt + most_owed config))
   pub quiet : x.received ≡ 0 → pos (1 + m) ≤ℤ (x.deficit +ℤ pos (most_owed config))
 
 -- ---- paying
@@ -80,7 +81,7 @@ bounded_charge config m k n weight x h b = record {
 }
 
 -- a receive charge leaves the deficit above the greatest debt
-pub bounded_receive : (config : Config) (m n weight : ℕ) (x : Share) → m ≤ most_owed config → 0 < n → (negsuc 999999) ≤ℤ (x.deficit -ℤ pos n) → IsBounded config m weight x → IsBounded config m weight (receive_share n x)
+pub bounded_receive : (config : Config) (m n weight : ℕ) (x : Share) → m ≤ most_owed config → 0 < n → deepest_deficit ≤ℤ (x.deficit -ℤ pos n) → IsBounded config m weight x → IsBounded config m weight (receive_share n x)
 bounded_receive config m n weight x h some debt b = record {
   most = omega (arith, ints, b.most);
   least = omega (arith, ints);

@@ -6,6 +6,7 @@ use Rattle.wf_frame.specs.declared.classes.Class.{Class}
 use Rattle.wf_frame.specs.declared.classes.Class.TheVariants.{Bk, Be, Vi, Vo}
 use Rattle.wf_rules.specs.Table.{has}
 use Rattle.wf_rules.specs.Rotation.{Rotation, without_key, add_new, lists, in_order, Picked, need_of}
+use Rattle.wf_rules.specs.Bounds.{greatest_mcs}
 use Rattle.wf_world.specs.World.{Exchange}
 use Rattle.wf_frame.specs.Classes.{class_number, same_class}
 use Rattle.wf_frame.specs.Settings.{IsInRange}
@@ -26,6 +27,7 @@ pub record IsOpen (b : Books) (x : Exchange) : Type 0 where
 -- a live station's account
 pub record IsGood (config : Config) (opened : List Exchange) (s : ℕ) (a : Account) : Type 0 where
   pub weight : 0 < a.weight
+  pub mcs : a.rate.mcs ≤ greatest_mcs
   pub bounds : (c : Class) → IsBounded config (owed s c opened) a.weight (a.shares c)
 
 pub record IsKept (b : Books) : Type 0 where
@@ -125,7 +127,7 @@ kept_fresh b s weight i some = record {
   opens = every_map (IsOpen b) (IsOpen (with_account b s (Some (fresh_account b.config.quantum weight)))) (λ x o. record { live = more x.station o.live; below = o.below; charge = o.charge; some = o.some }) b.opened i.opens;
   rising = i.rising;
   few = i.few;
-  goods = each_upd (λ y o. IfSome o (IsGood b.config b.opened y)) b.accounts s _ i.goods (record { weight = some; bounds = λ c. bounded_fresh b.config (owed s c b.opened) weight (omega (arith, i.range.quantum.0)) some (owed_kept b i s c) });
+  goods = each_upd (λ y o. IfSome o (IsGood b.config b.opened y)) b.accounts s _ i.goods (record { weight = some; mcs = omega arith; bounds = λ c. bounded_fresh b.config (owed s c b.opened) weight (omega (arith, i.range.quantum.0)) some (owed_kept b i s c) });
 }
   where
     more : (y : ℕ) → is_some (b.accounts y) ≡ true → is_some ((with_account b s (Some (fresh_account b.config.quantum weight))).accounts y) ≡ true
@@ -180,7 +182,7 @@ kept_opened b x i is number charge some room above = record {
   opens = opens;
   rising = rising_append 0 b.opened (core x) i.rising (every_map (IsOpen b) (λ y. y.number < x.number) (λ y o. omega (arith, o.below)) b.opened i.opens) (omega arith);
   few = few;
-  goods = λ s. if_same (IsGood b.config b.opened s) (IsGood b.config (b.opened ++ core x ∷ []) s) (b.accounts s) (i.goods s) (λ a e good. record { weight = good.weight; bounds = bound s a e good });
+  goods = λ s. if_same (IsGood b.config b.opened s) (IsGood b.config (b.opened ++ core x ∷ []) s) (b.accounts s) (i.goods s) (λ a e good. record { weight = good.weight; mcs = good.mcs; bounds = bound s a e good });
 }
   where
     opens : Every (IsOpen (with_opened b x)) (b.opened ++ core x ∷ [])
@@ -228,10 +230,12 @@ kept_ended b x e i found = record {
   goods = each_upd (λ y o. IfSome o (IsGood b.config (without b e).opened y)) b.accounts x.station _
       (λ s. if_same (IsGood b.config b.opened s) (IsGood b.config (without b e).opened s) (b.accounts s) (i.goods s) (λ a _ good. record {
         weight = good.weight;
+        mcs = good.mcs;
         bounds = λ c. less s c a (good.bounds c);
       }))
       (if_map (IsGood b.config b.opened x.station) (IsGood b.config (without b e).opened x.station) (on_part x.class (charge_share x.charge)) (b.accounts x.station) (i.goods x.station) (λ a _ good. record {
         weight = good.weight;
+        mcs = good.mcs;
         bounds = each_updc (λ c z. IsBounded b.config (owed x.station c (without b e).opened) a.weight z) a.shares x.class (charge_share x.charge (a.shares x.class)) (λ c. less x.station c a (good.bounds c))
             (bounded_charge b.config (owed x.station x.class b.opened) _ x.charge a.weight (a.shares x.class) own (good.bounds x.class));
       }));
@@ -282,6 +286,7 @@ kept_after b c p i k = kept_lists (all_paid b c p.quanta (in_order (b.rotations 
       few = i.few;
       goods = λ s. if_map (IsGood b.config b.opened s) (IsGood b.config b.opened s) (paid b.config.quantum c (on (in_order (b.rotations c)) s * p.quanta s)) (b.accounts s) (i.goods s) (λ a e good. record {
         weight = good.weight;
+        mcs = good.mcs;
         bounds = each_updc (λ d z. IsBounded b.config (owed s d b.opened) a.weight z) a.shares c _ good.bounds
             (let need : p.quanta s ≤ need_of (b.config.quantum * a.weight) (a.shares c).deficit = subst (λ (o : Option Account). IfSome o (λ a. p.quanta s ≤ need_of (b.config.quantum * a.weight) (a.shares c).deficit)) e (k.needed s) in
             bounded_pay b.config (owed s c b.opened) a.weight (on (in_order (b.rotations c)) s * p.quanta s) (a.shares c) (once_times _ _ _ (i.once c s) need) (good.bounds c));

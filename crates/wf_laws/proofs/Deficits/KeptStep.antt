@@ -1,7 +1,7 @@
 -- Each call keeps the books.
-use Rattle.std.proofs.Common.{◌≡◌, ◌≢◌, refl, ap, sym, ◌∙◌, subst, arith, ℕ, ◌+◌, ◌*◌, ◌<◌, ◌≤◌, ℤ, pos, negsuc, ◌-ℤ◌, ◌≤ℤ◌, Bool, true, false, if◌then◌else◌, cond, List, [], ◌∷◌, Option, Some, None, is_some, IfSome, unwrap_or, option_map, not, ◌&&◌, map, find, nat_lt, int_lt, zero-add, ◌==◌, count_by}
+use Rattle.std.proofs.Common.{◌≡◌, ◌≢◌, refl, ap, sym, ◌∙◌, subst, arith, ℕ, ◌+◌, ◌*◌, ◌<◌, ◌≤◌, ℤ, pos, ◌-ℤ◌, ◌≤ℤ◌, Bool, true, false, if◌then◌else◌, cond, List, [], ◌∷◌, Option, Some, None, is_some, IfSome, unwrap_or, option_map, not, ◌&&◌, ◌||◌, map, find, nat_lt, int_lt, zero-add, ◌==◌, count_by}
 use Rattle.std.proofs.lemmas.Int.{ints}
-use Rattle.std.proofs.lemmas.Bool.{eqb-true, eqb-false, and_parts, not-true, not-false, leb-true}
+use Rattle.std.proofs.lemmas.Bool.{eqb-true, eqb-false, and_parts, or_parts, not-true, not-false, leb-true}
 use Rattle.std.proofs.lemmas.List.Sums.{sum_by-cons}
 use Rattle.wf_frame.specs.declared.settings.Config.{Config}
 use Rattle.wf_frame.specs.declared.classes.Class.{Class}
@@ -12,7 +12,8 @@ use Rattle.wf_frame.specs.declared.notes.Refusal.{Refusal}
 use Rattle.wf_frame.specs.declared.notes.Refusal.TheVariants.{Idle}
 use Rattle.wf_rules.specs.Table.{at}
 use Rattle.wf_rules.specs.Rotation.{add_new, lists, need_of}
-use Rattle.wf_world.specs.World.{World, Station, Exchange, no_share, no_station, share, rotation, is_live, exchange, with_exchange, with_rotation, on_receiver, on_tid, on_station, with_station, opening}
+use Rattle.wf_rules.specs.Bounds.{greatest_mcs, greatest_air, deepest_deficit}
+use Rattle.wf_world.specs.World.{World, Station, Exchange, no_share, no_station, station, share, rotation, is_live, exchange, with_exchange, with_rotation, on_receiver, on_tid, on_station, with_station, opening}
 use Rattle.wf_frame.specs.Classes.{class_number, all_classes}
 use Rattle.wf_world.specs.CanSend.{is_ready, listed_in, listed_in_all, listed}
 use Rattle.wf_world.specs.Exchanges.{Prepared, station_need, picked_station, after_pick, after_turn, prepared, exchange_of, after_arrival, sending_tid}
@@ -27,7 +28,7 @@ use Rattle.wf_laws.proofs.Deficits.Books.{Account, account, core, Books, books, 
 use Rattle.wf_laws.proofs.Deficits.BookSteps.{books_after_turn, books_prepared, books_sent, books_ended, books_gone, books_enqueued, receive_share, books_received, books_reaped, books_slept, books_woken, books_credited, rated, books_with_rate, books_joined, books_after_pick}
 use Rattle.wf_laws.proofs.Deficits.Openings.{Every, every_map, every_find, only_one, many, many-count, many-core}
 use Rattle.wf_laws.proofs.Deficits.Bounds.{IsBounded, bounded_receive}
-use Rattle.wf_laws.proofs.Deficits.Kept.{IsKept, some_map, if_same, kept_on, kept_add, owed_kept, kept_fresh, kept_gone, kept_opened, kept_ended, IsPick, kept_after, above_after}
+use Rattle.wf_laws.proofs.Deficits.Kept.{IsGood, IsKept, some_map, if_same, kept_on, kept_add, owed_kept, kept_fresh, kept_gone, kept_opened, kept_ended, IsPick, kept_after, above_after}
 use Rattle.wf_laws.proofs.Deficits.LongestCharge.{charge_most, charge_some}
 
 -- ---- a call that is not refused
@@ -116,6 +117,14 @@ may_send w c s i h won =
       above = above_after (books w) c (picked_station w c) s i winner.listed (if_same _ _ ((books w).accounts s) (need_is w c s) (λ a _ e. winner.given ∙ e));
     })
 
+-- the MCS of a station's rate has at most two streams
+rate_kept : (v : World) (s : ℕ) → IsKept (books v) → (station v s).rate.mcs ≤ greatest_mcs
+rate_kept v s i = go (at None v.stations s) (i.goods s)
+  where
+    go : (o : Option Station) → IfSome (option_map account o) (IsGood v.config (map core v.opened) s) → (unwrap_or o no_station).rate.mcs ≤ greatest_mcs
+    go None g = omega arith
+    go (Some x) g = g.mcs
+
 kept_sent : (v : World) (c : Class) (s t : ℕ) → IsKept (books v) → MaySend c s (books v) → IsKept (books (sent s t c (prepared v s t)).world)
 kept_sent v c s t i m =
     let p : Prepared = prepared v s t in
@@ -123,7 +132,7 @@ kept_sent v c s t i m =
     let k : IsKept (books p.world) = subst IsKept (sym e) i in
     let n : MaySend c s (books p.world) = subst (MaySend c s) (sym e) m in
     let cap : longest_exchange p.world.config ≡ longest_exchange v.config = ap (λ (b : Books). longest_exchange b.config) e in
-    is _ _ (books_sent s t c p) (kept_opened (books p.world) (exchange_of s t c p) k n.live refl (subst (λ (l : ℕ). p.charge ≤ l) (sym cap) (charge_most v s t (i.range.cap.0))) (charge_some v s t) n.room n.above)
+    is _ _ (books_sent s t c p) (kept_opened (books p.world) (exchange_of s t c p) k n.live refl (subst (λ (l : ℕ). p.charge ≤ l) (sym cap) (charge_most v s t (i.range.cap.0) (rate_kept v s i))) (charge_some v s t) n.room n.above)
 
 kept_pulled_by : (o : Option ℕ) (v : World) (c : Class) → IsKept (books v) → ((s : ℕ) → o ≡ Some s → MaySend c s (books v)) → IsKept (books (pulled_by v c o).world)
 unfolding pulled_by
@@ -200,24 +209,28 @@ unfolding on_open
 kept_open w e None f k i h = i
 kept_open w e (Some x) f k i h = h x k
 
-debt_fits : (d : ℤ) (n : ℕ) → int_lt (d -ℤ pos n) (negsuc 999999) ≡ false → (negsuc 999999) ≤ℤ (d -ℤ pos n)
+rate_few : (mcs : ℕ) (b : Bool) → (nat_lt greatest_mcs mcs || b) ≡ false → mcs ≤ greatest_mcs
+rate_few mcs b h = let few : nat_lt greatest_mcs mcs ≡ false = (or_parts _ _ h).0 in grind arith
+
+debt_fits : (d : ℤ) (n : ℕ) → int_lt (d -ℤ pos n) deepest_deficit ≡ false → deepest_deficit ≤ℤ (d -ℤ pos n)
 debt_fits d n h = omega (arith, ints)
 
-kept_received : (w : World) (s : ℕ) (c : Class) (air : ℕ) → not (is_within 1 65535 air) ≡ false → int_lt ((share w s c).deficit -ℤ pos air) (negsuc 999999) ≡ false → IsKept (books w) → IsKept (books (received w s c air).world)
+kept_received : (w : World) (s : ℕ) (c : Class) (air : ℕ) → not (is_within 1 greatest_air air) ≡ false → int_lt ((share w s c).deficit -ℤ pos air) deepest_deficit ≡ false → IsKept (books w) → IsKept (books (received w s c air).world)
 kept_received w s c air h k i = is _ _ (books_received w s c air) (kept_on (books w) s (on_part c (receive_share air)) i (λ a e good. record {
   weight = good.weight;
+  mcs = good.mcs;
   bounds = each_updc (λ d z. IsBounded w.config (owed s d (books w).opened) a.weight z) a.shares c (receive_share air (a.shares c)) good.bounds
       (bounded_receive w.config (owed s c (books w).opened) air a.weight (a.shares c) (owed_kept (books w) i s c) (leb-true _ _ (and_parts _ _ (not-false _ h)).0) (known a e) (good.bounds c));
 }))
   where
-    known : (a : Account) → (books w).accounts s ≡ Some a → (negsuc 999999) ≤ℤ ((a.shares c).deficit -ℤ pos air)
+    known : (a : Account) → (books w).accounts s ≡ Some a → deepest_deficit ≤ℤ ((a.shares c).deficit -ℤ pos air)
     known a e = go (at None w.stations s) refl e (debt_fits (share w s c).deficit air k)
       where
-        go : (o : Option Station) → at None w.stations s ≡ o → option_map account o ≡ Some a → (negsuc 999999) ≤ℤ ((share w s c).deficit -ℤ pos air) → (negsuc 999999) ≤ℤ ((a.shares c).deficit -ℤ pos air)
+        go : (o : Option Station) → at None w.stations s ≡ o → option_map account o ≡ Some a → deepest_deficit ≤ℤ ((share w s c).deficit -ℤ pos air) → deepest_deficit ≤ℤ ((a.shares c).deficit -ℤ pos air)
         go None f e h = absurd (cc e)
         go (Some x) f e h =
             let same : account x ≡ a = cc e in
-            subst (λ (z : Account). (negsuc 999999) ≤ℤ ((z.shares c).deficit -ℤ pos air)) same (subst (λ (o : Option Station). (negsuc 999999) ≤ℤ ((at no_share (unwrap_or o no_station).shares (class_number c)).deficit -ℤ pos air)) f h)
+            subst (λ (z : Account). deepest_deficit ≤ℤ ((z.shares c).deficit -ℤ pos air)) same (subst (λ (o : Option Station). deepest_deficit ≤ℤ ((at no_share (unwrap_or o no_station).shares (class_number c)).deficit -ℤ pos air)) f h)
 
 none_open_if : (b : Bool) (x : Exchange) (xs : List Exchange) (s n : ℕ) → (x.station == s) ≡ b → nat_lt 0 ((if b then 1 else 0) + n) ≡ false → (nat_lt 0 n ≡ false → Every (λ x. x.station ≢ s) xs) → Every (λ x. x.station ≢ s) (x ∷ xs)
 none_open_if true x xs s n e k f = absurd (grind arith)
@@ -234,7 +247,7 @@ unfolding done ticked
 kept_done (Enqueue s t flow len) w e i = is _ _ (books_enqueued w s t flow len) i
 kept_done (Asked (Join s window start exponent weight)) w e i = is _ _ (books_joined w s window start exponent weight) (kept_fresh (books w) s weight i (leb-true _ _ (and_parts _ _ (not-false _ e.1.1.1.1.0)).0))
 kept_done (Asked (Leave s)) w e i = is _ _ (books_gone w s) (kept_gone (books w) s i (none_open w.opened s e.1.1.0))
-kept_done (Asked (Rate s mcs mhz short)) w e i = is _ _ (books_with_rate w s mcs mhz short) (kept_on (books w) s (rated mcs mhz short) i (λ a _ good. record { weight = good.weight; bounds = good.bounds }))
+kept_done (Asked (Rate s mcs mhz short)) w e i = is _ _ (books_with_rate w s mcs mhz short) (kept_on (books w) s (rated mcs mhz short) i (λ a _ good. record { weight = good.weight; mcs = rate_few mcs _ e.1.0; bounds = good.bounds }))
 kept_done (Asked (Tick by)) w e i = i
 kept_done (Asked (Pull c)) w e i = kept_pulled w c e.0 i
 kept_done (Asked (Arrive e j)) w _ i = kept_open w e (exchange w e) _ refl i (λ x f. is _ _ (books_arrived w e j x i f) i)

@@ -3,8 +3,9 @@ use Rattle.std.proofs.Common.{◌≡◌, refl, ap, sym, ◌∙◌, subst, arith,
 use Rattle.std.proofs.lemmas.Bool.{and_parts, leb-true}
 use Rattle.std.proofs.lemmas.Nat.{div_below}
 use Rattle.wf_rules.specs.Table.{at, ceil_div}
-use Rattle.wf_rules.specs.Airtime.{Rate, lowest_rate, bits, symbols, data_time, request_charge}
+use Rattle.wf_rules.specs.Airtime.{Rate, lowest_rate, streams, bits, service_and_tail_bits, symbols, data_time, sifs, answer_time, longest_answer, request_charge}
 use Rattle.wf_rules.specs.Fit.{octets_of}
+use Rattle.wf_rules.specs.Bounds.{greatest_mcs}
 use Rattle.wf_world.specs.World.{World, Station, Mpdu, Request, no_station, station, session, is_wide}
 use Rattle.wf_world.specs.FlowQueues.{Taken, take}
 use Rattle.wf_rules.specs.Session.{request_due}
@@ -41,29 +42,27 @@ timely_fits w s ms h =
     let parts = and_parts _ _ h in
     leb-true _ _ (and_parts _ _ parts.1).1
 
-few_symbols : (b : ℕ) → ceil_div 22 b ≤ 22
+few_symbols : (b : ℕ) → ceil_div service_and_tail_bits b ≤ service_and_tail_bits
 few_symbols zero = omega arith
 few_symbols (suc b) =
     let below : (22 + (suc b - 1)) / suc b < 23 = div_below (22 + (suc b - 1)) (suc b) 23 (omega arith) (omega arith) in
     omega arith
 
-short_time : (b short : Bool) (n : ℕ) → n ≤ 22 → (if b then 36 else 40) + 4 * (if short then ceil_div (9 * n) 10 else n) ≤ 128
-short_time b short n h = go b short
-  where
-    less : ceil_div (9 * n) 10 ≤ 22
-    less = let below : (9 * n + (10 - 1)) / 10 < 23 = div_below (9 * n + (10 - 1)) 10 23 (omega arith) (omega arith) in omega arith
+few_streams : (r : Rate) → r.mcs ≤ greatest_mcs → streams r ≤ 2
+few_streams r h =
+    let below : r.mcs / 8 < 2 = div_below r.mcs 8 2 (omega arith) (omega arith) in
+    omega arith
 
-    go : (b short : Bool) → (if b then 36 else 40) + 4 * (if short then ceil_div (9 * n) 10 else n) ≤ 128
-    go true true = omega (arith, less)
-    go true false = omega arith
-    go false true = omega (arith, less)
-    go false false = omega arith
+short_time : (short : Bool) (n : ℕ) → n ≤ 22 → (if short then ceil_div (9 * n) 10 else n) ≤ 22
+short_time true n h = let below : (9 * n + (10 - 1)) / 10 < 23 = div_below (9 * n + (10 - 1)) 10 23 (omega arith) (omega arith) in omega arith
+short_time false n h = h
 
 -- nothing at all is timely
-timely_none : (w : World) (s : ℕ) → 3000 ≤ w.config.cap → IsTimely w s []
-timely_none w s h =
+timely_none : (w : World) (s : ℕ) → 3000 ≤ w.config.cap → (station w s).rate.mcs ≤ greatest_mcs → IsTimely w s []
+timely_none w s h k =
     let few : symbols (station w s).rate 0 ≤ 22 = few_symbols (bits (station w s).rate) in
-    let time : data_time (station w s).rate 0 ≤ 128 = short_time (nat_lt (station w s).rate.mcs 8) (station w s).rate.short (symbols (station w s).rate 0) few in
+    let short : (if (station w s).rate.short then ceil_div (9 * symbols (station w s).rate 0) 10 else symbols (station w s).rate 0) ≤ 22 = short_time (station w s).rate.short (symbols (station w s).rate 0) few in
+    let streamed : streams (station w s).rate ≤ 2 = few_streams (station w s).rate k in
     omega arith
 
 timely_if : (b : Bool) (w : World) (s : ℕ) (ms ls : List Mpdu) → (b ≡ true → IsTimely w s ms) → IsTimely w s ls → IsTimely w s (if b then ms else ls)
@@ -92,12 +91,12 @@ timely_fresh (suc n) w s t mpdus h =
     (λ b. timely_fresh n numbered s t longer (timely_same numbered w s longer e (timely_fits w s longer b)))
     (timely_same numbered w s mpdus e h))
 
-timely_filled : (w : World) (s t : ℕ) → 3000 ≤ w.config.cap → IsTimely (filled w s t).world s (filled w s t).mpdus
+timely_filled : (w : World) (s t : ℕ) → 3000 ≤ w.config.cap → (station w s).rate.mcs ≤ greatest_mcs → IsTimely (filled w s t).world s (filled w s t).mpdus
 unfolding filled
-timely_filled w s t h =
+timely_filled w s t h k =
     let waiting : List Mpdu = waiting_mpdus w s t in
     let chosen : List Mpdu = longest_fitting w s [] waiting in
-    let fit : IsTimely w s chosen = timely_fitting waiting w s [] (timely_none w s h) in
+    let fit : IsTimely w s chosen = timely_fitting waiting w s [] (timely_none w s h k) in
     filled_if (length chosen == length waiting) s (with_fresh (most_frames w s - length chosen) w s t chosen) (record { world = w; mpdus = chosen })
     (λ _. timely_fresh (most_frames w s - length chosen) w s t chosen fit) fit
 
@@ -105,29 +104,29 @@ charge_if : (b : Bool) (n : ℕ) (x y : Prepared) → x.charge ≤ n → y.charg
 charge_if true n x y h k = h
 charge_if false n x y h k = k
 
-wide_if : (b : Bool) (n : ℕ) → n + (if b then 56 else 48) ≤ n + 56
+wide_if : (b : Bool) (n : ℕ) → n + sifs + answer_time b ≤ n + longest_answer
 wide_if true n = omega arith
 wide_if false n = omega arith
 
-request_most : (b : Bool) (n : ℕ) → 3000 ≤ n → request_charge b ≤ n + 56
+request_most : (b : Bool) (n : ℕ) → 3000 ≤ n → request_charge b ≤ n + longest_answer
 request_most true n h = omega arith
 request_most false n h = omega arith
 
-pub charge_most : (w : World) (s t : ℕ) → 3000 ≤ w.config.cap → (prepared w s t).charge ≤ longest_exchange w.config
+pub charge_most : (w : World) (s t : ℕ) → 3000 ≤ w.config.cap → (station w s).rate.mcs ≤ greatest_mcs → (prepared w s t).charge ≤ longest_exchange w.config
 unfolding prepared prepared_frames
-charge_most w s t h = charge_if (request_due (session w s t)) (longest_exchange w.config) (record { world = w; content = Request _; charge = request_charge (is_wide w s t) }) (prepared_frames s t (filled w s t))
+charge_most w s t h k = charge_if (request_due (session w s t)) (longest_exchange w.config) (record { world = w; content = Request _; charge = request_charge (is_wide w s t) }) (prepared_frames s t (filled w s t))
     (request_most (is_wide w s t) w.config.cap h)
     (let cap : (filled w s t).world.config.cap ≡ w.config.cap = ap (λ (b : Books). b.config.cap) (books_filled w s t) in
-    let wide : (prepared_frames s t (filled w s t)).charge ≤ data_time (station (filled w s t).world s).rate (octets_of (map (λ m. m.len) (filled w s t).mpdus)) + 56 =
+    let wide : (prepared_frames s t (filled w s t)).charge ≤ data_time (station (filled w s t).world s).rate (octets_of (map (λ m. m.len) (filled w s t).mpdus)) + longest_answer =
     wide_if (is_wide (filled w s t).world s t) (data_time (station (filled w s t).world s).rate (octets_of (map (λ m. m.len) (filled w s t).mpdus))) in
-    let time : IsTimely (filled w s t).world s (filled w s t).mpdus = timely_filled w s t h in
+    let time : IsTimely (filled w s t).world s (filled w s t).mpdus = timely_filled w s t h k in
     omega arith)
 
 some_if : (b : Bool) (x y : Prepared) → 1 ≤ x.charge → 1 ≤ y.charge → 1 ≤ (if b then x else y).charge
 some_if true x y h k = h
 some_if false x y h k = k
 
-wide_some : (b : Bool) (n : ℕ) → 1 ≤ n + (if b then 56 else 48)
+wide_some : (b : Bool) (n : ℕ) → 1 ≤ n + sifs + answer_time b
 wide_some true n = omega arith
 wide_some false n = omega arith
 

@@ -3,13 +3,16 @@ use Rattle.std.proofs.Common.{sym, subst, arith, ℕ, ◌*◌, ◌≤◌, List, 
 use Rattle.std.proofs.lemmas.Int.{ints}
 use Rattle.std.proofs.Math.Nat.{mul-le-mul_left, mul-le-mul_right}
 use Rattle.wf_frame.specs.declared.settings.Config.{Config}
-use Rattle.wf_frame.specs.Settings.{IsInRange}
+use Rattle.wf_frame.specs.declared.settings.Field.TheVariants.{Inflight, Quantum}
+use Rattle.wf_frame.specs.Settings.{greatest_of, IsInRange}
+use Rattle.wf_rules.specs.Lengths.{greatest_body}
+use Rattle.wf_rules.specs.Bounds.{greatest_weight}
 use Rattle.wf_world.specs.World.{World, Exchange, opening}
 use Rattle.wf_world.specs.Run.{Entry}
 use Rattle.wf_world.specs.Stretches.{world_at}
 use Rattle.wf_laws.specs.Windows.{EachOpen}
 use Rattle.wf_laws.specs.Deficits.{IsAccounted, longest_exchange, most_owed}
-use Rattle.wf_laws.specs.Numbers.{NumberLaw}
+use Rattle.wf_laws.specs.Numbers.{greatest_charge, greatest_owed, NumberLaw}
 use Rattle.wf_laws.specs.Ranges.{KeepsRanges}
 use Rattle.wf_laws.proofs.Deficits.Books.{Books, core, books}
 use Rattle.wf_laws.proofs.Deficits.Configs.{config_run}
@@ -27,7 +30,7 @@ times a b m n h k = let left : a * b ≤ m * b = mul-le-mul_right b h in let rig
     le_trans x y z h k = omega (arith, h, k)
 
 -- what an open exchange is charged
-charged_within : (b : Books) (xs : List Exchange) → longest_exchange b.config ≤ 5456 → Every (IsOpen b) (map core xs) → EachOpen (λ x. (1 ≤ x.charge) × (x.charge ≤ 5456)) xs
+charged_within : (b : Books) (xs : List Exchange) → longest_exchange b.config ≤ greatest_charge → Every (IsOpen b) (map core xs) → EachOpen (λ x. (1 ≤ x.charge) × (x.charge ≤ greatest_charge)) xs
 charged_within b [] h e = tt
 charged_within b (x ∷ xs) h e = ((e.0.some, omega (arith, e.0.charge, h)), charged_within b xs h e.1)
 
@@ -36,15 +39,15 @@ number_law config h range m =
     let w : World = world_at config h m in
     let k : IsKept (books w) = kept config (take m h) range in
     let r : KeepsRanges config w = range_law config h range m in
-    let owed : most_owed config ≤ 8 * 5456 = times config.inflight (longest_exchange config) 8 5456 range.inflight.1 (omega (arith, range.cap.1)) in
+    let owed : most_owed config ≤ greatest_owed = times config.inflight (longest_exchange config) (greatest_of Inflight) greatest_charge range.inflight.1 (omega (arith, range.cap.1)) in
     record {
-      charges = charged_within (books w) w.opened (subst (λ (c : Config). longest_exchange c ≤ 5456) (sym (config_run (take m h) (opening config))) (omega (arith, range.cap.1))) k.opens;
+      charges = charged_within (books w) w.opened (subst (λ (c : Config). longest_exchange c ≤ greatest_charge) (sym (config_run (take m h) (opening config))) (omega (arith, range.cap.1))) k.opens;
       opened = λ c. omega (arith, k.few c, k.range.inflight.1, many-count c w.opened, many-core c w.opened);
       deficits = λ s c live.
           let d : IsAccounted config w s c = deficits config h range m s c live in
-          let quantum = times config.quantum _ 10000 16 range.quantum.1 (r.stations s live).weight.1 in
+          let quantum = times config.quantum _ (greatest_of Quantum) greatest_weight range.quantum.1 (r.stations s live).weight.1 in
           (omega (arith, ints, d.least, owed), omega (arith, ints, d.most, quantum));
       queue_deficits = λ short s t q listed.
-          let d = queue_deficit_law config h range 2304 short m s t q listed in
+          let d = queue_deficit_law config h range greatest_body short m s t q listed in
           (d.1, omega (arith, ints, d.0, range.flow_quantum.1));
     }

@@ -4,6 +4,7 @@ use Rattle.std.proofs.lemmas.Int.{ints}
 use Rattle.wf_frame.specs.declared.settings.Config.{Config}
 use Rattle.wf_frame.specs.declared.classes.Class.{Class}
 use Rattle.wf_rules.specs.Table.{at}
+use Rattle.wf_rules.specs.Bounds.{greatest_debt}
 use Rattle.wf_world.specs.World.{World, Station, Share, no_share, no_station, station, share, is_live, opening}
 use Rattle.wf_frame.specs.Classes.{class_number}
 use Rattle.wf_world.specs.Run.{Entry, world_after}
@@ -21,7 +22,7 @@ use Rattle.wf_laws.proofs.Deficits.KeptStep.{kept}
 pub record IsMoney (config : Config) (m weight : ℕ) (x : Share) : Type 0 where
   pub exact : x.deficit ≡ pos (config.quantum * weight + config.quantum * weight * x.quanta) -ℤ pos (x.charged + x.received)
   pub most : x.deficit ≤ℤ pos (config.quantum * weight)
-  pub least : (pos 0 -ℤ pos (1000000 + most_owed config)) ≤ℤ x.deficit
+  pub least : (pos 0 -ℤ pos (greatest_debt + most_owed config)) ≤ℤ x.deficit
   pub quiet : x.received ≡ 0 → (pos 1 -ℤ pos (most_owed config)) ≤ℤ (x.deficit -ℤ pos m)
   pub floor : x.received ≡ 0 → (pos 1 -ℤ pos (most_owed config)) ≤ℤ x.deficit
 

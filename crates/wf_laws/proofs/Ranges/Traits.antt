@@ -15,6 +15,7 @@ use Rattle.wf_rules.specs.Airtime.{Rate as Airtime_rate}
 use Rattle.wf_rules.specs.Codel.{Item}
 use Rattle.wf_rules.specs.Rotation.{in_order}
 use Rattle.wf_rules.specs.Session.{Session, request_due}
+use Rattle.wf_rules.specs.Bounds.{greatest_exponent, greatest_weight, greatest_mcs}
 use Rattle.wf_world.specs.World.{World, Station, Share, Tid, Exchange, Mpdu, Content, Frames, Request, no_station, station, session, queue, rotation, exchange, with_station, on_station, on_tid, on_session, on_receiver, with_queues, on_share, on_queue, with_rotation, with_fate, finish, finish_all, with_exchange, without_exchange, opening}
 use Rattle.wf_world.specs.FlowQueues.{without_head, within_limit, longest, total_queued, listed_queue, appended, put_in, pay_queues, dequeued, taken_from, take, purge_queue, purge_queues}
 use Rattle.wf_world.specs.CanSend.{listed_in, listed_in_all, listed, can_give}
@@ -239,15 +240,15 @@ kept_gone : (w : World) (s : ℕ) → Traits w → Traits (gone w s).world
 unfolding gone
 kept_gone w s h = put_station _ s None tt (kept_off_lists all_classes _ s (kept_left_tids (upto 8) w s h))
 
-kept_joined : (w : World) (s window start exponent weight : ℕ) → nat_lt 3 exponent ≡ false → not (is_within 1 16 weight) ≡ false → Traits w → Traits (joined w s window start exponent weight).world
+kept_joined : (w : World) (s window start exponent weight : ℕ) → nat_lt greatest_exponent exponent ≡ false → not (is_within 1 greatest_weight weight) ≡ false → Traits w → Traits (joined w s window start exponent weight).world
 unfolding joined
 kept_joined w s window start exponent weight short some h =
     let range = both (nat_le 1 weight) (nat_le weight 16) (not-false _ some) in
     put_station w s _ (record { weight = (le_yes 1 weight range.0, le_yes weight 16 range.1); rate = record { mcs = omega arith; mhz = inl refl }; exponent = lt_no 3 exponent short; credit = tt }) h
 
-rate_in_range : (mcs mhz : ℕ) (short : Bool) → (nat_lt 15 mcs || not ((mhz == 20) || (mhz == 40))) ≡ false → IsRate (record { mcs = mcs; mhz = mhz; short = short })
+rate_in_range : (mcs mhz : ℕ) (short : Bool) → (nat_lt greatest_mcs mcs || not ((mhz == 20) || (mhz == 40))) ≡ false → IsRate (record { mcs = mcs; mhz = mhz; short = short })
 rate_in_range mcs mhz short h =
-    let parts = or_parts (nat_lt 15 mcs) (not ((mhz == 20) || (mhz == 40))) h in
+    let parts = or_parts (nat_lt greatest_mcs mcs) (not ((mhz == 20) || (mhz == 40))) h in
     record {
       mcs = lt_no 15 mcs parts.0;
       mhz = elim (either (mhz == 20) (mhz == 40) (not-false _ parts.1)) [ inl e ↦ inl (eq_yes mhz 20 e) | inr e ↦ inr (eq_yes mhz 40 e) ];

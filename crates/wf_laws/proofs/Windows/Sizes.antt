@@ -10,6 +10,7 @@ use Rattle.wf_frame.specs.Classes.{all_classes}
 use Rattle.wf_rules.specs.Table.{at, upto}
 use Rattle.wf_laws.proofs.Common.Tables.{at_put_same, at_put_other}
 use Rattle.wf_rules.specs.Session.{Session}
+use Rattle.wf_rules.specs.Bounds.{greatest_window}
 use Rattle.wf_world.specs.World.{with_exchange, on_receiver, World, Station, Exchange, Tid, no_tid, is_live, new_tid, session, exchange, with_station, opening}
 use Rattle.wf_world.specs.Exchanges.{after_arrival}
 use Rattle.wf_world.specs.Refusals.{refusals, refusal, is_within}
@@ -71,7 +72,7 @@ each_eight P y h (suc (suc (suc (suc (suc (suc zero)))))) b = h
 each_eight P y h (suc (suc (suc (suc (suc (suc (suc zero))))))) b = h
 each_eight P y h (suc (suc (suc (suc (suc (suc (suc (suc j)))))))) b = absurd (omega (arith, b))
 
-sized_joined : (w : World) (s window start exponent weight : ℕ) → not (is_within 1 256 window) ≡ false → IsSized w → IsSized (joined w s window start exponent weight).world
+sized_joined : (w : World) (s window start exponent weight : ℕ) → not (is_within 1 greatest_window window) ≡ false → IsSized w → IsSized (joined w s window start exponent weight).world
 unfolding joined
 sized_joined w s window start exponent weight h i =
     let range = both (nat_le 1 window) (nat_le window 256) (not-false _ h) in
