@@ -1,8 +1,11 @@
 pub mod Table
 pub mod Lengths
+pub mod Lists
 pub mod Airtime
 pub mod Fit
 pub mod Codel
+pub mod CodelLoop
 pub mod Rotation
+pub mod Loop
 pub mod Session
 pub mod Receiver
