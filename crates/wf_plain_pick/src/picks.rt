@@ -210,7 +210,10 @@ fn quanta_later<K: Keys>(
             if *key == winner {
                 in_front(need, more)
             } else if rotation.lists(*key) {
-                in_front(rotation.visits(alloc, winner, round_won, *key)?.min(need), more)
+                in_front(
+                    rotation.visits(alloc, winner, round_won, *key)?.min(need),
+                    more,
+                )
             } else {
                 in_front(0, more)
             }

@@ -327,7 +327,9 @@ impl Codel {
         ensures { IfOk result (λ r. r ≡ first_count params.now now self.now) }
     {
         let since = self.count.saturating_sub(self.last_count);
-        if 1 < since && now.saturating_sub(self.drop_next) < product(RECENT_INTERVALS, params.interval)? {
+        if 1 < since
+            && now.saturating_sub(self.drop_next) < product(RECENT_INTERVALS, params.interval)?
+        {
             Ok(since)
         } else {
             Ok(1)
