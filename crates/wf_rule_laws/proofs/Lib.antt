@@ -1,4 +1,5 @@
--- What other crates use of these proofs stands in Lemmas, and nothing else of them does. The rest answers the laws of lib.rt.
+-- What other crates use of these proofs stands in Lemmas, and nothing else of them does. The rest
+-- answers the laws of lib.rt.
 pub mod Lemmas
 mod Renamings
 mod Order

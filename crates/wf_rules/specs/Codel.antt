@@ -1,10 +1,12 @@
--- CoDel (RFC 8289, section 5) in closed form, on a queue seen as a list. Times are microseconds, lengths octets.
--- One dequeue looks at frames from the head on, and its looks count from 0: look i sees the queue from its place i on. CodelLoop has the same dequeue as the RFC tells it,
--- frame by frame; that the two are one is a law of wf_rule_laws.
+-- CoDel (RFC 8289, section 5) in closed form, on a queue seen as a list. Times are microseconds,
+-- lengths octets. One dequeue looks at frames from the head on, and its looks count from 0: look i
+-- sees the queue from its place i on. CodelLoop has the same dequeue as the RFC tells it, frame by
+-- frame; that the two are one is a law of wf_rule_laws.
 use Rattle.std.specs.Prelude.{length, take, drop, slice_get, ℕ, zero, suc, ◌+◌, ◌*◌, ◌-◌, ◌/◌, ◌≤◌, ◌<◌, ◌==◌, min, nat_lt, nat_le, Bool, true, false, ◌&&◌, ◌||◌, not, List, [], ◌∷◌, Option, if◌then◌else◌, sum_by}
 use Rattle.wf_rules.specs.Lengths.{greatest_body}
 
--- Where no more octets than this are left behind a frame, it is not dropped, however long it waited (MAXPACKET, 5.3): the greatest body of a frame.
+-- Where no more octets than this are left behind a frame, it is not dropped, however long it waited
+-- (MAXPACKET, 5.3): the greatest body of a frame.
 abbrev pub max_packet : ℕ
 max_packet = greatest_body
 
@@ -12,11 +14,13 @@ max_packet = greatest_body
 abbrev pub greatest_count : ℕ
 greatest_count = 4294967295
 
--- For how many intervals after drop_next dropping begins again at the rate that it had (5.5): later than that, the rate starts anew.
+-- For how many intervals after drop_next dropping begins again at the rate that it had (5.5): later
+-- than that, the rate starts anew.
 abbrev pub recent_intervals : ℕ
 recent_intervals = 16
 
--- how many binary digits a step of the control law is computed with: an interval is below 2^32, so its square is below 4^64
+-- how many binary digits a step of the control law is computed with: an interval is below 2^32, so
+-- its square is below 4^64
 abbrev pub root_digits : ℕ
 root_digits = 64
 
@@ -26,7 +30,8 @@ pub record Item : Type 0 where
   pub stamp : ℕ
   pub len : ℕ
 
--- how long a frame may wait (TARGET, 5.3), and for how long frames have to wait longer before one is dropped (INTERVAL, 5.3)
+-- how long a frame may wait (TARGET, 5.3), and for how long frames have to wait longer before one
+-- is dropped (INTERVAL, 5.3)
 pub record Params : Type 0 where
   pub target : ℕ
   pub interval : ℕ
@@ -37,7 +42,7 @@ pub record Codel : Type 0 where
   pub drop_next : ℕ  -- drop_next: when the next drop is due
   pub count : ℕ  -- count: the drops since dropping began
   pub last_count : ℕ  -- lastcount: the count with which dropping began
-  pub dropping : Bool  -- dropping: frames have waited too long for an interval, and drops come by the control law
+  pub dropping : Bool  -- dropping: drops come by the control law
 
 -- the state of a queue that nothing was taken from
 abbrev pub new_codel : Codel
@@ -52,14 +57,16 @@ pub record IsRoot (d n : ℕ) : Type 0 where
   pub below : d * d ≤ n
   pub above : n < (d + 1) * (d + 1)
 
--- the whole root of a number below 4 ^ digits, one binary digit after the other: the way to compute it
+-- the whole root of a number below 4 ^ digits, one binary digit after the other: the way to compute
+-- it
 abbrev pub root : ℕ → ℕ → ℕ
 root zero n = 0
 root (suc digits) n =
     let r : ℕ = 2 * root digits (n / 4) in
     if nat_le ((r + 1) * (r + 1)) n then r + 1 else r
 
--- how long after a drop the next one is due: the greatest d with d * d * count ≤ interval * interval, that is the interval over the root of the count, rounded down
+-- how long after a drop the next one is due: the greatest d with d * d * count ≤ interval *
+-- interval, that is the interval over the root of the count, rounded down
 unfoldable pub step_of : ℕ → ℕ → ℕ
 step_of interval count = root root_digits (interval * interval / count)
 
@@ -76,12 +83,14 @@ law p t c = t + step_of p.interval c
 abbrev pub rise : ℕ → ℕ
 rise count = min (count + 1) greatest_count
 
--- what a look tells (dodequeue_result, 5.1): first_above after it, and whether its frame may be dropped (ok_to_drop)
+-- what a look tells (dodequeue_result, 5.1): first_above after it, and whether its frame may be
+-- dropped (ok_to_drop)
 pub record Look : Type 0 where
   pub first_above : ℕ
   pub ok : Bool
 
--- A look at the head of a queue at the time `now` (dodequeue, 5.6), where first_above is `above` before it.
+-- A look at the head of a queue at the time `now` (dodequeue, 5.6), where first_above is `above`
+-- before it.
 abbrev pub look_at : Params → ℕ → ℕ → List Item → Look
 look_at p now above [] = record { first_above = 0; ok = false }
 look_at p now above (x ∷ rest) =
@@ -89,7 +98,8 @@ look_at p now above (x ∷ rest) =
     else (if above == 0 then record { first_above = now + p.interval; ok = false }
     else record { first_above = above; ok = nat_le above now })
 
--- the count with which dropping begins: where it begins again soon, the drops of the last time (delta), for they were a good rate; else 1
+-- the count with which dropping begins: where it begins again soon, the drops of the last time
+-- (delta), for they were a good rate; else 1
 abbrev pub first_count : Params → ℕ → Codel → ℕ
 first_count p now c =
     if nat_lt 1 (c.count - c.last_count) && nat_lt (now - c.drop_next) (recent_intervals * p.interval) then c.count - c.last_count else 1

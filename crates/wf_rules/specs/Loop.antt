@@ -1,10 +1,13 @@
--- The paper's loop over a rotation, one turn at a time, and what ties it to the pick in closed form (Rotation): "Ending the Anomaly" (USENIX ATC 2017), algorithm 2
--- (dequeue, over flow queues) and algorithm 3 (over stations). It is deficit round robin with a new and an old list. A deficit counts octets or microseconds.
+-- The paper's loop over a rotation, one turn at a time, and what ties it to the pick in closed form
+-- (Rotation): "Ending the Anomaly" (USENIX ATC 2017), algorithm 2 (dequeue, over flow queues) and
+-- algorithm 3 (over stations). It is deficit round robin with a new and an old list. A deficit
+-- counts octets or microseconds.
 use Rattle.std.specs.Prelude.{◌≡◌, ℕ, zero, suc, ◌*◌, ◌≤◌, ◌==◌, ℤ, pos, ◌+ℤ◌, int_le, Bool, List, [], ◌∷◌, ◌++◌, Option, None, Some, if◌then◌else◌}
 use Rattle.wf_rules.specs.Rotation.{Rotation, in_order, need_of, Picked, pick}
 use Rattle.wf_rules.specs.Lists.{IsOnce}
 
--- both lists are empty; or the key looked at wins and keeps its place; or the loop begins again, with these lists and deficits
+-- what a turn comes to: both lists are empty; or the key looked at wins and keeps its place; or the
+-- loop begins again, with these lists and deficits
 pub data Turn : Type 0 where
   Empty : Turn
   Wins : (key : ℕ) → Turn
@@ -14,16 +17,17 @@ pub data Turn : Type 0 where
 abbrev pub paid : (ℕ → ℕ) → (ℕ → ℤ) → ℕ → ℕ → ℤ
 paid quantum deficit key y = if key == y then deficit y +ℤ pos (quantum y) else deficit y
 
--- A key of the new list is looked at, which `keys` follow there. Without a positive deficit it gets one quantum and goes last on the old list; and so it does, with
--- no quantum, where it is not ready.
+-- A key of the new list is looked at, which `keys` follow there. Without a positive deficit it gets
+-- one quantum and goes last on the old list; and so it does, with no quantum, where it is not
+-- ready.
 abbrev pub turn_of_new : (ℕ → ℕ) → (ℕ → ℤ) → (ℕ → Bool) → ℕ → List ℕ → List ℕ → Turn
 turn_of_new quantum deficit ready key keys old =
     if int_le (deficit key) (pos 0) then Again (record { new = keys; old = old ++ key ∷ [] }) (paid quantum deficit key)
     else (if ready key then Wins key
     else Again (record { new = keys; old = old ++ key ∷ [] }) deficit)
 
--- A key of the old list is looked at, with the new list empty. Without a positive deficit it gets one quantum and goes last; where it is not ready it leaves the
--- rotation.
+-- A key of the old list is looked at, with the new list empty. Without a positive deficit it gets
+-- one quantum and goes last; where it is not ready it leaves the rotation.
 abbrev pub turn_of_old : (ℕ → ℕ) → (ℕ → ℤ) → (ℕ → Bool) → ℕ → List ℕ → Turn
 turn_of_old quantum deficit ready key keys =
     if int_le (deficit key) (pos 0) then Again (record { new = []; old = keys ++ key ∷ [] }) (paid quantum deficit key)
@@ -61,8 +65,10 @@ Meets quantum deficit ready r (Wins key) = Gives quantum deficit ready r (Some k
 Meets quantum deficit ready r (Again lists after) =
     Gives quantum deficit ready r (picked quantum after ready lists).winner (picked quantum after ready lists).lists (deficit_after quantum after (picked quantum after ready lists))
 
--- Where the key that the loop looks at does not win in this turn, the pick of the rotation before the turn and the pick of the rotation after it give the same winner,
--- the same lists and the same deficits. Where it wins, the pick names it and changes nothing; with both lists empty the pick has no winner and changes nothing.
+-- Where the key that the loop looks at does not win in this turn, the pick of the rotation before
+-- the turn and the pick of the rotation after it give the same winner, the same lists and the same
+-- deficits. Where it wins, the pick names it and changes nothing; with both lists empty the pick
+-- has no winner and changes nothing.
 abbrev pub TurnLaw : Type 0
 TurnLaw =
     (quantum : ℕ → ℕ) (deficit : ℕ → ℤ) (ready : ℕ → Bool) (r : Rotation) → ((y : ℕ) → 1 ≤ quantum y) → IsOnce (in_order r) →
@@ -105,7 +111,8 @@ pub record HasEnd (quantum : ℕ → ℕ) (ready : ℕ → Bool) (s : Standing) 
 abbrev pub EndLaw : Type 0
 EndLaw = (quantum : ℕ → ℕ) (ready : ℕ → Bool) (s : Standing) → ((y : ℕ) → 1 ≤ quantum y) → IsOnce (in_order s.lists) → HasEnd quantum ready s
 
--- Where the loop ends after n turns, the pick gives the winner, the lists and the deficits with which it ends.
+-- Where the loop ends after n turns, the pick gives the winner, the lists and the deficits with
+-- which it ends.
 abbrev pub LoopLaw : Type 0
 LoopLaw =
     (quantum : ℕ → ℕ) (ready : ℕ → Bool) (s : Standing) (n : ℕ) (winner : Option ℕ) → ((y : ℕ) → 1 ≤ quantum y) → IsOnce (in_order s.lists) →

@@ -1,7 +1,9 @@
--- Deficit round robin: a new and an old list of keys, and which key is picked next.
--- "Ending the Anomaly" (USENIX ATC 2017) in closed form: algorithm 1 lists a key (enqueue), algorithm 2 picks a flow queue (dequeue) and algorithm 3 a station. One definition
--- serves both: a key is a station's number, whose deficit counts microseconds, or a flow queue's, whose deficit counts octets. Loop has the paper's loop, turn by turn; that the
--- loop gives what the pick gives is a law of wf_rule_laws.
+-- Deficit round robin: a new and an old list of keys, and which key is picked next. "Ending the
+-- Anomaly" (USENIX ATC 2017) in closed form: algorithm 1 lists a key (enqueue), algorithm 2 picks a
+-- flow queue (dequeue) and algorithm 3 a station. One definition serves both: a key is a station's
+-- number, whose deficit counts microseconds, or a flow queue's, whose deficit counts octets. Loop
+-- has the paper's loop, turn by turn; that the loop gives what the pick gives is a law of
+-- wf_rule_laws.
 use Rattle.std.specs.Prelude.{ℕ, zero, suc, ◌+◌, ◌-◌, ◌/◌, ◌==◌, min, max, nat_le, ℤ, pos, negsuc, Bool, ◌&&◌, ◌||◌, not, List, [], ◌∷◌, ◌++◌, Option, Some, None, if◌then◌else◌, filter, find}
 use Rattle.wf_rules.specs.Table.{has}
 
@@ -45,7 +47,8 @@ abbrev pub from : ℕ → List ℕ → List ℕ
 from key [] = []
 from key (y ∷ ys) = if y == key then y ∷ ys else from key ys
 
--- the round in which a key has its turn: a key of the new list is looked at once before the old list is gone over
+-- the round in which a key has its turn: a key of the new list is looked at once before the old
+-- list is gone over
 abbrev pub round : (ℕ → ℕ) → Rotation → ℕ → ℕ
 round need r y = if has r.new y then need y else 1 + need y
 
@@ -77,7 +80,8 @@ picked_now need r winner = record {
   quanta = λ y. if has (before winner r.new) y then min 1 (need y) else 0;
 }
 
--- Where the winner wins in round `round_won`, which is not round 0: how often a key was looked at as one of the old list.
+-- Where the winner wins in round `round_won`, which is not round 0: how often a key was looked at
+-- as one of the old list.
 abbrev pub old_visits : Rotation → ℕ → ℕ → ℕ → ℕ
 old_visits r winner round_won y = if has (before winner (in_order r)) y then round_won else round_won - 1
 
@@ -85,7 +89,8 @@ old_visits r winner round_won y = if has (before winner (in_order r)) y then rou
 abbrev pub visits : Rotation → ℕ → ℕ → ℕ → ℕ
 visits r winner round_won y = old_visits r winner round_won y + (if has r.new y then 1 else 0)
 
--- whether a key left the rotation: it was looked at on the old list with a deficit above 0, and was not ready
+-- whether a key left the rotation: it was looked at on the old list with a deficit above 0, and was
+-- not ready
 abbrev pub is_out : (ℕ → ℕ) → (ℕ → Bool) → Rotation → ℕ → ℕ → ℕ → Bool
 is_out need ready r winner round_won y = not (ready y) && nat_le (max 1 (round need r y)) (old_visits r winner round_won y)
 
