@@ -2,7 +2,8 @@
 use Rattle.std.proofs.Common.{◌≡◌, ℕ, ◌+◌, ◌-◌, ◌<◌, ◌≤◌, ◌==◌, nat_lt, nat_le, zero, suc, Bool, true, false, cond, ◌||◌, List, [], ◌∷◌, map, filter, refl, sym, ◌∙◌, ap, inl, inr, arith}
 use Rattle.std.proofs.lemmas.Bool.{cases_Bool, cases_eq, cases_lt, or_cases, or_left, or_from, eq-eqb, ne_eqb, eqb-true, le-leb, lt-leb, lt-ltb, le-ltb, both_ways, false_from_ne_true, cond-true, cond-false}
 use Rattle.std.specs.List.{range_with_len}
-use Rattle.wf_bits.specs.Offsets.{RisesBetween, has, with_offset, moved_down}
+use Rattle.wf_rules.specs.Table.{has, with_member}
+use Rattle.wf_bits.specs.Offsets.{RisesBetween, moved_down}
 
 pub has_from : (from end : ℕ) (xs : List ℕ) (i : ℕ) → RisesBetween from end xs → has xs i ≡ true → (from ≤ i) × (i < end)
 has_from from end [] i r h = absurd (both_ways false refl h)
@@ -58,19 +59,19 @@ same_members a b c d (x ∷ xs) (y ∷ ys) p q same = ap (λ h. h ∷ xs) heads 
       | inr at ↦ has_not_below (suc x) c xs i p.2 (omega arith) ∙ sym (has_not_below (suc y) d ys i q.2 (omega (arith, heads)))
     ]
 
--- ---- with_offset
-pub has-with_offset : (i : ℕ) (xs : List ℕ) (j : ℕ) → has (with_offset i xs) j ≡ ((i == j) || has xs j)
-has-with_offset i [] j = refl
-has-with_offset i (x ∷ xs) j = elim (cases_Bool (nat_lt i x)) [
+-- ---- with_member
+pub has-with_member : (i : ℕ) (xs : List ℕ) (j : ℕ) → has (with_member i xs) j ≡ ((i == j) || has xs j)
+has-with_member i [] j = refl
+has-with_member i (x ∷ xs) j = elim (cases_Bool (nat_lt i x)) [
   | inl before ↦ ap (λ ys. has ys j) (cond-true (nat_lt i x) (i ∷ x ∷ xs) rest before)
   | inr after ↦ ap (λ ys. has ys j) (cond-false (nat_lt i x) (i ∷ x ∷ xs) rest after) ∙ elim (cases_Bool (x == i)) [
-    | inl here ↦ ap (λ ys. has ys j) (cond-true (x == i) (x ∷ xs) (x ∷ with_offset i xs) here) ∙ known (eqb-true x i here)
-    | inr past ↦ ap (λ ys. has ys j) (cond-false (x == i) (x ∷ xs) (x ∷ with_offset i xs) past) ∙ ap (λ b. (x == j) || b) (has-with_offset i xs j) ∙ turned (x == j) (i == j) (has xs j)
+    | inl here ↦ ap (λ ys. has ys j) (cond-true (x == i) (x ∷ xs) (x ∷ with_member i xs) here) ∙ known (eqb-true x i here)
+    | inr past ↦ ap (λ ys. has ys j) (cond-false (x == i) (x ∷ xs) (x ∷ with_member i xs) past) ∙ ap (λ b. (x == j) || b) (has-with_member i xs j) ∙ turned (x == j) (i == j) (has xs j)
   ]
 ]
   where
     rest : List ℕ
-    rest = cond (x == i) (x ∷ xs) (x ∷ with_offset i xs)
+    rest = cond (x == i) (x ∷ xs) (x ∷ with_member i xs)
 
     turned : (a b c : Bool) → (a || (b || c)) ≡ (b || (a || c))
     turned true true c = refl
@@ -85,13 +86,13 @@ has-with_offset i (x ∷ xs) j = elim (cases_Bool (nat_lt i x)) [
     known : x ≡ i → ((x == j) || has xs j) ≡ ((i == j) || ((x == j) || has xs j))
     known e = twice (x == j) (has xs j) ∙ ap (λ k. (k == j) || ((x == j) || has xs j)) e
 
-pub rises-with_offset : (from end i : ℕ) (xs : List ℕ) → from ≤ i → i < end → RisesBetween from end xs → RisesBetween from end (with_offset i xs)
-rises-with_offset from end i [] low high r = (low, high, tt)
-rises-with_offset from end i (x ∷ xs) low high r = elim (cases_lt i x) [
+pub rises-with_member : (from end i : ℕ) (xs : List ℕ) → from ≤ i → i < end → RisesBetween from end xs → RisesBetween from end (with_member i xs)
+rises-with_member from end i [] low high r = (low, high, tt)
+rises-with_member from end i (x ∷ xs) low high r = elim (cases_lt i x) [
   | inl before ↦ rw (lt-ltb i x before) (low, high, (omega arith, r.1, r.2))
   | inr after ↦ rw (le-ltb i x after) (elim (cases_eq x i) [
     | inl here ↦ rw (eq-eqb x i here) r
-    | inr past ↦ rw (ne_eqb x i past) (r.0, r.1, rises-with_offset (suc x) end i xs (omega arith) high r.2)
+    | inr past ↦ rw (ne_eqb x i past) (r.0, r.1, rises-with_member (suc x) end i xs (omega arith) high r.2)
   ])
 ]
 

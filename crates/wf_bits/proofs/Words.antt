@@ -11,10 +11,11 @@ use Rattle.std.specs.List.{range_with_len}
 use Rattle.std.specs.Int.Count.{ones-ones}
 use lib.Pointwise.{pointwise}
 use Rattle.std.specs.Int.{bit_at, to_le_bytes, from_le_bytes, w64}
-use Rattle.wf_bits.specs.Offsets.{IsOffsets, has, with_offset, moved_down, word_of, offsets_in}
+use Rattle.wf_rules.specs.Table.{has, with_member, word_of}
+use Rattle.wf_bits.specs.Offsets.{IsOffsets, moved_down, offsets_in}
 use Rattle.wf_bits.specs.View.{set_of, number_of}
 use Rattle.wf_bits.specs.Inverse.{bit_at-shr, set_of_more, set_of_none, digit_more, DigitsBelow, digits_below, number_of-lt, words_of_four}
-use Rattle.wf_bits.proofs.Sets.{rises-filter_range, has-filter_range, has_not_above, same_members, has-with_offset, rises-with_offset, has-moved_down, rises-moved_down, rises_wider}
+use Rattle.wf_bits.proofs.Sets.{rises-filter_range, has-filter_range, has_not_above, same_members, has-with_member, rises-with_member, has-moved_down, rises-moved_down, rises_wider}
 
 -- ---- a set by its number
 pub set_of_is_offsets : (end n : ℕ) → IsOffsets end (set_of end n)
@@ -55,8 +56,8 @@ bit_test_pow k i = elim (cases_eq i k) [
 ]
 
 -- ---- the changes
-pub set_of-or_pow : (end n i : ℕ) → i < end → set_of end (bit_or n (2 ^ i)) ≡ with_offset i (set_of end n)
-set_of-or_pow end n i below = set_of_from_bits end (bit_or n (2 ^ i)) (with_offset i (set_of end n)) (rises-with_offset 0 end i (set_of end n) (omega arith) below (set_of_is_offsets end n)) each
+pub set_of-or_pow : (end n i : ℕ) → i < end → set_of end (bit_or n (2 ^ i)) ≡ with_member i (set_of end n)
+set_of-or_pow end n i below = set_of_from_bits end (bit_or n (2 ^ i)) (with_member i (set_of end n)) (rises-with_member 0 end i (set_of end n) (omega arith) below (set_of_is_offsets end n)) each
   where
     turned : (a b : Bool) → (a || b) ≡ (b || a)
     turned true true = refl
@@ -64,10 +65,10 @@ set_of-or_pow end n i below = set_of_from_bits end (bit_or n (2 ^ i)) (with_offs
     turned false true = refl
     turned false false = refl
 
-    each : (j : ℕ) → j < end → (bit_at (bit_or n (2 ^ i)) j == 1) ≡ has (with_offset i (set_of end n)) j
+    each : (j : ℕ) → j < end → (bit_at (bit_or n (2 ^ i)) j == 1) ≡ has (with_member i (set_of end n)) j
     each j within =
         bit_test_or n (2 ^ i) j ∙ turned (bit_at n j == 1) (bit_at (2 ^ i) j == 1) ∙ ap (λ b. b || (bit_at n j == 1)) (bit_test_pow i j)
-        ∙ ap (λ b. (i == j) || b) (sym (has-set_of end n j within)) ∙ sym (has-with_offset i (set_of end n) j)
+        ∙ ap (λ b. (i == j) || b) (sym (has-set_of end n j within)) ∙ sym (has-with_member i (set_of end n) j)
 
 pub set_of-shifted : (end n m k : ℕ) → ((i : ℕ) → i < end → bit_at m i ≡ bit_at n (i + k)) → n < 2 ^ end → set_of end m ≡ moved_down k (set_of end n)
 set_of-shifted end n m k bits small = set_of_from_bits end m (moved_down k (set_of end n)) offsets each
@@ -183,8 +184,8 @@ small-set_word ds k i small j = elim (cases_eq j k) [
     word : ℕ
     word = bit_or (get_or ds k 0) (1 * 2 ^ (i % 64) % 2 ^ 64)
 
-pub set_of-set_word : (ds : List ℕ) (k i : ℕ) → i < 256 → length ds ≡ 4 → ((k : ℕ) → get_or ds k 0 < 2 ^ 64) → k ≡ i / 64 → set_of 256 (number_of 64 (set_word ds k i)) ≡ with_offset i (set_of 256 (number_of 64 ds))
-set_of-set_word ds k i below long small is = set_of_from_bits 256 (number_of 64 (set_word ds k i)) (with_offset i (set_of 256 (number_of 64 ds))) (rises-with_offset 0 256 i (set_of 256 (number_of 64 ds)) (omega arith) below (set_of_is_offsets 256 (number_of 64 ds))) each
+pub set_of-set_word : (ds : List ℕ) (k i : ℕ) → i < 256 → length ds ≡ 4 → ((k : ℕ) → get_or ds k 0 < 2 ^ 64) → k ≡ i / 64 → set_of 256 (number_of 64 (set_word ds k i)) ≡ with_member i (set_of 256 (number_of 64 ds))
+set_of-set_word ds k i below long small is = set_of_from_bits 256 (number_of 64 (set_word ds k i)) (with_member i (set_of 256 (number_of 64 ds))) (rises-with_member 0 256 i (set_of 256 (number_of 64 ds)) (omega arith) below (set_of_is_offsets 256 (number_of 64 ds))) each
   where
     number : ℕ
     number = number_of 64 ds
@@ -222,10 +223,10 @@ set_of-set_word ds k i below long small is = set_of_from_bits 256 (number_of 64 
       | inr other ↦ ap (λ w. bit_at w (j % 64) == 1) (get_or-set_other ds k (j / 64) word 0 other) ∙ there j other
     ]
 
-    each : (j : ℕ) → j < 256 → (bit_at (number_of 64 (set_word ds k i)) j == 1) ≡ has (with_offset i (set_of 256 number)) j
+    each : (j : ℕ) → j < 256 → (bit_at (number_of 64 (set_word ds k i)) j == 1) ≡ has (with_member i (set_of 256 number)) j
     each j within =
         ap (λ b. b == 1) (bit_at-words (set_word ds k i) j (small-set_word ds k i small)) ∙ set_at j ∙ ap (λ b. (i == j) || b) (sym (has-set_of 256 number j within))
-        ∙ sym (has-with_offset i (set_of 256 number) j)
+        ∙ sym (has-with_member i (set_of 256 number) j)
 
 -- four words, by their bits
 pub bit_at-four : (a b c d : ℕ) (bit : ℕ → ℕ) → a < 2 ^ 64 → b < 2 ^ 64 → c < 2 ^ 64 → d < 2 ^ 64

@@ -1,5 +1,5 @@
--- Sets of offsets, as rising lists of them, and the words and octets that carry them.
-use Rattle.std.specs.Prelude.{ℕ, ◌+◌, ◌-◌, ◌*◌, ◌/◌, ◌%◌, ◌^◌, ◌<◌, ◌≤◌, ◌==◌, nat_lt, nat_le, suc, Bool, false, ◌&&◌, ◌||◌, List, [], ◌∷◌, length, if◌then◌else◌, map, filter, sum_by, slice_index}
+-- Sets of offsets, as rising lists of them, and the octets that carry them.
+use Rattle.std.specs.Prelude.{ℕ, ◌-◌, ◌*◌, ◌/◌, ◌%◌, ◌<◌, ◌≤◌, ◌==◌, nat_le, suc, List, [], ◌∷◌, length, map, filter, slice_index}
 use Rattle.std.specs.List.{range_with_len}
 use Rattle.std.specs.Int.{bit_at}
 
@@ -12,23 +12,9 @@ RisesBetween from end (x ∷ xs) = (from ≤ x) × (x < end) × RisesBetween (su
 abbrev pub IsOffsets : ℕ → List ℕ → Type 0
 IsOffsets end xs = RisesBetween 0 end xs
 
--- whether a set has the offset i
-abbrev pub has : List ℕ → ℕ → Bool
-has [] i = false
-has (x ∷ xs) i = (x == i) || has xs i
-
--- the set with the offset i
-abbrev pub with_offset : ℕ → List ℕ → List ℕ
-with_offset i [] = i ∷ []
-with_offset i (x ∷ xs) = if nat_lt i x then i ∷ x ∷ xs else (if x == i then x ∷ xs else x ∷ with_offset i xs)
-
 -- the set moved down: offset i becomes i - n, and the offsets below n go
 abbrev pub moved_down : ℕ → List ℕ → List ℕ
 moved_down n xs = map (λ i. i - n) (filter (λ i. nat_le n i) xs)
-
--- the word of the offsets 64 k to 64 k + 63: its bit j is offset 64 k + j
-abbrev pub word_of : ℕ → List ℕ → ℕ
-word_of k xs = sum_by (λ i. if nat_le (64 * k) i && nat_lt i (64 * k + 64) then 2 ^ (i - 64 * k) else 0) xs
 
 -- the offsets that a bitmap of octets shows: offset i is bit i mod 8 of octet i / 8, its least significant bit being bit 0
 unfoldable pub offsets_in : List ℕ → List ℕ

@@ -1,6 +1,7 @@
 ghost use Rattle.std.specs.Prelude.{◌≡◌, ℕ, ◌+◌, ◌*◌, ◌/◌, ◌%◌, ◌<◌, ◌≤◌, [], length, slice_index};
 ghost use Rattle.std.specs.Int.{bit_at};
-ghost use Rattle.wf_bits.specs.Offsets.{IsOffsets, has, with_offset, moved_down, word_of, offsets_in};
+ghost use Rattle.wf_rules.specs.Table.{has, with_member, word_of};
+ghost use Rattle.wf_bits.specs.Offsets.{IsOffsets, moved_down, offsets_in};
 
 use std::marker::Model;
 
@@ -13,7 +14,7 @@ pub struct Bits256 {
 impl Model for Bits256 {
     ghost use Rattle.std.specs.Prelude.{◌≡◌, ℕ, List, [], ◌∷◌, ◌<◌, ◌^◌, length, slice_index};
     ghost use Rattle.wf_bits.specs.View.{set_of, number_of};
-    ghost use Rattle.wf_bits.specs.Offsets.{word_of};
+    ghost use Rattle.wf_rules.specs.Table.{word_of};
     ghost use Rattle.wf_bits.specs.Inverse.{words_of_four};
 
     ghost Value = { List ℕ };
@@ -58,7 +59,7 @@ impl Bits256 {
     /// Puts the offset `i` into the set.
     pub fn set(&mut self, i: u16)
         requires { i < 256 }
-        ensures set { self.new ≡ with_offset i self.old }
+        ensures set { self.new ≡ with_member i self.old }
         ensures offsets { IsOffsets 256 self.new }
     {
         self.words[usize::from(i / 64)] |= 1 << (i % 64);

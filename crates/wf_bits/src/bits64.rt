@@ -1,5 +1,6 @@
 ghost use Rattle.std.specs.Prelude.{◌≡◌, ◌<◌, ◌≤◌, [], length};
-ghost use Rattle.wf_bits.specs.Offsets.{IsOffsets, has, with_offset, moved_down, word_of, offsets_in};
+ghost use Rattle.wf_rules.specs.Table.{has, with_member, word_of};
+ghost use Rattle.wf_bits.specs.Offsets.{IsOffsets, moved_down, offsets_in};
 
 use std::marker::Model;
 
@@ -12,7 +13,7 @@ pub struct Bits64 {
 impl Model for Bits64 {
     ghost use Rattle.std.specs.Prelude.{ℕ, List, ◌<◌, ◌^◌};
     ghost use Rattle.wf_bits.specs.View.{set_of};
-    ghost use Rattle.wf_bits.specs.Offsets.{word_of};
+    ghost use Rattle.wf_rules.specs.Table.{word_of};
     ghost use Rattle.wf_bits.specs.Inverse.{word_of_one};
 
     ghost Value = { List ℕ };
@@ -52,7 +53,7 @@ impl Bits64 {
     /// Puts the offset `i` into the set.
     pub fn set(&mut self, i: u8)
         requires { i < 64 }
-        ensures set { self.new ≡ with_offset i self.old }
+        ensures set { self.new ≡ with_member i self.old }
         ensures offsets { IsOffsets 64 self.new }
     {
         self.word |= 1 << i;

@@ -7,8 +7,8 @@ use Rattle.std.proofs.lemmas.Bool.{ltb-true}
 use Rattle.wf_rules.specs.Codel.{Item, Params, Codel, Look, look_at, law, rise, octets, begin_dropping, first_count, look, raised, drops_dropping, state_dropping, drops_plain, state_plain, drops, state_after, dequeued_after, dequeue}
 use Rattle.wf_codel.specs.Takes.{Takes}
 use Rattle.wf_codel.specs.Looks.{look_by, started}
-use Rattle.wf_codel.proofs.DropLemmas.{dropped_once, seen, drops-bad, drops-early, drops-more, drops-none, state-none}
-use Rattle.wf_codel.proofs.SameDequeue.{state-on, state-off}
+use Rattle.wf_rule_laws.proofs.Lemmas.Drops.{dropped_once, seen, drops-bad, drops-early, drops-more, drops-none, state-none}
+use Rattle.wf_rule_laws.proofs.Lemmas.Stepped.{state-on, state-off}
 use Rattle.wf_codel.proofs.Lanes.{append-nil}
 
 module _ {X : Type 0} (view : X → Item) (tossed : X → X) (p : Params) (now : ℕ) (c : Codel) (thrown : List X) (x : X) (rest : List X) (stamp left above : ℕ) (ok : Bool)

@@ -5,7 +5,7 @@ use Rattle.wf_rules.specs.Codel.{Item, Params, Codel, Look, look_at, law, rise, 
 use Rattle.wf_codel.specs.Takes.{Takes}
 use Rattle.std.proofs.lemmas.Bool.{lt-ltb, le-ltb}
 use Rattle.wf_codel.specs.Looks.{look_by}
-use Rattle.wf_codel.proofs.DropLemmas.{dropped_once, seen, drops-bad, drops-early, drops-more, state-more, state-bad, state-early, state-none, drops-none}
+use Rattle.wf_rule_laws.proofs.Lemmas.Drops.{dropped_once, seen, drops-bad, drops-early, drops-more, state-more, state-bad, state-early, state-none, drops-none}
 
 -- what a dequeue leaves
 pub record Outcome (X : Type 0) : Type 0 where

@@ -1,11 +1,10 @@
 //! CoDel (RFC 8289) over any lane of frames, with MAXPACKET 2304 octets. Times are microseconds, lengths octets.
 #![tactic(auto)]
 
-ghost use Rattle.std.specs.Prelude.{◌≡◌, ℕ, List, suc, ◌+◌, ◌*◌, ◌/◌, ◌<◌, ◌≤◌, ◌↔◌, ◌^◌, [], ◌∷◌, ◌++◌, IsTrue, IsFalse, IsNone, MatchOption, map, take, drop, slice_get, if◌then◌else◌, is_some};
+ghost use Rattle.std.specs.Prelude.{◌≡◌, ℕ, List, suc, ◌+◌, ◌*◌, ◌/◌, ◌<◌, ◌≤◌, ◌↔◌, ◌^◌, [], ◌∷◌, ◌++◌, IsTrue, IsNone, MatchOption, map, take, drop, slice_get, if◌then◌else◌, is_some};
 ghost use Rattle.std.specs.Option.{option_map};
-ghost use Rattle.wf_rules.specs.Codel.{ends, step_of, octets, new_codel, dequeue, Item as Seen, Codel as State, Params as Times, drops_dropping, state_dropping, drops_plain, state_plain, drops, state_after};
-ghost use Rattle.wf_codel.specs.Steps.{stepped};
-ghost use Rattle.wf_codel.specs.Takes.{IsGreatestStep, Takes};
+ghost use Rattle.wf_rules.specs.Codel.{IsGreatestStep, step_of, octets, new_codel, dequeue, Item as Seen, drops_dropping, state_dropping, drops_plain, state_plain, drops, state_after};
+ghost use Rattle.wf_codel.specs.Takes.{Takes};
 ghost use Rattle.wf_codel.specs.Looks.{look_by, count_again, started};
 ghost use Rattle.wf_rules.specs.Parameters.{params_at};
 ghost use Rattle.wf_codel.specs.Params.{params_of};
@@ -27,8 +26,11 @@ const USUAL_INTERVAL: u32 = 100_000;
 const SLOW_TARGET: u32 = 50_000;
 const SLOW_INTERVAL: u32 = 300_000;
 
+/// For how many intervals after the time of the last drop dropping begins again at the rate that it had (RFC 8289, 5.5).
+const RECENT_INTERVALS: u64 = 16;
+
 /// How much later the next drop is due: the greatest d with `d*d*count <= interval*interval`, the interval over the
-/// root of the count, rounded down (RFC 8289, 5.5).
+/// root of the count, rounded down (control_law of RFC 8289, 5.6).
 pub fn root_step(interval: u32, count: u32) -> u64
     requires { 1 ≤ count }
     ensures greatest { IsGreatestStep interval count result }
@@ -37,17 +39,6 @@ pub fn root_step(interval: u32, count: u32) -> u64
 {
     (interval as u64 * interval as u64 / count as u64).isqrt()
 }
-
-/// CoDel's dequeue is the loop of RFC 8289, frame by frame. While dropping, the number of drops is the least at which
-/// the look is not ok or the drop is not due.
-pub fn dequeue_is_the_loop()
-    ensures stepped { (times : Times) (now : ℕ) (state : State) (items : List Seen) →
-        stepped times now state items ≡ dequeue times now state items }
-    ensures ends { (times : Times) (now : ℕ) (state : State) (due : ℕ) (items : List Seen) →
-        IsTrue (ends times now state due items (drops_dropping times now state due items)) }
-    ensures least { (times : Times) (now : ℕ) (state : State) (due : ℕ) (items : List Seen) (i : ℕ) →
-        i < drops_dropping times now state due items → IsFalse (ends times now state due items i) }
-{}
 
 /// A queue of frames in order, and a place for those that are thrown away.
 pub trait Lane {
@@ -177,7 +168,7 @@ fn count_of_start(count: u32, last_count: u32, drop_next: u64, now: u64, params:
     ensures positive { 1 ≤ result }
 {
     let delta = count.saturating_sub(last_count);
-    if delta > 1 && now.saturating_sub(drop_next) < 16 * params.interval as u64 {
+    if delta > 1 && now.saturating_sub(drop_next) < RECENT_INTERVALS * params.interval as u64 {
         return delta;
     }
     1

@@ -10,10 +10,10 @@ use Rattle.wf_frame.specs.declared.settings.Config.{Config}
 use Rattle.wf_frame.specs.Settings.{first_out_of_range, IsInRange}
 use Rattle.wf_frame.proofs.Ranges.{in_range}
 use Rattle.wf_rules.specs.Rotation.{Rotation, no_keys, in_order}
-use Rattle.wf_rota.specs.Cuts.{on}
+use Rattle.wf_rules.specs.Lists.{on}
 use Rattle.wf_rota.specs.Lists.{lists_at, on_at}
 use Rattle.wf_rota.specs.Rotas.{Rotas, deficit_at}
-use Rattle.wf_rota.proofs.OnLemmas.{on-nil}
+use Rattle.wf_rule_laws.proofs.Lemmas.Counts.{on-nil}
 use Rattle.wf_backlog.specs.Backlog.{BacklogValue, held}
 use Rattle.wf_flowq.specs.Flows.{empty_flows, waiting}
 use Rattle.wf_flowq.specs.Kept.{is_some_frame, depth, AreListed, IsKept}

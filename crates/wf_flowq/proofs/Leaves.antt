@@ -5,12 +5,12 @@ use Rattle.std.proofs.lemmas.List.{get_or-map, get_or_past, length-map, get_or_r
 use Rattle.std.proofs.lemmas.Bool.{cases_eq, cases_lt, cases_Bool, both_ways, ne_eqb, cond-true, cond-false}
 use Rattle.wf_frame.specs.Frames.{FrameValue}
 use Rattle.wf_rules.specs.Rotation.{Rotation, no_keys, in_order, without_key}
-use Rattle.wf_rota.specs.Cuts.{on}
+use Rattle.wf_rules.specs.Lists.{on}
 use Rattle.wf_rota.specs.declared.Side.{Side}
 use Rattle.wf_rota.specs.Lists.{lists_at, on_at, has_on}
 use Rattle.wf_rota.specs.Rotas.{Rotas, IsUnlisted}
-use Rattle.wf_rota.proofs.HasLemmas.{on_order-none}
-use Rattle.wf_rota.proofs.OnLemmas.{on-nil, on-append}
+use Rattle.wf_rule_laws.proofs.Lemmas.Counts.{on_order-none}
+use Rattle.wf_rule_laws.proofs.Lemmas.Counts.{on-nil, on-append}
 use Rattle.wf_backlog.specs.Backlog.{BacklogValue, frames_at, first_id, head_dropped, flushed}
 use Rattle.wf_flowq.specs.Flows.{FlowsValue, tids, queues, is_listed, is_listed_elsewhere, queue_for}
 use Rattle.wf_flowq.specs.Kept.{depth, IsKept, CanList, without_queue}

@@ -4,9 +4,9 @@ use Rattle.std.proofs.lemmas.List.{get_or-set_same, get_or-set_other}
 use Rattle.std.proofs.lemmas.Bool.{cases_eq, cases_lt}
 use Rattle.wf_frame.specs.Frames.{FrameValue}
 use Rattle.wf_rules.specs.Rotation.{Rotation, no_keys, in_order, add_new}
-use Rattle.wf_rota.specs.Cuts.{on}
+use Rattle.wf_rules.specs.Lists.{on}
 use Rattle.wf_rota.specs.Lists.{lists_at, on_at}
-use Rattle.wf_rota.proofs.OnLemmas.{on-nil, on-cons_same, on-cons_other, on-append}
+use Rattle.wf_rule_laws.proofs.Lemmas.Counts.{on-nil, on-cons_same, on-cons_other, on-append}
 use Rattle.wf_flowq.specs.Flows.{waiting}
 use Rattle.wf_flowq.specs.Kept.{depth, AreListed}
 use Rattle.wf_flowq.proofs.Waiting.{depth-set_other, waiting-set, waiting_same}

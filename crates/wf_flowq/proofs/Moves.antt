@@ -12,7 +12,7 @@ use Rattle.wf_rota.specs.declared.Side.{Side}
 use Rattle.wf_rota.specs.declared.Side.TheVariants.{New, Old}
 use Rattle.wf_rota.specs.Lists.{lists_at, on_at, has_on, side_of}
 use Rattle.wf_rota.specs.Rotas.{Rotas, deficit_at, quantum_at, IsUnlisted}
-use Rattle.wf_rota.proofs.HasLemmas.{on_order-none}
+use Rattle.wf_rule_laws.proofs.Lemmas.Counts.{on_order-none}
 use Rattle.wf_backlog.specs.Backlog.{BacklogValue, frames_at, held, with_frames, drops_at, taken}
 use Rattle.wf_flowq.specs.Flows.{FlowsValue, tids, queues, is_listed, is_listed_elsewhere, listed_queue}
 use Rattle.wf_flowq.specs.Kept.{depth, IsKept, CanList}

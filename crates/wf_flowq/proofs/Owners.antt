@@ -6,7 +6,7 @@ use Rattle.std.proofs.lemmas.Bool.{cases_eq, cases_lt, cases_Bool, ne_eqb, or_le
 use Rattle.std.proofs.Common.{eq-eqb}
 use Rattle.wf_rules.specs.Table.{count_from}
 use Rattle.wf_rota.specs.Lists.{lists_at, on_at}
-use Rattle.wf_rota.proofs.HasLemmas.{listed-some, listed-none}
+use Rattle.wf_rule_laws.proofs.Lemmas.Counts.{listed-some, listed-none}
 use Rattle.wf_flowq.specs.Flows.{FlowsValue, tids, is_listed, is_listed_elsewhere}
 
 pub any-from_some : (p : ℕ → Bool) (from n j : ℕ) → from ≤ j → j < from + n → p j ≡ true → list_any p (count_from from n) ≡ true

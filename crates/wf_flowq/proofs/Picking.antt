@@ -5,10 +5,10 @@ use Rattle.std.proofs.lemmas.Int.{ints}
 use Rattle.std.proofs.lemmas.List.{get_or-set_same, get_or-set_other}
 use Rattle.std.proofs.lemmas.Bool.{cases_eq, cases_lt, lt-ltb, ltb-true}
 use Rattle.wf_rules.specs.Rotation.{Rotation, no_keys, lists, in_order, need_of, Picked, pick}
-use Rattle.wf_rota.specs.Cuts.{on}
+use Rattle.wf_rules.specs.Lists.{on}
 use Rattle.wf_rota.specs.Lists.{lists_at, on_at}
 use Rattle.wf_rota.specs.Rotas.{Rotas, deficit_at, quantum_at, need_at, is_ready}
-use Rattle.wf_rota.proofs.HasLemmas.{listed-some}
+use Rattle.wf_rule_laws.proofs.Lemmas.Counts.{listed-some}
 use Rattle.wf_backlog.specs.Backlog.{frames_at}
 use Rattle.wf_flowq.specs.Flows.{FlowsValue, tids, is_listed, has_frames, picked, paid, after_pick, queued}
 use Rattle.wf_flowq.specs.Kept.{depth, flags, IsKept, IsPicked}

@@ -5,16 +5,16 @@ use Rattle.std.specs.List.{filter}
 use Rattle.std.proofs.lemmas.Int.{ints}
 use Rattle.std.proofs.lemmas.Bool.{cases_Bool, eqb-true, and_parts}
 use Rattle.wf_rules.specs.Table.{has}
-use Rattle.wf_rules.specs.Rotation.{Rotation, in_order, need_of, before, from, round, earlier, first_least, is_out, picked_now, picked_later, pick_later, pick_from, pick}
-use Rattle.wf_rota.specs.Cuts.{on}
-use Rattle.wf_rota.proofs.OnLemmas.{on-nil, on-cons, on-cons_other, on-append}
+use Rattle.wf_rules.specs.Rotation.{Rotation, in_order, need_of, before, from, round, first_of_two, first_least, is_out, picked_now, picked_later, pick_later, pick_from, pick}
+use Rattle.wf_rules.specs.Lists.{on}
+use Rattle.wf_rule_laws.proofs.Lemmas.Counts.{on-nil, on-first, on-cons_other, on-append}
 
 -- ---- counting
 
 pub on-filter : (p : ℕ → Bool) (xs : List ℕ) (y : ℕ) → p y ≡ true → on (filter p xs) y ≡ on xs y
 on-filter p [] y h = refl
 on-filter p (x ∷ xs) y h = elim (cases_Bool (p x)) [
-  | inl holds ↦ rw holds (omega (arith, on-cons x y (filter p xs), on-cons x y xs, on-filter p xs y h))
+  | inl holds ↦ rw holds (omega (arith, on-first x y (filter p xs), on-first x y xs, on-filter p xs y h))
   | inr fails ↦
       let other : x ≡ y → ⊥ = λ e. absurd (cc (ap p e)) in
       rw (fails, on-cons_other x y xs other) (on-filter p xs y h)
@@ -32,8 +32,8 @@ on-filter_out p (x ∷ xs) y h = elim (cases_Bool (p x)) [
 pub on-filter_le : (p : ℕ → Bool) (xs : List ℕ) (y : ℕ) → on (filter p xs) y ≤ on xs y
 on-filter_le p [] y = omega arith
 on-filter_le p (x ∷ xs) y = elim (cases_Bool (p x)) [
-  | inl holds ↦ rw holds (omega (arith, on-cons x y (filter p xs), on-cons x y xs, on-filter_le p xs y))
-  | inr fails ↦ rw fails (omega (arith, on-cons x y xs, on-filter_le p xs y))
+  | inl holds ↦ rw holds (omega (arith, on-first x y (filter p xs), on-first x y xs, on-filter_le p xs y))
+  | inr fails ↦ rw fails (omega (arith, on-first x y xs, on-filter_le p xs y))
 ]
 
 -- a list is what stands before a key and what stands from it on
@@ -57,7 +57,7 @@ least-none f (x ∷ xs) e = absurd (go (first_least f xs) e)
     some true z e = cc
     some false z e = cc
 
-    go : (o : Option ℕ) → earlier f x o ≡ None → ⊥
+    go : (o : Option ℕ) → first_of_two f x o ≡ None → ⊥
     go None e = cc
     go (Some z) e = some (nat_le (f x) (f z)) z e
 

@@ -7,10 +7,10 @@ use Rattle.std.proofs.lemmas.List.Elements.{filter-append}
 use Rattle.std.proofs.lemmas.Bool.{cases_eq, cases_lt, cases_Bool, ne_eqb, le-leb, lt-leb, cond-true, cond-false}
 use Rattle.wf_rules.specs.Table.{has, count_from, upto}
 use Rattle.wf_rules.specs.Rotation.{Rotation, no_keys, lists, in_order, without_key}
-use Rattle.wf_rota.specs.Cuts.{on}
+use Rattle.wf_rules.specs.Lists.{on}
 use Rattle.wf_rota.specs.Lists.{AreDisjoint, lists_at, on_at}
-use Rattle.wf_rota.proofs.OnLemmas.{on-cons, on-cons_same, on-append}
-use Rattle.wf_rota.proofs.HasLemmas.{on_order-none}
+use Rattle.wf_rule_laws.proofs.Lemmas.Counts.{on-first, on-cons_same, on-append}
+use Rattle.wf_rule_laws.proofs.Lemmas.Counts.{on_order-none}
 use Rattle.wf_backlog.specs.Backlog.{BacklogValue, flushed}
 use Rattle.wf_flowq.specs.Flows.{FlowsValue, tids, rotation, is_listed, queues, queues_of, all_flushed, purged}
 use Rattle.wf_flowq.specs.Kept.{IsKept, rest_from, without_queue, purged_below}
@@ -23,7 +23,7 @@ filter_agree : (p q : ℕ → Bool) (xs : List ℕ) → ((x : ℕ) → 0 < on xs
 filter_agree p q [] same = refl
 filter_agree p q (x ∷ xs) same =
     let here : p x ≡ q x = same x (omega (arith, on-cons_same x xs)) in
-    let rest : filter p xs ≡ filter q xs = filter_agree p q xs (λ y stands. same y (omega (arith, on-cons x y xs))) in
+    let rest : filter p xs ≡ filter q xs = filter_agree p q xs (λ y stands. same y (omega (arith, on-first x y xs))) in
     elim (cases_Bool (q x)) [
       | inl holds ↦ rw (here, holds) (ap (λ (t : List ℕ). x ∷ t) rest)
       | inr fails ↦ rw (here, fails) rest

@@ -6,8 +6,8 @@ use Rattle.std.proofs.lemmas.List.Sums.{sum_by-cons, sum_by_more}
 use Rattle.std.proofs.lemmas.Bool.{cases_eq, cases_lt}
 use Rattle.std.proofs.Math.Nat.{mul-le-mul_right}
 use Rattle.wf_frame.specs.Frames.{FrameValue}
-use Rattle.wf_rota.specs.Cuts.{on}
-use Rattle.wf_rota.proofs.OnLemmas.{on-nil, on-cons_same, on-cons_other}
+use Rattle.wf_rules.specs.Lists.{on}
+use Rattle.wf_rule_laws.proofs.Lemmas.Counts.{on-nil, on-cons_same, on-cons_other}
 use Rattle.wf_flowq.specs.Flows.{waiting}
 use Rattle.wf_flowq.specs.Kept.{depth}
 

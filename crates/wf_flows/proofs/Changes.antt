@@ -8,9 +8,9 @@ use Rattle.wf_frame.specs.declared.classes.Fate.{Fate}
 use Rattle.wf_frame.specs.Frames.{FrameValue}
 use Rattle.wf_rules.specs.Codel.{Codel, new_codel}
 use Rattle.wf_rules.specs.Rotation.{Rotation, no_keys, lists, in_order}
-use Rattle.wf_rota.specs.Cuts.{on}
+use Rattle.wf_rules.specs.Lists.{on}
 use Rattle.wf_rota.specs.Rotas.{deficit_at}
-use Rattle.wf_rota.proofs.OnLemmas.{on-nil}
+use Rattle.wf_rule_laws.proofs.Lemmas.Counts.{on-nil}
 use Rattle.wf_world.specs.World.{World, Queue, queue, accepted, on_queue, finish_all}
 use Rattle.wf_backlog.specs.Backlog.{BacklogValue, frames_at, item_of, settled}
 use Rattle.wf_flowq.specs.Flows.{FlowsValue, tid_number, queues as queue_count, rotation}

@@ -4,8 +4,8 @@ use Rattle.std.proofs.lemmas.List.{map-append, append-nil}
 use Rattle.std.proofs.lemmas.Bool.{cases_eq}
 use Rattle.wf_frame.specs.declared.classes.Fate.{Fate}
 use Rattle.wf_frame.specs.Frames.{FrameValue}
-use Rattle.wf_rota.specs.Cuts.{on}
-use Rattle.wf_rota.proofs.OnLemmas.{on-nil, on-cons, on-cons_same, on-cons_other, on-append}
+use Rattle.wf_rules.specs.Lists.{on}
+use Rattle.wf_rule_laws.proofs.Lemmas.Counts.{on-nil, on-first, on-cons_same, on-cons_other, on-append}
 use Rattle.wf_frame.specs.declared.notes.ReplyNote.TheVariants.{Reaped}
 use Rattle.wf_world.specs.World.{World, accepted, finish, finish_all}
 use Rattle.wf_world.specs.Step.{reaped}
@@ -23,7 +23,7 @@ pub other_fates : (frames : List FrameValue) (fates : ℕ → Fate) (id : ℕ) (
 other_fates [] fates id fate none = refl
 other_fates (f ∷ fs) fates id fate none = elim (cases_eq f.id id) [
   | inl e ↦ absurd (omega (arith, none, ap (λ (n : ℕ). on (n ∷ ids fs) id) e, on-cons_same id (ids fs)))
-  | inr other ↦ ap₂ (λ (x : Fate) (xs : List Fate). x ∷ xs) (upd_other fates id f.id fate other) (other_fates fs fates id fate (omega (arith, none, on-cons f.id id (ids fs))))
+  | inr other ↦ ap₂ (λ (x : Fate) (xs : List Fate). x ∷ xs) (upd_other fates id f.id fate other) (other_fates fs fates id fate (omega (arith, none, on-first f.id id (ids fs))))
 ]
 
 pub times_finished : (b : BacklogValue) (frames : List FrameValue) (id : ℕ) → times_held (record b { finished = b.finished ++ frames }) id ≡ times_held b id + on (ids frames) id
@@ -70,14 +70,14 @@ stands_finish_all (f ∷ fs) v p fate st low once =
     let here : on (ids (f ∷ fs)) f.id ≡ 1 + on (ids fs) f.id = on-cons_same f.id (ids fs) in
     let one : Stands w (finished_part p fate f.id) = stands_finish v p (settled fate f) st (low f.id (omega (arith, here))) (omega (arith, once f.id, here)) in
     subst (λ (l : List FrameValue). Stands (with_finished v l) (all_finished (finished_part p fate f.id) fate (ids fs))) (append_assoc v.backlog.finished (settled fate f ∷ []) (map (settled fate) fs))
-    (stands_finish_all fs w (finished_part p fate f.id) fate one (λ id h. low id (omega (arith, h, on-cons f.id id (ids fs))))
-    (λ id. omega (arith, once id, times_finished v.backlog (settled fate f ∷ []) id, on-cons f.id id (ids fs))))
+    (stands_finish_all fs w (finished_part p fate f.id) fate one (λ id h. low id (omega (arith, h, on-first f.id id (ids fs))))
+    (λ id. omega (arith, once id, times_finished v.backlog (settled fate f ∷ []) id, on-first f.id id (ids fs))))
 
 -- the first finished frame is reaped
 pub stands_reap : (v : FlowsValue) (p : Part) (f : FrameValue) (rest : List FrameValue) → Stands v p → v.backlog.finished ≡ f ∷ rest → Stands (with_finished v rest) (record p { finished = ids rest })
 stands_reap v p f rest st e =
     let all : map (λ (g : FrameValue). p.fates g.id) (f ∷ rest) ≡ map (λ (g : FrameValue). g.fate) (f ∷ rest) = subst (λ (l : List FrameValue). map (λ (g : FrameValue). p.fates g.id) l ≡ map (λ (g : FrameValue). g.fate) l) e st.fates in
-    let fewer : (id : ℕ) → times_held (record v.backlog { finished = rest }) id ≤ times_held v.backlog id = λ id. omega (arith, ap (λ (l : List FrameValue). on (ids l) id) e, on-cons f.id id (ids rest)) in
+    let fewer : (id : ℕ) → times_held (record v.backlog { finished = rest }) id ≤ times_held v.backlog id = λ id. omega (arith, ap (λ (l : List FrameValue). on (ids l) id) e, on-first f.id id (ids rest)) in
     record {
       sized = same_sizes v _ st.sized;
       settings = st.settings;

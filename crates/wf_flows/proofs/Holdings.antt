@@ -8,13 +8,12 @@ use Rattle.wf_frame.specs.declared.classes.Fate.TheVariants.{Dropped}
 use Rattle.wf_frame.specs.Frames.{FrameValue}
 use Rattle.wf_rules.specs.Table.{has, upto}
 use Rattle.wf_rules.specs.Codel.{Params}
-use Rattle.wf_rota.specs.Cuts.{on}
+use Rattle.wf_rules.specs.Lists.{on}
 use Rattle.wf_rota.specs.Rotas.{need_at}
-use Rattle.wf_rota.proofs.OnLemmas.{on-nil, on-cons}
-use Rattle.wf_picks.proofs.Members.{has_filter, has_head, has_tail}
+use Rattle.wf_rule_laws.proofs.Lemmas.Counts.{on-nil, on-first}
+use Rattle.wf_rule_laws.proofs.Lemmas.Members.{has_filter, has_head, has_tail}
 use Rattle.wf_backlog.specs.Backlog.{BacklogValue, frames_at, in_queues, settled, head_dropped, flushed, drops_at}
-use Rattle.wf_flowq.specs.Flows.{FlowsValue, tid_number, queues as queue_count, rotation, is_listed, has_frames, longest, within_limit, queue_for, listed_queue, appended, put, picked, after_pick, taken_from, queues_of, all_flushed, purged}
-use Rattle.wf_flowq.specs.Flows.{take as take_out}
+use Rattle.wf_flowq.specs.Flows.{FlowsValue, tid_number, queues as queue_count, rotation, is_listed, has_frames, longest, within_limit, queue_for, listed_queue, appended, put, picked, after_pick, taken_from, queues_of, all_flushed, purged, take as take_out}
 use Rattle.wf_flowq.proofs.Flags.{nothing_dropped}
 use Rattle.wf_flows.specs.Standing.{Part, ids, ids_given, times_held, with_finished, Stands}
 use Rattle.wf_flows.proofs.Ends.{on_ids-append, times_finished}
@@ -39,8 +38,8 @@ times_moved b q out left fate id low =
 split_at : (n : ℕ) (frames : List FrameValue) (id : ℕ) → on (ids frames) id ≡ on (ids (take n frames)) id + on (ids_given (slice_get frames n)) id + on (ids (drop (suc n) frames)) id
 split_at zero [] id = omega (arith, on-nil id)
 split_at (suc n) [] id = omega (arith, on-nil id)
-split_at zero (f ∷ fs) id = omega (arith, on-nil id, on-cons f.id id (ids fs))
-split_at (suc n) (f ∷ fs) id = omega (arith, on-cons f.id id (ids fs), on-cons f.id id (ids (take n fs)), split_at n fs id)
+split_at zero (f ∷ fs) id = omega (arith, on-nil id, on-first f.id id (ids fs))
+split_at (suc n) (f ∷ fs) id = omega (arith, on-first f.id id (ids fs), on-first f.id id (ids (take n fs)), split_at n fs id)
 
 times_flush : (b : BacklogValue) (q id : ℕ) → q < length b.queues → times_held (flushed b q) id ≡ times_held b id
 times_flush b q id low = omega (arith, times_moved b q (frames_at b q) [] (Dropped Left) id low, on-nil id)
@@ -59,7 +58,7 @@ times_dropped b q id (f ∷ rest) e low =
     let out : on (ids (take 1 (frames_at b q))) id ≡ on (f.id ∷ []) id = ap (λ (l : List FrameValue). on (ids (take 1 l)) id) e in
     let left : on (ids (drop 1 (frames_at b q))) id ≡ on (ids rest) id = ap (λ (l : List FrameValue). on (ids (drop 1 l)) id) e in
     let all : on (ids (frames_at b q)) id ≡ on (ids (f ∷ rest)) id = ap (λ (l : List FrameValue). on (ids l) id) e in
-    omega (arith, times_moved b q (take 1 (frames_at b q)) (drop 1 (frames_at b q)) (Dropped Overlimit) id (low (omega arith)), out, left, all, on-cons f.id id (ids rest))
+    omega (arith, times_moved b q (take 1 (frames_at b q)) (drop 1 (frames_at b q)) (Dropped Overlimit) id (low (omega arith)), out, left, all, on-first f.id id (ids rest))
 
 module _ (v : FlowsValue) (p : Part) (st : Stands v p) (id : ℕ) where
   times_within : times_held (within_limit v).backlog id ≡ times_held v.backlog id
@@ -119,4 +118,4 @@ pub times_finish : (v : FlowsValue) (id : ℕ) (f : FrameValue) → times_held (
 times_finish v id f = times_finished v.backlog (f ∷ []) id
 
 pub times_reap : (v : FlowsValue) (id : ℕ) (f : FrameValue) (rest : List FrameValue) → v.backlog.finished ≡ f ∷ rest → times_held (with_finished v rest).backlog id + on (f.id ∷ []) id ≡ times_held v.backlog id
-times_reap v id f rest e = omega (arith, ap (λ (l : List FrameValue). on (ids l) id) e, on-cons f.id id (ids rest))
+times_reap v id f rest e = omega (arith, ap (λ (l : List FrameValue). on (ids l) id) e, on-first f.id id (ids rest))

@@ -8,11 +8,10 @@ use Rattle.wf_frame.specs.declared.classes.Fate.{Fate}
 use Rattle.wf_frame.specs.declared.classes.Fate.TheVariants.{Dropped}
 use Rattle.wf_frame.specs.Frames.{FrameValue}
 use Rattle.wf_rules.specs.Codel.{Item, Codel, new_codel}
-use Rattle.wf_rota.specs.Cuts.{on}
+use Rattle.wf_rules.specs.Lists.{on}
 use Rattle.wf_rota.specs.Rotas.{deficit_at}
 use Rattle.wf_world.specs.World.{World, Queue, is_live, queue, accepted, on_queue, finish, finish_all, with_fate}
-use Rattle.wf_world.specs.FlowQueues.{total_queued, without_head}
-use Rattle.wf_world.specs.FlowQueues.{longest as world_longest, within_limit as world_within_limit}
+use Rattle.wf_world.specs.FlowQueues.{total_queued, without_head, longest as world_longest, within_limit as world_within_limit}
 use Rattle.wf_backlog.specs.Backlog.{BacklogValue, frames_at, codel_at, in_queues, item_of, settled, head_dropped}
 use Rattle.wf_flowq.specs.Flows.{FlowsValue, queues as queue_count, longest, within_limit}
 use Rattle.wf_flowq.proofs.Flags.{nothing_dropped}

@@ -12,8 +12,8 @@ use Rattle.wf_rules.specs.Rotation.{Rotation, no_keys, lists, in_order}
 use Rattle.wf_world.specs.World.{opening}
 use Rattle.wf_backlog.specs.Backlog.{frames_at, item_of}
 use Rattle.wf_flowq.specs.Flows.{rotation, empty_flows}
-use Rattle.wf_rota.specs.Cuts.{on}
-use Rattle.wf_rota.proofs.OnLemmas.{on-nil}
+use Rattle.wf_rules.specs.Lists.{on}
+use Rattle.wf_rule_laws.proofs.Lemmas.Counts.{on-nil}
 use Rattle.wf_flows.specs.Standing.{ids, times_held, StandsFor}
 
 -- all entries are the one that stands past the end too

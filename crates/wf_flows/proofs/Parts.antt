@@ -1,5 +1,5 @@
 -- The part of a world that the flow queues stand for, after each change of a world.
-use Rattle.std.proofs.Common.{◌≡◌, refl, ap, sym, ◌∙◌, arith, ℕ, zero, suc, ◌+◌, ◌*◌, ◌<◌, ◌==◌, pos, ◌+ℤ◌, true, if◌then◌else◌, List, [], ◌∷◌, ◌++◌, length, Option, Some, None, is_some, unwrap_or, option_map, inl, inr}
+use Rattle.std.proofs.Common.{◌≡◌, refl, ap, sym, ◌∙◌, arith, ℕ, zero, suc, ◌+◌, ◌*◌, ◌<◌, pos, ◌+ℤ◌, true, List, [], ◌∷◌, ◌++◌, length, Option, Some, None, is_some, unwrap_or, option_map, inl, inr}
 use Rattle.std.proofs.Math.Path.{fun_ext}
 use Rattle.std.proofs.lemmas.List.{length-append}
 use Rattle.std.proofs.lemmas.Bool.{cases_eq}
@@ -11,12 +11,11 @@ use Rattle.wf_rules.specs.Rotation.{Rotation}
 use Rattle.wf_world.specs.World.{World, Station, Tid, Queue, Frame, no_frame, no_tid, no_station, new_queue, queue, is_live, accepted, with_station, on_station, on_tid, with_queues, on_queue, with_fate, finish, finish_all}
 use Rattle.wf_world.specs.FlowQueues.{pay_queues}
 use Rattle.wf_world.specs.Step.{with_frame}
-use Rattle.wf_laws.proofs.Common.Sums.{length_put}
+use Rattle.wf_rule_laws.proofs.Lemmas.Sums.{length_put}
 use Rattle.wf_laws.proofs.Deficits.Books.{upd, upd_same, upd_other, upd_idle, put_upd}
-use Rattle.wf_laws.proofs.Common.Counts.{on as on_law}
+use Rattle.wf_rules.specs.Lists.{on}
 use Rattle.wf_laws.proofs.Queues.Shelves.{Shelves, paid_queue, shelves_pay_queues}
-use Rattle.wf_rota.specs.Cuts.{on}
-use Rattle.wf_rota.proofs.OnLemmas.{on-cons_same, on-cons}
+use Rattle.wf_rule_laws.proofs.Lemmas.Counts.{on-cons_same, on-first}
 use Rattle.wf_flows.specs.Standing.{Part, part}
 
 -- ---- stations
@@ -115,7 +114,7 @@ part_finish_all [] w fate low = refl
 part_finish_all (id ∷ ids) w fate low =
     let one : part (finish w fate id) ≡ finished_part (part w) fate id = part_finish w fate id (low id (omega (arith, on-cons_same id ids))) in
     let as_many : accepted (finish w fate id) ≡ accepted w = ap (λ (p : Part). p.accepted) one in
-    part_finish_all ids (finish w fate id) fate (λ k h. omega (arith, as_many, low k (omega (arith, h, on-cons id k ids)))) ∙ ap (λ (p : Part). all_finished p fate ids) one
+    part_finish_all ids (finish w fate id) fate (λ k h. omega (arith, as_many, low k (omega (arith, h, on-first id k ids)))) ∙ ap (λ (p : Part). all_finished p fate ids) one
 
 pub accepted_all : (ids : List ℕ) (p : Part) (fate : Fate) → (all_finished p fate ids).accepted ≡ p.accepted
 unfolding all_finished
@@ -123,11 +122,6 @@ accepted_all [] p fate = refl
 accepted_all (id ∷ ids) p fate = accepted_all ids (finished_part p fate id) fate
 
 -- ---- paying queues
-
-same_on : (qs : List ℕ) (q : ℕ) → on_law qs q ≡ on qs q
-unfolding on_law on
-same_on [] q = refl
-same_on (x ∷ qs) q = ap (λ (n : ℕ). (if x == q then 1 else 0) + n) (same_on qs q)
 
 paid_elsewhere : (qs : List ℕ) (w : World) (quanta : ℕ → ℕ) (g : ℕ → Queue) → record (part (pay_queues w quanta qs)) { queues = g } ≡ record (part w) { queues = g }
 unfolding pay_queues on_queue
@@ -138,5 +132,5 @@ paid_elsewhere (q ∷ qs) w quanta g = paid_elsewhere qs (on_queue w q (λ y. re
 pub part_pay_queues : (qs : List ℕ) (w : World) (quanta : ℕ → ℕ) → part (pay_queues w quanta qs) ≡ record (part w) { queues = λ q. paid_queue w.config.flow_quantum (on qs q * quanta q) (queue w q) }
 part_pay_queues qs w quanta =
     ap (λ (g : ℕ → Queue). record (part (pay_queues w quanta qs)) { queues = g })
-    (ap (λ (b : Shelves). b.queues) (shelves_pay_queues qs w quanta) ∙ fun_ext (λ q. ap (λ (n : ℕ). paid_queue w.config.flow_quantum (n * quanta q) (queue w q)) (same_on qs q)))
+    (ap (λ (b : Shelves). b.queues) (shelves_pay_queues qs w quanta))
     ∙ paid_elsewhere qs w quanta _

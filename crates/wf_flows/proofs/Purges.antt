@@ -9,10 +9,10 @@ use Rattle.wf_frame.specs.Frames.{FrameValue}
 use Rattle.wf_rules.specs.Table.{at, has, upto}
 use Rattle.wf_rules.specs.Codel.{Item, new_codel}
 use Rattle.wf_rules.specs.Rotation.{Rotation, no_keys, lists, in_order}
-use Rattle.wf_rota.specs.Cuts.{on}
+use Rattle.wf_rules.specs.Lists.{on}
 use Rattle.wf_rota.specs.Rotas.{deficit_at}
-use Rattle.wf_rota.proofs.OnLemmas.{on-nil}
-use Rattle.wf_picks.proofs.Members.{has_head, has_tail, has_filter}
+use Rattle.wf_rule_laws.proofs.Lemmas.Counts.{on-nil}
+use Rattle.wf_rule_laws.proofs.Lemmas.Members.{has_head, has_tail, has_filter}
 use Rattle.wf_world.specs.World.{World, Station, Queue, with_station, on_station, on_tid, no_station, no_tid, is_live, queue, tid_of, session, accepted, on_queue, with_queues, with_fate, finish, finish_all}
 use Rattle.wf_world.specs.FlowQueues.{purge_queue, purge_queues}
 use Rattle.wf_world.specs.Step.{held_slots, rising, left_tid}

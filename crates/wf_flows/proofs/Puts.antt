@@ -11,10 +11,10 @@ use Rattle.wf_frame.specs.declared.notes.ReplyNote.TheVariants.{Accepted}
 use Rattle.wf_frame.specs.Frames.{FrameValue}
 use Rattle.wf_rules.specs.Codel.{Item, Codel, new_codel}
 use Rattle.wf_rules.specs.Rotation.{Rotation, lists, in_order, add_new}
-use Rattle.wf_rota.specs.Cuts.{on}
+use Rattle.wf_rules.specs.Lists.{on}
 use Rattle.wf_rota.specs.Rotas.{deficit_at}
-use Rattle.wf_rota.proofs.OnLemmas.{on-nil, on-cons_same, on-cons_other, on-append}
-use Rattle.wf_rota.proofs.HasLemmas.{listed-some, listed-none, on_order-none}
+use Rattle.wf_rule_laws.proofs.Lemmas.Counts.{on-nil, on-cons_same, on-cons_other, on-append}
+use Rattle.wf_rule_laws.proofs.Lemmas.Counts.{listed-some, listed-none, on_order-none}
 use Rattle.wf_world.specs.World.{World, Queue, is_live, tid_of, accepted, on_queue, with_queues}
 use Rattle.wf_world.specs.FlowQueues.{within_limit as world_within_limit, queue_for as world_queue_for, listed_queue as world_listed_queue, appended as world_appended, put_in as world_put_in}
 use Rattle.wf_world.specs.Step.{with_frame, enqueued}

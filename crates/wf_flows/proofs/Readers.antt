@@ -11,12 +11,11 @@ use Rattle.wf_rules.specs.Table.{at, has, upto, count_from}
 use Rattle.wf_rules.specs.Codel.{Item, octets}
 use Rattle.wf_rules.specs.Rotation.{Rotation, lists, in_order}
 use Rattle.wf_world.specs.World.{World, Station, Queue, new_queue, no_tid, no_station, queue, tid_of, is_live, live_stations}
-use Rattle.wf_world.specs.FlowQueues.{longest_after, total_queued, head_id}
-use Rattle.wf_world.specs.FlowQueues.{queued as world_queued, longest as world_longest, is_listed_elsewhere as world_listed_elsewhere, queue_for as world_queue_for, dropped_for_limit as world_dropped}
+use Rattle.wf_world.specs.FlowQueues.{longest_after, total_queued, head_id, queued as world_queued, longest as world_longest, is_listed_elsewhere as world_listed_elsewhere, queue_for as world_queue_for, dropped_for_limit as world_dropped}
 use Rattle.wf_backlog.specs.Backlog.{frames_at, in_queues, item_of, first_id}
 use Rattle.wf_flowq.specs.Flows.{FlowsValue, SettingsValue, tid_number, tids, rotation, is_listed, queued, as_queue, longest, dropped_for_limit, is_listed_elsewhere, queue_for}
-use Rattle.wf_laws.proofs.Common.Numbers.{same_bool, either, eq_yes}
-use Rattle.wf_picks.proofs.Members.{has_filter}
+use Rattle.wf_rule_laws.proofs.Lemmas.Numbers.{same_bool, either, eq_yes}
+use Rattle.wf_rule_laws.proofs.Lemmas.Members.{has_filter}
 use Rattle.wf_flows.specs.Standing.{StandsFor}
 
 -- ---- counts

@@ -5,8 +5,8 @@ use Rattle.std.proofs.lemmas.Bool.{cases_Bool, cases_eq, ne_eqb, lt-ltb, le-ltb}
 use Rattle.wf_rules.specs.Table.{has, count_from, upto, with_member}
 use Rattle.wf_rules.specs.Rotation.{Rotation, lists, in_order}
 use Rattle.wf_world.specs.Step.{rising}
-use Rattle.wf_laws.proofs.Common.Numbers.{same_bool, or_left, or_right}
-use Rattle.wf_picks.proofs.Picks.{listed_in, in_listed}
+use Rattle.wf_rule_laws.proofs.Lemmas.Numbers.{same_bool, or_left, or_right}
+use Rattle.wf_rule_laws.proofs.Lemmas.Picks.{listed_in, in_listed}
 
 -- two tests that agree from a number on
 filter_same : (n from : ℕ) (p q : ℕ → Bool) → ((k : ℕ) → from ≤ k → p k ≡ q k) → filter p (count_from from n) ≡ filter q (count_from from n)

@@ -10,20 +10,17 @@ use Rattle.wf_rules.specs.Table.{at, change}
 use Rattle.wf_rules.specs.Airtime.{Rate, is_slow}
 use Rattle.wf_rules.specs.Codel.{Codel, Params, Dequeued, dequeued_after, drops, state_after, dequeue}
 use Rattle.wf_rules.specs.Rotation.{Rotation, lists, in_order}
-use Rattle.wf_rota.specs.Cuts.{on}
+use Rattle.wf_rules.specs.Lists.{on}
 use Rattle.wf_rota.specs.Rotas.{deficit_at, need_at}
-use Rattle.wf_rota.proofs.OnLemmas.{on-cons}
-use Rattle.wf_rota.proofs.HasLemmas.{listed-some, listed-none}
-use Rattle.wf_picks.specs.Renamed.{IsSame}
-use Rattle.wf_world.specs.World.{World, Station, Queue, no_station, no_tid, is_live, queue, station, tid_of, params, accepted, on_queue, with_queues, finish_all}
-use Rattle.wf_world.specs.World.{with_station, on_station, on_tid}
-use Rattle.wf_world.specs.FlowQueues.{pay_queues, len_given, picked_queue}
-use Rattle.wf_world.specs.FlowQueues.{Taken as World_taken, dequeued as world_dequeued, taken_from as world_taken_from, take as world_take}
+use Rattle.wf_rule_laws.proofs.Lemmas.Counts.{on-first}
+use Rattle.wf_rule_laws.proofs.Lemmas.Counts.{listed-some, listed-none}
+use Rattle.wf_rule_laws.specs.Renamed.{IsSame}
+use Rattle.wf_world.specs.World.{World, Station, Queue, no_station, no_tid, is_live, queue, station, tid_of, params, accepted, on_queue, with_queues, finish_all, with_station, on_station, on_tid}
+use Rattle.wf_world.specs.FlowQueues.{pay_queues, len_given, picked_queue, Taken as World_taken, dequeued as world_dequeued, taken_from as world_taken_from, take as world_take}
 use Rattle.wf_backlog.specs.Backlog.{frames_at, codel_at, item_of, settled, dequeued, drops_at, given_at}
-use Rattle.wf_flowq.specs.Flows.{FlowsValue, SettingsValue, Taken, tid_number, queues as queue_count, rotation, has_frames, picked, paid, after_pick, length_given, taken_from}
-use Rattle.wf_flowq.specs.Flows.{take as take_out}
+use Rattle.wf_flowq.specs.Flows.{FlowsValue, SettingsValue, Taken, tid_number, queues as queue_count, rotation, has_frames, picked, paid, after_pick, length_given, taken_from, take as take_out}
 use Rattle.wf_flowq.proofs.Picks.{on-picked_le}
-use Rattle.wf_laws.proofs.Common.Tables.{at_put_same}
+use Rattle.wf_rule_laws.proofs.Lemmas.Tables.{at_put_same}
 use Rattle.wf_laws.proofs.Queues.Shelves.{paid_queue}
 use Rattle.wf_flows.specs.Standing.{Part, part, ids, with_finished, Stands, StandsFor}
 use Rattle.wf_flows.proofs.Parts.{accepted_all, part_with_queues, part_pay_queues}
@@ -177,7 +174,7 @@ length_is (Some f) = refl
 fewer_left : (m : ℕ) (frames : List FrameValue) (id : ℕ) → on (ids (drop (suc m) frames)) id ≤ on (ids (drop m frames)) id
 fewer_left zero [] id = omega arith
 fewer_left (suc m) [] id = omega arith
-fewer_left zero (f ∷ fs) id = omega (arith, on-cons f.id id (ids fs))
+fewer_left zero (f ∷ fs) id = omega (arith, on-first f.id id (ids fs))
 fewer_left (suc m) (f ∷ fs) id = fewer_left m fs id
 
 -- the flow queues stand for the world that a take leaves, and the frame is the world's item

@@ -7,7 +7,7 @@ use Rattle.wf_frame.specs.declared.settings.Config.{Config}
 use Rattle.wf_frame.specs.declared.classes.Fate.{Fate}
 use Rattle.wf_frame.specs.Frames.{FrameValue}
 use Rattle.wf_rules.specs.Rotation.{Rotation, lists as lists_of, in_order}
-use Rattle.wf_rota.specs.Cuts.{on}
+use Rattle.wf_rules.specs.Lists.{on}
 use Rattle.wf_rota.specs.Rotas.{deficit_at, quantum_at}
 use Rattle.wf_world.specs.World.{World, Queue, tid_of, queue, frame, accepted}
 use Rattle.wf_backlog.specs.Backlog.{BacklogValue, frames_at, codel_at, item_of}

@@ -26,7 +26,7 @@ ghost use Rattle.wf_world.specs.FlowQueues.{queued as world_queued, longest as w
 ghost use Rattle.wf_world.specs.CanSend.{listed};
 ghost use Rattle.wf_world.specs.Exchanges.{after_pick, after_turn};
 ghost use Rattle.wf_world.specs.Step.{held_slots, rising, joined, left_tid, off_lists, enqueued, reaped};
-ghost use Rattle.wf_rota.specs.Cuts.{on};
+ghost use Rattle.wf_rules.specs.Lists.{on};
 ghost use Rattle.wf_backlog.specs.Backlog.{in_queues, item_of};
 ghost use Rattle.wf_flowq.specs.Flows.{FlowsValue, empty_flows, tid_number, rotation, queued, longest, dropped_for_limit, is_listed_elsewhere, queue_for, put, take, purged};
 ghost use Rattle.wf_flows.specs.Standing.{part, ids_given, times_held, with_finished, StandsFor};

@@ -4,6 +4,7 @@ use Rattle.wf_frame.specs.declared.settings.Config.{Config}
 use Rattle.wf_frame.specs.Settings.{IsInRange}
 use Rattle.wf_world.specs.Run.{Entry}
 use Rattle.wf_laws.specs.Laws.{Laws}
+use Rattle.wf_rule_laws.proofs.Lemmas.Turns.{turn_law}
 use Rattle.wf_laws.proofs.Windows.Law.{window_law}
 use Rattle.wf_laws.proofs.Windows.Answers.{answer_law}
 use Rattle.wf_laws.proofs.Releases.Named.{release_law}
@@ -37,6 +38,7 @@ laws config h range = record {
   deficits = deficits config h range;
   quiet = quiet config h range;
   fairness = fairness config h range;
+  turns = turn_law;
   twelve_bits = twelve_bit_law config h;
   queues = queue_law config h range;
   queue_deficits = queue_deficit_law config h range;

@@ -1,8 +1,2 @@
--- What any of the laws may use: tables and sums over them, lists put together, counts in lists, rising lists of numbers, what a dequeue leaves, and a history cut at its moments.
-pub mod Tables
-pub mod Sums
-pub mod Joined
-pub mod Counts
-pub mod Numbers
-pub mod Dequeues
+-- What any of the laws may use: a history cut at its moments. Lemmas over the definitions of wf_rules alone stand in wf_rule_laws.
 pub mod Moments

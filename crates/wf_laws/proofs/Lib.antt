@@ -9,13 +9,11 @@
 --   range_law                                   Ranges (Law)
 --   deficit_law, quiet_law, number_law          Deficits (Law, Quiet, Numbers)
 --   fairness_law                                Fairness (Law)
---   turn_law                                    Pick (TurnLaw)
 --
 -- Each law is an invariant of worlds or a relation between a world and a later one. A lemma for each part of a call, named after that part, keeps it; then the call by cases
 -- (.._done), the refusal (.._refused), the answer (.._answer), the step (.._step) and the run (.._run).
 pub mod Common
 pub mod Sessions
-pub mod Pick
 pub mod Windows
 pub mod Releases
 pub mod Frames

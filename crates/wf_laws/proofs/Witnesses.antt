@@ -2,4 +2,3 @@
 pub mod Airtime
 pub mod Releases
 pub mod Places
-pub mod Turns

@@ -1,6 +1,7 @@
 -- All laws of a history together. Each speaks of the worlds after each of its entries.
 use Rattle.std.specs.Prelude.{List}
 use Rattle.wf_frame.specs.declared.settings.Config.{Config}
+use Rattle.wf_rules.specs.Loop.{TurnLaw}
 use Rattle.wf_world.specs.Run.{Entry}
 use Rattle.wf_laws.specs.Windows.{WindowLaw}
 use Rattle.wf_laws.specs.Answers.{AnswerLaw}
@@ -36,6 +37,8 @@ pub record Laws (config : Config) (history : List Entry) : Type 0 where
   pub deficits : DeficitLaw config history
   pub quiet : QuietLaw config history
   pub fairness : FairnessLaw config history
+  -- the pick in closed form is the paper's loop, turn by turn
+  pub turns : TurnLaw
   -- what code with 12-bit numbers and with linked queues goes by
   pub twelve_bits : TwelveBitLaw config history
   pub queues : QueueLaw config history

@@ -1,4 +1,3 @@
-pub mod Lists
 pub mod Windows
 pub mod TwelveBits
 pub mod Answers
@@ -6,7 +5,6 @@ pub mod Releases
 pub mod Delivery
 pub mod Fates
 pub mod Deficits
-pub mod Turns
 pub mod Queues
 pub mod Laws
 pub mod Places

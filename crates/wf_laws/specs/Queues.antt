@@ -9,7 +9,7 @@ use Rattle.wf_world.specs.World.{World, tid_of, queue, frame, is_live}
 use Rattle.wf_world.specs.FlowQueues.{overflow_queue}
 use Rattle.wf_world.specs.Run.{Entry}
 use Rattle.wf_world.specs.Stretches.{world_at}
-use Rattle.wf_laws.specs.Lists.{IsOnce, IsRising}
+use Rattle.wf_rules.specs.Lists.{IsOnce, IsRising}
 
 abbrev pub EachItem : (Item → Type 0) → List Item → Type 0
 EachItem P [] = Unit {0}

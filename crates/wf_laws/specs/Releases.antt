@@ -14,7 +14,7 @@ use Rattle.wf_world.specs.Exchanges.{ids_of}
 use Rattle.wf_world.specs.Step.{Outcome, step}
 use Rattle.wf_world.specs.Run.{Entry}
 use Rattle.wf_world.specs.Stretches.{world_at}
-use Rattle.wf_laws.specs.Lists.{IsRising, IsOnce}
+use Rattle.wf_rules.specs.Lists.{IsRising, IsOnce}
 
 -- whether a call asks that station s joins
 abbrev pub joins : ℕ → Note → Bool

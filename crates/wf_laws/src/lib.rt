@@ -20,7 +20,6 @@ ghost use Rattle.wf_laws.specs.Ranges.{RangeLaw};
 ghost use Rattle.wf_laws.specs.Releases.{OnceLaw, ReleaseLaw};
 ghost use Rattle.wf_laws.specs.Room.{LimitLaw, RoomLaw};
 ghost use Rattle.wf_laws.specs.Tallies.{TallyLaw};
-ghost use Rattle.wf_laws.specs.Turns.{TurnLaw};
 ghost use Rattle.wf_laws.specs.TwelveBits.{TwelveBitLaw};
 ghost use Rattle.wf_laws.specs.Windows.{WindowLaw};
 
@@ -95,11 +94,6 @@ pub fn quiet_law()
 /// Two stations that stay on one class's old list, with no receive charge, are charged alike, each by its weight.
 pub fn fairness_law()
     ensures { (config : Config) → (history : List Entry) → IsInRange config → FairnessLaw config history }
-{}
-
-/// The pick in closed form is the loop's: a turn of the loop that does not end it leaves the pick as it was.
-pub fn turn_law()
-    ensures { TurnLaw }
 {}
 
 /// All numbers of one agreement that are ever compared lie within 2047 of each other, so their low twelve bits compare as the whole numbers do.

@@ -3,7 +3,8 @@ use Rattle.std.proofs.Common.{◌≡◌, ℕ, ◌*◌, ◌/◌, ◌%◌, ◌<◌
 use Rattle.std.proofs.lemmas.Bool.{cases_lt}
 use Rattle.std.proofs.lemmas.List.{get_or-take, get_or-replicate, length-replicate, length-take-le, same_lists, take_all}
 use Rattle.std.specs.Int.{bit_at}
-use Rattle.wf_bits.specs.Offsets.{IsOffsets, has, offsets_in}
+use Rattle.wf_rules.specs.Table.{has}
+use Rattle.wf_bits.specs.Offsets.{IsOffsets, offsets_in}
 use Rattle.wf_bits.proofs.Sets.{has_not_above, rises_wider, same_members}
 use Rattle.wf_bits.proofs.Words.{offsets_in_are_offsets, has-offsets_in}
 use Rattle.wf_score.specs.Board.{Board}

@@ -116,14 +116,14 @@ fn is_out<K: Keys>(
     keys: &K,
     rotation: &Rotation,
     winner: u64,
-    turn: u64,
+    round_won: u64,
     key: u64,
 ) -> Result<bool, Fault>
-    ensures { IfOk result (λ b. b ≡ is_out (K.need keys.now) (K.ready keys.now) rotation.now winner turn key) }
+    ensures { IfOk result (λ b. b ≡ is_out (K.need keys.now) (K.ready keys.now) rotation.now winner round_won key) }
 {
     let ready = keys.ready(key)?;
     let round = round(keys, rotation, key)?;
-    let seen = rotation.old_visits(alloc, winner, turn, key)?;
+    let seen = rotation.old_visits(alloc, winner, round_won, key)?;
     Ok(!ready && round.max(1) <= seen)
 }
 
@@ -132,16 +132,16 @@ fn kept<K: Keys>(
     keys: &K,
     rotation: &Rotation,
     winner: u64,
-    turn: u64,
+    round_won: u64,
     list: &[u64],
 ) -> Result<Vec<u64>, Fault>
-    ensures { IfOk result (λ v. v.items ≡ filter (λ key. not (is_out (K.need keys.now) (K.ready keys.now) rotation.now winner turn key)) list.now) }
+    ensures { IfOk result (λ v. v.items ≡ filter (λ key. not (is_out (K.need keys.now) (K.ready keys.now) rotation.now winner round_won key)) list.now) }
 {
     match list.split_first() {
         None => Ok(Vec::new(alloc)),
         Some((key, rest)) => {
-            let more = kept(alloc, keys, rotation, winner, turn, rest)?;
-            if is_out(alloc, keys, rotation, winner, turn, *key)? {
+            let more = kept(alloc, keys, rotation, winner, round_won, rest)?;
+            if is_out(alloc, keys, rotation, winner, round_won, *key)? {
                 Ok(more)
             } else {
                 in_front(*key, more)
@@ -197,20 +197,23 @@ fn quanta_later<K: Keys>(
     keys: &K,
     rotation: &Rotation,
     winner: u64,
-    turn: u64,
+    round_won: u64,
     list: &[u64],
 ) -> Result<Vec<u64>, Fault>
-    ensures { IfOk result (λ v. v.items ≡ map (λ key. if key == winner then K.need keys.now key else (if lists rotation.now key then min (visits rotation.now winner turn key) (K.need keys.now key) else 0)) list.now) }
+    ensures { IfOk result (λ v. v.items ≡ map (λ key. if key == winner then K.need keys.now key else (if lists rotation.now key then min (visits rotation.now winner round_won key) (K.need keys.now key) else 0)) list.now) }
 {
     match list.split_first() {
         None => Ok(Vec::new(alloc)),
         Some((key, rest)) => {
-            let more = quanta_later(alloc, keys, rotation, winner, turn, rest)?;
+            let more = quanta_later(alloc, keys, rotation, winner, round_won, rest)?;
             let need = keys.need(*key)?;
             if *key == winner {
                 in_front(need, more)
             } else if rotation.lists(*key) {
-                in_front(rotation.visits(alloc, winner, turn, *key)?.min(need), more)
+                in_front(
+                    rotation.visits(alloc, winner, round_won, *key)?.min(need),
+                    more,
+                )
             } else {
                 in_front(0, more)
             }
@@ -253,9 +256,9 @@ fn later_lists<K: Keys>(
     keys: &K,
     rotation: &Rotation,
     winner: u64,
-    turn: u64,
+    round_won: u64,
 ) -> Result<Rotation, Fault>
-    ensures { IfOk result (λ v. v ≡ (picked_later (K.need keys.now) (K.ready keys.now) rotation.now winner turn).lists) }
+    ensures { IfOk result (λ v. v ≡ (picked_later (K.need keys.now) (K.ready keys.now) rotation.now winner round_won).lists) }
 {
     let in_turn = rotation.in_order(alloc)?;
     let turned = joined(
@@ -265,7 +268,7 @@ fn later_lists<K: Keys>(
     )?;
     Ok(Rotation {
         fresh: Vec::new(alloc),
-        aged: kept(alloc, keys, rotation, winner, turn, &turned)?,
+        aged: kept(alloc, keys, rotation, winner, round_won, &turned)?,
     })
 }
 
@@ -274,19 +277,19 @@ fn picked_later<K: Keys>(
     keys: &K,
     rotation: &Rotation,
     winner: u64,
-    turn: u64,
+    round_won: u64,
 ) -> Result<Picked, Fault>
-    ensures { IfOk result (λ p. IsChoice (picked_later (K.need keys.now) (K.ready keys.now) rotation.now winner turn) rotation.now p.winner p.lists p.quanta.items) }
+    ensures { IfOk result (λ p. IsChoice (picked_later (K.need keys.now) (K.ready keys.now) rotation.now winner round_won) rotation.now p.winner p.lists p.quanta.items) }
 {
     Ok(Picked {
         winner: Some(winner),
-        lists: later_lists(alloc, keys, rotation, winner, turn)?,
+        lists: later_lists(alloc, keys, rotation, winner, round_won)?,
         quanta: quanta_later(
             alloc,
             keys,
             rotation,
             winner,
-            turn,
+            round_won,
             &rotation.in_order(alloc)?,
         )?,
     })

@@ -104,15 +104,15 @@ impl Rotation {
         &self,
         alloc: Global,
         winner: u64,
-        turn: u64,
+        round_won: u64,
         key: u64,
     ) -> Result<u64, Fault>
-        ensures { IfOk result (λ r. r ≡ old_visits self.now winner turn key) }
+        ensures { IfOk result (λ r. r ≡ old_visits self.now winner round_won key) }
     {
         if has(&before(alloc, winner, &self.in_order(alloc)?)?, key) {
-            Ok(turn)
+            Ok(round_won)
         } else {
-            Ok(turn.saturating_sub(1))
+            Ok(round_won.saturating_sub(1))
         }
     }
 
@@ -120,13 +120,13 @@ impl Rotation {
         &self,
         alloc: Global,
         winner: u64,
-        turn: u64,
+        round_won: u64,
         key: u64,
     ) -> Result<u64, Fault>
-        ensures { IfOk result (λ r. r ≡ visits self.now winner turn key) }
+        ensures { IfOk result (λ r. r ≡ visits self.now winner round_won key) }
     {
         sum(
-            self.old_visits(alloc, winner, turn, key)?,
+            self.old_visits(alloc, winner, round_won, key)?,
             if has(&self.fresh, key) { 1 } else { 0 },
         )
     }

@@ -1,3 +1,1 @@
-mod DropLemmas
 mod Roots
-mod SameDequeue

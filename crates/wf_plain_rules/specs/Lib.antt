@@ -1,2 +1,2 @@
-pub mod Loop
+pub mod Roots
 pub mod States

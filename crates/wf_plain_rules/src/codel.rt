@@ -1,12 +1,25 @@
 //! CoDel (RFC 8289) on one queue, frame by frame.
 
 ghost use Rattle.std.specs.Prelude.{◌≡◌, ◌+◌, ◌*◌, ◌-◌, ◌/◌, ℕ, true, false, IfOk};
-ghost use Rattle.wf_plain_rules.specs.Loop.{dequeue_dropping, dequeue_plain, dropping_first, giving, root_of, stepped};
+ghost use Rattle.wf_rules.specs.CodelLoop.{dequeue_dropping, dequeue_plain, dropping_first, giving, stepped};
+ghost use Rattle.wf_plain_rules.specs.Roots.{root_of};
 ghost use Rattle.wf_rules.specs.Codel.{begin_dropping, dequeue, first_count, law, look_at, new_codel, octets, rise, step_of};
 
 use std::alloc::Global;
 use std::marker::Model;
 use wf_plain_lists::{Fault, in_front, product, sum};
+
+/// The most octets left behind a frame that is not dropped for its wait (MAXPACKET).
+const MAX_PACKET: u64 = 2304;
+
+/// The greatest count of drops.
+const GREATEST_COUNT: u64 = 4_294_967_295;
+
+/// For how many intervals after a drop the next drops go on at the rate that they had.
+const RECENT_INTERVALS: u64 = 16;
+
+/// The binary digits with which a step of the control law is computed.
+const ROOT_DIGITS: u64 = 64;
 
 /// A queued frame: its number, the clock when it was accepted, and the length of its body.
 #[derive(Clone, Copy)]
@@ -156,8 +169,8 @@ pub fn octets(items: &[Item]) -> Result<u64, Fault>
     }
 }
 
-/// The greatest root of so many binary digits.
-#[tactic(auto, unfolding(crate::specs::Loop::root_of), using(crate::proofs::Roots::root_of_step))]
+/// The whole root of a number below 4^digits.
+#[tactic(auto, unfolding(crate::specs::Roots::root_of), using(crate::proofs::Roots::root_of_step))]
 fn root(digits: u64, number: u64) -> Result<u64, Fault>
     ensures { IfOk result (λ r. r ≡ root_of digits number) }
 {
@@ -181,7 +194,7 @@ fn step_of(interval: u64, count: u64) -> Result<u64, Fault>
         return Err(Fault::TooLarge);
     }
     let square = product(interval, interval)?;
-    let step = root(64, square / count)?;
+    let step = root(ROOT_DIGITS, square / count)?;
     Ok(step)
 }
 
@@ -195,7 +208,7 @@ fn law(params: &Params, time: u64, count: u64) -> Result<u64, Fault>
 fn rise(count: u64) -> Result<u64, Fault>
     ensures { IfOk result (λ r. r ≡ rise count) }
 {
-    Ok(sum(count, 1)?.min(4294967295))
+    Ok(sum(count, 1)?.min(GREATEST_COUNT))
 }
 
 fn look_at(params: &Params, now: u64, above: u64, items: &[Item]) -> Result<Look, Fault>
@@ -208,7 +221,7 @@ fn look_at(params: &Params, now: u64, above: u64, items: &[Item]) -> Result<Look
         }),
         Some((first, rest)) => {
             let octets = octets(rest)?;
-            if now.saturating_sub(first.stamp()) < params.target || octets <= 2304 {
+            if now.saturating_sub(first.stamp()) < params.target || octets <= MAX_PACKET {
                 Ok(Look {
                     first_above: 0,
                     ok: false,
@@ -314,7 +327,9 @@ impl Codel {
         ensures { IfOk result (λ r. r ≡ first_count params.now now self.now) }
     {
         let since = self.count.saturating_sub(self.last_count);
-        if 1 < since && now.saturating_sub(self.drop_next) < product(16, params.interval)? {
+        if 1 < since
+            && now.saturating_sub(self.drop_next) < product(RECENT_INTERVALS, params.interval)?
+        {
             Ok(since)
         } else {
             Ok(1)
@@ -334,7 +349,7 @@ impl Codel {
         })
     }
 
-    #[tactic(auto, unfolding(crate::specs::Loop::dequeue_dropping))]
+    #[tactic(auto, unfolding(wf_rules::specs::CodelLoop::dequeue_dropping))]
     fn dequeue_dropping(
         &self,
         alloc: Global,
@@ -364,7 +379,7 @@ impl Codel {
         }
     }
 
-    #[tactic(auto, unfolding(crate::specs::Loop::dequeue_plain))]
+    #[tactic(auto, unfolding(wf_rules::specs::CodelLoop::dequeue_plain))]
     fn dequeue_plain(
         &self,
         alloc: Global,
@@ -389,7 +404,7 @@ impl Codel {
         }
     }
 
-    #[tactic(auto, unfolding(crate::specs::Loop::stepped))]
+    #[tactic(auto, unfolding(wf_rules::specs::CodelLoop::stepped))]
     fn stepped(
         &self,
         alloc: Global,
@@ -407,7 +422,7 @@ impl Codel {
     }
 
     /// Takes a frame from a queue, and drops those before it that CoDel drops.
-    #[tactic(auto, using(crate::proofs::SameDequeue::same_dequeue))]
+    #[tactic(auto, using(wf_rule_laws::proofs::Lemmas::Stepped::same_dequeue))]
     pub fn dequeue(
         &self,
         alloc: Global,

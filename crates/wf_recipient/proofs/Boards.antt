@@ -4,8 +4,8 @@ use Rattle.std.proofs.lemmas.Bool.{cases_eq, cases_lt, eq-eqb, ne_eqb, le-leb, l
 use Rattle.wf_rules.specs.Table.{has, with_member}
 use Rattle.wf_rules.specs.Receiver.{Receiver, with_arrived, with_start, score_start, score}
 use Rattle.wf_seq12.specs.Distance.{distance}
-use Rattle.wf_bits.specs.Offsets.{RisesBetween, with_offset, moved_down}
-use Rattle.wf_bits.proofs.Sets.{same_members, has-with_offset, rises-with_offset, has-moved_down, rises-moved_down, rises_wider}
+use Rattle.wf_bits.specs.Offsets.{RisesBetween, moved_down}
+use Rattle.wf_bits.proofs.Sets.{same_members, has-with_member, rises-with_member, has-moved_down, rises-moved_down, rises_wider}
 use Rattle.wf_score.specs.Board.{Board, with_arrived as board_with, moved_on, after_arrival, arrived, after_request, requested}
 use Rattle.wf_recipient.specs.Half.{board_of, IsOrderly, IsInReach, IsRequestInReach}
 use Rattle.wf_recipient.proofs.Comparisons.{distance_ahead, distance_back, moved_start}
@@ -19,12 +19,12 @@ rises_down end s xs r = rises_wider (0 - s) (end - s) 0 (end - s) (moved_down s 
 
 -- an offset more, put in before or after the move
 put_down : (end n s : ℕ) (xs : List ℕ) → s ≤ n → n < end → RisesBetween 0 end xs →
-    with_offset (n - s) (moved_down s xs) ≡ moved_down s (with_member n xs)
+    with_member (n - s) (moved_down s xs) ≡ moved_down s (with_member n xs)
 put_down end n s xs low high r =
-    same_members 0 0 (end - s) (end - s) (with_offset (n - s) (moved_down s xs)) (moved_down s (with_member n xs))
-    (rises-with_offset 0 (end - s) (n - s) (moved_down s xs) (omega arith) (omega arith) (rises_down end s xs r))
+    same_members 0 0 (end - s) (end - s) (with_member (n - s) (moved_down s xs)) (moved_down s (with_member n xs))
+    (rises-with_member 0 (end - s) (n - s) (moved_down s xs) (omega arith) (omega arith) (rises_down end s xs r))
     (rises_down end s (with_member n xs) (rises-with end n xs high r))
-    (λ i. has-with_offset (n - s) (moved_down s xs) i ∙ ap₂ (λ (a b : Bool). a || b) (places i) (has-moved_down s xs i)
+    (λ i. has-with_member (n - s) (moved_down s xs) i ∙ ap₂ (λ (a b : Bool). a || b) (places i) (has-moved_down s xs i)
     ∙ sym (has-moved_down s (with_member n xs) i ∙ has-with n xs (i + s)))
   where
     places : (i : ℕ) → (n - s == i) ≡ (n == i + s)
@@ -74,7 +74,7 @@ after_inside : (end w s n d : ℕ) (xs : List ℕ) → RisesBetween 0 end xs →
     after_arrival d (board_at w s xs) ≡ board_at w s (with_member n xs)
 after_inside end w s n d xs r high e low inside =
     arrived_inside d (board_at w s xs) inside
-    ∙ ap (λ (os : List ℕ). record { start = s % 4096; size = w; offsets = os }) (ap (λ (k : ℕ). with_offset k (moved_down s xs)) e ∙ put_down end n s xs low high r)
+    ∙ ap (λ (os : List ℕ). record { start = s % 4096; size = w; offsets = os }) (ap (λ (k : ℕ). with_member k (moved_down s xs)) e ∙ put_down end n s xs low high r)
 
 -- past it: the window moves so that the number is its last
 after_jump : (end w s t n d : ℕ) (xs : List ℕ) → RisesBetween 0 end xs → n < end → d ≡ n - s → s ≤ n → w ≤ d → d ≤ 2047 → 1 ≤ w → t ≡ suc n - w →
@@ -86,9 +86,9 @@ after_jump end w s t n d xs r high e low past near some f =
     starts : (s % 4096 + (d + 1 - w)) % 4096 ≡ t % 4096
     starts = moved_start s (d + 1 - w) ∙ ap (λ (k : ℕ). k % 4096) (omega arith)
 
-    offsets : with_offset (w - 1) (moved_down (d + 1 - w) (moved_down s xs)) ≡ moved_down t (with_member n xs)
+    offsets : with_member (w - 1) (moved_down (d + 1 - w) (moved_down s xs)) ≡ moved_down t (with_member n xs)
     offsets =
-        ap₂ with_offset (omega arith) (down_twice end (d + 1 - w) s xs r ∙ ap (λ (k : ℕ). moved_down k xs) (omega arith))
+        ap₂ with_member (omega arith) (down_twice end (d + 1 - w) s xs r ∙ ap (λ (k : ℕ). moved_down k xs) (omega arith))
         ∙ put_down end n t xs (omega arith) high r
 
 pub board_takes : (r : Receiver) (n : ℕ) → IsOrderly r → IsInReach r n → arrived (n % 4096) (board_of r) ≡ board_of (with_arrived n r)

@@ -1,11 +1,9 @@
 -- A receive half and the receiver that it stands for: the laws.
 use Rattle.std.proofs.Common.{◌≡◌, ℕ, ◌+◌, ◌-◌, ◌%◌, ◌≤◌, true, List, [], map, Option, None, Some, refl, sym, ◌∙◌, ap, ap₂, inl, inr, arith}
 use Rattle.std.proofs.lemmas.Bool.{cases_Bool}
-use Rattle.wf_rules.specs.Table.{has}
+use Rattle.wf_rules.specs.Table.{has, word_of}
 use Rattle.wf_rules.specs.Receiver.{Receiver, new_receiver, with_arrived, with_start, release_start, score_start, released_between, score, word}
 use Rattle.wf_seq12.specs.Distance.{distance}
-use Rattle.wf_bits.specs.Offsets.{has as has_offset}
-use Rattle.wf_bits.specs.Offsets.{word_of}
 use Rattle.wf_bits.proofs.Sets.{has-moved_down}
 use Rattle.wf_score.specs.Board.{Board, empty_board}
 use Rattle.wf_score.specs.Board.{arrived as board_arrived}
@@ -106,10 +104,10 @@ answer_words ids r board buffer k s = ap (λ (b : Board). word_of k b.offsets) s
 
 pub shown_arrived : (ids : ℕ → ℕ) (r : Receiver) (board : Board) (buffer : Buffer) (n : ℕ) → StandsFor ids r board buffer → score_start r ≤ n →
     n ≤ score_start r + 2047 →
-    has_offset board.offsets (distance (n % 4096) board.start) ≡ has r.arrived n
+    has board.offsets (distance (n % 4096) board.start) ≡ has r.arrived n
 shown_arrived ids r board buffer n s low high =
-    ap (λ (b : Board). has_offset b.offsets (distance (n % 4096) b.start)) s.scoreboard
-    ∙ ap₂ has_offset (offsets-down r s.receiver) (distance_ahead n (score_start r) low high)
+    ap (λ (b : Board). has b.offsets (distance (n % 4096) b.start)) s.scoreboard
+    ∙ ap₂ has (offsets-down r s.receiver) (distance_ahead n (score_start r) low high)
     ∙ has-moved_down (score_start r) r.arrived (n - score_start r)
     ∙ ap (has r.arrived) (omega (arith, low))
 

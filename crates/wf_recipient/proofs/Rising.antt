@@ -3,12 +3,12 @@ use Rattle.std.proofs.Common.{◌≡◌, ℕ, zero, suc, ◌+◌, ◌-◌, ◌<�
 use Rattle.std.proofs.lemmas.Bool.{cases_eq, cases_lt, or_left, or_right, eq-eqb, ne_eqb, eqb-true, le-leb, lt-leb, lt-ltb, le-ltb, both_ways}
 use Rattle.wf_rules.specs.Table.{has, with_member, count_from}
 use Rattle.wf_bits.specs.Offsets.{RisesBetween, moved_down}
-use Rattle.wf_bits.proofs.Sets.{has_from, has_not_below, has_not_above, rises_wider, same_members, has-with_offset, rises-with_offset}
+use Rattle.wf_bits.proofs.Sets.{has_from, has_not_below, has_not_above, rises_wider, same_members, has-with_member, rises-with_member}
 
 -- ---- a member more
 
 pub has-with : (n : ℕ) (xs : List ℕ) (k : ℕ) → has (with_member n xs) k ≡ ((n == k) || has xs k)
-has-with n xs k = has-with_offset n xs k
+has-with n xs k = has-with_member n xs k
 
 pub has_new : (n : ℕ) (xs : List ℕ) → has (with_member n xs) n ≡ true
 has_new n xs = has-with n xs n ∙ or_left (n == n) (has xs n) (eq-eqb n n refl)
@@ -20,7 +20,7 @@ pub has_other : (n : ℕ) (xs : List ℕ) (k : ℕ) → (n ≡ k → ⊥) → ha
 has_other n xs k h = has-with n xs k ∙ ap (λ (b : Bool). b || has xs k) (ne_eqb n k h)
 
 pub rises-with : (end n : ℕ) (xs : List ℕ) → n < end → RisesBetween 0 end xs → RisesBetween 0 end (with_member n xs)
-rises-with end n xs high r = rises-with_offset 0 end n xs (omega arith) high r
+rises-with end n xs high r = rises-with_member 0 end n xs (omega arith) high r
 
 -- a member that the set has already
 pub with_known : (end n : ℕ) (xs : List ℕ) → RisesBetween 0 end xs → has xs n ≡ true → with_member n xs ≡ xs

@@ -8,10 +8,9 @@
 #![tactic(auto)]
 
 ghost use Rattle.std.specs.Prelude.{◌≡◌, ℕ, ◌+◌, ◌%◌, ◌≤◌, true, map, Some, None, if◌then◌else◌};
-ghost use Rattle.wf_rules.specs.Table.{has};
+ghost use Rattle.wf_rules.specs.Table.{has, word_of};
 ghost use Rattle.wf_rules.specs.Receiver.{Receiver, new_receiver, with_arrived, with_start, score_start, released_between, score, word};
 ghost use Rattle.wf_seq12.specs.Distance.{distance};
-ghost use Rattle.wf_bits.specs.Offsets.{has as has_offset, word_of};
 ghost use Rattle.wf_score.specs.Board.{Board, empty_board, arrived as board_arrived, requested as board_requested};
 ghost use Rattle.wf_reorder.specs.Buffer.{Buffer, empty_buffer, arrived as buffer_arrived, requested as buffer_requested};
 ghost use Rattle.wf_recipient.specs.Half.{StandsFor, IsInReach, IsRequestInReach, ComparesRight, ComparesBoth};
@@ -73,7 +72,7 @@ pub fn the_answer_is_the_score()
     ensures words { (ids : ℕ → ℕ) (r : Receiver) (board : Board) (buffer : Buffer) (k : ℕ) → StandsFor ids r board buffer →
         word_of k board.offsets ≡ word (score r) k }
     ensures shown { (ids : ℕ → ℕ) (r : Receiver) (board : Board) (buffer : Buffer) (n : ℕ) → StandsFor ids r board buffer →
-        score_start r ≤ n → n ≤ score_start r + 2047 → has_offset board.offsets (distance (n % 4096) board.start) ≡ has r.arrived n }
+        score_start r ≤ n → n ≤ score_start r + 2047 → has board.offsets (distance (n % 4096) board.start) ≡ has r.arrived n }
 {}
 
 /// Only the ids of numbers that arrived matter: a half stands for its receiver also where other numbers carry other ids,

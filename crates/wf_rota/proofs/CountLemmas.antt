@@ -2,11 +2,11 @@
 use Rattle.std.proofs.Common.{◌≡◌, ℕ, zero, suc, ◌+◌, ◌<◌, ◌≤◌, List, [], ◌∷◌, length, refl, sym, subst, inl, inr, arith}
 use Rattle.std.proofs.lemmas.Bool.{cases_eq}
 use Rattle.wf_rules.specs.Rotation.{Rotation, in_order}
-use Rattle.wf_rota.specs.Cuts.{on}
+use Rattle.wf_rules.specs.Lists.{on}
 use Rattle.wf_rota.specs.Lists.{AllLists, AreDisjoint, lists_at, keys_at, side_of}
 use Rattle.wf_rota.specs.declared.Side.{Side}
 use Rattle.wf_rota.specs.declared.Side.TheVariants.{New, Old}
-use Rattle.wf_rota.proofs.OnLemmas.{on-nil, on-cons, on-cons_same, on-cons_other, on-append}
+use Rattle.wf_rule_laws.proofs.Lemmas.Counts.{on-nil, on-first, on-cons_same, on-cons_other, on-append}
 
 -- numbers below n of which no two are equal are at most n
 total : ℕ → List ℕ → ℕ
@@ -43,7 +43,7 @@ total-le (suc n) xs once = omega (arith, once n, total-le n xs once)
 length_is_total : (n : ℕ) (xs : List ℕ) → ((k : ℕ) → 0 < on xs k → k < n) → length xs ≡ total n xs
 length_is_total n [] low = sym (total-nil n)
 length_is_total n (x ∷ xs) low =
-    let rest : length xs ≡ total n xs = length_is_total n xs (λ k stands. low k (omega (arith, on-cons x k xs))) in
+    let rest : length xs ≡ total n xs = length_is_total n xs (λ k stands. low k (omega (arith, on-first x k xs))) in
     omega (arith, total-cons n x xs (low x (omega (arith, on-cons_same x xs))), rest)
 
 pub few : (n : ℕ) (xs : List ℕ) → ((k : ℕ) → on xs k ≤ 1) → ((k : ℕ) → 0 < on xs k → k < n) → length xs ≤ n

@@ -4,7 +4,7 @@ use Rattle.std.proofs.lemmas.List.{get_or-set_same, get_or-set_other, set_past, 
 use Rattle.std.proofs.lemmas.Int.{ints}
 use Rattle.std.proofs.lemmas.Bool.{cases_eq, cases_lt}
 use Rattle.wf_rules.specs.Rotation.{Rotation, no_keys, in_order}
-use Rattle.wf_rota.specs.Cuts.{on}
+use Rattle.wf_rules.specs.Lists.{on}
 use Rattle.std.specs.Prelude.{ℤ, pos, negsuc, ◌≤ℤ◌, ◌<ℤ◌}
 use Rattle.wf_rota.specs.Lists.{AllLists, AreDisjoint, lists_at, side_of, with_side, keys_at, with_keys, first_of, rest_of, IsOff}
 use Rattle.wf_rota.specs.Rotas.{deficit_at, quantum_at}
@@ -12,7 +12,7 @@ use Rattle.wf_rota.specs.Homes.{IsHome, home_at, AreKept}
 use Rattle.wf_rota.specs.declared.Side.{Side}
 use Rattle.wf_rota.specs.declared.Side.TheVariants.{New, Old}
 use Rattle.wf_rota.specs.declared.rota.Home.{Home}
-use Rattle.wf_rota.proofs.OnLemmas.{on-nil, on-cons_same, on-cons_other, on-append}
+use Rattle.wf_rule_laws.proofs.Lemmas.Counts.{on-nil, on-cons_same, on-cons_other, on-append}
 use Rattle.wf_rota.proofs.ListsLemmas.{first_is, taken_unlisted, keys_at-with}
 
 -- a list on which a key stands as often as before

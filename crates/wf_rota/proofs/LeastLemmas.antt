@@ -2,8 +2,9 @@
 use Rattle.std.proofs.Common.{◌≡◌, ℕ, ◌<◌, ◌≤◌, Bool, true, false, ◌&&◌, ltb, List, [], ◌∷◌, ◌++◌, Option, Some, None, refl, sym, ap, ◌∙◌, subst, inl, inr, arith, leb}
 use Rattle.std.proofs.lemmas.Bool.{cases_Bool, cases_eq, cases_lt, le-leb, lt-leb, lt-ltb, le-ltb, and_parts, and_right}
 use Rattle.std.specs.Prelude.{if◌then◌else◌}
-use Rattle.wf_rota.proofs.OnLemmas.{on-nil, on-cons, on-cons_same, on-cons_other, on-append}
-use Rattle.wf_rota.specs.Cuts.{on, Cut, better, least}
+use Rattle.wf_rule_laws.proofs.Lemmas.Counts.{on-nil, on-first, on-cons_same, on-cons_other, on-append}
+use Rattle.wf_rules.specs.Lists.{on}
+use Rattle.wf_rota.specs.Cuts.{Cut, better, least}
 
 pub least-nil : (ready : ℕ → Bool) (order : ℕ → ℕ) → least ready order [] ≡ None
 unfolding least
@@ -86,7 +87,7 @@ pub least-agree : (ready : ℕ → Bool) (f g : ℕ → ℕ) (xs : List ℕ) →
 unfolding least
 least-agree ready f g [] same = refl
 least-agree ready f g (y ∷ ys) same =
-    let rest : least ready f ys ≡ least ready g ys = least-agree ready f g ys (λ z stands is. same z (omega (arith, on-cons y z ys)) is) in
+    let rest : least ready f ys ≡ least ready g ys = least-agree ready f g ys (λ z stands is. same z (omega (arith, on-first y z ys)) is) in
     rw rest (go (least ready g ys) refl)
   where
     go : (o : Option Cut) → least ready g ys ≡ o → better ready f y ys o ≡ better ready g y ys o
@@ -95,7 +96,7 @@ least-agree ready f g (y ∷ ys) same =
       | inl h ↦
           let at_y : f y ≡ g y = same y (omega (arith, on-cons_same y ys)) h in
           let on_ys : 0 < on ys d.key = least-stands ready g ys d was in
-          let at_d : f d.key ≡ g d.key = same d.key (omega (arith, on-cons y d.key ys)) (least-cut ready g ys d was).1 in
+          let at_d : f d.key ≡ g d.key = same d.key (omega (arith, on-first y d.key ys)) (least-cut ready g ys d was).1 in
           rw (at_y, at_d)
       | inr h ↦ rw h
     ]
@@ -164,14 +165,14 @@ least-past ready order [] ys c high none is = is
 least-past ready order (x ∷ xs) ys c high none is =
     let some : 0 < order x = high x (omega (arith, on-cons_same x xs)) in
     let above : order c.key < order x = omega arith in
-    rw (least-past ready order xs ys c (λ z stands. high z (omega (arith, on-cons x z xs))) none is)
+    rw (least-past ready order xs ys c (λ z stands. high z (omega (arith, on-first x z xs))) none is)
     (better-later ready order x (xs ++ ys) (record { before = xs ++ c.before; key = c.key; after = c.after }) (and_right _ _ (lt-leb _ _ above)))
 
 -- and so, where the winner of both has order 0, they all stand before it
 pub least-from_past : (ready : ℕ → Bool) (order : ℕ → ℕ) (xs ys : List ℕ) (c : Cut) → ((z : ℕ) → 0 < on xs z → 0 < order z) → order c.key ≡ 0 → least ready order (xs ++ ys) ≡ Some c → (front : List ℕ) × (c.before ≡ xs ++ front)
 unfolding least
 least-from_past ready order [] ys c high none is = (c.before, refl)
-least-from_past ready order (x ∷ xs) ys c high none is = go (least ready order (xs ++ ys)) (λ (d : Cut). least-from_past ready order xs ys d (λ z stands. high z (omega (arith, on-cons x z xs)))) is
+least-from_past ready order (x ∷ xs) ys c high none is = go (least ready order (xs ++ ys)) (λ (d : Cut). least-from_past ready order xs ys d (λ z stands. high z (omega (arith, on-first x z xs)))) is
   where
     some : 0 < order x
     some = high x (omega (arith, on-cons_same x xs))

@@ -1,4 +1,3 @@
-pub mod OnLemmas
 pub mod LeastLemmas
 pub mod CountLemmas
 pub mod ListsLemmas

@@ -3,14 +3,14 @@ use Rattle.std.proofs.Common.{◌≡◌, ℕ, zero, suc, ◌+◌, ◌*◌, ◌/�
 use Rattle.wf_rules.specs.Rotation.{Rotation, no_keys, in_order}
 use Rattle.std.proofs.lemmas.List.{get_or-set_same, get_or-set_other, get_or_past, ext_get_or}
 use Rattle.std.proofs.lemmas.Bool.{cases_eq, cases_lt, lt-ltb, le-ltb, ne_eqb}
-use Rattle.wf_rota.specs.Cuts.{on}
+use Rattle.wf_rules.specs.Lists.{on}
 use Rattle.wf_rota.specs.Links.{at, walk, Leads, EndsWith, chain, Chains, AreLinks, chain_lists, all_chains, slot_of}
 use Rattle.wf_rota.specs.Lists.{first_of, rest_of, lists_at, keys_at, with_side, with_keys, on_at, AreDisjoint, IsOff}
 use Rattle.wf_rota.specs.declared.Side.{Side}
 use Rattle.wf_rota.specs.declared.Side.TheVariants.{New, Old}
 use Rattle.std.specs.List.{range_with_len}
 use Rattle.std.proofs.lemmas.List.FromFn.{get_or-map-range_with_len, length-map-range_with_len}
-use Rattle.wf_rota.proofs.OnLemmas.{on-nil, on-cons, on-cons_same, on-cons_other, on-append}
+use Rattle.wf_rule_laws.proofs.Lemmas.Counts.{on-nil, on-first, on-cons_same, on-cons_other, on-append}
 use Rattle.wf_rota.proofs.CountLemmas.{few}
 use Rattle.wf_rota.proofs.ListsLemmas.{first_is}
 
@@ -39,7 +39,7 @@ unfolding Leads
 leads-set_other next h [] k v none l = rw length-set l
 leads-set_other next h (x ∷ xs) k v none l =
     let other : x ≡ k → ⊥ = λ e. let here : on (x ∷ xs) k ≡ 1 + on xs k = subst (λ (m : ℕ). on (x ∷ xs) m ≡ 1 + on xs m) e (on-cons_same x xs) in omega arith in
-    (l.0, rw length-set l.1, rw (get_or-set_other next k x v 0 other) (leads-set_other next (at next x) xs k v (omega (arith, on-cons x k xs)) l.2))
+    (l.0, rw length-set l.1, rw (get_or-set_other next k x v 0 other) (leads-set_other next (at next x) xs k v (omega (arith, on-first x k xs)) l.2))
 
 -- one more key at the end of a chain: its last key t leads to k, where the chain ends
 pub leads-put : (next : List ℕ) (h : ℕ) (ys : List ℕ) (t k : ℕ) → on ys t ≡ 0 → on ys k ≡ 0 → (t ≡ k → ⊥) → k < length next → length next ≤ at next k →
@@ -49,7 +49,7 @@ leads-put next h [] t k none_t none_k apart low ended l =
     (l.0, rw length-set l.1, rw (get_or-set_same next t k 0 l.1) (refl, rw length-set low, rw (length-set, get_or-set_other next t k k 0 (λ e. apart (sym e))) ended))
 leads-put next h (y ∷ ys) t k none_t none_k apart low ended l =
     let other : y ≡ t → ⊥ = λ e. let here : on (y ∷ ys) t ≡ 1 + on ys t = subst (λ (m : ℕ). on (y ∷ ys) m ≡ 1 + on ys m) e (on-cons_same y ys) in omega arith in
-    (l.0, rw length-set l.1, rw (get_or-set_other next t y k 0 other) (leads-put next (at next y) ys t k (omega (arith, on-cons y t ys)) (omega (arith, on-cons y k ys)) apart low ended l.2))
+    (l.0, rw length-set l.1, rw (get_or-set_other next t y k 0 other) (leads-put next (at next y) ys t k (omega (arith, on-first y t ys)) (omega (arith, on-first y k ys)) apart low ended l.2))
 
 -- a list that is not empty ends with its last key
 pub ends-front : (x : ℕ) (xs : List ℕ) (t : ℕ) → EndsWith (x ∷ xs) t → (ys : List ℕ) × (x ∷ xs ≡ ys ++ t ∷ [])
@@ -132,7 +132,7 @@ taken next heads tails lists slot x xs ok there low is = record {
   where
     fewer : (s k : ℕ) → on (with_slot (chain next heads) slot xs s) k ≤ on (chain next heads s) k
     fewer s k = elim (cases_eq s slot) [
-      | inl e ↦ rw (with_slot-here (chain next heads) slot xs s e, e, is) (omega (arith, on-cons x k xs))
+      | inl e ↦ rw (with_slot-here (chain next heads) slot xs s e, e, is) (omega (arith, on-first x k xs))
       | inr other ↦ rw (with_slot-other (chain next heads) slot xs s other) (omega arith)
     ]
 
@@ -242,7 +242,7 @@ unfolding Leads
 leads-join next h g t [] zs none low l m = (l.0, rw length-set l.1, rw (get_or-set_same next t g 0 low) m)
 leads-join next h g t (y ∷ ys) zs none low l m =
     let other : y ≡ t → ⊥ = λ e. let here : on (y ∷ ys) t ≡ 1 + on ys t = subst (λ (k : ℕ). on (y ∷ ys) k ≡ 1 + on ys k) e (on-cons_same y ys) in omega arith in
-    (l.0, rw length-set l.1, rw (get_or-set_other next t y g 0 other) (leads-join next (at next y) g t ys zs (omega (arith, on-cons y t ys)) low l.2 m))
+    (l.0, rw length-set l.1, rw (get_or-set_other next t y g 0 other) (leads-join next (at next y) g t ys zs (omega (arith, on-first y t ys)) low l.2 m))
 
 -- a chain is cut after a key
 pub leads-cut : (next : List ℕ) (h p n : ℕ) (ys zs : List ℕ) → on ys p ≡ 0 → length next ≤ n → Leads next h (ys ++ p ∷ zs) → Leads (set next p n) h (ys ++ p ∷ [])
@@ -250,7 +250,7 @@ unfolding Leads
 leads-cut next h p n [] zs none past l = (l.0, rw length-set l.1, rw (length-set, get_or-set_same next p n 0 l.1) past)
 leads-cut next h p n (y ∷ ys) zs none past l =
     let other : y ≡ p → ⊥ = λ e. let here : on (y ∷ ys) p ≡ 1 + on ys p = subst (λ (k : ℕ). on (y ∷ ys) k ≡ 1 + on ys k) e (on-cons_same y ys) in omega arith in
-    (l.0, rw length-set l.1, rw (get_or-set_other next p y n 0 other) (leads-cut next (at next y) p n ys zs (omega (arith, on-cons y p ys)) past l.2))
+    (l.0, rw length-set l.1, rw (get_or-set_other next p y n 0 other) (leads-cut next (at next y) p n ys zs (omega (arith, on-first y p ys)) past l.2))
 
 -- the part of a chain from a key on
 pub leads-from : (next : List ℕ) (h p : ℕ) (ys zs : List ℕ) → Leads next h (ys ++ p ∷ zs) → Leads next p (p ∷ zs)

@@ -3,11 +3,11 @@ use Rattle.std.proofs.Common.{◌≡◌, ℕ, ◌+◌, ◌<◌, List, [], ◌∷
 use Rattle.wf_rules.specs.Rotation.{Rotation, no_keys, in_order}
 use Rattle.std.proofs.lemmas.List.{get_or-set_same, get_or-set_other, get_or_past, set-get_or, set-set}
 use Rattle.std.proofs.lemmas.Bool.{cases_eq, cases_lt}
-use Rattle.wf_rota.specs.Cuts.{on}
+use Rattle.wf_rules.specs.Lists.{on}
 use Rattle.wf_rota.specs.Lists.{AllLists, lists_at, side_of, with_side, keys_at, with_keys, on_at, IsOff, AreDisjoint, first_of, rest_of}
 use Rattle.wf_rota.specs.declared.Side.{Side}
 use Rattle.wf_rota.specs.declared.Side.TheVariants.{New, Old}
-use Rattle.wf_rota.proofs.OnLemmas.{on-cons_same, on-append}
+use Rattle.wf_rule_laws.proofs.Lemmas.Counts.{on-cons_same, on-append}
 
 pub first_is : (ks : List ℕ) (key : ℕ) → first_of ks ≡ Some key → ks ≡ key ∷ rest_of ks
 first_is [] key h = cc

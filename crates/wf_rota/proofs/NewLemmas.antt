@@ -3,9 +3,9 @@ use Rattle.std.proofs.Common.{◌≡◌, ℕ, zero, suc, ◌+◌, ◌*◌, ◌<�
 use Rattle.std.proofs.lemmas.List.{get_or-replicate, length-replicate, ext_get_or}
 use Rattle.std.proofs.lemmas.Bool.{le-ltb}
 use Rattle.wf_rules.specs.Rotation.{no_keys}
-use Rattle.wf_rota.specs.Cuts.{on}
+use Rattle.wf_rules.specs.Lists.{on}
 use Rattle.wf_rota.specs.Links.{at, walk, Leads, EndsWith, chain, AreLinks, chain_lists, all_chains}
-use Rattle.wf_rota.proofs.OnLemmas.{on-nil}
+use Rattle.wf_rule_laws.proofs.Lemmas.Counts.{on-nil}
 use Rattle.wf_rota.proofs.LinkLemmas.{at_chain, length-all_chains}
 
 walk-end : (n : ℕ) (next : List ℕ) (from : ℕ) → length next ≤ from → walk n next from ≡ []

@@ -1,14 +1,13 @@
 -- One more key of a pass.
 use Rattle.std.proofs.Common.{◌≡◌, ℕ, ◌+◌, ◌-◌, ◌*◌, ◌<◌, ◌≤◌, min, Bool, true, false, cond, ltb, ◌&&◌, List, [], ◌∷◌, ◌++◌, length, get_or, take, drop, set, Option, Some, None, refl, sym, ap, ◌∙◌, subst, inl, inr, arith, length-append, append_assoc, length-set}
-use Rattle.std.specs.Prelude.{ℤ, pos}
+use Rattle.std.specs.Prelude.{ℤ, pos, IfSome}
 use Rattle.std.specs.List.{filter}
-use Rattle.std.specs.Prelude.{IfSome}
 use Rattle.std.proofs.lemmas.Int.{ints}
 use Rattle.std.proofs.lemmas.List.{append-nil, take-append-drop, take_more, drop_more, drop_all, get_or_append_left, get_or-append_right, get_or-set_same, get_or-set_other, set-get_or, set-set}
 use Rattle.std.proofs.lemmas.List.Elements.{filter-append}
 use Rattle.std.proofs.lemmas.Bool.{cases_eq, cases_lt, lt-ltb, le-ltb}
 use Rattle.wf_rules.specs.Rotation.{Rotation, no_keys, in_order, need_of}
-use Rattle.wf_rota.specs.Cuts.{on}
+use Rattle.wf_rules.specs.Lists.{on}
 use Rattle.wf_rota.specs.Lists.{AllLists, AreDisjoint, lists_at, side_of, with_side, keys_at, first_of, rest_of}
 use Rattle.wf_rota.specs.Rotas.{Rotas, deficit_at, quantum_at, need_at, is_ready}
 use Rattle.wf_rota.specs.Pass.{raised, side_at, share_of, passed_first, left_alone, passed_olds, way, SharesAre, lists_after, HasPassed, passed_key, last_after, last_of, place_in}
@@ -18,7 +17,7 @@ use Rattle.wf_rota.specs.declared.pass.Course.{Course}
 use Rattle.wf_rota.specs.declared.pass.Course.TheVariants.{Nobody, AtOnce, Later}
 use Rattle.wf_rota.specs.declared.pass.Share.{Share}
 use Rattle.wf_rota.proofs.ListsLemmas.{taken_below}
-use Rattle.wf_rota.proofs.OnLemmas.{on-nil, on-cons_same, on-cons_other, on-append}
+use Rattle.wf_rule_laws.proofs.Lemmas.Counts.{on-nil, on-cons_same, on-cons_other, on-append}
 
 -- a key, where it is kept
 abbrev kept : Bool → ℕ → List ℕ

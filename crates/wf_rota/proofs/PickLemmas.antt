@@ -5,10 +5,11 @@ use Rattle.std.specs.Option.{option_map}
 use Rattle.std.specs.List.{filter}
 use Rattle.std.proofs.lemmas.List.{append_cancel_left}
 use Rattle.std.proofs.lemmas.Bool.{cases_eq, cases_Bool, both_ways, leb-true, leb-false, ne_eqb, and_parts, and_cases}
-use Rattle.wf_rules.specs.Rotation.{Rotation, in_order, before, from, round, earlier, first_least, none_ready, picked_now, picked_later, pick}
-use Rattle.wf_rota.specs.Cuts.{Cut, better, on, least}
-use Rattle.wf_rota.proofs.OnLemmas.{on-nil, on-cons, on-cons_same, on-cons_other, on-append}
-use Rattle.wf_rota.proofs.HasLemmas.{has-none, has-some}
+use Rattle.wf_rules.specs.Rotation.{Rotation, in_order, before, from, round, first_of_two, first_least, none_ready, picked_now, picked_later, pick}
+use Rattle.wf_rota.specs.Cuts.{Cut, better, least}
+use Rattle.wf_rules.specs.Lists.{on}
+use Rattle.wf_rule_laws.proofs.Lemmas.Counts.{on-nil, on-first, on-cons_same, on-cons_other, on-append}
+use Rattle.wf_rule_laws.proofs.Lemmas.Counts.{on-hasnot, on-has}
 use Rattle.wf_rota.proofs.LeastLemmas.{least-cut, least-none, least-from_past, better-none_ready, better-not_ready, better-first, better-later}
 
 -- no ready key has a smaller order than the cut's, and none before it the same
@@ -66,7 +67,7 @@ first_least_is ready order (y ∷ ys) = elim (cases_Bool (ready y)) [
   | inr h ↦ rw (h, first_least_is ready order ys) (skip h (least ready order ys))
 ]
   where
-    go : ready y ≡ true → (o : Option Cut) → earlier order y (option_map (λ c. c.key) o) ≡ option_map (λ c. c.key) (better ready order y ys o)
+    go : ready y ≡ true → (o : Option Cut) → first_of_two order y (option_map (λ c. c.key) o) ≡ option_map (λ c. c.key) (better ready order y ys o)
     go h None = rw h refl
     go h (Some c) = rw h (choose (leb (order y) (order c.key)) c)
       where
@@ -80,15 +81,15 @@ first_least_is ready order (y ∷ ys) = elim (cases_Bool (ready y)) [
 
 find_none : (p : ℕ → Bool) (xs : List ℕ) → ((y : ℕ) → 0 < on xs y → p y ≡ false) → find p xs ≡ None
 find_none p [] fails = refl
-find_none p (x ∷ xs) fails = rw (fails x (omega (arith, on-cons_same x xs))) (find_none p xs (λ y stands. fails y (omega (arith, on-cons x y xs))))
+find_none p (x ∷ xs) fails = rw (fails x (omega (arith, on-cons_same x xs))) (find_none p xs (λ y stands. fails y (omega (arith, on-first x y xs))))
 
 find_first : (p : ℕ → Bool) (xs : List ℕ) (k : ℕ) (ys : List ℕ) → ((y : ℕ) → 0 < on xs y → p y ≡ false) → p k ≡ true → find p (xs ++ k ∷ ys) ≡ Some k
 find_first p [] k ys fails here = rw here refl
-find_first p (x ∷ xs) k ys fails here = rw (fails x (omega (arith, on-cons_same x xs))) (find_first p xs k ys (λ y stands. fails y (omega (arith, on-cons x y xs))) here)
+find_first p (x ∷ xs) k ys fails here = rw (fails x (omega (arith, on-cons_same x xs))) (find_first p xs k ys (λ y stands. fails y (omega (arith, on-first x y xs))) here)
 
 filter_none : (p : ℕ → Bool) (xs : List ℕ) → ((y : ℕ) → 0 < on xs y → p y ≡ false) → filter p xs ≡ []
 filter_none p [] fails = refl
-filter_none p (x ∷ xs) fails = rw (fails x (omega (arith, on-cons_same x xs))) (filter_none p xs (λ y stands. fails y (omega (arith, on-cons x y xs))))
+filter_none p (x ∷ xs) fails = rw (fails x (omega (arith, on-cons_same x xs))) (filter_none p xs (λ y stands. fails y (omega (arith, on-first x y xs))))
 
 -- the keys before a key, and from it on
 before_is : (xs : List ℕ) (k : ℕ) (ys : List ℕ) → on xs k ≡ 0 → before k (xs ++ k ∷ ys) ≡ xs
@@ -107,10 +108,10 @@ from_is (x ∷ xs) k ys none = elim (cases_eq x k) [
 
 -- the round of a key
 pub round_new : (need : ℕ → ℕ) (r : Rotation) (y : ℕ) → 0 < on r.new y → round need r y ≡ need y
-round_new need r y stands = rw (has-some r.new y stands) refl
+round_new need r y stands = rw (on-has r.new y stands) refl
 
 pub round_old : (need : ℕ → ℕ) (r : Rotation) (y : ℕ) → on r.new y ≡ 0 → round need r y ≡ 1 + need y
-round_old need r y none = rw (has-none r.new y none) refl
+round_old need r y none = rw (on-hasnot r.new y none) refl
 
 -- a winner of round 0 stands on new
 pub record AtFront (need : ℕ → ℕ) (ready : ℕ → Bool) (r : Rotation) (c : Cut) : Type 0 where

@@ -6,12 +6,12 @@ use Rattle.std.proofs.lemmas.Int.{ints}
 use Rattle.std.proofs.Math.Nat.{mul-le-mul_right}
 use Rattle.wf_rules.specs.Table.{has}
 use Rattle.wf_rules.specs.Rotation.{Rotation, lists, in_order, need_of, round, first_least, pick_later, pick_from, pick, before, visits}
-use Rattle.wf_rota.specs.Cuts.{on}
+use Rattle.wf_rules.specs.Lists.{on}
 use Rattle.wf_rota.specs.Lists.{AreDisjoint, lists_at}
 use Rattle.wf_rota.specs.Rotas.{Rotas, need_at, is_ready}
 use Rattle.wf_rota.specs.Scan.{IsWon}
 use Rattle.wf_rota.specs.declared.scan.Best.{Best}
-use Rattle.wf_rota.proofs.HasLemmas.{listed-some}
+use Rattle.wf_rule_laws.proofs.Lemmas.Counts.{listed-some}
 use Rattle.wf_rota.proofs.LeastLemmas.{least-cut, least-stands}
 
 chosen : (b : Bool) (m n : ℕ) → m ≤ n → cond b m 0 ≤ n

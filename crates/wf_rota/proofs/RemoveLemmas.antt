@@ -5,14 +5,14 @@ use Rattle.std.proofs.lemmas.List.{append-nil, take_all, drop_all, take_more, dr
 use Rattle.std.proofs.lemmas.List.Elements.{filter-append}
 use Rattle.std.proofs.lemmas.Bool.{cases_eq, cases_lt, ne_eqb}
 use Rattle.wf_rules.specs.Rotation.{Rotation, no_keys, in_order, without_key}
-use Rattle.wf_rota.specs.Cuts.{on}
+use Rattle.wf_rules.specs.Lists.{on}
 use Rattle.wf_rota.specs.Lists.{AllLists, AreDisjoint, lists_at, side_of, with_side, keys_at, with_keys, without, IsOff}
 use Rattle.wf_rota.specs.declared.Side.{Side}
 use Rattle.wf_rota.specs.declared.Side.TheVariants.{New, Old}
 use Rattle.wf_rota.specs.Homes.{IsHome, home_at, AreKept}
 use Rattle.wf_rota.specs.declared.rota.Home.{Home}
 use Rattle.wf_rota.proofs.HomeLemmas.{home_with}
-use Rattle.wf_rota.proofs.OnLemmas.{on-nil, on-cons, on-cons_same, on-cons_other, on-append}
+use Rattle.wf_rule_laws.proofs.Lemmas.Counts.{on-nil, on-first, on-cons_same, on-cons_other, on-append}
 use Rattle.wf_rota.proofs.ListsLemmas.{with_keys-twice, with_keys-same, keys_at-with}
 
 pub without-other : (k key : ℕ) → (k ≡ key → ⊥) → without key (k ∷ []) ≡ k ∷ []
@@ -49,7 +49,7 @@ without_off : (key : ℕ) (xs : List ℕ) → on xs key ≡ 0 → without key xs
 without_off key [] none = refl
 without_off key (x ∷ xs) none = elim (cases_eq x key) [
   | inl e ↦ absurd (omega (arith, ap (λ (y : ℕ). on (y ∷ xs) key) e, on-cons_same key xs))
-  | inr other ↦ rw (ne_eqb x key other) (ap (λ (t : List ℕ). x ∷ t) (without_off key xs (omega (arith, on-cons x key xs))))
+  | inr other ↦ rw (ne_eqb x key other) (ap (λ (t : List ℕ). x ∷ t) (without_off key xs (omega (arith, on-first x key xs))))
 ]
 
 rot : List ℕ → List ℕ → Rotation
@@ -100,7 +100,7 @@ on_without-other : (key k : ℕ) (xs : List ℕ) → (k ≡ key → ⊥) → on 
 on_without-other key k [] other = refl
 on_without-other key k (x ∷ xs) other = elim (cases_eq x key) [
   | inl e ↦ rw (eq-eqb x key e) (omega (arith, on-cons_other x k xs (λ f. other (sym f ∙ e)), on_without-other key k xs other))
-  | inr differs ↦ rw (ne_eqb x key differs) (omega (arith, on-cons x k (without key xs), on-cons x k xs, on_without-other key k xs other))
+  | inr differs ↦ rw (ne_eqb x key differs) (omega (arith, on-first x k (without key xs), on-first x k xs, on_without-other key k xs other))
 ]
 
 -- a key that was taken out is on no list

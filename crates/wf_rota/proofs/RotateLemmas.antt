@@ -2,11 +2,11 @@
 use Rattle.std.proofs.Common.{◌≡◌, ℕ, ◌+◌, ◌*◌, ◌<◌, List, [], ◌∷◌, ◌++◌, length, set, sym, ap, ◌∙◌, subst, inl, inr, arith, length-set, append_assoc}
 use Rattle.std.proofs.lemmas.List.{get_or-set_same, get_or-set_other}
 use Rattle.std.proofs.lemmas.Bool.{cases_eq, cases_lt}
-use Rattle.wf_rota.specs.Cuts.{on}
+use Rattle.wf_rules.specs.Lists.{on}
 use Rattle.wf_rota.specs.Lists.{keys_at, with_keys}
 use Rattle.wf_rota.specs.Links.{at, Leads, EndsWith, chain, Chains, AreLinks, all_chains}
 use Rattle.wf_rota.specs.declared.Side.TheVariants.{Old}
-use Rattle.wf_rota.proofs.OnLemmas.{on-cons, on-cons_same, on-append}
+use Rattle.wf_rule_laws.proofs.Lemmas.Counts.{on-first, on-cons_same, on-append}
 use Rattle.wf_rota.proofs.LinkLemmas.{leads-below, leads-set_other, leads-join, leads-cut, leads-from, ends-front, ends-push, ends-rest, view_changed, chains_again, with_slot, with_slot-here, with_slot-other, with_slot-apart, keys_at_chain, length-all_chains}
 
 -- the chain of one rotation's old list is turned
@@ -26,7 +26,7 @@ module _ (next heads tails : List ℕ) (lists l : ℕ) (ok : AreLinks next heads
     turned = key ∷ (zs ++ (ys ++ p ∷ []))
 
     on_old : (k : ℕ) → on (chain next heads (2 * l + 1)) k ≡ on ys k + (on (p ∷ []) k + on (key ∷ zs) k)
-    on_old k = ap (λ (xs : List ℕ). on xs k) is ∙ on-append ys (p ∷ (key ∷ zs)) k ∙ ap (λ (n : ℕ). on ys k + n) (on-cons p k (key ∷ zs))
+    on_old k = ap (λ (xs : List ℕ). on xs k) is ∙ on-append ys (p ∷ (key ∷ zs)) k ∙ ap (λ (n : ℕ). on ys k + n) (on-first p k (key ∷ zs))
 
     on_turned : (k : ℕ) → on turned k ≡ on (chain next heads (2 * l + 1)) k
     on_turned k = omega (arith, on_old k, on-append (key ∷ zs) (ys ++ p ∷ []) k, on-append ys (p ∷ []) k)

@@ -3,12 +3,13 @@ use Rattle.std.proofs.Common.{◌≡◌, ℕ, ◌+◌, ◌^◌, ◌<◌, ◌≤�
 use Rattle.std.proofs.lemmas.Bool.{cases_eq, cases_lt, lt-ltb, le-ltb}
 use Rattle.std.proofs.lemmas.List.{drop_all, drop_more, take_more, take-append-drop, take_all}
 use Rattle.wf_rules.specs.Rotation.{Rotation, in_order, round}
-use Rattle.wf_rota.specs.Cuts.{Cut, least, on}
+use Rattle.wf_rota.specs.Cuts.{Cut, least}
+use Rattle.wf_rules.specs.Lists.{on}
 use Rattle.wf_rota.proofs.PickLemmas.{round_new, round_old}
 use Rattle.wf_rota.specs.Lists.{AllLists, AreDisjoint, lists_at, keys_at, first_of}
 use Rattle.wf_rota.specs.declared.Side.{Side}
 use Rattle.wf_rota.specs.declared.Side.TheVariants.{New, Old}
-use Rattle.wf_rota.proofs.OnLemmas.{on-nil, on-append, on-cons_same, on-cons_other}
+use Rattle.wf_rule_laws.proofs.Lemmas.Counts.{on-nil, on-append, on-cons_same, on-cons_other}
 use Rattle.wf_rota.specs.Scan.{Describes, IsFound, best_after, IsRoundOn}
 use Rattle.wf_rota.specs.declared.scan.Best.{Best}
 use Rattle.wf_rota.specs.declared.scan.Found.{Found}

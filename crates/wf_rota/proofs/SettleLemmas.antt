@@ -8,7 +8,8 @@ use Rattle.std.proofs.Math.Seq.{drop-append_seam, take-append_seam}
 use Rattle.std.proofs.lemmas.Bool.{cases_eq, cases_lt, lt-ltb, le-ltb, ne_eqb, le-leb, lt-leb}
 use Rattle.wf_rules.specs.Table.{has}
 use Rattle.wf_rules.specs.Rotation.{Rotation, no_keys, lists, in_order, need_of, before, from, round, none_ready, picked_now, picked_later, visits, is_out}
-use Rattle.wf_rota.specs.Cuts.{Cut, on}
+use Rattle.wf_rota.specs.Cuts.{Cut}
+use Rattle.wf_rules.specs.Lists.{on}
 use Rattle.wf_rota.specs.Lists.{lists_at, with_keys}
 use Rattle.wf_rota.specs.Rotas.{Rotas, deficit_at, quantum_at, need_at, is_ready}
 use Rattle.wf_rota.specs.Scan.{first_round}
@@ -16,8 +17,8 @@ use Rattle.wf_rota.specs.Pass.{raised, on_new, SharesAre, lists_after, HasPassed
 use Rattle.wf_rota.specs.declared.Side.TheVariants.{New, Old}
 use Rattle.wf_rota.specs.declared.pass.Course.TheVariants.{Nobody, AtOnce, Later}
 use Rattle.wf_rota.specs.declared.pass.Share.{Share}
-use Rattle.wf_rota.proofs.OnLemmas.{on-cons_same, on-append}
-use Rattle.wf_rota.proofs.HasLemmas.{has-none, has-some, listed-none, listed-some}
+use Rattle.wf_rule_laws.proofs.Lemmas.Counts.{on-cons_same, on-append}
+use Rattle.wf_rule_laws.proofs.Lemmas.Counts.{on-hasnot, on-has, listed-none, listed-some}
 use Rattle.wf_rota.proofs.PassLemmas.{on_take, on_more}
 use Rattle.wf_rota.proofs.PickLemmas.{AtFront, round_new, round_old}
 
@@ -97,10 +98,10 @@ at_once_picked v ready list v' c once at ok = record {
         ap (λ (xs : List ℕ). min (on xs k * 1) (need_at v k)) front_is ∙ (elim (cases_lt 0 (on at.front k)) [
           | inl stands ↦
               let one : on at.front k ≡ 1 = omega arith in
-              rw (one, has-some at.front k stands) (omega arith)
+              rw (one, on-has at.front k stands) (omega arith)
           | inr off ↦
               let none : on at.front k ≡ 0 = omega arith in
-              rw (none, has-none at.front k none) (omega arith)
+              rw (none, on-hasnot at.front k none) (omega arith)
         ]) ∙ ap (λ (xs : List ℕ). cond (has xs k) (min 1 (need_at v k)) 0) (sym at.in_front)
 
 or_not : (a : Bool) (x y : ℕ) → not (not a && leb x y) ≡ (a || ltb y x)
@@ -117,22 +118,22 @@ has_first : (xs ys : List ℕ) (i : ℕ) → ((y : ℕ) → on (xs ++ ys) y ≤ 
 has_first xs ys i once low = elim (cases_lt i (length xs)) [
   | inl early ↦
       let same : get_or (xs ++ ys) i 0 ≡ get_or xs i 0 = get_or_append_left xs ys 0 i early in
-      rw (lt-ltb i (length xs) early, same) (has-some xs (get_or xs i 0) (on_at xs i early))
+      rw (lt-ltb i (length xs) early, same) (on-has xs (get_or xs i 0) (on_at xs i early))
   | inr late ↦
       let there : i - length xs < length ys = omega (arith, length-append xs ys) in
       let same : get_or (xs ++ ys) i 0 ≡ get_or ys (i - length xs) 0 = get_or-append_right xs ys (length xs) i 0 refl late in
-      rw (le-ltb i (length xs) late, same) (has-none xs (get_or ys (i - length xs) 0) (omega (arith, on_at ys (i - length xs) there, on-append xs ys (get_or ys (i - length xs) 0), once (get_or ys (i - length xs) 0))))
+      rw (le-ltb i (length xs) late, same) (on-hasnot xs (get_or ys (i - length xs) 0) (omega (arith, on_at ys (i - length xs) there, on-append xs ys (get_or ys (i - length xs) 0), once (get_or ys (i - length xs) 0))))
 ]
 
 has_second : (xs ys : List ℕ) (i : ℕ) → ((y : ℕ) → on (xs ++ ys) y ≤ 1) → i < length (xs ++ ys) → has ys (get_or (xs ++ ys) i 0) ≡ not (ltb i (length xs))
 has_second xs ys i once low = elim (cases_lt i (length xs)) [
   | inl early ↦
       let same : get_or (xs ++ ys) i 0 ≡ get_or xs i 0 = get_or_append_left xs ys 0 i early in
-      rw (lt-ltb i (length xs) early, same) (has-none ys (get_or xs i 0) (omega (arith, on_at xs i early, on-append xs ys (get_or xs i 0), once (get_or xs i 0))))
+      rw (lt-ltb i (length xs) early, same) (on-hasnot ys (get_or xs i 0) (omega (arith, on_at xs i early, on-append xs ys (get_or xs i 0), once (get_or xs i 0))))
   | inr late ↦
       let there : i - length xs < length ys = omega (arith, length-append xs ys) in
       let same : get_or (xs ++ ys) i 0 ≡ get_or ys (i - length xs) 0 = get_or-append_right xs ys (length xs) i 0 refl late in
-      rw (le-ltb i (length xs) late, same) (has-some ys (get_or ys (i - length xs) 0) (on_at ys (i - length xs) there))
+      rw (le-ltb i (length xs) late, same) (on-has ys (get_or ys (i - length xs) 0) (on_at ys (i - length xs) there))
 ]
 
 abbrev share : ℕ → Bool → Share
@@ -245,16 +246,16 @@ module _ (v : Rotas) (ready : List Bool) (list : ℕ) (once : (y : ℕ) → on (
 
   winner_visits : visits (lists_at v.lists list) c.key (round (need_at v) (lists_at v.lists list) c.key) c.key ≡ need_at v c.key
   winner_visits =
-      let not_before : has (before c.key (in_order (lists_at v.lists list))) c.key ≡ false = ap (λ (xs : List ℕ). has xs c.key) before_winner ∙ has-none c.before c.key (omega (arith, on_split c.key, once c.key, on-cons_same c.key c.after)) in
+      let not_before : has (before c.key (in_order (lists_at v.lists list))) c.key ≡ false = ap (λ (xs : List ℕ). has xs c.key) before_winner ∙ on-hasnot c.before c.key (omega (arith, on_split c.key, once c.key, on-cons_same c.key c.after)) in
       ap (λ (b : Bool). cond b turn (turn - 1) + cond (has (lists_at v.lists list).new c.key) 1 0) not_before
       ∙ (elim (cases_lt 0 (on (lists_at v.lists list).new c.key)) [
         | inl new ↦
             let is_round : round (need_at v) (lists_at v.lists list) c.key ≡ need_at v c.key = round_new (need_at v) (lists_at v.lists list) c.key new in
-            ap (λ (b : Bool). turn - 1 + cond b 1 0) (has-some (lists_at v.lists list).new c.key new) ∙ omega (arith, is_round, some_round)
+            ap (λ (b : Bool). turn - 1 + cond b 1 0) (on-has (lists_at v.lists list).new c.key new) ∙ omega (arith, is_round, some_round)
         | inr none ↦
             let off : on (lists_at v.lists list).new c.key ≡ 0 = omega arith in
             let is_round : round (need_at v) (lists_at v.lists list) c.key ≡ 1 + need_at v c.key = round_old (need_at v) (lists_at v.lists list) c.key off in
-            ap (λ (b : Bool). turn - 1 + cond b 1 0) (has-none (lists_at v.lists list).new c.key off) ∙ omega (arith, is_round)
+            ap (λ (b : Bool). turn - 1 + cond b 1 0) (on-hasnot (lists_at v.lists list).new c.key off) ∙ omega (arith, is_round)
       ])
 
   gets_winner : min (on (in_order (lists_at v.lists list)) c.key * visits (lists_at v.lists list) c.key turn c.key) (need_at v c.key) ≡ need_at v c.key

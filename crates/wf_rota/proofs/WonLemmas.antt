@@ -3,7 +3,7 @@ use Rattle.std.proofs.Common.{◌≡◌, ℕ, ◌+◌, ◌-◌, ◌<◌, ◌≤�
 use Rattle.std.specs.List.{filter}
 use Rattle.std.proofs.Math.Seq.{take-append_seam}
 use Rattle.wf_rules.specs.Rotation.{Rotation, Picked, in_order, before, from, round, visits, is_out, picked_later}
-use Rattle.wf_rota.specs.Cuts.{on}
+use Rattle.wf_rules.specs.Lists.{on}
 use Rattle.wf_rota.specs.Lists.{AreDisjoint, lists_at, keys_at, with_keys}
 use Rattle.wf_rota.specs.Rotas.{Rotas, need_at, is_ready, picked_at}
 use Rattle.wf_rota.specs.Scan.{IsWon}

@@ -1,10 +1,5 @@
--- Lists of keys: how often a key stands on one, and the cut at the first ready key of the least order.
-use Rattle.std.specs.Prelude.{ℕ, ◌+◌, Bool, ◌&&◌, if◌then◌else◌, ◌==◌, nat_le, List, [], ◌∷◌, Option, Some, None}
-
--- how often a key stands on a list
-unfoldable pub on : List ℕ → ℕ → ℕ
-on [] y = 0
-on (x ∷ xs) y = (if x == y then 1 else 0) + on xs y
+-- A list of keys, cut at the first ready key of the least order.
+use Rattle.std.specs.Prelude.{ℕ, Bool, ◌&&◌, if◌then◌else◌, nat_le, List, [], ◌∷◌, Option, Some, None}
 
 -- a list that is cut at a key
 pub record Cut : Type 0 where

@@ -1,7 +1,7 @@
 -- Where each key stands, kept beside the lists.
 use Rattle.std.specs.Prelude.{◌≡◌, ℕ, ◌^◌, ◌-◌, ◌<◌, List, length, get_or, Option, Some, None, ℤ, pos, negsuc, ◌≤ℤ◌, ◌<ℤ◌}
 use Rattle.wf_rules.specs.Rotation.{Rotation}
-use Rattle.wf_rota.specs.Cuts.{on}
+use Rattle.wf_rules.specs.Lists.{on}
 use Rattle.wf_rota.specs.Lists.{AllLists, keys_at, IsOff}
 use Rattle.wf_rota.specs.Rotas.{deficit_at, quantum_at}
 use Rattle.wf_rota.specs.declared.rota.Home.{Home}

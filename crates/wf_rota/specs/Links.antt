@@ -2,7 +2,7 @@
 use Rattle.std.specs.Prelude.{◌≡◌, ℕ, zero, suc, ◌+◌, ◌*◌, ◌<◌, ◌≤◌, nat_lt, if◌then◌else◌, List, [], ◌∷◌, length, map, get_or}
 use Rattle.wf_rules.specs.Rotation.{Rotation}
 use Rattle.std.specs.List.{range_with_len}
-use Rattle.wf_rota.specs.Cuts.{on}
+use Rattle.wf_rules.specs.Lists.{on}
 use Rattle.wf_rota.specs.declared.Side.{Side}
 use Rattle.wf_rota.specs.declared.Side.TheVariants.{New, Old}
 

@@ -3,7 +3,7 @@ use Rattle.std.specs.Prelude.{◌≡◌, ℕ, ◌<◌, ◌≤◌, ◌==◌, not,
 use Rattle.wf_rules.specs.Table.{has}
 use Rattle.wf_rules.specs.Rotation.{Rotation, no_keys, in_order}
 use Rattle.std.specs.List.{filter}
-use Rattle.wf_rota.specs.Cuts.{on}
+use Rattle.wf_rules.specs.Lists.{on}
 use Rattle.wf_rota.specs.declared.Side.{Side}
 use Rattle.wf_rota.specs.declared.Side.TheVariants.{New, Old}
 

@@ -1,7 +1,7 @@
 -- One pass over a rotation, its old list first: what each key gets, and where it goes.
 use Rattle.std.specs.Prelude.{◌≡◌, ◌<◌, ℕ, ◌+◌, ◌-◌, ◌*◌, min, max, Bool, true, false, ◌||◌, ◌&&◌, if◌then◌else◌, nat_lt, List, [], ◌∷◌, ◌++◌, length, take, drop, get_or, set, filter, ℤ, pos, ◌+ℤ◌, Option, Some, None}
 use Rattle.wf_rules.specs.Rotation.{Rotation, Picked, need_of}
-use Rattle.wf_rota.specs.Cuts.{on}
+use Rattle.wf_rules.specs.Lists.{on}
 use Rattle.wf_rota.specs.Lists.{lists_at, with_keys, keys_at, rest_of}
 use Rattle.wf_rota.specs.Rotas.{Rotas, deficit_at, quantum_at, need_at, is_ready}
 use Rattle.wf_rota.specs.Scan.{first_round}

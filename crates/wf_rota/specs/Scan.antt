@@ -1,7 +1,8 @@
 -- What a scan of a rotation has found.
 use Rattle.std.specs.Prelude.{◌≡◌, ◌+◌, ◌^◌, ◌<◌, ◌≤◌, ℕ, Bool, List, length, Option, Some, None, if◌then◌else◌, ◌&&◌, nat_lt}
 use Rattle.wf_rules.specs.Rotation.{Rotation, in_order, round}
-use Rattle.wf_rota.specs.Cuts.{Cut, least, on}
+use Rattle.wf_rota.specs.Cuts.{Cut, least}
+use Rattle.wf_rules.specs.Lists.{on}
 use Rattle.wf_rota.specs.declared.Side.{Side}
 use Rattle.wf_rota.specs.declared.Side.TheVariants.{New, Old}
 use Rattle.wf_rota.specs.declared.scan.Best.{Best}

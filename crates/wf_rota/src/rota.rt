@@ -1,7 +1,7 @@
 ghost use Rattle.std.specs.Prelude.{◌≡◌, ℕ, ◌+◌, ◌-◌, ◌*◌, ◌^◌, ◌<◌, ◌≤◌, Bool, true, false, List, [], ◌∷◌, ◌++◌, length, map, replicate, take, min, get_or, slice_set, filter, IfOk, IfSome, IfNone, Option, Some, None, pos, negsuc, ◌+ℤ◌, ◌-ℤ◌, ◌≤ℤ◌, ◌<ℤ◌};
 ghost use Rattle.wf_rules.specs.Rotation.{no_keys, add_new, without_key, lists, Picked, in_order};
 ghost use Rattle.wf_rota.specs.Rotas.{Rotas, deficit_at, quantum_at, need_at, is_ready, IsUnlisted, picked_at};
-ghost use Rattle.wf_rota.specs.Cuts.{on};
+ghost use Rattle.wf_rules.specs.Lists.{on};
 ghost use Rattle.wf_rota.specs.Lists.{lists_at, keys_at, with_keys, has_on, first_of, rest_of, IsOff, AreDisjoint};
 ghost use Rattle.wf_rota.specs.Scan.{IsFound, IsRoundOn, IsWon};
 ghost use Rattle.wf_rota.specs.declared.Side.TheVariants.{Old};

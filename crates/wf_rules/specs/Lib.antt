@@ -1,10 +1,13 @@
 pub mod Table
 pub mod Lengths
 pub mod Bounds
+pub mod Lists
 pub mod Airtime
 pub mod Fit
 pub mod Codel
+pub mod CodelLoop
 pub mod Parameters
 pub mod Rotation
+pub mod Loop
 pub mod Session
 pub mod Receiver

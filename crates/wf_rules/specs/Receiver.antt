@@ -1,7 +1,7 @@
 -- The recipient's side of one TID's block acknowledgement agreement, as the set of numbers and the set of request starts that arrived:
 -- IEEE 802.11-2012, 9.21.7.3 to 9.21.7.6 (scoreboard and receive reordering buffer).
-use Rattle.std.specs.Prelude.{ℕ, suc, ◌+◌, ◌-◌, ◌*◌, ◌^◌, ◌==◌, max, nat_lt, nat_le, Bool, ◌&&◌, List, [], ◌∷◌, if◌then◌else◌, filter, map, sum_by}
-use Rattle.wf_rules.specs.Table.{has, with_member}
+use Rattle.std.specs.Prelude.{ℕ, suc, ◌+◌, ◌-◌, ◌==◌, max, nat_lt, nat_le, Bool, ◌&&◌, List, [], ◌∷◌, if◌then◌else◌, filter, map}
+use Rattle.wf_rules.specs.Table.{has, with_member, word_of}
 
 pub record Receiver : Type 0 where
   pub first : ℕ
@@ -53,4 +53,4 @@ shows b n = nat_le b.start n && has b.offsets (n - b.start)
 
 -- the word of the offsets 64 i to 64 i + 63
 abbrev pub word : Score → ℕ → ℕ
-word b i = sum_by (λ j. if nat_le (64 * i) j && nat_lt j (64 * i + 64) then 2 ^ (j - 64 * i) else 0) b.offsets
+word b i = word_of i b.offsets

@@ -1,6 +1,6 @@
 -- Tables, sets and ranges of whole numbers, as the definitions use them.
 -- A table gives a value for each number: a list holds the first ones, and `d` is each other.
-use Rattle.std.specs.Prelude.{ℕ, zero, suc, ◌+◌, ◌-◌, ◌/◌, ◌==◌, nat_lt, List, [], ◌∷◌, if◌then◌else◌, Bool, false, ◌||◌}
+use Rattle.std.specs.Prelude.{ℕ, zero, suc, ◌+◌, ◌-◌, ◌*◌, ◌/◌, ◌^◌, ◌==◌, nat_lt, nat_le, List, [], ◌∷◌, if◌then◌else◌, Bool, false, ◌&&◌, ◌||◌, sum_by}
 
 abbrev pub at : {X : Type 0} → X → List X → ℕ → X
 at d [] k = d
@@ -35,6 +35,10 @@ has (x ∷ xs) k = (x == k) || has xs k
 abbrev pub with_member : ℕ → List ℕ → List ℕ
 with_member n [] = n ∷ []
 with_member n (x ∷ xs) = if nat_lt n x then n ∷ x ∷ xs else (if x == n then x ∷ xs else x ∷ with_member n xs)
+
+-- a set by its bits: the word of its members 64 k to 64 k + 63, whose bit j is member 64 k + j
+abbrev pub word_of : ℕ → List ℕ → ℕ
+word_of k xs = sum_by (λ i. if nat_le (64 * k) i && nat_lt i (64 * k + 64) then 2 ^ (i - 64 * k) else 0) xs
 
 -- a / b, rounded up
 abbrev pub ceil_div : ℕ → ℕ → ℕ

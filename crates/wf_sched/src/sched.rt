@@ -5,7 +5,7 @@ ghost use Rattle.wf_frame.specs.Classes.{class_number};
 ghost use Rattle.wf_rules.specs.Bounds.{deepest_deficit};
 ghost use Rattle.wf_rules.specs.Rotation.{lists, add_new};
 ghost use Rattle.wf_rules.specs.Table.{has};
-ghost use Rattle.wf_picks.specs.Renamed.{IsIdle};
+ghost use Rattle.wf_rule_laws.specs.Renamed.{IsIdle};
 ghost use Rattle.wf_rota.specs.Rotas.{picked_at, is_ready};
 ghost use Rattle.wf_rota.specs.Lists.{lists_at, side_of};
 ghost use Rattle.wf_sched.specs.Turns.{turns_of, opening, turns, rotation, deficit, IsNowhere, with_turns, with_deficit, listed_on, joined, left, picked, HasTurned, IsSized};

@@ -1,8 +1,9 @@
 -- The offsets of a scoreboard when its window moves.
 use Rattle.std.proofs.Common.{◌≡◌, ℕ, ◌+◌, ◌-◌, ◌<◌, ◌≤◌, min, List, [], ap, ap₂, ◌∙◌, sym, inl, inr, arith}
 use Rattle.std.proofs.lemmas.Bool.{cases_lt}
-use Rattle.wf_bits.specs.Offsets.{RisesBetween, IsOffsets, moved_down, with_offset}
-use Rattle.wf_bits.proofs.Sets.{has_not_above, has-moved_down, rises-moved_down, rises_wider, rises-with_offset, same_members}
+use Rattle.wf_rules.specs.Table.{with_member}
+use Rattle.wf_bits.specs.Offsets.{RisesBetween, IsOffsets, moved_down}
+use Rattle.wf_bits.proofs.Sets.{has_not_above, has-moved_down, rises-moved_down, rises_wider, rises-with_member, same_members}
 use Rattle.wf_score.specs.Board.{Board}
 
 -- a move past every offset leaves none
@@ -21,8 +22,8 @@ moved_least size n xs small rises = elim (cases_lt 256 n) [
 pub within_moved : (size n : ℕ) (xs : List ℕ) → IsOffsets size xs → IsOffsets size (moved_down n xs)
 within_moved size n xs rises = rises_wider (0 - n) (size - n) 0 size (moved_down n xs) (omega arith) (omega arith) (rises-moved_down 0 size n xs rises)
 
-pub within_marked : (size d : ℕ) (xs : List ℕ) → d < size → IsOffsets size xs → IsOffsets size (with_offset d xs)
-within_marked size d xs inside rises = rises-with_offset 0 size d xs (omega arith) inside rises
+pub within_marked : (size d : ℕ) (xs : List ℕ) → d < size → IsOffsets size xs → IsOffsets size (with_member d xs)
+within_marked size d xs inside rises = rises-with_member 0 size d xs (omega arith) inside rises
 
 abbrev pub board : ℕ → ℕ → List ℕ → Board
 board size start offsets = record { start = start; size = size; offsets = offsets }

@@ -2,7 +2,8 @@
 -- 9.21.7.5. All comparisons are modulo 4096: a number stands as far past the start as `distance` says, and one that is more than 2047 past it
 -- stands behind it.
 use Rattle.std.specs.Prelude.{ℕ, ◌+◌, ◌-◌, ◌%◌, nat_lt, nat_le, List, [], if◌then◌else◌}
-use Rattle.wf_bits.specs.Offsets.{with_offset, moved_down}
+use Rattle.wf_rules.specs.Table.{with_member}
+use Rattle.wf_bits.specs.Offsets.{moved_down}
 use Rattle.wf_seq12.specs.Distance.{distance}
 
 pub record Board : Type 0 where
@@ -15,7 +16,7 @@ empty_board start size = record { start = start; size = size; offsets = [] }
 
 -- the number that stands d past the start is shown as arrived
 abbrev pub with_arrived : ℕ → Board → Board
-with_arrived d b = record b { offsets = with_offset d b.offsets }
+with_arrived d b = record b { offsets = with_member d b.offsets }
 
 -- the start moves n numbers on: a number that stays in the window stays as it was, and a new one has not arrived
 abbrev pub moved_on : ℕ → Board → Board

@@ -8,11 +8,10 @@ use Rattle.wf_rules.specs.Table.{at}
 use Rattle.wf_rules.specs.Rotation.{Rotation, lists, in_order, add_new}
 use Rattle.wf_world.specs.World.{World, rotation, is_live, with_rotation}
 use Rattle.wf_world.specs.CanSend.{is_ready, listed_in, listed_in_all, listed}
-use Rattle.wf_laws.proofs.Common.Counts.{on}
+use Rattle.wf_rules.specs.Lists.{on}
 use Rattle.wf_laws.proofs.Deficits.Books.{Books, books, with_lists, books_with_rotation}
 use Rattle.wf_rota.specs.Rotas.{deficit_at, quantum_at}
-use Rattle.wf_sched.specs.Turns.{Turns, SchedValue, no_turns, turns, with_turns, deficit, quantum_of}
-use Rattle.wf_sched.specs.Turns.{rotation as rotation_of}
+use Rattle.wf_sched.specs.Turns.{Turns, SchedValue, no_turns, turns, with_turns, deficit, quantum_of, rotation as rotation_of}
 use Rattle.wf_turns.specs.Standing.{StandsFor, with_listed, with_listed_where}
 use Rattle.wf_turns.proofs.Once.{once_on, unlisted-on, on-listed, added-on_same, added-on_other}
 use Rattle.wf_turns.proofs.Changes.{each_with, sized_with}

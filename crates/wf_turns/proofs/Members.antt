@@ -6,9 +6,8 @@ use Rattle.wf_frame.specs.declared.classes.Class.TheVariants.{Bk, Be, Vi, Vo}
 use Rattle.wf_frame.specs.Classes.{all_classes}
 use Rattle.wf_rules.specs.Rotation.{Rotation, in_order, without_key}
 use Rattle.wf_world.specs.World.{World, with_station, with_rotation, rotation as world_rotation}
-use Rattle.wf_world.specs.Step.{off_lists, gone}
-use Rattle.wf_world.specs.Step.{joined as joined_world}
-use Rattle.wf_laws.proofs.Common.Counts.{on}
+use Rattle.wf_world.specs.Step.{off_lists, gone, joined as joined_world}
+use Rattle.wf_rules.specs.Lists.{on}
 use Rattle.wf_laws.proofs.Deficits.Books.{Books, books, with_account, books_with_station, books_with_rotation}
 use Rattle.wf_laws.proofs.Deficits.BookSteps.{fresh_account, off, all_off, books_joined, books_gone}
 use Rattle.wf_rota.specs.Rotas.{deficit_at, quantum_at}

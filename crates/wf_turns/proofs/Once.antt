@@ -3,8 +3,8 @@ use Rattle.std.proofs.Common.{◌≡◌, refl, subst, arith, ℕ, ◌+◌, ◌<�
 use Rattle.std.proofs.lemmas.Bool.{cases_eq, or_parts, cases_Bool, not_from_true}
 use Rattle.wf_rules.specs.Table.{has}
 use Rattle.wf_rules.specs.Rotation.{Rotation, lists, in_order, add_new, without_key}
-use Rattle.wf_laws.specs.Lists.{IsOnce}
-use Rattle.wf_laws.proofs.Common.Counts.{on, on-nil, on-cons_same, on-cons_other, on-append, on-filter_le, on-filter_out, has-on, hasnot-on, on-hasnot}
+use Rattle.wf_rules.specs.Lists.{IsOnce, on}
+use Rattle.wf_rule_laws.proofs.Lemmas.Counts.{on-nil, on-cons_same, on-cons_other, on-append, on-filter_le, on-filter_out, has-on, hasnot-on, on-hasnot}
 
 pub once_on : (xs : List ℕ) (y : ℕ) → IsOnce xs → on xs y ≤ 1
 once_on [] y h = omega (arith, on-nil y)

@@ -6,14 +6,13 @@ use Rattle.wf_rules.specs.Rotation.{Rotation, in_order, need_of, Picked, pick}
 use Rattle.wf_world.specs.World.{World, Share, rotation}
 use Rattle.wf_world.specs.CanSend.{is_ready}
 use Rattle.wf_world.specs.Exchanges.{station_need, picked_station, after_pick}
-use Rattle.wf_laws.proofs.Common.Counts.{on}
-use Rattle.wf_laws.proofs.Pick.Lists.{pick_on}
+use Rattle.wf_rules.specs.Lists.{on}
+use Rattle.wf_rule_laws.proofs.Lemmas.Rotations.{pick_on}
 use Rattle.wf_laws.proofs.Deficits.Books.{cases_class, updc_same, updc_other, Account, Books, books}
 use Rattle.wf_laws.proofs.Deficits.BookSteps.{pay_share, paid, after, books_after_pick}
-use Rattle.wf_picks.specs.Renamed.{IsSame}
-use Rattle.wf_picks.proofs.Picks.{same_pick}
-use Rattle.wf_rota.specs.Rotas.{deficit_at, quantum_at}
-use Rattle.wf_rota.specs.Rotas.{is_ready as entry}
+use Rattle.wf_rule_laws.specs.Renamed.{IsSame}
+use Rattle.wf_rule_laws.proofs.Lemmas.Picks.{same_pick}
+use Rattle.wf_rota.specs.Rotas.{deficit_at, quantum_at, is_ready as entry}
 use Rattle.wf_sched.specs.Turns.{Turns, SchedValue, turns, deficit, quantum_of, need, picked, with_turns, HasTurned}
 use Rattle.wf_sched.proofs.Views.{turns-with_same, turns-with_other}
 use Rattle.wf_turns.specs.Standing.{StandsFor, TellsReady}

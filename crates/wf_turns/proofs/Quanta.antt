@@ -3,8 +3,9 @@ use Rattle.std.proofs.Common.{◌≡◌, refl, sym, subst, arith, ℕ, ◌*◌, 
 use Rattle.std.proofs.lemmas.Bool.{ne_eqb, cases_Bool}
 use Rattle.wf_rules.specs.Table.{has}
 use Rattle.wf_rules.specs.Rotation.{Rotation, lists, in_order, before, pick}
-use Rattle.wf_laws.proofs.Common.Counts.{on, on-split, on-hasnot}
-use Rattle.wf_laws.proofs.Pick.Lists.{pick_is}
+use Rattle.wf_rules.specs.Lists.{on}
+use Rattle.wf_rule_laws.proofs.Lemmas.Counts.{on-split, on-hasnot}
+use Rattle.wf_rule_laws.proofs.Lemmas.Rotations.{pick_is}
 use Rattle.wf_turns.proofs.Once.{in_order-on, unlisted-on, listed-on}
 
 pub unlisted_gets_none : (need : ℕ → ℕ) (ready : ℕ → Bool) (r : Rotation) (y : ℕ) → lists r y ≡ false → (pick need ready r).quanta y ≡ 0

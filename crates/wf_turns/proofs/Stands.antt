@@ -6,7 +6,7 @@ use Rattle.wf_frame.specs.Classes.{class_number}
 use Rattle.wf_rules.specs.Table.{at}
 use Rattle.wf_rules.specs.Rotation.{Rotation, in_order}
 use Rattle.wf_world.specs.World.{World, Station, Exchange, no_share, no_station}
-use Rattle.wf_laws.proofs.Common.Counts.{on}
+use Rattle.wf_rules.specs.Lists.{on}
 use Rattle.wf_laws.proofs.Deficits.Books.{upd, updc, each_upd, cases_class, Account, account, Books, books, with_account}
 use Rattle.wf_sched.specs.Turns.{Turns, SchedValue, rotation, deficit, quantum_of, with_turns, IsSized}
 use Rattle.wf_sched.proofs.Views.{turns-with_same, turns-with_other}

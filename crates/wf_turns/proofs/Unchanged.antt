@@ -12,8 +12,8 @@ use Rattle.wf_world.specs.World.{World, Station, Share, Tid, Queue, Exchange, Mp
 use Rattle.wf_world.specs.FlowQueues.{take}
 use Rattle.wf_world.specs.Exchanges.{Prepared, after_turn, spent, opening_exchange, prepared, filled, settled_slot, settled, all_settled, after_done}
 use Rattle.wf_world.specs.Step.{left_tids, with_frame, with_rate, ticked, enqueued, arrived, answered, slept, woken, credited, reaped, sent, pulled_by}
-use Rattle.wf_laws.specs.Lists.{IsOnce}
-use Rattle.wf_laws.proofs.Common.Tables.{at_put_same, at_put_other}
+use Rattle.wf_rules.specs.Lists.{IsOnce}
+use Rattle.wf_rule_laws.proofs.Lemmas.Tables.{at_put_same, at_put_other}
 use Rattle.wf_laws.proofs.Deficits.Books.{cases_class, account, Account, Books, books, with_account, books_with_station, books_on_queue, books_finish, books_finish_all}
 use Rattle.wf_laws.proofs.Deficits.BookSteps.{books_take, books_filled, books_prepared, books_sent, books_left_tids, books_enqueued, books_reaped}
 use Rattle.wf_sched.specs.Turns.{SchedValue, deficit, quantum_of}

@@ -6,10 +6,9 @@ use Rattle.wf_frame.specs.Classes.{class_number}
 use Rattle.wf_rules.specs.Table.{at}
 use Rattle.wf_world.specs.World.{World, Station, Share, no_share, station, share, quantum as own_quantum, rotation, is_live}
 use Rattle.wf_world.specs.CanSend.{is_ready}
-use Rattle.wf_laws.specs.Lists.{IsOnce}
+use Rattle.wf_rules.specs.Lists.{IsOnce}
 use Rattle.wf_rota.specs.Rotas.{is_ready as entry}
-use Rattle.wf_sched.specs.Turns.{Turns, SchedValue, IsSized, turns, with_turns, with_deficit, deficit, quantum_of, listed_on}
-use Rattle.wf_sched.specs.Turns.{rotation as rotation_of}
+use Rattle.wf_sched.specs.Turns.{Turns, SchedValue, IsSized, turns, with_turns, with_deficit, deficit, quantum_of, listed_on, rotation as rotation_of}
 
 -- A class lists the same stations, and a live station has its deficit and its quantum. What the scheduler keeps of a station
 -- that is not live does not matter: it is listed nowhere, and its deficit and quantum are set when it joins.

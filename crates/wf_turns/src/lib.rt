@@ -27,7 +27,7 @@ ghost use Rattle.wf_world.specs.Refusals.{refusal};
 ghost use Rattle.wf_world.specs.Stretches.{world_at};
 ghost use Rattle.wf_world.specs.Run.{Entry};
 ghost use Rattle.wf_world.specs.Step.{joined as joined_world, done, concerned, step, left_tids, off_lists, gone, with_rate, ticked, with_frame, enqueued, sent, pulled_by, arrived, answered, ended, slept, woken, credited, received, reaped};
-ghost use Rattle.wf_picks.specs.Renamed.{IsSame};
+ghost use Rattle.wf_rule_laws.specs.Renamed.{IsSame};
 ghost use Rattle.wf_rota.specs.Rotas.{is_ready as entry};
 ghost use Rattle.wf_sched.specs.Turns.{SchedValue, opening, turns, rotation as rotation_of, deficit, with_turns, IsNowhere, joined, left, picked, HasTurned};
 ghost use Rattle.wf_turns.specs.Calls.{IsDone, IsRefused, with_concerned};

@@ -1,6 +1,6 @@
 use Rattle.std.proofs.Common.{◌*◌, ◌/◌, arith}
 use Rattle.wf_rules.specs.Codel.{step_of}
-use Rattle.wf_codel.proofs.Roots.{greatest_step, same_root, step-is}
+use Rattle.wf_rule_laws.proofs.Lemmas.Roots.{greatest_step, same_root, step-is}
 use Rattle.wf_codel.proofs.root_step.Goals as goal
 
 pub returns-clause-greatest : goal.returns-clause-greatest

@@ -23,7 +23,7 @@ use Rattle.wf_world.specs.Exchanges.{Filled, Prepared, pay_station, pay_stations
 use Rattle.wf_world.specs.Step.{Outcome, joined, left_tid, left_tids, off_lists, gone, with_rate, ticked, with_frame, enqueued, sent, pulled_by, pulled, arrived, answered, ended, on_open, slept, woken, credited, received, reaped, done, refused, answer, step}
 use Rattle.wf_world.specs.Run.{Entry, world_after}
 use Rattle.wf_laws.proofs.Deficits.Balance.{IsBalanced, IsFairStation, IsFair}
-use Rattle.wf_laws.proofs.Common.Tables.{each_put}
+use Rattle.wf_rule_laws.proofs.Lemmas.Tables.{each_put}
 
 -- ---- arithmetic
 

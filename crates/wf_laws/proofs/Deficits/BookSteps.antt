@@ -15,7 +15,8 @@ use Rattle.wf_world.specs.FlowQueues.{without_head, within_limit, listed_queue, 
 use Rattle.wf_world.specs.Exchanges.{Filled, Prepared, pay_station, pay_stations, after_pick, after_turn, with_fresh, filled, with_number, spent, prepared_frames, prepared, opening_exchange, charged, settled_slot, settled, all_settled, after_done, exchange_of, picked_station}
 use Rattle.wf_world.specs.Step.{joined, left_tid, left_tids, off_lists, gone, with_rate, with_frame, enqueued, sent, ended, slept, woken, credited, received, reaped}
 use Rattle.wf_laws.proofs.Deficits.Books.{upd, updc, Account, plain, account, core, Books, books, with_account, with_lists, on_part, books_with_station, books_with_rotation, books_on_station, books_hidden, books_on_session, books_with_queues, books_on_share, books_on_queue, books_finish, books_finish_all, books_if, updc_idle, upd_idle, upd_same, upd_other, updc_same}
-use Rattle.wf_laws.proofs.Common.Counts.{on, on-nil, on-cons_same, on-cons_other}
+use Rattle.wf_rules.specs.Lists.{on}
+use Rattle.wf_rule_laws.proofs.Lemmas.Counts.{on-nil, on-cons_same, on-cons_other}
 
 -- ---- flow queues
 

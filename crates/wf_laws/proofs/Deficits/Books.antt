@@ -13,7 +13,7 @@ use Rattle.wf_rules.specs.Session.{Session}
 use Rattle.wf_rules.specs.Receiver.{Receiver}
 use Rattle.wf_world.specs.World.{World, Station, Share, Tid, Queue, Exchange, no_share, with_station, on_station, on_tid, on_session, on_receiver, with_queues, on_share, on_queue, with_rotation, with_fate, finish, finish_all}
 use Rattle.wf_frame.specs.Classes.{class_number}
-use Rattle.wf_laws.proofs.Common.Tables.{at_put_same, at_put_other}
+use Rattle.wf_rule_laws.proofs.Lemmas.Tables.{at_put_same, at_put_other}
 
 -- a function changed at one number
 abbrev pub upd : {X : Type 0} → (ℕ → X) → ℕ → X → ℕ → X

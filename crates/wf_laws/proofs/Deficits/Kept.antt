@@ -11,7 +11,8 @@ use Rattle.wf_world.specs.World.{Exchange}
 use Rattle.wf_frame.specs.Classes.{class_number, same_class}
 use Rattle.wf_frame.specs.Settings.{IsInRange}
 use Rattle.wf_laws.specs.Deficits.{longest_exchange, most_owed, owed}
-use Rattle.wf_laws.proofs.Common.Counts.{on, on-nil, on-cons_same, on-cons_other, on-append, on-filter_le, on-filter_out, hasnot-on}
+use Rattle.wf_rules.specs.Lists.{on}
+use Rattle.wf_rule_laws.proofs.Lemmas.Counts.{on-nil, on-cons_same, on-cons_other, on-append, on-filter_le, on-filter_out, hasnot-on}
 use Rattle.wf_laws.proofs.Deficits.Books.{each_upd, upd_other, each_updc, updc_same, cases_class, same_number, Account, core, Books, with_account, with_lists, on_part}
 use Rattle.wf_laws.proofs.Deficits.BookSteps.{with_opened, without, charge_share, with_charge, off, all_off, fresh_account, pay_share, paid, all_paid, after}
 use Rattle.wf_laws.proofs.Deficits.Openings.{Every, every_map, every_append, every_filter, Rising, rising_append, rising_filter, many, many-more, many-other, many-filter, part_of, owed-append, owed-filter, owed-ended, owed_most}

@@ -22,8 +22,9 @@ use Rattle.wf_world.specs.Step.{Outcome, ticked, sent, pulled_by, pulled, arrive
 use Rattle.wf_world.specs.Run.{Entry, world_after}
 use Rattle.wf_frame.specs.Settings.{IsInRange}
 use Rattle.wf_laws.specs.Deficits.{longest_exchange, owed}
-use Rattle.wf_laws.proofs.Common.Counts.{on, on-nil}
-use Rattle.wf_laws.proofs.Pick.Lists.{pick_on, pick_need, IsWinner, pick_winner}
+use Rattle.wf_rules.specs.Lists.{on}
+use Rattle.wf_rule_laws.proofs.Lemmas.Counts.{on-nil}
+use Rattle.wf_rule_laws.proofs.Lemmas.Rotations.{pick_on, pick_need, IsWinner, pick_winner}
 use Rattle.wf_laws.proofs.Deficits.Books.{Account, account, core, Books, books, on_part, each_updc, books_with_rotation, books_on_receiver}
 use Rattle.wf_laws.proofs.Deficits.BookSteps.{books_after_turn, books_prepared, books_sent, books_ended, books_gone, books_enqueued, receive_share, books_received, books_reaped, books_slept, books_woken, books_credited, rated, books_with_rate, books_joined, books_after_pick}
 use Rattle.wf_laws.proofs.Deficits.Openings.{Every, every_map, every_find, only_one, many, many-count, many-core}

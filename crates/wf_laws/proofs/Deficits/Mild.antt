@@ -13,8 +13,9 @@ use Rattle.wf_world.specs.World.{World, Station, Share, Tid, Queue, no_tid, no_s
 use Rattle.wf_frame.specs.Classes.{lower_tid, upper_tid}
 use Rattle.wf_world.specs.FlowQueues.{queued}
 use Rattle.wf_world.specs.CanSend.{request_open, can_send, has_credit, can_send_in, is_ready}
-use Rattle.wf_laws.proofs.Common.Tables.{each_put, at_put_other}
-use Rattle.wf_laws.proofs.Common.Counts.{on, on-cons_same, on-cons}
+use Rattle.wf_rule_laws.proofs.Lemmas.Tables.{each_put, at_put_other}
+use Rattle.wf_rules.specs.Lists.{on}
+use Rattle.wf_rule_laws.proofs.Lemmas.Counts.{on-cons_same, on-cons}
 
 -- what a station sends by
 abbrev pub sends : Station → Station

@@ -20,15 +20,16 @@ use Rattle.wf_world.specs.CanSend.{is_request}
 use Rattle.wf_world.specs.Exchanges.{Filled, Prepared, picked_station, pay_station, pay_stations, after_pick, after_turn, with_number, with_fresh, filled, prepared_frames, prepared, spent, exchange_of, opening_exchange, charged, settled_slot, settled, all_settled, after_done, sending_tid, after_arrival}
 use Rattle.wf_world.specs.Refusals.{refusals}
 use Rattle.wf_world.specs.Step.{Outcome, joined, left_tid, left_tids, off_lists, gone, with_rate, ticked, with_frame, enqueued, sent, pulled_by, pulled, arrived, answered, ended, on_open, slept, woken, credited, received, reaped, done, station_of, concerned}
-use Rattle.wf_laws.proofs.Common.Tables.{at_put_other}
-use Rattle.wf_laws.proofs.Common.Counts.{on, on-nil, on-cons_same, on-cons_other, on-append, on-filter, hasnot-on}
-use Rattle.wf_laws.proofs.Pick.Lists.{pick_on}
+use Rattle.wf_rule_laws.proofs.Lemmas.Tables.{at_put_other}
+use Rattle.wf_rules.specs.Lists.{on}
+use Rattle.wf_rule_laws.proofs.Lemmas.Counts.{on-nil, on-cons_same, on-cons_other, on-append, on-filter, hasnot-on}
+use Rattle.wf_rule_laws.proofs.Lemmas.Rotations.{pick_on}
 use Rattle.wf_laws.proofs.Deficits.Books.{core, books}
 use Rattle.wf_laws.proofs.Deficits.Openings.{Every, every_map}
 use Rattle.wf_laws.proofs.Deficits.Kept.{IsKept, added-on}
 use Rattle.wf_laws.proofs.Deficits.KeptStep.{NoRow, IsFound, only_this, replaced}
 use Rattle.wf_laws.proofs.Deficits.Mild.{sends, Lists, Owned, IsMild, mild_here, mild_then, mild_if, mild_on_tid, mild_on_station, mild_on_share, mild_with_station, mild_on_queue, mild_with_rotation, mild_finish, mild_finish_all}
-use Rattle.wf_laws.proofs.Common.Dequeues.{dequeue_less}
+use Rattle.wf_rule_laws.proofs.Lemmas.Dequeues.{dequeue_less}
 
 -- ---- sessions, receivers and lists of queues
 

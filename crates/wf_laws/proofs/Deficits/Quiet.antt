@@ -19,7 +19,7 @@ use Rattle.wf_world.specs.Run.{Entry, world_after}
 use Rattle.wf_world.specs.Stretches.{world_at}
 use Rattle.wf_frame.specs.Settings.{IsInRange}
 use Rattle.wf_laws.specs.Deficits.{heard_by, heard_in, QuietLaw}
-use Rattle.wf_laws.proofs.Common.Counts.{on}
+use Rattle.wf_rules.specs.Lists.{on}
 use Rattle.wf_laws.proofs.Deficits.Books.{Account, account, Books, books, with_account, on_part, upd_same, upd_other, each_upd, updc_same, updc_other, each_updc, cases_class}
 use Rattle.wf_laws.proofs.Deficits.BookSteps.{books_ended, books_gone, all_off, books_enqueued, receive_share, books_received, books_reaped, books_slept, books_woken, books_credited, rated, books_with_rate, fresh_account, books_joined, charge_share, pay_share, after, books_after_pick}
 use Rattle.wf_laws.proofs.Deficits.Kept.{IsKept, if_map}

@@ -19,8 +19,9 @@ use Rattle.wf_world.specs.Refusals.{refusals, refusal}
 use Rattle.wf_world.specs.Step.{Outcome, ticked, pulled_by, pulled, on_open, done, concerned, refused, answer, step}
 use Rattle.wf_world.specs.Run.{Entry, world_after}
 use Rattle.wf_frame.specs.Settings.{IsInRange}
-use Rattle.wf_laws.proofs.Common.Counts.{on, on-nil, on-cons_same, on-append, on-filter, has-on}
-use Rattle.wf_laws.proofs.Pick.Lists.{pick_keeps}
+use Rattle.wf_rules.specs.Lists.{on}
+use Rattle.wf_rule_laws.proofs.Lemmas.Counts.{on-nil, on-cons_same, on-append, on-filter, has-on}
+use Rattle.wf_rule_laws.proofs.Lemmas.Rotations.{pick_keeps}
 use Rattle.wf_laws.proofs.Deficits.Books.{Books, books, with_account, updc, updc_same, each_updc, books_with_rotation}
 use Rattle.wf_laws.proofs.Deficits.BookSteps.{books_after_turn, books_prepared, books_sent, books_ended, books_gone, all_off, books_enqueued, books_received, books_reaped, books_slept, books_woken, books_credited, books_with_rate, books_joined, after, books_after_pick}
 use Rattle.wf_laws.proofs.Deficits.Kept.{IsKept, added-on}

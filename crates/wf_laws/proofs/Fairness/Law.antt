@@ -10,7 +10,8 @@ use Rattle.wf_world.specs.Run.{Entry, world_after}
 use Rattle.wf_world.specs.Stretches.{world_at, charges, charged_between, IsStretch, IsQuiet}
 use Rattle.wf_frame.specs.Settings.{IsInRange}
 use Rattle.wf_laws.specs.Deficits.{most_owed, owed, got_between, IsNear, weight_at, IsFairStretch, FairnessLaw}
-use Rattle.wf_laws.proofs.Common.Counts.{on, ahead, has-on, on-append}
+use Rattle.wf_rules.specs.Lists.{on}
+use Rattle.wf_rule_laws.proofs.Lemmas.Counts.{ahead, has-on, on-append}
 use Rattle.wf_laws.proofs.Deficits.Books.{Account, account, Books, books}
 use Rattle.wf_laws.proofs.Deficits.Kept.{IsKept}
 use Rattle.wf_laws.proofs.Deficits.KeptStep.{kept, kept_step, live_account}

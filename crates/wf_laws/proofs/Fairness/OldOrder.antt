@@ -17,8 +17,9 @@ use Rattle.wf_world.specs.Exchanges.{Prepared, station_need, picked_station, aft
 use Rattle.wf_world.specs.Refusals.{refusals, refusal}
 use Rattle.wf_world.specs.Step.{Outcome, joined, ticked, with_rate, pulled_by, pulled, ended, on_open, received, done, refused, answer, step}
 use Rattle.wf_world.specs.Stretches.{charge_to, charge_by}
-use Rattle.wf_laws.proofs.Common.Counts.{on, ahead, on-append, ahead-filter, on-filter_out}
-use Rattle.wf_laws.proofs.Pick.Lists.{stay}
+use Rattle.wf_rules.specs.Lists.{on}
+use Rattle.wf_rule_laws.proofs.Lemmas.Counts.{ahead, on-append, ahead-filter, on-filter_out}
+use Rattle.wf_rule_laws.proofs.Lemmas.Rotations.{stay}
 use Rattle.wf_laws.proofs.Deficits.Books.{Account, account, core, Books, books, with_account, on_part, upd_same, upd_other, each_upd, updc_same, updc_other, each_updc, cases_class, books_with_rotation}
 use Rattle.wf_laws.proofs.Deficits.BookSteps.{books_after_turn, books_prepared, books_sent, with_opened, charge_share, with_charge, books_ended, books_gone, all_off, books_enqueued, receive_share, books_received, books_reaped, books_slept, books_woken, books_credited, rated, books_with_rate, fresh_account, books_joined, pay_share, paid, after, books_after_pick}
 use Rattle.wf_laws.proofs.Deficits.Openings.{every_find}

@@ -14,12 +14,12 @@ use Rattle.wf_world.specs.World.{World, Station, Tid, Queue, Frame, no_tid, no_s
 use Rattle.wf_world.specs.FlowQueues.{total_queued}
 use Rattle.wf_world.specs.Run.{Entry}
 use Rattle.wf_world.specs.Stretches.{world_at}
-use Rattle.wf_laws.specs.Lists.{IsOnce, IsRising}
+use Rattle.wf_rules.specs.Lists.{IsOnce, IsRising}
 use Rattle.wf_laws.specs.Places.{Place, Queued, Numbered, StandsAt, StandsOnce, KeepsPlaces}
 use Rattle.wf_laws.specs.Queues.{KeepsQueues}
 use Rattle.wf_laws.specs.Room.{unsettled_of, in_windows_of, in_windows}
-use Rattle.wf_laws.proofs.Common.Numbers.{on_if, eq_yes, yes_eq, either, or_left, or_right}
-use Rattle.wf_laws.proofs.Common.Joined.{as_many, rising_once, has_first, has_second, has_either, once_append, apart_lists, all_of, length_all, has_all, InOne, in_one, once_all}
+use Rattle.wf_rule_laws.proofs.Lemmas.Numbers.{on_if, eq_yes, yes_eq, either, or_left, or_right}
+use Rattle.wf_rule_laws.proofs.Lemmas.Joined.{as_many, rising_once, has_first, has_second, has_either, once_append, apart_lists, all_of, length_all, has_all, InOne, in_one, once_all}
 use Rattle.wf_laws.proofs.Frames.Places.{place_law}
 use Rattle.wf_laws.proofs.Queues.Law.{queue_law}
 

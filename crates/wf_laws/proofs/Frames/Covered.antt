@@ -1,44 +1,36 @@
 -- Each held frame is in a queue or at a number that is not settled.
-use Rattle.std.proofs.Common.{pos, ◌-ℤ◌}
+use Rattle.std.proofs.Common.{pos, ◌-ℤ◌, ◌≡◌, ◌≢◌, refl, ap, sym, ◌∙◌, subst, arith, ℕ, zero, suc, ◌<◌, ◌≤◌, ◌-◌, ◌+◌, Bool, true, false, if◌then◌else◌, ◌==◌, ◌||◌, ◌⊎◌, inl, inr, List, [], ◌∷◌, ◌++◌, map, length, Option, Some, None, IfSome}
 use Rattle.wf_frame.specs.declared.classes.Cause.{Cause}
 use Rattle.wf_frame.specs.declared.classes.Class.{Class}
 use Rattle.wf_rules.specs.Rotation.{Rotation, in_order}
-use Rattle.wf_rules.specs.Session.{request_due}
-use Rattle.wf_world.specs.World.{Mpdu, Exchange, tid_of, is_live, rotation, params, with_queues, on_share, with_rotation}
+use Rattle.wf_rules.specs.Session.{request_due, Session, Slot, State, slot, on_slot, is_settled, next_number, give}
+use Rattle.wf_world.specs.World.{Mpdu, Exchange, tid_of, is_live, rotation, params, with_queues, on_share, with_rotation, on_tid, on_station, with_station, World, Queue, Frame, no_frame, new_queue, queue, session, frame, accepted, on_queue, on_session, with_fate, finish, finish_all}
 use Rattle.wf_world.specs.FlowQueues.{len_given, pay_queues, dequeued, taken_from, picked_queue, take}
 use Rattle.wf_world.specs.CanSend.{is_ready}
 use Rattle.wf_world.specs.Exchanges.{Filled, Prepared, with_number, with_fresh, filled, longest_fitting, waiting_mpdus, most_frames, numbers_fly, prepared_frames, prepared, sending_tid, after_turn, after_pick, pay_stations, pay_station, picked_station, station_need, opening_exchange, spent, exchange_of}
 use Rattle.wf_world.specs.Step.{sent, pulled_by, pulled}
 use Rattle.wf_laws.proofs.Sessions.Flights.{Rises, next-give}
-use Rattle.wf_laws.proofs.Windows.Agreement.{slot_give, slot_new}
-use Rattle.wf_laws.proofs.Windows.Sides.{Same, then_same, same_take, same_pay_queues, same_with_queues, same_spent, same_after_turn, same_after_pick, same_finish_all}
+use Rattle.wf_laws.proofs.Windows.Agreement.{slot_give, slot_new, slot_same, slot_other}
+use Rattle.wf_laws.proofs.Windows.Sides.{Same, then_same, same_take, same_pay_queues, same_with_queues, same_spent, same_after_turn, same_after_pick, same_finish_all, each_side_on}
 use Rattle.wf_laws.proofs.Windows.Opened.{some_along, left_true, pick_ready}
 use Rattle.wf_laws.proofs.Windows.Agreed.{IsLawful, IsReady, ready_filled, lawful_same, session_same, session_on_session}
 use Rattle.wf_laws.proofs.Releases.Placed.{Placing, Any, placed_less, slot_new_id}
-use Rattle.wf_laws.proofs.Frames.Fewer.{Less, then_less, less_pay_queues, less_with_queues, less_after_turn, less_after_pick, queues_dropped}
-use Rattle.wf_laws.proofs.Frames.Fates.{Fresh, Safe, safe_calm, safe_numbered, dropped_dequeue, given_dequeued-is}
+use Rattle.wf_laws.proofs.Frames.Fewer.{Less, then_less, less_pay_queues, less_with_queues, less_after_turn, less_after_pick, queues_dropped, carries, queue_on}
+use Rattle.wf_laws.proofs.Frames.Fates.{Fresh, Safe, safe_calm, safe_numbered, dropped_dequeue, given_dequeued-is, IsHeld, InQueue, InHand, Carries, ids_in, ids_carried, IsGivenId, at_slot_same, session_on_queue}
 use Rattle.wf_laws.proofs.Frames.Untouched.{untouched_on_queue, untouched_with_queues, untouched_pay_queues, untouched_on_session, untouched_spent, untouched_after_turn, untouched_after_pick}
 use Rattle.wf_laws.proofs.Queues.Shelves.{Shelves, shelves_pay_queues}
 use Rattle.wf_laws.proofs.Queues.ShelvedStep.{live_number}
 use Rattle.wf_laws.proofs.Releases.Kept.{KeptSession, kept_on_slot}
-use Rattle.wf_laws.proofs.Windows.Agreement.{slot_same, slot_other}
-use Rattle.wf_world.specs.World.{on_tid, on_station, with_station}
-use Rattle.std.proofs.Common.{◌≡◌, ◌≢◌, refl, ap, sym, ◌∙◌, subst, arith, ℕ, zero, suc, ◌<◌, ◌≤◌, ◌-◌, ◌+◌, Bool, true, false, if◌then◌else◌, ◌==◌, ◌||◌, ◌⊎◌, inl, inr, List, [], ◌∷◌, ◌++◌, map, length, Option, Some, None, IfSome}
 use Rattle.std.proofs.lemmas.Bool.{cases_eq}
 use Rattle.wf_frame.specs.declared.classes.Cause.TheVariants.{Codel as By_codel}
 use Rattle.wf_frame.specs.declared.classes.Fate.{Fate}
 use Rattle.wf_frame.specs.declared.classes.Fate.TheVariants.{Held, Dropped}
 use Rattle.wf_rules.specs.Table.{at, put, has}
 use Rattle.wf_rules.specs.Codel.{Item, Params, Codel, Dequeued, dequeue}
-use Rattle.wf_rules.specs.Session.{Session, Slot, State, slot, on_slot, is_settled, next_number, give}
-use Rattle.wf_world.specs.World.{World, Queue, Frame, no_frame, new_queue, queue, session, frame, accepted, on_queue, on_session, with_fate, finish, finish_all}
-use Rattle.wf_laws.proofs.Common.Tables.{at_put_same, at_put_other}
-use Rattle.wf_laws.proofs.Common.Numbers.{on_bool, not_eq, eq_yes, eq_no, either, or_left, or_right, yes_eq}
-use Rattle.wf_laws.proofs.Common.Dequeues.{each_dequeue}
-use Rattle.wf_laws.proofs.Windows.Sides.{each_side_on}
-use Rattle.wf_laws.proofs.Frames.Fewer.{carries, queue_on}
-use Rattle.wf_laws.proofs.Frames.Fates.{IsHeld, InQueue, InHand, Carries, ids_in, ids_carried, IsGivenId, at_slot_same, session_on_queue}
-use Rattle.wf_laws.proofs.Common.Sums.{length_put}
+use Rattle.wf_rule_laws.proofs.Lemmas.Tables.{at_put_same, at_put_other}
+use Rattle.wf_rule_laws.proofs.Lemmas.Numbers.{on_bool, not_eq, eq_yes, eq_no, either, or_left, or_right, yes_eq}
+use Rattle.wf_rule_laws.proofs.Lemmas.Dequeues.{each_dequeue}
+use Rattle.wf_rule_laws.proofs.Lemmas.Sums.{length_put}
 
 -- each held frame is one that P names
 pub record Covers (P : ℕ → Type 0) (w : World) : Type 0 where

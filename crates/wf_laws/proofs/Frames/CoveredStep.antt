@@ -1,5 +1,5 @@
 -- Each call keeps each held frame in a queue or at a number that is not settled.
-use Rattle.wf_laws.proofs.Releases.Placed.{less_left_tids}
+use Rattle.wf_laws.proofs.Releases.Placed.{less_left_tids, Placing, Any, placed_less, placed_settled, placed_without, accepted_with_frame, side_with_frame, IsIdOf, has_ids}
 use Rattle.std.proofs.Common.{◌≡◌, refl, ap, sym, ◌∙◌, subst, arith, ℕ, zero, suc, ◌<◌, ◌-◌, pos, Bool, true, false, if◌then◌else◌, ◌==◌, inl, inr, List, [], ◌∷◌, ◌++◌, length, Option, Some, None, is_some, unwrap_or}
 use Rattle.std.proofs.lemmas.Bool.{cases_eq}
 use Rattle.wf_frame.specs.declared.classes.Class.{Class}
@@ -17,16 +17,15 @@ use Rattle.wf_world.specs.World.{World, Station, Queue, Exchange, Mpdu, Content,
 use Rattle.wf_world.specs.FlowQueues.{total_queued, longest, without_head, within_limit, queue_for, listed_queue, appended, put_in, purge_queue, purge_queues}
 use Rattle.wf_world.specs.Exchanges.{is_acked, heard_start, mpdus_of, charged, settled, settled_slot, all_settled, after_done, ids_of}
 use Rattle.wf_world.specs.Step.{with_frame, enqueued, ended, held_slots, rising, left_tid, left_tids, off_lists, gone, joined}
-use Rattle.wf_laws.proofs.Common.Tables.{each_put}
-use Rattle.wf_laws.proofs.Common.Counts.{on-has}
-use Rattle.wf_laws.proofs.Common.Numbers.{on_bool, on_if, eq_yes, eq_no, yes_eq, either, or_left, or_right}
+use Rattle.wf_rule_laws.proofs.Lemmas.Tables.{each_put}
+use Rattle.wf_rule_laws.proofs.Lemmas.Counts.{on-has}
+use Rattle.wf_rule_laws.proofs.Lemmas.Numbers.{on_bool, on_if, eq_yes, eq_no, yes_eq, either, or_left, or_right}
 use Rattle.wf_laws.proofs.Windows.Agreement.{slot_same}
 use Rattle.wf_laws.proofs.Windows.Sides.{Side, Same, same_put_in, same_finish, same_finish_all, same_with_queues, same_charged}
 use Rattle.wf_laws.proofs.Windows.Settling.{without_same}
 use Rattle.wf_laws.proofs.Windows.Agreed.{IsLawful, IsEnding, IsFound, ending_settled, ending_of, session_same, session_on_session, same_left_tids, same_off_lists}
 use Rattle.wf_laws.proofs.Releases.Kept.{Kept, keep_settled}
 use Rattle.wf_laws.proofs.Releases.Released.{side_with_station}
-use Rattle.wf_laws.proofs.Releases.Placed.{Placing, Any, placed_less, placed_settled, placed_without, accepted_with_frame, side_with_frame, IsIdOf, has_ids}
 use Rattle.wf_laws.proofs.Frames.Fewer.{carries, queue_on, less_charged, less_drop_all}
 use Rattle.wf_laws.proofs.Frames.Delivered.{Labelled, labelled_kept}
 use Rattle.wf_laws.proofs.Frames.Fates.{IsHeld, InHand, Carries, ids_in, ids_carried, session_on_queue, fate_with_frame, head_gone, held_ids, waiting_member, IsWaiting, Pend, same_purge_queue, less_purge_queue}

@@ -1,35 +1,30 @@
 -- Each acknowledged frame reached its receiver.
-use Rattle.std.proofs.Common.{◌≡◌, ◌≢◌, refl, ap, sym, ◌∙◌, subst, arith, ℕ, zero, suc, ◌+◌, ◌-◌, ◌≤◌, nat_lt, append-nil, Bool, true, false, if◌then◌else◌, not, ◌==◌, ◌⊎◌, inl, inr, List, [], ◌∷◌, ◌++◌, length, map, Option, Some, None, IfSome, is_some}
+use Rattle.std.proofs.Common.{◌≡◌, ◌≢◌, refl, ap, sym, ◌∙◌, subst, arith, ℕ, zero, suc, ◌+◌, ◌-◌, ◌≤◌, nat_lt, append-nil, Bool, true, false, if◌then◌else◌, not, ◌==◌, ◌⊎◌, inl, inr, List, [], ◌∷◌, ◌++◌, length, map, Option, Some, None, IfSome, is_some, append_assoc, ◌↔◌}
 use Rattle.wf_frame.specs.declared.settings.Config.{Config}
 use Rattle.wf_frame.specs.declared.classes.Class.{Class}
-use Rattle.wf_rules.specs.Receiver.{Score}
+use Rattle.wf_rules.specs.Receiver.{Score, Receiver, score}
 use Rattle.wf_rules.specs.Table.{at, has, with_member, put, upto}
 use Rattle.wf_rules.specs.Codel.{Item}
-use Rattle.wf_rules.specs.Receiver.{Receiver, score}
 use Rattle.wf_rules.specs.Session.{request_due, waiting_numbers, with_state, Session, State, is_failed, slot, give, missed, next_number, has_room}
-use Rattle.wf_world.specs.World.{receiver, World, Station, Exchange, Mpdu, Content, Frames, Request, no_tid, rotation, session, is_live, exchange, with_station, on_station, on_session, on_receiver, on_queue, with_exchange, without_exchange, opening}
+use Rattle.wf_world.specs.World.{receiver, World, Station, Exchange, Mpdu, Content, Frames, Request, no_tid, rotation, session, is_live, exchange, with_station, on_station, on_session, on_receiver, on_queue, with_exchange, without_exchange, opening, no_frame, Frame}
 use Rattle.wf_frame.specs.Classes.{all_classes}
 use Rattle.wf_world.specs.FlowQueues.{within_limit, appended, put_in, take}
 use Rattle.wf_world.specs.CanSend.{is_ready, can_give}
-use Rattle.wf_world.specs.Exchanges.{is_acked, station_need, most_frames, picked_station, after_arrival, exchange_of, sending_tid, Filled, Prepared, mpdus_of, after_pick, after_turn, with_fresh, filled, with_number, fresh_mpdus, numbers_fly, waiting_mpdus, longest_fitting, spent, prepared_frames, prepared, opening_exchange, charged, settled_slot, settled, all_settled, after_done}
+use Rattle.wf_world.specs.Exchanges.{is_acked, station_need, most_frames, picked_station, after_arrival, exchange_of, sending_tid, Filled, Prepared, mpdus_of, after_pick, after_turn, with_fresh, filled, with_number, fresh_mpdus, numbers_fly, waiting_mpdus, longest_fitting, spent, prepared_frames, prepared, opening_exchange, charged, settled_slot, settled, all_settled, after_done, fits_in, mpdu}
 use Rattle.wf_frame.specs.declared.notes.Ask.TheVariants.{Join, Leave, Rate, Tick, Pull, Arrive, Answer, Done, Sleep, Wake, Poll, Rx, Reap}
 use Rattle.wf_frame.specs.declared.notes.Note.{Note}
 use Rattle.wf_frame.specs.declared.notes.Note.TheVariants.{Enqueue, Asked}
 use Rattle.wf_frame.specs.declared.notes.Refusal.{Refusal}
 use Rattle.wf_frame.specs.declared.notes.Refusal.TheVariants.{Idle}
 use Rattle.wf_world.specs.Refusals.{open_of_station, refusals, refusal}
-use Rattle.wf_world.specs.Step.{Outcome, joined, left_tid, left_tids, off_lists, gone, with_rate, ticked, with_frame, enqueued, sent, pulled_by, pulled, arrived, answered, ended, on_open, slept, woken, credited, received, reaped, done, refused, answer, step}
+use Rattle.wf_world.specs.Step.{Outcome, joined, left_tid, left_tids, off_lists, gone, with_rate, ticked, with_frame, enqueued, sent, pulled_by, pulled, arrived, answered, ended, on_open, slept, woken, credited, received, reaped, done, refused, answer, step, concerned}
 use Rattle.wf_world.specs.Run.{Entry, world_after}
-use Rattle.wf_laws.proofs.Common.Tables.{at_put_other}
+use Rattle.wf_rule_laws.proofs.Lemmas.Tables.{at_put_other}
 use Rattle.wf_laws.proofs.Sessions.Flights.{Rises}
-use Rattle.wf_laws.proofs.Common.Numbers.{on_if}
+use Rattle.wf_rule_laws.proofs.Lemmas.Numbers.{on_if}
 use Rattle.wf_laws.proofs.Windows.Sides.{Side, side_of, sides_of, Same, each_side_on, on_opened, then_same, same_on_station, same_on_share, same_finish, same_listed, same_after_pick, same_after_turn, same_spent, same_within_limit, same_put_in, same_take, same_charged}
 use Rattle.wf_laws.proofs.Windows.Opened.{Each, each_map, each_both, each_append, each_filter, each_find, FlyIn, some_along, pick_ready, left_true, can_give-room, none_open, NoRow, no_row}
-use Rattle.std.proofs.Common.{append_assoc, ◌↔◌}
 use Rattle.wf_frame.specs.declared.classes.Fate.TheVariants.{Acked, Held}
-use Rattle.wf_world.specs.World.{no_frame, Frame}
-use Rattle.wf_world.specs.Exchanges.{fits_in, mpdu}
-use Rattle.wf_world.specs.Step.{concerned}
 use Rattle.wf_laws.specs.Windows.{EachMpdu}
 use Rattle.wf_laws.specs.Delivery.{EndsHeard, HasReached, ReachedWithin, DeliveryLaw}
 use Rattle.wf_laws.proofs.Releases.Kept.{KeptSession, kept_give, kept_fly, Kept, kept_same, keep_ended, keep_prepared}

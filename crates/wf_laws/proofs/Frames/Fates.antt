@@ -1,62 +1,45 @@
 -- What became of a frame stays so: only frames in queues and at numbers that are not settled get a fate, and those are held.
-use Rattle.std.proofs.Common.{◌≡◌, ◌≢◌, refl, ap, sym, ◌∙◌, subst, arith, ℕ, zero, suc, ◌+◌, ◌-◌, ◌<◌, ◌≤◌, nat_lt, pos, Bool, true, false, if◌then◌else◌, not, ◌==◌, ◌||◌, ◌⊎◌, inl, inr, List, [], ◌∷◌, ◌++◌, length, map, Option, Some, None, IfSome}
+use Rattle.std.proofs.Common.{◌≡◌, ◌≢◌, refl, ap, sym, ◌∙◌, subst, arith, ℕ, zero, suc, ◌+◌, ◌-◌, ◌<◌, ◌≤◌, nat_lt, pos, Bool, true, false, if◌then◌else◌, not, ◌==◌, ◌||◌, ◌⊎◌, inl, inr, List, [], ◌∷◌, ◌++◌, length, map, Option, Some, None, IfSome, is_none, count_by, add-zero, ◌-ℤ◌}
 use Rattle.wf_frame.specs.declared.settings.Config.{Config}
 use Rattle.wf_frame.specs.declared.classes.Class.{Class}
 use Rattle.wf_frame.specs.declared.classes.Fate.{Fate}
-use Rattle.wf_rules.specs.Table.{at, has, upto}
+use Rattle.wf_rules.specs.Table.{at, has, upto, count_from}
 use Rattle.wf_rules.specs.Codel.{Item, Params, Codel, new_codel, Dequeued, dequeue}
-use Rattle.wf_laws.proofs.Common.Dequeues.{giving_none, giving_head, dropping_first, each_dequeue}
-use Rattle.wf_rules.specs.Rotation.{in_order}
+use Rattle.wf_rules.specs.CodelLoop.{giving, dropping_first}
+use Rattle.wf_rule_laws.proofs.Lemmas.Dequeues.{each_dequeue}
+use Rattle.wf_rules.specs.Rotation.{in_order, no_keys}
 use Rattle.wf_rules.specs.Receiver.{Receiver}
-use Rattle.wf_rules.specs.Session.{is_waiting, request_due, waiting_numbers, with_state, Session, Slot, State, is_settled, is_failed, missed_slot, slot, on_slot, give, missed, new_session, next_number}
-use Rattle.wf_world.specs.World.{World, Station, Share, Queue, Exchange, Mpdu, Content, Frames, Request, new_tid, no_tid, rotation, session, tid_of, is_live, exchange, with_station, on_station, on_tid, on_session, on_receiver, with_queues, on_share, on_queue, with_fate, finish, finish_all, with_exchange, without_exchange, opening}
+use Rattle.wf_rules.specs.Session.{is_waiting, request_due, waiting_numbers, with_state, Session, Slot, State, is_settled, is_failed, missed_slot, slot, on_slot, give, missed, new_session, next_number, numbers_where, no_slot}
+use Rattle.wf_world.specs.World.{World, Station, Share, Queue, Exchange, Mpdu, Content, Frames, Request, new_tid, no_tid, rotation, session, tid_of, is_live, exchange, with_station, on_station, on_tid, on_session, on_receiver, with_queues, on_share, on_queue, with_fate, finish, finish_all, with_exchange, without_exchange, opening, inside, is_held, no_frame, Frame, frame, new_queue, queue, accepted, params}
 use Rattle.wf_frame.specs.Classes.{all_classes}
-use Rattle.wf_world.specs.FlowQueues.{without_head, within_limit, appended, put_in, pay_queues, dequeued, taken_from, take, purge_queue, purge_queues}
+use Rattle.wf_world.specs.FlowQueues.{without_head, within_limit, appended, put_in, pay_queues, dequeued, taken_from, take, purge_queue, purge_queues, len_given, picked_queue, queue_for, total_queued, longest}
 use Rattle.wf_world.specs.CanSend.{is_ready, listed, can_give}
-use Rattle.wf_world.specs.Exchanges.{is_acked, station_need, most_frames, picked_station, after_arrival, exchange_of, sending_tid, heard_start, Filled, Prepared, mpdus_of, after_pick, after_turn, with_fresh, filled, with_number, numbers_fly, waiting_mpdus, longest_fitting, spent, prepared_frames, prepared, opening_exchange, charged, settled_slot, settled, all_settled, after_done}
+use Rattle.wf_world.specs.Exchanges.{is_acked, station_need, most_frames, picked_station, after_arrival, exchange_of, sending_tid, heard_start, Filled, Prepared, mpdus_of, after_pick, after_turn, with_fresh, filled, with_number, numbers_fly, waiting_mpdus, longest_fitting, spent, prepared_frames, prepared, opening_exchange, charged, settled_slot, settled, all_settled, after_done, ids_of}
 use Rattle.wf_frame.specs.declared.notes.Ask.TheVariants.{Join, Leave, Rate, Tick, Pull, Arrive, Answer, Done, Sleep, Wake, Poll, Rx, Reap}
 use Rattle.wf_frame.specs.declared.notes.Note.{Note}
 use Rattle.wf_frame.specs.declared.notes.Note.TheVariants.{Enqueue, Asked}
 use Rattle.wf_frame.specs.declared.notes.Refusal.{Refusal}
 use Rattle.wf_frame.specs.declared.notes.Refusal.TheVariants.{Idle}
-use Rattle.wf_world.specs.Refusals.{refusal}
-use Rattle.wf_world.specs.Step.{Outcome, joined, left_tid, left_tids, off_lists, gone, with_rate, ticked, with_frame, enqueued, sent, pulled_by, pulled, arrived, answered, ended, on_open, slept, woken, credited, received, reaped, done, refused, answer, step}
+use Rattle.wf_world.specs.Refusals.{refusal, refusals}
+use Rattle.wf_world.specs.Step.{Outcome, joined, left_tid, left_tids, off_lists, gone, with_rate, ticked, with_frame, enqueued, sent, pulled_by, pulled, arrived, answered, ended, on_open, slept, woken, credited, received, reaped, done, refused, answer, step, held_slots, rising, concerned}
 use Rattle.wf_world.specs.Run.{Entry, world_after}
-use Rattle.std.proofs.Common.{is_none, count_by}
 use Rattle.std.proofs.lemmas.List.{length-append}
 use Rattle.std.proofs.lemmas.List.Sums.{sum_by-append}
-use Rattle.wf_world.specs.World.{inside, is_held}
-use Rattle.wf_world.specs.Refusals.{refusals}
-use Rattle.wf_laws.proofs.Windows.Opened.{NoRow, no_row}
-use Rattle.wf_laws.proofs.Common.Sums.{sum_put_within, length_put}
+use Rattle.wf_laws.proofs.Windows.Opened.{NoRow, no_row, each_find, some_along, pick_ready, left_true, eight}
+use Rattle.wf_rule_laws.proofs.Lemmas.Sums.{sum_put_within, length_put}
 use Rattle.wf_laws.proofs.Frames.Untouched.{Untouched, untouched, then_untouched, untouched_on_session, untouched_on_queue, untouched_pay_queues, untouched_with_queues, untouched_spent, untouched_after_turn, untouched_after_pick, untouched_without, untouched_charged, untouched_put_in, untouched_off_lists, untouched_with_station, untouched_on_station, untouched_on_receiver, untouched_listed}
-use Rattle.wf_laws.proofs.Common.Tables.{each_put}
+use Rattle.wf_rule_laws.proofs.Lemmas.Tables.{each_put}
 use Rattle.wf_laws.proofs.Sessions.Flights.{AllIn, Rises, all_in_later, next-give}
-use Rattle.wf_laws.proofs.Common.Numbers.{Climbs, climbs_from, on_bool, on_if, lt_yes, lt_no, eq_yes, eq_no, yes_eq, not_eq, either, or_left, or_right, climbs_at}
+use Rattle.wf_rule_laws.proofs.Lemmas.Numbers.{Climbs, climbs_from, on_bool, on_if, lt_yes, lt_no, eq_yes, eq_no, yes_eq, not_eq, either, or_left, or_right, climbs_at}
 use Rattle.wf_laws.proofs.Windows.Sides.{Side, side_of, sides_of, Same, each_side_on, then_same, same_on_station, same_with_queues, same_on_queue, same_finish, same_finish_all, same_listed, same_after_pick, same_after_turn, same_spent, same_put_in, same_pay_queues, same_take, same_charged}
 use Rattle.wf_laws.proofs.Windows.Agreement.{slot_give, slot_other, slot_same, next-on_slot}
-use Rattle.wf_laws.proofs.Windows.Opened.{each_find, some_along, pick_ready, left_true, eight}
 use Rattle.wf_frame.specs.declared.classes.Fate.TheVariants.{Held, Dropped}
 use Rattle.wf_frame.specs.declared.classes.Cause.TheVariants.{Codel as By_codel, Left, Overlimit}
-use Rattle.wf_world.specs.FlowQueues.{len_given, picked_queue, queue_for, total_queued, longest}
 use Rattle.wf_laws.proofs.Releases.Kept.{Kept, kept_heard, kept_on_slot, keep_settled}
 use Rattle.wf_laws.proofs.Frames.Delivered.{Labelled, labelled_kept, IsLabelled, labelled_step}
 use Rattle.wf_laws.proofs.Windows.Settling.{without_same}
 use Rattle.wf_laws.proofs.Releases.Released.{side_with_station, side_own_station}
-use Rattle.wf_world.specs.Step.{held_slots, rising, concerned}
-use Rattle.wf_rules.specs.Session.{numbers_where}
-use Rattle.wf_world.specs.Exchanges.{ids_of}
-use Rattle.wf_rules.specs.Codel.{Item, Params, Codel, new_codel, Dequeued, dequeue}
-use Rattle.wf_laws.proofs.Common.Dequeues.{giving_none, giving_head, dropping_first, each_dequeue}
-use Rattle.wf_rules.specs.Rotation.{no_keys}
-use Rattle.wf_rules.specs.Table.{count_from}
-use Rattle.std.proofs.Common.{add-zero}
-use Rattle.std.proofs.Common.{◌-ℤ◌}
-use Rattle.wf_world.specs.World.{no_frame, Frame, frame, new_queue, queue, accepted, params}
-use Rattle.wf_rules.specs.Codel.{Item, Params, Codel, new_codel, Dequeued, dequeue}
-use Rattle.wf_laws.proofs.Common.Dequeues.{giving_none, giving_head, dropping_first, each_dequeue}
-use Rattle.wf_rules.specs.Session.{no_slot}
-use Rattle.wf_laws.specs.Lists.{IsOnce}
+use Rattle.wf_rules.specs.Lists.{IsOnce}
 use Rattle.wf_laws.specs.Releases.{named_by, named_from}
 use Rattle.wf_laws.proofs.Windows.Agreed.{IsLawful, IsReady, IsEnding, IsFound, found, ready_filled, ending_settled, ending_of, lawful_same, lawful_step, lawful_at_first, session_same, session_on_session, same_off_lists}
 use Rattle.wf_laws.proofs.Frames.Fewer.{Ordered, carries, carries_from, Fewer, Less, then_less, less_plain, less_on_station, less_on_session, less_on_queue, less_with_queues, less_pay_queues, less_after_pick, less_after_turn, less_spent, less_listed, less_charged, fewer_tail, less_drop_all, less_purge_queues, less_finish, less_take, given_take, less_dequeued, queue_on, queues_dropped, right_dequeue}
@@ -268,10 +251,10 @@ pub record IsDroppedRight (ys : List Item) (d : Dequeued) : Type 0 where
   pub rest : (k : ℕ) → carries d.rest k ≡ true → carries ys k ≡ true
   pub given : IfSome d.given (λ x. (has (ids_in d.dropped) x.id ≡ false) × (carries ys x.id ≡ true))
 
-dropped_none : (c : Codel) → IsDroppedRight [] (giving_none c)
+dropped_none : (c : Codel) → IsDroppedRight [] (giving c [])
 dropped_none c = record { once = tt; there = λ k h. absurd (cc h); gone = λ k h. absurd (cc h); rest = λ k h. h; given = tt }
 
-dropped_head : (x : Item) (xs : List Item) (c : Codel) → IsDroppedRight (x ∷ xs) (giving_head c x xs)
+dropped_head : (x : Item) (xs : List Item) (c : Codel) → IsDroppedRight (x ∷ xs) (giving c (x ∷ xs))
 dropped_head x xs c = record { once = tt; there = λ k h. absurd (cc h); gone = λ k h. absurd (cc h); rest = λ k h. or_right (x.id == k) (carries xs k) h; given = (refl, or_left (x.id == x.id) (carries xs x.id) (yes_eq x.id x.id refl)) }
 
 given_front : (o : Option Item) (x : Item) (xs : List Item) (ds : List ℕ) → Ordered (suc x.id) xs → IfSome o (λ z. (has ds z.id ≡ false) × (carries xs z.id ≡ true)) → IfSome o (λ z. (has (x.id ∷ ds) z.id ≡ false) × (carries (x ∷ xs) z.id ≡ true))

@@ -4,22 +4,19 @@ use Rattle.wf_frame.specs.declared.classes.Class.{Class}
 use Rattle.wf_frame.specs.declared.classes.Fate.{Fate}
 use Rattle.wf_rules.specs.Table.{at, put}
 use Rattle.wf_rules.specs.Codel.{Item, Params, Codel, Dequeued, dequeue}
-use Rattle.wf_laws.proofs.Common.Dequeues.{giving_head, dropping_first, each_dequeue}
+use Rattle.wf_rules.specs.CodelLoop.{giving, dropping_first}
+use Rattle.wf_rule_laws.proofs.Lemmas.Dequeues.{each_dequeue}
 use Rattle.wf_rules.specs.Rotation.{Rotation}
 use Rattle.wf_rules.specs.Receiver.{Receiver}
 use Rattle.wf_rules.specs.Session.{Session}
-use Rattle.wf_world.specs.World.{World, Station, Share, Tid, Queue, Exchange, with_station, on_station, on_tid, on_session, on_receiver, with_queues, on_share, on_queue, with_rotation, with_fate, finish, finish_all}
+use Rattle.wf_world.specs.World.{World, Station, Share, Tid, Queue, Exchange, with_station, on_station, on_tid, on_session, on_receiver, with_queues, on_share, on_queue, with_rotation, with_fate, finish, finish_all, Frame, no_frame, frame, new_queue, queue, accepted, params}
 use Rattle.wf_world.specs.FlowQueues.{without_head, within_limit, listed_queue, pay_queues, dequeued, taken_from, take, purge_queue, purge_queues}
 use Rattle.wf_world.specs.CanSend.{listed_in, listed_in_all, listed}
 use Rattle.wf_world.specs.Exchanges.{pay_station, pay_stations, after_pick, after_turn, spent, charged}
 use Rattle.wf_laws.specs.Queues.{EachItem}
-use Rattle.wf_laws.proofs.Common.Tables.{each_put, at_put_same}
-use Rattle.wf_laws.proofs.Common.Numbers.{on_bool, eq_yes, yes_eq, either, or_left, or_right}
+use Rattle.wf_rule_laws.proofs.Lemmas.Tables.{each_put, at_put_same}
+use Rattle.wf_rule_laws.proofs.Lemmas.Numbers.{on_bool, eq_yes, yes_eq, either, or_left, or_right}
 use Rattle.wf_frame.specs.declared.classes.Fate.TheVariants.{Acked}
-use Rattle.wf_world.specs.World.{Frame, no_frame, frame, new_queue, queue, accepted}
-use Rattle.wf_rules.specs.Codel.{Item, Params, Codel, Dequeued, dequeue}
-use Rattle.wf_laws.proofs.Common.Dequeues.{giving_head, dropping_first, each_dequeue}
-use Rattle.wf_world.specs.World.{params}
 
 -- ---- the frames of a queue
 
@@ -71,7 +68,7 @@ pub record IsDequeued (ys : List Item) (d : Dequeued) : Type 0 where
   pub rest : Fewer ys d.rest
   pub given : IfSome d.given (IsGiven ys d.rest)
 
-dequeued_head : (x : Item) (xs : List Item) (c : Codel) → IsDequeued (x ∷ xs) (giving_head c x xs)
+dequeued_head : (x : Item) (xs : List Item) (c : Codel) → IsDequeued (x ∷ xs) (giving c (x ∷ xs))
 dequeued_head x xs c = record {
   rest = fewer_tail x xs;
   given = record {

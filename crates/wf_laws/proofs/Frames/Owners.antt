@@ -1,40 +1,33 @@
 -- Each frame at a number that is not settled is one of the number's TID.
 use Rattle.wf_frame.specs.declared.classes.Class.{Class}
 use Rattle.wf_frame.specs.declared.classes.Fate.{Fate}
-use Rattle.std.proofs.Common.{nat_lt, ◌+◌, ◌++◌}
+use Rattle.std.proofs.Common.{nat_lt, ◌+◌, ◌++◌, ◌≡◌, refl, ap, sym, ◌∙◌, subst, arith, ℕ, zero, suc, ◌<◌, ◌-◌, Bool, true, false, if◌then◌else◌, ◌==◌, List, [], ◌∷◌, length, Option, Some, None, IfSome}
 use Rattle.wf_rules.specs.Table.{at}
-use Rattle.wf_rules.specs.Codel.{Params, Codel, Dequeued, dequeue}
+use Rattle.wf_rules.specs.Codel.{Params, Codel, Dequeued, dequeue, Item}
 use Rattle.wf_rules.specs.Rotation.{in_order}
-use Rattle.wf_rules.specs.Session.{Slot, State, slot, is_settled, next_number, with_state, missed, missed_slot, request_due}
-use Rattle.wf_world.specs.World.{Frame, no_frame, Mpdu, Exchange, Content, Frames, Request, queue, tid_of, is_live, rotation, on_queue, with_queues, on_tid, on_station, with_station, finish, without_exchange}
+use Rattle.wf_rules.specs.Session.{Slot, State, slot, is_settled, next_number, with_state, missed, missed_slot, request_due, Session, give}
+use Rattle.wf_world.specs.World.{Frame, no_frame, Mpdu, Exchange, Content, Frames, Request, queue, tid_of, is_live, rotation, on_queue, with_queues, on_tid, on_station, with_station, finish, without_exchange, World, session, frame, on_session}
 use Rattle.wf_world.specs.FlowQueues.{queue_need, has_frames, pay_queues, dequeued, taken_from, picked_queue, take}
 use Rattle.wf_world.specs.CanSend.{is_ready}
 use Rattle.wf_world.specs.Exchanges.{Filled, Prepared, with_number, with_fresh, filled, longest_fitting, waiting_mpdus, most_frames, numbers_fly, prepared_frames, prepared, sending_tid, after_turn, after_pick, picked_station, station_need, opening_exchange, spent, exchange_of, is_acked, heard_start, charged, settled, settled_slot, all_settled, after_done}
 use Rattle.wf_world.specs.Step.{sent, pulled_by, pulled, ended}
-use Rattle.wf_laws.specs.Queues.{EachItem}
-use Rattle.wf_laws.proofs.Common.Numbers.{on_bool, lt_yes, lt_no}
-use Rattle.wf_laws.proofs.Common.Dequeues.{each_dequeue}
-use Rattle.wf_laws.proofs.Pick.Lists.{IsWinner, pick_winner}
+use Rattle.wf_laws.specs.Queues.{EachItem, IsFor}
+use Rattle.wf_rule_laws.proofs.Lemmas.Numbers.{on_bool, lt_yes, lt_no}
+use Rattle.wf_rule_laws.proofs.Lemmas.Dequeues.{each_dequeue}
+use Rattle.wf_rule_laws.proofs.Lemmas.Rotations.{IsWinner, pick_winner}
 use Rattle.wf_laws.proofs.Sessions.Flights.{next-give}
 use Rattle.wf_laws.proofs.Windows.Agreement.{slot_give}
-use Rattle.wf_laws.proofs.Windows.Sides.{Same, same_take, same_spent, same_after_turn, same_after_pick, same_finish, same_charged}
+use Rattle.wf_laws.proofs.Windows.Sides.{Same, same_take, same_spent, same_after_turn, same_after_pick, same_finish, same_charged, each_side_on}
 use Rattle.wf_laws.proofs.Windows.Opened.{some_along, left_true, pick_ready}
 use Rattle.wf_laws.proofs.Windows.Agreed.{IsLawful, IsReady, IsEnding, IsFound, ready_filled, ending_settled, ending_of, lawful_same, session_same}
 use Rattle.wf_laws.proofs.Windows.Settling.{without_same}
 use Rattle.wf_laws.proofs.Releases.Placed.{slot_new_id}
-use Rattle.wf_laws.proofs.Frames.Fates.{unsettles_fly, unsettles_on_slot, unsettles_heard}
+use Rattle.wf_laws.proofs.Frames.Fates.{unsettles_fly, unsettles_on_slot, unsettles_heard, Carries, Unsettles, unsettles_refl}
 use Rattle.wf_laws.proofs.Frames.Untouched.{untouched_with_queues, untouched_pay_queues, untouched_on_session, untouched_spent, untouched_after_turn, untouched_after_pick}
 use Rattle.wf_laws.proofs.Queues.Shelves.{Shelves, shelves, shelves_pay_queues, shelves_finish_all, shelves_after_turn, shelves_after_pick, shelves_ended}
 use Rattle.wf_laws.proofs.Queues.Shelved.{IsOf, IsShelved, each_item}
 use Rattle.wf_laws.proofs.Queues.ShelvedStep.{shelves_number, live_number, shelved_take}
-use Rattle.std.proofs.Common.{◌≡◌, refl, ap, sym, ◌∙◌, subst, arith, ℕ, zero, suc, ◌<◌, ◌-◌, Bool, true, false, if◌then◌else◌, ◌==◌, List, [], ◌∷◌, length, Option, Some, None, IfSome}
 use Rattle.wf_frame.specs.declared.notes.Note.{Note}
-use Rattle.wf_rules.specs.Codel.{Item}
-use Rattle.wf_rules.specs.Session.{Session, give}
-use Rattle.wf_world.specs.World.{World, session, frame, on_session}
-use Rattle.wf_laws.specs.Queues.{IsFor}
-use Rattle.wf_laws.proofs.Windows.Sides.{each_side_on}
-use Rattle.wf_laws.proofs.Frames.Fates.{Carries, Unsettles, unsettles_refl}
 
 -- the numbers of v that are not settled were so in w, each with its id
 pub record SlotsFrom (w v : World) : Type 0 where

@@ -27,7 +27,7 @@ use Rattle.wf_laws.specs.Windows.{SomeOpen, IsSending}
 use Rattle.wf_laws.specs.Releases.{named_from}
 use Rattle.wf_laws.specs.Queues.{EachItem, IsFor, AreAtMost}
 use Rattle.wf_laws.specs.Places.{Place, Queued, Numbered, IsNumbered, StandsAt, StandsOnce, KeepsPlaces, PlaceLaw}
-use Rattle.wf_laws.proofs.Common.Numbers.{on_bool, on_if, eq_yes, eq_no, either}
+use Rattle.wf_rule_laws.proofs.Lemmas.Numbers.{on_bool, on_if, eq_yes, eq_no, either}
 use Rattle.wf_laws.proofs.Windows.Sides.{Side, side_of, sides_of, Same, then_same, same_on_station, same_listed, same_after_pick}
 use Rattle.wf_laws.proofs.Windows.Opened.{Each, eight, none_open, NoRow, no_row}
 use Rattle.wf_laws.proofs.Windows.Agreed.{session_same, same_left_tids, same_off_lists}

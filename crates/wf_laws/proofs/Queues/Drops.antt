@@ -2,7 +2,7 @@
 use Rattle.std.proofs.Common.{◌≡◌, arith, ℕ, zero, suc, ◌-◌, ◌*◌, ◌≤◌, ◌&&◌, nat_lt, true, List}
 use Rattle.wf_rules.specs.Codel.{Item, Params, Codel, Look, new_codel, look, raised, first_count, begin_dropping, state_dropping, state_plain, drops, state_after, dequeue}
 use Rattle.wf_laws.specs.Ranges.{CountsRight}
-use Rattle.wf_laws.proofs.Common.Numbers.{on_if, lt_yes, both}
+use Rattle.wf_rule_laws.proofs.Lemmas.Numbers.{on_if, lt_yes, both}
 
 pub counts_new : CountsRight new_codel
 counts_new = record { some = λ e. absurd (cc e); count = omega arith; last = omega arith }

@@ -1,6 +1,6 @@
 -- The law of the queues, in every world of a run, answered.
-use Rattle.wf_laws.proofs.Releases.Placed.{placed}
-use Rattle.wf_laws.proofs.Common.Counts.{has-on}
+use Rattle.wf_laws.proofs.Releases.Placed.{placed, Placing, placed_step, placed_at_first}
+use Rattle.wf_rule_laws.proofs.Lemmas.Counts.{has-on, on-nil, on-cons_same, on-cons}
 use Rattle.std.proofs.Common.{◌≡◌, refl, sym, subst, arith, ℕ, zero, suc, ◌+◌, ◌<◌, ◌≤◌, pos, ◌≤ℤ◌, Bool, true, false, not, List, [], ◌∷◌, map, take, Option, Some, None}
 use Rattle.std.proofs.lemmas.Bool.{leb-false, ltb-false}
 use Rattle.wf_frame.specs.declared.settings.Config.{Config}
@@ -18,14 +18,12 @@ use Rattle.wf_world.specs.Refusals.{refusals, refusal}
 use Rattle.wf_world.specs.Step.{ticked, with_rate, slept, woken, credited, received, done, refused, answer, step, concerned}
 use Rattle.wf_world.specs.Run.{Entry, world_after}
 use Rattle.wf_world.specs.Stretches.{world_at}
-use Rattle.wf_laws.specs.Lists.{IsOnce, IsRising}
+use Rattle.wf_rules.specs.Lists.{IsOnce, IsRising, on}
 use Rattle.wf_laws.specs.Queues.{KeepsQueues, QueueLaw, IsAtMost, AreAtMost, QueueDeficitLaw}
-use Rattle.wf_laws.proofs.Common.Counts.{on, on-nil, on-cons_same, on-cons}
-use Rattle.wf_laws.proofs.Common.Numbers.{on_bool}
+use Rattle.wf_rule_laws.proofs.Lemmas.Numbers.{on_bool}
 use Rattle.wf_laws.proofs.Queues.Drops.{counts_new}
 use Rattle.wf_laws.proofs.Windows.Opened.{NoRow, no_row}
 use Rattle.wf_laws.proofs.Windows.Agreed.{IsLawful, lawful_step, lawful_at_first}
-use Rattle.wf_laws.proofs.Releases.Placed.{Placing, placed_step, placed_at_first}
 use Rattle.wf_laws.proofs.Frames.Fewer.{Ordered}
 use Rattle.wf_laws.proofs.Deficits.MildStep.{lists-on}
 use Rattle.wf_laws.proofs.Deficits.Configs.{config_run}

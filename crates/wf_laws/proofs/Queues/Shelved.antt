@@ -9,7 +9,8 @@ use Rattle.wf_world.specs.World.{Queue}
 use Rattle.wf_world.specs.FlowQueues.{len_given}
 use Rattle.wf_laws.specs.Queues.{EachItem, IsAged, IsFor}
 use Rattle.wf_laws.specs.Ranges.{CountsRight}
-use Rattle.wf_laws.proofs.Common.Dequeues.{dropping_first, each_dequeue}
+use Rattle.wf_rules.specs.CodelLoop.{dropping_first}
+use Rattle.wf_rule_laws.proofs.Lemmas.Dequeues.{each_dequeue}
 use Rattle.wf_laws.proofs.Deficits.Books.{upd, upd_other, each_upd}
 use Rattle.wf_laws.proofs.Deficits.Bounds.{paid_most}
 use Rattle.wf_laws.proofs.Queues.Shelves.{Spot, Shelves, with_spot, with_listed, with_queue, with_note, paid_queue}

@@ -1,67 +1,43 @@
 -- Each call keeps the shelves.
-use Rattle.wf_laws.proofs.Queues.Shelved.{part_none}
+use Rattle.wf_laws.proofs.Queues.Shelved.{part_none, restated, each_item, IsWithin, IsOf, Owned, IsShelved, IsPart, part_tail, IsLeft, left_dequeue, if_longer, keep_queue, CanList, relisted, appended_to, noted, paid}
 use Rattle.wf_laws.specs.Ranges.{CountsRight}
 use Rattle.wf_laws.proofs.Queues.Drops.{counts_new, counts_dequeue}
-use Rattle.wf_laws.proofs.Common.Sums.{length_put}
-use Rattle.wf_rules.specs.Rotation.{no_keys}
-use Rattle.wf_laws.proofs.Common.Counts.{on-has}
-use Rattle.std.proofs.Common.{map}
-use Rattle.wf_rules.specs.Codel.{new_codel}
-use Rattle.wf_laws.proofs.Windows.Sides.{Same}
-use Rattle.wf_frame.specs.declared.classes.Cause.TheVariants.{Left}
-use Rattle.std.proofs.Common.{nat_lt}
-use Rattle.wf_world.specs.World.{on_session}
-use Rattle.wf_world.specs.World.{finish_all}
-use Rattle.wf_world.specs.FlowQueues.{purge_queues}
-use Rattle.wf_world.specs.FlowQueues.{purge_queue}
-use Rattle.wf_laws.proofs.Windows.Sides.{same_take}
-use Rattle.wf_laws.proofs.Queues.Shelves.{spot}
-use Rattle.wf_laws.proofs.Queues.Shelves.{shelves_with_station}
-use Rattle.wf_laws.proofs.Queues.Shelves.{shelves_on_session}
-use Rattle.wf_laws.proofs.Common.Numbers.{on_bool}
+use Rattle.wf_rule_laws.proofs.Lemmas.Sums.{length_put}
+use Rattle.wf_rules.specs.Rotation.{no_keys, Rotation, lists, in_order, add_new}
+use Rattle.wf_rule_laws.proofs.Lemmas.Counts.{on-has, on-nil, on-cons_same, on-cons_other, on-append, on-filter, has-on}
+use Rattle.std.proofs.Common.{map, nat_lt, ◌-◌, ◌≡◌, refl, ap, sym, ◌∙◌, subst, arith, ℕ, zero, suc, ◌*◌, ◌%◌, ◌<◌, ◌≤◌, ℤ, pos, ◌+ℤ◌, ◌-ℤ◌, ◌≤ℤ◌, Bool, true, false, not, ◌&&◌, ◌||◌, ◌==◌, if◌then◌else◌, List, [], ◌∷◌, ◌++◌, length, Option, Some, None, IfSome, inl, inr, ◌⊎◌}
+use Rattle.wf_rules.specs.Codel.{new_codel, Item, Dequeued, dequeue}
+use Rattle.wf_laws.proofs.Windows.Sides.{Same, same_take, on_live, same_after_turn, same_after_pick, same_within_limit}
+use Rattle.wf_frame.specs.declared.classes.Cause.TheVariants.{Left, Overlimit}
+use Rattle.wf_world.specs.World.{on_session, finish_all, Mpdu, new_tid, session, rotation, World, Queue, no_frame, queue, tid_of, is_live, accepted, live_stations, params, on_queue, with_queues, finish, with_fate, on_tid, on_station, with_station}
+use Rattle.wf_world.specs.FlowQueues.{purge_queues, purge_queue, total_queued, longest, without_head, within_limit, is_listed_elsewhere, overflow_queue, queue_for, listed_queue, appended, put_in, queue_need, has_frames, pay_queues, len_given, dequeued, taken_from, picked_queue, take}
+use Rattle.wf_laws.proofs.Queues.Shelves.{spot, shelves_with_station, shelves_on_session, shelves_sent, shelves_after_turn, shelves_after_pick, shelves_off_lists, Spot, Shelves, shelves, with_listed, with_queue, with_note, all_paid, shelves_with_queues, shelves_on_queue, shelves_finish, shelves_finish_all, shelves_pay_queues, shelves_with_frame}
+use Rattle.wf_rule_laws.proofs.Lemmas.Numbers.{on_bool, lt_yes, lt_no, has_with, has_old, on_if, yes_lt, yes_eq, or_left, or_right, either, eq_yes}
 use Rattle.wf_frame.specs.declared.classes.Class.{Class}
-use Rattle.std.proofs.Common.{◌-◌}
 use Rattle.wf_rules.specs.Session.{request_due}
 use Rattle.wf_frame.specs.Classes.{all_classes}
-use Rattle.wf_world.specs.World.{Mpdu, new_tid, session, rotation}
 use Rattle.wf_world.specs.CanSend.{is_ready}
 use Rattle.wf_world.specs.Exchanges.{Filled, Prepared, with_number, with_fresh, filled, longest_fitting, waiting_mpdus, most_frames, prepared_frames, prepared, sending_tid, after_turn, after_pick, picked_station, station_need}
-use Rattle.wf_world.specs.Step.{pulled_by, pulled, held_slots, rising, left_tid, left_tids, off_lists, gone, joined}
-use Rattle.wf_laws.proofs.Common.Numbers.{lt_yes, lt_no, has_with, has_old}
-use Rattle.wf_laws.proofs.Windows.Sides.{on_live, same_after_turn, same_after_pick}
+use Rattle.wf_world.specs.Step.{pulled_by, pulled, held_slots, rising, left_tid, left_tids, off_lists, gone, joined, enqueued}
 use Rattle.wf_laws.proofs.Windows.Opened.{eight, some_along, left_true, pick_ready}
-use Rattle.wf_laws.proofs.Deficits.Books.{each_upd}
-use Rattle.wf_laws.proofs.Queues.Shelves.{shelves_sent, shelves_after_turn, shelves_after_pick, shelves_off_lists}
-use Rattle.wf_laws.proofs.Queues.Shelved.{restated}
-use Rattle.std.proofs.Common.{◌≡◌, refl, ap, sym, ◌∙◌, subst, arith, ℕ, zero, suc, ◌*◌, ◌%◌, ◌<◌, ◌≤◌, ℤ, pos, ◌+ℤ◌, ◌-ℤ◌, ◌≤ℤ◌, Bool, true, false, not, ◌&&◌, ◌||◌, ◌==◌, if◌then◌else◌, List, [], ◌∷◌, ◌++◌, length, Option, Some, None, IfSome, inl, inr, ◌⊎◌}
+use Rattle.wf_laws.proofs.Deficits.Books.{each_upd, upd, upd_same, upd_other}
 use Rattle.std.proofs.Math.Path.{fun_ext}
 use Rattle.std.proofs.lemmas.Int.{ints}
 use Rattle.std.proofs.lemmas.Nat.{mod_below}
 use Rattle.std.proofs.lemmas.Bool.{cases_eq}
 use Rattle.std.specs.List.{list_any}
-use Rattle.wf_frame.specs.declared.classes.Cause.TheVariants.{Overlimit}
 use Rattle.wf_frame.specs.declared.classes.Fate.TheVariants.{Dropped}
 use Rattle.wf_frame.specs.declared.notes.Note.{Note}
 use Rattle.wf_frame.specs.declared.notes.Note.TheVariants.{Enqueue}
 use Rattle.wf_rules.specs.Table.{has, upto}
-use Rattle.wf_rules.specs.Codel.{Item, Dequeued, dequeue}
-use Rattle.wf_rules.specs.Rotation.{Rotation, lists, in_order, add_new}
-use Rattle.wf_world.specs.World.{World, Queue, no_frame, queue, tid_of, is_live, accepted, live_stations, params, on_queue, with_queues, finish, with_fate, on_tid, on_station, with_station}
-use Rattle.wf_world.specs.FlowQueues.{total_queued, longest, without_head, within_limit, is_listed_elsewhere, overflow_queue, queue_for, listed_queue, appended, put_in, queue_need, has_frames, pay_queues, len_given, dequeued, taken_from, picked_queue, take}
 use Rattle.wf_laws.specs.Queues.{EachItem, IsFor}
-use Rattle.wf_laws.proofs.Common.Counts.{on, on-nil, on-cons_same, on-cons_other, on-append, on-filter, has-on}
-use Rattle.wf_laws.proofs.Common.Numbers.{on_if, yes_lt, yes_eq, or_left, or_right, either, eq_yes}
+use Rattle.wf_rules.specs.Lists.{on}
 use Rattle.wf_laws.proofs.Frames.Fewer.{carries, queue_on, less_within_limit}
 use Rattle.wf_laws.proofs.Releases.Placed.{Placing, Any}
-use Rattle.wf_laws.proofs.Windows.Sides.{same_within_limit}
-use Rattle.wf_world.specs.Step.{enqueued}
-use Rattle.wf_laws.proofs.Pick.Lists.{pick_on, pick_keeps, pick_need, IsWinner, pick_winner}
-use Rattle.wf_laws.proofs.Deficits.Books.{upd, upd_same, upd_other}
+use Rattle.wf_rule_laws.proofs.Lemmas.Rotations.{pick_on, pick_keeps, pick_need, IsWinner, pick_winner}
 use Rattle.wf_laws.proofs.Deficits.Bounds.{paid_least}
 use Rattle.wf_laws.proofs.Deficits.Kept.{added-on, unlisted-on}
 use Rattle.wf_laws.proofs.Deficits.MildStep.{lists-on, on_upto}
-use Rattle.wf_laws.proofs.Queues.Shelves.{Spot, Shelves, shelves, with_listed, with_queue, with_note, all_paid, shelves_with_queues, shelves_on_queue, shelves_finish, shelves_finish_all, shelves_pay_queues, shelves_with_frame}
-use Rattle.wf_laws.proofs.Queues.Shelved.{each_item, IsWithin, IsOf, Owned, IsShelved, IsPart, part_tail, IsLeft, left_dequeue, if_longer, keep_queue, CanList, relisted, appended_to, noted, paid}
 
 -- ---- a queue loses its head for the limit
 

@@ -17,7 +17,8 @@ use Rattle.wf_world.specs.CanSend.{listed_in, listed_in_all, listed}
 use Rattle.wf_world.specs.FlowQueues.{pay_queues}
 use Rattle.wf_world.specs.Exchanges.{pay_station, pay_stations, after_pick, after_turn, spent, opening_exchange, charged, settled_slot, settled, all_settled, after_done, Prepared}
 use Rattle.wf_world.specs.Step.{Outcome, with_frame, sent, arrived, answered, ended, on_open, reaped, off_lists}
-use Rattle.wf_laws.proofs.Common.Counts.{on, on-nil, on-cons_same, on-cons_other}
+use Rattle.wf_rules.specs.Lists.{on}
+use Rattle.wf_rule_laws.proofs.Lemmas.Counts.{on-nil, on-cons_same, on-cons_other}
 use Rattle.wf_laws.proofs.Deficits.Books.{upd, upd_same, upd_other, upd_idle, put_upd}
 
 -- whether a station is live, and how often each of its TIDs lists each queue

@@ -24,8 +24,8 @@ use Rattle.wf_world.specs.Refusals.{refusals, refusal, is_within}
 use Rattle.wf_world.specs.Step.{Outcome, joined, left_tid, left_tids, off_lists, gone, with_rate, ticked, with_frame, enqueued, sent, pulled_by, pulled, arrived, answered, ended, on_open, slept, woken, credited, received, reaped, concerned, done, refused, answer, step}
 use Rattle.wf_world.specs.Run.{Entry, world_after}
 use Rattle.wf_laws.specs.Ranges.{IsRate}
-use Rattle.wf_laws.proofs.Common.Numbers.{both, le_yes, lt_no, eq_yes, either}
-use Rattle.wf_laws.proofs.Common.Tables.{each_put}
+use Rattle.wf_rule_laws.proofs.Lemmas.Numbers.{both, le_yes, lt_no, eq_yes, either}
+use Rattle.wf_rule_laws.proofs.Lemmas.Tables.{each_put}
 use Rattle.wf_laws.proofs.Windows.Opened.{NoRow, no_row}
 
 -- what a station has besides its shares and TIDs

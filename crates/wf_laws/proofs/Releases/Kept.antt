@@ -3,17 +3,16 @@ use Rattle.std.proofs.Common.{◌≡◌, refl, ap, sym, ◌∙◌, subst, arith,
 use Rattle.wf_frame.specs.declared.classes.Class.{Class}
 use Rattle.wf_rules.specs.Table.{at, put}
 use Rattle.wf_rules.specs.Codel.{Item}
-use Rattle.wf_rules.specs.Session.{request_due, with_state, Session, Slot, State, is_failed, missed_slot, slot, on_slot, give, missed, next_number}
+use Rattle.wf_rules.specs.Session.{request_due, with_state, Session, Slot, State, is_failed, missed_slot, slot, on_slot, give, missed, next_number, no_slot}
 use Rattle.wf_world.specs.World.{receiver, World, Station, Exchange, Mpdu, Content, Frames, Request, session, is_live, on_session, with_exchange, without_exchange}
 use Rattle.wf_world.specs.FlowQueues.{take}
 use Rattle.wf_world.specs.CanSend.{can_give}
 use Rattle.wf_world.specs.Exchanges.{most_frames, picked_station, sending_tid, heard_start, Filled, Prepared, after_pick, with_fresh, filled, with_number, numbers_fly, waiting_mpdus, longest_fitting, prepared_frames, prepared, opening_exchange, settled_slot, settled, all_settled, after_done}
 use Rattle.wf_world.specs.Step.{with_frame, enqueued, sent, pulled_by, pulled, answered, ended, reaped}
-use Rattle.wf_laws.proofs.Common.Tables.{each_put}
+use Rattle.wf_rule_laws.proofs.Lemmas.Tables.{each_put}
 use Rattle.wf_laws.proofs.Sessions.Flights.{next-give}
 use Rattle.wf_laws.proofs.Windows.Sides.{Side, sides_of, Same, each_side_on, on_live, same, then_same, same_finish, same_after_pick, same_after_turn, same_spent, same_within_limit, same_put_in, same_take, same_charged}
 use Rattle.wf_laws.proofs.Windows.Agreement.{slot_give}
-use Rattle.wf_rules.specs.Session.{no_slot}
 
 -- a session whose numbers keep their ids
 pub record KeptSession (y z : Session) : Type 0 where

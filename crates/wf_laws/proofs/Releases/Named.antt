@@ -1,24 +1,21 @@
 -- Of a session's arrived numbers exactly those below the release's start are named so far.
-use Rattle.wf_laws.specs.Releases.{PassesInOrder}
-use Rattle.std.proofs.Common.{take}
-use Rattle.wf_world.specs.World.{is_live}
-use Rattle.std.proofs.Common.{◌≡◌, ap, sym, ◌∙◌, ℕ, ◌<◌, ◌≤◌, nat_lt, Bool, true, ◌==◌, inl, inr, List, [], ◌∷◌, ◌++◌, filter}
+use Rattle.wf_laws.specs.Releases.{PassesInOrder, joins, arrives, passed_by, passed_from, passed, named_by, named_from, numbers_passed, ReleaseLaw}
+use Rattle.std.proofs.Common.{take, ◌≡◌, ap, sym, ◌∙◌, ℕ, ◌<◌, ◌≤◌, nat_lt, Bool, true, ◌==◌, inl, inr, List, [], ◌∷◌, ◌++◌, filter}
+use Rattle.wf_world.specs.World.{is_live, receiver, World, session, opening}
 use Rattle.wf_frame.specs.declared.settings.Config.{Config}
 use Rattle.wf_rules.specs.Table.{has}
 use Rattle.wf_rules.specs.Receiver.{Receiver, release_start}
 use Rattle.wf_rules.specs.Session.{Session, slot, next_number}
-use Rattle.wf_world.specs.World.{receiver, World, session, opening}
 use Rattle.wf_frame.specs.declared.notes.Note.{Note}
 use Rattle.wf_world.specs.Step.{step}
 use Rattle.wf_world.specs.Run.{Entry, world_after}
-use Rattle.wf_laws.proofs.Common.Numbers.{on_if, eq_yes, yes_lt, yes_eq, either, or_left, or_right}
+use Rattle.wf_rule_laws.proofs.Lemmas.Numbers.{on_if, eq_yes, yes_lt, yes_eq, either, or_left, or_right}
 use Rattle.wf_frame.specs.declared.notes.ReplyNote.{ReplyNote}
 use Rattle.wf_frame.specs.declared.notes.ReplyNote.TheVariants.{Joined, Released}
 use Rattle.wf_world.specs.Exchanges.{ids_of}
-use Rattle.wf_laws.specs.Releases.{joins, arrives, passed_by, passed_from, passed, named_by, named_from, numbers_passed, ReleaseLaw}
 use Rattle.wf_laws.proofs.Windows.Agreed.{lawful}
 use Rattle.wf_laws.proofs.Releases.Released.{passed_all, rising_passed}
-use Rattle.wf_laws.proofs.Common.Joined.{has_append}
+use Rattle.wf_rule_laws.proofs.Lemmas.Joined.{has_append}
 use Rattle.wf_laws.proofs.Releases.Placed.{Placing, placed}
 
 -- every number of l is in m

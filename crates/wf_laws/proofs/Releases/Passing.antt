@@ -2,7 +2,7 @@
 use Rattle.std.proofs.Common.{◌≡◌, refl, ap, sym, ◌∙◌, arith, ℕ, suc, ◌<◌, ◌≤◌, ◌==◌, nat_lt, nat_le, Bool, true, false, if◌then◌else◌, ◌&&◌, inl, inr, List, [], ◌∷◌, ◌++◌, filter}
 use Rattle.wf_rules.specs.Table.{has, with_member}
 use Rattle.wf_rules.specs.Receiver.{Receiver, greatest, release_start}
-use Rattle.wf_laws.proofs.Common.Numbers.{Climbs, climbs_at, on_bool, on_if, lt_yes, lt_no, le_yes, yes_le, yes_lt, yes_eq, either, or_left, or_right, missing_ge, missing_below, missing_not}
+use Rattle.wf_rule_laws.proofs.Lemmas.Numbers.{Climbs, climbs_at, on_bool, on_if, lt_yes, lt_no, le_yes, yes_le, yes_lt, yes_eq, either, or_left, or_right, missing_ge, missing_below, missing_not}
 
 pub filter_yes : (p : ℕ → Bool) (x : ℕ) (xs : List ℕ) → p x ≡ true → filter p (x ∷ xs) ≡ x ∷ filter p xs
 filter_yes p x xs e = ap (λ (b : Bool). if b then x ∷ filter p xs else filter p xs) e

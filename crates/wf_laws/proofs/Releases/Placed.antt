@@ -1,45 +1,38 @@
 -- Each frame stands in one place, and is passed up at most once.
-use Rattle.std.proofs.Common.{◌≡◌, ◌≢◌, refl, ap, sym, ◌∙◌, subst, arith, ℕ, zero, suc, ◌+◌, ◌-◌, ◌<◌, ◌≤◌, nat_lt, append-nil, Bool, true, false, if◌then◌else◌, not, ◌&&◌, ◌==◌, ◌||◌, ◌⊎◌, inl, inr, List, [], ◌∷◌, ◌++◌, length, filter, nat_le, Option, Some, None, IfSome}
+use Rattle.std.proofs.Common.{◌≡◌, ◌≢◌, refl, ap, sym, ◌∙◌, subst, arith, ℕ, zero, suc, ◌+◌, ◌-◌, ◌<◌, ◌≤◌, nat_lt, append-nil, Bool, true, false, if◌then◌else◌, not, ◌&&◌, ◌==◌, ◌||◌, ◌⊎◌, inl, inr, List, [], ◌∷◌, ◌++◌, length, filter, nat_le, Option, Some, None, IfSome, length-append}
 use Rattle.wf_frame.specs.declared.settings.Config.{Config}
 use Rattle.wf_frame.specs.declared.classes.Class.{Class}
 use Rattle.wf_frame.specs.declared.classes.Fate.{Fate}
 use Rattle.wf_rules.specs.Table.{at, has, with_member, upto}
 use Rattle.wf_rules.specs.Codel.{Item}
-use Rattle.wf_rules.specs.Receiver.{Receiver, with_arrived, with_start, release_start}
-use Rattle.wf_rules.specs.Session.{request_due, Session, Slot, State, is_settled, is_failed, missed_slot, slot, on_slot, give, missed, next_number}
-use Rattle.wf_world.specs.World.{receiver, World, Station, Tid, Exchange, Mpdu, Content, Frames, Request, new_tid, no_tid, rotation, session, is_live, exchange, with_station, on_station, on_tid, on_session, on_receiver, on_queue, finish, with_exchange, without_exchange, opening}
+use Rattle.wf_rules.specs.Receiver.{Receiver, with_arrived, with_start, release_start, greatest, released_between}
+use Rattle.wf_rules.specs.Session.{request_due, Session, Slot, State, is_settled, is_failed, missed_slot, slot, on_slot, give, missed, next_number, no_slot}
+use Rattle.wf_world.specs.World.{receiver, World, Station, Tid, Exchange, Mpdu, Content, Frames, Request, new_tid, no_tid, rotation, session, is_live, exchange, with_station, on_station, on_tid, on_session, on_receiver, on_queue, finish, with_exchange, without_exchange, opening, new_queue, queue, accepted}
 use Rattle.wf_frame.specs.Classes.{all_classes}
-use Rattle.wf_world.specs.FlowQueues.{within_limit, appended, put_in, take}
+use Rattle.wf_world.specs.FlowQueues.{within_limit, appended, put_in, take, queue_for}
 use Rattle.wf_world.specs.CanSend.{is_ready, can_give}
-use Rattle.wf_world.specs.Exchanges.{is_acked, transmissions, no_mpdu, station_need, most_frames, picked_station, after_arrival, sending_tid, heard_start, Filled, Prepared, mpdus_of, after_pick, after_turn, with_fresh, filled, with_number, numbers_fly, waiting_mpdus, longest_fitting, prepared_frames, prepared, opening_exchange, charged, settled_slot, settled, all_settled, after_done}
+use Rattle.wf_world.specs.Exchanges.{is_acked, transmissions, no_mpdu, station_need, most_frames, picked_station, after_arrival, sending_tid, heard_start, Filled, Prepared, mpdus_of, after_pick, after_turn, with_fresh, filled, with_number, numbers_fly, waiting_mpdus, longest_fitting, prepared_frames, prepared, opening_exchange, charged, settled_slot, settled, all_settled, after_done, ids_of}
 use Rattle.wf_frame.specs.declared.notes.Ask.TheVariants.{Join, Leave, Rate, Tick, Pull, Arrive, Answer, Done, Sleep, Wake, Poll, Rx, Reap}
 use Rattle.wf_frame.specs.declared.notes.Note.{Note}
 use Rattle.wf_frame.specs.declared.notes.Note.TheVariants.{Enqueue, Asked}
 use Rattle.wf_frame.specs.declared.notes.Refusal.{Refusal}
 use Rattle.wf_frame.specs.declared.notes.Refusal.TheVariants.{Idle}
 use Rattle.wf_world.specs.Refusals.{refusals, refusal}
-use Rattle.wf_world.specs.Step.{Outcome, joined, left_tid, left_tids, off_lists, gone, with_rate, ticked, with_frame, enqueued, sent, pulled_by, pulled, arrived, answered, ended, on_open, slept, woken, credited, received, reaped, done, refused, answer, step}
+use Rattle.wf_world.specs.Step.{Outcome, joined, left_tid, left_tids, off_lists, gone, with_rate, ticked, with_frame, enqueued, sent, pulled_by, pulled, arrived, answered, ended, on_open, slept, woken, credited, received, reaped, done, refused, answer, step, concerned}
 use Rattle.wf_world.specs.Run.{Entry, world_after}
-use Rattle.wf_laws.proofs.Common.Joined.{has_append, once_append}
-use Rattle.wf_laws.proofs.Common.Tables.{each_put}
+use Rattle.wf_rule_laws.proofs.Lemmas.Joined.{has_append, once_append}
+use Rattle.wf_rule_laws.proofs.Lemmas.Tables.{each_put}
 use Rattle.wf_laws.proofs.Sessions.Starts.{length-change, at_append}
 use Rattle.wf_laws.proofs.Sessions.Flights.{flown, next-give}
-use Rattle.wf_laws.proofs.Common.Numbers.{Climbs, climbs_from, on_bool, on_if, lt_yes, lt_no, eq_yes, eq_no, yes_eq, not_eq, le_yes, either, both, and_true, or_left, or_right, has_old, climbs_with, climbs_at, greatest_least, greatest_has, greatest_within}
+use Rattle.wf_rule_laws.proofs.Lemmas.Numbers.{Climbs, climbs_from, on_bool, on_if, lt_yes, lt_no, eq_yes, eq_no, yes_eq, not_eq, le_yes, either, both, and_true, or_left, or_right, has_old, climbs_with, climbs_at, greatest_least, greatest_has, greatest_within}
 use Rattle.wf_laws.proofs.Windows.Sides.{Side, side_of, side, sides_of, Same, each_side_on, then_same, same_on_station, same_on_share, same_finish, same_listed, same_after_pick, same_after_turn, same_spent, same_within_limit, same_put_in, same_take, same_charged}
 use Rattle.wf_laws.proofs.Windows.Agreement.{slot_give, IsAgreed, agreed_arrived}
 use Rattle.wf_laws.proofs.Windows.Opened.{FlyIn, some_along, pick_ready, left_true, eight, NoRow, no_row}
 use Rattle.wf_frame.specs.declared.notes.ReplyNote.TheVariants.{Released, Refused}
-use Rattle.wf_rules.specs.Receiver.{greatest, released_between}
-use Rattle.wf_world.specs.Exchanges.{ids_of}
-use Rattle.wf_world.specs.World.{new_queue, queue, accepted}
-use Rattle.wf_world.specs.FlowQueues.{queue_for}
 use Rattle.wf_frame.specs.declared.classes.Fate.TheVariants.{Held}
 use Rattle.wf_laws.proofs.Releases.Passing.{release_rises}
-use Rattle.wf_laws.specs.Lists.{IsOnce}
+use Rattle.wf_rules.specs.Lists.{IsOnce}
 use Rattle.wf_laws.specs.Releases.{named_by, named_from, OnceLaw}
-use Rattle.wf_world.specs.Step.{concerned}
-use Rattle.wf_rules.specs.Session.{no_slot}
-use Rattle.std.proofs.Common.{length-append}
 use Rattle.wf_laws.proofs.Releases.Kept.{KeptSession, kept_on_slot, kept_fly, kept_heard}
 use Rattle.wf_laws.proofs.Windows.Agreed.{IsLawful, IsOpenIn, IsReady, IsEnding, IsFound, found, ready_filled, ending_settled, ending_of, lawful_same, lawful_step, lawful_at_first, same_left_tids, same_off_lists, rises_at, if_on}
 use Rattle.wf_laws.proofs.Releases.Released.{side_taken, side_untaken, side_with_station, side_own_station, opened_in}

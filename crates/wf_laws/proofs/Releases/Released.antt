@@ -3,37 +3,33 @@ use Rattle.std.proofs.Common.{◌≡◌, ◌≢◌, refl, ap, sym, ◌∙◌, su
 use Rattle.wf_frame.specs.declared.settings.Config.{Config}
 use Rattle.wf_frame.specs.declared.classes.Class.{Class}
 use Rattle.wf_rules.specs.Table.{at, has, with_member, upto}
-use Rattle.wf_rules.specs.Receiver.{Receiver, with_arrived, with_start, release_start}
+use Rattle.wf_rules.specs.Receiver.{Receiver, with_arrived, with_start, release_start, greatest, released_between}
 use Rattle.wf_rules.specs.Session.{Session, State, is_settled, slot, next_number}
-use Rattle.wf_world.specs.World.{receiver, World, Station, Exchange, Content, Frames, Request, new_tid, no_tid, session, is_live, exchange, with_station, on_station, on_receiver, with_exchange, opening}
+use Rattle.wf_world.specs.World.{receiver, World, Station, Exchange, Content, Frames, Request, new_tid, no_tid, session, is_live, exchange, with_station, on_station, on_receiver, with_exchange, opening, new_share}
 use Rattle.wf_frame.specs.Classes.{all_classes}
 use Rattle.wf_world.specs.CanSend.{listed}
-use Rattle.wf_world.specs.Exchanges.{transmissions, no_mpdu, after_arrival, mpdus_of}
+use Rattle.wf_world.specs.Exchanges.{transmissions, no_mpdu, after_arrival, mpdus_of, ids_of}
 use Rattle.wf_frame.specs.declared.notes.Ask.TheVariants.{Join, Leave, Rate, Tick, Pull, Arrive, Answer, Done, Sleep, Wake, Poll, Rx, Reap}
 use Rattle.wf_frame.specs.declared.notes.Note.{Note}
 use Rattle.wf_frame.specs.declared.notes.Note.TheVariants.{Enqueue, Asked}
 use Rattle.wf_frame.specs.declared.notes.Refusal.{Refusal}
 use Rattle.wf_frame.specs.declared.notes.Refusal.TheVariants.{Idle}
 use Rattle.wf_world.specs.Refusals.{refusals, refusal}
-use Rattle.wf_world.specs.Step.{Outcome, joined, left_tids, off_lists, gone, with_rate, ticked, enqueued, pulled, arrived, answered, ended, on_open, slept, woken, credited, received, reaped, done, refused, answer, step}
+use Rattle.wf_world.specs.Step.{Outcome, joined, left_tids, off_lists, gone, with_rate, ticked, enqueued, pulled, arrived, answered, ended, on_open, slept, woken, credited, received, reaped, done, refused, answer, step, concerned}
 use Rattle.wf_world.specs.Run.{Entry, world_after}
-use Rattle.wf_laws.proofs.Common.Tables.{at_put_same, at_put_other}
-use Rattle.wf_laws.proofs.Common.Numbers.{Climbs, on_bool, on_if, lt_yes, lt_no, eq_yes, eq_no, yes_eq, either, both, and_true, or_left, or_right, has_old, climbs_with, greatest_least, greatest_has, greatest_within}
+use Rattle.wf_rule_laws.proofs.Lemmas.Tables.{at_put_same, at_put_other}
+use Rattle.wf_rule_laws.proofs.Lemmas.Numbers.{Climbs, on_bool, on_if, lt_yes, lt_no, eq_yes, eq_no, yes_eq, either, both, and_true, or_left, or_right, has_old, climbs_with, greatest_least, greatest_has, greatest_within}
 use Rattle.wf_laws.proofs.Windows.Sides.{Side, side_of, side, sides_of, Same, each_side_on, side_on, on_live, same, then_same, same_on_station, same_on_share, same_listed, same_after_pick}
 use Rattle.wf_laws.proofs.Windows.Agreement.{unsettled_ge, IsAgreed, released_arrived}
 use Rattle.wf_laws.proofs.Windows.Opened.{each_find, FlyIn, eight, NoRow, no_row}
 use Rattle.wf_frame.specs.declared.notes.ReplyNote.{ReplyNote}
 use Rattle.wf_frame.specs.declared.notes.ReplyNote.TheVariants.{Joined, Released}
-use Rattle.wf_rules.specs.Receiver.{greatest, released_between}
-use Rattle.wf_world.specs.Exchanges.{ids_of}
-use Rattle.wf_laws.specs.Lists.{IsRising}
+use Rattle.wf_rules.specs.Lists.{IsRising}
 use Rattle.wf_laws.specs.Releases.{joins, is_at, arrives, passed_by, passed_from, passed, numbers_passed}
 use Rattle.wf_laws.proofs.Releases.Passing.{filter_split, filter_with, member_known, release_rises}
 use Rattle.wf_laws.proofs.Releases.Kept.{KeptSession, Kept, kept_same, keep_pulled, keep_ended, keep_answered, keep_plain, keep_enqueued, keep_reaped}
 use Rattle.wf_laws.proofs.Windows.Agreed.{IsLawful, IsOpenIn, all_at, rises_at, if_on, same_left_tids, same_off_lists, lawful_step, lawful, lawful_at_first}
 use Rattle.wf_rules.specs.Airtime.{lowest_rate}
-use Rattle.wf_world.specs.World.{new_share}
-use Rattle.wf_world.specs.Step.{concerned}
 
 -- ---- numbers and their ids
 

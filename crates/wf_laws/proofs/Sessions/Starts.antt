@@ -2,7 +2,7 @@
 use Rattle.std.proofs.Common.{◌≡◌, ◌≢◌, refl, ap, sym, arith, ℕ, zero, suc, ◌+◌, ◌-◌, ◌<◌, ◌≤◌, Bool, true, false, if◌then◌else◌, List, [], ◌∷◌, ◌++◌, length, length-append}
 use Rattle.wf_rules.specs.Table.{at, change}
 use Rattle.wf_rules.specs.Session.{Session, Slot, State, no_slot, slot, on_slot, give, is_settled, first_unsettled, start_of, next_number, has_room}
-use Rattle.wf_laws.proofs.Common.Tables.{each_put}
+use Rattle.wf_rule_laws.proofs.Lemmas.Tables.{each_put}
 
 -- at most size numbers from the first unsettled one on
 pub record IsWithin (y : Session) : Type 0 where

@@ -9,7 +9,7 @@ use Rattle.wf_world.specs.Exchanges.{mpdus_of, numbers_fly}
 use Rattle.wf_laws.proofs.Sessions.Starts.{IsWithin, start_ge, start_le, start_change, length-change, within_on_slot, within_give, at_change_other, at_change_same, at_append}
 use Rattle.wf_laws.proofs.Sessions.Flights.{AllIn, Rises, next-give, all_in_change, all_in_later}
 use Rattle.wf_laws.proofs.Windows.Opened.{FlyIn}
-use Rattle.wf_laws.proofs.Common.Numbers.{Climbs, on_bool, on_if, lt_yes, lt_no, le_yes, yes_le, yes_lt, eq_yes, eq_no, either, both, and_true, or_left, or_right, has_old, has_other, has_one, climbs_with, greatest_least, greatest_has, greatest_within, missing_ge, missing_below, missing_not, score_past, score_within, shows_has}
+use Rattle.wf_rule_laws.proofs.Lemmas.Numbers.{Climbs, on_bool, on_if, lt_yes, lt_no, le_yes, yes_le, yes_lt, eq_yes, eq_no, either, both, and_true, or_left, or_right, has_old, has_other, has_one, climbs_with, greatest_least, greatest_has, greatest_within, missing_ge, missing_below, missing_not, score_past, score_within, shows_has}
 
 -- ---- the session's start, and what is settled below it
 

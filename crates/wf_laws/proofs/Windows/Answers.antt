@@ -15,14 +15,12 @@ use Rattle.wf_frame.specs.declared.notes.Note.TheVariants.{Enqueue, Asked}
 use Rattle.wf_frame.specs.declared.notes.Refusal.{Refusal}
 use Rattle.wf_frame.specs.declared.notes.Refusal.TheVariants.{Idle}
 use Rattle.wf_world.specs.Refusals.{refusals, refusal}
-use Rattle.wf_world.specs.Step.{Outcome, joined, gone, with_rate, ticked, sent, pulled_by, pulled, arrived, answered, ended, on_open, slept, woken, credited, received, reaped, done, refused, answer, step}
-use Rattle.wf_world.specs.Run.{Entry, world_after}
-use Rattle.wf_laws.proofs.Common.Numbers.{eq_yes, eq_no}
+use Rattle.wf_world.specs.Step.{Outcome, joined, gone, with_rate, ticked, sent, pulled_by, pulled, arrived, answered, ended, on_open, slept, woken, credited, received, reaped, done, refused, answer, step, concerned}
+use Rattle.wf_world.specs.Run.{Entry, world_after, by}
+use Rattle.wf_rule_laws.proofs.Lemmas.Numbers.{eq_yes, eq_no}
 use Rattle.wf_laws.proofs.Windows.Sides.{side_of, Same, on_exchanges, then_same, same_on_station, same_on_share, same_listed, same_after_pick, same_after_turn, same_spent}
 use Rattle.wf_laws.proofs.Windows.Agreement.{answer_right, AllRight}
 use Rattle.wf_laws.proofs.Windows.Opened.{Each, each_both, each_append, each_find, some_along, pick_ready, left_true, NoRow, no_row}
-use Rattle.wf_world.specs.Run.{by}
-use Rattle.wf_world.specs.Step.{concerned}
 use Rattle.wf_laws.specs.Windows.{EachMpdu}
 use Rattle.wf_laws.specs.Answers.{IsBa, StandsAsThen, AnswerLaw}
 use Rattle.wf_laws.proofs.Windows.Agreed.{IsLawful, IsOpenIn, lawful, lawful_step, lawful_run, lawful_same, same_left_tids, same_off_lists, if_on, each_map_if}

@@ -5,7 +5,7 @@ use Rattle.wf_frame.specs.declared.classes.Class.{Class}
 use Rattle.wf_rules.specs.Table.{at, has, with_member, upto}
 use Rattle.wf_rules.specs.Codel.{Item}
 use Rattle.wf_rules.specs.Receiver.{Receiver, score}
-use Rattle.wf_rules.specs.Session.{request_due, with_state, Session, Slot, State, is_failed, missed_slot, slot, on_slot, give, missed, new_session, next_number}
+use Rattle.wf_rules.specs.Session.{request_due, with_state, Session, Slot, State, is_failed, missed_slot, slot, on_slot, give, missed, new_session, next_number, no_slot}
 use Rattle.wf_world.specs.World.{receiver, World, Station, Tid, Exchange, Mpdu, Content, Frames, Request, new_tid, no_tid, rotation, session, is_live, exchange, with_station, on_station, on_tid, on_session, on_receiver, with_exchange, without_exchange, opening}
 use Rattle.wf_frame.specs.Classes.{all_classes}
 use Rattle.wf_world.specs.FlowQueues.{take}
@@ -20,13 +20,12 @@ use Rattle.wf_world.specs.Refusals.{refusal}
 use Rattle.wf_world.specs.Step.{Outcome, joined, gone, with_rate, ticked, sent, pulled_by, pulled, arrived, answered, ended, on_open, slept, woken, credited, received, reaped, done, refused, answer, step}
 use Rattle.wf_world.specs.Run.{Entry, world_after}
 use Rattle.std.proofs.lemmas.List.Sums.{sum_by-cons}
-use Rattle.wf_laws.proofs.Common.Tables.{each_put}
+use Rattle.wf_rule_laws.proofs.Lemmas.Tables.{each_put}
 use Rattle.wf_laws.proofs.Sessions.Flights.{Rises, flown, next-give}
-use Rattle.wf_laws.proofs.Common.Numbers.{on_bool, on_if, lt_yes, lt_no, eq_yes, eq_no, either, or_left, or_right}
+use Rattle.wf_rule_laws.proofs.Lemmas.Numbers.{on_bool, on_if, lt_yes, lt_no, eq_yes, eq_no, either, or_left, or_right}
 use Rattle.wf_laws.proofs.Windows.Sides.{side_of, sides_of, Same, each_side_on, on_exchanges, same, then_same, same_on_station, same_on_share, same_finish, same_listed, same_after_pick, same_after_turn, same_spent, same_take, same_charged}
 use Rattle.wf_laws.proofs.Windows.Agreement.{below_next, slot_give, slot_new, slot_other, slot_same}
 use Rattle.wf_laws.proofs.Windows.Opened.{Each, each_map, each_find, FlyIn, some_along, pick_ready, left_true, eight}
-use Rattle.wf_rules.specs.Session.{no_slot}
 use Rattle.wf_laws.specs.Windows.{EachMpdu, SomeOpen, IsSending, OpenRises}
 use Rattle.wf_laws.proofs.Windows.Agreed.{IsLawful, IsOpenIn, IsReady, ready_filled, lawful_same, lawful_step, lawful_at_first, session_same, same_left_tids, same_off_lists}
 use Rattle.wf_laws.proofs.Windows.Settling.{all_landed, without_same, without_live}

@@ -1,7 +1,7 @@
 -- Facts of each open exchange, and of who is picked.
 use Rattle.std.proofs.Common.{◌≡◌, ◌≢◌, refl, subst, arith, ℕ, zero, suc, ◌+◌, nat_lt, zero-add, Bool, true, false, if◌then◌else◌, not, ◌&&◌, ◌==◌, List, [], ◌∷◌, ◌++◌, filter, find, count_by, nat_le, Option, Some, None, IfSome}
 use Rattle.wf_rules.specs.Table.{at}
-use Rattle.wf_rules.specs.Rotation.{Rotation, round, earlier, first_least, pick_later, pick_from, pick, in_order}
+use Rattle.wf_rules.specs.Rotation.{Rotation, round, first_of_two, first_least, pick_later, pick_from, pick, in_order}
 use Rattle.wf_rules.specs.Session.{Session, State, give, next_number, has_room}
 use Rattle.wf_world.specs.World.{World, Tid, Exchange, Mpdu, no_tid, session}
 use Rattle.wf_world.specs.FlowQueues.{queued}
@@ -83,13 +83,13 @@ pub key_if : (b : Bool) (P : ℕ → Type 0) (x y : ℕ) → P x → P y → IfS
 key_if true P x y h k = h
 key_if false P x y h k = k
 
-pub earlier_passes : (P : ℕ → Type 0) (rounds : ℕ → ℕ) (y : ℕ) (o : Option ℕ) → P y → IfSome o P → IfSome (earlier rounds y o) P
-earlier_passes P rounds y None h k = h
-earlier_passes P rounds y (Some z) h k = key_if (nat_le (rounds y) (rounds z)) P y z h k
+pub first_of_two_passes : (P : ℕ → Type 0) (rounds : ℕ → ℕ) (y : ℕ) (o : Option ℕ) → P y → IfSome o P → IfSome (first_of_two rounds y o) P
+first_of_two_passes P rounds y None h k = h
+first_of_two_passes P rounds y (Some z) h k = key_if (nat_le (rounds y) (rounds z)) P y z h k
 
 pub first_least_passes : (P : ℕ → Type 0) (rounds : ℕ → ℕ) (ks : List ℕ) → AllKeys P ks → IfSome (first_least rounds ks) P
 first_least_passes P rounds [] h = tt
-first_least_passes P rounds (k ∷ ks) h = earlier_passes P rounds k (first_least rounds ks) h.0 (first_least_passes P rounds ks h.1)
+first_least_passes P rounds (k ∷ ks) h = first_of_two_passes P rounds k (first_least rounds ks) h.0 (first_least_passes P rounds ks h.1)
 
 pub found_if : (b : Bool) (P : ℕ → Type 0) (x : ℕ) (o : Option ℕ) → (b ≡ true → P x) → IfSome o P → IfSome (if b then Some x else o) P
 found_if true P x o h k = h refl

@@ -1,5 +1,5 @@
 -- What the end of an exchange makes of its numbers.
-use Rattle.std.proofs.Common.{◌≡◌, ◌≢◌, refl, ap, sym, ◌∙◌, subst, arith, ℕ, suc, ◌<◌, ◌≤◌, Bool, true, false, if◌then◌else◌, ◌&&◌, ◌==◌, is_none, List, [], ◌∷◌, Option, Some, None, IfSome, nat_le, ◌+◌}
+use Rattle.std.proofs.Common.{◌≡◌, ◌≢◌, refl, ap, sym, ◌∙◌, subst, arith, ℕ, suc, ◌<◌, ◌≤◌, Bool, true, false, if◌then◌else◌, ◌&&◌, ◌==◌, is_none, List, [], ◌∷◌, Option, Some, None, IfSome, nat_le, ◌+◌, ◌↔◌}
 use Rattle.wf_rules.specs.Table.{has}
 use Rattle.wf_rules.specs.Receiver.{Receiver, Score, shows}
 use Rattle.wf_rules.specs.Session.{with_state, Session, Slot, State, is_failed, missed_slot, slot, on_slot, missed, next_number}
@@ -10,15 +10,13 @@ use Rattle.wf_frame.specs.declared.notes.Ask.TheVariants.{Done}
 use Rattle.wf_frame.specs.declared.notes.Note.TheVariants.{Asked}
 use Rattle.wf_frame.specs.declared.notes.Refusal.{Refusal}
 use Rattle.wf_world.specs.Refusals.{on_exchange, first_of}
-use Rattle.wf_world.specs.Step.{ended, on_open, done, answer, step}
+use Rattle.wf_world.specs.Step.{ended, on_open, done, answer, step, station_of}
 use Rattle.wf_laws.proofs.Sessions.Flights.{Rises}
-use Rattle.wf_laws.proofs.Common.Numbers.{on_if}
+use Rattle.wf_rule_laws.proofs.Lemmas.Numbers.{on_if}
 use Rattle.wf_laws.proofs.Windows.Sides.{Same, same_finish, same_listed, same_charged}
 use Rattle.wf_laws.proofs.Windows.Agreement.{slot_other, slot_same, AllRight}
 use Rattle.wf_laws.proofs.Windows.Opened.{each_find, FlyIn}
-use Rattle.std.proofs.Common.{◌↔◌}
 use Rattle.wf_frame.specs.declared.notes.Refusal.TheVariants.{NoExchange, NoAnswer}
-use Rattle.wf_world.specs.Step.{station_of}
 use Rattle.wf_laws.specs.Windows.{EachMpdu, Settles}
 use Rattle.wf_laws.proofs.Windows.Agreed.{IsLawful, IsOpenIn, session_same, session_on_session, live_on_session, missed_not_acked}
 

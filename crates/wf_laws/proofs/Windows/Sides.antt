@@ -11,7 +11,7 @@ use Rattle.wf_world.specs.World.{World, Station, Share, Tid, Queue, Exchange, no
 use Rattle.wf_world.specs.FlowQueues.{without_head, within_limit, listed_queue, appended, put_in, pay_queues, dequeued, taken_from, take, purge_queue, purge_queues}
 use Rattle.wf_world.specs.CanSend.{listed_in, listed_in_all, listed}
 use Rattle.wf_world.specs.Exchanges.{pay_station, pay_stations, after_pick, after_turn, spent, charged}
-use Rattle.wf_laws.proofs.Common.Tables.{each_put, at_put_same}
+use Rattle.wf_rule_laws.proofs.Lemmas.Tables.{each_put, at_put_same}
 
 -- ---- reading a session after a change of one
 

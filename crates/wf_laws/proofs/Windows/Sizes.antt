@@ -8,7 +8,7 @@ use Rattle.wf_frame.specs.declared.notes.Ask.TheVariants.{Join, Leave, Rate, Tic
 use Rattle.wf_frame.specs.declared.notes.Refusal.{Refusal}
 use Rattle.wf_frame.specs.Classes.{all_classes}
 use Rattle.wf_rules.specs.Table.{at, upto}
-use Rattle.wf_laws.proofs.Common.Tables.{at_put_same, at_put_other}
+use Rattle.wf_rule_laws.proofs.Lemmas.Tables.{at_put_same, at_put_other}
 use Rattle.wf_rules.specs.Session.{Session}
 use Rattle.wf_rules.specs.Bounds.{greatest_window}
 use Rattle.wf_world.specs.World.{with_exchange, on_receiver, World, Station, Exchange, Tid, no_tid, is_live, new_tid, session, exchange, with_station, opening}
@@ -16,7 +16,7 @@ use Rattle.wf_world.specs.Exchanges.{after_arrival}
 use Rattle.wf_world.specs.Refusals.{refusals, refusal, is_within}
 use Rattle.wf_world.specs.Step.{Outcome, joined, gone, arrived, on_open, concerned, done, answer, step}
 use Rattle.wf_world.specs.Run.{Entry, world_after}
-use Rattle.wf_laws.proofs.Common.Numbers.{on_bool, eq_yes, eq_no, both, le_yes}
+use Rattle.wf_rule_laws.proofs.Lemmas.Numbers.{on_bool, eq_yes, eq_no, both, le_yes}
 use Rattle.wf_laws.proofs.Windows.Sides.{each_side_on, on_live, Side, sides_of, same_listed}
 use Rattle.wf_laws.proofs.Windows.Opened.{eight, NoRow, no_row}
 use Rattle.wf_laws.proofs.Windows.Agreed.{same_left_tids, same_off_lists}

@@ -8,7 +8,7 @@ use Rattle.wf_world.specs.Run.{Entry}
 use Rattle.wf_world.specs.Stretches.{world_at}
 use Rattle.wf_laws.specs.Windows.{EachOpen, IfAsks, AreNear, IsPending, IsOpenRight, KeepsWindows}
 use Rattle.wf_laws.specs.TwelveBits.{IsInUse, ComparesRight, TwelveBitLaw}
-use Rattle.wf_laws.proofs.Common.Numbers.{missing_ge, score_within}
+use Rattle.wf_rule_laws.proofs.Lemmas.Numbers.{missing_ge, score_within}
 use Rattle.wf_laws.proofs.Windows.Agreement.{IsAgreed, next_release, below_next}
 use Rattle.wf_laws.proofs.Windows.Agreed.{IsLawful, lawful}
 use Rattle.wf_laws.proofs.Windows.Sizes.{IsSized, sized}

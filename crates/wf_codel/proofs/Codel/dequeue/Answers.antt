@@ -3,7 +3,7 @@ use Rattle.std.proofs.lemmas.List.{length-map}
 use Rattle.wf_codel.specs.Params.{params_of}
 use Rattle.wf_codel.specs.State.{state_of}
 use Rattle.wf_rules.specs.Codel.{Codel, drops_dropping, drops_plain}
-use Rattle.wf_codel.proofs.SameDequeue.{drops-on, drops-off, state-on, state-off}
+use Rattle.wf_rule_laws.proofs.Lemmas.Stepped.{drops-on, drops-off, state-on, state-off}
 use Rattle.wf_codel.proofs.Begins.{state-empty, drops-inside, plain-inside, gives-some, takes-empty, dequeue-seen, counted-after, IsCounted}
 use Rattle.wf_codel.proofs.Codel.dequeue.Goals as goal
 

@@ -1,6 +1,6 @@
 use Rattle.std.proofs.Common.{sym, ap, ◌∙◌, nat_eq, ◌%◌, ◌^◌, ◌/◌, bit_and, get_or}
 use Rattle.std.proofs.lemmas.Nat.Bits.{shr_and_one}
-use Rattle.wf_bits.specs.Offsets.{has}
+use Rattle.wf_rules.specs.Table.{has}
 use Rattle.wf_bits.specs.View.{number_of}
 use Rattle.wf_bits.proofs.Words.{has-set_of, bit_at-words}
 use Rattle.wf_bits.proofs.bits256.Bits256.has.Goals as goal

@@ -1,5 +1,5 @@
 use Rattle.std.proofs.Common.{◌∙◌, ap}
-use Rattle.wf_bits.specs.Offsets.{with_offset}
+use Rattle.wf_rules.specs.Table.{with_member}
 use Rattle.wf_bits.proofs.Words.{set_of_is_offsets, set_of-set_word, length-set_word, small-set_word}
 use Rattle.wf_bits.proofs.bits256.Bits256.set.Goals as goal
 
@@ -12,7 +12,7 @@ invariant_of-self c = (
 pub returns-clause-set : goal.returns-clause-set
 returns-clause-set c =
     set_of-set_word c.self.inside.words c.from.result c.args.i c.requires c.self.told c.self.invariant.1 c.from.ensures
-    ∙ ap (with_offset c.args.i) c.self.view_is
+    ∙ ap (with_member c.args.i) c.self.view_is
 
 pub returns-clause-offsets : goal.returns-clause-offsets
 returns-clause-offsets c = set_of_is_offsets 256 _

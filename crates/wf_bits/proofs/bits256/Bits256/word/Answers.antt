@@ -1,5 +1,6 @@
 use Rattle.std.proofs.Common.{ap, ◌∙◌, sym, subst, get_or}
-use Rattle.wf_bits.specs.Offsets.{IsOffsets, word_of}
+use Rattle.wf_rules.specs.Table.{word_of}
+use Rattle.wf_bits.specs.Offsets.{IsOffsets}
 use Rattle.wf_bits.specs.View.{number_of}
 use Rattle.wf_bits.specs.Inverse.{word_of_four}
 use Rattle.wf_bits.proofs.Words.{set_of_is_offsets}

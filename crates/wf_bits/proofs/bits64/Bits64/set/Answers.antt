@@ -1,6 +1,6 @@
 use Rattle.std.proofs.Common.{◌∙◌, ap, arith, bit_or}
 use Rattle.std.proofs.lemmas.Nat.{or_lt, one_shl, pow_below}
-use Rattle.wf_bits.specs.Offsets.{with_offset}
+use Rattle.wf_rules.specs.Table.{with_member}
 use Rattle.wf_bits.specs.View.{set_of}
 use Rattle.wf_bits.proofs.Words.{set_of-or_pow, set_of_is_offsets}
 use Rattle.wf_bits.proofs.bits64.Bits64.set.Goals as goal
@@ -12,7 +12,7 @@ invariant_of-self c =
 pub returns-clause-set : goal.returns-clause-set
 returns-clause-set c =
     ap (λ power. set_of 64 (bit_or c.self.inside.word power)) (one_shl c.args.i 64 c.requires)
-    ∙ set_of-or_pow 64 c.self.inside.word c.args.i c.requires ∙ ap (with_offset c.args.i) c.self.view_is
+    ∙ set_of-or_pow 64 c.self.inside.word c.args.i c.requires ∙ ap (with_member c.args.i) c.self.view_is
 
 pub returns-clause-offsets : goal.returns-clause-offsets
 returns-clause-offsets c = set_of_is_offsets 64 _

@@ -1,5 +1,6 @@
 use Rattle.std.proofs.Common.{ap, ◌∙◌, sym, subst}
-use Rattle.wf_bits.specs.Offsets.{IsOffsets, word_of}
+use Rattle.wf_rules.specs.Table.{word_of}
+use Rattle.wf_bits.specs.Offsets.{IsOffsets}
 use Rattle.wf_bits.specs.Inverse.{word_of_one}
 use Rattle.wf_bits.proofs.Words.{set_of_is_offsets}
 use Rattle.wf_bits.proofs.bits64.Bits64.word.Goals as goal

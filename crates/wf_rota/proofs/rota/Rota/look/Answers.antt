@@ -1,6 +1,6 @@
 use Rattle.std.proofs.Common.{◌∙◌, refl, arith, []}
 use Rattle.wf_rota.specs.Rotas.{is_ready}
-use Rattle.wf_rota.proofs.OnLemmas.{on-cons_same}
+use Rattle.wf_rule_laws.proofs.Lemmas.Counts.{on-cons_same}
 use Rattle.wf_rota.proofs.rota.Rota.look.Goals as goal
 
 pub returns-clause-found : goal.returns-clause-found

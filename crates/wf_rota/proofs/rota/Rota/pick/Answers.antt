@@ -1,6 +1,6 @@
 use Rattle.std.proofs.Common.{◌≡◌, ◌≤◌, ℕ, [], refl, ap, sym, subst, arith, length-append, false}
 use Rattle.wf_rules.specs.Rotation.{Picked, in_order, round, none_ready}
-use Rattle.wf_rota.specs.Cuts.{on}
+use Rattle.wf_rules.specs.Lists.{on}
 use Rattle.wf_rota.specs.Lists.{lists_at}
 use Rattle.wf_rota.specs.Rotas.{deficit_at, quantum_at, need_at, is_ready, picked_at}
 use Rattle.wf_rota.specs.Scan.{IsFound}

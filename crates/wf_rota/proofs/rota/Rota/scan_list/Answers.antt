@@ -1,5 +1,5 @@
 use Rattle.std.proofs.Common.{◌≡◌, ◌∙◌, ◌<◌, ◌≤◌, ◌+◌, ℕ, List, ◌++◌, length, take, drop, sym, subst, ap, arith, append_assoc}
-use Rattle.wf_rota.specs.Cuts.{on}
+use Rattle.wf_rules.specs.Lists.{on}
 use Rattle.wf_rota.specs.Lists.{keys_at}
 use Rattle.wf_rota.specs.Rotas.{Rotas, is_ready, need_at}
 use Rattle.wf_rota.specs.Scan.{IsFound}

@@ -1,10 +1,10 @@
 use Rattle.std.proofs.Common.{◌≡◌, ◌∙◌, ◌<◌, ℕ, List, [], ◌∷◌, ◌++◌, length, ap, sym, subst, arith}
-use Rattle.wf_rota.specs.Cuts.{on}
+use Rattle.wf_rules.specs.Lists.{on}
 use Rattle.wf_rota.specs.Lists.{AllLists, keys_at}
 use Rattle.wf_rota.specs.Rotas.{Rotas}
 use Rattle.wf_rota.specs.Homes.{AreKept}
 use Rattle.wf_rota.specs.declared.Side.TheVariants.{Old}
-use Rattle.wf_rota.proofs.OnLemmas.{on-cons, on-append}
+use Rattle.wf_rule_laws.proofs.Lemmas.Counts.{on-first, on-append}
 use Rattle.wf_rota.proofs.HomeLemmas.{kept_turned}
 use Rattle.wf_rota.proofs.rota.Rota.turn_old.Goals as goal
 
@@ -19,9 +19,9 @@ invariant_of-self c =
       arith,
       ap (λ (xs : List ℕ). on xs k) follows,
       on-append c.requires.follows.0 (c.args.before ∷ (c.args.key ∷ c.requires.follows.1)) k,
-      on-cons c.args.before k (c.args.key ∷ c.requires.follows.1),
-      on-cons c.args.key k c.requires.follows.1,
-      on-cons c.args.key k (c.requires.follows.1 ++ (c.requires.follows.0 ++ c.args.before ∷ [])),
+      on-first c.args.before k (c.args.key ∷ c.requires.follows.1),
+      on-first c.args.key k c.requires.follows.1,
+      on-first c.args.key k (c.requires.follows.1 ++ (c.requires.follows.0 ++ c.args.before ∷ [])),
       on-append c.requires.follows.1 (c.requires.follows.0 ++ c.args.before ∷ []) k,
       on-append c.requires.follows.0 (c.args.before ∷ []) k,
     )))

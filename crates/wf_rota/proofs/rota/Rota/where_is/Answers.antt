@@ -3,7 +3,8 @@ use Rattle.std.proofs.lemmas.List.{get_or_default}
 use Rattle.wf_rota.specs.Lists.{keys_at, has_on}
 use Rattle.wf_rota.specs.Rotas.{Rotas, IsUnlisted}
 use Rattle.wf_rota.specs.Homes.{IsHome, home_at}
-use Rattle.wf_rota.proofs.HasLemmas.{is_unlisted, has-some}
+use Rattle.wf_rule_laws.proofs.Lemmas.Counts.{on-has}
+use Rattle.wf_rota.proofs.HasLemmas.{is_unlisted}
 use Rattle.wf_rota.proofs.rota.Rota.where_is.Goals as goal
 
 pub returns-in-None-clause-none : goal.returns-in-None-clause-none
@@ -18,5 +19,5 @@ returns-in-Some-clause-some c =
     let home : home_at c.self.inside.homes.items c.args.key ≡ Some c.in-Some.home = get_or_default c.self.inside.homes.items c.args.key None c.index.result.now (omega (arith, c.self.invariant.homes_keys)) ∙ sym c.index.ensures ∙ c.in-Some.is in
     let stands : IsHome c.self.inside.links.lists c.args.key (Some c.in-Some.home) = subst (IsHome c.self.inside.links.lists c.args.key) home (c.self.invariant.at_home c.args.key within) in (
       subst (λ (v : Rotas). c.in-Some.home.list < length v.lists) c.self.view_is stands.0,
-      subst (λ (v : Rotas). has_on v.lists c.in-Some.home.list c.in-Some.home.side c.args.key ≡ true) c.self.view_is (has-some (keys_at c.self.inside.links.lists c.in-Some.home.list c.in-Some.home.side) c.args.key stands.1),
+      subst (λ (v : Rotas). has_on v.lists c.in-Some.home.list c.in-Some.home.side c.args.key ≡ true) c.self.view_is (on-has (keys_at c.self.inside.links.lists c.in-Some.home.list c.in-Some.home.side) c.args.key stands.1),
     )

@@ -1,7 +1,7 @@
 use Rattle.std.proofs.Common.{◌∙◌, sym, subst, set}
 use Rattle.wf_sched.specs.Turns.{SchedValue, turns, rotation, picked, HasTurned}
 use Rattle.wf_rota.specs.Rotas.{is_ready}
-use Rattle.wf_picks.specs.Renamed.{IsIdle}
+use Rattle.wf_rule_laws.specs.Renamed.{IsIdle}
 use Rattle.wf_sched.proofs.Views.{view_of, turned, idle, if_none}
 use Rattle.wf_sched.proofs.sched.Sched.pick.Goals as goal
 
