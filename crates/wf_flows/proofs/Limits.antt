@@ -11,7 +11,7 @@ use Rattle.wf_rules.specs.Codel.{Item, Codel, new_codel}
 use Rattle.wf_rota.specs.Cuts.{on}
 use Rattle.wf_rota.specs.Rotas.{deficit_at}
 use Rattle.wf_world.specs.World.{World, Queue, is_live, queue, accepted, on_queue, finish, finish_all, with_fate}
-use Rattle.wf_world.specs.FlowQueues.{total_queued, without_head}
+use Rattle.wf_world.specs.FlowQueues.{is_at_limit, total_queued, without_head}
 use Rattle.wf_world.specs.FlowQueues.{longest as world_longest, within_limit as world_within_limit}
 use Rattle.wf_backlog.specs.Backlog.{BacklogValue, frames_at, codel_at, in_queues, item_of, settled, head_dropped}
 use Rattle.wf_flowq.specs.Flows.{FlowsValue, queues as queue_count, longest, within_limit}
@@ -78,12 +78,12 @@ pub beside_limit : (v : FlowsValue) (w : World) → StandsFor v w → IsBeside (
 unfolding within_limit world_within_limit
 beside_limit v w st =
     let q : ℕ = longest v.backlog in
-    let values : (if in_queues v.backlog == v.limit then record v { backlog = head_dropped v.backlog q } else v) ≡ (if total_queued w == w.config.limit then record v { backlog = head_dropped v.backlog q } else v) =
+    let values : (if in_queues v.backlog == v.limit then record v { backlog = head_dropped v.backlog q } else v) ≡ (if is_at_limit w then record v { backlog = head_dropped v.backlog q } else v) =
     ap₂ (λ (a b : ℕ). if a == b then record v { backlog = head_dropped v.backlog q } else v) (same_total v w st) (same_limit v w st) in
     let gone : IsBeside (record v { backlog = head_dropped v.backlog q }) w (without_head w (world_longest w) (queue w (world_longest w)).items) =
     subst (λ (n : ℕ). IsBeside (record v { backlog = head_dropped v.backlog q }) w (without_head w n (queue w n).items)) (same_longest v w st)
     (subst (λ (l : List Item). IsBeside (record v { backlog = head_dropped v.backlog q }) w (without_head w q l)) (sym (st.items q)) (head_gone v w q (frames_at v.backlog q) st refl)) in
-    subst (λ (z : FlowsValue). IsBeside z w (if total_queued w == w.config.limit then without_head w (world_longest w) (queue w (world_longest w)).items else w)) (sym values) (go (total_queued w == w.config.limit) gone)
+    subst (λ (z : FlowsValue). IsBeside z w (if is_at_limit w then without_head w (world_longest w) (queue w (world_longest w)).items else w)) (sym values) (go (is_at_limit w) gone)
   where
     go : (b : Bool) → IsBeside (record v { backlog = head_dropped v.backlog (longest v.backlog) }) w (without_head w (world_longest w) (queue w (world_longest w)).items)
         → IsBeside (if b then record v { backlog = head_dropped v.backlog (longest v.backlog) } else v) w (if b then without_head w (world_longest w) (queue w (world_longest w)).items else w)

@@ -11,7 +11,7 @@ use Rattle.wf_rules.specs.Table.{at, has, upto, count_from}
 use Rattle.wf_rules.specs.Codel.{Item, octets}
 use Rattle.wf_rules.specs.Rotation.{Rotation, lists, in_order}
 use Rattle.wf_world.specs.World.{World, Station, Queue, new_queue, no_tid, no_station, queue, tid_of, is_live, live_stations}
-use Rattle.wf_world.specs.FlowQueues.{longest_after, total_queued, head_id}
+use Rattle.wf_world.specs.FlowQueues.{is_at_limit, longest_after, total_queued, head_id}
 use Rattle.wf_world.specs.FlowQueues.{queued as world_queued, longest as world_longest, is_listed_elsewhere as world_listed_elsewhere, queue_for as world_queue_for, dropped_for_limit as world_dropped}
 use Rattle.wf_backlog.specs.Backlog.{frames_at, in_queues, item_of, first_id}
 use Rattle.wf_flowq.specs.Flows.{FlowsValue, SettingsValue, tid_number, tids, rotation, is_listed, queued, as_queue, longest, dropped_for_limit, is_listed_elsewhere, queue_for}
@@ -83,7 +83,7 @@ pub same_dropped : (v : FlowsValue) (w : World) → StandsFor v w → dropped_fo
 unfolding dropped_for_limit
 same_dropped v w st =
     ap₂ (λ (a b : ℕ). if a == b then first_id (frames_at v.backlog (longest v.backlog)) else None) (same_total v w st) (same_limit v w st)
-    ∙ ap (λ (o : Option ℕ). if total_queued w == w.config.limit then o else None)
+    ∙ ap (λ (o : Option ℕ). if is_at_limit w then o else None)
     (head_is (frames_at v.backlog (longest v.backlog)) ∙ ap head_id (sym (st.items (longest v.backlog)) ∙ ap (λ (q : ℕ). (queue w q).items) (same_longest v w st)))
 
 -- ---- who lists a queue

@@ -1,5 +1,5 @@
 -- Each call keeps the books.
-use Rattle.std.proofs.Common.{◌≡◌, ◌≢◌, refl, ap, sym, ◌∙◌, subst, arith, ℕ, ◌+◌, ◌*◌, ◌<◌, ◌≤◌, ℤ, pos, negsuc, ◌-ℤ◌, ◌≤ℤ◌, Bool, true, false, if◌then◌else◌, cond, List, [], ◌∷◌, Option, Some, None, is_some, IfSome, unwrap_or, option_map, not, ◌&&◌, map, find, nat_lt, int_lt, zero-add, ◌==◌, count_by}
+use Rattle.std.proofs.Common.{◌≡◌, ◌≢◌, refl, ap, sym, ◌∙◌, subst, arith, ℕ, ◌+◌, ◌*◌, ◌<◌, ◌≤◌, ℤ, pos, negsuc, ◌-ℤ◌, ◌≤ℤ◌, nat_le, Bool, true, false, if◌then◌else◌, cond, List, [], ◌∷◌, Option, Some, None, is_some, IfSome, unwrap_or, option_map, not, ◌&&◌, map, find, nat_lt, int_lt, zero-add, ◌==◌, count_by}
 use Rattle.std.proofs.lemmas.Int.{ints}
 use Rattle.std.proofs.lemmas.Bool.{eqb-true, eqb-false, and_parts, not-true, not-false, leb-true}
 use Rattle.std.proofs.lemmas.List.Sums.{sum_by-cons}
@@ -12,6 +12,7 @@ use Rattle.wf_frame.specs.declared.notes.Refusal.{Refusal}
 use Rattle.wf_frame.specs.declared.notes.Refusal.TheVariants.{Idle}
 use Rattle.wf_rules.specs.Table.{at}
 use Rattle.wf_rules.specs.Rotation.{add_new, lists, need_of}
+use Rattle.wf_laws.proofs.Common.Numbers.{le_no}
 use Rattle.wf_world.specs.World.{World, Station, Exchange, no_share, no_station, share, rotation, is_live, exchange, with_exchange, with_rotation, on_receiver, on_tid, on_station, with_station, opening}
 use Rattle.wf_frame.specs.Classes.{class_number, all_classes}
 use Rattle.wf_world.specs.CanSend.{is_ready, listed_in, listed_in_all, listed}
@@ -99,15 +100,12 @@ record MaySend (c : Class) (s : ℕ) (b : Books) : Type 0 where
   room : many c b.opened < b.config.inflight
   above : IfSome (b.accounts s) (λ a. pos 1 ≤ℤ (a.shares c).deficit)
 
-room_left : (w : World) (c : Class) → IsKept (books w) → (open_of_class w c == w.config.inflight) ≡ false → many c (map core w.opened) < w.config.inflight
+room_left : (w : World) (c : Class) → IsKept (books w) → (nat_le w.config.inflight (open_of_class w c)) ≡ false → many c (map core w.opened) < w.config.inflight
 room_left w c i h =
-    let differs : open_of_class w c ≢ w.config.inflight = eqb-false _ _ h in
     let same : open_of_class w c ≡ many c (map core w.opened) = many-count c w.opened ∙ sym (many-core c w.opened) in
-    let most : many c (map core w.opened) ≤ w.config.inflight = i.few c in
-    let other : many c (map core w.opened) ≢ w.config.inflight = λ e. differs (same ∙ e) in
-    omega arith
+    omega (arith, same, le_no w.config.inflight (open_of_class w c) h)
 
-may_send : (w : World) (c : Class) (s : ℕ) → IsKept (books w) → (open_of_class w c == w.config.inflight) ≡ false → (picked_station w c).winner ≡ Some s → MaySend c s (books (after_pick w c))
+may_send : (w : World) (c : Class) (s : ℕ) → IsKept (books w) → (nat_le w.config.inflight (open_of_class w c)) ≡ false → (picked_station w c).winner ≡ Some s → MaySend c s (books (after_pick w c))
 may_send w c s i h won =
     let winner : IsWinner (station_need w c) (is_ready w c) (rotation w c) (picked_station w c) s = pick_winner (station_need w c) (is_ready w c) (rotation w c) s won in
     subst (MaySend c s) (sym (books_after_pick w c)) (record {
@@ -132,7 +130,7 @@ kept_pulled_by (Some s) v c i m =
     let e : books (after_turn v s c (sending_tid v s c)) ≡ books v = books_after_turn v s c (sending_tid v s c) in
     kept_sent (after_turn v s c (sending_tid v s c)) c s (sending_tid v s c) (subst IsKept (sym e) i) (subst (MaySend c s) (sym e) (m s refl))
 
-kept_pulled : (w : World) (c : Class) → (open_of_class w c == w.config.inflight) ≡ false → IsKept (books w) → IsKept (books (pulled w c).world)
+kept_pulled : (w : World) (c : Class) → (nat_le w.config.inflight (open_of_class w c)) ≡ false → IsKept (books w) → IsKept (books (pulled w c).world)
 unfolding pulled
 kept_pulled w c h i = kept_pulled_by (picked_station w c).winner (after_pick w c) c (kept_after_pick w c i) (λ s won. may_send w c s i h won)
 

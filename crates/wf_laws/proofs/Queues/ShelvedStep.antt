@@ -12,7 +12,7 @@ use Rattle.wf_frame.specs.declared.classes.Cause.TheVariants.{Left}
 use Rattle.std.proofs.Common.{nat_lt}
 use Rattle.wf_world.specs.World.{on_session}
 use Rattle.wf_world.specs.World.{finish_all}
-use Rattle.wf_world.specs.FlowQueues.{purge_queues}
+use Rattle.wf_world.specs.FlowQueues.{is_at_limit, purge_queues}
 use Rattle.wf_world.specs.FlowQueues.{purge_queue}
 use Rattle.wf_laws.proofs.Windows.Sides.{same_take}
 use Rattle.wf_laws.proofs.Queues.Shelves.{spot}
@@ -25,7 +25,7 @@ use Rattle.wf_rules.specs.Session.{request_due}
 use Rattle.wf_frame.specs.Classes.{all_classes}
 use Rattle.wf_world.specs.World.{Mpdu, new_tid, session, rotation}
 use Rattle.wf_world.specs.CanSend.{is_ready}
-use Rattle.wf_world.specs.Exchanges.{Filled, Prepared, with_number, with_fresh, filled, longest_fitting, waiting_mpdus, most_frames, prepared_frames, prepared, sending_tid, after_turn, after_pick, picked_station, station_need}
+use Rattle.wf_world.specs.Exchanges.{Aggregate, Prepared, with_number, with_fresh, filled, longest_fitting, waiting_mpdus, most_frames, prepared_frames, prepared, sending_tid, after_turn, after_pick, picked_station, station_need}
 use Rattle.wf_world.specs.Step.{pulled_by, pulled, held_slots, rising, left_tid, left_tids, off_lists, gone, joined}
 use Rattle.wf_laws.proofs.Common.Numbers.{lt_yes, lt_no, has_with, has_old}
 use Rattle.wf_laws.proofs.Windows.Sides.{on_live, same_after_turn, same_after_pick}
@@ -75,7 +75,7 @@ shelved_without_head (x ∷ rest) most w q e i =
 shelved_within_limit : (most : ℕ) (w : World) → IsShelved most (shelves w) → IsShelved most (shelves (within_limit w))
 unfolding within_limit
 shelved_within_limit most w i =
-    on_if (λ (v : World). IsShelved most (shelves v)) (total_queued w == w.config.limit) (without_head w (longest w) (queue w (longest w)).items) w
+    on_if (λ (v : World). IsShelved most (shelves v)) (is_at_limit w) (without_head w (longest w) (queue w (longest w)).items) w
     (λ _. shelved_without_head (queue w (longest w)).items most w (longest w) refl i) (λ _. i)
 
 -- ---- a frame is put in
@@ -258,7 +258,7 @@ accepted_head (x ∷ rest) w q h = length_put no_frame w.frames x.id _ (h x.id (
 pub accepted_limit : (l : List ℕ) (w : World) → Placing l w → accepted (within_limit w) ≡ accepted w
 unfolding within_limit
 accepted_limit l w p =
-    on_if (λ (v : World). accepted v ≡ accepted w) (total_queued w == w.config.limit) (without_head w (longest w) (queue w (longest w)).items) w
+    on_if (λ (v : World). accepted v ≡ accepted w) (is_at_limit w) (without_head w (longest w) (queue w (longest w)).items) w
     (λ _. accepted_head (queue w (longest w)).items w (longest w) (λ k e. (p.queued (longest w) k e).old)) (λ _. refl)
 
 pub accepted_put : (w : World) (s t q : ℕ) (x : Item) → accepted (put_in w s t q x) ≡ accepted w
@@ -280,7 +280,7 @@ clock_head (x ∷ rest) w q = refl
 
 clock_limit : (w : World) → (within_limit w).clock ≡ w.clock
 unfolding within_limit
-clock_limit w = on_if (λ (v : World). v.clock ≡ w.clock) (total_queued w == w.config.limit) (without_head w (longest w) (queue w (longest w)).items) w (λ _. clock_head (queue w (longest w)).items w (longest w)) (λ _. refl)
+clock_limit w = on_if (λ (v : World). v.clock ≡ w.clock) (is_at_limit w) (without_head w (longest w) (queue w (longest w)).items) w (λ _. clock_head (queue w (longest w)).items w (longest w)) (λ _. refl)
 
 shelved_put_in : (most : ℕ) (w : World) (s t q : ℕ) (x : Item) (note : Note) → is_live w s ≡ true → CanTake (shelves w) s t q → IsFor s t note → x.len ≤ most → x.stamp ≡ w.clock
     → ((p : ℕ) → EachItem (λ y. y.id ≡ x.id → ⊥) (queue w p).items) → IsShelved most (shelves w) → IsShelved most (with_note (shelves (put_in w s t q x)) x.id note)
@@ -397,7 +397,7 @@ unfolding with_number
 shelves_number None w s t = refl
 shelves_number (Some x) w s t = shelves_on_session w s t _
 
-shelved_if : (b : Bool) (most : ℕ) (x y : Filled) → IsShelved most (shelves x.world) → IsShelved most (shelves y.world) → IsShelved most (shelves (if b then x else y).world)
+shelved_if : (b : Bool) (most : ℕ) (x y : Aggregate) → IsShelved most (shelves x.world) → IsShelved most (shelves y.world) → IsShelved most (shelves (if b then x else y).world)
 shelved_if true most x y h k = h
 shelved_if false most x y h k = k
 
@@ -413,11 +413,11 @@ shelved_fresh (suc n) most w s t ms live i =
 shelved_filled : (most : ℕ) (w : World) (s t : ℕ) → is_live w s ≡ true → IsShelved most (shelves w) → IsShelved most (shelves (filled w s t).world)
 unfolding filled
 shelved_filled most w s t live i =
-    let chosen : List Mpdu = longest_fitting w s [] (waiting_mpdus w s t) in
+    let chosen : List Mpdu = longest_fitting w s (waiting_mpdus w s t) in
     shelved_if (length chosen == length (waiting_mpdus w s t)) most (with_fresh (most_frames w s - length chosen) w s t chosen) (record { world = w; mpdus = chosen })
     (shelved_fresh (most_frames w s - length chosen) most w s t chosen live i) i
 
-shelved_frames : (most : ℕ) (s t : ℕ) (f : Filled) → IsShelved most (shelves f.world) → IsShelved most (shelves (prepared_frames s t f).world)
+shelved_frames : (most : ℕ) (s t : ℕ) (f : Aggregate) → IsShelved most (shelves f.world) → IsShelved most (shelves (prepared_frames s t f).world)
 unfolding prepared_frames
 shelved_frames most s t f i = subst (IsShelved most) (sym (shelves_on_session f.world s t _)) i
 
