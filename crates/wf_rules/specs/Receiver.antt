@@ -1,6 +1,7 @@
--- The recipient's side of one TID's block acknowledgement agreement, as the set of numbers and the set of
--- request starts that arrived: IEEE 802.11-2012, 9.21.7.3 to 9.21.7.6 (scoreboard and receive reordering
--- buffer). WinStartR is `score_start`, WinStartB is `release_start`; WinSizeR and WinSizeB are `size`.
+-- The recipient's side of one TID's block acknowledgement agreement, as the set of numbers and the set
+-- of request starts that arrived: IEEE 802.11-2012, 9.21.7.3 to 9.21.7.6 (scoreboard and receive
+-- reordering buffer). WinStartR is `score_start`, WinStartB is `release_start`; WinSizeR and WinSizeB
+-- are `size`.
 use Rattle.std.specs.Prelude.{ℕ, suc, ◌+◌, ◌-◌, ◌*◌, ◌^◌, ◌==◌, max, nat_lt, nat_le, Bool, ◌&&◌, List, [], ◌∷◌, if◌then◌else◌, filter, map, sum_by}
 use Rattle.wf_rules.specs.Table.{has, with_member}
 
@@ -68,6 +69,8 @@ score r = record {
 abbrev pub shows : Score → ℕ → Bool
 shows b n = nat_le b.start n && has b.offsets (n - b.start)
 
--- word i of the bitmap, which has a bit for each of the offsets 64 i to 64 i + 63
+-- word i of the bitmap, of 64 bits: the one of offset 64 i + k has the value 2 ^ k
 abbrev pub word : Score → ℕ → ℕ
-word b i = sum_by (λ j. if nat_le (64 * i) j && nat_lt j (64 * i + 64) then 2 ^ (j - 64 * i) else 0) b.offsets
+word b i =
+    sum_by (λ j. if nat_le (64 * i) j && nat_lt j (64 * i + 64) then 2 ^ (j - 64 * i) else 0)
+        b.offsets

@@ -18,7 +18,7 @@ pub record Slot : Type 0 where
   pub attempts : ℕ
   pub state : State
 
--- The slot of a number that was never given. It is unreached: exchanges send numbers that were given.
+-- The slot of a number that was not given. It is unreached: exchanges send numbers that were given.
 abbrev pub no_slot : Slot
 no_slot = record { id = 0; attempts = 0; state = Acked }
 
@@ -70,7 +70,8 @@ start_of s = first_unsettled s.first s.slots
 -- the numbers whose state passes a test, rising: n is the number of the first slot
 abbrev pub numbers_where : (State → Bool) → ℕ → List Slot → List ℕ
 numbers_where p n [] = []
-numbers_where p n (x ∷ xs) = if p x.state then n ∷ numbers_where p (suc n) xs else numbers_where p (suc n) xs
+numbers_where p n (x ∷ xs) =
+    if p x.state then n ∷ numbers_where p (suc n) xs else numbers_where p (suc n) xs
 
 -- the numbers that wait to be sent, rising
 abbrev pub waiting_numbers : Session → List ℕ
@@ -106,7 +107,8 @@ with_state state n s = on_slot n (λ x. record x { state = state }) s
 abbrev pub missed_slot : ℕ → Slot → Slot
 missed_slot limit x =
     let attempts : ℕ = x.attempts + 1 in
-    record { id = x.id; attempts = attempts; state = if nat_le limit attempts then Failed else Waiting }
+    let state : State = if nat_le limit attempts then Failed else Waiting in
+    record { id = x.id; attempts = attempts; state = state }
 
 -- the session after number n was sent in vain
 abbrev pub missed : ℕ → ℕ → Session → Session

@@ -36,7 +36,8 @@ has (x ∷ xs) k = (x == k) || has xs k
 -- a set of numbers is a rising list of them: the set with n
 abbrev pub with_member : ℕ → List ℕ → List ℕ
 with_member n [] = n ∷ []
-with_member n (x ∷ xs) = if nat_lt n x then n ∷ x ∷ xs else (if x == n then x ∷ xs else x ∷ with_member n xs)
+with_member n (x ∷ xs) =
+    if nat_lt n x then n ∷ x ∷ xs else (if x == n then x ∷ xs else x ∷ with_member n xs)
 
 -- the greatest of 1 to n that passes a test, or 0 where none does
 abbrev pub greatest_upto : (ℕ → Bool) → ℕ → ℕ

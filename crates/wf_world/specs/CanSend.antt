@@ -1,9 +1,9 @@
--- Who can send: a TID, and a station in a class. A TID sends what waits in its transmit window, a frame
--- that can get a number there, or a BlockAckReq that is due (IEEE 802.11-2012, 9.21.7.7).
+-- Who can send: a TID, and a station in a class. A TID sends what waits in its transmit window, a
+-- frame that can get a number there, or a BlockAckReq that is due (IEEE 802.11-2012, 9.21.7.7).
 use Rattle.std.specs.Prelude.{ℕ, ◌==◌, nat_lt, Bool, true, false, not, ◌&&◌, ◌||◌, List, [], ◌∷◌, Option, Some, None, if◌then◌else◌, length}
 use Rattle.std.specs.List.{list_any}
 use Rattle.wf_frame.specs.declared.classes.Class.{Class}
-use Rattle.wf_rules.specs.Rotation.{lists, add_new}
+use Rattle.wf_rules.specs.Rotation.{Rotation, lists, add_new}
 use Rattle.wf_rules.specs.Session.{waiting_numbers, request_due, has_room}
 use Rattle.wf_world.specs.World.{World, Content, Frames, Request, station, session, is_live, rotation, with_rotation}
 use Rattle.wf_frame.specs.Classes.{lower_tid, upper_tid, same_class, all_classes}
@@ -30,7 +30,8 @@ can_give w s t = nat_lt 0 (queued w s t) && has_room (session w s t)
 -- whether a TID can send: a request that is due goes before all frames, one at a time
 abbrev pub can_send : World → ℕ → ℕ → Bool
 can_send w s t =
-    if request_due (session w s t) then not (request_open w s t) else has_waiting w s t || can_give w s t
+    if request_due (session w s t) then not (request_open w s t)
+    else has_waiting w s t || can_give w s t
 
 -- whether a sleeping station's poll lets it receive in a class
 abbrev pub has_credit : Option Class → Class → Bool
@@ -52,7 +53,8 @@ is_ready w c s = is_live w s && (can_send_in w s c && may_receive w s c)
 -- the station goes last on the new list of a class in which it is ready and unlisted
 unfoldable pub listed_in : World → ℕ → Class → World
 listed_in w s c =
-    if is_ready w c s && not (lists (rotation w c) s) then with_rotation w c (add_new (rotation w c) s) else w
+    let r : Rotation = rotation w c in
+    if is_ready w c s && not (lists r s) then with_rotation w c (add_new r s) else w
 
 -- the same for each of these classes
 unfoldable pub listed_in_all : World → ℕ → List Class → World

@@ -73,7 +73,7 @@ most_frames w s = if (station w s).asleep then 1 else w.config.agg
 abbrev pub lens_of : List Mpdu → List ℕ
 lens_of mpdus = map (λ m. m.len) mpdus
 
--- whether an aggregate to a station fits its rate and exponent, and the setting `cap` on its data time
+-- whether an aggregate to a station fits its rate and exponent, and the setting `cap` on data time
 abbrev pub fits_in : World → ℕ → List Mpdu → Bool
 fits_in w s mpdus =
     let x : Station = station w s in
@@ -101,15 +101,16 @@ pub record Aggregate : Type 0 where
 -- the frame that a take gives, with the TID's next number
 abbrev pub fresh_mpdus : World → ℕ → ℕ → Option Item → List Mpdu
 fresh_mpdus w s t None = []
-fresh_mpdus w s t (Some x) = record { number = next_number (session w s t); id = x.id; len = x.len } ∷ []
+fresh_mpdus w s t (Some x) =
+    record { number = next_number (session w s t); id = x.id; len = x.len } ∷ []
 
 -- the frame that a take gives gets the TID's next number
 unfoldable pub with_number : World → ℕ → ℕ → Option Item → World
 with_number w s t None = w
 with_number w s t (Some x) = on_session w s t (λ y. give y x.id)
 
--- An aggregate with at most n fresh frames more, while the TID can give one. A frame that does not fit has its number
--- already: it waits with that, and the aggregate ends before it.
+-- An aggregate with at most n fresh frames more, while the TID can give one. A frame that does not fit
+-- has its number already: it waits with that, and the aggregate ends before it.
 unfoldable pub with_fresh : ℕ → World → ℕ → ℕ → List Mpdu → Aggregate
 with_fresh zero w s t mpdus = record { world = w; mpdus = mpdus }
 with_fresh (suc n) w s t mpdus =
@@ -121,7 +122,8 @@ with_fresh (suc n) w s t mpdus =
         if fits_in w s longer then with_fresh n numbered s t longer
         else record { world = numbered; mpdus = mpdus })
 
--- a TID's aggregate: the longest front of the waiting numbers that fits, then fresh frames where that is all of them
+-- a TID's aggregate: the longest front of the waiting numbers that fits, and where that is all of
+-- them, fresh frames after it
 unfoldable pub filled : World → ℕ → ℕ → Aggregate
 filled w s t =
     let waiting : List Mpdu = waiting_mpdus w s t in
@@ -175,7 +177,8 @@ has_more w s = list_any (λ t. has_waiting w s t || nat_lt 0 (queued w s t)) (up
 unfoldable pub spent : World → ℕ → World
 spent w s = on_station w s (λ x. record x { credit = None })
 
--- the exchange that sends what is prepared: `more` is the More Data bit (8.2.4.1.8), of sleeping stations alone
+-- the exchange that sends what is prepared: `more` is the More Data bit (8.2.4.1.8), of sleeping
+-- stations alone
 abbrev pub exchange_of : ℕ → ℕ → Class → Prepared → Exchange
 exchange_of s t c p =
     record {

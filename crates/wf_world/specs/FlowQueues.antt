@@ -34,7 +34,8 @@ longest w = longest_of w.queues
 -- queue q, whose frames are given, loses its head for the limit
 unfoldable pub without_head : World → ℕ → List Item → World
 without_head w q [] = w
-without_head w q (x ∷ rest) = finish (on_queue w q (λ y. record y { items = rest })) (Dropped Overlimit) x.id
+without_head w q (x ∷ rest) =
+    finish (on_queue w q (λ y. record y { items = rest })) (Dropped Overlimit) x.id
 
 -- the id of a queue's first frame
 abbrev pub head_id : List Item → Option ℕ
@@ -129,7 +130,8 @@ dequeued w q d = record {
 -- a take from the queue that is picked, where one is
 unfoldable pub taken_from : World → ℕ → Option ℕ → Taken
 taken_from w s None = record { world = w; item = None }
-taken_from w s (Some q) = dequeued w q (dequeue (params w s) w.clock (queue w q).codel (queue w q).items)
+taken_from w s (Some q) =
+    dequeued w q (dequeue (params w s) w.clock (queue w q).codel (queue w q).items)
 
 -- deficit round robin over the TID's queues
 abbrev pub picked_queue : World → ℕ → ℕ → Picked

@@ -1,5 +1,5 @@
--- When a call is refused: each call has rows, a test and a refusal in each, and the first row whose test
--- holds refuses it.
+-- When a call is refused: each call has rows, a test and a refusal in each, and the first row whose
+-- test holds refuses it.
 use Rattle.std.specs.Prelude.{ℕ, ◌+◌, ◌==◌, nat_lt, nat_le, pos, negsuc, ◌-ℤ◌, int_lt, Bool, false, not, ◌&&◌, ◌||◌, List, [], ◌∷◌, Option, Some, None, is_some, is_none, if◌then◌else◌, length, count_by}
 use Rattle.std.specs.List.{list_any}
 use Rattle.wf_frame.specs.declared.classes.Class.{Class}
@@ -77,11 +77,14 @@ refusals_of w (Done e heard) = (
     (is_none (exchange w e), NoExchange) ∷
     (heard && on_exchange (exchange w e) (λ x. is_none x.answer), NoAnswer) ∷ [])
 refusals_of w (Sleep s) = (
-    (bad_station w s, BadStation) ∷ (not (is_live w s), NoStation) ∷ ((station w s).asleep, Asleep) ∷ [])
+    (bad_station w s, BadStation) ∷ (not (is_live w s), NoStation) ∷
+    ((station w s).asleep, Asleep) ∷ [])
 refusals_of w (Wake s) = (
-    (bad_station w s, BadStation) ∷ (not (is_live w s), NoStation) ∷ (not (station w s).asleep, Awake) ∷ [])
+    (bad_station w s, BadStation) ∷ (not (is_live w s), NoStation) ∷
+    (not (station w s).asleep, Awake) ∷ [])
 refusals_of w (Poll s) = (
-    (bad_station w s, BadStation) ∷ (not (is_live w s), NoStation) ∷ (not (station w s).asleep, Awake) ∷
+    (bad_station w s, BadStation) ∷ (not (is_live w s), NoStation) ∷
+    (not (station w s).asleep, Awake) ∷
     (is_some (station w s).credit, Polled) ∷ (not (can_send_any w s), Nothing) ∷ [])
 refusals_of w (Rx s c air) = (
     (bad_station w s, BadStation) ∷ (not (is_within 1 65535 air), BadAir) ∷ (not (is_live w s), NoStation) ∷

@@ -15,7 +15,7 @@ use Rattle.wf_rules.specs.Table.{upto, with_member}
 use Rattle.wf_rules.specs.Airtime.{lowest_rate}
 use Rattle.wf_rules.specs.Codel.{Item}
 use Rattle.wf_rules.specs.Rotation.{in_order, without_key, no_keys}
-use Rattle.wf_rules.specs.Session.{Slot, is_acknowledged, is_waiting, is_failed}
+use Rattle.wf_rules.specs.Session.{Slot, State, is_acknowledged, is_waiting, is_failed}
 use Rattle.wf_rules.specs.Receiver.{Receiver, Score, score, word, released_between}
 use Rattle.wf_world.specs.World.{World, Exchange, new_share, new_tid, session, receiver, share, tid_of, rotation, frame, accepted, is_wide, exchange, with_station, on_station, on_share, on_receiver, with_rotation, with_queues, with_exchange, without_exchange, finish_all}
 use Rattle.wf_frame.specs.Classes.{all_classes}
@@ -29,14 +29,15 @@ pub record Outcome : Type 0 where
   pub world : World
   pub reply : ReplyNote
 
--- What no call comes to, since it is refused before: a call on an exchange that is not open is NoExchange,
--- a pull that no station wins is Idle, and a reap of nothing is Nothing.
+-- What no call comes to, since it is refused before: a call on an exchange that is not open as
+-- NoExchange, a pull that no station wins as Idle, a reap of nothing as Nothing.
 abbrev pub unreached : World → Outcome
 unreached w = record { world = w; reply = Released [] }
 
 -- ---- stations and clock
 
--- Join: a quantum of airtime in each class, and on each TID an agreement of this window from this number on
+-- Join: a quantum of airtime in each class, and on each TID an agreement with this window, from this
+-- number on
 unfoldable pub joined : World → ℕ → ℕ → ℕ → ℕ → ℕ → Outcome
 joined w s window start exponent weight =
     let share = new_share (w.config.quantum * weight) in
@@ -116,7 +117,8 @@ unfoldable pub enqueued : World → ℕ → ℕ → ℕ → ℕ → Outcome
 enqueued w s t flow len =
     let w' : World = within_limit w in
     record {
-      world = with_frame (put_in w' s t (queue_for w' s t flow) (next_item w len)) (Enqueue s t flow len);
+      world =
+        with_frame (put_in w' s t (queue_for w' s t flow) (next_item w len)) (Enqueue s t flow len);
       reply = Accepted (accepted w) (dropped_for_limit w);
     }
 
@@ -142,7 +144,7 @@ pulled w c = pulled_by (after_pick w c) c (picked_station w c).winner
 
 -- ---- exchanges
 
--- Arrive: transmission i reaches the receiver, which passes up the frames of the numbers that are in order
+-- Arrive: transmission i reaches the receiver, which passes up the frames that are in order now
 unfoldable pub arrived : World → Exchange → ℕ → Outcome
 arrived w x i =
     let old : Receiver = receiver w x.station x.tid in
@@ -153,22 +155,25 @@ arrived w x i =
       reply = Released (ids_of (session w x.station x.tid) (released_between old new));
     }
 
--- Answer: the receiver's BlockAck, as its start on the air and its bitmap (IEEE 802.11-2012, 8.3.1.9.3)
+-- Answer: the receiver's BlockAck, its start on the air and its bitmap (IEEE 802.11-2012, 8.3.1.9.3)
 unfoldable pub answered : World → Exchange → Outcome
 answered w x =
     let b : Score = score (receiver w x.station x.tid) in
     record {
       world = with_exchange w (record x { answer = Some b });
-      reply = Ba (b.start % 4096) (word b 0) (word b 1) (word b 2) (word b 3) (is_wide w x.station x.tid);
+      reply =
+        Ba (b.start % 4096) (word b 0) (word b 1) (word b 2) (word b 3) (is_wide w x.station x.tid);
     }
 
--- Done: the exchange is charged and settled, and the reply counts its numbers that are acknowledged, wait and failed
+-- Done: the exchange is charged and settled, and the reply counts its numbers that are acknowledged,
+-- wait again, and failed
 unfoldable pub ended : World → Exchange → Bool → Outcome
 ended w x heard =
     let after : World = after_done (charged (without_exchange w x.number) x) x heard x.content in
+    let count : (State → Bool) → ℕ = count_in after x in
     record {
       world = after;
-      reply = Ended (count_in after x is_acknowledged) (count_in after x is_waiting) (count_in after x is_failed);
+      reply = Ended (count is_acknowledged) (count is_waiting) (count is_failed);
     }
 
 -- what a call does to an open exchange
@@ -253,12 +258,13 @@ concerned w (Asked (Poll s)) = Some s
 concerned w (Asked (Rx s c air)) = Some s
 concerned w (Asked Reap) = None
 
--- What a refusal changes: Idle alone does, where no station of the class was ready; the pick empties the lists.
+-- What a refusal changes: Idle alone does, where no station of the class was ready and the pick
+-- empties its lists.
 unfoldable pub refused : World → Note → Refusal → World
 refused w (Asked (Pull c)) Idle = after_pick w c
 refused w note _ = w
 
--- a call that is refused or not: after what it does, the station that it concerns is listed where it is ready
+-- a call that is refused, or not: then the station that it concerns is listed where it is ready
 unfoldable pub answer : World → Note → Option Refusal → Outcome
 answer w note (Some r) = record { world = refused w note r; reply = Refused r }
 answer w note None =

@@ -1,5 +1,5 @@
--- Charges between two moments of a history, in microseconds, and stretches of it: "Ending the Anomaly"
--- (USENIX ATC 2017), section 3.2, shares airtime between stations that have frames all the time.
+-- Charges between two moments of a history, in microseconds, and stretches of it: "Ending the
+-- Anomaly" (USENIX ATC 2017), section 3.2, shares airtime between stations that always have frames.
 use Rattle.std.specs.Prelude.{◌≡◌, ℕ, ◌+◌, ◌-◌, ◌≤◌, ◌==◌, ◌&&◌, List, [], ◌∷◌, Option, Some, None, is_none, IsTrue, if◌then◌else◌, take, drop}
 use Rattle.wf_frame.specs.declared.settings.Config.{Config}
 use Rattle.wf_frame.specs.declared.classes.Class.{Class}

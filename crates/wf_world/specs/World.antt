@@ -1,5 +1,5 @@
--- All that the machine knows. Times, deficits and airtime are in microseconds, lengths in octets, numbers
--- of frames from 0 on and without end; on the air a number is modulo 4096.
+-- All that the machine knows. Times, stations' deficits and airtime are in microseconds, lengths and
+-- queues' deficits in octets. Numbers do not wrap; on the air they are modulo 4096.
 use Rattle.std.specs.Prelude.{ℕ, ◌+◌, ◌*◌, ◌==◌, nat_lt, ℤ, pos, Bool, true, false, not, List, [], ◌∷◌, ◌++◌, Option, None, is_some, unwrap_or, option_map, if◌then◌else◌, length, map, filter, find, count_by}
 use Rattle.wf_frame.specs.declared.settings.Config.{Config}
 use Rattle.wf_frame.specs.declared.classes.Class.{Class}
@@ -16,8 +16,8 @@ use Rattle.wf_rules.specs.Rotation.{Rotation, no_keys}
 use Rattle.wf_rules.specs.Session.{Session, new_session}
 use Rattle.wf_rules.specs.Receiver.{Receiver, new_receiver, Score}
 
--- what a station has in one class: its deficit, and since its join how many quanta it was given, and how much airtime
--- it was charged for exchanges and for what it sent
+-- what a station has in one class: its deficit, and since its join how many quanta it was given, and
+-- how much airtime it was charged for exchanges, and for what it sent
 pub record Share : Type 0 where
   pub deficit : ℤ
   pub quanta : ℕ
@@ -27,9 +27,10 @@ pub record Share : Type 0 where
 
 -- the share of a station that joins
 abbrev pub new_share : ℕ → Share
-new_share deficit = record { deficit = pos deficit; quanta = 0; charged = 0; received = 0; upper = false }
+new_share deficit =
+    record { deficit = pos deficit; quanta = 0; charged = 0; received = 0; upper = false }
 
--- what a station has for one TID: the agreement's two sides, and the flow queues that are listed for it
+-- what a station has for one TID: the agreement's two sides, and the flow queues that it lists
 pub record Tid : Type 0 where
   pub session : Session
   pub receiver : Receiver
@@ -37,7 +38,11 @@ pub record Tid : Type 0 where
 
 -- a TID of a station that joins: the first number, and the window
 abbrev pub new_tid : ℕ → ℕ → Tid
-new_tid first size = record { session = new_session first size; receiver = new_receiver first size; queues = no_keys }
+new_tid first size = record {
+  session = new_session first size;
+  receiver = new_receiver first size;
+  queues = no_keys;
+}
 
 -- a live station
 pub record Station : Type 0 where
@@ -107,7 +112,7 @@ pub record Frame : Type 0 where
   pub note : Note
   pub fate : Fate
 
--- The frame of an id that was not given. It is unreached: each id that the machine keeps is an accepted frame's.
+-- The frame of an id that was not given. It is unreached: the machine keeps ids of accepted frames.
 abbrev pub no_frame : Frame
 no_frame = record { note = Asked Reap; fate = Held }
 
@@ -121,7 +126,7 @@ pub record World : Type 0 where
   pub rotations : List Rotation  -- of stations, by class
   pub opened : List Exchange  -- in the order of their numbers
   pub frames : List Frame  -- by id
-  pub finished : List ℕ  -- the ids that have a fate and are not reaped, in the order in which they got it
+  pub finished : List ℕ  -- the ids with a fate that are not reaped, the one that had it first in front
 
 -- the world before the first call
 abbrev pub opening : Config → World
@@ -240,7 +245,8 @@ with_queues w s t r = on_tid w s t (λ x. record x { queues = r })
 
 -- f of what a station has in a class
 unfoldable pub on_share : World → ℕ → Class → (Share → Share) → World
-on_share w s c f = on_station w s (λ x. record x { shares = change no_share x.shares (class_number c) f })
+on_share w s c f =
+    on_station w s (λ x. record x { shares = change no_share x.shares (class_number c) f })
 
 -- f of queue q
 unfoldable pub on_queue : World → ℕ → (Queue → Queue) → World
@@ -252,7 +258,8 @@ with_rotation w c r = record w { rotations = put no_keys w.rotations (class_numb
 
 -- a frame gets its fate
 unfoldable pub with_fate : World → ℕ → Fate → World
-with_fate w id fate = record w { frames = change no_frame w.frames id (λ x. record x { fate = fate }) }
+with_fate w id fate =
+    record w { frames = change no_frame w.frames id (λ x. record x { fate = fate }) }
 
 -- a frame gets its fate and goes last on the finished list
 unfoldable pub finish : World → Fate → ℕ → World
