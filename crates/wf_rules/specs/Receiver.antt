@@ -72,5 +72,5 @@ shows b n = nat_le b.start n && has b.offsets (n - b.start)
 -- word i of the bitmap, of 64 bits: the one of offset 64 i + k has the value 2 ^ k
 abbrev pub word : Score → ℕ → ℕ
 word b i =
-    sum_by (λ j. if nat_le (64 * i) j && nat_lt j (64 * i + 64) then 2 ^ (j - 64 * i) else 0)
-        b.offsets
+    let low : ℕ = 64 * i in
+    sum_by (λ j. if nat_le low j && nat_lt j (low + 64) then 2 ^ (j - low) else 0) b.offsets

@@ -1,8 +1,8 @@
 -- The longest front of a list that fits is what is chosen one at a time. This module is for other crates' proofs too.
-use Rattle.std.proofs.Common.{◌≡◌, refl, sym, ap, ◌∙◌, subst, arith, ℕ, zero, suc, ◌+◌, ◌-◌, ◌*◌, ◌/◌, ◌^◌, ◌<◌, ◌≤◌, Bool, true, false, if◌then◌else◌, List, [], ◌∷◌, ◌++◌, append_assoc, take, drop, map, length, inl, inr, ◌⊎◌}
+use Rattle.std.proofs.Common.{◌≡◌, refl, sym, ap, ◌∙◌, subst, arith, ℕ, zero, suc, ◌+◌, ◌-◌, ◌*◌, ◌/◌, ◌^◌, ◌<◌, ◌≤◌, Bool, true, false, if◌then◌else◌, List, [], ◌∷◌, ◌++◌, append_assoc, take, map, length, inl, inr, ◌⊎◌}
 use Rattle.std.specs.Prelude.{nat_le, nat_lt}
 use Rattle.std.proofs.lemmas.Bool.{cases_Bool, cases_lt, and_parts, and_from, le-leb, leb-true}
-use Rattle.std.proofs.lemmas.List.{take-append-drop, take-append-le, length-append}
+use Rattle.std.proofs.lemmas.List.{length-append}
 use Rattle.std.proofs.Math.Seq.{take-append_seam, take-append-add}
 use Rattle.std.proofs.Math.Nat.{div-zero, div-mul-le_self}
 use Rattle.std.proofs.lemmas.Nat.{le-div}
@@ -32,14 +32,14 @@ greatest_is : (test : ℕ → Bool) (n k : ℕ) → k ≤ n → (k ≡ 0) ⊎ (t
 greatest_is test zero k low is others = omega (arith, low)
 greatest_is test (suc n) k low is others = elim (cases_lt k (suc n)) [
   | inl less ↦
-    ap (λ (b : Bool). if b then suc n else greatest_upto test n) (others (suc n) less (omega arith))
-    ∙ greatest_is test n k (omega (arith, less)) is (λ j h h'. others j h (omega (arith, h')))
+      ap (λ (b : Bool). if b then suc n else greatest_upto test n) (others (suc n) less (omega arith))
+      ∙ greatest_is test n k (omega (arith, less)) is (λ j h h'. others j h (omega (arith, h')))
   | inr not_less ↦
-    let e : k ≡ suc n = omega (arith, low, not_less) in
-    elim is [
-      | inl zero_is ↦ absurd (omega (arith, e, zero_is))
-      | inr passes ↦ ap (λ (b : Bool). if b then suc n else greatest_upto test n) (subst (λ (i : ℕ). test i ≡ true) e passes) ∙ sym e
-    ]
+      let e : k ≡ suc n = omega (arith, low, not_less) in
+      elim is [
+        | inl zero_is ↦ absurd (omega (arith, e, zero_is))
+        | inr passes ↦ ap (λ (b : Bool). if b then suc n else greatest_upto test n) (subst (λ (i : ℕ). test i ≡ true) e passes) ∙ sym e
+      ]
 ]
 
 -- a test that each front of what passes passes too
@@ -81,8 +81,8 @@ module _ {X : Type 0} (test : List X → Bool) (chosen : List X) (starts : (chos
       longer : (j : ℕ) → length chosen < j → test (take j (chosen ++ x ∷ rest)) ≡ false
       longer j h = elim (cases_Bool (test (take j (chosen ++ x ∷ rest)))) [
         | inl is ↦
-          let front : test (chosen ++ x ∷ []) ≡ true = closed (chosen ++ x ∷ []) (take (j - length chosen - 1) rest) (ap test (sym (longer_is j h)) ∙ is) in
-          absurd (cc (front, fails))
+            let front : test (chosen ++ x ∷ []) ≡ true = closed (chosen ++ x ∷ []) (take (j - length chosen - 1) rest) (ap test (sym (longer_is j h)) ∙ is) in
+            absurd (cc (front, fails))
         | inr is_not ↦ is_not
       ]
 

@@ -1,9 +1,9 @@
 -- The longest queue is the first of those with the most octets. This module is for other crates' proofs too.
-use Rattle.std.proofs.Common.{◌≡◌, refl, sym, ap, ◌∙◌, subst, arith, ℕ, zero, suc, ◌+◌, ◌<◌, ◌≤◌, Bool, true, false, if◌then◌else◌, List, [], ◌∷◌, length, Option, Some, None, inl, inr}
+use Rattle.std.proofs.Common.{◌≡◌, refl, sym, subst, arith, ℕ, zero, suc, ◌+◌, ◌<◌, ◌≤◌, Bool, true, false, if◌then◌else◌, List, [], ◌∷◌, length, Some, inl, inr}
 use Rattle.std.specs.Prelude.{nat_le, find, unwrap_or}
 use Rattle.std.specs.List.{list_all}
 use Rattle.std.proofs.lemmas.Bool.{cases_Bool, cases_lt, and_parts, and_from, le-leb, leb-true}
-use Rattle.wf_rules.specs.Table.{at, upto, count_from}
+use Rattle.wf_rules.specs.Table.{at, count_from}
 use Rattle.wf_rules.specs.Codel.{octets}
 use Rattle.wf_world.specs.World.{Queue, new_queue}
 use Rattle.wf_world.specs.FlowQueues.{has_most, longest_of}
@@ -49,23 +49,23 @@ found_first : (test : ℕ → Bool) (from n q : ℕ) → from ≤ q → q < from
 found_first test from zero q low high passes = absurd (omega (arith, low, high))
 found_first test from (suc n) q low high passes = elim (cases_Bool (test from)) [
   | inl here ↦ subst (λ (b : Bool). IsFirst test from (suc n) (unwrap_or (if b then Some from else find test (count_from (suc from) n)) 0)) (sym here)
-    (record { passes = here; within = omega arith; others = λ k h k'. absurd (omega (arith, h, k')) })
+      (record { passes = here; within = omega arith; others = λ k h k'. absurd (omega (arith, h, k')) })
   | inr fails ↦
-    let past : suc from ≤ q = elim (cases_lt from q) [
-      | inl less ↦ omega (arith, less)
-      | inr not_less ↦
-        let e : from ≡ q = omega (arith, low, not_less) in absurd (cc (fails, passes, e))
-    ] in
-    let f : IsFirst test (suc from) n (unwrap_or (find test (count_from (suc from) n)) 0) = found_first test (suc from) n q past (omega (arith, high)) passes in
-    subst (λ (b : Bool). IsFirst test from (suc n) (unwrap_or (if b then Some from else find test (count_from (suc from) n)) 0)) (sym fails)
-    (record {
-      passes = f.passes;
-      within = omega (arith, f.within);
-      others = λ k h k'. elim (cases_lt from k) [
-        | inl less ↦ f.others k (omega (arith, less)) k'
-        | inr not_less ↦ let e : from ≡ k = omega (arith, h, not_less) in subst (λ (i : ℕ). test i ≡ false) e fails
-      ];
-    })
+      let past : suc from ≤ q = elim (cases_lt from q) [
+        | inl less ↦ omega (arith, less)
+        | inr not_less ↦
+            let e : from ≡ q = omega (arith, low, not_less) in absurd (cc (fails, passes, e))
+      ] in
+      let f : IsFirst test (suc from) n (unwrap_or (find test (count_from (suc from) n)) 0) = found_first test (suc from) n q past (omega (arith, high)) passes in
+      subst (λ (b : Bool). IsFirst test from (suc n) (unwrap_or (if b then Some from else find test (count_from (suc from) n)) 0)) (sym fails)
+      (record {
+        passes = f.passes;
+        within = omega (arith, f.within);
+        others = λ k h k'. elim (cases_lt from k) [
+          | inl less ↦ f.others k (omega (arith, less)) k'
+          | inr not_less ↦ let e : from ≡ k = omega (arith, h, not_less) in subst (λ (i : ℕ). test i ≡ false) e fails
+        ];
+      })
 ]
 
 -- some queue has the most octets
@@ -95,6 +95,7 @@ some_most x (y ∷ ys) =
     later : (m : HasMost (y ∷ ys)) → octets x.items < octets_at (y ∷ ys) m.number → (k : ℕ) → octets_at (x ∷ y ∷ ys) k ≤ octets_at (y ∷ ys) m.number
     later m less zero = omega (arith, less)
     later m less (suc k) = m.most k
+
     here : (m : HasMost (y ∷ ys)) → octets_at (y ∷ ys) m.number ≤ octets x.items → (k : ℕ) → octets_at (x ∷ y ∷ ys) k ≤ octets x.items
     here m not_less zero = omega arith
     here m not_less (suc k) = omega (arith, m.most k, not_less)
@@ -116,8 +117,8 @@ longest_first_most (x ∷ xs) =
     less k fails most = elim (cases_lt (octets_at (x ∷ xs) k) (octets_at (x ∷ xs) (longest_of (x ∷ xs)))) [
       | inl is ↦ is
       | inr at_least ↦
-        let yes : has_most (x ∷ xs) k ≡ true = below_all (x ∷ xs) (octets_at (x ∷ xs) k) (λ j. omega (arith, most j, at_least)) in
-        absurd (cc (yes, fails))
+          let yes : has_most (x ∷ xs) k ≡ true = below_all (x ∷ xs) (octets_at (x ∷ xs) k) (λ j. omega (arith, most j, at_least)) in
+          absurd (cc (yes, fails))
     ]
 
 -- a number that has as many octets as any, and more than those before it, is the longest queue

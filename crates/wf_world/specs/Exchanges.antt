@@ -115,12 +115,11 @@ unfoldable pub with_fresh : ℕ → World → ℕ → ℕ → List Mpdu → Aggr
 with_fresh zero w s t mpdus = record { world = w; mpdus = mpdus }
 with_fresh (suc n) w s t mpdus =
     if not (can_give w s t) then record { world = w; mpdus = mpdus }
-    else (
-        let taken : Taken = take w s t in
-        let longer : List Mpdu = mpdus ++ fresh_mpdus w s t taken.item in
-        let numbered : World = with_number taken.world s t taken.item in
-        if fits_in w s longer then with_fresh n numbered s t longer
-        else record { world = numbered; mpdus = mpdus })
+    else let taken : Taken = take w s t in
+    let longer : List Mpdu = mpdus ++ fresh_mpdus w s t taken.item in
+    let numbered : World = with_number taken.world s t taken.item in
+    if fits_in w s longer then with_fresh n numbered s t longer
+    else record { world = numbered; mpdus = mpdus }
 
 -- a TID's aggregate: the longest front of the waiting numbers that fits, and where that is all of
 -- them, fresh frames after it
@@ -224,12 +223,14 @@ ids_of x numbers = map (λ n. (slot x n).id) numbers
 
 -- ---- the end of an exchange
 
--- the charge leaves the deficit and joins the charged airtime
+-- a share after a charge: it leaves the deficit and joins the charged airtime
+abbrev pub paid : ℕ → Share → Share
+paid charge y = record y { deficit = y.deficit -ℤ pos charge; charged = y.charged + charge }
+
+-- a station pays for its exchange
 unfoldable pub charged : World → Exchange → World
 charged w x =
-    let paid : Share → Share =
-        λ y. record y { deficit = y.deficit -ℤ pos x.charge; charged = y.charged + x.charge } in
-    on_share w x.station x.class paid
+    on_share w x.station x.class (paid x.charge)
 
 -- whether the kept answer shows a number, where the exchange was heard
 abbrev pub is_acked : Bool → Option Score → ℕ → Bool

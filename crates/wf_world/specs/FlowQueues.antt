@@ -61,8 +61,8 @@ is_other i j s t = not ((i == s) && (j == t))
 -- whether a TID other than t of s lists q
 abbrev pub is_listed_elsewhere : World → ℕ → ℕ → ℕ → Bool
 is_listed_elsewhere w s t q =
-    list_any (λ i. list_any (λ j. is_other i j s t && lists (tid_of w i j).queues q) (upto 8))
-        (live_stations w)
+    let listed : ℕ → ℕ → Bool = λ i j. is_other i j s t && lists (tid_of w i j).queues q in
+    list_any (λ i. list_any (listed i) (upto 8)) (live_stations w)
 
 -- the overflow queue of TID t of station s: these come after the flow queues
 abbrev pub overflow_queue : World → ℕ → ℕ → ℕ
@@ -78,9 +78,8 @@ queue_for w s t flow =
 unfoldable pub listed_queue : World → ℕ → ℕ → ℕ → World
 listed_queue w s t q =
     if lists (tid_of w s t).queues q then w
-    else (
-        let fresh : World = on_queue w q (λ y. record y { deficit = pos w.config.flow_quantum }) in
-        with_queues fresh s t (add_new (tid_of w s t).queues q))
+    else let fresh : World = on_queue w q (λ y. record y { deficit = pos w.config.flow_quantum }) in
+    with_queues fresh s t (add_new (tid_of w s t).queues q)
 
 -- a frame goes last on a queue
 unfoldable pub appended : World → ℕ → Item → World

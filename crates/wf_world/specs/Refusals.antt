@@ -33,6 +33,10 @@ bad_station w s = nat_le w.config.stations s
 abbrev pub queued_in_class : World → ℕ → Class → ℕ
 queued_in_class w s c = queued w s (lower_tid c) + queued w s (upper_tid c)
 
+-- a station sleeps, and as many frames are queued for it in a class as may be: the setting `sleeping`
+abbrev pub sleeps_full : World → ℕ → Class → Bool
+sleeps_full w s c = (station w s).asleep && nat_le w.config.sleeping (queued_in_class w s c)
+
 -- how many exchanges of a station are open
 abbrev pub open_of_station : World → ℕ → ℕ
 open_of_station w s = count_by (λ x. x.station == s) w.opened
@@ -96,8 +100,7 @@ abbrev pub refusals : World → Note → List (Bool × Refusal)
 refusals w (Enqueue s t flow len) = (
     (bad_station w s, BadStation) ∷ (nat_lt 7 t, BadTid) ∷ (not (is_live w s), NoStation) ∷
     (nat_le w.config.room (inside w), Room (inside w)) ∷
-    ((station w s).asleep && nat_le w.config.sleeping (queued_in_class w s (class_of t)),
-        Sleeping (queued_in_class w s (class_of t))) ∷ [])
+    (sleeps_full w s (class_of t), Sleeping (queued_in_class w s (class_of t))) ∷ [])
 refusals w (Asked ask) = refusals_of w ask
 
 -- what refuses a call, if anything does

@@ -112,13 +112,13 @@ with_frame w note = record w { frames = w.frames ++ record { note = note; fate =
 abbrev pub next_item : World → ℕ → Item
 next_item w len = record { id = accepted w; stamp = w.clock; len = len }
 
--- Enqueue: a frame leaves for the limit where there is none to spare, and then the new one goes in
+-- Enqueue: at the limit the head of the longest queue leaves first; then the new frame goes in
 unfoldable pub enqueued : World → ℕ → ℕ → ℕ → ℕ → Outcome
 enqueued w s t flow len =
     let w' : World = within_limit w in
     record {
       world =
-        with_frame (put_in w' s t (queue_for w' s t flow) (next_item w len)) (Enqueue s t flow len);
+          with_frame (put_in w' s t (queue_for w' s t flow) (next_item w len)) (Enqueue s t flow len);
       reply = Accepted (accepted w) (dropped_for_limit w);
     }
 
@@ -162,7 +162,7 @@ answered w x =
     record {
       world = with_exchange w (record x { answer = Some b });
       reply =
-        Ba (b.start % 4096) (word b 0) (word b 1) (word b 2) (word b 3) (is_wide w x.station x.tid);
+          Ba (b.start % 4096) (word b 0) (word b 1) (word b 2) (word b 3) (is_wide w x.station x.tid);
     }
 
 -- Done: the exchange is charged and settled, and the reply counts its numbers that are acknowledged,
@@ -206,7 +206,7 @@ credited w s =
 unfoldable pub received : World → ℕ → Class → ℕ → Outcome
 received w s c air = record {
   world =
-    on_share w s c (λ x. record x { deficit = x.deficit -ℤ pos air; received = x.received + air });
+      on_share w s c (λ x. record x { deficit = x.deficit -ℤ pos air; received = x.received + air });
   reply = Charged ((share w s c).deficit -ℤ pos air);
 }
 

@@ -14,7 +14,7 @@ use Rattle.wf_rules.specs.Codel.{Item, new_codel}
 use Rattle.wf_rules.specs.Rotation.{Rotation, lists, in_order, no_keys}
 use Rattle.wf_rules.specs.Session.{Session, Slot, State, no_slot, slot, on_slot, is_settled, is_failed, is_waiting, missed_slot, next_number, numbers_where, new_session}
 use Rattle.wf_world.specs.World.{World, Station, Queue, Exchange, Mpdu, Content, Frames, Request, Frame, no_frame, no_tid, no_station, new_queue, queue, session, tid_of, is_live, accepted, on_queue, on_session, on_tid, on_station, on_share, with_station, with_queues, with_rotation, with_fate, finish, finish_all, without_exchange}
-use Rattle.wf_world.specs.FlowQueues.{is_at_limit, total_queued, longest, without_head, within_limit, queue_for, listed_queue, appended, put_in, purge_queue, purge_queues}
+use Rattle.wf_world.specs.FlowQueues.{is_at_limit, longest, without_head, within_limit, queue_for, listed_queue, appended, put_in, purge_queue, purge_queues}
 use Rattle.wf_world.specs.Exchanges.{is_acked, heard_start, mpdus_of, charged, settled, settled_slot, all_settled, after_done, ids_of}
 use Rattle.wf_world.specs.Step.{with_frame, enqueued, ended, held_slots, rising, left_tid, left_tids, off_lists, gone, joined}
 use Rattle.wf_laws.proofs.Common.Tables.{each_put}

@@ -38,7 +38,7 @@ use Rattle.wf_laws.proofs.Windows.Agreement.{slot_give, slot_other, slot_same, n
 use Rattle.wf_laws.proofs.Windows.Opened.{each_find, some_along, pick_ready, left_true, eight}
 use Rattle.wf_frame.specs.declared.classes.Fate.TheVariants.{Held, Dropped}
 use Rattle.wf_frame.specs.declared.classes.Cause.TheVariants.{Codel as By_codel, Left, Overlimit}
-use Rattle.wf_world.specs.FlowQueues.{len_given, picked_queue, queue_for, total_queued, longest}
+use Rattle.wf_world.specs.FlowQueues.{len_given, picked_queue, queue_for, longest}
 use Rattle.wf_laws.proofs.Releases.Kept.{Kept, kept_heard, kept_on_slot, keep_settled}
 use Rattle.wf_laws.proofs.Frames.Delivered.{Labelled, labelled_kept, IsLabelled, labelled_step}
 use Rattle.wf_laws.proofs.Windows.Settling.{without_same}

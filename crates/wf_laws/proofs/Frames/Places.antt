@@ -15,7 +15,7 @@ use Rattle.wf_rules.specs.Table.{at, has, upto}
 use Rattle.wf_rules.specs.Codel.{Item}
 use Rattle.wf_rules.specs.Session.{Session, State, slot, is_settled, next_number, new_session}
 use Rattle.wf_world.specs.World.{World, Queue, Station, Exchange, Frame, Share, new_queue, on_queue, on_receiver, on_tid, with_queues, with_rotation, rotation, no_frame, no_tid, new_tid, queue, session, frame, accepted, exchange, with_station, on_station, on_share, with_exchange, opening}
-use Rattle.wf_world.specs.FlowQueues.{is_at_limit, total_queued, longest, without_head, within_limit, queue_for, put_in, purge_queue, purge_queues}
+use Rattle.wf_world.specs.FlowQueues.{is_at_limit, longest, without_head, within_limit, queue_for, put_in, purge_queue, purge_queues}
 use Rattle.wf_world.specs.Exchanges.{after_arrival, after_pick}
 use Rattle.wf_rules.specs.Rotation.{in_order}
 use Rattle.wf_world.specs.CanSend.{listed_in, listed_in_all, listed}

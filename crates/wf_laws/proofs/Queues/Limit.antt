@@ -1,5 +1,5 @@
 -- All flow queues together have at most `limit` frames, in every world of a run.
-use Rattle.std.proofs.Common.{◌≡◌, refl, ap, ◌∙◌, subst, arith, ℕ, zero, suc, ◌+◌, ◌<◌, ◌≤◌, ◌==◌, max, nat_lt, if◌then◌else◌, inr, List, [], ◌∷◌, ◌++◌, length, take, Option, Some, None}
+use Rattle.std.proofs.Common.{◌≡◌, refl, ap, ◌∙◌, arith, ℕ, zero, suc, ◌+◌, ◌<◌, ◌≤◌, inr, List, [], ◌∷◌, ◌++◌, length, take, Option, Some, None}
 use Rattle.std.proofs.lemmas.List.{length-append}
 use Rattle.std.proofs.lemmas.List.Sums.{sum_by-cons}
 use Rattle.std.specs.Prelude.{sum_by}
@@ -11,7 +11,6 @@ use Rattle.wf_frame.specs.declared.notes.Note.{Note}
 use Rattle.wf_frame.specs.declared.notes.Note.TheVariants.{Enqueue, Asked}
 use Rattle.wf_frame.specs.declared.notes.Refusal.{Refusal}
 use Rattle.wf_frame.specs.declared.notes.Refusal.TheVariants.{Idle}
-use Rattle.wf_rules.specs.Table.{at}
 use Rattle.wf_rules.specs.Codel.{Item, octets}
 use Rattle.wf_world.specs.World.{World, Queue, Exchange, new_queue, queue, accepted, exchange, on_queue, finish, with_fate, opening}
 use Rattle.wf_world.specs.FlowQueues.{is_at_limit, total_queued, longest, without_head, within_limit, queue_for, appended, put_in}
@@ -22,7 +21,7 @@ use Rattle.wf_world.specs.Run.{Entry, world_after}
 use Rattle.wf_world.specs.Stretches.{world_at}
 use Rattle.wf_laws.specs.Queues.{EachItem, HasLength, HaveLengths}
 use Rattle.wf_laws.specs.Room.{LimitLaw}
-use Rattle.wf_laws.proofs.Common.Numbers.{on_if, lt_yes, lt_no, le_yes, le_no}
+use Rattle.wf_laws.proofs.Common.Numbers.{on_if, le_yes, le_no}
 use Rattle.wf_laws.proofs.Common.Tables.{each_put}
 use Rattle.wf_laws.proofs.Common.Sums.{sum_put, sum_below}
 use Rattle.wf_laws.proofs.Deficits.Configs.{config_step}

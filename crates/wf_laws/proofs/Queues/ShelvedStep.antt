@@ -47,7 +47,7 @@ use Rattle.wf_rules.specs.Table.{has, upto}
 use Rattle.wf_rules.specs.Codel.{Item, Dequeued, dequeue}
 use Rattle.wf_rules.specs.Rotation.{Rotation, lists, in_order, add_new}
 use Rattle.wf_world.specs.World.{World, Queue, no_frame, queue, tid_of, is_live, accepted, live_stations, params, on_queue, with_queues, finish, with_fate, on_tid, on_station, with_station}
-use Rattle.wf_world.specs.FlowQueues.{total_queued, longest, without_head, within_limit, is_listed_elsewhere, overflow_queue, queue_for, listed_queue, appended, put_in, queue_need, has_frames, pay_queues, len_given, dequeued, taken_from, picked_queue, take}
+use Rattle.wf_world.specs.FlowQueues.{longest, without_head, within_limit, is_listed_elsewhere, overflow_queue, queue_for, listed_queue, appended, put_in, queue_need, has_frames, pay_queues, len_given, dequeued, taken_from, picked_queue, take}
 use Rattle.wf_laws.specs.Queues.{EachItem, IsFor}
 use Rattle.wf_laws.proofs.Common.Counts.{on, on-nil, on-cons_same, on-cons_other, on-append, on-filter, has-on}
 use Rattle.wf_laws.proofs.Common.Numbers.{on_if, yes_lt, yes_eq, or_left, or_right, either, eq_yes}

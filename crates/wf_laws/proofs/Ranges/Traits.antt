@@ -16,7 +16,7 @@ use Rattle.wf_rules.specs.Codel.{Item}
 use Rattle.wf_rules.specs.Rotation.{in_order}
 use Rattle.wf_rules.specs.Session.{Session, request_due}
 use Rattle.wf_world.specs.World.{World, Station, Share, Tid, Exchange, Mpdu, Content, Frames, Request, no_station, station, session, queue, rotation, exchange, with_station, on_station, on_tid, on_session, on_receiver, with_queues, on_share, on_queue, with_rotation, with_fate, finish, finish_all, with_exchange, without_exchange, opening}
-use Rattle.wf_world.specs.FlowQueues.{is_at_limit, without_head, within_limit, longest, total_queued, listed_queue, appended, put_in, pay_queues, dequeued, taken_from, take, purge_queue, purge_queues}
+use Rattle.wf_world.specs.FlowQueues.{is_at_limit, without_head, within_limit, longest, listed_queue, appended, put_in, pay_queues, dequeued, taken_from, take, purge_queue, purge_queues}
 use Rattle.wf_world.specs.CanSend.{listed_in, listed_in_all, listed, can_give}
 use Rattle.wf_world.specs.Exchanges.{picked_station, most_frames, waiting_mpdus, longest_fitting, Aggregate, Prepared, pay_station, pay_stations, after_pick, after_turn, with_number, with_fresh, filled, prepared_frames, prepared, spent, opening_exchange, charged, settled_slot, settled, all_settled, after_done}
 use Rattle.wf_world.specs.Refusals.{refusals, refusal, is_within}
