@@ -17,7 +17,7 @@ pub use backlog::Backlog;
 pub use wf_codel::Params;
 pub use wf_store::Parcel;
 
-/// The longest queue is the one that the pass over a world's queues finds, where each of these has as many octets.
+/// The longest queue is that of a world in which each queue has as many octets.
 pub fn longest_is_the_worlds()
     ensures { (v : BacklogValue) (w : World) (q : ℕ) →
         ((k : ℕ) → octets_of (frames_at v k) ≡ octets (queue w k).items) → IsLongest (as_store v) q → longest w ≡ q }

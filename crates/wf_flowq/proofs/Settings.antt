@@ -5,11 +5,11 @@ use Rattle.std.proofs.lemmas.Bool.{cond_both}
 use Rattle.wf_frame.specs.Frames.{FrameValue}
 use Rattle.wf_rules.specs.Codel.{Params}
 use Rattle.wf_backlog.specs.Backlog.{BacklogValue, in_queues, flushed}
-use Rattle.wf_flowq.specs.Flows.{FlowsValue, SettingsValue, settings, is_listed, within_limit, queue_for, listed_queue, put, picked, after_pick, taken_from, take, queues_of, all_flushed, purged}
+use Rattle.wf_flowq.specs.Flows.{is_at_limit, FlowsValue, SettingsValue, settings, is_listed, within_limit, queue_for, listed_queue, put, picked, after_pick, taken_from, take, queues_of, all_flushed, purged}
 
 settings_within : (v : FlowsValue) → settings (within_limit v) ≡ settings v
 unfolding within_limit
-settings_within v = cond_both (in_queues v.backlog == v.limit) _ v (λ w. settings w ≡ settings v) (λ e. refl) (λ e. refl)
+settings_within v = cond_both (is_at_limit v) _ v (λ w. settings w ≡ settings v) (λ e. refl) (λ e. refl)
 
 settings_listed : (v : FlowsValue) (i q : ℕ) → settings (listed_queue v i q) ≡ settings v
 unfolding listed_queue

@@ -1,38 +1,38 @@
 -- The parts of each call make the whole of its definition.
-use Rattle.std.proofs.Common.{◌≡◌, ℕ, ◌<◌, true, false, List, [], ◌∷◌, Option, Some, None, length, refl, sym, ap, ◌∙◌, subst, arith, eq-eqb}
-use Rattle.std.specs.Prelude.{◌==◌, ◌↔◌, IfSome, OnSome, IsSome, is_some}
-use Rattle.std.proofs.lemmas.Bool.{both_ways, ne_eqb, cond-true, cond-false}
+use Rattle.std.proofs.Common.{◌≡◌, ℕ, ◌<◌, ◌≤◌, true, false, List, [], ◌∷◌, Option, Some, None, length, refl, sym, ap, ◌∙◌, subst, arith}
+use Rattle.std.specs.Prelude.{◌↔◌, IfSome, OnSome, IsSome, is_some}
+use Rattle.std.proofs.lemmas.Bool.{both_ways, le-leb, lt-leb, cond-true, cond-false}
 use Rattle.wf_frame.specs.Frames.{FrameValue}
 use Rattle.wf_rules.specs.Codel.{Params}
 use Rattle.wf_rota.specs.Lists.{on_at}
 use Rattle.wf_store.specs.Store.{IsLongest}
 use Rattle.wf_backlog.specs.Backlog.{as_store, frames_at, in_queues, first_id, head_dropped}
-use Rattle.wf_flowq.specs.Flows.{FlowsValue, longest, within_limit, dropped_for_limit, queue_for, listed_queue, appended, put_in, put, picked, after_pick, Taken, Gives, taken_from, take, AreListedOnce}
+use Rattle.wf_flowq.specs.Flows.{FlowsValue, is_at_limit, longest, within_limit, dropped_for_limit, queue_for, listed_queue, appended, put_in, put, picked, after_pick, Taken, Gives, taken_from, take, AreListedOnce}
 use Rattle.wf_flowq.specs.Kept.{IsKept}
 use Rattle.wf_flowq.proofs.Owners.{on-listed, listed-on}
 use Rattle.wf_flowq.proofs.Puts.{put_is}
 
 module _ (v now : FlowsValue) (same : v ≡ now) where
   -- there is room
-  pub roomy : (n : ℕ) → n ≡ in_queues v.backlog → (n ≡ v.limit → ⊥) → now ≡ within_limit now
+  pub roomy : (n : ℕ) → n ≡ in_queues v.backlog → n < v.limit → now ≡ within_limit now
   unfolding within_limit
-  roomy n is other = subst (λ (w : FlowsValue). w ≡ within_limit w) same (sym (cond-false (in_queues v.backlog == v.limit) _ v (ne_eqb (in_queues v.backlog) v.limit (λ e. other (is ∙ e)))))
+  roomy n is other = subst (λ (w : FlowsValue). w ≡ within_limit w) same (sym (cond-false (is_at_limit v) _ v (lt-leb v.limit (in_queues v.backlog) (omega (arith, is, other)))))
 
-  pub roomy_id : (n : ℕ) → n ≡ in_queues v.backlog → (n ≡ v.limit → ⊥) → None ≡ dropped_for_limit now
+  pub roomy_id : (n : ℕ) → n ≡ in_queues v.backlog → n < v.limit → None ≡ dropped_for_limit now
   unfolding dropped_for_limit
-  roomy_id n is other = subst (λ (w : FlowsValue). None ≡ dropped_for_limit w) same (sym (cond-false (in_queues v.backlog == v.limit) _ None (ne_eqb (in_queues v.backlog) v.limit (λ e. other (is ∙ e)))))
+  roomy_id n is other = subst (λ (w : FlowsValue). None ≡ dropped_for_limit w) same (sym (cond-false (is_at_limit v) _ None (lt-leb v.limit (in_queues v.backlog) (omega (arith, is, other)))))
 
-  limit_at : in_queues now.backlog ≡ now.limit → in_queues v.backlog ≡ v.limit
-  limit_at e = subst (λ (w : FlowsValue). in_queues w.backlog ≡ w.limit) (sym same) e
+  limit_at : now.limit ≤ in_queues now.backlog → v.limit ≤ in_queues v.backlog
+  limit_at e = subst (λ (w : FlowsValue). w.limit ≤ in_queues w.backlog) (sym same) e
 
-  pub roomy_full : (n : ℕ) → n ≡ in_queues v.backlog → (n ≡ v.limit → ⊥) → IsSome {T = ℕ} None ↔ (in_queues now.backlog ≡ now.limit)
-  roomy_full n is other = (λ some. absurd (both_ways false refl some), λ e. absurd (other (is ∙ limit_at e)))
+  pub roomy_full : (n : ℕ) → n ≡ in_queues v.backlog → n < v.limit → IsSome {T = ℕ} None ↔ (now.limit ≤ in_queues now.backlog)
+  roomy_full n is other = (λ some. absurd (both_ways false refl some), λ e. absurd (omega (arith, other, is, limit_at e)))
 
-  pub full_full : (n q : ℕ) (o : Option ℕ) → n ≡ in_queues v.backlog → n ≡ v.limit → 0 < length (frames_at v.backlog q) → o ≡ first_id (frames_at now.backlog q) → IsSome o ↔ (in_queues now.backlog ≡ now.limit)
+  pub full_full : (n q : ℕ) (o : Option ℕ) → n ≡ in_queues v.backlog → v.limit ≤ n → 0 < length (frames_at v.backlog q) → o ≡ first_id (frames_at now.backlog q) → IsSome o ↔ (now.limit ≤ in_queues now.backlog)
   full_full n q o is full some id = (λ _. full_now, λ _. first_some (frames_at now.backlog q) o some_now id)
     where
-      full_now : in_queues now.backlog ≡ now.limit
-      full_now = subst (λ (w : FlowsValue). in_queues w.backlog ≡ w.limit) same (sym is ∙ full)
+      full_now : now.limit ≤ in_queues now.backlog
+      full_now = subst (λ (w : FlowsValue). w.limit ≤ in_queues w.backlog) same (omega (arith, is, full))
 
       some_now : 0 < length (frames_at now.backlog q)
       some_now = subst (λ (w : FlowsValue). 0 < length (frames_at w.backlog q)) same some
@@ -49,9 +49,9 @@ module _ (v now : FlowsValue) (same : v ≡ now) where
       on_some (Some x) p = p
 
   -- the queues are full
-  module _ (n q : ℕ) (is : n ≡ in_queues v.backlog) (full : n ≡ v.limit) (longest_is : q ≡ longest v.backlog) where
-    test : (in_queues now.backlog == now.limit) ≡ true
-    test = subst (λ (w : FlowsValue). (in_queues w.backlog == w.limit) ≡ true) same (eq-eqb (in_queues v.backlog) v.limit (sym is ∙ full))
+  module _ (n q : ℕ) (is : n ≡ in_queues v.backlog) (full : v.limit ≤ n) (longest_is : q ≡ longest v.backlog) where
+    test : is_at_limit now ≡ true
+    test = subst (λ (w : FlowsValue). is_at_limit w ≡ true) same (le-leb v.limit (in_queues v.backlog) (omega (arith, is, full)))
 
     longest_now : q ≡ longest now.backlog
     longest_now = subst (λ (w : FlowsValue). q ≡ longest w.backlog) same longest_is
@@ -60,13 +60,13 @@ module _ (v now : FlowsValue) (same : v ≡ now) where
     unfolding within_limit
     full_dropped after dropped =
         dropped ∙ ap (λ (k : ℕ). let w : FlowsValue = record now { backlog = head_dropped now.backlog k } in w) longest_now
-        ∙ sym (cond-true (in_queues now.backlog == now.limit) (record now { backlog = head_dropped now.backlog (longest now.backlog) }) now test)
+        ∙ sym (cond-true (is_at_limit now) (record now { backlog = head_dropped now.backlog (longest now.backlog) }) now test)
 
     pub full_id : (o : Option ℕ) → o ≡ first_id (frames_at now.backlog q) → o ≡ dropped_for_limit now
     unfolding dropped_for_limit
     full_id o id =
         id ∙ ap (λ (k : ℕ). first_id (frames_at now.backlog k)) longest_now
-        ∙ sym (cond-true (in_queues now.backlog == now.limit) (first_id (frames_at now.backlog (longest now.backlog))) None test)
+        ∙ sym (cond-true (is_at_limit now) (first_id (frames_at now.backlog (longest now.backlog))) None test)
 
   -- each queue with frames is listed once
   pub listed_once : (counts : List ℕ) → IsKept v counts → AreListedOnce now

@@ -1,6 +1,6 @@
 -- The flow queues: which frames wait in which queue, which TID lists which queues, and how a frame goes in and comes out.
 -- "Ending the Anomaly" (USENIX ATC 2017), section 3.1, algorithms 1 and 2; that a queue's deficit is set when it is listed is this project's own rule.
-use Rattle.std.specs.Prelude.{◌≡◌, ◌<◌, ◌≤◌, ℕ, suc, ◌+◌, ◌*◌, ◌%◌, ◌==◌, nat_lt, ℤ, pos, ◌+ℤ◌, ◌-ℤ◌, Bool, true, not, ◌&&◌, List, [], ◌∷◌, ◌++◌, Option, Some, None, if◌then◌else◌, length, map, filter, replicate, sum_by, slice_index_or, slice_set}
+use Rattle.std.specs.Prelude.{nat_le, ◌≡◌, ◌<◌, ◌≤◌, ℕ, suc, ◌+◌, ◌*◌, ◌%◌, ◌==◌, nat_lt, ℤ, pos, ◌+ℤ◌, ◌-ℤ◌, Bool, true, not, ◌&&◌, List, [], ◌∷◌, ◌++◌, Option, Some, None, if◌then◌else◌, length, map, filter, replicate, sum_by, slice_index_or, slice_set}
 use Rattle.std.specs.List.{list_any}
 use Rattle.wf_frame.specs.Frames.{FrameValue}
 use Rattle.wf_rules.specs.Table.{upto}
@@ -10,7 +10,7 @@ use Rattle.wf_rules.specs.Rotation.{Rotation, no_keys, lists, in_order, add_new,
 use Rattle.wf_rota.specs.Lists.{lists_at}
 use Rattle.wf_rota.specs.Rotas.{Rotas, deficit_at, need_at}
 use Rattle.wf_world.specs.World.{Queue}
-use Rattle.wf_world.specs.FlowQueues.{longest_after}
+use Rattle.wf_world.specs.FlowQueues.{longest_of}
 use Rattle.wf_backlog.specs.Backlog.{BacklogValue, frames_at, in_queues, first_id, item_of, with_frames, head_dropped, flushed, given_at, taken}
 
 -- Queues below `flows` are shared by all TIDs; each TID has one more, its overflow queue. Queue q is key q of the rotations.
@@ -88,14 +88,19 @@ as_queue frames = record { items = map item_of frames; deficit = pos 0; codel = 
 
 -- the longest queue, the least number on a tie
 unfoldable pub longest : BacklogValue → ℕ
-longest b = longest_after 0 0 0 (map as_queue b.queues)
+longest b = longest_of (map as_queue b.queues)
 
--- where the queues hold `limit` frames, the head of the longest is dropped as Overlimit
+-- the queues hold `limit` frames or more
+abbrev pub is_at_limit : FlowsValue → Bool
+is_at_limit v = nat_le v.limit (in_queues v.backlog)
+
+-- there the head of the longest is dropped as Overlimit
 unfoldable pub within_limit : FlowsValue → FlowsValue
-within_limit v = if in_queues v.backlog == v.limit then record v { backlog = head_dropped v.backlog (longest v.backlog) } else v
+within_limit v = if is_at_limit v then record v { backlog = head_dropped v.backlog (longest v.backlog) } else v
 
+-- the id of the frame that is dropped for the limit
 unfoldable pub dropped_for_limit : FlowsValue → Option ℕ
-dropped_for_limit v = if in_queues v.backlog == v.limit then first_id (frames_at v.backlog (longest v.backlog)) else None
+dropped_for_limit v = if is_at_limit v then first_id (frames_at v.backlog (longest v.backlog)) else None
 
 -- ---- putting a frame in
 

@@ -115,7 +115,7 @@ impl Flows {
     }
 
     /// Puts a frame into a queue of its station and TID, and gives the id of the frame that is dropped for the limit, if any:
-    /// where the queues hold `limit` frames, this is the head of the longest. The queue is the flow's number modulo `flows`,
+    /// where the queues hold `limit` frames or more, this is the head of the longest. The queue is the flow's number modulo `flows`,
     /// or the TID's overflow queue where another TID lists that queue.
     pub fn put(&mut self, parcel: Parcel, now: u64) -> Option<u64>
         requires station { parcel.station < self.old.stations }
@@ -124,7 +124,7 @@ impl Flows {
         requires room { held self.old.backlog < self.old.backlog.room }
         ensures put { self.new ≡ put self.old (tid_number parcel.station parcel.tid) parcel }
         ensures dropped { result ≡ dropped_for_limit self.old }
-        ensures full { IsSome result ↔ (in_queues self.old.backlog ≡ self.old.limit) }
+        ensures full { IsSome result ↔ (self.old.limit ≤ in_queues self.old.backlog) }
         ensures greatest { OnSome result (IsLongest (as_store self.old.backlog) (longest self.old.backlog)) }
         ensures held { held self.new.backlog ≡ held self.old.backlog + 1 }
         ensures settings { settings self.new ≡ settings self.old }
@@ -197,17 +197,17 @@ impl Flows {
         self.waiting.reap()
     }
 
-    // Drops the head of the longest queue where the queues hold `limit` frames.
+    // Drops the head of the longest queue where the queues hold `limit` frames or more.
     fn make_room(&mut self) -> Option<u64>
         ensures within { self.new ≡ within_limit self.old }
         ensures id { result ≡ dropped_for_limit self.old }
-        ensures full { IsSome result ↔ (in_queues self.old.backlog ≡ self.old.limit) }
+        ensures full { IsSome result ↔ (self.old.limit ≤ in_queues self.old.backlog) }
         ensures greatest { OnSome result (IsLongest (as_store self.old.backlog) (longest self.old.backlog)) }
         ensures held { held self.new.backlog ≡ held self.old.backlog }
         ensures room { self.new.backlog.room ≡ self.old.backlog.room }
         ensures stations { self.new.stations ≡ self.old.stations }
     {
-        if self.waiting.total() != self.limit {
+        if self.waiting.total() < self.limit {
             return None;
         }
         match self.waiting.longest() {

@@ -10,7 +10,7 @@ use Rattle.wf_rules.specs.Rotation.{Rotation, no_keys, lists, in_order}
 use Rattle.wf_rules.specs.Session.{Session}
 use Rattle.wf_rules.specs.Receiver.{Receiver}
 use Rattle.wf_world.specs.World.{World, Station, Tid, Queue, no_station, no_tid, is_live, queue, tid_of, params, with_station, on_station, on_tid, with_queues, on_queue, with_fate, finish, finish_all}
-use Rattle.wf_world.specs.FlowQueues.{total_queued, longest, without_head, within_limit, listed_queue, appended, put_in, pay_queues, picked_queue, dequeued, taken_from, take, purge_queue, purge_queues}
+use Rattle.wf_world.specs.FlowQueues.{is_at_limit, total_queued, longest, without_head, within_limit, listed_queue, appended, put_in, pay_queues, picked_queue, dequeued, taken_from, take, purge_queue, purge_queues}
 use Rattle.wf_world.specs.Step.{with_frame, enqueued, reaped, left_tid}
 use Rattle.wf_laws.proofs.Deficits.Books.{upd_idle, put_upd}
 use Rattle.wf_flows.specs.Rest.{Rest, rest, bare, session_in, receiver_in}
@@ -70,7 +70,7 @@ rest_head (x ∷ left) w q = rest_finish _ _ x.id ∙ rest_on_queue w q _
 
 rest_limit : (w : World) → rest (within_limit w) ≡ rest w
 unfolding within_limit
-rest_limit w = rest_if (total_queued w == w.config.limit) (rest w) _ w (rest_head (queue w (longest w)).items w (longest w)) refl
+rest_limit w = rest_if (is_at_limit w) (rest w) _ w (rest_head (queue w (longest w)).items w (longest w)) refl
 
 rest_listed : (w : World) (s t q : ℕ) → rest (listed_queue w s t q) ≡ rest w
 unfolding listed_queue

@@ -13,7 +13,7 @@ use Rattle.wf_rota.specs.Rotas.{need_at}
 use Rattle.wf_rule_laws.proofs.Lemmas.Counts.{on-nil, on-first}
 use Rattle.wf_rule_laws.proofs.Lemmas.Members.{has_filter, has_head, has_tail}
 use Rattle.wf_backlog.specs.Backlog.{BacklogValue, frames_at, in_queues, settled, head_dropped, flushed, drops_at}
-use Rattle.wf_flowq.specs.Flows.{FlowsValue, tid_number, queues as queue_count, rotation, is_listed, has_frames, longest, within_limit, queue_for, listed_queue, appended, put, picked, after_pick, taken_from, queues_of, all_flushed, purged, take as take_out}
+use Rattle.wf_flowq.specs.Flows.{FlowsValue, tid_number, queues as queue_count, rotation, is_listed, has_frames, longest, within_limit, queue_for, listed_queue, appended, put, picked, after_pick, taken_from, queues_of, all_flushed, purged, take as take_out, is_at_limit}
 use Rattle.wf_flowq.proofs.Flags.{nothing_dropped}
 use Rattle.wf_flows.specs.Standing.{Part, ids, ids_given, times_held, with_finished, Stands}
 use Rattle.wf_flows.proofs.Ends.{on_ids-append, times_finished}
@@ -63,20 +63,20 @@ times_dropped b q id (f ∷ rest) e low =
 module _ (v : FlowsValue) (p : Part) (st : Stands v p) (id : ℕ) where
   times_within : times_held (within_limit v).backlog id ≡ times_held v.backlog id
   unfolding within_limit
-  times_within = cond_both (in_queues v.backlog == v.limit) _ v (λ (z : FlowsValue). times_held z.backlog id ≡ times_held v.backlog id)
+  times_within = cond_both (is_at_limit v) _ v (λ (z : FlowsValue). times_held z.backlog id ≡ times_held v.backlog id)
       (λ e. times_dropped v.backlog (longest v.backlog) id (frames_at v.backlog (longest v.backlog)) refl (λ some. omega (arith, some_frames v p (longest v.backlog) st some, st.sized.queues))) (λ e. refl)
 
   within_queues : length (within_limit v).backlog.queues ≡ length v.backlog.queues
   unfolding within_limit
-  within_queues = cond_both (in_queues v.backlog == v.limit) _ v (λ (z : FlowsValue). length z.backlog.queues ≡ length v.backlog.queues) (λ e. length-set v.backlog.queues (longest v.backlog) _) (λ e. refl)
+  within_queues = cond_both (is_at_limit v) _ v (λ (z : FlowsValue). length z.backlog.queues ≡ length v.backlog.queues) (λ e. length-set v.backlog.queues (longest v.backlog) _) (λ e. refl)
 
   within_flows : (within_limit v).flows ≡ v.flows
   unfolding within_limit
-  within_flows = cond_both (in_queues v.backlog == v.limit) _ v (λ (z : FlowsValue). z.flows ≡ v.flows) (λ e. refl) (λ e. refl)
+  within_flows = cond_both (is_at_limit v) _ v (λ (z : FlowsValue). z.flows ≡ v.flows) (λ e. refl) (λ e. refl)
 
   within_stations : (within_limit v).stations ≡ v.stations
   unfolding within_limit
-  within_stations = cond_both (in_queues v.backlog == v.limit) _ v (λ (z : FlowsValue). z.stations ≡ v.stations) (λ e. refl) (λ e. refl)
+  within_stations = cond_both (is_at_limit v) _ v (λ (z : FlowsValue). z.stations ≡ v.stations) (λ e. refl) (λ e. refl)
 
   times_listed : (z : FlowsValue) (i q : ℕ) → times_held (listed_queue z i q).backlog id ≡ times_held z.backlog id
   unfolding listed_queue

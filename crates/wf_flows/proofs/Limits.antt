@@ -1,6 +1,6 @@
 -- The head of the longest queue is dropped for the limit, on both sides.
 use Rattle.std.proofs.Common.{◌≡◌, refl, ap, ap₂, sym, ◌∙◌, subst, arith, ℕ, ◌<◌, ◌==◌, Bool, true, false, if◌then◌else◌, List, [], ◌∷◌, ◌++◌, map, length, set, take, drop, inl, inr}
-use Rattle.std.specs.Prelude.{ℤ, pos}
+use Rattle.std.specs.Prelude.{nat_le, ℤ, pos}
 use Rattle.std.proofs.lemmas.List.{set-get_or, get_or_past}
 use Rattle.std.proofs.lemmas.Bool.{cases_lt}
 use Rattle.wf_frame.specs.declared.classes.Cause.TheVariants.{Overlimit}
@@ -11,9 +11,9 @@ use Rattle.wf_rules.specs.Codel.{Item, Codel, new_codel}
 use Rattle.wf_rules.specs.Lists.{on}
 use Rattle.wf_rota.specs.Rotas.{deficit_at}
 use Rattle.wf_world.specs.World.{World, Queue, is_live, queue, accepted, on_queue, finish, finish_all, with_fate}
-use Rattle.wf_world.specs.FlowQueues.{total_queued, without_head, longest as world_longest, within_limit as world_within_limit}
+use Rattle.wf_world.specs.FlowQueues.{total_queued, without_head, longest as world_longest, within_limit as world_within_limit, is_at_limit as world_at_limit}
 use Rattle.wf_backlog.specs.Backlog.{BacklogValue, frames_at, codel_at, in_queues, item_of, settled, head_dropped}
-use Rattle.wf_flowq.specs.Flows.{FlowsValue, queues as queue_count, longest, within_limit}
+use Rattle.wf_flowq.specs.Flows.{is_at_limit, FlowsValue, queues as queue_count, longest, within_limit}
 use Rattle.wf_flowq.proofs.Flags.{nothing_dropped}
 use Rattle.wf_flows.specs.Standing.{Part, part, with_finished, Stands, StandsFor}
 use Rattle.wf_flows.proofs.Parts.{all_finished}
@@ -77,12 +77,12 @@ pub beside_limit : (v : FlowsValue) (w : World) → StandsFor v w → IsBeside (
 unfolding within_limit world_within_limit
 beside_limit v w st =
     let q : ℕ = longest v.backlog in
-    let values : (if in_queues v.backlog == v.limit then record v { backlog = head_dropped v.backlog q } else v) ≡ (if total_queued w == w.config.limit then record v { backlog = head_dropped v.backlog q } else v) =
-    ap₂ (λ (a b : ℕ). if a == b then record v { backlog = head_dropped v.backlog q } else v) (same_total v w st) (same_limit v w st) in
+    let values : (if is_at_limit v then record v { backlog = head_dropped v.backlog q } else v) ≡ (if world_at_limit w then record v { backlog = head_dropped v.backlog q } else v) =
+    ap₂ (λ (a b : ℕ). if nat_le b a then record v { backlog = head_dropped v.backlog q } else v) (same_total v w st) (same_limit v w st) in
     let gone : IsBeside (record v { backlog = head_dropped v.backlog q }) w (without_head w (world_longest w) (queue w (world_longest w)).items) =
     subst (λ (n : ℕ). IsBeside (record v { backlog = head_dropped v.backlog q }) w (without_head w n (queue w n).items)) (same_longest v w st)
     (subst (λ (l : List Item). IsBeside (record v { backlog = head_dropped v.backlog q }) w (without_head w q l)) (sym (st.items q)) (head_gone v w q (frames_at v.backlog q) st refl)) in
-    subst (λ (z : FlowsValue). IsBeside z w (if total_queued w == w.config.limit then without_head w (world_longest w) (queue w (world_longest w)).items else w)) (sym values) (go (total_queued w == w.config.limit) gone)
+    subst (λ (z : FlowsValue). IsBeside z w (if world_at_limit w then without_head w (world_longest w) (queue w (world_longest w)).items else w)) (sym values) (go (world_at_limit w) gone)
   where
     go : (b : Bool) → IsBeside (record v { backlog = head_dropped v.backlog (longest v.backlog) }) w (without_head w (world_longest w) (queue w (world_longest w)).items)
         → IsBeside (if b then record v { backlog = head_dropped v.backlog (longest v.backlog) } else v) w (if b then without_head w (world_longest w) (queue w (world_longest w)).items else w)

@@ -1,6 +1,6 @@
 -- What is read of the flow queues is what is read of the world.
 use Rattle.std.proofs.Common.{◌≡◌, refl, ap, ap₂, sym, ◌∙◌, arith, ℕ, zero, suc, ◌+◌, ◌*◌, ◌/◌, ◌%◌, ◌<◌, ◌≤◌, ◌==◌, max, Bool, true, false, not, ◌&&◌, ◌||◌, if◌then◌else◌, List, [], ◌∷◌, map, filter, length, get_or, Option, Some, None, is_some, unwrap_or, eq-eqb, inl, inr}
-use Rattle.std.specs.Prelude.{nat_lt, sum_by}
+use Rattle.std.specs.Prelude.{nat_le, nat_lt, sum_by}
 use Rattle.std.specs.List.{list_any}
 use Rattle.std.proofs.Math.Path.{fun_ext}
 use Rattle.std.proofs.lemmas.List.{length-map}
@@ -11,9 +11,10 @@ use Rattle.wf_rules.specs.Table.{at, has, upto, count_from}
 use Rattle.wf_rules.specs.Codel.{Item, octets}
 use Rattle.wf_rules.specs.Rotation.{Rotation, lists, in_order}
 use Rattle.wf_world.specs.World.{World, Station, Queue, new_queue, no_tid, no_station, queue, tid_of, is_live, live_stations}
-use Rattle.wf_world.specs.FlowQueues.{longest_after, total_queued, head_id, queued as world_queued, longest as world_longest, is_listed_elsewhere as world_listed_elsewhere, queue_for as world_queue_for, dropped_for_limit as world_dropped}
+use Rattle.wf_world.specs.FlowQueues.{total_queued, head_id, queued as world_queued, longest as world_longest, is_listed_elsewhere as world_listed_elsewhere, queue_for as world_queue_for, dropped_for_limit as world_dropped, is_at_limit as world_at_limit}
+use Rattle.wf_world.proofs.Longest.{octets_at, longest_same}
 use Rattle.wf_backlog.specs.Backlog.{frames_at, in_queues, item_of, first_id}
-use Rattle.wf_flowq.specs.Flows.{FlowsValue, SettingsValue, tid_number, tids, rotation, is_listed, queued, as_queue, longest, dropped_for_limit, is_listed_elsewhere, queue_for}
+use Rattle.wf_flowq.specs.Flows.{FlowsValue, SettingsValue, tid_number, tids, rotation, is_listed, queued, as_queue, longest, dropped_for_limit, is_listed_elsewhere, queue_for, is_at_limit}
 use Rattle.wf_rule_laws.proofs.Lemmas.Numbers.{same_bool, either, eq_yes}
 use Rattle.wf_rule_laws.proofs.Lemmas.Members.{has_filter}
 use Rattle.wf_flows.specs.Standing.{StandsFor}
@@ -39,28 +40,6 @@ same_total v w st = same_sums v.backlog.queues w.queues (λ k. ap (length {A = I
 
 -- ---- the longest queue
 
-octets_at : List Queue → ℕ → ℕ
-octets_at qs k = octets (at new_queue qs k).items
-
--- an empty queue is not longer than what there was
-not_longer : (best most n : ℕ) (rest : List Queue) (x : ℕ) → x ≡ 0 → longest_after (if nat_lt most x then n else best) (max most x) (suc n) rest ≡ longest_after best most (suc n) rest
-not_longer best most n rest x e =
-    let top : max most x ≡ most = omega (arith, e) in
-    rw (le-ltb most x (omega (arith, e)), top) refl
-
-passes_none : (best most n : ℕ) (qs : List Queue) → ((k : ℕ) → octets_at qs k ≡ 0) → longest_after best most n qs ≡ best
-unfolding octets_at
-passes_none best most n [] h = refl
-passes_none best most n (q ∷ qs) h = not_longer best most n qs (octets q.items) (h 0) ∙ passes_none best most (suc n) qs (λ k. h (suc k))
-
-passes_same : (best most n : ℕ) (xs ys : List Queue) → ((k : ℕ) → octets_at xs k ≡ octets_at ys k) → longest_after best most n xs ≡ longest_after best most n ys
-unfolding octets_at
-passes_same best most n [] ys h = sym (passes_none best most n ys (λ k. sym (h k)))
-passes_same best most n (x ∷ xs) [] h = passes_none best most n (x ∷ xs) h
-passes_same best most n (x ∷ xs) (y ∷ ys) h =
-    ap (λ (o : ℕ). longest_after (if nat_lt most o then n else best) (max most o) (suc n) xs) (h 0)
-    ∙ passes_same (if nat_lt most (octets y.items) then n else best) (max most (octets y.items)) (suc n) xs ys (λ k. h (suc k))
-
 as_queue_at : (all : List (List FrameValue)) (k : ℕ) → (at new_queue (map as_queue all) k).items ≡ map item_of (get_or all k [])
 as_queue_at [] k = refl
 as_queue_at (x ∷ xs) zero = refl
@@ -68,7 +47,7 @@ as_queue_at (x ∷ xs) (suc k) = as_queue_at xs k
 
 pub same_longest : (v : FlowsValue) (w : World) → StandsFor v w → longest v.backlog ≡ world_longest w
 unfolding longest octets_at
-same_longest v w st = passes_same 0 0 0 (map as_queue v.backlog.queues) w.queues (λ k. ap octets (as_queue_at v.backlog.queues k ∙ sym (st.items k)))
+same_longest v w st = longest_same (map as_queue v.backlog.queues) w.queues (λ k. ap octets (as_queue_at v.backlog.queues k ∙ sym (st.items k)))
 
 head_is : (frames : List FrameValue) → first_id frames ≡ head_id (map item_of frames)
 head_is [] = refl
@@ -81,8 +60,8 @@ same_limit v w st = ap (λ (x : SettingsValue). x.limit) st.settings
 pub same_dropped : (v : FlowsValue) (w : World) → StandsFor v w → dropped_for_limit v ≡ world_dropped w
 unfolding dropped_for_limit
 same_dropped v w st =
-    ap₂ (λ (a b : ℕ). if a == b then first_id (frames_at v.backlog (longest v.backlog)) else None) (same_total v w st) (same_limit v w st)
-    ∙ ap (λ (o : Option ℕ). if total_queued w == w.config.limit then o else None)
+    ap₂ (λ (a b : ℕ). if nat_le b a then first_id (frames_at v.backlog (longest v.backlog)) else None) (same_total v w st) (same_limit v w st)
+    ∙ ap (λ (o : Option ℕ). if world_at_limit w then o else None)
     (head_is (frames_at v.backlog (longest v.backlog)) ∙ ap head_id (sym (st.items (longest v.backlog)) ∙ ap (λ (q : ℕ). (queue w q).items) (same_longest v w st)))
 
 -- ---- who lists a queue

@@ -9,7 +9,7 @@ ghost use Rattle.wf_world.specs.Step.{answered, arrived, class_to_send, credited
 ghost use Rattle.wf_world.specs.World.{accepted, exchange as exchange_at};
 
 use std::alloc::Global;
-use wf_frame::{Cause, Class, Fate, Ids, Note, Refusal, ReplyNote};
+use wf_frame::{Cause, Class, Fate, Ids, Note, ReplyNote};
 use wf_plain_exchanges::{
     Prepared, charge, count, exchange_of, part_of, pay_pick, picked_station, prepare, receive,
     sending_tid, settle, turn,
@@ -212,7 +212,7 @@ fn pull_by(world: &mut World, class: Class, winner: Option<u64>) -> Result<Reply
     ensures { IfOk result (λ r. pulled_by world.old class winner ≡ record { world = world.new; reply = r }) }
 {
     match winner {
-        None => Ok(ReplyNote::Refused(Refusal::Idle)),
+        None => Ok(ReplyNote::Released { ids: Ids::new() }),
         Some(station) => {
             let tid = sending_tid(world, station, class)?;
             turn(world, station, class, tid)?;

@@ -215,7 +215,7 @@ fn pull_refusal(world: &World, class: Class) -> Result<Option<Refusal>, Fault>
 {
     let count = to_u32(open_of_class(world, class)?)?;
     let winner = picked_station(world, class)?;
-    if count == world.config().inflight {
+    if world.config().inflight <= count {
         Ok(Some(Refusal::Full { count }))
     } else if winner.is_none() {
         Ok(Some(Refusal::Idle))
@@ -372,7 +372,7 @@ fn enqueue_refusal(
         Ok(Some(Refusal::BadTid))
     } else if !world.is_live(station) {
         Ok(Some(Refusal::NoStation))
-    } else if inside == world.config().room {
+    } else if world.config().room <= inside {
         Ok(Some(Refusal::Room { inside }))
     } else if world.is_asleep(station) && world.config().sleeping <= queued {
         Ok(Some(Refusal::Sleeping { queued }))

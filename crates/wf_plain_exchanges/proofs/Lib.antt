@@ -1,2 +1,3 @@
+mod Chosen
 mod Charges
 mod Fresh

@@ -5,7 +5,7 @@ ghost use Rattle.wf_plain_exchanges.specs.Settled.{count_of, settled_content};
 ghost use Rattle.wf_plain_parts.specs.Contents.{content_of};
 ghost use Rattle.wf_rules.specs.Receiver.{released_between};
 ghost use Rattle.wf_rules.specs.Session.State.{Acked};
-ghost use Rattle.wf_rules.specs.Session.{is_failed, is_waiting, missed, slot, with_state};
+ghost use Rattle.wf_rules.specs.Session.{is_acknowledged, is_failed, is_waiting, missed, slot, with_state};
 ghost use Rattle.wf_world.specs.Exchanges.{after_arrival, all_settled, charged, count_in, heard_start, ids_of, is_acked, settled, settled_slot};
 ghost use Rattle.wf_world.specs.World.{on_receiver, on_session, receiver, session};
 
@@ -232,14 +232,13 @@ fn waiting_among(world: &World, station: u64, tid: u64, mpdus: &[Mpdu]) -> Resul
 }
 
 fn acked_among(world: &World, station: u64, tid: u64, mpdus: &[Mpdu]) -> Result<u64, Fault>
-    ensures { IfOk result (λ r. r ≡ count_by (λ m. not (is_waiting (slot (session world.now station tid) m.number).state) && not (is_failed (slot (session world.now station tid) m.number).state)) mpdus.now) }
+    ensures { IfOk result (λ r. r ≡ count_by (λ m. is_acknowledged (slot (session world.now station tid) m.number).state) mpdus.now) }
 {
     match mpdus.split_first() {
         None => Ok(0),
         Some((first, rest)) => {
             let later = acked_among(world, station, tid, rest)?;
-            let slot = world.slot(station, tid, first.number());
-            if !slot.is_waiting() && !slot.is_failed() {
+            if world.slot(station, tid, first.number()).is_acknowledged() {
                 sum(later, 1)
             } else {
                 Ok(later)
@@ -249,7 +248,7 @@ fn acked_among(world: &World, station: u64, tid: u64, mpdus: &[Mpdu]) -> Result<
 }
 
 fn counts_of(world: &World, station: u64, tid: u64, content: &Content) -> Result<Counts, Fault>
-    ensures acked { IfOk result (λ r. r.acked ≡ count_of world.now station tid (content_of content.now) (λ y. not (is_waiting y) && not (is_failed y))) }
+    ensures acked { IfOk result (λ r. r.acked ≡ count_of world.now station tid (content_of content.now) is_acknowledged) }
     ensures waiting { IfOk result (λ r. r.waiting ≡ count_of world.now station tid (content_of content.now) is_waiting) }
     ensures failed { IfOk result (λ r. r.failed ≡ count_of world.now station tid (content_of content.now) is_failed) }
 {
@@ -269,7 +268,7 @@ fn counts_of(world: &World, station: u64, tid: u64, content: &Content) -> Result
 
 /// How many of an exchange's numbers are in each state.
 pub fn count(world: &World, exchange: &Exchange) -> Result<Counts, Fault>
-    ensures acked { IfOk result (λ r. r.acked ≡ count_in world.now exchange.now (λ y. not (is_waiting y) && not (is_failed y))) }
+    ensures acked { IfOk result (λ r. r.acked ≡ count_in world.now exchange.now is_acknowledged) }
     ensures waiting { IfOk result (λ r. r.waiting ≡ count_in world.now exchange.now is_waiting) }
     ensures failed { IfOk result (λ r. r.failed ≡ count_in world.now exchange.now is_failed) }
 {

@@ -1,7 +1,7 @@
 //! What an exchange sends, and its charge.
 
 ghost use Rattle.std.specs.List.{list_any};
-ghost use Rattle.std.specs.Prelude.{◌≡◌, ◌%◌, ◌||◌, ◌++◌, map, nat_lt, IfOk, OnOk};
+ghost use Rattle.std.specs.Prelude.{◌≡◌, ◌%◌, ◌||◌, ◌++◌, ◌⊎◌, [], true, map, nat_lt, IfOk, OnOk};
 ghost use Rattle.wf_plain_exchanges.specs.Fresh.{fresh_of};
 ghost use Rattle.wf_plain_parts.specs.Contents.{content_of};
 ghost use Rattle.wf_rules.specs.Fit.{fits};
@@ -118,14 +118,14 @@ fn waiting_mpdus(world: &World, station: u64, tid: u64) -> Result<Vec<Mpdu>, Fau
     mpdus_at(world, station, tid, &world.waiting_numbers(station, tid)?)
 }
 
-#[tactic(auto, unfolding(wf_world::specs::Exchanges::longest_fitting))]
 fn longest_fitting(
     world: &World,
     station: u64,
     chosen: &[Mpdu],
     waiting: &[Mpdu],
 ) -> Result<Vec<Mpdu>, Fault>
-    ensures { IfOk result (λ r. r.items ≡ longest_fitting world.now station chosen.now waiting.now) }
+    requires { (chosen.now ≡ []) ⊎ (fits_in world.now station chosen.now ≡ true) }
+    ensures { IfOk result (λ r. r.items ≡ longest_fitting world.now station (chosen.now ++ waiting.now)) }
 {
     match waiting.split_first() {
         None => Ok(Vec::from_slice(world.alloc(), chosen)?),

@@ -3,7 +3,7 @@
 ghost use Rattle.std.specs.Prelude.{◌≡◌, ◌-◌, map, max, nat_lt, if◌then◌else◌, IfOk, OnOk};
 ghost use Rattle.wf_plain_rules.specs.States.{state_of};
 ghost use Rattle.wf_rules.specs.Bounds.{narrow_window};
-ghost use Rattle.wf_rules.specs.Session.{first_unsettled, give, has_room, is_failed, is_settled, is_waiting, missed, new_session, next_number, numbers_where, request_due, slot, start_of, waiting_numbers, with_state};
+ghost use Rattle.wf_rules.specs.Session.{first_unsettled, give, has_room, is_failed, is_settled, is_waiting, missed, new_session, next_number, numbers_where, request_due, slot, start_of, waiting_numbers, with_state, is_acknowledged};
 
 use std::alloc::Global;
 use std::marker::Model;
@@ -81,6 +81,12 @@ fn is_waiting(state: State) -> bool
     matches!(state, State::Waiting)
 }
 
+fn is_acknowledged(state: State) -> bool
+    ensures { result ≡ is_acknowledged (state_of state) }
+{
+    matches!(state, State::Acked)
+}
+
 fn is_failed(state: State) -> bool
     ensures { result ≡ is_failed (state_of state) }
 {
@@ -106,6 +112,13 @@ impl Slot {
         ensures { result ≡ is_waiting self.now.state }
     {
         is_waiting(self.state)
+    }
+
+    /// Whether its number was acknowledged.
+    pub fn is_acknowledged(&self) -> bool
+        ensures { result ≡ is_acknowledged self.now.state }
+    {
+        is_acknowledged(self.state)
     }
 
     /// Whether its number failed.

@@ -3,11 +3,12 @@
 ghost use Rattle.std.specs.List.{list_any};
 ghost use Rattle.std.specs.Prelude.{◌≡◌, ◌+◌, ◌*◌, ◌%◌, ◌==◌, ℕ, not, ◌&&◌, ◌∷◌, [], map, filter, sum_by, length, pos, ◌-ℤ◌, ◌+ℤ◌, IfOk, OnOk};
 ghost use Rattle.wf_plain_pick.specs.Choices.{IsChoice};
+ghost use Rattle.wf_plain_world.specs.Passes.{longest_after};
 ghost use Rattle.wf_plain_world.specs.Picks.{pick_of_queues};
 ghost use Rattle.wf_rules.specs.Codel.{new_codel};
 ghost use Rattle.wf_rules.specs.Rotation.{lists};
 ghost use Rattle.wf_rules.specs.Table.{upto};
-ghost use Rattle.wf_world.specs.FlowQueues.{appended, dequeued, dropped_for_limit, has_frames, is_listed_elsewhere, listed_queue, longest, longest_after, pay_queues, purge_queue, purge_queues, put_in, queue_for, queue_need, queued, take, taken_from, total_queued, within_limit, without_head};
+ghost use Rattle.wf_world.specs.FlowQueues.{appended, dequeued, dropped_for_limit, has_frames, is_at_limit, is_listed_elsewhere, listed_queue, longest, pay_queues, purge_queue, purge_queues, put_in, queue_for, queue_need, queued, take, taken_from, total_queued, within_limit, without_head};
 ghost use Rattle.wf_world.specs.World.{is_live, live_stations, on_queue, params, queue as queue_at, tid_of, with_queues};
 
 use crate::world::World;
@@ -84,6 +85,12 @@ impl World {
         total_of(&self.queues)
     }
 
+    fn is_at_limit(&self) -> Result<bool, Fault>
+        ensures { IfOk result (λ r. r ≡ is_at_limit self.now) }
+    {
+        Ok(self.config.limit as u64 <= self.total_queued()?)
+    }
+
     fn frames_in(&self, queues: &[u64]) -> Result<u64, Fault>
         ensures { IfOk result (λ r. r ≡ sum_by (λ q. length (queue_at self.now q).items) queues.now) }
     {
@@ -100,6 +107,7 @@ impl World {
         self.frames_in(&self.queues_of(station, tid)?.in_order(self.alloc)?)
     }
 
+    #[tactic(auto, using(crate::proofs::Passes::longest_passed))]
     fn longest(&self) -> Result<u64, Fault>
         ensures { IfOk result (λ r. r ≡ longest self.now) }
     {
@@ -134,7 +142,7 @@ impl World {
     pub fn dropped_for_limit(&self) -> Result<Option<u64>, Fault>
         ensures { IfOk result (λ r. r ≡ dropped_for_limit self.now) }
     {
-        if self.total_queued()? == self.config.limit as u64 {
+        if self.is_at_limit()? {
             Ok(head_id(self.items_of(self.longest()?)))
         } else {
             Ok(None)
@@ -146,7 +154,7 @@ impl World {
     pub fn keep_limit(&mut self) -> Result<(), Fault>
         ensures { OnOk result (self.new ≡ within_limit self.old) }
     {
-        if self.total_queued()? == self.config.limit as u64 {
+        if self.is_at_limit()? {
             let queue = self.longest()?;
             let items = Vec::from_slice(self.alloc, self.items_of(queue))?;
             self.drop_head(queue, &items)

@@ -1,7 +1,8 @@
 -- Tables, sets and ranges of whole numbers, as the definitions use them.
 -- A table gives a value for each number: a list holds the first ones, and `d` is each other.
-use Rattle.std.specs.Prelude.{ℕ, zero, suc, ◌+◌, ◌-◌, ◌*◌, ◌/◌, ◌^◌, ◌==◌, nat_lt, nat_le, List, [], ◌∷◌, if◌then◌else◌, Bool, false, ◌&&◌, ◌||◌, sum_by}
+use Rattle.std.specs.Prelude.{ℕ, zero, suc, ◌+◌, ◌-◌, ◌*◌, ◌/◌, ◌^◌, ◌==◌, nat_lt, nat_le, List, [], ◌∷◌, if◌then◌else◌, Bool, false, ◌&&◌, ◌||◌, sum_by, length, take}
 
+-- the value of a table at k
 abbrev pub at : {X : Type 0} → X → List X → ℕ → X
 at d [] k = d
 at d (x ∷ xs) zero = x
@@ -23,6 +24,7 @@ abbrev pub count_from : ℕ → ℕ → List ℕ
 count_from from zero = []
 count_from from (suc n) = from ∷ count_from (suc from) n
 
+-- the numbers below n, rising
 abbrev pub upto : ℕ → List ℕ
 upto n = count_from 0 n
 
@@ -34,7 +36,17 @@ has (x ∷ xs) k = (x == k) || has xs k
 -- a set of numbers is a rising list of them: the set with n
 abbrev pub with_member : ℕ → List ℕ → List ℕ
 with_member n [] = n ∷ []
-with_member n (x ∷ xs) = if nat_lt n x then n ∷ x ∷ xs else (if x == n then x ∷ xs else x ∷ with_member n xs)
+with_member n (x ∷ xs) =
+    if nat_lt n x then n ∷ x ∷ xs else (if x == n then x ∷ xs else x ∷ with_member n xs)
+
+-- the greatest of 1 to n that passes a test, or 0 where none does
+abbrev pub greatest_upto : (ℕ → Bool) → ℕ → ℕ
+greatest_upto test zero = 0
+greatest_upto test (suc n) = if test (suc n) then suc n else greatest_upto test n
+
+-- the longest front of a list that passes a test, or the empty list where none does
+abbrev pub longest_front : {X : Type 0} → (List X → Bool) → List X → List X
+longest_front test xs = take (greatest_upto (λ n. test (take n xs)) (length xs)) xs
 
 -- a set by its bits: the word of its members 64 k to 64 k + 63, whose bit j is member 64 k + j
 abbrev pub word_of : ℕ → List ℕ → ℕ

@@ -2,3 +2,5 @@ pub mod Rehearsals
 pub mod Rows
 pub mod Texts
 pub mod Charges
+pub mod Longest
+pub mod Fitting

@@ -19,7 +19,7 @@ use Rattle.wf_world.specs.World.{World, Station, Share, Tid, Queue, Exchange, Mp
 use Rattle.wf_frame.specs.Classes.{class_number}
 use Rattle.wf_world.specs.FlowQueues.{without_head, within_limit, listed_queue, appended, put_in, pay_queues, dequeued, taken_from, take, purge_queue, purge_queues}
 use Rattle.wf_world.specs.CanSend.{listed_in, listed_in_all, listed}
-use Rattle.wf_world.specs.Exchanges.{Filled, Prepared, pay_station, pay_stations, after_pick, after_turn, with_fresh, filled, with_number, spent, prepared_frames, prepared, opening_exchange, charged, settled_slot, settled, all_settled, after_done}
+use Rattle.wf_world.specs.Exchanges.{Aggregate, Prepared, pay_station, pay_stations, after_pick, after_turn, with_fresh, filled, with_number, spent, prepared_frames, prepared, opening_exchange, charged, settled_slot, settled, all_settled, after_done}
 use Rattle.wf_world.specs.Step.{Outcome, joined, left_tid, left_tids, off_lists, gone, with_rate, ticked, with_frame, enqueued, sent, pulled_by, pulled, arrived, answered, ended, on_open, slept, woken, credited, received, reaped, done, refused, answer, step}
 use Rattle.wf_world.specs.Run.{Entry, world_after}
 use Rattle.wf_laws.proofs.Deficits.Balance.{IsBalanced, IsFairStation, IsFair}
@@ -195,7 +195,7 @@ unfolding with_number
 fair_with_number None w s t h = h
 fair_with_number (Some x) w s t h = fair_on_session w s t _ h
 
-fair_if_filled : (b : Bool) (x y : Filled) → IsFair x.world → IsFair y.world → IsFair (if b then x else y).world
+fair_if_filled : (b : Bool) (x y : Aggregate) → IsFair x.world → IsFair y.world → IsFair (if b then x else y).world
 fair_if_filled true x y h k = h
 fair_if_filled false x y h k = k
 

@@ -12,7 +12,7 @@ use Rattle.wf_rules.specs.Rotation.{without_key, in_order, Picked}
 use Rattle.wf_world.specs.World.{World, Station, Share, Exchange, Mpdu, Content, Frames, Request, no_share, no_station, rotation, quantum, with_rotation, without_exchange}
 use Rattle.wf_frame.specs.Classes.{class_number}
 use Rattle.wf_world.specs.FlowQueues.{without_head, within_limit, listed_queue, appended, put_in, pay_queues, dequeued, taken_from, take, purge_queue, purge_queues}
-use Rattle.wf_world.specs.Exchanges.{Filled, Prepared, pay_station, pay_stations, after_pick, after_turn, with_fresh, filled, with_number, spent, prepared_frames, prepared, opening_exchange, charged, settled_slot, settled, all_settled, after_done, exchange_of, picked_station}
+use Rattle.wf_world.specs.Exchanges.{Aggregate, Prepared, pay_station, pay_stations, after_pick, after_turn, with_fresh, filled, with_number, spent, prepared_frames, prepared, opening_exchange, charged, settled_slot, settled, all_settled, after_done, exchange_of, picked_station}
 use Rattle.wf_world.specs.Step.{joined, left_tid, left_tids, off_lists, gone, with_rate, with_frame, enqueued, sent, ended, slept, woken, credited, received, reaped}
 use Rattle.wf_laws.proofs.Deficits.Books.{upd, updc, Account, plain, account, core, Books, books, with_account, with_lists, on_part, books_with_station, books_with_rotation, books_on_station, books_hidden, books_on_session, books_with_queues, books_on_share, books_on_queue, books_finish, books_finish_all, books_if, updc_idle, upd_idle, upd_same, upd_other, updc_same}
 use Rattle.wf_rules.specs.Lists.{on}
@@ -72,7 +72,7 @@ unfolding with_number
 books_with_number None w s t = refl
 books_with_number (Some x) w s t = books_on_session w s t _
 
-books_if_filled : (b : Bool) (z : Books) (x y : Filled) → books x.world ≡ z → books y.world ≡ z → books (if b then x else y).world ≡ z
+books_if_filled : (b : Bool) (z : Books) (x y : Aggregate) → books x.world ≡ z → books y.world ≡ z → books (if b then x else y).world ≡ z
 books_if_filled true z x y h k = h
 books_if_filled false z x y h k = k
 

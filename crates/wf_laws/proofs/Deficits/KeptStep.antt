@@ -1,5 +1,5 @@
 -- Each call keeps the books.
-use Rattle.std.proofs.Common.{◌≡◌, ◌≢◌, refl, ap, sym, ◌∙◌, subst, arith, ℕ, ◌+◌, ◌*◌, ◌<◌, ◌≤◌, ℤ, pos, ◌-ℤ◌, ◌≤ℤ◌, Bool, true, false, if◌then◌else◌, cond, List, [], ◌∷◌, Option, Some, None, is_some, IfSome, unwrap_or, option_map, not, ◌&&◌, ◌||◌, map, find, nat_lt, int_lt, zero-add, ◌==◌, count_by}
+use Rattle.std.proofs.Common.{◌≡◌, ◌≢◌, refl, ap, sym, ◌∙◌, subst, arith, ℕ, ◌+◌, ◌*◌, ◌<◌, ◌≤◌, ℤ, pos, ◌-ℤ◌, ◌≤ℤ◌, Bool, true, false, if◌then◌else◌, cond, List, [], ◌∷◌, Option, Some, None, is_some, IfSome, unwrap_or, option_map, not, ◌&&◌, ◌||◌, map, find, nat_lt, int_lt, zero-add, ◌==◌, count_by, nat_le}
 use Rattle.std.proofs.lemmas.Int.{ints}
 use Rattle.std.proofs.lemmas.Bool.{eqb-true, eqb-false, and_parts, or_parts, not-true, not-false, leb-true}
 use Rattle.std.proofs.lemmas.List.Sums.{sum_by-cons}
@@ -14,6 +14,7 @@ use Rattle.wf_rules.specs.Table.{at}
 use Rattle.wf_rules.specs.Rotation.{add_new, lists, need_of}
 use Rattle.wf_rules.specs.Bounds.{greatest_mcs, greatest_air, deepest_deficit}
 use Rattle.wf_world.specs.World.{World, Station, Exchange, no_share, no_station, station, share, rotation, is_live, exchange, with_exchange, with_rotation, on_receiver, on_tid, on_station, with_station, opening}
+use Rattle.wf_laws.proofs.Common.Numbers.{le_no}
 use Rattle.wf_frame.specs.Classes.{class_number, all_classes}
 use Rattle.wf_world.specs.CanSend.{is_ready, listed_in, listed_in_all, listed}
 use Rattle.wf_world.specs.Exchanges.{Prepared, station_need, picked_station, after_pick, after_turn, prepared, exchange_of, after_arrival, sending_tid}
@@ -101,15 +102,12 @@ record MaySend (c : Class) (s : ℕ) (b : Books) : Type 0 where
   room : many c b.opened < b.config.inflight
   above : IfSome (b.accounts s) (λ a. pos 1 ≤ℤ (a.shares c).deficit)
 
-room_left : (w : World) (c : Class) → IsKept (books w) → (open_of_class w c == w.config.inflight) ≡ false → many c (map core w.opened) < w.config.inflight
+room_left : (w : World) (c : Class) → IsKept (books w) → (nat_le w.config.inflight (open_of_class w c)) ≡ false → many c (map core w.opened) < w.config.inflight
 room_left w c i h =
-    let differs : open_of_class w c ≢ w.config.inflight = eqb-false _ _ h in
     let same : open_of_class w c ≡ many c (map core w.opened) = many-count c w.opened ∙ sym (many-core c w.opened) in
-    let most : many c (map core w.opened) ≤ w.config.inflight = i.few c in
-    let other : many c (map core w.opened) ≢ w.config.inflight = λ e. differs (same ∙ e) in
-    omega arith
+    omega (arith, same, le_no w.config.inflight (open_of_class w c) h)
 
-may_send : (w : World) (c : Class) (s : ℕ) → IsKept (books w) → (open_of_class w c == w.config.inflight) ≡ false → (picked_station w c).winner ≡ Some s → MaySend c s (books (after_pick w c))
+may_send : (w : World) (c : Class) (s : ℕ) → IsKept (books w) → (nat_le w.config.inflight (open_of_class w c)) ≡ false → (picked_station w c).winner ≡ Some s → MaySend c s (books (after_pick w c))
 may_send w c s i h won =
     let winner : IsWinner (station_need w c) (is_ready w c) (rotation w c) (picked_station w c) s = pick_winner (station_need w c) (is_ready w c) (rotation w c) s won in
     subst (MaySend c s) (sym (books_after_pick w c)) (record {
@@ -142,7 +140,7 @@ kept_pulled_by (Some s) v c i m =
     let e : books (after_turn v s c (sending_tid v s c)) ≡ books v = books_after_turn v s c (sending_tid v s c) in
     kept_sent (after_turn v s c (sending_tid v s c)) c s (sending_tid v s c) (subst IsKept (sym e) i) (subst (MaySend c s) (sym e) (m s refl))
 
-kept_pulled : (w : World) (c : Class) → (open_of_class w c == w.config.inflight) ≡ false → IsKept (books w) → IsKept (books (pulled w c).world)
+kept_pulled : (w : World) (c : Class) → (nat_le w.config.inflight (open_of_class w c)) ≡ false → IsKept (books w) → IsKept (books (pulled w c).world)
 unfolding pulled
 kept_pulled w c h i = kept_pulled_by (picked_station w c).winner (after_pick w c) c (kept_after_pick w c i) (λ s won. may_send w c s i h won)
 

@@ -1,16 +1,17 @@
 -- No exchange is charged more than the longest, and each is charged something.
-use Rattle.std.proofs.Common.{◌≡◌, refl, ap, sym, ◌∙◌, subst, arith, ℕ, zero, suc, ◌+◌, ◌*◌, ◌-◌, ◌/◌, ◌<◌, ◌≤◌, Bool, true, false, if◌then◌else◌, List, [], ◌∷◌, ◌++◌, Option, Some, None, unwrap_or, option_map, not, length, map, nat_lt, ◌==◌}
+use Rattle.std.proofs.Common.{◌≡◌, refl, ap, sym, ◌∙◌, subst, arith, ℕ, zero, suc, ◌+◌, ◌*◌, ◌-◌, ◌/◌, ◌<◌, ◌≤◌, Bool, true, false, if◌then◌else◌, List, [], ◌++◌, Option, Some, None, unwrap_or, option_map, not, length, map, nat_lt, ◌==◌, inl, inr}
 use Rattle.std.proofs.lemmas.Bool.{and_parts, leb-true}
 use Rattle.std.proofs.lemmas.Nat.{div_below}
-use Rattle.wf_rules.specs.Table.{at, ceil_div}
+use Rattle.wf_rules.specs.Table.{at, ceil_div, longest_front}
 use Rattle.wf_rules.specs.Airtime.{Rate, lowest_rate, streams, bits, service_and_tail_bits, symbols, data_time, sifs, answer_time, longest_answer, request_charge}
+use Rattle.wf_world.proofs.Fitting.{front_passes}
 use Rattle.wf_rules.specs.Fit.{octets_of}
 use Rattle.wf_rules.specs.Bounds.{greatest_mcs}
 use Rattle.wf_world.specs.World.{World, Station, Mpdu, Request, no_station, station, session, is_wide}
 use Rattle.wf_world.specs.FlowQueues.{Taken, take}
 use Rattle.wf_rules.specs.Session.{request_due}
 use Rattle.wf_world.specs.CanSend.{can_give}
-use Rattle.wf_world.specs.Exchanges.{Filled, Prepared, fits_in, most_frames, waiting_mpdus, longest_fitting, fresh_mpdus, with_number, with_fresh, filled, prepared_frames, prepared}
+use Rattle.wf_world.specs.Exchanges.{Aggregate, Prepared, fits_in, most_frames, waiting_mpdus, longest_fitting, fresh_mpdus, with_number, with_fresh, filled, prepared_frames, prepared}
 use Rattle.wf_laws.specs.Deficits.{longest_exchange}
 use Rattle.wf_laws.proofs.Deficits.Books.{Account, account, Books, books}
 use Rattle.wf_laws.proofs.Deficits.BookSteps.{books_take, books_with_number, books_filled}
@@ -65,16 +66,14 @@ timely_none w s h k =
     let streamed : streams (station w s).rate ≤ 2 = few_streams (station w s).rate k in
     omega arith
 
-timely_if : (b : Bool) (w : World) (s : ℕ) (ms ls : List Mpdu) → (b ≡ true → IsTimely w s ms) → IsTimely w s ls → IsTimely w s (if b then ms else ls)
-timely_if true w s ms ls h k = h refl
-timely_if false w s ms ls h k = k
-
-timely_fitting : (ms : List Mpdu) (w : World) (s : ℕ) (chosen : List Mpdu) → IsTimely w s chosen → IsTimely w s (longest_fitting w s chosen ms)
+timely_fitting : (ms : List Mpdu) (w : World) (s : ℕ) → IsTimely w s [] → IsTimely w s (longest_fitting w s ms)
 unfolding longest_fitting
-timely_fitting [] w s chosen h = h
-timely_fitting (m ∷ ms) w s chosen h = timely_if _ w s _ _ (λ e. timely_fitting ms w s (chosen ++ m ∷ []) (timely_fits w s _ e)) h
+timely_fitting ms w s h = elim (front_passes (fits_in w s) ms) [
+  | inl none ↦ subst (IsTimely w s) (sym none) h
+  | inr fits ↦ timely_fits w s (longest_front (fits_in w s) ms) fits
+]
 
-filled_if : (b : Bool) (s : ℕ) (x y : Filled) → (b ≡ true → IsTimely x.world s x.mpdus) → IsTimely y.world s y.mpdus → IsTimely (if b then x else y).world s (if b then x else y).mpdus
+filled_if : (b : Bool) (s : ℕ) (x y : Aggregate) → (b ≡ true → IsTimely x.world s x.mpdus) → IsTimely y.world s y.mpdus → IsTimely (if b then x else y).world s (if b then x else y).mpdus
 filled_if true s x y h k = h refl
 filled_if false s x y h k = k
 
@@ -95,8 +94,8 @@ timely_filled : (w : World) (s t : ℕ) → 3000 ≤ w.config.cap → (station w
 unfolding filled
 timely_filled w s t h k =
     let waiting : List Mpdu = waiting_mpdus w s t in
-    let chosen : List Mpdu = longest_fitting w s [] waiting in
-    let fit : IsTimely w s chosen = timely_fitting waiting w s [] (timely_none w s h k) in
+    let chosen : List Mpdu = longest_fitting w s waiting in
+    let fit : IsTimely w s chosen = timely_fitting waiting w s (timely_none w s h k) in
     filled_if (length chosen == length waiting) s (with_fresh (most_frames w s - length chosen) w s t chosen) (record { world = w; mpdus = chosen })
     (λ _. timely_fresh (most_frames w s - length chosen) w s t chosen fit) fit
 

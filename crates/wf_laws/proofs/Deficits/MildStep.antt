@@ -17,7 +17,7 @@ use Rattle.wf_rules.specs.Receiver.{Receiver}
 use Rattle.wf_world.specs.World.{World, Station, Tid, Queue, Exchange, Mpdu, Content, Frames, Request, no_tid, no_station, new_queue, new_tid, tid_of, queue, is_live, live_stations, exchange, with_station, on_station, on_tid, on_session, on_receiver, with_queues, on_queue, with_exchange, without_exchange}
 use Rattle.wf_world.specs.FlowQueues.{without_head, within_limit, is_listed_elsewhere, overflow_queue, queue_for, listed_queue, appended, put_in, pay_queues, dequeued, taken_from, take, picked_queue, queue_need, has_frames, purge_queue, purge_queues}
 use Rattle.wf_world.specs.CanSend.{is_request}
-use Rattle.wf_world.specs.Exchanges.{Filled, Prepared, picked_station, pay_station, pay_stations, after_pick, after_turn, with_number, with_fresh, filled, prepared_frames, prepared, spent, exchange_of, opening_exchange, charged, settled_slot, settled, all_settled, after_done, sending_tid, after_arrival}
+use Rattle.wf_world.specs.Exchanges.{Aggregate, Prepared, picked_station, pay_station, pay_stations, after_pick, after_turn, with_number, with_fresh, filled, prepared_frames, prepared, spent, exchange_of, opening_exchange, charged, settled_slot, settled, all_settled, after_done, sending_tid, after_arrival}
 use Rattle.wf_world.specs.Refusals.{refusals}
 use Rattle.wf_world.specs.Step.{Outcome, joined, left_tid, left_tids, off_lists, gone, with_rate, ticked, with_frame, enqueued, sent, pulled_by, pulled, arrived, answered, ended, on_open, slept, woken, credited, received, reaped, done, station_of, concerned}
 use Rattle.wf_rule_laws.proofs.Lemmas.Tables.{at_put_other}
@@ -114,7 +114,7 @@ unfolding with_number
 mild_with_number None w s t = mild_here s w
 mild_with_number (Some x) w s t = mild_on_session w s t _
 
-filled_if : (b : Bool) (s : ℕ) (w : World) (x y : Filled) → IsMild s w x.world → IsMild s w y.world → IsMild s w (if b then x else y).world
+filled_if : (b : Bool) (s : ℕ) (w : World) (x y : Aggregate) → IsMild s w x.world → IsMild s w y.world → IsMild s w (if b then x else y).world
 filled_if true s w x y h k = h
 filled_if false s w x y h k = k
 

@@ -7,7 +7,7 @@ use Rattle.wf_rules.specs.Session.{request_due, Session, Slot, State, slot, on_s
 use Rattle.wf_world.specs.World.{Mpdu, Exchange, tid_of, is_live, rotation, params, with_queues, on_share, with_rotation, on_tid, on_station, with_station, World, Queue, Frame, no_frame, new_queue, queue, session, frame, accepted, on_queue, on_session, with_fate, finish, finish_all}
 use Rattle.wf_world.specs.FlowQueues.{len_given, pay_queues, dequeued, taken_from, picked_queue, take}
 use Rattle.wf_world.specs.CanSend.{is_ready}
-use Rattle.wf_world.specs.Exchanges.{Filled, Prepared, with_number, with_fresh, filled, longest_fitting, waiting_mpdus, most_frames, numbers_fly, prepared_frames, prepared, sending_tid, after_turn, after_pick, pay_stations, pay_station, picked_station, station_need, opening_exchange, spent, exchange_of}
+use Rattle.wf_world.specs.Exchanges.{Aggregate, Prepared, with_number, with_fresh, filled, longest_fitting, waiting_mpdus, most_frames, numbers_fly, prepared_frames, prepared, sending_tid, after_turn, after_pick, pay_stations, pay_station, picked_station, station_need, opening_exchange, spent, exchange_of}
 use Rattle.wf_world.specs.Step.{sent, pulled_by, pulled}
 use Rattle.wf_laws.proofs.Sessions.Flights.{Rises, next-give}
 use Rattle.wf_laws.proofs.Windows.Agreement.{slot_give, slot_new, slot_same, slot_other}
@@ -255,7 +255,7 @@ covers_number (Some x) w s t live c = covers_give w s t x.id live c
 covers_numbered : (l : List ℕ) (w : World) (s t : ℕ) → is_live w s ≡ true → Placing l w → Full w → Full (with_number (take w s t).world s t (take w s t).item)
 covers_numbered l w s t live p c = covers_number (take w s t).item (take w s t).world s t ((same_take w s t).live s ∙ live) (covers_take l w s t p c)
 
-covers_if : (b : Bool) (x y : Filled) → Full x.world → Full y.world → Full (if b then x else y).world
+covers_if : (b : Bool) (x y : Aggregate) → Full x.world → Full y.world → Full (if b then x else y).world
 covers_if true x y h k = h
 covers_if false x y h k = k
 
@@ -271,7 +271,7 @@ covers_fresh (suc n) l w s t ms live p f c =
 covers_filled : (l : List ℕ) (w : World) (s t : ℕ) → is_live w s ≡ true → Placing l w → Fresh w → Full w → Full (filled w s t).world
 unfolding filled
 covers_filled l w s t live p f c =
-    let chosen : List Mpdu = longest_fitting w s [] (waiting_mpdus w s t) in
+    let chosen : List Mpdu = longest_fitting w s (waiting_mpdus w s t) in
     covers_if (length chosen == length (waiting_mpdus w s t)) (with_fresh (most_frames w s - length chosen) w s t chosen) (record { world = w; mpdus = chosen }) (covers_fresh (most_frames w s - length chosen) l w s t chosen live p f c) c
 
 carries_fly : (ms : List Mpdu) (y : Session) (e lo hi k n : ℕ) → y.first ≤ lo → Rises lo hi ms → Carries y k n → Carries (numbers_fly e ms y) k n
@@ -283,7 +283,7 @@ carries_fly (m ∷ ms) y e lo hi k n b r c =
 pub covers_session : (w : World) (s t : ℕ) (f : Session → Session) → ((k n : ℕ) → Carries (session w s t) k n → Carries (f (session w s t)) k n) → Full w → Full (on_session w s t f)
 covers_session w s t f h c = covers_frames (InHand (on_session w s t f)) w _ (untouched_on_session w s t f).frames (covers_more (InHand w) (InHand (on_session w s t f)) w (λ k i. hand_session w s t k f (λ n d. h k n d) i) c)
 
-covers_frames_fly : (s t : ℕ) (f : Filled) → IsReady s t f.world f.mpdus → Full f.world → Full (prepared_frames s t f).world
+covers_frames_fly : (s t : ℕ) (f : Aggregate) → IsReady s t f.world f.mpdus → Full f.world → Full (prepared_frames s t f).world
 unfolding prepared_frames
 covers_frames_fly s t f r c =
     let y : Session = session f.world s t in

@@ -14,7 +14,7 @@ use Rattle.wf_rules.specs.Codel.{Item, new_codel}
 use Rattle.wf_rules.specs.Rotation.{Rotation, lists, in_order, no_keys}
 use Rattle.wf_rules.specs.Session.{Session, Slot, State, no_slot, slot, on_slot, is_settled, is_failed, is_waiting, missed_slot, next_number, numbers_where, new_session}
 use Rattle.wf_world.specs.World.{World, Station, Queue, Exchange, Mpdu, Content, Frames, Request, Frame, no_frame, no_tid, no_station, new_queue, queue, session, tid_of, is_live, accepted, on_queue, on_session, on_tid, on_station, on_share, with_station, with_queues, with_rotation, with_fate, finish, finish_all, without_exchange}
-use Rattle.wf_world.specs.FlowQueues.{total_queued, longest, without_head, within_limit, queue_for, listed_queue, appended, put_in, purge_queue, purge_queues}
+use Rattle.wf_world.specs.FlowQueues.{is_at_limit, longest, without_head, within_limit, queue_for, listed_queue, appended, put_in, purge_queue, purge_queues}
 use Rattle.wf_world.specs.Exchanges.{is_acked, heard_start, mpdus_of, charged, settled, settled_slot, all_settled, after_done, ids_of}
 use Rattle.wf_world.specs.Step.{with_frame, enqueued, ended, held_slots, rising, left_tid, left_tids, off_lists, gone, joined}
 use Rattle.wf_rule_laws.proofs.Lemmas.Tables.{each_put}
@@ -106,7 +106,7 @@ covers_head (x ∷ rest) l w q e p c =
 
 covers_limit : (l : List ℕ) (w : World) → Placing l w → Full w → Full (within_limit w)
 unfolding within_limit
-covers_limit l w p c = on_if (λ (v : World). Full v) (total_queued w == w.config.limit) (without_head w (longest w) (queue w (longest w)).items) w (λ _. covers_head (queue w (longest w)).items l w (longest w) refl p c) (λ _. c)
+covers_limit l w p c = on_if (λ (v : World). Full v) (is_at_limit w) (without_head w (longest w) (queue w (longest w)).items) w (λ _. covers_head (queue w (longest w)).items l w (longest w) refl p c) (λ _. c)
 
 carries_front : (xs : List Item) (x : Item) (k : ℕ) → carries xs k ≡ true → carries (xs ++ x ∷ []) k ≡ true
 carries_front [] x k h = absurd (cc h)

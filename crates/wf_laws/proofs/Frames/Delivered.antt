@@ -10,7 +10,7 @@ use Rattle.wf_world.specs.World.{receiver, World, Station, Exchange, Mpdu, Conte
 use Rattle.wf_frame.specs.Classes.{all_classes}
 use Rattle.wf_world.specs.FlowQueues.{within_limit, appended, put_in, take}
 use Rattle.wf_world.specs.CanSend.{is_ready, can_give}
-use Rattle.wf_world.specs.Exchanges.{is_acked, station_need, most_frames, picked_station, after_arrival, exchange_of, sending_tid, Filled, Prepared, mpdus_of, after_pick, after_turn, with_fresh, filled, with_number, fresh_mpdus, numbers_fly, waiting_mpdus, longest_fitting, spent, prepared_frames, prepared, opening_exchange, charged, settled_slot, settled, all_settled, after_done, fits_in, mpdu}
+use Rattle.wf_world.specs.Exchanges.{is_acked, station_need, most_frames, picked_station, after_arrival, exchange_of, sending_tid, Prepared, mpdus_of, after_pick, after_turn, with_fresh, filled, with_number, fresh_mpdus, numbers_fly, waiting_mpdus, longest_fitting, spent, prepared_frames, prepared, opening_exchange, charged, settled_slot, settled, all_settled, after_done, fits_in, mpdu, Aggregate}
 use Rattle.wf_frame.specs.declared.notes.Ask.TheVariants.{Join, Leave, Rate, Tick, Pull, Arrive, Answer, Done, Sleep, Wake, Poll, Rx, Reap}
 use Rattle.wf_frame.specs.declared.notes.Note.{Note}
 use Rattle.wf_frame.specs.declared.notes.Note.TheVariants.{Enqueue, Asked}
@@ -24,6 +24,9 @@ use Rattle.wf_laws.proofs.Sessions.Flights.{Rises}
 use Rattle.wf_rule_laws.proofs.Lemmas.Numbers.{on_if}
 use Rattle.wf_laws.proofs.Windows.Sides.{Side, side_of, sides_of, Same, each_side_on, on_opened, then_same, same_on_station, same_on_share, same_finish, same_listed, same_after_pick, same_after_turn, same_spent, same_within_limit, same_put_in, same_take, same_charged}
 use Rattle.wf_laws.proofs.Windows.Opened.{Each, each_map, each_both, each_append, each_filter, each_find, FlyIn, some_along, pick_ready, left_true, can_give-room, none_open, NoRow, no_row}
+use Rattle.std.proofs.Common.{drop, take as take_front}
+use Rattle.std.proofs.lemmas.List.{take-append-drop}
+use Rattle.wf_rules.specs.Table.{greatest_upto}
 use Rattle.wf_frame.specs.declared.classes.Fate.TheVariants.{Acked, Held}
 use Rattle.wf_laws.specs.Windows.{EachMpdu}
 use Rattle.wf_laws.specs.Delivery.{EndsHeard, HasReached, ReachedWithin, DeliveryLaw}
@@ -55,13 +58,11 @@ labelled_waiting : (ns : List ℕ) (w : World) (s t : ℕ) → Labelled (session
 labelled_waiting [] w s t = tt
 labelled_waiting (n ∷ ns) w s t = (refl, labelled_waiting ns w s t)
 
-labelled_fitting : (ms : List Mpdu) (w : World) (s : ℕ) (y : Session) (chosen : List Mpdu) → Labelled y (chosen ++ ms) → Labelled y (longest_fitting w s chosen ms)
+labelled_fitting : (ms : List Mpdu) (w : World) (s : ℕ) (y : Session) → Labelled y ms → Labelled y (longest_fitting w s ms)
 unfolding longest_fitting
-labelled_fitting [] w s y chosen a = labelled_front y chosen [] a
-labelled_fitting (m ∷ ms) w s y chosen a =
-    on_if (Labelled y) (fits_in w s (chosen ++ m ∷ [])) (longest_fitting w s (chosen ++ m ∷ []) ms) chosen
-    (λ _. labelled_fitting ms w s y (chosen ++ m ∷ []) (subst (Labelled y) (sym (append_assoc chosen (m ∷ []) ms)) a))
-    (λ _. labelled_front y chosen (m ∷ ms) a)
+labelled_fitting ms w s y a =
+    let n : ℕ = greatest_upto (λ k. fits_in w s (take_front k ms)) (length ms) in
+    labelled_front y (take_front n ms) (drop n ms) (subst (Labelled y) (sym (take-append-drop n ms)) a)
 
 -- u: the world before the pull
 record IsNamed (s t : ℕ) (u w : World) (ms : List Mpdu) : Type 0 where
@@ -96,7 +97,7 @@ named_longer (Some x) s t u v w ms h r n =
           (ap (λ (y : Session). (slot y (next_number (session v s t))).id) (session_on_session w s t (λ y. give y x.id) r.live) ∙ slot_new_id (session w s t) x.id (next_number (session v s t)) (ap next_number (sym (session_same v w h s t))));
     }
 
-if_named : (b : Bool) (s t : ℕ) (u : World) (x y : Filled) → (b ≡ true → IsNamed s t u x.world x.mpdus) → (b ≡ false → IsNamed s t u y.world y.mpdus) → IsNamed s t u (if b then x else y).world (if b then x else y).mpdus
+if_named : (b : Bool) (s t : ℕ) (u : World) (x y : Aggregate) → (b ≡ true → IsNamed s t u x.world x.mpdus) → (b ≡ false → IsNamed s t u y.world y.mpdus) → IsNamed s t u (if b then x else y).world (if b then x else y).mpdus
 if_named true s t u x y h k = h refl
 if_named false s t u x y h k = k refl
 
@@ -114,11 +115,11 @@ named_fresh (suc n) w s t u ms r k =
     (λ _. named_fresh n _ s t u _ (longer_number taken.item w taken.world s t ms kept room ready) (named_longer taken.item s t u w taken.world ms kept ready named))
     (λ _. named_number taken.item s t u taken.world ms ready named))
 
-named_filled : (w : World) (s t : ℕ) → IsReady s t w (longest_fitting w s [] (waiting_mpdus w s t)) → IsNamed s t w (filled w s t).world (filled w s t).mpdus
+named_filled : (w : World) (s t : ℕ) → IsReady s t w (longest_fitting w s (waiting_mpdus w s t)) → IsNamed s t w (filled w s t).world (filled w s t).mpdus
 unfolding filled
 named_filled w s t r =
-    let chosen : List Mpdu = longest_fitting w s [] (waiting_mpdus w s t) in
-    let k : IsNamed s t w w chosen = record { opened = refl; exchanges = refl; labels = labelled_fitting (waiting_mpdus w s t) w s (session w s t) [] (labelled_waiting (waiting_numbers (session w s t)) w s t) } in
+    let chosen : List Mpdu = longest_fitting w s (waiting_mpdus w s t) in
+    let k : IsNamed s t w w chosen = record { opened = refl; exchanges = refl; labels = labelled_fitting (waiting_mpdus w s t) w s (session w s t) (labelled_waiting (waiting_numbers (session w s t)) w s t) } in
     if_named (length chosen == length (waiting_mpdus w s t)) s t w (with_fresh (most_frames w s - length chosen) w s t chosen) (record { world = w; mpdus = chosen })
     (λ _. named_fresh (most_frames w s - length chosen) w s t w chosen r k) (λ _. k)
 
@@ -128,7 +129,7 @@ pub record IsPrepared (s t : ℕ) (u : World) (p : Prepared) : Type 0 where
   pub exchanges : p.world.exchanges ≡ u.exchanges
   pub labels : Labelled (session p.world s t) (mpdus_of p.content)
 
-prepared_by : (s t : ℕ) (u : World) (f : Filled) → IsReady s t f.world f.mpdus → IsNamed s t u f.world f.mpdus → IsPrepared s t u (prepared_frames s t f)
+prepared_by : (s t : ℕ) (u : World) (f : Aggregate) → IsReady s t f.world f.mpdus → IsNamed s t u f.world f.mpdus → IsPrepared s t u (prepared_frames s t f)
 unfolding prepared_frames
 prepared_by s t u f r n =
     let y : Session = session f.world s t in
@@ -383,7 +384,7 @@ unfolding with_number
 less_number None P w s t = less P w
 less_number (Some x) P w s t = less_on_session P w s t _
 
-if_filled_less : (b : Bool) (P : ℕ → Type 0) (w : World) (x y : Filled) → Less P w x.world → Less P w y.world → Less P w (if b then x else y).world
+if_filled_less : (b : Bool) (P : ℕ → Type 0) (w : World) (x y : Aggregate) → Less P w x.world → Less P w y.world → Less P w (if b then x else y).world
 if_filled_less true P w x y h k = h
 if_filled_less false P w x y h k = k
 
@@ -402,11 +403,11 @@ less_fresh (suc n) P w s t ms =
 less_filled : (P : ℕ → Type 0) (w : World) (s t : ℕ) → Less P w (filled w s t).world
 unfolding filled
 less_filled P w s t =
-    let chosen : List Mpdu = longest_fitting w s [] (waiting_mpdus w s t) in
+    let chosen : List Mpdu = longest_fitting w s (waiting_mpdus w s t) in
     if_filled_less (length chosen == length (waiting_mpdus w s t)) P w (with_fresh (most_frames w s - length chosen) w s t chosen) (record { world = w; mpdus = chosen })
     (less_fresh (most_frames w s - length chosen) P w s t chosen) (less P w)
 
-less_frames : (P : ℕ → Type 0) (w : World) (s t : ℕ) (f : Filled) → Less P w f.world → Less P w (prepared_frames s t f).world
+less_frames : (P : ℕ → Type 0) (w : World) (s t : ℕ) (f : Aggregate) → Less P w f.world → Less P w (prepared_frames s t f).world
 unfolding prepared_frames
 less_frames P w s t f h = then_less P w f.world _ h (less_on_session P f.world s t _)
 

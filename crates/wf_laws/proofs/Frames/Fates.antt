@@ -12,9 +12,9 @@ use Rattle.wf_rules.specs.Receiver.{Receiver}
 use Rattle.wf_rules.specs.Session.{is_waiting, request_due, waiting_numbers, with_state, Session, Slot, State, is_settled, is_failed, missed_slot, slot, on_slot, give, missed, new_session, next_number, numbers_where, no_slot}
 use Rattle.wf_world.specs.World.{World, Station, Share, Queue, Exchange, Mpdu, Content, Frames, Request, new_tid, no_tid, rotation, session, tid_of, is_live, exchange, with_station, on_station, on_tid, on_session, on_receiver, with_queues, on_share, on_queue, with_fate, finish, finish_all, with_exchange, without_exchange, opening, inside, is_held, no_frame, Frame, frame, new_queue, queue, accepted, params}
 use Rattle.wf_frame.specs.Classes.{all_classes}
-use Rattle.wf_world.specs.FlowQueues.{without_head, within_limit, appended, put_in, pay_queues, dequeued, taken_from, take, purge_queue, purge_queues, len_given, picked_queue, queue_for, total_queued, longest}
+use Rattle.wf_world.specs.FlowQueues.{without_head, within_limit, appended, put_in, pay_queues, dequeued, taken_from, take, purge_queue, purge_queues, len_given, picked_queue, queue_for, total_queued, longest, is_at_limit}
 use Rattle.wf_world.specs.CanSend.{is_ready, listed, can_give}
-use Rattle.wf_world.specs.Exchanges.{is_acked, station_need, most_frames, picked_station, after_arrival, exchange_of, sending_tid, heard_start, Filled, Prepared, mpdus_of, after_pick, after_turn, with_fresh, filled, with_number, numbers_fly, waiting_mpdus, longest_fitting, spent, prepared_frames, prepared, opening_exchange, charged, settled_slot, settled, all_settled, after_done, ids_of}
+use Rattle.wf_world.specs.Exchanges.{is_acked, station_need, most_frames, picked_station, after_arrival, exchange_of, sending_tid, heard_start, Prepared, mpdus_of, after_pick, after_turn, with_fresh, filled, with_number, numbers_fly, waiting_mpdus, longest_fitting, spent, prepared_frames, prepared, opening_exchange, charged, settled_slot, settled, all_settled, after_done, ids_of, Aggregate}
 use Rattle.wf_frame.specs.declared.notes.Ask.TheVariants.{Join, Leave, Rate, Tick, Pull, Arrive, Answer, Done, Sleep, Wake, Poll, Rx, Reap}
 use Rattle.wf_frame.specs.declared.notes.Note.{Note}
 use Rattle.wf_frame.specs.declared.notes.Note.TheVariants.{Enqueue, Asked}
@@ -405,7 +405,7 @@ safe_numbered l w s t p f =
       stays = then_stays w _ _ r.stays (stays_number (take w s t).item (take w s t).world s t);
     }
 
-safe_filled_if : (b : Bool) (l : List ℕ) (w : World) (x y : Filled) → Safe l w x.world → Safe l w y.world → Safe l w (if b then x else y).world
+safe_filled_if : (b : Bool) (l : List ℕ) (w : World) (x y : Aggregate) → Safe l w x.world → Safe l w y.world → Safe l w (if b then x else y).world
 safe_filled_if true l w x y h k = h
 safe_filled_if false l w x y h k = k
 
@@ -420,19 +420,19 @@ safe_fresh (suc n) l w s t ms p f =
 safe_filled : (l : List ℕ) (w : World) (s t : ℕ) → Placing l w → Fresh w → Safe l w (filled w s t).world
 unfolding filled
 safe_filled l w s t p f =
-    let chosen : List Mpdu = longest_fitting w s [] (waiting_mpdus w s t) in
+    let chosen : List Mpdu = longest_fitting w s (waiting_mpdus w s t) in
     safe_filled_if (length chosen == length (waiting_mpdus w s t)) l w (with_fresh (most_frames w s - length chosen) w s t chosen) (record { world = w; mpdus = chosen })
     (safe_fresh (most_frames w s - length chosen) l w s t chosen p f) (safe_here l w p f)
 
-frames_fresh : (s t : ℕ) (f : Filled) → Fresh (on_session f.world s t (numbers_fly f.world.exchanges f.mpdus)) → Fresh (prepared_frames s t f).world
+frames_fresh : (s t : ℕ) (f : Aggregate) → Fresh (on_session f.world s t (numbers_fly f.world.exchanges f.mpdus)) → Fresh (prepared_frames s t f).world
 unfolding prepared_frames
 frames_fresh s t f h = h
 
-frames_stays : (s t : ℕ) (f : Filled) → Stays f.world (prepared_frames s t f).world
+frames_stays : (s t : ℕ) (f : Aggregate) → Stays f.world (prepared_frames s t f).world
 unfolding prepared_frames
 frames_stays s t f = stays_same f.world _ (untouched_on_session f.world s t _)
 
-safe_frames : (l : List ℕ) (w : World) (s t : ℕ) (f : Filled) → IsReady s t f.world f.mpdus → Safe l w f.world → Safe l w (prepared_frames s t f).world
+safe_frames : (l : List ℕ) (w : World) (s t : ℕ) (f : Aggregate) → IsReady s t f.world f.mpdus → Safe l w f.world → Safe l w (prepared_frames s t f).world
 safe_frames l w s t f r k =
     let y : Session = session f.world s t in
     record {
@@ -650,7 +650,7 @@ limit_head (x ∷ rest) l w q e p h =
 limit_kept : (l : List ℕ) (w : World) → Placing l w → Fresh w → Finished (OrNew (within_limit w) (accepted w)) w (within_limit w)
 unfolding within_limit
 limit_kept l w p h =
-    on_if (λ (v : World). Finished (OrNew v (accepted w)) w v) (total_queued w == w.config.limit) (without_head w (longest w) (queue w (longest w)).items) w
+    on_if (λ (v : World). Finished (OrNew v (accepted w)) w v) (is_at_limit w) (without_head w (longest w) (queue w (longest w)).items) w
     (λ _. limit_head (queue w (longest w)).items l w (longest w) refl p h)
     (λ _. record { stays = stays_same w w (untouched w); held = record { held = λ k i. elim i [ inl a ↦ h.held k a | inr b ↦ default_frame w.frames k (omega (arith, b)) ] } })
 

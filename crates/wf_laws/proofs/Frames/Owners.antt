@@ -9,7 +9,7 @@ use Rattle.wf_rules.specs.Session.{Slot, State, slot, is_settled, next_number, w
 use Rattle.wf_world.specs.World.{Frame, no_frame, Mpdu, Exchange, Content, Frames, Request, queue, tid_of, is_live, rotation, on_queue, with_queues, on_tid, on_station, with_station, finish, without_exchange, World, session, frame, on_session}
 use Rattle.wf_world.specs.FlowQueues.{queue_need, has_frames, pay_queues, dequeued, taken_from, picked_queue, take}
 use Rattle.wf_world.specs.CanSend.{is_ready}
-use Rattle.wf_world.specs.Exchanges.{Filled, Prepared, with_number, with_fresh, filled, longest_fitting, waiting_mpdus, most_frames, numbers_fly, prepared_frames, prepared, sending_tid, after_turn, after_pick, picked_station, station_need, opening_exchange, spent, exchange_of, is_acked, heard_start, charged, settled, settled_slot, all_settled, after_done}
+use Rattle.wf_world.specs.Exchanges.{Aggregate, Prepared, with_number, with_fresh, filled, longest_fitting, waiting_mpdus, most_frames, numbers_fly, prepared_frames, prepared, sending_tid, after_turn, after_pick, picked_station, station_need, opening_exchange, spent, exchange_of, is_acked, heard_start, charged, settled, settled_slot, all_settled, after_done}
 use Rattle.wf_world.specs.Step.{sent, pulled_by, pulled, ended}
 use Rattle.wf_laws.specs.Queues.{EachItem, IsFor}
 use Rattle.wf_rule_laws.proofs.Lemmas.Numbers.{on_bool, lt_yes, lt_no}
@@ -133,7 +133,7 @@ unfolding IsOneOf
 along_notes None w v s t e h = tt
 along_notes (Some x) w v s t e h = (subst (IsFor s t) (sym (e.same x.id)) h.0, h.1)
 
-owned_if : (b : Bool) (x y : Filled) → IsOwned x.world → IsOwned y.world → IsOwned (if b then x else y).world
+owned_if : (b : Bool) (x y : Aggregate) → IsOwned x.world → IsOwned y.world → IsOwned (if b then x else y).world
 owned_if true x y h k = h
 owned_if false x y h k = k
 
@@ -151,10 +151,10 @@ owned_fresh (suc n) most w s t ms live i o =
 owned_filled : (most : ℕ) (w : World) (s t : ℕ) → is_live w s ≡ true → IsShelved most (shelves w) → IsOwned w → IsOwned (filled w s t).world
 unfolding filled
 owned_filled most w s t live i o =
-    let chosen : List Mpdu = longest_fitting w s [] (waiting_mpdus w s t) in
+    let chosen : List Mpdu = longest_fitting w s (waiting_mpdus w s t) in
     owned_if (length chosen == length (waiting_mpdus w s t)) (with_fresh (most_frames w s - length chosen) w s t chosen) (record { world = w; mpdus = chosen }) (owned_fresh (most_frames w s - length chosen) most w s t chosen live i o) o
 
-owned_frames : (s t : ℕ) (f : Filled) → IsReady s t f.world f.mpdus → IsOwned f.world → IsOwned (prepared_frames s t f).world
+owned_frames : (s t : ℕ) (f : Aggregate) → IsReady s t f.world f.mpdus → IsOwned f.world → IsOwned (prepared_frames s t f).world
 unfolding prepared_frames
 owned_frames s t f r o =
     let y : Session = session f.world s t in

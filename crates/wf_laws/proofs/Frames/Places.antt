@@ -15,7 +15,7 @@ use Rattle.wf_rules.specs.Table.{at, has, upto}
 use Rattle.wf_rules.specs.Codel.{Item}
 use Rattle.wf_rules.specs.Session.{Session, State, slot, is_settled, next_number, new_session}
 use Rattle.wf_world.specs.World.{World, Queue, Station, Exchange, Frame, Share, new_queue, on_queue, on_receiver, on_tid, with_queues, with_rotation, rotation, no_frame, no_tid, new_tid, queue, session, frame, accepted, exchange, with_station, on_station, on_share, with_exchange, opening}
-use Rattle.wf_world.specs.FlowQueues.{total_queued, longest, without_head, within_limit, queue_for, put_in, purge_queue, purge_queues}
+use Rattle.wf_world.specs.FlowQueues.{is_at_limit, longest, without_head, within_limit, queue_for, put_in, purge_queue, purge_queues}
 use Rattle.wf_world.specs.Exchanges.{after_arrival, after_pick}
 use Rattle.wf_rules.specs.Rotation.{in_order}
 use Rattle.wf_world.specs.CanSend.{listed_in, listed_in_all, listed}
@@ -56,7 +56,7 @@ notes_head (x ∷ rest) w q k = ap (λ (b : Shelves). b.notes k) (shelves_finish
 
 notes_limit : (w : World) (k : ℕ) → (frame (within_limit w) k).note ≡ (frame w k).note
 unfolding within_limit
-notes_limit w k = on_if (λ (v : World). (frame v k).note ≡ (frame w k).note) (total_queued w == w.config.limit) (without_head w (longest w) (queue w (longest w)).items) w (λ _. notes_head (queue w (longest w)).items w (longest w) k) (λ _. refl)
+notes_limit w k = on_if (λ (v : World). (frame v k).note ≡ (frame w k).note) (is_at_limit w) (without_head w (longest w) (queue w (longest w)).items) w (λ _. notes_head (queue w (longest w)).items w (longest w) k) (λ _. refl)
 
 notes_enqueued : (l : List ℕ) (w : World) (s t flow len k : ℕ) → Placing l w → k < accepted w → (frame (enqueued w s t flow len).world k).note ≡ (frame w k).note
 unfolding enqueued

@@ -13,6 +13,7 @@ use Rattle.wf_world.specs.Run.{Entry, world_after}
 use Rattle.wf_world.specs.Stretches.{world_at}
 use Rattle.wf_laws.specs.Room.{reaped_by, reaped_in, RoomLaw}
 use Rattle.wf_rule_laws.proofs.Lemmas.Numbers.{eq_no}
+use Rattle.wf_laws.proofs.Common.Numbers.{le_no}
 use Rattle.wf_laws.proofs.Windows.Opened.{NoRow, no_row}
 use Rattle.wf_laws.proofs.Deficits.Configs.{config_step, config_run}
 use Rattle.wf_laws.proofs.Frames.Fates.{brought, fetched, Steady, steady_step, steady_first, counted_step}
@@ -25,7 +26,7 @@ record Fits (r : ℕ) (w : World) : Type 0 where
 
 -- a frame that is accepted finds room
 fits_note : (note : Note) (w : World) → NoRow (refusals w note) → inside w ≤ w.config.room → brought note + inside w ≤ w.config.room
-fits_note (Enqueue s t flow len) w e h = omega (arith, h, eq_no (inside w) w.config.room e.1.1.1.0)
+fits_note (Enqueue s t flow len) w e h = omega (arith, h, le_no w.config.room (inside w) e.1.1.1.0)
 fits_note (Asked ask) w e h = omega (arith, h)
 
 fits_brought : (r : Option Refusal) (w : World) (note : Note) → refusal w note ≡ r → inside w ≤ w.config.room → (if is_none r then brought note else 0) + inside w ≤ w.config.room

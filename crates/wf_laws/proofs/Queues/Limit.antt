@@ -1,5 +1,5 @@
 -- All flow queues together have at most `limit` frames, in every world of a run.
-use Rattle.std.proofs.Common.{◌≡◌, refl, ap, ◌∙◌, subst, arith, ℕ, zero, suc, ◌+◌, ◌<◌, ◌≤◌, ◌==◌, max, nat_lt, if◌then◌else◌, inr, List, [], ◌∷◌, ◌++◌, length, take, Option, Some, None}
+use Rattle.std.proofs.Common.{◌≡◌, refl, ap, ◌∙◌, arith, ℕ, zero, suc, ◌+◌, ◌<◌, ◌≤◌, inr, List, [], ◌∷◌, ◌++◌, length, take, Option, Some, None}
 use Rattle.std.proofs.lemmas.List.{length-append}
 use Rattle.std.proofs.lemmas.List.Sums.{sum_by-cons}
 use Rattle.std.specs.Prelude.{sum_by}
@@ -11,10 +11,10 @@ use Rattle.wf_frame.specs.declared.notes.Note.{Note}
 use Rattle.wf_frame.specs.declared.notes.Note.TheVariants.{Enqueue, Asked}
 use Rattle.wf_frame.specs.declared.notes.Refusal.{Refusal}
 use Rattle.wf_frame.specs.declared.notes.Refusal.TheVariants.{Idle}
-use Rattle.wf_rules.specs.Table.{at}
 use Rattle.wf_rules.specs.Codel.{Item, octets}
 use Rattle.wf_world.specs.World.{World, Queue, Exchange, new_queue, queue, accepted, exchange, on_queue, finish, with_fate, opening}
-use Rattle.wf_world.specs.FlowQueues.{total_queued, longest_after, longest, without_head, within_limit, queue_for, appended, put_in}
+use Rattle.wf_world.specs.FlowQueues.{is_at_limit, total_queued, longest, without_head, within_limit, queue_for, appended, put_in}
+use Rattle.wf_world.proofs.Longest.{octets_at, longest_first_most}
 use Rattle.wf_world.specs.Refusals.{refusal}
 use Rattle.wf_world.specs.Step.{Outcome, ticked, with_rate, slept, woken, credited, received, with_frame, enqueued, on_open, concerned, done, refused, answer, step}
 use Rattle.wf_world.specs.Run.{Entry, world_after}
@@ -24,6 +24,7 @@ use Rattle.wf_laws.specs.Room.{LimitLaw}
 use Rattle.wf_rule_laws.proofs.Lemmas.Numbers.{on_if, lt_yes, lt_no, eq_yes, eq_no}
 use Rattle.wf_rule_laws.proofs.Lemmas.Tables.{each_put}
 use Rattle.wf_rule_laws.proofs.Lemmas.Sums.{sum_put, sum_below}
+use Rattle.wf_laws.proofs.Common.Numbers.{le_yes, le_no}
 use Rattle.wf_laws.proofs.Deficits.Configs.{config_step}
 use Rattle.wf_laws.proofs.Frames.Fewer.{HasOctets, Less, less, less_plain, less_on_station, less_on_share, less_after_pick, less_listed, less_within_limit}
 use Rattle.wf_laws.proofs.Frames.Delivered.{less_joined, less_gone, less_pulled, less_arrived, less_answered, less_reaped, less_ended}
@@ -36,41 +37,14 @@ each_octet : (xs : List Item) → EachItem HasOctets xs → length xs ≤ octets
 each_octet [] h = omega arith
 each_octet (x ∷ xs) h = omega (arith, sum_by-cons (λ (y : Item). y.len) x xs, h.0, each_octet xs h.1)
 
--- g: the octets of each queue
-record IsLongest (g : ℕ → ℕ) (best most : ℕ) (qs : List Queue) : Type 0 where
-  most_so_far : most ≤ g best
-  each : (k : ℕ) → octets (at new_queue qs k).items ≤ g best
-
-longest_of : (qs : List Queue) (g : ℕ → ℕ) (best most n : ℕ) → most ≤ g best → ((k : ℕ) → octets (at new_queue qs k).items ≤ g (n + k)) → IsLongest g (longest_after best most n qs) most qs
-longest_of [] g best most n h k = record { most_so_far = h; each = λ i. omega arith }
-longest_of (q ∷ qs) g best most n h k =
-    let here : octets q.items ≤ g n = subst (λ (j : ℕ). octets q.items ≤ g j) (plus_zero n) (k zero) in
-    let next : max most (octets q.items) ≤ g (if nat_lt most (octets q.items) then n else best) =
-    on_if (λ (b : ℕ). max most (octets q.items) ≤ g b) (nat_lt most (octets q.items)) n best
-    (λ e. omega (arith, here, lt_yes most (octets q.items) e)) (λ e. omega (arith, h, lt_no most (octets q.items) e)) in
-    let rest = longest_of qs g (if nat_lt most (octets q.items) then n else best) (max most (octets q.items)) (suc n) next (λ i. subst (λ (j : ℕ). octets (at new_queue qs i).items ≤ g j) (plus_suc n i) (k (suc i))) in
-    record { most_so_far = omega (arith, rest.most_so_far); each = each_here rest.most_so_far rest.each }
-  where
-    plus_zero : (n : ℕ) → n + 0 ≡ n
-    plus_zero n = omega arith
-
-    plus_suc : (n i : ℕ) → n + suc i ≡ suc n + i
-    plus_suc n i = omega arith
-
-    each_here : {m : ℕ} → max most (octets q.items) ≤ m → ((i : ℕ) → octets (at new_queue qs i).items ≤ m) → (i : ℕ) → octets (at new_queue (q ∷ qs) i).items ≤ m
-    each_here a f zero = omega (arith, a)
-    each_here a f (suc i) = f i
-
 -- no queue has frames where the longest has none
 none_queued : (w : World) → ((q : ℕ) → EachItem HasOctets (queue w q).items) → (queue w (longest w)).items ≡ [] → total_queued w ≡ 0
+unfolding octets_at
 none_queued w sized e =
-    let l = longest_of w.queues (λ q. octets (queue w q).items) 0 0 0 (omega arith) (λ k. subst (λ (j : ℕ). octets (queue w k).items ≤ octets (queue w j).items) (zero_plus k) (omega arith)) in
+    let most : (k : ℕ) → octets_at w.queues k ≤ octets_at w.queues (longest w) = (longest_first_most w.queues).most in
     let none : octets (queue w (longest w)).items ≡ 0 = ap octets e in
-    let empty : sum_by (λ (q : Queue). length q.items) w.queues ≤ 0 = sum_below (λ (q : Queue). length q.items) new_queue [] w.queues refl (λ k. omega (arith, each_octet (queue w k).items (sized k), l.each k, none)) in
+    let empty : sum_by (λ (q : Queue). length q.items) w.queues ≤ 0 = sum_below (λ (q : Queue). length q.items) new_queue [] w.queues refl (λ k. omega (arith, each_octet (queue w k).items (sized k), most k, none)) in
     omega (arith, empty)
-  where
-    zero_plus : (k : ℕ) → k ≡ 0 + k
-    zero_plus k = omega arith
 
 -- ---- how many frames are queued
 
@@ -91,11 +65,11 @@ below_limit : (w : World) → 0 < w.config.limit → ((q : ℕ) → EachItem Has
 unfolding within_limit
 below_limit w some sized h =
     let items : List Item = (queue w (longest w)).items in
-    on_if (λ (v : World). total_queued v < w.config.limit) (total_queued w == w.config.limit) (without_head w (longest w) items) w
+    on_if (λ (v : World). total_queued v < w.config.limit) (is_at_limit w) (without_head w (longest w) items) w
     (λ e. on_length items refl
-    (λ none. absurd (omega (arith, none_queued w sized none, eq_yes (total_queued w) w.config.limit e, some)))
-    (λ l. omega (arith, total_head items w (longest w) refl l, eq_yes (total_queued w) w.config.limit e)))
-    (λ e. omega (arith, h, eq_no (total_queued w) w.config.limit e))
+    (λ none. absurd (omega (arith, none_queued w sized none, le_yes w.config.limit (total_queued w) e, some)))
+    (λ l. omega (arith, total_head items w (longest w) refl l, le_yes w.config.limit (total_queued w) e)))
+    (λ e. omega (arith, h, le_no w.config.limit (total_queued w) e))
   where
     on_length : {P : Type 0} (xs : List Item) {ys : List Item} → ys ≡ xs → (ys ≡ [] → P) → (0 < length xs → P) → P
     on_length [] e f g = f e

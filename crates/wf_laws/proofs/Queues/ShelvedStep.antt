@@ -10,14 +10,14 @@ use Rattle.wf_rules.specs.Codel.{new_codel, Item, Dequeued, dequeue}
 use Rattle.wf_laws.proofs.Windows.Sides.{Same, same_take, on_live, same_after_turn, same_after_pick, same_within_limit}
 use Rattle.wf_frame.specs.declared.classes.Cause.TheVariants.{Left, Overlimit}
 use Rattle.wf_world.specs.World.{on_session, finish_all, Mpdu, new_tid, session, rotation, World, Queue, no_frame, queue, tid_of, is_live, accepted, live_stations, params, on_queue, with_queues, finish, with_fate, on_tid, on_station, with_station}
-use Rattle.wf_world.specs.FlowQueues.{purge_queues, purge_queue, total_queued, longest, without_head, within_limit, is_listed_elsewhere, overflow_queue, queue_for, listed_queue, appended, put_in, queue_need, has_frames, pay_queues, len_given, dequeued, taken_from, picked_queue, take}
+use Rattle.wf_world.specs.FlowQueues.{purge_queues, purge_queue, total_queued, longest, without_head, within_limit, is_listed_elsewhere, overflow_queue, queue_for, listed_queue, appended, put_in, queue_need, has_frames, pay_queues, len_given, dequeued, taken_from, picked_queue, take, is_at_limit}
 use Rattle.wf_laws.proofs.Queues.Shelves.{spot, shelves_with_station, shelves_on_session, shelves_sent, shelves_after_turn, shelves_after_pick, shelves_off_lists, Spot, Shelves, shelves, with_listed, with_queue, with_note, all_paid, shelves_with_queues, shelves_on_queue, shelves_finish, shelves_finish_all, shelves_pay_queues, shelves_with_frame}
 use Rattle.wf_rule_laws.proofs.Lemmas.Numbers.{on_bool, lt_yes, lt_no, has_with, has_old, on_if, yes_lt, yes_eq, or_left, or_right, either, eq_yes}
 use Rattle.wf_frame.specs.declared.classes.Class.{Class}
 use Rattle.wf_rules.specs.Session.{request_due}
 use Rattle.wf_frame.specs.Classes.{all_classes}
 use Rattle.wf_world.specs.CanSend.{is_ready}
-use Rattle.wf_world.specs.Exchanges.{Filled, Prepared, with_number, with_fresh, filled, longest_fitting, waiting_mpdus, most_frames, prepared_frames, prepared, sending_tid, after_turn, after_pick, picked_station, station_need}
+use Rattle.wf_world.specs.Exchanges.{Prepared, with_number, with_fresh, filled, longest_fitting, waiting_mpdus, most_frames, prepared_frames, prepared, sending_tid, after_turn, after_pick, picked_station, station_need, Aggregate}
 use Rattle.wf_world.specs.Step.{pulled_by, pulled, held_slots, rising, left_tid, left_tids, off_lists, gone, joined, enqueued}
 use Rattle.wf_laws.proofs.Windows.Opened.{eight, some_along, left_true, pick_ready}
 use Rattle.wf_laws.proofs.Deficits.Books.{each_upd, upd, upd_same, upd_other}
@@ -51,7 +51,7 @@ shelved_without_head (x ∷ rest) most w q e i =
 shelved_within_limit : (most : ℕ) (w : World) → IsShelved most (shelves w) → IsShelved most (shelves (within_limit w))
 unfolding within_limit
 shelved_within_limit most w i =
-    on_if (λ (v : World). IsShelved most (shelves v)) (total_queued w == w.config.limit) (without_head w (longest w) (queue w (longest w)).items) w
+    on_if (λ (v : World). IsShelved most (shelves v)) (is_at_limit w) (without_head w (longest w) (queue w (longest w)).items) w
     (λ _. shelved_without_head (queue w (longest w)).items most w (longest w) refl i) (λ _. i)
 
 -- ---- a frame is put in
@@ -234,7 +234,7 @@ accepted_head (x ∷ rest) w q h = length_put no_frame w.frames x.id _ (h x.id (
 pub accepted_limit : (l : List ℕ) (w : World) → Placing l w → accepted (within_limit w) ≡ accepted w
 unfolding within_limit
 accepted_limit l w p =
-    on_if (λ (v : World). accepted v ≡ accepted w) (total_queued w == w.config.limit) (without_head w (longest w) (queue w (longest w)).items) w
+    on_if (λ (v : World). accepted v ≡ accepted w) (is_at_limit w) (without_head w (longest w) (queue w (longest w)).items) w
     (λ _. accepted_head (queue w (longest w)).items w (longest w) (λ k e. (p.queued (longest w) k e).old)) (λ _. refl)
 
 pub accepted_put : (w : World) (s t q : ℕ) (x : Item) → accepted (put_in w s t q x) ≡ accepted w
@@ -256,7 +256,7 @@ clock_head (x ∷ rest) w q = refl
 
 clock_limit : (w : World) → (within_limit w).clock ≡ w.clock
 unfolding within_limit
-clock_limit w = on_if (λ (v : World). v.clock ≡ w.clock) (total_queued w == w.config.limit) (without_head w (longest w) (queue w (longest w)).items) w (λ _. clock_head (queue w (longest w)).items w (longest w)) (λ _. refl)
+clock_limit w = on_if (λ (v : World). v.clock ≡ w.clock) (is_at_limit w) (without_head w (longest w) (queue w (longest w)).items) w (λ _. clock_head (queue w (longest w)).items w (longest w)) (λ _. refl)
 
 shelved_put_in : (most : ℕ) (w : World) (s t q : ℕ) (x : Item) (note : Note) → is_live w s ≡ true → CanTake (shelves w) s t q → IsFor s t note → x.len ≤ most → x.stamp ≡ w.clock
     → ((p : ℕ) → EachItem (λ y. y.id ≡ x.id → ⊥) (queue w p).items) → IsShelved most (shelves w) → IsShelved most (with_note (shelves (put_in w s t q x)) x.id note)
@@ -373,7 +373,7 @@ unfolding with_number
 shelves_number None w s t = refl
 shelves_number (Some x) w s t = shelves_on_session w s t _
 
-shelved_if : (b : Bool) (most : ℕ) (x y : Filled) → IsShelved most (shelves x.world) → IsShelved most (shelves y.world) → IsShelved most (shelves (if b then x else y).world)
+shelved_if : (b : Bool) (most : ℕ) (x y : Aggregate) → IsShelved most (shelves x.world) → IsShelved most (shelves y.world) → IsShelved most (shelves (if b then x else y).world)
 shelved_if true most x y h k = h
 shelved_if false most x y h k = k
 
@@ -389,11 +389,11 @@ shelved_fresh (suc n) most w s t ms live i =
 shelved_filled : (most : ℕ) (w : World) (s t : ℕ) → is_live w s ≡ true → IsShelved most (shelves w) → IsShelved most (shelves (filled w s t).world)
 unfolding filled
 shelved_filled most w s t live i =
-    let chosen : List Mpdu = longest_fitting w s [] (waiting_mpdus w s t) in
+    let chosen : List Mpdu = longest_fitting w s (waiting_mpdus w s t) in
     shelved_if (length chosen == length (waiting_mpdus w s t)) most (with_fresh (most_frames w s - length chosen) w s t chosen) (record { world = w; mpdus = chosen })
     (shelved_fresh (most_frames w s - length chosen) most w s t chosen live i) i
 
-shelved_frames : (most : ℕ) (s t : ℕ) (f : Filled) → IsShelved most (shelves f.world) → IsShelved most (shelves (prepared_frames s t f).world)
+shelved_frames : (most : ℕ) (s t : ℕ) (f : Aggregate) → IsShelved most (shelves f.world) → IsShelved most (shelves (prepared_frames s t f).world)
 unfolding prepared_frames
 shelved_frames most s t f i = subst (IsShelved most) (sym (shelves_on_session f.world s t _)) i
 

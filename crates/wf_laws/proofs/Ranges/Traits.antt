@@ -17,9 +17,9 @@ use Rattle.wf_rules.specs.Rotation.{in_order}
 use Rattle.wf_rules.specs.Session.{Session, request_due}
 use Rattle.wf_rules.specs.Bounds.{greatest_exponent, greatest_weight, greatest_mcs}
 use Rattle.wf_world.specs.World.{World, Station, Share, Tid, Exchange, Mpdu, Content, Frames, Request, no_station, station, session, queue, rotation, exchange, with_station, on_station, on_tid, on_session, on_receiver, with_queues, on_share, on_queue, with_rotation, with_fate, finish, finish_all, with_exchange, without_exchange, opening}
-use Rattle.wf_world.specs.FlowQueues.{without_head, within_limit, longest, total_queued, listed_queue, appended, put_in, pay_queues, dequeued, taken_from, take, purge_queue, purge_queues}
+use Rattle.wf_world.specs.FlowQueues.{is_at_limit, without_head, within_limit, longest, listed_queue, appended, put_in, pay_queues, dequeued, taken_from, take, purge_queue, purge_queues}
 use Rattle.wf_world.specs.CanSend.{listed_in, listed_in_all, listed, can_give}
-use Rattle.wf_world.specs.Exchanges.{picked_station, most_frames, waiting_mpdus, longest_fitting, Filled, Prepared, pay_station, pay_stations, after_pick, after_turn, with_number, with_fresh, filled, prepared_frames, prepared, spent, opening_exchange, charged, settled_slot, settled, all_settled, after_done}
+use Rattle.wf_world.specs.Exchanges.{picked_station, most_frames, waiting_mpdus, longest_fitting, Aggregate, Prepared, pay_station, pay_stations, after_pick, after_turn, with_number, with_fresh, filled, prepared_frames, prepared, spent, opening_exchange, charged, settled_slot, settled, all_settled, after_done}
 use Rattle.wf_world.specs.Refusals.{refusals, refusal, is_within}
 use Rattle.wf_world.specs.Step.{Outcome, joined, left_tid, left_tids, off_lists, gone, with_rate, ticked, with_frame, enqueued, sent, pulled_by, pulled, arrived, answered, ended, on_open, slept, woken, credited, received, reaped, concerned, done, refused, answer, step}
 use Rattle.wf_world.specs.Run.{Entry, world_after}
@@ -93,7 +93,7 @@ kept_without_head (x ∷ rest) w q h = h
 
 kept_within_limit : (w : World) → Traits w → Traits (within_limit w)
 unfolding within_limit
-kept_within_limit w h = kept_if (total_queued w == w.config.limit) (without_head w (longest w) (queue w (longest w)).items) w (kept_without_head (queue w (longest w)).items w (longest w) h) h
+kept_within_limit w h = kept_if (is_at_limit w) (without_head w (longest w) (queue w (longest w)).items) w (kept_without_head (queue w (longest w)).items w (longest w) h) h
 
 kept_put_in : (w : World) (s t q : ℕ) (x : Item) → Traits w → Traits (put_in w s t q x)
 unfolding put_in appended listed_queue with_queues on_queue
@@ -138,7 +138,7 @@ unfolding with_number
 kept_number None w s t h = h
 kept_number (Some x) w s t h = kept_session w s t _ h
 
-filled_if : (b : Bool) (x y : Filled) → Traits x.world → Traits y.world → Traits (if b then x else y).world
+filled_if : (b : Bool) (x y : Aggregate) → Traits x.world → Traits y.world → Traits (if b then x else y).world
 filled_if true x y h k = h
 filled_if false x y h k = k
 
@@ -152,11 +152,11 @@ kept_fresh (suc n) w s t ms h =
 kept_filled : (w : World) (s t : ℕ) → Traits w → Traits (filled w s t).world
 unfolding filled
 kept_filled w s t h =
-    let chosen : List Mpdu = longest_fitting w s [] (waiting_mpdus w s t) in
+    let chosen : List Mpdu = longest_fitting w s (waiting_mpdus w s t) in
     filled_if (length chosen == length (waiting_mpdus w s t)) (with_fresh (most_frames w s - length chosen) w s t chosen) (record { world = w; mpdus = chosen })
     (kept_fresh (most_frames w s - length chosen) w s t chosen h) h
 
-kept_prepared_frames : (s t : ℕ) (f : Filled) → Traits f.world → Traits (prepared_frames s t f).world
+kept_prepared_frames : (s t : ℕ) (f : Aggregate) → Traits f.world → Traits (prepared_frames s t f).world
 unfolding prepared_frames
 kept_prepared_frames s t f h = kept_session f.world s t _ h
 

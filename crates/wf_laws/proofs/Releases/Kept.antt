@@ -7,7 +7,7 @@ use Rattle.wf_rules.specs.Session.{request_due, with_state, Session, Slot, State
 use Rattle.wf_world.specs.World.{receiver, World, Station, Exchange, Mpdu, Content, Frames, Request, session, is_live, on_session, with_exchange, without_exchange}
 use Rattle.wf_world.specs.FlowQueues.{take}
 use Rattle.wf_world.specs.CanSend.{can_give}
-use Rattle.wf_world.specs.Exchanges.{most_frames, picked_station, sending_tid, heard_start, Filled, Prepared, after_pick, with_fresh, filled, with_number, numbers_fly, waiting_mpdus, longest_fitting, prepared_frames, prepared, opening_exchange, settled_slot, settled, all_settled, after_done}
+use Rattle.wf_world.specs.Exchanges.{most_frames, picked_station, sending_tid, heard_start, Aggregate, Prepared, after_pick, with_fresh, filled, with_number, numbers_fly, waiting_mpdus, longest_fitting, prepared_frames, prepared, opening_exchange, settled_slot, settled, all_settled, after_done}
 use Rattle.wf_world.specs.Step.{with_frame, enqueued, sent, pulled_by, pulled, answered, ended, reaped}
 use Rattle.wf_rule_laws.proofs.Lemmas.Tables.{each_put}
 use Rattle.wf_laws.proofs.Sessions.Flights.{next-give}
@@ -99,7 +99,7 @@ keep_if : (b : Bool) (w u v : World) → Kept w u → Kept w v → Kept w (if b 
 keep_if true w u v h k = h
 keep_if false w u v h k = k
 
-keep_filled_if : (b : Bool) (w : World) (x y : Filled) → Kept w x.world → Kept w y.world → Kept w (if b then x else y).world
+keep_filled_if : (b : Bool) (w : World) (x y : Aggregate) → Kept w x.world → Kept w y.world → Kept w (if b then x else y).world
 keep_filled_if true w x y h k = h
 keep_filled_if false w x y h k = k
 
@@ -124,11 +124,11 @@ keep_fresh (suc n) w s t ms =
 keep_filled : (w : World) (s t : ℕ) → Kept w (filled w s t).world
 unfolding filled
 keep_filled w s t =
-    let chosen : List Mpdu = longest_fitting w s [] (waiting_mpdus w s t) in
+    let chosen : List Mpdu = longest_fitting w s (waiting_mpdus w s t) in
     keep_filled_if (length chosen == length (waiting_mpdus w s t)) w (with_fresh (most_frames w s - length chosen) w s t chosen) (record { world = w; mpdus = chosen })
     (keep_fresh (most_frames w s - length chosen) w s t chosen) (kept_here w)
 
-keep_frames : (w : World) (s t : ℕ) (f : Filled) → Kept w f.world → Kept w (prepared_frames s t f).world
+keep_frames : (w : World) (s t : ℕ) (f : Aggregate) → Kept w f.world → Kept w (prepared_frames s t f).world
 unfolding prepared_frames
 keep_frames w s t f h = then_keep w f.world _ h (keep_on_session f.world s t (numbers_fly f.world.exchanges f.mpdus) (kept_fly f.mpdus (session f.world s t) f.world.exchanges))
 

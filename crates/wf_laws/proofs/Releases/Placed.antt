@@ -11,7 +11,7 @@ use Rattle.wf_world.specs.World.{receiver, World, Station, Tid, Exchange, Mpdu, 
 use Rattle.wf_frame.specs.Classes.{all_classes}
 use Rattle.wf_world.specs.FlowQueues.{within_limit, appended, put_in, take, queue_for}
 use Rattle.wf_world.specs.CanSend.{is_ready, can_give}
-use Rattle.wf_world.specs.Exchanges.{is_acked, transmissions, no_mpdu, station_need, most_frames, picked_station, after_arrival, sending_tid, heard_start, Filled, Prepared, mpdus_of, after_pick, after_turn, with_fresh, filled, with_number, numbers_fly, waiting_mpdus, longest_fitting, prepared_frames, prepared, opening_exchange, charged, settled_slot, settled, all_settled, after_done, ids_of}
+use Rattle.wf_world.specs.Exchanges.{is_acked, transmissions, no_mpdu, station_need, most_frames, picked_station, after_arrival, sending_tid, heard_start, Prepared, mpdus_of, after_pick, after_turn, with_fresh, filled, with_number, numbers_fly, waiting_mpdus, longest_fitting, prepared_frames, prepared, opening_exchange, charged, settled_slot, settled, all_settled, after_done, ids_of, Aggregate}
 use Rattle.wf_frame.specs.declared.notes.Ask.TheVariants.{Join, Leave, Rate, Tick, Pull, Arrive, Answer, Done, Sleep, Wake, Poll, Rx, Reap}
 use Rattle.wf_frame.specs.declared.notes.Note.{Note}
 use Rattle.wf_frame.specs.declared.notes.Note.TheVariants.{Enqueue, Asked}
@@ -165,7 +165,7 @@ unfolding with_number
 placed_number None l u v s t k h taken p = placed_less l u v h k.sides p
 placed_number (Some x) l u v s t k h taken p = placed_give l u v s t x k h taken p
 
-placed_filled_if : (b : Bool) (l : List ℕ) (x y : Filled) → Placing l x.world → Placing l y.world → Placing l (if b then x else y).world
+placed_filled_if : (b : Bool) (l : List ℕ) (x y : Aggregate) → Placing l x.world → Placing l y.world → Placing l (if b then x else y).world
 placed_filled_if true l x y h k = h
 placed_filled_if false l x y h k = k
 
@@ -180,13 +180,13 @@ placed_fresh (suc n) l w s t ms p =
 placed_filled : (l : List ℕ) (w : World) (s t : ℕ) → Placing l w → Placing l (filled w s t).world
 unfolding filled
 placed_filled l w s t p =
-    let chosen : List Mpdu = longest_fitting w s [] (waiting_mpdus w s t) in
+    let chosen : List Mpdu = longest_fitting w s (waiting_mpdus w s t) in
     placed_filled_if (length chosen == length (waiting_mpdus w s t)) l (with_fresh (most_frames w s - length chosen) w s t chosen) (record { world = w; mpdus = chosen })
     (placed_fresh (most_frames w s - length chosen) l w s t chosen p) p
 
 -- ---- pulls
 
-pub placed_frames : (l : List ℕ) (s t : ℕ) (f : Filled) → IsReady s t f.world f.mpdus → Placing l f.world → Placing l (prepared_frames s t f).world
+pub placed_frames : (l : List ℕ) (s t : ℕ) (f : Aggregate) → IsReady s t f.world f.mpdus → Placing l f.world → Placing l (prepared_frames s t f).world
 unfolding prepared_frames
 placed_frames l s t f r p =
     let y : Session = session f.world s t in

@@ -1,6 +1,7 @@
 -- The numbers that an exchange sends.
-use Rattle.std.proofs.Common.{◌≡◌, ◌≢◌, refl, ap, sym, ◌∙◌, subst, arith, ℕ, suc, ◌+◌, ◌-◌, ◌<◌, ◌≤◌, Bool, true, false, if◌then◌else◌, List, [], ◌∷◌, ◌++◌, length, length-append, append_assoc, add-zero, map}
-use Rattle.wf_rules.specs.Table.{at}
+use Rattle.std.proofs.Common.{◌≡◌, ◌≢◌, refl, ap, sym, ◌∙◌, subst, arith, ℕ, suc, ◌+◌, ◌-◌, ◌<◌, ◌≤◌, Bool, true, false, if◌then◌else◌, List, [], ◌∷◌, ◌++◌, length, length-append, add-zero, map, take, drop}
+use Rattle.std.proofs.lemmas.List.{take-append-drop}
+use Rattle.wf_rules.specs.Table.{at, greatest_upto}
 use Rattle.wf_rules.specs.Session.{Session, Slot, State, no_slot, slot, on_slot, with_state, give, is_settled, is_waiting, next_number, numbers_where}
 use Rattle.wf_world.specs.World.{World, Mpdu, session}
 use Rattle.wf_world.specs.Exchanges.{numbers_fly, mpdu, waiting_mpdus, fits_in, longest_fitting}
@@ -119,13 +120,11 @@ if_chosen : (b : Bool) (y : Session) (xs ys : List Mpdu) → IsChosen y xs → I
 if_chosen true y xs ys h k = h
 if_chosen false y xs ys h k = k
 
-pub chosen_fitting : (ms : List Mpdu) (w : World) (s : ℕ) (y : Session) (chosen : List Mpdu) → IsChosen y (chosen ++ ms) → IsChosen y (longest_fitting w s chosen ms)
+pub chosen_fitting : (ms : List Mpdu) (w : World) (s : ℕ) (y : Session) → IsChosen y ms → IsChosen y (longest_fitting w s ms)
 unfolding longest_fitting
-chosen_fitting [] w s y chosen c = chosen_front y chosen [] c
-chosen_fitting (m ∷ ms) w s y chosen c =
-    if_chosen (fits_in w s (chosen ++ m ∷ [])) y _ chosen
-    (chosen_fitting ms w s y (chosen ++ m ∷ []) (subst (IsChosen y) (sym (append_assoc chosen (m ∷ []) ms)) c))
-    (chosen_front y chosen (m ∷ ms) c)
+chosen_fitting ms w s y c =
+    let n : ℕ = greatest_upto (λ k. fits_in w s (take k ms)) (length ms) in
+    chosen_front y (take n ms) (drop n ms) (subst (IsChosen y) (sym (take-append-drop n ms)) c)
 
 rises_if : (b : Bool) (lo hi : ℕ) (m : Mpdu) (g : ℕ → Mpdu) (n : ℕ) (ns : List ℕ) → g n ≡ m → lo ≤ m.number → m.number < hi → Rises (suc m.number) hi (map g ns) → Rises lo hi (map g (if b then n ∷ ns else ns))
 rises_if true lo hi m g n ns e h k r = (omega (arith, ap (λ (x : Mpdu). x.number) e), omega (arith, ap (λ (x : Mpdu). x.number) e), rises_weaken (suc m.number) (suc (g n).number) hi hi (map g ns) (omega (arith, ap (λ (x : Mpdu). x.number) e)) (omega arith) r)

@@ -11,7 +11,7 @@ use Rattle.wf_world.specs.World.{quantum, new_queue, no_share, receiver, share, 
 use Rattle.wf_frame.specs.Classes.{lower_tid, upper_tid, class_number, all_classes}
 use Rattle.wf_world.specs.FlowQueues.{take}
 use Rattle.wf_world.specs.CanSend.{is_request, request_open, can_send, can_send_in, is_ready, can_give}
-use Rattle.wf_world.specs.Exchanges.{is_acked, transmissions, no_mpdu, station_need, most_frames, picked_station, after_arrival, exchange_of, sending_tid, heard_start, Filled, Prepared, mpdus_of, pay_station, pay_stations, after_pick, after_turn, with_fresh, filled, with_number, fresh_mpdus, numbers_fly, waiting_mpdus, longest_fitting, prepared_frames, prepared, opening_exchange, charged, settled_slot, settled, all_settled, after_done}
+use Rattle.wf_world.specs.Exchanges.{is_acked, transmissions, no_mpdu, station_need, most_frames, picked_station, after_arrival, exchange_of, sending_tid, heard_start, Aggregate, Prepared, mpdus_of, pay_station, pay_stations, after_pick, after_turn, with_fresh, filled, with_number, fresh_mpdus, numbers_fly, waiting_mpdus, longest_fitting, prepared_frames, prepared, opening_exchange, charged, settled_slot, settled, all_settled, after_done}
 use Rattle.wf_frame.specs.declared.notes.Ask.TheVariants.{Join, Leave, Rate, Tick, Pull, Arrive, Answer, Done, Sleep, Wake, Poll, Rx, Reap}
 use Rattle.wf_frame.specs.declared.notes.Note.{Note}
 use Rattle.wf_frame.specs.declared.notes.Note.TheVariants.{Enqueue, Asked}
@@ -167,7 +167,7 @@ unfolding with_number
 longer_number None u w s t ms h room r = subst (IsReady s t w) (sym (append-nil ms)) r
 longer_number (Some x) u w s t ms h room r = longer_give w s t x.id _ ms (ap next_number (sym (session_same u w h s t))) room r
 
-pub if_ready : (b : Bool) (s t : ℕ) (x y : Filled) → (b ≡ true → IsReady s t x.world x.mpdus) → (b ≡ false → IsReady s t y.world y.mpdus) → IsReady s t (if b then x else y).world (if b then x else y).mpdus
+pub if_ready : (b : Bool) (s t : ℕ) (x y : Aggregate) → (b ≡ true → IsReady s t x.world x.mpdus) → (b ≡ false → IsReady s t y.world y.mpdus) → IsReady s t (if b then x else y).world (if b then x else y).mpdus
 if_ready true s t x y h k = h refl
 if_ready false s t x y h k = k refl
 
@@ -184,14 +184,14 @@ ready_fresh (suc n) w s t ms r =
     (λ _. ready_fresh n _ s t _ (longer_number taken.item w taken.world s t ms kept room ready))
     (λ _. ready_number taken.item taken.world s t ms room ready))
 
-pub ready_start : (w : World) (s t : ℕ) → IsLawful w → is_live w s ≡ true → request_due (session w s t) ≡ false → IsReady s t w (longest_fitting w s [] (waiting_mpdus w s t))
-ready_start w s t i live quiet = record { lawful = i; live = live; quiet = quiet; chosen = chosen_fitting (waiting_mpdus w s t) w s (session w s t) [] (chosen_waiting w s t) }
+pub ready_start : (w : World) (s t : ℕ) → IsLawful w → is_live w s ≡ true → request_due (session w s t) ≡ false → IsReady s t w (longest_fitting w s (waiting_mpdus w s t))
+ready_start w s t i live quiet = record { lawful = i; live = live; quiet = quiet; chosen = chosen_fitting (waiting_mpdus w s t) w s (session w s t) (chosen_waiting w s t) }
 
 pub ready_filled : (w : World) (s t : ℕ) → IsLawful w → is_live w s ≡ true → request_due (session w s t) ≡ false → IsReady s t (filled w s t).world (filled w s t).mpdus
 unfolding filled
 ready_filled w s t i live quiet =
-    let r : IsReady s t w (longest_fitting w s [] (waiting_mpdus w s t)) = ready_start w s t i live quiet in
-    let chosen : List Mpdu = longest_fitting w s [] (waiting_mpdus w s t) in
+    let r : IsReady s t w (longest_fitting w s (waiting_mpdus w s t)) = ready_start w s t i live quiet in
+    let chosen : List Mpdu = longest_fitting w s (waiting_mpdus w s t) in
     if_ready (length chosen == length (waiting_mpdus w s t)) s t (with_fresh (most_frames w s - length chosen) w s t chosen) (record { world = w; mpdus = chosen })
     (λ _. ready_fresh (most_frames w s - length chosen) w s t chosen r) (λ _. r)
 
@@ -204,7 +204,7 @@ pub record IsAloft (s t : ℕ) (p : Prepared) : Type 0 where
   pub asked : IfRequest p.content (λ f. IsAsked f (session p.world s t))
   pub alone : IfRequest p.content (λ f. request_open p.world s t ≡ false)
 
-pub aloft_frames : (s t : ℕ) (f : Filled) → IsReady s t f.world f.mpdus → IsAloft s t (prepared_frames s t f)
+pub aloft_frames : (s t : ℕ) (f : Aggregate) → IsReady s t f.world f.mpdus → IsAloft s t (prepared_frames s t f)
 unfolding prepared_frames
 aloft_frames s t f r =
     let e : ℕ = f.world.exchanges in

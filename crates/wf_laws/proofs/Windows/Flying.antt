@@ -10,7 +10,7 @@ use Rattle.wf_world.specs.World.{receiver, World, Station, Tid, Exchange, Mpdu, 
 use Rattle.wf_frame.specs.Classes.{all_classes}
 use Rattle.wf_world.specs.FlowQueues.{take}
 use Rattle.wf_world.specs.CanSend.{is_ready, can_give}
-use Rattle.wf_world.specs.Exchanges.{is_acked, station_need, most_frames, picked_station, after_arrival, exchange_of, sending_tid, heard_start, Filled, Prepared, mpdus_of, after_pick, after_turn, with_fresh, filled, with_number, numbers_fly, waiting_mpdus, longest_fitting, prepared_frames, prepared, opening_exchange, charged, settled_slot, settled, all_settled, after_done}
+use Rattle.wf_world.specs.Exchanges.{is_acked, station_need, most_frames, picked_station, after_arrival, exchange_of, sending_tid, heard_start, Aggregate, Prepared, mpdus_of, after_pick, after_turn, with_fresh, filled, with_number, numbers_fly, waiting_mpdus, longest_fitting, prepared_frames, prepared, opening_exchange, charged, settled_slot, settled, all_settled, after_done}
 use Rattle.wf_frame.specs.declared.notes.Ask.TheVariants.{Join, Leave, Rate, Tick, Pull, Arrive, Answer, Done, Sleep, Wake, Poll, Rx, Reap}
 use Rattle.wf_frame.specs.declared.notes.Note.{Note}
 use Rattle.wf_frame.specs.declared.notes.Note.TheVariants.{Enqueue, Asked}
@@ -85,7 +85,7 @@ landing_if : (b : Bool) (w u v : World) → Landing w u → Landing w v → Land
 landing_if true w u v h k = h
 landing_if false w u v h k = k
 
-landing_filled_if : (b : Bool) (w : World) (x y : Filled) → Landing w x.world → Landing w y.world → Landing w (if b then x else y).world
+landing_filled_if : (b : Bool) (w : World) (x y : Aggregate) → Landing w x.world → Landing w y.world → Landing w (if b then x else y).world
 landing_filled_if true w x y h k = h
 landing_filled_if false w x y h k = k
 
@@ -106,7 +106,7 @@ landing_fresh (suc n) w s t ms =
 landing_filled : (w : World) (s t : ℕ) → Landing w (filled w s t).world
 unfolding filled
 landing_filled w s t =
-    let chosen : List Mpdu = longest_fitting w s [] (waiting_mpdus w s t) in
+    let chosen : List Mpdu = longest_fitting w s (waiting_mpdus w s t) in
     landing_filled_if (length chosen == length (waiting_mpdus w s t)) w (with_fresh (most_frames w s - length chosen) w s t chosen) (record { world = w; mpdus = chosen })
     (landing_fresh (most_frames w s - length chosen) w s t chosen) (landing_here w)
 
@@ -239,7 +239,7 @@ record IsSent (s t : ℕ) (w : World) (p : Prepared) : Type 0 where
   flew : (i j n e : ℕ) → (session p.world i j).first ≤ n → (slot (session p.world i j) n).state ≡ State.Flying e
       → ((session w i j).first ≤ n) × ((slot (session w i j) n).state ≡ State.Flying e) ⊎ ((s ≡ i) × (t ≡ j) × (p.world.exchanges ≡ e) × (has (map (λ m. m.number) (mpdus_of p.content)) n ≡ true))
 
-sent_frames : (w : World) (s t : ℕ) (f : Filled) → IsReady s t f.world f.mpdus → Landing w f.world → IsSent s t w (prepared_frames s t f)
+sent_frames : (w : World) (s t : ℕ) (f : Aggregate) → IsReady s t f.world f.mpdus → Landing w f.world → IsSent s t w (prepared_frames s t f)
 unfolding prepared_frames on_session
 sent_frames w s t f r h =
     let y : Session = session f.world s t in

@@ -1,12 +1,12 @@
 -- No number is given while a request is due.
-use Rattle.std.proofs.Common.{◌≡◌, refl, ap, ◌∙◌, ℕ, zero, suc, ◌-◌, Bool, true, false, if◌then◌else◌, not, ◌==◌, List, [], length, Option, Some, None, IfSome}
+use Rattle.std.proofs.Common.{◌≡◌, refl, ap, ◌∙◌, ℕ, zero, suc, ◌-◌, Bool, true, false, if◌then◌else◌, not, ◌==◌, List, length, Option, Some, None, IfSome}
 use Rattle.wf_frame.specs.declared.classes.Class.{Class}
 use Rattle.wf_rules.specs.Codel.{Item}
 use Rattle.wf_rules.specs.Session.{request_due, Session, give, has_room}
 use Rattle.wf_world.specs.World.{World, Mpdu, rotation, session, is_live, on_session}
 use Rattle.wf_world.specs.FlowQueues.{take}
 use Rattle.wf_world.specs.CanSend.{is_ready, can_give}
-use Rattle.wf_world.specs.Exchanges.{station_need, most_frames, picked_station, sending_tid, Filled, Prepared, after_pick, after_turn, with_fresh, filled, with_number, numbers_fly, waiting_mpdus, longest_fitting, prepared_frames, prepared, opening_exchange}
+use Rattle.wf_world.specs.Exchanges.{station_need, most_frames, picked_station, sending_tid, Aggregate, Prepared, after_pick, after_turn, with_fresh, filled, with_number, numbers_fly, waiting_mpdus, longest_fitting, prepared_frames, prepared, opening_exchange}
 use Rattle.wf_frame.specs.declared.notes.Ask.TheVariants.{Pull}
 use Rattle.wf_frame.specs.declared.notes.Note.TheVariants.{Asked}
 use Rattle.wf_frame.specs.declared.notes.Refusal.{Refusal}
@@ -31,7 +31,7 @@ if_holds : (b : Bool) (w u v : World) → (b ≡ true → Holds w u) → (b ≡ 
 if_holds true w u v h k = h refl
 if_holds false w u v h k = k refl
 
-if_filled : (b : Bool) (w : World) (x y : Filled) → (b ≡ true → Holds w x.world) → (b ≡ false → Holds w y.world) → Holds w (if b then x else y).world
+if_filled : (b : Bool) (w : World) (x y : Aggregate) → (b ≡ true → Holds w x.world) → (b ≡ false → Holds w y.world) → Holds w (if b then x else y).world
 if_filled true w x y h k = h refl
 if_filled false w x y h k = k refl
 
@@ -64,14 +64,14 @@ holds_fresh (suc n) w s t ms r =
     (λ _. then_holds w _ _ numbered (holds_fresh n _ s t _ (longer_number taken.item w taken.world s t ms kept room ready)))
     (λ _. numbered))
 
-holds_filled : (w : World) (s t : ℕ) → IsReady s t w (longest_fitting w s [] (waiting_mpdus w s t)) → Holds w (filled w s t).world
+holds_filled : (w : World) (s t : ℕ) → IsReady s t w (longest_fitting w s (waiting_mpdus w s t)) → Holds w (filled w s t).world
 unfolding filled
 holds_filled w s t r =
-    let chosen : List Mpdu = longest_fitting w s [] (waiting_mpdus w s t) in
+    let chosen : List Mpdu = longest_fitting w s (waiting_mpdus w s t) in
     if_filled (length chosen == length (waiting_mpdus w s t)) w (with_fresh (most_frames w s - length chosen) w s t chosen) (record { world = w; mpdus = chosen })
     (λ _. holds_fresh (most_frames w s - length chosen) w s t chosen r) (λ _. holds_same w w (same w))
 
-holds_frames : (w : World) (s t : ℕ) (f : Filled) → Holds w f.world → request_due (session f.world s t) ≡ false → Holds w (prepared_frames s t f).world
+holds_frames : (w : World) (s t : ℕ) (f : Aggregate) → Holds w f.world → request_due (session f.world s t) ≡ false → Holds w (prepared_frames s t f).world
 unfolding prepared_frames
 holds_frames w s t f h quiet = then_holds w f.world _ h (holds_on_session f.world s t (numbers_fly f.world.exchanges f.mpdus) quiet)
 

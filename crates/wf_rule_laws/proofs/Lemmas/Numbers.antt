@@ -53,6 +53,9 @@ yes_le a b h = grind arith
 pub le_yes : (a b : ℕ) → nat_le a b ≡ true → a ≤ b
 le_yes a b h = grind arith
 
+pub le_no : (a b : ℕ) → nat_le a b ≡ false → b < a
+le_no a b h = grind arith
+
 pub either : (a b : Bool) → (a || b) ≡ true → (a ≡ true) ⊎ (b ≡ true)
 either true b h = inl refl
 either false b h = inr h
