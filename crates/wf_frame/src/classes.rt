@@ -1,7 +1,7 @@
 //! Access classes, and what becomes of a frame.
 
 ghost use Rattle.std.specs.Prelude.{◌≡◌, ◌<◌, [], ◌∷◌};
-ghost use Rattle.wf_frame.specs.Classes.{class_of, lower_tid, upper_tid};
+ghost use Rattle.wf_frame.specs.Classes.{all_classes, class_of, lower_tid, upper_tid};
 
 /// One of the four access categories of IEEE 802.11-2012 (9.2.4.2), the least urgent first.
 #[derive(Clone, Copy, Debug, PartialEq, Eq)]
@@ -17,6 +17,13 @@ pub enum Class {
 }
 
 impl Class {
+    /// The four classes, the least urgent first.
+    pub fn all() -> [Class; 4]
+        ensures { result ≡ all_classes }
+    {
+        [Class::Bk, Class::Be, Class::Vi, Class::Vo]
+    }
+
     /// The class of a traffic identifier (TID), 0 to 7.
     pub fn of_tid(tid: u8) -> Class
         requires { tid < 8 }

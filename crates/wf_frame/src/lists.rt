@@ -5,36 +5,49 @@ ghost use Rattle.std.specs.Prelude.{◌≡◌, ◌<◌, ◌≤◌, ◌++◌, ◌
 use arrayvec::ArrayVec;
 use std::marker::Model;
 
-/// A fixed list of at most 256 numbers: the ids that an answer names.
+/// The ids that an answer names.
+pub type Ids = FixedList<u64>;
+
+/// The frames of an aggregate: the id of each, with its sequence number (0 to 4095).
+pub type Pairs = FixedList<(u64, u16)>;
+
+/// A list of at most 256 items, which never takes memory.
 #[derive(Drop)]
-pub struct Ids {
-    list: ArrayVec<u64, 256>,
+pub struct FixedList<T> {
+    list: ArrayVec<T, 256>,
 }
 
-impl Model for Ids {
-    ghost use Rattle.std.specs.Prelude.{List, ℕ};
+impl<T> Model for FixedList<T> {
+    ghost use Rattle.std.specs.Prelude.{List};
 
-    ghost Value = { List ℕ };
+    ghost Value = { List T };
 
     ghost view = { λ a. a.list.items };
 }
 
-impl Ids {
+impl<T: Copy + Default> FixedList<T> {
     /// The empty list.
-    pub fn new() -> Ids
+    pub fn new() -> FixedList<T>
         ensures { result ≡ [] }
     {
-        Ids {
+        FixedList {
             list: ArrayVec::new(),
         }
     }
 
     /// Appends an item; the list must have fewer than 256.
-    pub fn push(&mut self, item: u64)
+    pub fn push(&mut self, item: T)
         requires { length self.old < 256 }
         ensures { self.new ≡ self.old ++ item ∷ [] }
     {
         self.list.push(item);
+    }
+
+    /// Lets all items go.
+    pub fn clear(&mut self)
+        ensures { self.new ≡ [] }
+    {
+        self.list.clear();
     }
 
     /// How many items it has, at most 256.
@@ -46,59 +59,19 @@ impl Ids {
     }
 
     /// The item at a place, counted from 0.
-    pub fn at(&self, i: usize) -> u64
+    pub fn at(&self, i: usize) -> T
         requires { i < length self.now }
         ensures { slice_get self.now i ≡ Some result }
     {
         self.list.as_slice()[i]
     }
-}
 
-/// A fixed list of at most 256 pairs: the ids of the frames of an aggregate, each with its sequence number.
-#[derive(Drop)]
-pub struct Pairs {
-    list: ArrayVec<(u64, u16), 256>,
-}
-
-impl Model for Pairs {
-    ghost use Rattle.std.specs.Prelude.{List, ℕ};
-
-    ghost Value = { List (ℕ × ℕ) };
-
-    ghost view = { λ a. a.list.items };
-}
-
-impl Pairs {
-    /// The empty list.
-    pub fn new() -> Pairs
-        ensures { result ≡ [] }
+    /// Another list of the same items.
+    pub(crate) fn copied(&self) -> FixedList<T>
+        ensures { result ≡ self.now }
     {
-        Pairs {
-            list: ArrayVec::new(),
-        }
-    }
-
-    /// Appends an item; the list must have fewer than 256.
-    pub fn push(&mut self, item: (u64, u16))
-        requires { length self.old < 256 }
-        ensures { self.new ≡ self.old ++ item ∷ [] }
-    {
-        self.list.push(item);
-    }
-
-    /// How many items it has, at most 256.
-    pub fn len(&self) -> usize
-        ensures count { result ≡ length self.now }
-        ensures short { result ≤ 256 }
-    {
-        self.list.len()
-    }
-
-    /// The item at a place, counted from 0.
-    pub fn at(&self, i: usize) -> (u64, u16)
-        requires { i < length self.now }
-        ensures { slice_get self.now i ≡ Some result }
-    {
-        self.list.as_slice()[i]
+        let mut list = ArrayVec::new();
+        list.try_extend_from_slice(self.list.as_slice()).unwrap();
+        FixedList { list }
     }
 }

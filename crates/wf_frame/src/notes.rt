@@ -1,11 +1,14 @@
 //! Calls and their answers as numbers.
+//!
+//! Station numbers run from 0; times are in microseconds.
 
 use crate::{Class, Fate, Ids, Pairs};
 
-/// One of the thirteen calls that carry no frame.
+/// One of the thirteen calls that carry no frame. The ranges given are those that are not refused.
 #[derive(Clone, Copy, Debug, PartialEq, Eq)]
 pub enum Ask {
-    /// A station joins: its window size in frames, first sequence number, A-MPDU length exponent and weight.
+    /// A station joins: its window size in frames (1 to 256), first sequence number (0 to 4095), A-MPDU length exponent
+    /// (0 to 3; IEEE 802.11-2012, 8.4.2.58.3) and weight (1 to 16).
     Join {
         station: u16,
         window: u16,
@@ -24,7 +27,7 @@ pub enum Ask {
         mhz: u8,
         short: bool,
     },
-    /// The clock moves on, by microseconds.
+    /// The clock moves on, by 0 to 10,000,000 microseconds.
     Tick {
         by: u32,
     },
@@ -32,7 +35,7 @@ pub enum Ask {
     Pull {
         class: Class,
     },
-    /// One transmission of an open exchange reached its station.
+    /// One transmission of an open exchange reached its station: its index, counted from 0.
     Arrive {
         exchange: u64,
         index: u16,
@@ -58,7 +61,7 @@ pub enum Ask {
     Poll {
         station: u16,
     },
-    /// A station used airtime to send, in microseconds.
+    /// A station used airtime to send in a class: 1 to 65,535 microseconds.
     Rx {
         station: u16,
         class: Class,
@@ -71,7 +74,7 @@ pub enum Ask {
 /// A call as numbers.
 #[derive(Clone, Copy, Debug, PartialEq, Eq)]
 pub enum Note {
-    /// A frame for a station, of this TID, flow and body length in octets.
+    /// A frame for a station, of this TID (0 to 7), flow and body length (1 to 2304 octets).
     Enqueue {
         station: u16,
         tid: u8,
@@ -82,7 +85,7 @@ pub enum Note {
     Asked(Ask),
 }
 
-/// What an exchange sends: frames with their sequence numbers, or a request with its start.
+/// What an exchange sends: frames with their sequence numbers, or a BlockAckReq with its start. Numbers are 0 to 4095.
 #[derive(Drop)]
 pub enum Part {
     /// The id and the sequence number of each frame of an aggregate.
@@ -104,11 +107,11 @@ pub enum Refusal {
     BadExponent,
     /// The MCS is above 15, or the width neither 20 nor 40 MHz.
     BadRate,
-    /// The clock would move by more than 10,000,000.
+    /// The clock would move by more than 10,000,000 microseconds.
     BadTick,
     /// The TID is above 7.
     BadTid,
-    /// The airtime is 0 or above 65,535.
+    /// The airtime is 0 or above 65,535 microseconds.
     BadAir,
     /// The exchange has no transmission of that index.
     BadIndex,
@@ -142,7 +145,7 @@ pub enum Refusal {
     Awake,
     /// The station has a credit that is not spent yet.
     Polled,
-    /// The deficit, which stays, would fall below -1,000,000.
+    /// The deficit, which stays, would fall below -1,000,000 microseconds.
     Debt { deficit: i64 },
     /// The history has `calls` entries; the call is none.
     HistoryFull,
@@ -150,7 +153,7 @@ pub enum Refusal {
     BadWeight,
 }
 
-/// The answer to a call.
+/// The answer to a call as one value, of up to 4 kB. Definitions and contracts speak of it; calls fill an `Answer`.
 #[derive(Drop)]
 pub enum ReplyNote {
     /// The station is live.
@@ -170,7 +173,8 @@ pub enum ReplyNote {
         id: u64,
         dropped: Option<u64>,
     },
-    /// The exchange to send: its number, station, TID, charge in microseconds and transmissions; `more` is the More Data bit.
+    /// The exchange to send: its number, station, TID (0 to 7), charge in microseconds and transmissions; `more` is the More
+    /// Data bit.
     Send {
         exchange: u64,
         station: u16,
@@ -183,7 +187,8 @@ pub enum ReplyNote {
     Released {
         ids: Ids,
     },
-    /// The receiver's block acknowledgement: its start and its bits, offsets 0 to 63 in `b0`; a wide one has 256 of them.
+    /// The receiver's block acknowledgement: its start (0 to 4095) and its bits, offsets 0 to 63 in `b0`; a wide one has 256
+    /// of them.
     Ba {
         start: u16,
         b0: u64,

@@ -1,7 +1,7 @@
 //! The settings of a cell.
 
-ghost use Rattle.std.specs.Prelude.{◌≡◌};
-ghost use Rattle.wf_frame.specs.Settings.{standard, fields, lowest_of, greatest_of, value_of, with_value, is_in_range, first_out_of_range};
+ghost use Rattle.std.specs.Prelude.{◌≡◌, ◌↔◌};
+ghost use Rattle.wf_frame.specs.Settings.{standard, fields, lowest_of, greatest_of, value_of, with_value, is_in_range, first_out_of_range, IsInRange};
 
 /// The settings of a cell. `Config::check` tells whether each is in its range.
 #[derive(Clone, Copy, Debug, PartialEq, Eq)]
@@ -32,20 +32,32 @@ pub struct Config {
     pub calls: u32,
 }
 
-/// The name of one setting.
+/// The name of one setting, as `Config` has it.
 #[derive(Clone, Copy, Debug, PartialEq, Eq)]
 pub enum Field {
+    /// Station numbers.
     Stations,
+    /// Shared flow queues.
     Flows,
+    /// Frames in flow queues.
     Limit,
+    /// Frames accepted and not yet reaped.
     Room,
+    /// Octets per visit of a flow queue.
     FlowQuantum,
+    /// Microseconds per visit of a station of weight 1.
     Quantum,
+    /// Open exchanges of a class.
     Inflight,
+    /// Transmissions of one frame.
     Attempts,
+    /// Frames in one aggregate.
     Agg,
+    /// Data time of one aggregate, in microseconds.
     Cap,
+    /// Frames queued for a sleeping station in one class.
     Sleeping,
+    /// Entries of a history.
     Calls,
 }
 
@@ -157,7 +169,15 @@ impl Config {
     }
 
     /// The first setting that is out of its range, and `None` exactly where all are in range.
+    #[tactic(auto, using(crate::proofs::Ranges::checked))]
     pub fn check(&self) -> Option<Field>
+        ensures first { result ≡ first_out_of_range self.now }
+        ensures in_range { (result ≡ None) ↔ IsInRange self.now }
+    {
+        self.first_failing()
+    }
+
+    fn first_failing(&self) -> Option<Field>
         ensures { result ≡ first_out_of_range self.now }
     {
         FIELDS.iter().copied().find(|field| !self.holds(*field))

@@ -1,6 +1,6 @@
 //! The recipient's side of one block acknowledgement agreement.
 
-ghost use Rattle.std.specs.Prelude.{◌≡◌, ◌≤◌, ◌<◌, nat_lt, IfOk, take, drop};
+ghost use Rattle.std.specs.Prelude.{◌≡◌, ◌≤◌, ◌<◌, [], nat_lt, IfOk, take, drop};
 ghost use Rattle.wf_bits.specs.Offsets.{IsOffsets};
 ghost use Rattle.wf_peer.specs.Agreements.{new_agreement, heard, outcome, IsEachOnce};
 ghost use Rattle.wf_peer.specs.Answering.{answer_size, narrow_answer, wide_answer, IsWritten, IsWrittenWide, IsAnswer};
@@ -11,8 +11,9 @@ use std::marker::Model;
 use wf_bits::{Bits64, Bits256};
 use wf_blockack::{Ba, WideBa, encode_ba, encode_wide};
 use wf_fields::put;
+use wf_frame::Ids;
 use wf_header::{base_address, station_address};
-use wf_reorder::{Released, Reorder};
+use wf_reorder::Reorder;
 use wf_score::Score;
 use wf_seq12::Seq12;
 
@@ -58,21 +59,24 @@ impl Agreement {
         self.reorder.reset(start, size);
     }
 
-    /// A frame of its traffic identifier arrived. A data frame has this id.
-    pub(crate) fn hear(&mut self, reading: Reading, id: u64) -> Released
+    /// A frame of its traffic identifier arrived. A data frame has this id, which is handed back exactly where it is
+    /// discarded. What is passed up is put into `up`, which must be empty.
+    pub(crate) fn hear(&mut self, reading: Reading, id: u64, up: &mut Ids) -> Option<u64>
+        requires { up.old ≡ [] }
         ensures after { self.new ≡ heard reading id self.old }
-        ensures up { result.up ≡ (outcome reading id self.old.buffer).up }
-        ensures back { result.back ≡ (outcome reading id self.old.buffer).back }
-        ensures each_once { IsEachOnce reading id result.up result.back self.old.buffer self.new.buffer }
+        ensures up { up.new ≡ (outcome reading id self.old.buffer).up }
+        ensures back { result ≡ (outcome reading id self.old.buffer).back }
+        ensures each_once { IsEachOnce reading id up.new result self.old.buffer self.new.buffer }
     {
         match reading {
             Reading::Data { number, .. } => {
                 self.score.arrive(number);
-                self.reorder.arrive(number, id)
+                self.reorder.arrive(number, id, up)
             }
             Reading::Request { start, .. } => {
                 self.score.bar(start);
-                self.reorder.bar(start)
+                self.reorder.bar(start, up);
+                None
             }
         }
     }

@@ -11,7 +11,6 @@ mod reading;
 
 pub use fault::PeerFault;
 pub use peer::Peer;
-pub use wf_reorder::Released;
 
 #[cfg(test)]
 mod tests;

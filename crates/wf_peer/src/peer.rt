@@ -1,6 +1,6 @@
 //! The receive half of one station.
 
-ghost use Rattle.std.specs.Prelude.{◌≡◌, ◌≤◌, ◌<◌, IfOk, IsOk, OnOk, OnErr, length, replicate, take, drop};
+ghost use Rattle.std.specs.Prelude.{◌≡◌, ◌≤◌, ◌<◌, [], IfOk, IsOk, OnOk, OnErr, length, replicate, take, drop};
 ghost use Rattle.wf_header.specs.declared.header.Header.{Header};
 ghost use Rattle.wf_blockack.specs.declared.frames.Bar.{Bar};
 ghost use Rattle.wf_peer.specs.declared.reading.Reading.TheVariants.{Data, Request};
@@ -14,7 +14,7 @@ use crate::agreement::Agreement;
 use crate::reading::read;
 use std::alloc::{AllocError, Global};
 use std::marker::Model;
-use wf_reorder::Released;
+use wf_frame::Ids;
 use wf_seq12::Seq12;
 
 /// How many traffic identifiers have an agreement.
@@ -82,11 +82,21 @@ impl Peer {
     }
 
     /// Octets reached the station: a data frame, whose item has this id, or a BlockAckReq. The scoreboard and the reordering
-    /// buffer of its traffic identifier hear of it, and what the buffer releases is answered.
-    pub fn receive(&mut self, octets: &[u8], id: u64) -> Result<Released, PeerFault>
+    /// buffer of its traffic identifier hear of it. What the buffer passes up, in the order of its numbers, is put into
+    /// `up`, which must be empty. The id is handed back exactly where its item is discarded: its number is stored already,
+    /// or stands behind the window.
+    pub fn receive(
+        &mut self,
+        octets: &[u8],
+        id: u64,
+        up: &mut Ids,
+    ) -> Result<Option<u64>, PeerFault>
+        requires { up.old ≡ [] }
+
         // refused exactly where a check fails, for the first that does
         ensures fault { fault_of result ≡ first_fault self.old.station octets.now }
         ensures unchanged { OnErr result (self.new ≡ self.old) }
+        ensures nothing_up { OnErr result (up.new ≡ []) }
 
         // so each frame for the station is taken, and read as its header or its fields say
         ensures data { (h : Header) → IsDataFor self.old.station octets.now h →
@@ -96,15 +106,15 @@ impl Peer {
 
         // then one agreement hears of it, and the others stay
         ensures after { OnOk result (self.new ≡ received (reading_of octets.now) id self.old) }
-        ensures up { IfOk result (λ r. r.up ≡ (released (reading_of octets.now) id self.old).up) }
-        ensures back { IfOk result (λ r. r.back ≡ (released (reading_of octets.now) id self.old).back) }
-        ensures each_once { IfOk result (λ r. let reading = reading_of octets.now in
-            IsEachOnce reading id r.up r.back (buffer_of reading self.old) (buffer_of reading self.new)) }
+        ensures up { OnOk result (up.new ≡ (released (reading_of octets.now) id self.old).up) }
+        ensures back { IfOk result (λ back. back ≡ (released (reading_of octets.now) id self.old).back) }
+        ensures each_once { IfOk result (λ back. let reading = reading_of octets.now in
+            IsEachOnce reading id up.new back (buffer_of reading self.old) (buffer_of reading self.new)) }
         ensures eight { length self.new.agreements ≡ 8 }
     {
         let reading = read(self.station, octets)?;
         let agreement = &mut self.agreements[usize::from(reading.tid())];
-        Ok(agreement.hear(reading, id))
+        Ok(agreement.hear(reading, id, up))
     }
 
     /// Writes the BlockAck of a traffic identifier below 8, and answers its size in octets: 52 where the window is above 64

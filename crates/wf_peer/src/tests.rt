@@ -2,6 +2,7 @@ use super::*;
 use std::alloc::AllocError;
 use wf_bits::{Bits64, Bits256};
 use wf_blockack::{Ba, BlockFault, WideBa, decode_ba, decode_wide};
+use wf_frame::Ids;
 use wf_header::{HeaderFault, base_address, station_address};
 use wf_seq12::Seq12;
 
@@ -28,11 +29,11 @@ fn data(sequence: [u8; 2], tid: u8) -> [u8; 26] {
     octets
 }
 
-fn fault_of(received: Result<Released, PeerFault>) -> Option<PeerFault> {
-    match received {
-        Ok(_) => None,
-        Err(fault) => Some(fault),
-    }
+/// Octets of a data frame with this id reach a peer. Gives how many ids were passed up, and the id that was handed back.
+fn received(peer: &mut Peer, octets: &[u8], id: u64) -> Result<(usize, Option<u64>), PeerFault> {
+    let mut up = Ids::new();
+    let back = peer.receive(octets, id, &mut up)?;
+    Ok((up.len(), back))
 }
 
 /// What a station with window 64 answers for TID 0.
@@ -57,25 +58,19 @@ fn hostile_octets_are_refused(rt: HostRuntime) -> Result<(), AllocError> {
     let mut peer = Peer::new(rt.alloc(), 0)?;
     peer.reset(Seq12::of(100), 64);
     let short = HeaderFault::Short { need: 2, have: 0 };
-    assert_eq!(rt;
-        fault_of(peer.receive(&[], 1)),
-        Some(PeerFault::Header(short))
-    );
+    assert_eq!(rt; received(&mut peer, &[], 1), Err(PeerFault::Header(short)));
     for (place, octet, fault) in FAULTS {
         let mut octets = DATA;
         if place < 26 {
             octets[place] = octet;
         }
-        assert_eq!(rt; fault_of(peer.receive(&octets, 1)), Some(fault));
+        assert_eq!(rt; received(&mut peer, &octets, 1), Err(fault));
     }
-    assert_eq!(rt;
-        fault_of(peer.receive(&ANSWER, 1)),
-        Some(PeerFault::Kind(148))
-    );
+    assert_eq!(rt; received(&mut peer, &ANSWER, 1), Err(PeerFault::Kind(148)));
     let length = BlockFault::Length { need: 20, have: 19 };
     assert_eq!(rt;
-        fault_of(peer.receive(&REQUEST[..19], 1)),
-        Some(PeerFault::Block(length))
+        received(&mut peer, &REQUEST[..19], 1),
+        Err(PeerFault::Block(length))
     );
     Ok(())
 }
@@ -98,15 +93,12 @@ fn last_of_64() -> Ba {
 fn a_far_number_moves_the_window(rt: HostRuntime) -> Result<(), AllocError> {
     let mut peer = Peer::new(rt.alloc(), 0)?;
     peer.reset(Seq12::of(100), 64);
-    let Ok(far) = peer.receive(&data([0xc0, 0x44], 0), 5) else {
-        return Err(AllocError);
-    };
-    assert_eq!(rt; (far.up.len(), far.back), (0, None));
+    assert_eq!(rt;
+        received(&mut peer, &data([0xc0, 0x44], 0), 5),
+        Ok((0, None))
+    );
     assert_eq!(rt; answered(&peer), Ok(last_of_64()));
-    let Ok(old) = peer.receive(&DATA, 6) else {
-        return Err(AllocError);
-    };
-    assert_eq!(rt; (old.up.len(), old.back), (0, Some(6)));
+    assert_eq!(rt; received(&mut peer, &DATA, 6), Ok((0, Some(6))));
     assert_eq!(rt; answered(&peer), Ok(last_of_64()));
     Ok(())
 }
@@ -115,11 +107,11 @@ fn a_far_number_moves_the_window(rt: HostRuntime) -> Result<(), AllocError> {
 fn a_request_releases_what_is_stored(rt: HostRuntime) -> Result<(), AllocError> {
     let mut peer = Peer::new(rt.alloc(), 0)?;
     peer.reset(Seq12::of(100), 64);
-    let _stored = peer.receive(&data([0x50, 0x06], 0), 1);
-    let Ok(asked) = peer.receive(&REQUEST, 2) else {
-        return Err(AllocError);
-    };
-    assert_eq!(rt; (asked.up.len(), asked.back), (1, None));
+    assert_eq!(rt;
+        received(&mut peer, &data([0x50, 0x06], 0), 1),
+        Ok((0, None))
+    );
+    assert_eq!(rt; received(&mut peer, &REQUEST, 2), Ok((1, None)));
     let mut out = [0xff; 52];
     assert_eq!(rt; peer.answer(0, &mut out), 28);
     assert_eq!(rt;
@@ -148,10 +140,7 @@ fn a_wide_window_has_a_wide_answer(rt: HostRuntime) -> Result<(), AllocError> {
     peer.reset(Seq12::of(100), 256);
     let mut octets = data([0x40, 0x15], 7);
     octets[9] = 3;
-    let Ok(stored) = peer.receive(&octets, 1) else {
-        return Err(AllocError);
-    };
-    assert_eq!(rt; stored.up.len(), 0);
+    assert_eq!(rt; received(&mut peer, &octets, 1), Ok((0, None)));
     let mut bits = Bits256::empty();
     bits.set(240);
     let mut out = [0xff; 52];

@@ -12,15 +12,6 @@ use std::marker::Model;
 use wf_frame::Ids;
 use wf_seq12::Seq12;
 
-/// What a call released.
-#[derive(Drop)]
-pub struct Released {
-    /// The items passed up, in the order of their numbers.
-    pub up: Ids,
-    /// The item that arrived, where it was discarded: its number is stored already, or stands behind the window.
-    pub back: Option<u64>,
-}
-
 /// A window of numbers from a start on, with what is stored of each.
 #[derive(Drop)]
 struct Slots {
@@ -208,46 +199,46 @@ impl Reorder {
         self.slots.reset(start, size);
     }
 
-    /// A number arrived with an item.
-    pub fn arrive(&mut self, seq: Seq12, item: u64) -> Released
-        ensures up { result.up ≡ (arrived seq item self.old).up }
-        ensures back { result.back ≡ (arrived seq item self.old).back }
+    /// A number arrived with an item. What the buffer passes up, in the order of its numbers, is put into `up`, which must
+    /// be empty. The item is handed back exactly where it is discarded: its number is stored already, or stands behind the
+    /// window.
+    pub fn arrive(&mut self, seq: Seq12, item: u64, up: &mut Ids) -> Option<u64>
+        requires { up.old ≡ [] }
+        ensures up { up.new ≡ (arrived seq item self.old).up }
+        ensures back { result ≡ (arrived seq item self.old).back }
         ensures after { self.new ≡ (arrived seq item self.old).after }
 
         // each item once: where the new one is not given back, what is passed up and what is stored are what was stored and it
-        ensures each_once { MatchOption result.back (HasOneMore item (items_of self.old.places) (result.up ++ items_of self.new.places))
-            (λ back. (back ≡ item) × (result.up ≡ []) × (self.new ≡ self.old)) }
+        ensures each_once { MatchOption result (HasOneMore item (items_of self.old.places) (up.new ++ items_of self.new.places))
+            (λ back. (back ≡ item) × (up.new ≡ []) × (self.new ≡ self.old)) }
     {
         let ahead = seq.ahead(self.slots.start());
         let size = self.slots.size();
         if ahead < size {
-            self.store(ahead, item)
+            self.store(ahead, item, up)
         } else if ahead <= 2047 {
-            self.jump(ahead + 1 - size, item)
+            self.jump(ahead + 1 - size, item, up);
+            None
         } else {
-            Released {
-                up: Ids::new(),
-                back: Some(item),
-            }
+            Some(item)
         }
     }
 
-    /// The start of a BlockAckReq arrived.
-    pub fn bar(&mut self, start: Seq12) -> Released
-        ensures up { result.up ≡ (requested start self.old).up }
-        ensures back { result.back ≡ (requested start self.old).back }
+    /// The start of a BlockAckReq arrived. What the buffer passes up, in the order of its numbers, is put into `up`, which
+    /// must be empty.
+    pub fn bar(&mut self, start: Seq12, up: &mut Ids)
+        requires { up.old ≡ [] }
+        ensures up { up.new ≡ (requested start self.old).up }
         ensures after { self.new ≡ (requested start self.old).after }
 
         // each item once
-        ensures each_once { result.up ++ items_of self.new.places ≡ items_of self.old.places }
+        ensures each_once { up.new ++ items_of self.new.places ≡ items_of self.old.places }
     {
-        let mut up = Ids::new();
         let ahead = start.ahead(self.slots.start());
         if 1 <= ahead && ahead <= 2047 {
-            self.slots.move_on(ahead, &mut up);
-            self.slots.release(&mut up);
+            self.slots.move_on(ahead, up);
+            self.slots.release(up);
         }
-        Released { up, back: None }
     }
 
     /// The first number of the window.
@@ -266,40 +257,35 @@ impl Reorder {
     }
 
     /// A number of the window arrived.
-    fn store(&mut self, place: u16, item: u64) -> Released
-        requires { place < self.old.size }
-        ensures up { result.up ≡ (stored place item self.old).up }
-        ensures back { result.back ≡ (stored place item self.old).back }
+    fn store(&mut self, place: u16, item: u64, up: &mut Ids) -> Option<u64>
+        requires place { place < self.old.size }
+        requires empty { up.old ≡ [] }
+        ensures up { up.new ≡ (stored place item self.old).up }
+        ensures back { result ≡ (stored place item self.old).back }
         ensures after { self.new ≡ (stored place item self.old).after }
-        ensures each_once { MatchOption result.back (HasOneMore item (items_of self.old.places) (result.up ++ items_of self.new.places))
-            (λ back. (back ≡ item) × (result.up ≡ []) × (self.new ≡ self.old)) }
+        ensures each_once { MatchOption result (HasOneMore item (items_of self.old.places) (up.new ++ items_of self.new.places))
+            (λ back. (back ≡ item) × (up.new ≡ []) × (self.new ≡ self.old)) }
     {
-        let mut up = Ids::new();
         if self.slots.holds(place) {
-            return Released {
-                up,
-                back: Some(item),
-            };
+            return Some(item);
         }
         self.slots.store(place, item);
-        self.slots.release(&mut up);
-        Released { up, back: None }
+        self.slots.release(up);
+        None
     }
 
     /// A number arrived that stands so many numbers past the window.
-    fn jump(&mut self, past: u16, item: u64) -> Released
-        requires { 1 ≤ past }
-        ensures up { result.up ≡ (jumped past item self.old).up }
-        ensures back { result.back ≡ (jumped past item self.old).back }
+    fn jump(&mut self, past: u16, item: u64, up: &mut Ids)
+        requires past { 1 ≤ past }
+        requires empty { up.old ≡ [] }
+        ensures up { up.new ≡ (jumped past item self.old).up }
         ensures after { self.new ≡ (jumped past item self.old).after }
-        ensures each_once { HasOneMore item (items_of self.old.places) (result.up ++ items_of self.new.places) }
+        ensures each_once { HasOneMore item (items_of self.old.places) (up.new ++ items_of self.new.places) }
     {
-        let mut up = Ids::new();
-        self.slots.move_on(past, &mut up);
+        self.slots.move_on(past, up);
         let last = self.slots.size() - 1;
         self.slots.store(last, item);
-        self.slots.release(&mut up);
-        Released { up, back: None }
+        self.slots.release(up);
     }
 }
 
@@ -310,21 +296,25 @@ mod tests {
     #[test]
     fn a_jump_passes_up_what_it_passes(rt: HostRuntime) -> Result<(), AllocError> {
         let mut reorder = Reorder::new(rt.alloc(), 64)?;
-        reorder.reset(Seq12::of(0), 64);
-        let first = reorder.arrive(Seq12::of(1), 11);
-        assert_eq!(rt; first.up.len(), 0);
+        let mut up = Ids::new();
+        assert_eq!(rt; reorder.arrive(Seq12::of(1), 11, &mut up), None);
+        assert_eq!(rt; up.len(), 0);
         assert_eq!(rt; reorder.first_stored(), Some(Seq12::of(1)));
 
-        let jump = reorder.arrive(Seq12::of(64), 64);
-        assert_eq!(rt; jump.up.len(), 1);
+        up.clear();
+        assert_eq!(rt; reorder.arrive(Seq12::of(64), 64, &mut up), None);
+        assert_eq!(rt; up.len(), 1);
         assert_eq!(rt; reorder.start().raw(), 2);
         assert_eq!(rt; reorder.first_stored(), Some(Seq12::of(64)));
 
-        assert_eq!(rt; reorder.arrive(Seq12::of(0), 5).back, Some(5));
-        assert_eq!(rt; reorder.arrive(Seq12::of(64), 6).back, Some(6));
+        up.clear();
+        assert_eq!(rt; reorder.arrive(Seq12::of(0), 5, &mut up), Some(5));
+        up.clear();
+        assert_eq!(rt; reorder.arrive(Seq12::of(64), 6, &mut up), Some(6));
 
-        let request = reorder.bar(Seq12::of(64));
-        assert_eq!(rt; request.up.len(), 1);
+        up.clear();
+        reorder.bar(Seq12::of(64), &mut up);
+        assert_eq!(rt; up.len(), 1);
         assert_eq!(rt; reorder.start().raw(), 65);
         assert_eq!(rt; reorder.first_stored(), None);
         Ok(())

@@ -1,4 +1,4 @@
-use Rattle.std.proofs.Common.{◌≡◌, ◌<◌, ◌∷◌, [], ◌++◌, drop, take, length, get_or, None, Some, ap, sym, subst, ◌∙◌, arith, append_assoc}
+use Rattle.std.proofs.Common.{◌≡◌, ◌<◌, ◌∷◌, [], ◌++◌, drop, take, length, get_or, None, Some, ap, sym, subst, lit<, ◌∙◌, arith, append_assoc}
 use Rattle.std.proofs.lemmas.List.{append-nil}
 use Rattle.wf_reorder.specs.Buffer.{Buffer, items_of}
 use Rattle.wf_reorder.proofs.Places.{turned_first, turned_once, item_here, room_for_one}
@@ -12,8 +12,9 @@ push-requires c =
     let inside : i < length xs = omega (arith, c.loop-test.true, c.requires.0) in
     let here : Some c.in-Some.item ≡ get_or xs i None =
     c.in-Some.ensures.first ∙ ap (λ (b : Buffer). get_or b.places 0 None) c.loop.invariant.0 ∙ turned_first xs i inside in
-    subst (λ up. length up < 256) (sym c.loop.invariant.1)
-    (room_for_one c.args.up.now xs i c.args.places c.in-Some.item c.loop-test.true c.requires.0 here c.requires.1)
+    let room : length c.loop.up < 256 = subst (λ up. length up < 256) (sym c.loop.invariant.1)
+    (room_for_one c.args.up.now xs i c.args.places c.in-Some.item c.loop-test.true c.requires.0 here c.requires.1) in
+    (lit< tt, room)
 
 pub loop-preserved : goal.loop-preserved
 loop-preserved c =

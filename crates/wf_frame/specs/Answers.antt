@@ -1,0 +1,37 @@
+-- An answer as it is handed out: its reply, without the place that a list takes where the answer has none.
+use Rattle.std.specs.Prelude.{ℕ, List, Option, Some, None}
+use Rattle.wf_frame.specs.declared.answers.Answer.{Answer}
+use Rattle.wf_frame.specs.declared.answers.Brief.{Brief}
+use Rattle.wf_frame.specs.declared.answers.Brief.TheVariants as brief
+use Rattle.wf_frame.specs.declared.notes.Part.{Part}
+use Rattle.wf_frame.specs.declared.notes.Part.TheVariants.{Mpdus, Request}
+use Rattle.wf_frame.specs.declared.notes.ReplyNote.{ReplyNote}
+use Rattle.wf_frame.specs.declared.notes.ReplyNote.TheVariants as reply
+
+-- what an exchange sends: a request where it has a start, else the frames, each by its id and its sequence number
+abbrev pub part_of : Option ℕ → List (ℕ × ℕ) → Part
+part_of (Some start) pairs = Request start
+part_of None pairs = Mpdus pairs
+
+-- the reply that a brief is beside these frames sent and these ids passed up
+abbrev pub reply_with : Brief → List (ℕ × ℕ) → List ℕ → ReplyNote
+reply_with brief.Joined pairs ids = reply.Joined
+reply_with (brief.Gone dropped) pairs ids = reply.Gone dropped
+reply_with brief.RateSet pairs ids = reply.RateSet
+reply_with (brief.Ticked now) pairs ids = reply.Ticked now
+reply_with (brief.Accepted id dropped) pairs ids = reply.Accepted id dropped
+reply_with (brief.Send exchange station tid air request more) pairs ids =
+    reply.Send exchange station tid air (part_of request pairs) more
+reply_with brief.Released pairs ids = reply.Released ids
+reply_with (brief.Ba start b0 b1 b2 b3 wide) pairs ids = reply.Ba start b0 b1 b2 b3 wide
+reply_with (brief.Ended acked waiting failed) pairs ids = reply.Ended acked waiting failed
+reply_with brief.Slept pairs ids = reply.Slept
+reply_with brief.Woken pairs ids = reply.Woken
+reply_with (brief.Credited class) pairs ids = reply.Credited class
+reply_with (brief.Charged deficit) pairs ids = reply.Charged deficit
+reply_with (brief.Reaped id fate) pairs ids = reply.Reaped id fate
+reply_with (brief.Refused refusal) pairs ids = reply.Refused refusal
+
+-- the reply that an answer is: its brief with the list that the brief names
+abbrev pub reply_of : Answer → ReplyNote
+reply_of answer = reply_with answer.brief answer.pairs answer.ids
