@@ -8,7 +8,7 @@ use Rattle.std.proofs.Math.Nat.{div-zero, div-mul-le_self}
 use Rattle.std.proofs.lemmas.Nat.{le-div}
 use Rattle.std.proofs.lemmas.List.{map-append}
 use Rattle.wf_rules.specs.Table.{ceil_div, greatest_upto, longest_front}
-use Rattle.wf_rules.specs.Airtime.{Rate, bits, symbols, data_time}
+use Rattle.wf_rules.specs.Airtime.{Rate, bits, symbols, preamble_time, symbol_time, data_time}
 use Rattle.wf_rules.specs.Fit.{octets_of, fits}
 use Rattle.wf_world.specs.World.{World, Mpdu, station}
 use Rattle.wf_world.specs.Exchanges.{most_frames, fits_in, longest_fitting}
@@ -104,7 +104,10 @@ time_less r a b h = go r.short
     fewer : symbols r a ≤ symbols r b
     fewer = div_less (8 * a + 22 + (bits r - 1)) (8 * b + 22 + (bits r - 1)) (bits r) (omega (arith, h))
 
-    go : (short : Bool) → (if nat_lt r.mcs 8 then 36 else 40) + 4 * (if short then ceil_div (9 * symbols r a) 10 else symbols r a) ≤ (if nat_lt r.mcs 8 then 36 else 40) + 4 * (if short then ceil_div (9 * symbols r b) 10 else symbols r b)
+    time : Bool → ℕ → ℕ
+    time short n = preamble_time r + symbol_time * (if short then ceil_div (9 * n) 10 else n)
+
+    go : (short : Bool) → time short (symbols r a) ≤ time short (symbols r b)
     go true = omega (arith, fewer)
     go false = omega (arith, fewer)
 
