@@ -1,5 +1,5 @@
 -- No exchange is charged more than the longest, and each is charged something.
-use Rattle.std.proofs.Common.{◌≡◌, refl, ap, sym, ◌∙◌, subst, arith, ℕ, zero, suc, ◌+◌, ◌*◌, ◌-◌, ◌/◌, ◌<◌, ◌≤◌, Bool, true, false, if◌then◌else◌, List, [], ◌++◌, Option, Some, None, unwrap_or, option_map, not, length, map, nat_lt, ◌==◌, inl, inr}
+use Rattle.std.proofs.Common.{◌≡◌, refl, ap, sym, ◌∙◌, subst, arith, ℕ, zero, suc, ◌+◌, ◌*◌, ◌-◌, ◌/◌, ◌<◌, ◌≤◌, Bool, true, false, if◌then◌else◌, List, [], ◌++◌, Option, Some, None, unwrap_or, option_map, not, length, map, ◌==◌, inl, inr}
 use Rattle.std.proofs.lemmas.Bool.{and_parts, leb-true}
 use Rattle.std.proofs.lemmas.Nat.{div_below}
 use Rattle.wf_rules.specs.Table.{at, ceil_div, longest_front}

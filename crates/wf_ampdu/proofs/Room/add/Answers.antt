@@ -1,4 +1,4 @@
-use Rattle.std.proofs.Common.{◌≡◌, ◌+◌, ◌*◌, ◌∙◌, refl, sym, ap, arith}
+use Rattle.std.proofs.Common.{◌≡◌, ◌+◌, ◌∙◌, refl, sym, ap, arith}
 use Rattle.wf_rules.specs.Fit.{overhead_octets, subframe_octets, padded}
 use Rattle.wf_ampdu.specs.Rooms.{RoomValue}
 use Rattle.wf_ampdu.proofs.Lengths.{fits_more, stands_more}
