@@ -7,8 +7,8 @@ use Rattle.wf_rules.specs.Codel.{Item}
 use Rattle.wf_rules.specs.Rotation.{Rotation, lists, in_order, need_of, before, round, first_least, pick_later, pick_from, pick}
 use Rattle.wf_rota.specs.Rotas.{need_at}
 use Rattle.wf_rule_laws.specs.Renamed.{Agrees, IsSame}
-use Rattle.wf_rule_laws.proofs.Lemmas.Members.{or_left, or_right, has_filter, has_before, has_least}
-use Rattle.wf_rule_laws.proofs.Lemmas.Numbers.{eq_yes}
+use Rattle.wf_rule_laws.proofs.Lemmas.Numbers.{eq_yes, or_left, or_right}
+use Rattle.wf_rule_laws.proofs.Lemmas.Members.{has_filter, has_before, has_least}
 use Rattle.wf_rule_laws.proofs.Lemmas.Picks.{listed_in, same_pick}
 use Rattle.wf_world.specs.World.{World}
 use Rattle.wf_world.specs.FlowQueues.{queue_need, picked_queue, has_frames as world_has_frames}

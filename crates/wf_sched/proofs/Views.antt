@@ -16,7 +16,7 @@ use Rattle.wf_rota.specs.declared.Side.TheVariants.{New, Old}
 use Rattle.wf_sched.specs.Turns.{Turns, SchedValue, no_turns, turns, turns_of, with_turns, with_deficit, deficit, listed_on, picked, HasTurned, IsNowhere, IsOfStations, IsKept, IsSized}
 use Rattle.wf_sched.proofs.Loops.{no_rota, IsDone, all_done, all_turned}
 use Rattle.wf_rule_laws.specs.Renamed.{IsIdle}
-use Rattle.wf_rule_laws.proofs.Lemmas.Members.{or_left, or_right}
+use Rattle.wf_rule_laws.proofs.Lemmas.Numbers.{or_left, or_right}
 use Rattle.wf_rule_laws.proofs.Lemmas.Picks.{none_idle}
 
 pub class_below : (class : Class) → class_number class < 4

@@ -1,16 +1,9 @@
 -- Which keys stand on a part of a list.
-use Rattle.std.proofs.Common.{◌≡◌, refl, ℕ, Bool, true, false, ◌||◌, cond, List, [], ◌∷◌, ◌++◌, Option, Some, None, eqb, nat_le, eq-eqb}
+use Rattle.std.proofs.Common.{◌≡◌, refl, ℕ, Bool, true, false, ◌||◌, cond, List, [], ◌∷◌, Option, Some, None, eqb, nat_le, eq-eqb}
 use Rattle.std.specs.Prelude.{filter}
 use Rattle.wf_rules.specs.Table.{has}
+use Rattle.wf_rule_laws.proofs.Lemmas.Numbers.{or_left, or_right}
 use Rattle.wf_rules.specs.Rotation.{before, from, first_of_two, first_least}
-
-pub or_right : (a b : Bool) → b ≡ true → (a || b) ≡ true
-or_right true b h = refl
-or_right false b h = h
-
-pub or_left : (a b : Bool) → a ≡ true → (a || b) ≡ true
-or_left true b h = refl
-or_left false b h = absurd (cc h)
 
 pub has_head : (x : ℕ) (xs : List ℕ) → has (x ∷ xs) x ≡ true
 has_head x xs = or_left (eqb x x) (has xs x) (eq-eqb x x refl)
@@ -22,23 +15,6 @@ has_tail x xs k h = or_right (eqb x k) (has xs k) h
 more : (b P Q : Bool) → (P ≡ true → Q ≡ true) → (b || P) ≡ true → (b || Q) ≡ true
 more true P Q f h = refl
 more false P Q f h = f h
-
-pub has_front : (xs ys : List ℕ) (k : ℕ) → has xs k ≡ true → has (xs ++ ys) k ≡ true
-has_front [] ys k h = absurd (cc h)
-has_front (x ∷ xs) ys k h = more (eqb x k) (has xs k) (has (xs ++ ys) k) (has_front xs ys k) h
-
-pub has_back : (xs ys : List ℕ) (k : ℕ) → has ys k ≡ true → has (xs ++ ys) k ≡ true
-has_back [] ys k h = h
-has_back (x ∷ xs) ys k h = has_tail x (xs ++ ys) k (has_back xs ys k h)
-
--- a key of two lists in a row is on one of them
-either : (a P X Y : Bool) → (P ≡ true → (X || Y) ≡ true) → (a || P) ≡ true → ((a || X) || Y) ≡ true
-either true P X Y f h = refl
-either false P X Y f h = f h
-
-pub has_either : (xs ys : List ℕ) (k : ℕ) → has (xs ++ ys) k ≡ true → (has xs k || has ys k) ≡ true
-has_either [] ys k h = h
-has_either (x ∷ xs) ys k h = either (eqb x k) (has (xs ++ ys) k) (has xs k) (has ys k) (has_either xs ys k) h
 
 kept : (b : Bool) (x k : ℕ) (zs xs : List ℕ) → (has zs k ≡ true → has xs k ≡ true) → has (cond b (x ∷ zs) zs) k ≡ true → has (x ∷ xs) k ≡ true
 kept true x k zs xs f h = more (eqb x k) (has zs k) (has xs k) f h

@@ -4,7 +4,9 @@ use Rattle.std.specs.Prelude.{filter, find, option_map}
 use Rattle.wf_rules.specs.Table.{has}
 use Rattle.wf_rules.specs.Rotation.{Rotation, lists, in_order, before, from, round, first_of_two, first_least, none_ready, picked_now, old_visits, visits, is_out, picked_later, pick_later, pick_from, pick}
 use Rattle.wf_rule_laws.specs.Renamed.{renamed, KeepsApart, Agrees, IsRenamed, IsSame, IsIdle}
-use Rattle.wf_rule_laws.proofs.Lemmas.Members.{or_left, or_right, has_head, has_tail, has_front, has_back, has_either, has_filter, has_before, has_from, has_least}
+use Rattle.wf_rule_laws.proofs.Lemmas.Numbers.{or_left, or_right}
+use Rattle.wf_rule_laws.proofs.Lemmas.Joined.{has_append, has_first, has_second}
+use Rattle.wf_rule_laws.proofs.Lemmas.Members.{has_head, has_tail, has_filter, has_before, has_from, has_least}
 use Rattle.wf_rule_laws.proofs.Renamings.{find_renamed, filter_renamed, append_renamed, least_renamed, equal_renamed, has_renamed, before_renamed, from_renamed}
 
 or_swap : (a b : Bool) → (a || b) ≡ true → (b || a) ≡ true
@@ -13,14 +15,14 @@ or_swap false true h = refl
 or_swap false false h = h
 
 pub listed_in : (r : Rotation) (k : ℕ) → has (in_order r) k ≡ true → lists r k ≡ true
-listed_in r k h = or_swap (has r.old k) (has r.new k) (has_either r.old r.new k h)
+listed_in r k h = or_swap (has r.old k) (has r.new k) (sym (has_append r.old r.new k) ∙ h)
 
 by_bool : (P : Type 0) (b : Bool) → (b ≡ true → P) → (b ≡ false → P) → P
 by_bool P true h k = h refl
 by_bool P false h k = k refl
 
 pub in_listed : (r : Rotation) (k : ℕ) → lists r k ≡ true → has (in_order r) k ≡ true
-in_listed r k h = by_bool (has (in_order r) k ≡ true) (has r.new k) (λ new. has_back r.old r.new k new) (λ off. has_front r.old r.new k (subst (λ (b : Bool). (b || has r.old k) ≡ true) off h))
+in_listed r k h = by_bool (has (in_order r) k ≡ true) (has r.new k) (λ new. has_second r.old r.new k new) (λ off. has_first r.old r.new k (subst (λ (b : Bool). (b || has r.old k) ≡ true) off h))
 
 true_eqb : (a b : ℕ) → eqb a b ≡ true → a ≡ b
 true_eqb a b h = grind arith
@@ -65,7 +67,7 @@ module _ (f : ℕ → ℕ) (apart : KeepsApart f) (r : Rotation) (need other : �
 
     turned_listed : (k : ℕ) → has (from w (in_order r) ++ before w (in_order r)) k ≡ true → lists r k ≡ true
     turned_listed k h = by_bool (lists r k ≡ true) (has (from w (in_order r)) k) (λ late. listed_in r k (has_from w (in_order r) k late))
-        (λ off. listed_in r k (has_before w (in_order r) k (subst (λ (b : Bool). (b || has (before w (in_order r)) k) ≡ true) off (has_either (from w (in_order r)) (before w (in_order r)) k h))))
+        (λ off. listed_in r k (has_before w (in_order r) k (subst (λ (b : Bool). (b || has (before w (in_order r)) k) ≡ true) off (sym (has_append (from w (in_order r)) (before w (in_order r)) k) ∙ h))))
 
     kept_is : filter (λ y. not (is_out other others (renamed f r) (f w) round_won y)) (from (f w) (in_order (renamed f r)) ++ before (f w) (in_order (renamed f r))) ≡ map f (filter (λ y. not (is_out need ready r w round_won y)) (from w (in_order r) ++ before w (in_order r)))
     kept_is = ap (filter (λ y. not (is_out other others (renamed f r) (f w) round_won y))) turned_is
