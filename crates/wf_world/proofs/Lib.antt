@@ -1,4 +1,5 @@
 pub mod Rehearsals
 pub mod Rows
 pub mod Texts
+pub mod NearMisses
 pub mod Charges
