@@ -12,4 +12,6 @@ pub use status::Status;
 pub use words::Command;
 
 #[cfg(test)]
+mod near_misses;
+#[cfg(test)]
 mod tests;
