@@ -14,7 +14,7 @@ use Rattle.wf_rules.specs.Table.{at}
 use Rattle.wf_rules.specs.Rotation.{add_new, lists, need_of}
 use Rattle.wf_rules.specs.Bounds.{greatest_mcs, greatest_air, deepest_deficit}
 use Rattle.wf_world.specs.World.{World, Station, Exchange, no_share, no_station, station, share, rotation, is_live, exchange, with_exchange, with_rotation, on_receiver, on_tid, on_station, with_station, opening}
-use Rattle.wf_laws.proofs.Common.Numbers.{le_no}
+use Rattle.wf_rule_laws.proofs.Lemmas.Numbers.{le_no}
 use Rattle.wf_frame.specs.Classes.{class_number, all_classes}
 use Rattle.wf_world.specs.CanSend.{is_ready, listed_in, listed_in_all, listed}
 use Rattle.wf_world.specs.Exchanges.{Prepared, station_need, picked_station, after_pick, after_turn, prepared, exchange_of, after_arrival, sending_tid}

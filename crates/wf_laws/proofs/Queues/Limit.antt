@@ -24,7 +24,7 @@ use Rattle.wf_laws.specs.Room.{LimitLaw}
 use Rattle.wf_rule_laws.proofs.Lemmas.Numbers.{on_if, lt_yes, lt_no, eq_yes, eq_no}
 use Rattle.wf_rule_laws.proofs.Lemmas.Tables.{each_put}
 use Rattle.wf_rule_laws.proofs.Lemmas.Sums.{sum_put, sum_below}
-use Rattle.wf_laws.proofs.Common.Numbers.{le_yes, le_no}
+use Rattle.wf_rule_laws.proofs.Lemmas.Numbers.{le_yes, le_no}
 use Rattle.wf_laws.proofs.Deficits.Configs.{config_step}
 use Rattle.wf_laws.proofs.Frames.Fewer.{HasOctets, Less, less, less_plain, less_on_station, less_on_share, less_after_pick, less_listed, less_within_limit}
 use Rattle.wf_laws.proofs.Frames.Delivered.{less_joined, less_gone, less_pulled, less_arrived, less_answered, less_reaped, less_ended}
