@@ -1,3 +1,4 @@
 pub mod Classes
 pub mod Frames
 pub mod Settings
+pub mod Words

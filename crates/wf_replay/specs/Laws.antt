@@ -2,6 +2,7 @@
 use Rattle.std.specs.Prelude.{◌≡◌, List, Some}
 use Rattle.wf_frame.specs.declared.settings.Config.{Config}
 use Rattle.wf_world.specs.Run.{Entry}
+use Rattle.wf_rules.specs.Lengths.{greatest_body}
 use Rattle.wf_laws.specs.Laws.{Laws}
 use Rattle.wf_laws.specs.Queues.{HaveLengths, AreAtMost}
 use Rattle.wf_trace.specs.Reading.{Reading}
@@ -9,9 +10,10 @@ use Rattle.wf_replay.specs.Texts.{settings_among, history_among}
 
 -- each frame has 1 to 2304 octets: the premise of the laws on the limit and on the deficits of queues
 abbrev pub HasLengths : List Entry → Type 0
-HasLengths history = HaveLengths history × AreAtMost 2304 history
+HasLengths history = HaveLengths history × AreAtMost greatest_body history
 
--- Where a trace has a head, the laws hold of the run of its calls: the window law, the deficit law, the fairness law, and the others. And its frames have the lengths
--- that some of these ask for.
+-- Where a trace has a head, the laws hold of the run of its calls: the window law, the deficit law, the fairness
+-- law, and the others. And its frames have the lengths that some of these ask for.
 abbrev pub HasLaws : Reading → Type 0
-HasLaws r = (config : Config) → settings_among r.items ≡ Some config → Laws config (history_among r.items) × HasLengths (history_among r.items)
+HasLaws r = (config : Config) → settings_among r.items ≡ Some config →
+    Laws config (history_among r.items) × HasLengths (history_among r.items)

@@ -6,3 +6,4 @@ pub mod Codel
 pub mod Rotation
 pub mod Session
 pub mod Receiver
+pub mod Tim
