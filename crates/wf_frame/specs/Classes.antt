@@ -1,5 +1,6 @@
 -- Access classes and their traffic identifiers (IEEE 802.11-2012, 9.2.4.2 and table 9-1).
-use Rattle.std.specs.Prelude.{ℕ, zero, suc, ◌==◌, Bool, List, [], ◌∷◌}
+use Rattle.std.specs.Prelude.{ℕ, zero, suc, ◌==◌, Bool, List, [], ◌∷◌, codes, Option, find}
+use Rattle.std.specs.Str.{bytes_eq}
 use Rattle.wf_frame.specs.declared.classes.Class.{Class}
 use Rattle.wf_frame.specs.declared.classes.Class.TheVariants.{Bk, Be, Vi, Vo}
 
@@ -10,12 +11,14 @@ class_number Be = 1
 class_number Vi = 2
 class_number Vo = 3
 
+-- the lesser of its two TIDs
 abbrev pub lower_tid : Class → ℕ
 lower_tid Bk = 1
 lower_tid Be = 0
 lower_tid Vi = 4
 lower_tid Vo = 6
 
+-- the greater of its two TIDs
 abbrev pub upper_tid : Class → ℕ
 upper_tid Bk = 2
 upper_tid Be = 3
@@ -28,11 +31,25 @@ class_among [] tid = Vo
 class_among (c ∷ cs) zero = c
 class_among (c ∷ cs) (suc tid) = class_among cs tid
 
+-- the class of a TID
 abbrev pub class_of : ℕ → Class
 class_of tid = class_among (Be ∷ Bk ∷ Bk ∷ Be ∷ Vi ∷ Vi ∷ Vo ∷ Vo ∷ []) tid
 
+-- whether two classes are one
 abbrev pub same_class : Class → Class → Bool
 same_class c d = class_number c == class_number d
 
+-- the four classes, the least urgent first
 abbrev pub all_classes : List Class
 all_classes = Bk ∷ Be ∷ Vi ∷ Vo ∷ []
+
+-- the word of a class in texts
+abbrev pub class_word : Class → List ℕ
+class_word Bk = codes "bk"
+class_word Be = codes "be"
+class_word Vi = codes "vi"
+class_word Vo = codes "vo"
+
+-- the class that a word names
+abbrev pub class_named : List ℕ → Option Class
+class_named word = find (λ class. bytes_eq (class_word class) word) all_classes

@@ -1,7 +1,7 @@
 //! Access classes, and what becomes of a frame.
 
-ghost use Rattle.std.specs.Prelude.{◌≡◌, ◌<◌, [], ◌∷◌};
-ghost use Rattle.wf_frame.specs.Classes.{all_classes, class_of, lower_tid, upper_tid};
+ghost use Rattle.std.specs.Prelude.{◌≡◌, ◌<◌, [], ◌∷◌, length};
+ghost use Rattle.wf_frame.specs.Classes.{all_classes, class_of, lower_tid, upper_tid, class_named, class_word};
 
 /// One of the four access categories of IEEE 802.11-2012 (9.2.4.2), the least urgent first.
 #[derive(Clone, Copy, Debug, PartialEq, Eq)]
@@ -47,6 +47,29 @@ impl Class {
             Class::Vi => [4, 5],
             Class::Vo => [6, 7],
         }
+    }
+
+    /// The word of the class in texts: `bk`, `be`, `vi` or `vo`.
+    pub fn word(self) -> &'static [u8]
+        ensures word { result.now ≡ class_word self }
+        ensures short { length result.now ≡ 2 }
+    {
+        match self {
+            Class::Bk => b"bk",
+            Class::Be => b"be",
+            Class::Vi => b"vi",
+            Class::Vo => b"vo",
+        }
+    }
+
+    /// The class of a word. None where the word is of no class.
+    pub fn named(word: &[u8]) -> Option<Class>
+        ensures { result ≡ class_named word.now }
+    {
+        Class::all()
+            .iter()
+            .copied()
+            .find(|class| class.word() == word)
     }
 }
 

@@ -2,7 +2,8 @@
 
 ghost use Rattle.std.specs.Prelude.{◌≡◌, ◌+◌, ◌/◌, ◌%◌, ◌^◌, ◌==◌, ◌&&◌, ◌∷◌, filter, map, count_by, if◌then◌else◌, IfOk};
 ghost use Rattle.wf_world.specs.Exchanges.{has_more};
-ghost use Rattle.wf_world.specs.Text.{last_of, map_octet, same_cause, same_fate, traffic_map, with_traffic};
+ghost use Rattle.wf_rules.specs.Tim.{last_of, map_octet};
+ghost use Rattle.wf_world.specs.Text.{same_cause, same_fate, traffic_map, with_traffic};
 ghost use Rattle.wf_world.specs.World.{station as station_in};
 
 use std::alloc::Global;

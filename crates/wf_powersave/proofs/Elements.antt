@@ -8,7 +8,9 @@ use Rattle.std.proofs.lemmas.Nat.{one_shl}
 use Rattle.std.specs.Int.{bit_at}
 use Rattle.wf_fields.specs.Fields.{is_set}
 use Rattle.wf_powersave.specs.declared.tim.Tim.{Tim}
-use Rattle.wf_powersave.specs.Tim.{IsTim, first_octet, whole_octet, aids_of, map_octet, last_of, count_from, shortest, ends_of, octets_between}
+use Rattle.wf_powersave.specs.Tim.{IsTim, first_octet, whole_octet, aids_of, ends_of, octets_between}
+use Rattle.wf_rules.specs.Tim.{map_octet, last_of, tim_element}
+use Rattle.wf_rules.specs.Table.{count_from}
 use Rattle.wf_powersave.proofs.Maps.{below, below_more, octet_bit, octet_small, octet_with, octet_without, octet_elsewhere}
 
 -- each bit of the whole bitmap is an entry
@@ -143,8 +145,8 @@ outside_part present low high k s where_it_is = outside_zero present k (λ j few
     never j few here less (inl before) = let l = s.least (8 * k + j) less here in omega arith
     never j few here less (inr after) = let h = s.most (8 * k + j) less here in omega arith
 
-length-shortest : (count period a : ℕ) (others : List ℕ) → length (shortest count period (a ∷ others)) ≡ 5 + (last_of a others / 8 - 2 * (a / 16) + 1)
-length-shortest count period a others =
+length-tim_element : (count period a : ℕ) (others : List ℕ) → length (tim_element count period (a ∷ others)) ≡ 5 + (last_of a others / 8 - 2 * (a / 16) + 1)
+length-tim_element count period a others =
     omega (arith, length-map (count_from (2 * (a / 16)) (last_of a others / 8 - 2 * (a / 16) + 1)) (map_octet (a ∷ others)), length-count_from (2 * (a / 16)) (last_of a others / 8 - 2 * (a / 16) + 1))
 
 sixth : (a b c d e : ℕ) (xs : List ℕ) (i : ℕ) → get_or (a ∷ b ∷ c ∷ d ∷ e ∷ xs) (5 + i) 0 ≡ get_or xs i 0
@@ -154,11 +156,11 @@ sixth a b c d e xs i = ap (λ n. get_or (a ∷ b ∷ c ∷ d ∷ e ∷ xs) n 0) 
     five i = omega arith
 
 whole_is : (present : List Bool) (count period a : ℕ) (others : List ℕ) → aids_of present ≡ a ∷ others → Span present (length present) a (last_of a others)
-    → (k : ℕ) → whole_octet (shortest count period (a ∷ others)) k ≡ map_octet (aids_of present) k
+    → (k : ℕ) → whole_octet (tim_element count period (a ∷ others)) k ≡ map_octet (aids_of present) k
 whole_is present count period a others is s k = ap (λ b. if nat_le b k then get_or octets (5 + (k - b)) 0 else 0) begins ∙ elim (cases_lt k n1) [
   | inl before ↦ ap (λ b. if b then get_or octets (5 + (k - n1)) 0 else 0) (lt-leb n1 k before) ∙ sym (outside_part present a (last_of a others) k s (inl before))
   | inr from ↦ ap (λ b. if b then get_or octets (5 + (k - n1)) 0 else 0) (le-leb n1 k from) ∙ elim (cases_lt n2 k) [
-    | inl after ↦ get_or_past octets (5 + (k - n1)) 0 (omega (arith, length-shortest count period a others)) ∙ sym (outside_part present a (last_of a others) k s (inr after))
+    | inl after ↦ get_or_past octets (5 + (k - n1)) 0 (omega (arith, length-tim_element count period a others)) ∙ sym (outside_part present a (last_of a others) k s (inr after))
     | inr to ↦
         sixth 5 (n2 - n1 + 4) count period n1 (map (map_octet (a ∷ others)) (count_from n1 (n2 - n1 + 1))) (k - n1) ∙ get_or-count_from (map_octet (a ∷ others)) n1 (n2 - n1 + 1) (k - n1) (omega arith)
         ∙ ap (map_octet (a ∷ others)) (there from) ∙ ap (λ xs. map_octet xs k) (sym is)
@@ -172,7 +174,7 @@ whole_is present count period a others is s k = ap (λ b. if nat_le b k then get
     n2 = last_of a others / 8
 
     octets : List ℕ
-    octets = shortest count period (a ∷ others)
+    octets = tim_element count period (a ∷ others)
 
     begins : 2 * (2 * (a / 16) / 2) ≡ 2 * (a / 16)
     begins = omega arith
@@ -180,10 +182,10 @@ whole_is present count period a others is s k = ap (λ b. if nat_le b k then get
     there : 2 * (a / 16) ≤ k → 2 * (a / 16) + (k - 2 * (a / 16)) ≡ k
     there from = omega arith
 
-empty_whole : (count period k : ℕ) → whole_octet (shortest count period []) k ≡ 0
+empty_whole : (count period k : ℕ) → whole_octet (tim_element count period []) k ≡ 0
 empty_whole count period k = elim (cases_eq k 0) [
-  | inl e ↦ ap (whole_octet (shortest count period [])) e
-  | inr o ↦ ap (λ b. if b then get_or (shortest count period []) (5 + (k - 0)) 0 else 0) (le-leb 0 k (omega arith)) ∙ get_or_past (shortest count period []) (5 + (k - 0)) 0 (omega arith)
+  | inl e ↦ ap (whole_octet (tim_element count period [])) e
+  | inr o ↦ ap (λ b. if b then get_or (tim_element count period []) (5 + (k - 0)) 0 else 0) (le-leb 0 k (omega arith)) ∙ get_or_past (tim_element count period []) (5 + (k - 0)) 0 (omega arith)
 ]
 
 entry_of : (present : List Bool) (o n : ℕ) → o ≡ map_octet (aids_of present) (n / 8) → is_set o (n % 8) ≡ get_or present n false
@@ -192,7 +194,7 @@ entry_of present o n is = ap (λ x. is_set x (n % 8)) is ∙ entry_bit present (
     place : 8 * (n / 8) + n % 8 ≡ n
     place = omega arith
 
-empty_is_tim : (present : List Bool) (tim : Tim) → tim.group ≡ false → aids_of present ≡ [] → IsTim (shortest tim.count tim.period []) tim present
+empty_is_tim : (present : List Bool) (tim : Tim) → tim.group ≡ false → aids_of present ≡ [] → IsTim (tim_element tim.count tim.period []) tim present
 empty_is_tim present tim group empty = record {
   long = omega arith;
   id = refl;
@@ -201,10 +203,10 @@ empty_is_tim present tim group empty = record {
   count = refl;
   period = refl;
   group = sym group;
-  stations = λ n below. entry_of present (whole_octet (shortest tim.count tim.period []) (n / 8)) n (empty_whole tim.count tim.period (n / 8) ∙ ap (λ xs. map_octet xs (n / 8)) (sym empty));
+  stations = λ n below. entry_of present (whole_octet (tim_element tim.count tim.period []) (n / 8)) n (empty_whole tim.count tim.period (n / 8) ∙ ap (λ xs. map_octet xs (n / 8)) (sym empty));
 }
 
-some_is_tim : (present : List Bool) (tim : Tim) (a : ℕ) (others : List ℕ) → length present ≤ 2008 → tim.group ≡ false → aids_of present ≡ a ∷ others → IsTim (shortest tim.count tim.period (a ∷ others)) tim present
+some_is_tim : (present : List Bool) (tim : Tim) (a : ℕ) (others : List ℕ) → length present ≤ 2008 → tim.group ≡ false → aids_of present ≡ a ∷ others → IsTim (tim_element tim.count tim.period (a ∷ others)) tim present
 some_is_tim present tim a others room group is = record {
   long = omega (arith, size);
   id = refl;
@@ -213,26 +215,26 @@ some_is_tim present tim a others room group is = record {
   count = refl;
   period = refl;
   group = ap (λ b. b == 1) even ∙ sym group;
-  stations = λ n below. entry_of present (whole_octet (shortest tim.count tim.period (a ∷ others)) (n / 8)) n (whole_is present tim.count tim.period a others is s (n / 8));
+  stations = λ n below. entry_of present (whole_octet (tim_element tim.count tim.period (a ∷ others)) (n / 8)) n (whole_is present tim.count tim.period a others is s (n / 8));
 }
   where
     s : Span present (length present) a (last_of a others)
     s = span_of present (length present) a others is
 
-    size : length (shortest tim.count tim.period (a ∷ others)) ≡ 5 + (last_of a others / 8 - 2 * (a / 16) + 1)
-    size = length-shortest tim.count tim.period a others
+    size : length (tim_element tim.count tim.period (a ∷ others)) ≡ 5 + (last_of a others / 8 - 2 * (a / 16) + 1)
+    size = length-tim_element tim.count tim.period a others
 
     even : bit_at (2 * (a / 16)) 0 ≡ 0
     even = omega arith
 
-pub shortest_is_tim : (present : List Bool) (tim : Tim) (xs : List ℕ) → length present ≤ 2008 → tim.group ≡ false → aids_of present ≡ xs → IsTim (shortest tim.count tim.period xs) tim present
+pub shortest_is_tim : (present : List Bool) (tim : Tim) (xs : List ℕ) → length present ≤ 2008 → tim.group ≡ false → aids_of present ≡ xs → IsTim (tim_element tim.count tim.period xs) tim present
 shortest_is_tim present tim [] room group is = empty_is_tim present tim group is
 shortest_is_tim present tim (a ∷ others) room group is = some_is_tim present tim a others room group is
 
 -- ---- what is written
 pub element_is : (xs bitmap : List ℕ) (count period first last : ℕ) → first ≡ (octets_between (ends_of xs)).0 → last ≡ (octets_between (ends_of xs)).1 → length bitmap ≡ 251
     → ((k : ℕ) → k < 251 → get_or bitmap k 0 ≡ map_octet xs k) → first ≤ last → last < 251
-    → (5 ∷ (last - first + 4) ∷ count ∷ period ∷ first ∷ []) ++ take (last + 1 - first) (drop first bitmap) ≡ shortest count period xs
+    → (5 ∷ (last - first + 4) ∷ count ∷ period ∷ first ∷ []) ++ take (last + 1 - first) (drop first bitmap) ≡ tim_element count period xs
 element_is [] bitmap count period first last f l long each order small =
     ap (λ x. (5 ∷ (last - x + 4) ∷ count ∷ period ∷ x ∷ []) ++ take (last + 1 - x) (drop x bitmap)) f
     ∙ ap (λ y. (5 ∷ (y - 0 + 4) ∷ count ∷ period ∷ 0 ∷ []) ++ take (y + 1 - 0) (drop 0 bitmap)) l

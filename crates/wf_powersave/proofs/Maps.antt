@@ -10,7 +10,9 @@ use Rattle.std.specs.List.{range_with_len}
 use Rattle.std.specs.Int.{bit_at}
 use Rattle.wf_fields.specs.Fields.{is_set}
 use Rattle.wf_powersave.specs.declared.tim.Tim.{Tim}
-use Rattle.wf_powersave.specs.Tim.{IsTim, first_octet, whole_octet, aids_of, map_octet, last_of, count_from, shortest, ends_of}
+use Rattle.wf_powersave.specs.Tim.{IsTim, first_octet, whole_octet, aids_of, ends_of}
+use Rattle.wf_rules.specs.Tim.{map_octet, last_of, tim_element}
+use Rattle.wf_rules.specs.Table.{count_from}
 
 -- the numbers below m whose entry is true
 abbrev pub below : List Bool → ℕ → List ℕ

@@ -1,7 +1,8 @@
 -- The TIM element (IEEE 802.11-2012, 8.4.2.7): which association identifiers (AID) have traffic. AID n is bit n mod 8 of octet
 -- n / 8 of the whole bitmap of 251 octets, of which the element has a part.
-use Rattle.std.specs.Prelude.{◌≡◌, ℕ, zero, suc, ◌+◌, ◌-◌, ◌*◌, ◌/◌, ◌%◌, ◌^◌, ◌<◌, ◌≤◌, ◌==◌, nat_le, Bool, false, List, [], ◌∷◌, length, Option, Some, None, slice_index, slice_index_or, if◌then◌else◌, map, filter, sum_by}
+use Rattle.std.specs.Prelude.{◌≡◌, ℕ, ◌+◌, ◌-◌, ◌*◌, ◌/◌, ◌%◌, ◌<◌, ◌≤◌, nat_le, Bool, false, List, [], ◌∷◌, length, Option, Some, None, slice_index, slice_index_or, if◌then◌else◌, filter}
 use Rattle.std.specs.List.{range_with_len}
+use Rattle.wf_rules.specs.Tim.{tim_id, last_of}
 use Rattle.wf_fields.specs.Fields.{is_set}
 use Rattle.wf_powersave.specs.declared.tim.Tim.{Tim}
 
@@ -17,7 +18,7 @@ whole_octet octets k = if nat_le (first_octet octets) k then slice_index octets 
 -- traffic, and a part of the bitmap that ends at or before octet 250
 pub record IsTim (octets : List ℕ) (tim : Tim) (present : List Bool) : Type 0 where
   pub long : 6 ≤ length octets
-  pub id : slice_index octets 0 ≡ 5
+  pub id : slice_index octets 0 ≡ tim_id
   pub size : slice_index octets 1 + 2 ≡ length octets
   pub ends : first_octet octets + (length octets - 5) ≤ 251
   pub count : slice_index octets 2 ≡ tim.count
@@ -28,27 +29,6 @@ pub record IsTim (octets : List ℕ) (tim : Tim) (present : List Bool) : Type 0 
 -- the AIDs that are present, rising
 abbrev pub aids_of : List Bool → List ℕ
 aids_of present = filter (λ n. slice_index_or present n false) (range_with_len 0 (length present))
-
--- octet k of the whole bitmap of these AIDs
-abbrev pub map_octet : List ℕ → ℕ → ℕ
-map_octet aids k = sum_by (λ a. if a / 8 == k then 2 ^ (a % 8) else 0) aids
-
-abbrev pub last_of : ℕ → List ℕ → ℕ
-last_of d [] = d
-last_of d (x ∷ xs) = last_of x xs
-
--- from, from + 1, .. : n numbers
-abbrev pub count_from : ℕ → ℕ → List ℕ
-count_from from zero = []
-count_from from (suc n) = from ∷ count_from (suc from) n
-
--- the shortest element of a rising list of AIDs: from the greatest even octet below which all are 0 to the last that is not 0
-abbrev pub shortest : ℕ → ℕ → List ℕ → List ℕ
-shortest count period [] = 5 ∷ 4 ∷ count ∷ period ∷ 0 ∷ 0 ∷ []
-shortest count period (a ∷ aids) =
-    let n1 : ℕ = 2 * (a / 16) in
-    let n2 : ℕ = last_of a aids / 8 in
-    5 ∷ (n2 - n1 + 4) ∷ count ∷ period ∷ n1 ∷ map (map_octet (a ∷ aids)) (count_from n1 (n2 - n1 + 1))
 
 -- the first and the last of a list
 abbrev pub ends_of : List ℕ → Option (ℕ × ℕ)

@@ -1,5 +1,6 @@
 ghost use Rattle.std.specs.Prelude.{◌≡◌, ℕ, ◌+◌, ◌*◌, ◌/◌, ◌%◌, ◌^◌, ◌<◌, ◌≤◌, Bool, true, false, List, Some, None, Ok, IfSome, IfOk, OnOk, OnErr, length, slice_index, slice_index_or, take, drop, replicate};
-ghost use Rattle.wf_powersave.specs.Tim.{IsTim, aids_of, map_octet, shortest, ends_of, octets_between, whole_octet, first_octet};
+ghost use Rattle.wf_powersave.specs.Tim.{IsTim, aids_of, ends_of, octets_between, whole_octet, first_octet};
+ghost use Rattle.wf_rules.specs.Tim.{map_octet, tim_element};
 ghost use Rattle.wf_fields.specs.Fields.{is_set};
 ghost use Rattle.wf_powersave.specs.TimFaults.{first_fault, fault_of};
 ghost use Rattle.wf_powersave.specs.declared.tim.Tim.{Tim};
@@ -46,8 +47,8 @@ pub enum TimFault {
 pub fn encode_tim(present: &[bool], count: u8, period: u8, out: &mut [u8; 256]) -> usize
     requires room { length present.now ≤ 2008 }
     requires no_group { slice_index_or present.now 0 false ≡ false }
-    ensures octets { take result out.new ≡ shortest count period (aids_of present.now) }
-    ensures size { result ≡ length (shortest count period (aids_of present.now)) }
+    ensures octets { take result out.new ≡ tim_element count period (aids_of present.now) }
+    ensures size { result ≡ length (tim_element count period (aids_of present.now)) }
     ensures rest { drop result out.new ≡ drop result out.old }
     ensures layout { IsTim (take result out.new) (record { count = count; period = period; group = false }) present.now }
 {

@@ -7,9 +7,9 @@ use Rattle.wf_frame.specs.declared.settings.Field.TheVariants.{Stations, Flows, 
 use Rattle.wf_frame.specs.Settings.{standard, lowest_of, greatest_of, with_value, IsInRange}
 use Rattle.wf_rules.specs.Lengths.{greatest_body}
 use Rattle.wf_frame.proofs.Ranges.{in_range as standard_in_range}
-use Rattle.wf_trace.specs.declared.call.Arg.TheVariants.{Number}
-use Rattle.wf_trace.specs.declared.fault.End.{End}
-use Rattle.wf_trace.specs.declared.fault.End.TheVariants.{Over, Flaw}
+use Rattle.wf_trace.specs.declared.call.Value.{Value}
+use Rattle.wf_trace.specs.declared.cut.Piece.{Piece}
+use Rattle.wf_trace.specs.declared.cut.Piece.TheVariants as piece
 use Rattle.wf_trace.specs.declared.fault.FaultKind.{FaultKind}
 use Rattle.wf_trace.specs.declared.fault.FaultKind.TheVariants as kind
 use Rattle.wf_trace.specs.declared.meaning.Meaning.{Meaning}
@@ -19,13 +19,14 @@ use Rattle.wf_trace.specs.declared.reader.Item.{Item}
 use Rattle.wf_trace.specs.declared.reader.Item.TheVariants as item
 use Rattle.wf_trace.specs.declared.call.Call.{Call}
 use Rattle.wf_trace.specs.declared.call.Call.TheVariants as call
-use Rattle.wf_trace.specs.Grammar.{read_arg, args_of, call_named, read_args}
-use Rattle.wf_trace.specs.Notes.{Within, note_of, noted, called, read_call}
-use Rattle.wf_trace.proofs.ArgLaws.{within_read}
-use Rattle.wf_trace.specs.Lines.{Texts, texts_of, lines}
-use Rattle.wf_trace.specs.Words.{words, skipped, number_of, in_range}
-use Rattle.wf_trace.specs.Settings.{worse, placed, set_one, read_words, range_of, was_seen, named_field, split_once, place_of}
-use Rattle.wf_trace.specs.Meanings.{read_head, allowed, entry_of, against, caller_first, headed, finished, named, meant}
+use Rattle.wf_trace.specs.Grammar.{args_of, call_named, read_args}
+use Rattle.wf_trace.specs.Notes.{noted, called, read_call}
+use Rattle.wf_trace.proofs.ArgLaws.{frame_len_ok}
+use Rattle.wf_rules.specs.Lengths.{greatest_body}
+use Rattle.wf_trace.specs.Pieces.{Numbered, pieces}
+use Rattle.wf_trace.specs.Words.{words, number_of, in_range}
+use Rattle.wf_trace.specs.Settings.{worse, placed, set_one, read_words, value_read, was_seen, named_field, split_once, place_of}
+use Rattle.wf_trace.specs.Meanings.{read_head, allowed, entry_of, against, caller_of, caller_first, headed, finished, named, meant}
 use Rattle.wf_trace.specs.Reading.{Reading, told, stopped, read_behind, place_behind, reading}
 use Rattle.wf_replay.specs.Texts.{settings_among, history_among}
 use Rattle.wf_replay.specs.Laws.{HasLengths, HasLaws}
@@ -68,17 +69,17 @@ abbrev Keeps : (Config → Result Config FaultKind) → Type 0
 Keeps others = (config c : Config) → IsInRange config → others config ≡ Ok c → IsInRange c
 
 placed_in : (field : Field) (config c : Config) (others : Config → Result Config FaultKind) (value : Result ℕ FaultKind) (text : List ℕ)
-    → read_arg (range_of field) text ≡ value → Keeps others → IsInRange config → placed value field config others ≡ Ok c → IsInRange c
+    → value_read field text ≡ value → Keeps others → IsInRange config → placed value field config others ≡ Ok c → IsInRange c
 placed_in field config c others (Ok value) text is keeps r e =
     keeps (with_value config field value) c (setting_in config field value r (read_between (lowest_of field) (greatest_of field) value (number_of text) is)) e
 placed_in field config c others (Err fault) text is keeps r e = never_worse fault (others config) c e
 
 unseen_in : (field : Field) (text : List ℕ) (seen : List Bool) (config c : Config) (others : List Bool → Config → Result Config FaultKind) (b : Bool)
     → ((s : List Bool) → Keeps (others s)) → IsInRange config
-    → (if b then worse kind.Word (others seen config) else placed (read_arg (range_of field) text) field config (others (slice_set seen (place_of field) true))) ≡ Ok c → IsInRange c
+    → (if b then worse kind.Word (others seen config) else placed (value_read field text) field config (others (slice_set seen (place_of field) true))) ≡ Ok c → IsInRange c
 unseen_in field text seen config c others true keeps r e = never_worse kind.Word (others seen config) c e
 unseen_in field text seen config c others false keeps r e =
-    placed_in field config c (others (slice_set seen (place_of field) true)) (read_arg (range_of field) text) text refl (keeps (slice_set seen (place_of field) true)) r e
+    placed_in field config c (others (slice_set seen (place_of field) true)) (value_read field text) text refl (keeps (slice_set seen (place_of field) true)) r e
 
 one_in : (setting : Option (Field × List ℕ)) (seen : List Bool) (config c : Config) (others : List Bool → Config → Result Config FaultKind)
     → ((s : List Bool) → Keeps (others s)) → IsInRange config → set_one setting seen config others ≡ Ok c → IsInRange c
@@ -105,16 +106,9 @@ abbrev IsSizedCall : Result Note FaultKind → Type 0
 IsSizedCall (Ok note) = IsSized note
 IsSizedCall (Err fault) = Unit {0}
 
-enqueue_sized : (values : List ℕ) → Within (args_of call.Enq) values → IsSized (note_of call.Enq values)
-enqueue_sized [] w = absurd w
-enqueue_sized (s ∷ []) w = absurd w.2
-enqueue_sized (s ∷ t ∷ []) w = absurd w.2.2
-enqueue_sized (s ∷ t ∷ f ∷ []) w = absurd w.2.2.2
-enqueue_sized (s ∷ t ∷ f ∷ len ∷ more) w = (w.2.2.2.0, w.2.2.2.1)
-
-noted_sized : (c : Call) (ws : List (List ℕ)) (read : Result (List ℕ) FaultKind) → read_args (args_of c) ws ≡ read → IsSizedCall (noted c read)
+noted_sized : (c : Call) (ws : List (List ℕ)) (read : Result (List Value) FaultKind) → read_args (args_of c) ws ≡ read → IsSizedCall (noted c read)
 noted_sized c ws (Err fault) is = tt
-noted_sized call.Enq ws (Ok values) is = enqueue_sized values (within_read (args_of call.Enq) ws values tt is)
+noted_sized call.Enq ws (Ok values) is = frame_len_ok ws values is
 noted_sized call.Join ws (Ok values) is = (tt, tt)
 noted_sized call.Leave ws (Ok values) is = (tt, tt)
 noted_sized call.Rate ws (Ok values) is = (tt, tt)
@@ -180,8 +174,8 @@ named_in place word ws false true = finished_in place ws
 named_in place word ws false false = allowed_in 0 place (read_call (word ∷ ws)) (call_sized (word ∷ ws))
 
 first_in : (place : Option Place) (octet : ℕ) (octets : List ℕ) (ws : List (List ℕ)) (caller : Bool)
-    → HeadIn (if caller then caller_first (read_arg (Number 0 65535) octets) place ws else named place (octet ∷ octets) ws)
-first_in place octet octets ws true = caller_in (read_arg (Number 0 65535) octets) place ws
+    → HeadIn (if caller then caller_first (caller_of octets) place ws else named place (octet ∷ octets) ws)
+first_in place octet octets ws true = caller_in (caller_of octets) place ws
 first_in place octet octets ws false = named_in place (octet ∷ octets) ws (bytes_eq (octet ∷ octets) (codes "cell")) (bytes_eq (octet ∷ octets) (codes "end"))
 
 meant_in : (place : Option Place) (ws : List (List ℕ)) → HeadIn (meant place ws)
@@ -205,20 +199,17 @@ told_in n (Ok (meaning.Entry caller note)) others head rest = (head, rest)
 told_in n (Ok meaning.Finish) others head rest = tt
 told_in n (Err fault) others head rest = tt
 
-stopped_in : (place : Option Place) (n : ℕ) (end : Option End) → HeadsIn (stopped place n end).items
-stopped_in place n None = tt
-stopped_in place n (Some Over) = tt
-stopped_in place n (Some (Flaw fault)) = tt
+stopped_in : (place : Option Place) (end : Option Piece) → HeadsIn (stopped place end).items
+stopped_in place None = tt
+stopped_in place (Some (piece.Text line)) = tt
+stopped_in place (Some (piece.Ended line)) = tt
+stopped_in place (Some (piece.Bad fault)) = tt
 
-line_in : (b : Bool) (n : ℕ) (line : Result Meaning FaultKind) (others : Reading) → HeadIn line → HeadsIn others.items → HeadsIn (if b then others else told n line others).items
-line_in true n line others head rest = rest
-line_in false n line others head rest = told_in n line others head rest
-
-behind_in : (texts front : List (List ℕ)) (end : Option End) → HeadsIn (read_behind front texts end).items
-behind_in [] front end = stopped_in (place_behind front) (length front + 1) end
-behind_in (text ∷ texts) front end =
-    line_in (skipped (words text)) (length front + 1) (meant (place_behind front) (words text)) (read_behind (front ++ text ∷ []) texts end)
-    (meant_in (place_behind front) (words text)) (behind_in texts (front ++ text ∷ []) end)
+behind_in : (lines front : List Numbered) (end : Option Piece) → HeadsIn (read_behind front lines end).items
+behind_in [] front end = stopped_in (place_behind front) end
+behind_in (line ∷ lines) front end =
+    told_in line.line (meant (place_behind front) (words line.octets)) (read_behind (front ++ line ∷ []) lines end)
+    (meant_in (place_behind front) (words line.octets)) (behind_in lines (front ++ line ∷ []) end)
 
 among_in : (items : List Item) (c : Config) → HeadsIn items → settings_among items ≡ Some c → IsInRange c
 among_in [] c heads e = absurd (cc)
@@ -237,7 +228,7 @@ lengths_among (item.Finish ∷ items) heads = lengths_among items heads
 lengths_among (item.Bad fault ∷ items) heads = lengths_among items heads
 
 heads_in : (closed : Bool) (octets : List ℕ) → HeadsIn (reading closed octets).items
-heads_in closed octets = let t : Texts = texts_of closed (lines closed 0 octets) in behind_in t.texts [] t.ending
+heads_in closed octets = behind_in (pieces closed octets).lines [] (pieces closed octets).ending
 
 pub reading_in : (closed : Bool) (octets : List ℕ) (c : Config) → settings_among (reading closed octets).items ≡ Some c → IsInRange c
 reading_in closed octets c e = among_in (reading closed octets).items c (heads_in closed octets) e

@@ -10,6 +10,7 @@ use Rattle.wf_trace.specs.declared.fault.End.{End}
 use Rattle.wf_trace.specs.declared.fault.Fault.{Fault}
 use Rattle.wf_trace.specs.declared.reader.Item.{Item}
 use Rattle.wf_trace.specs.declared.reader.Item.TheVariants.{Head, Entry, Finish, Bad}
+use Rattle.wf_trace.specs.Lines.{most}
 use Rattle.wf_trace.specs.Cutting.{Cutting, Fits, room, room_of}
 use Rattle.wf_trace.specs.Reading.{Reading, reading, with_item, ends}
 use Rattle.wf_trace.specs.Reader.{Reader, Reads, Gives, IsHeld, rest}
@@ -61,7 +62,7 @@ pub record Replaying (reader : Reader) (m : Progress) (left left_now held held_n
   pub items : List Item
   pub taken : List ℕ
   pub took : left ≡ prepend_known taken left_now
-  pub same : (closed : Bool) (more : List ℕ) → Fits reader.cutter.ended left_now closed more → reading closed (taken ++ more) ≡ with_items items (rest reader closed more)
+  pub same : (closed : Bool) (more : List ℕ) → Fits reader.cut.cutter.ended left_now closed more → reading closed (taken ++ more) ≡ with_items items (rest reader closed more)
   pub wrote : held_now ≡ append_known held (answers_from None items)
   pub leads : LeadsTo items m
 
@@ -110,13 +111,13 @@ pub record Turned (result : Result Item Failed) (new : Reader) (m : Progress) (l
   pub items : List Item
   pub taken : List ℕ
   pub took : left ≡ prepend_known taken left_new
-  pub gives : (closed : Bool) (more : List ℕ) → Fits new.cutter.ended left_new closed more →
+  pub gives : (closed : Bool) (more : List ℕ) → Fits new.cut.cutter.ended left_new closed more →
       (r : Reading) × (reading closed (taken ++ more) ≡ with_items items r) × Gives result new r (rest new closed more)
   pub wrote : held_now ≡ append_known held (answers_from None items)
   pub leads : LeadsTo items m
 
 pub turned : (old new : Reader) (m : Progress) (left left_now left_new held held_now : Option (List ℕ)) (result : Result Item Failed) (octets : List ℕ) →
-    Replaying old m left left_now held held_now → Reads old left_now result new left_new octets → (IsSome old.cutter.ended → IsSome new.cutter.ended) →
+    Replaying old m left left_now held held_now → Reads old left_now result new left_new octets → (IsSome old.cut.cutter.ended → IsSome new.cut.cutter.ended) →
     Turned result new m left left_new held held_now
 turned old new m left left_now left_new held held_now result octets so_far reads sticky = record {
   items = so_far.items;
@@ -124,7 +125,7 @@ turned old new m left left_now left_new held held_now result octets so_far reads
   took = so_far.took ∙ ap (prepend_known so_far.taken) reads.taken ∙ prepend_known-append so_far.taken octets left_new;
   gives = λ closed more fits. (
     rest old closed (octets ++ more),
-    ap (reading closed) (append_assoc so_far.taken octets more) ∙ so_far.same closed (octets ++ more) (fits_back old.cutter.ended new.cutter.ended left_now left_new octets closed more sticky reads.taken fits),
+    ap (reading closed) (append_assoc so_far.taken octets more) ∙ so_far.same closed (octets ++ more) (fits_back old.cut.cutter.ended new.cut.cutter.ended left_now left_new octets closed more sticky reads.taken fits),
     reads.gives closed more fits,
   );
   wrote = so_far.wrote;
@@ -211,7 +212,7 @@ whole : (result : Result Item Failed) (new : Reader) (m : Progress) (left left_n
     (input : List ℕ) → left ≡ Some input → (r : Reading) × (more : List ℕ) × (left_new ≡ Some more) × (reading true input ≡ with_items t.items r) × Gives result new r (rest new true more)
 whole result new m left left_new held held_now t input is =
     let known = told t.taken left_new input (sym is ∙ t.took) in
-    let fits : Fits new.cutter.ended left_new true known.0 = subst (λ (l : Option (List ℕ)). Fits new.cutter.ended l true known.0) (sym known.1) (fits_rest new.cutter.ended known.0) in
+    let fits : Fits new.cut.cutter.ended left_new true known.0 = subst (λ (l : Option (List ℕ)). Fits new.cut.cutter.ended l true known.0) (sym known.1) (fits_rest new.cut.cutter.ended known.0) in
     let g = t.gives true known.0 fits in
     (g.0, known.0, known.1, ap (reading true) known.2 ∙ g.1, g.2)
 
@@ -230,7 +231,7 @@ ended_no_memory new m left left_new held held_now result t = (
 
 -- the source failed: nothing that was taken ends a line
 nothing : (r : Reader) → IsHeld r → rest r false [] ≡ record { items = []; ending = None }
-nothing r held = rw (held.open_, held.going, held.given, held.waiting) refl
+nothing r held = rw (held.open_, held.cut.open_, held.cut.going, held.cut.given, held.cut.waiting) refl
 
 pub ended_read : (new : Reader) (m : Progress) (left left_new held held_now : Option (List ℕ)) (failed : Failed) →
     Turned (Err failed) new m left left_new held held_now → IsHeld new → Ended ReadFault left left_new held held_now
@@ -240,7 +241,7 @@ ended_read new m left left_new held held_now failed t still = (
   t.took,
   t.wrote,
   λ input is. let w = whole (Err failed) new m left left_new held held_now t input is in
-      let fits : Fits new.cutter.ended left_new false [] = subst (λ (e : Option End). Fits e left_new false []) (sym still.going) tt in
+      let fits : Fits new.cut.cutter.ended left_new false [] = subst (λ (e : Option End). Fits e left_new false []) (sym still.cut.going) tt in
       let g = t.gives false [] fits in
       let all : reading false t.taken ≡ with_items t.items (record { items = []; ending = None })
       = ap (reading false) (sym (append-nil t.taken)) ∙ g.1 ∙ ap (with_items t.items) (g.2 ∙ nothing new still) in (
@@ -317,7 +318,7 @@ ended_unwritten new m left left_new held held_now held_new item line t is some =
 -- the last line was written
 pub ended_done : (new : Reader) (m : Progress) (left left_new held held_now held_new : Option (List ℕ)) (line : List ℕ) →
     Turned (Ok Finish) new m left left_new held held_now → line ≡ closing m.world m.calls (Some Finish) → held_new ≡ append_known held_now line →
-    (IsSome new.cutter.ended → IsAtEnd left_new) → Ended Done left left_new held held_new
+    (IsSome new.cut.cutter.ended → IsAtEnd left_new) → Ended Done left left_new held held_new
 ended_done new m left left_new held held_now held_new line t is wrote over = (
   t.taken,
   answers_from None t.items ++ line,
@@ -326,14 +327,14 @@ ended_done new m left left_new held held_now held_new line t is wrote over = (
   λ input told_is. let w = whole (Ok Finish) new m left left_new held held_now t input told_is in
       let r_is : w.0 ≡ ends Finish = w.4.1 ∙ rest_ended new Finish true w.1 w.4.0 in (
         ap (λ (r : Reading). r.ending) (w.3 ∙ ap (with_items t.items) r_is),
-        reaches new.cutter.ended refl input told_is,
+        reaches new.cut.cutter.ended refl input told_is,
         sym (ap told_text w.3 ∙ text-with t.items m w.0 t.leads ∙ ap (λ l. answers_from None t.items ++ l) (ap (text_from m) r_is ∙ text_ends m Finish ∙ sym is)),
       ),
 )
   where
-    reaches : (end : Option End) → new.cutter.ended ≡ end → (input : List ℕ) → left ≡ Some input → ReachesEnd input t.taken
+    reaches : (end : Option End) → new.cut.cutter.ended ≡ end → (input : List ℕ) → left ≡ Some input → ReachesEnd input t.taken
     reaches None going input told_is =
-        let fits : Fits new.cutter.ended left_new false [] = subst (λ (e : Option End). Fits e left_new false []) (sym going) tt in
+        let fits : Fits new.cut.cutter.ended left_new false [] = subst (λ (e : Option End). Fits e left_new false []) (sym going) tt in
         let g = t.gives false [] fits in
         inl (ap (λ (r : Reading). r.ending) (ap (reading false) (sym (append-nil t.taken)) ∙ g.1 ∙ ap (with_items t.items) (g.2.1 ∙ rest_ended new Finish false [] g.2.0)))
     reaches (Some end) ended input told_is =
@@ -362,9 +363,9 @@ pub said : (status : Status) (left left_new held held_new : Option (List ℕ)) �
 said status left left_new held held_new ended = (ended.0, ended.1, ended.2, ended.3, λ input is. outcome status input ended.0 ended.1 (ended.4 input is))
 
 -- a fresh reader has room for any trace
-room_at_most : (looked : ℕ) (end : Option End) → room_of looked end ≤ 268435457
+room_at_most : (looked : ℕ) (end : Option End) → room_of looked end ≤ most + 1
 room_at_most looked None = omega arith
 room_at_most looked (Some end) = omega arith
 
-pub room_most : (c : Cutting) → room c ≤ 268435457
+pub room_most : (c : Cutting) → room c ≤ most + 1
 room_most c = room_at_most c.scanner.looked c.ended

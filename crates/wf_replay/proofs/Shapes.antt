@@ -1,28 +1,27 @@
 -- A trace has a head and calls behind it, so its text is that of the run of its history.
-use Rattle.std.proofs.Common.{◌≡◌, ℕ, ◌+◌, List, [], ◌∷◌, ◌++◌, length, Bool, true, false, cond, refl, ◌∙◌, ap, subst}
+use Rattle.std.proofs.Common.{◌≡◌, ℕ, ◌+◌, List, [], ◌∷◌, ◌++◌, length, append-nil, Bool, refl, ◌∙◌, ap, subst}
 use Rattle.std.specs.Prelude.{Option, Some, None, Result, Ok, Err, map}
 use Rattle.std.specs.List.{concat}
 use Rattle.wf_frame.specs.declared.settings.Config.{Config}
 use Rattle.wf_trace.specs.declared.fault.FaultKind.{FaultKind}
-use Rattle.wf_trace.specs.declared.fault.End.{End}
-use Rattle.wf_trace.specs.declared.fault.End.TheVariants.{Over, Flaw}
+use Rattle.wf_trace.specs.declared.cut.Piece.{Piece}
+use Rattle.wf_trace.specs.declared.cut.Piece.TheVariants as piece
 use Rattle.wf_trace.specs.declared.meaning.Meaning.{Meaning}
 use Rattle.wf_trace.specs.declared.meaning.Meaning.TheVariants as meaning
 use Rattle.wf_trace.specs.declared.meaning.Place.{Place}
 use Rattle.wf_trace.specs.declared.reader.Item.{Item}
 use Rattle.wf_trace.specs.declared.reader.Item.TheVariants.{Head, Entry, Finish, Bad}
-use Rattle.wf_trace.specs.Lines.{texts_of}
-use Rattle.wf_trace.specs.Scanning.{lines_behind}
-use Rattle.wf_trace.specs.Words.{words, skipped}
+use Rattle.wf_trace.specs.Pieces.{Numbered, pieces}
+use Rattle.wf_trace.specs.Words.{words}
 use Rattle.wf_trace.specs.Meanings.{meant}
 use Rattle.wf_trace.specs.Reading.{Reading, reading, stopped}
-use Rattle.wf_trace.specs.Reader.{next_place, said, read_texts}
+use Rattle.wf_trace.specs.Reader.{next_place, said, read_lines}
 use Rattle.wf_trace.proofs.PlaceLaws.{Sorted, sorted, reading_placed}
 use Rattle.wf_world.specs.World.{World, opening}
 use Rattle.wf_world.specs.Step.{Outcome, step}
 use Rattle.wf_world.specs.Run.{replies, world_after}
 use Rattle.wf_world.specs.Text.{answer_line}
-use Rattle.wf_replay.specs.Texts.{settings_among, history_among, answer_lines, last_lines, answers, text}
+use Rattle.wf_replay.specs.Texts.{settings_among, history_among, answers_of, text_by, answers, text}
 use Rattle.wf_replay.specs.Running.{behind_item, answer, closing}
 
 -- calls alone, and a head with calls behind it
@@ -48,10 +47,11 @@ no_items : (place : Option Place) → ShapedIn place []
 no_items None = tt
 no_items (Some place) = tt
 
-shaped_stop : (place : Option Place) (line : ℕ) (end : Option End) → ShapedIn place (stopped place line end).items
-shaped_stop place line None = no_items place
-shaped_stop place line (Some Over) = no_items place
-shaped_stop place line (Some (Flaw kind)) = no_items place
+shaped_stop : (place : Option Place) (end : Option Piece) → ShapedIn place (stopped place end).items
+shaped_stop place None = no_items place
+shaped_stop place (Some (piece.Text line)) = no_items place
+shaped_stop place (Some (piece.Ended line)) = no_items place
+shaped_stop place (Some (piece.Bad fault)) = no_items place
 
 shaped_said : (m : Result Meaning FaultKind) (place : Option Place) (line : ℕ) (others : Option Place → Reading) (ws : List (List ℕ)) → Sorted m place ws →
     ((next : Option Place) → ShapedIn next (others next).items) → ShapedIn place (said m place line others).items
@@ -62,17 +62,15 @@ shaped_said (Ok (meaning.Entry caller note)) (Some place) line others ws sort ne
 shaped_said (Ok meaning.Finish) place line others ws sort next = no_items place
 shaped_said (Err kind) place line others ws sort next = no_items place
 
-shaped_texts : (texts : List (List ℕ)) (end : Option End) (place : Option Place) (line : ℕ) → ShapedIn place (read_texts texts end place line).items
-shaped_texts [] end place line = shaped_stop place line end
-shaped_texts (text ∷ texts) end place line =
-    let others = shaped_said (meant place (words text)) place line (λ next. read_texts texts end next (line + 1)) (words text) (sorted place (words text)) (λ next. shaped_texts texts end next (line + 1)) in
-    let skip = shaped_texts texts end place (line + 1) in
-    elim (skipped (words text)) as (λ b. let r : Reading = cond b (read_texts texts end place (line + 1)) (said (meant place (words text)) place line (λ next. read_texts texts end next (line + 1))) in ShapedIn place r.items) [ true ↦ skip | false ↦ others ]
+shaped_lines : (lines : List Numbered) (end : Option Piece) (place : Option Place) → ShapedIn place (read_lines lines end place).items
+shaped_lines [] end place = shaped_stop place end
+shaped_lines (line ∷ lines) end place =
+    shaped_said (meant place (words line.octets)) place line.line (λ next. read_lines lines end next) (words line.octets) (sorted place (words line.octets)) (λ next. shaped_lines lines end next)
 
 pub reading_shaped : (closed : Bool) (octets : List ℕ) → Shaped (reading closed octets).items
 reading_shaped closed octets =
     subst (λ (r : Reading). Shaped r.items) (reading_placed closed octets)
-    (shaped_texts (texts_of closed (lines_behind closed 0 [] octets)).texts (texts_of closed (lines_behind closed 0 [] octets)).ending None 1)
+    (shaped_lines (pieces closed octets).lines (pieces closed octets).ending None)
 
 -- item by item
 abbrev pub answers_from : Option World → List Item → List ℕ
@@ -102,14 +100,15 @@ calls_behind w (Head config ∷ items) calls = absurd calls
 calls_behind w (Finish ∷ items) calls = absurd calls
 calls_behind w (Bad fault ∷ items) calls = absurd calls
 
-shaped_answers : (items : List Item) → Shaped items → answers_from None items ≡ answer_lines (settings_among items) (history_among items)
+shaped_answers : (items : List Item) → Shaped items → answers_from None items ≡ answers_of (settings_among items) (history_among items)
 shaped_answers [] shaped = refl
 shaped_answers (Head config ∷ items) shaped = calls_answers (opening config) items shaped
 shaped_answers (Entry caller note ∷ items) shaped = absurd shaped
 shaped_answers (Finish ∷ items) shaped = absurd shaped
 shaped_answers (Bad fault ∷ items) shaped = absurd shaped
 
-closing_none : (calls : ℕ) (ending : Option Item) → closing None calls ending ≡ last_lines None [] ending
+-- and the closing behind it
+closing_none : (calls : ℕ) (ending : Option Item) → closing None calls ending ≡ text_by None [] ending
 closing_none calls None = refl
 closing_none calls (Some Finish) = refl
 closing_none calls (Some (Bad fault)) = refl
@@ -117,20 +116,22 @@ closing_none calls (Some (Head config)) = refl
 closing_none calls (Some (Entry caller note)) = refl
 
 closing_some : (config : Config) (items : List Item) (ending : Option Item) →
-    closing (Some (world_after (opening config) (history_among items))) (length (history_among items)) ending ≡ last_lines (Some config) (history_among items) ending
-closing_some config items None = refl
+    answers_of (Some config) (history_among items) ++ closing (Some (world_after (opening config) (history_among items))) (length (history_among items)) ending
+    ≡ text_by (Some config) (history_among items) ending
+closing_some config items None = append-nil (answers_of (Some config) (history_among items))
 closing_some config items (Some Finish) = refl
 closing_some config items (Some (Bad fault)) = refl
-closing_some config items (Some (Head other)) = refl
-closing_some config items (Some (Entry caller note)) = refl
+closing_some config items (Some (Head other)) = append-nil (answers_of (Some config) (history_among items))
+closing_some config items (Some (Entry caller note)) = append-nil (answers_of (Some config) (history_among items))
 
-shaped_closing : (items : List Item) (ending : Option Item) → Shaped items →
-    closing (behind_items None items) (length (history_among items)) ending ≡ last_lines (settings_among items) (history_among items) ending
-shaped_closing [] ending shaped = closing_none 0 ending
-shaped_closing (Head config ∷ items) ending shaped = rw (calls_behind (opening config) items shaped) (closing_some config items ending)
-shaped_closing (Entry caller note ∷ items) ending shaped = absurd shaped
-shaped_closing (Finish ∷ items) ending shaped = absurd shaped
-shaped_closing (Bad fault ∷ items) ending shaped = absurd shaped
+shaped_text : (items : List Item) (ending : Option Item) → Shaped items →
+    answers_of (settings_among items) (history_among items) ++ closing (behind_items None items) (length (history_among items)) ending
+    ≡ text_by (settings_among items) (history_among items) ending
+shaped_text [] ending shaped = closing_none 0 ending
+shaped_text (Head config ∷ items) ending shaped = rw (calls_behind (opening config) items shaped) (closing_some config items ending)
+shaped_text (Entry caller note ∷ items) ending shaped = absurd shaped
+shaped_text (Finish ∷ items) ending shaped = absurd shaped
+shaped_text (Bad fault ∷ items) ending shaped = absurd shaped
 
 pub answers_told : (closed : Bool) (octets : List ℕ) → answers_from None (reading closed octets).items ≡ answers (reading closed octets)
 answers_told closed octets = shaped_answers (reading closed octets).items (reading_shaped closed octets)
@@ -138,4 +139,4 @@ answers_told closed octets = shaped_answers (reading closed octets).items (readi
 pub text_told : (closed : Bool) (octets : List ℕ) → told_text (reading closed octets) ≡ text (reading closed octets)
 text_told closed octets =
     ap (λ l. l ++ closing (behind_items None (reading closed octets).items) (length (history_among (reading closed octets).items)) (reading closed octets).ending) (answers_told closed octets)
-    ∙ ap (λ l. answers (reading closed octets) ++ l) (shaped_closing (reading closed octets).items (reading closed octets).ending (reading_shaped closed octets))
+    ∙ shaped_text (reading closed octets).items (reading closed octets).ending (reading_shaped closed octets)

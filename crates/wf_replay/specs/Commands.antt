@@ -1,14 +1,9 @@
 -- The commands, by the words of the command line.
-use Rattle.std.specs.Prelude.{ℕ, ◌^◌, ◌-◌, ◌==◌, nat_le, Bool, not, ◌&&◌, ◌||◌, List, [], ◌∷◌, length, codes, Option, Some, None, if◌then◌else◌, slice_index}
-use Rattle.std.specs.List.{list_all}
+use Rattle.std.specs.Prelude.{ℕ, ◌^◌, ◌-◌, nat_le, ◌&&◌, List, [], ◌∷◌, codes, Option, Some, None, if◌then◌else◌}
 use Rattle.std.specs.Str.{bytes_eq}
-use Rattle.wf_trace.specs.Words.{is_digit, value_from}
+use Rattle.wf_trace.specs.Words.{is_plain_number, value_from}
 use Rattle.wf_replay.specs.declared.words.Command.{Command}
 use Rattle.wf_replay.specs.declared.words.Command.TheVariants.{Replay, Soak}
-
--- decimal digits without a sign and without a needless zero in front
-abbrev pub is_plain_number : List ℕ → Bool
-is_plain_number word = nat_le 1 (length word) && list_all is_digit word && (length word == 1 || not (slice_index word 0 == 48))
 
 -- the number that a word is, where it lies between two
 abbrev pub number_within : ℕ → ℕ → List ℕ → Option ℕ

@@ -3,6 +3,7 @@ use Rattle.std.specs.Prelude.{◌≡◌, List, Some}
 use Rattle.wf_frame.specs.declared.settings.Config.{Config}
 use Rattle.wf_rules.specs.Lengths.{greatest_body}
 use Rattle.wf_world.specs.Run.{Entry}
+use Rattle.wf_rules.specs.Lengths.{greatest_body}
 use Rattle.wf_laws.specs.Laws.{Laws}
 use Rattle.wf_laws.specs.Queues.{HaveLengths, AreAtMost}
 use Rattle.wf_trace.specs.Reading.{Reading}
@@ -12,7 +13,8 @@ use Rattle.wf_replay.specs.Texts.{settings_among, history_among}
 abbrev pub HasLengths : List Entry → Type 0
 HasLengths history = HaveLengths history × AreAtMost greatest_body history
 
--- Where a trace has a head, the laws hold of the run of its calls: the window law, the deficit law, the fairness law, and the others. And its frames have the lengths
--- that some of these ask for.
+-- Where a trace has a head, the laws hold of the run of its calls: the window law, the deficit law, the fairness
+-- law, and the others. And its frames have the lengths that some of these ask for.
 abbrev pub HasLaws : Reading → Type 0
-HasLaws r = (config : Config) → settings_among r.items ≡ Some config → Laws config (history_among r.items) × HasLengths (history_among r.items)
+HasLaws r = (config : Config) → settings_among r.items ≡ Some config →
+    Laws config (history_among r.items) × HasLengths (history_among r.items)

@@ -3,7 +3,9 @@
 ghost use Rattle.std.specs.Prelude.{◌≡◌, ◌≤◌, ◌^◌, IsTrue, true, MatchOption, map, string_bytes};
 ghost use Rattle.std.specs.List.{list_all};
 ghost use Rattle.wf_trace.specs.Words.{is_digit, value_from};
-ghost use Rattle.wf_replay.specs.Commands.{is_plain_number, number_within, soak_of, command_of};
+ghost use Rattle.wf_replay.specs.Commands.{number_within, soak_of, command_of};
+
+use wf_trace::is_plain_number;
 
 /// What the words of the command line ask for.
 #[derive(Clone, Copy, Debug, PartialEq, Eq)]
@@ -12,21 +14,6 @@ pub enum Command {
     Replay,
     /// Play the soak of this seed, and of so many calls: 1 to 1,000,000.
     Soak { seed: u64, calls: u32 },
-}
-
-fn are_digits(word: &[u8]) -> bool
-    ensures { result ≡ list_all is_digit word.now }
-{
-    word.iter().all(|octet| b'0' <= *octet && *octet <= b'9')
-}
-
-fn is_plain(word: &[u8]) -> bool
-    ensures { result ≡ is_plain_number word.now }
-{
-    match word {
-        [] => false,
-        [first, more @ ..] => are_digits(word) && (more.is_empty() || *first != b'0'),
-    }
 }
 
 /// The value of digits, unless it goes past 64 bits.
@@ -49,7 +36,7 @@ fn value_of(digits: &[u8]) -> Option<u64>
 fn number_within(low: u64, high: u64, word: &[u8]) -> Option<u64>
     ensures { result ≡ number_within low high word.now }
 {
-    if !is_plain(word) {
+    if !is_plain_number(word) {
         return None;
     }
     match value_of(word) {

@@ -3,7 +3,8 @@ use Rattle.std.specs.Prelude.{◌≡◌, ℕ, List, [], ◌∷◌, ◌++◌, Opt
 use Rattle.std.specs.List.{concat}
 use Rattle.std.specs.Io.KnownBytes.{append_known}
 use Rattle.wf_world.specs.World.{World, is_live, live_stations}
-use Rattle.wf_world.specs.Text.{line, share_lines, tally_words, traffic_map, with_traffic, hex}
+use Rattle.wf_frame.specs.Words.{line}
+use Rattle.wf_world.specs.Text.{share_lines, tally_words, traffic_map, with_traffic, hex}
 
 -- octets of a text's front were written
 pub record HoldsFront (old new : Option (List ℕ)) (text : List ℕ) : Type 0 where

@@ -1,23 +1,10 @@
 //! Parts of lines: names, and hexadecimal digits.
 
 ghost use Rattle.std.specs.Prelude.{◌≡◌, ◌+◌, ◌^◌, ◌<◌, ◌≤◌, ◌++◌, length};
-ghost use Rattle.wf_world.specs.Text.{class_name as name_of_class, fate_name as name_of_fate, hex, hex_digit as digit_of};
+ghost use Rattle.wf_world.specs.Text.{fate_name as name_of_fate, hex, hex_digit as digit_of};
 
-use wf_frame::{Cause, Class, Fate};
+use wf_frame::{Cause, Fate};
 use wf_io::Line;
-
-/// The word of a class.
-pub fn class_name(class: Class) -> &'static [u8]
-    ensures name { result.now ≡ name_of_class class }
-    ensures short { length result.now ≤ 2 }
-{
-    match class {
-        Class::Bk => b"bk",
-        Class::Be => b"be",
-        Class::Vi => b"vi",
-        Class::Vo => b"vo",
-    }
-}
 
 /// The word of a fate.
 pub fn fate_name(fate: Fate) -> &'static [u8]

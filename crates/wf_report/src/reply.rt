@@ -7,7 +7,7 @@ ghost use Rattle.wf_world.specs.Text.{answer_line, reply_words, refusal_words, p
 ghost use Rattle.wf_frame.specs.declared.notes.ReplyNote.TheVariants.{Accepted, Send};
 ghost use Rattle.wf_report.specs.Replies.{refusal_name, refusal_numbers, pair_text};
 
-use crate::parts::{class_name, fate_name, push_hex};
+use crate::parts::{fate_name, push_hex};
 use wf_frame::{Ids, Pairs, Part, Refusal, ReplyNote};
 use wf_io::{Line, Word};
 
@@ -311,7 +311,7 @@ fn push_reply(note: &ReplyNote, out: &mut Line)
         ReplyNote::Slept => start(out, b"slept", &[]),
         ReplyNote::Woken => start(out, b"woken", &[]),
         ReplyNote::Credited { class } => {
-            start(out, b"polled", &[Word::Text(class_name(*class))]);
+            start(out, b"polled", &[Word::Text(class.word())]);
         }
         ReplyNote::Charged { deficit } => start(out, b"charged", &[Word::Signed(*deficit)]),
         ReplyNote::Reaped { id, fate } => {

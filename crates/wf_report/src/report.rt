@@ -6,10 +6,11 @@ ghost use Rattle.std.specs.Io.KnownBytes.{append_known};
 ghost use Rattle.wf_io.specs.Faults.{HasRisen, CountsFaults};
 ghost use Rattle.wf_io.specs.Words.{text_of, width_of};
 ghost use Rattle.wf_world.specs.World.{live_stations, share};
-ghost use Rattle.wf_world.specs.Text.{line, summary as summary_of, share_line, share_lines, hex};
+ghost use Rattle.wf_frame.specs.Words.{line};
+ghost use Rattle.wf_world.specs.Text.{summary as summary_of, share_line, share_lines, hex};
 ghost use Rattle.wf_report.specs.Fronts.{HoldsFront, counts_of, lines_of, shares_of, map_line};
 
-use crate::parts::{class_name, push_hex};
+use crate::parts::push_hex;
 use crate::runs::{Runs, Stopped};
 use wf_frame::{Cause, Class, Fate};
 use wf_io::{Failed, Line, Sink, Word, write_all};
@@ -104,7 +105,7 @@ fn push_share<M: Runs>(machine: &M, station: u32, class: Class, out: &mut Line)
         b"sta",
         &[
             Word::Number(u64::from(station)),
-            Word::Text(class_name(class)),
+            Word::Text(class.word()),
             Word::Text(b"charged"),
             Word::Number(share.charged),
             Word::Text(b"rx"),

@@ -11,3 +11,4 @@ pub mod Rotation
 pub mod Loop
 pub mod Session
 pub mod Receiver
+pub mod Tim

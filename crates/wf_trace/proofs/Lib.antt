@@ -8,3 +8,4 @@ pub mod ItemLaws
 pub mod HeadLaws
 pub mod Parted
 pub mod PlaceLaws
+pub mod PrintLaws

@@ -3,8 +3,8 @@ use Rattle.std.specs.Prelude.{◌≡◌, ℕ, ◌+◌, ◌-◌, List, [], ◌∷
 use Rattle.std.specs.Io.KnownBytes.{prepend_known}
 use Rattle.wf_io.specs.declared.source.Failed.{Failed}
 use Rattle.wf_trace.specs.declared.fault.End.{End}
-use Rattle.wf_trace.specs.Lines.{Texts}
-use Rattle.wf_trace.specs.Scanning.{Scanning, texts_from, texts_behind}
+use Rattle.wf_trace.specs.Lines.{Texts, most}
+use Rattle.wf_trace.specs.Scanning.{Scanning, untouched, texts_from, texts_behind}
 
 -- the octets taken, whether their line was given, and whether no more are
 pub record Cutting : Type 0 where
@@ -12,12 +12,17 @@ pub record Cutting : Type 0 where
   pub given : Bool
   pub ended : Option End
 
+-- a cutter that has taken nothing
+abbrev pub fresh : Cutting
+fresh = record { scanner = untouched; given = false; ended = None }
+
 -- the texts that still come where these octets follow, and the input ends with them if closed
 abbrev pub to_come_of : Option End → Bool → Scanning → Bool → List ℕ → Texts
 to_come_of (Some end) given scanner closed more = record { texts = []; ending = Some end }
 to_come_of None true scanner closed more = texts_behind scanner closed more
 to_come_of None false scanner closed more = texts_from scanner closed more
 
+-- the texts that still come where these octets follow a cutter's
 abbrev pub to_come : Cutting → Bool → List ℕ → Texts
 to_come c closed more = to_come_of c.ended c.given c.scanner closed more
 
@@ -28,19 +33,23 @@ Fits (Some end) left closed more = (closed ≡ true) × (left ≡ Some more)
 
 -- what was to come before a call, by its answer and what is to come after it
 abbrev pub Follows : Result (Option End) Failed → Cutting → Texts → Texts → Type 0
-Follows (Ok None) new before after = before ≡ record { texts = new.scanner.line ∷ after.texts; ending = after.ending }
+Follows (Ok None) new before after =
+    before ≡ record { texts = new.scanner.line ∷ after.texts; ending = after.ending }
 Follows (Ok (Some end)) new before after = (new.ended ≡ Some end) × (before ≡ after)
 Follows (Err failed) new before after = before ≡ after
 
 -- the octets that a call took, and what it gave of them
-pub record Takes (old : Cutting) (left : Option (List ℕ)) (result : Result (Option End) Failed) (new : Cutting) (left_new : Option (List ℕ)) (octets : List ℕ) : Type 0 where
+pub record Takes (old : Cutting) (left : Option (List ℕ)) (result : Result (Option End) Failed)
+    (new : Cutting) (left_new : Option (List ℕ)) (octets : List ℕ) : Type 0 where
   pub taken : left ≡ prepend_known octets left_new
-  pub gives : (closed : Bool) (more : List ℕ) → Fits new.ended left_new closed more → Follows result new (to_come old closed (octets ++ more)) (to_come new closed more)
+  pub gives : (closed : Bool) (more : List ℕ) → Fits new.ended left_new closed more →
+      Follows result new (to_come old closed (octets ++ more)) (to_come new closed more)
 
--- how much may still come before the end
+-- how many octets may still be looked at, and one more as long as the end is not known: no line is cut without one of them
 abbrev pub room_of : ℕ → Option End → ℕ
-room_of looked None = (268435456 - looked) + 1
-room_of looked (Some end) = 268435456 - looked
+room_of looked None = (most - looked) + 1
+room_of looked (Some end) = most - looked
 
+-- the same of a cutter
 abbrev pub room : Cutting → ℕ
 room c = room_of c.scanner.looked c.ended

@@ -1,6 +1,6 @@
--- What can be wrong with a trace: the order of the kinds within a line, and the line that tells of a fault.
-use Rattle.std.specs.Prelude.{ℕ, List, [], ◌∷◌, ◌++◌, codes, decimal, nat_le, if◌then◌else◌, Option, Some, None}
-use Rattle.std.specs.List.{join_with_byte}
+-- What can be wrong with a trace: the order of the kinds within a line, and the fault line.
+use Rattle.std.specs.Prelude.{ℕ, List, [], ◌∷◌, codes, decimal, nat_le, if◌then◌else◌, Option, Some, None}
+use Rattle.wf_frame.specs.Words.{line}
 use Rattle.wf_trace.specs.declared.fault.Fault.{Fault}
 use Rattle.wf_trace.specs.declared.fault.FaultKind.{FaultKind}
 use Rattle.wf_trace.specs.declared.fault.FaultKind.TheVariants as kind
@@ -42,5 +42,4 @@ kind_name kind.TooLong = codes "too-long"
 
 -- `fault line N KIND`, and the octet 10
 abbrev pub fault_line : Fault → List ℕ
-fault_line fault =
-    join_with_byte 32 (codes "fault" ∷ codes "line" ∷ decimal fault.line ∷ kind_name fault.kind ∷ []) ++ 10 ∷ []
+fault_line fault = line (codes "fault" ∷ codes "line" ∷ decimal fault.line ∷ kind_name fault.kind ∷ [])

@@ -1,14 +1,16 @@
 -- The call lines of a trace: a word and arguments for each call.
-use Rattle.std.specs.Prelude.{ℕ, List, [], ◌∷◌, codes, Option, Some, None, Result, Ok, Err, find, position}
+use Rattle.std.specs.Prelude.{ℕ, List, [], ◌∷◌, codes, Bool, true, false, if◌then◌else◌, Option, Some, None, Result, Ok, Err, find, option_map}
 use Rattle.std.specs.Str.{bytes_eq}
 use Rattle.wf_trace.specs.declared.fault.FaultKind.{FaultKind}
 use Rattle.wf_trace.specs.declared.fault.FaultKind.TheVariants as kind
 use Rattle.wf_trace.specs.declared.call.Call.{Call}
 use Rattle.wf_trace.specs.declared.call.Call.TheVariants.{Join, Leave, Rate, Tick, Enq, Pull, Arrive, Answer, Done, Sleep, Wake, Poll, Rx, Reap}
 use Rattle.wf_trace.specs.declared.call.Arg.{Arg}
-use Rattle.wf_trace.specs.declared.call.Arg.TheVariants.{Number, Optional, Word}
-use Rattle.wf_trace.specs.declared.call.Vocabulary.{Vocabulary}
-use Rattle.wf_trace.specs.declared.call.Vocabulary.TheVariants.{Class, Guard, Heard}
+use Rattle.wf_trace.specs.declared.call.Arg.TheVariants.{Short, Octet, Long, Length, Weight, Class, Guard, Heard}
+use Rattle.wf_trace.specs.declared.call.Value.{Value}
+use Rattle.wf_trace.specs.declared.call.Value.TheVariants as value
+use Rattle.wf_rules.specs.Lengths.{greatest_body}
+use Rattle.wf_frame.specs.Classes.{class_named}
 use Rattle.wf_trace.specs.Faults.{earlier}
 use Rattle.wf_trace.specs.Words.{number_of, in_range}
 
@@ -29,75 +31,111 @@ word_of Poll = codes "poll"
 word_of Rx = codes "rx"
 word_of Reap = codes "reap"
 
+-- all calls
 abbrev pub calls : List Call
-calls = Join ∷ Leave ∷ Rate ∷ Tick ∷ Enq ∷ Pull ∷ Arrive ∷ Answer ∷ Done ∷ Sleep ∷ Wake ∷ Poll ∷ Rx ∷ Reap ∷ []
+calls =
+    Join ∷ Leave ∷ Rate ∷ Tick ∷ Enq ∷ Pull ∷ Arrive ∷ Answer ∷ Done ∷ Sleep ∷ Wake ∷ Poll ∷ Rx ∷ Reap ∷ []
 
+-- the call that a word names
 abbrev pub call_named : List ℕ → Option Call
 call_named word = find (λ call. bytes_eq (word_of call) word) calls
 
 -- what its arguments may be, in order
-abbrev pub short_number : Arg
-short_number = Number 0 65535
-
-abbrev pub octet_number : Arg
-octet_number = Number 0 255
-
-abbrev pub long_number : Arg
-long_number = Number 0 4294967295
-
 abbrev pub args_of : Call → List Arg
-args_of Join = short_number ∷ short_number ∷ short_number ∷ octet_number ∷ Optional 0 255 1 ∷ []
-args_of Leave = short_number ∷ []
-args_of Rate = short_number ∷ octet_number ∷ octet_number ∷ Word Guard ∷ []
-args_of Tick = long_number ∷ []
-args_of Enq = short_number ∷ octet_number ∷ long_number ∷ Number 1 2304 ∷ []
-args_of Pull = Word Class ∷ []
-args_of Arrive = long_number ∷ short_number ∷ []
-args_of Answer = long_number ∷ []
-args_of Done = long_number ∷ Word Heard ∷ []
-args_of Sleep = short_number ∷ []
-args_of Wake = short_number ∷ []
-args_of Poll = short_number ∷ []
-args_of Rx = short_number ∷ Word Class ∷ long_number ∷ []
+args_of Join = Short ∷ Short ∷ Short ∷ Octet ∷ Weight ∷ []
+args_of Leave = Short ∷ []
+args_of Rate = Short ∷ Octet ∷ Octet ∷ Guard ∷ []
+args_of Tick = Long ∷ []
+args_of Enq = Short ∷ Octet ∷ Long ∷ Length ∷ []
+args_of Pull = Class ∷ []
+args_of Arrive = Long ∷ Short ∷ []
+args_of Answer = Long ∷ []
+args_of Done = Long ∷ Heard ∷ []
+args_of Sleep = Short ∷ []
+args_of Wake = Short ∷ []
+args_of Poll = Short ∷ []
+args_of Rx = Short ∷ Class ∷ Long ∷ []
 args_of Reap = []
 
--- the words that may stand for an argument
-abbrev pub vocabulary : Vocabulary → List (List ℕ)
-vocabulary Class = codes "bk" ∷ codes "be" ∷ codes "vi" ∷ codes "vo" ∷ []
-vocabulary Guard = codes "long" ∷ codes "short" ∷ []
-vocabulary Heard = codes "heard" ∷ codes "lost" ∷ []
+-- the greatest number of 8 bits
+abbrev pub octet_most : ℕ
+octet_most = 255
 
--- the value of an argument, a word's being its place
-abbrev pub among : Option ℕ → Result ℕ FaultKind
+-- the greatest number of 16 bits
+abbrev pub short_most : ℕ
+short_most = 65535
+
+-- the greatest number of 32 bits
+abbrev pub long_most : ℕ
+long_most = 4294967295
+
+-- the weight of a station whose `join` names none
+abbrev pub weight_default : ℕ
+weight_default = 1
+
+-- the word of a guard interval
+abbrev pub guard_word : Bool → List ℕ
+guard_word short = if short then codes "short" else codes "long"
+
+-- the word that tells whether an answer was heard
+abbrev pub heard_word : Bool → List ℕ
+heard_word heard = if heard then codes "heard" else codes "lost"
+
+-- the value that a word is, where the argument is one of some words
+abbrev pub known_value : Arg → List ℕ → Option Value
+known_value Class word = option_map value.Class (class_named word)
+known_value Guard word =
+    option_map value.Guard (find (λ short. bytes_eq (guard_word short) word) (false ∷ true ∷ []))
+known_value Heard word =
+    option_map value.Heard (find (λ heard. bytes_eq (heard_word heard) word) (true ∷ false ∷ []))
+known_value Short word = None
+known_value Octet word = None
+known_value Long word = None
+known_value Length word = None
+known_value Weight word = None
+
+-- a result by what its value shows
+abbrev pub seen : {X Y : Type 0} → (X → Y) → Result X FaultKind → Result Y FaultKind
+seen f (Ok x) = Ok (f x)
+seen f (Err fault) = Err fault
+
+-- a value, or the fault that the word is none of its words
+abbrev pub among : Option Value → Result Value FaultKind
 among None = Err kind.Word
-among (Some place) = Ok place
+among (Some value) = Ok value
 
-abbrev pub read_arg : Arg → List ℕ → Result ℕ FaultKind
-read_arg (Number low high) word = in_range low high (number_of word)
-read_arg (Optional low high default) word = in_range low high (number_of word)
-read_arg (Word v) word = among (position (λ known. bytes_eq known word) (vocabulary v))
+-- the value of an argument, by its word
+abbrev pub read_arg : Arg → List ℕ → Result Value FaultKind
+read_arg Short word = seen value.Short (in_range 0 short_most (number_of word))
+read_arg Octet word = seen value.Octet (in_range 0 octet_most (number_of word))
+read_arg Long word = seen value.Long (in_range 0 long_most (number_of word))
+read_arg Length word = seen value.Short (in_range 1 greatest_body (number_of word))
+read_arg Weight word = seen value.Octet (in_range 0 octet_most (number_of word))
+read_arg Class word = among (known_value Class word)
+read_arg Guard word = among (known_value Guard word)
+read_arg Heard word = among (known_value Heard word)
 
 -- the value of an argument for which no word is left
-abbrev pub absent_arg : Arg → Result ℕ FaultKind
-absent_arg (Number low high) = Err kind.Count
-absent_arg (Optional low high default) = Ok default
-absent_arg (Word v) = Err kind.Count
+abbrev pub absent_arg : Arg → Result Value FaultKind
+absent_arg Weight = Ok (value.Octet weight_default)
+absent_arg Short = Err kind.Count
+absent_arg Octet = Err kind.Count
+absent_arg Long = Err kind.Count
+absent_arg Length = Err kind.Count
+absent_arg Class = Err kind.Count
+absent_arg Guard = Err kind.Count
+absent_arg Heard = Err kind.Count
 
 -- a value and others, or the earliest of the faults
-abbrev pub both : Result ℕ FaultKind → Result (List ℕ) FaultKind → Result (List ℕ) FaultKind
+abbrev pub both : Result Value FaultKind → Result (List Value) FaultKind → Result (List Value) FaultKind
 both (Ok value) (Ok values) = Ok (value ∷ values)
 both (Ok value) (Err fault) = Err fault
 both (Err fault) (Ok values) = Err fault
 both (Err one) (Err two) = Err (earlier one two)
 
 -- the values of the arguments that the words of a line are
-abbrev pub read_args : List Arg → List (List ℕ) → Result (List ℕ) FaultKind
+abbrev pub read_args : List Arg → List (List ℕ) → Result (List Value) FaultKind
 read_args [] [] = Ok []
 read_args [] (word ∷ words) = Err kind.Count
 read_args (arg ∷ args) [] = both (absent_arg arg) (read_args args [])
 read_args (arg ∷ args) (word ∷ words) = both (read_arg arg word) (read_args args words)
-
--- a result by what its value shows
-abbrev pub seen : {X Y : Type 0} → (X → Y) → Result X FaultKind → Result Y FaultKind
-seen f (Ok x) = Ok (f x)
-seen f (Err fault) = Err fault

@@ -6,6 +6,7 @@ pub mod Faults
 pub mod Pieces
 pub mod Numbering
 pub mod Grammar
+pub mod Printing
 pub mod Notes
 pub mod Meanings
 pub mod Reading

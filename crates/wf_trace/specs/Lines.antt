@@ -24,13 +24,15 @@ lines closed at (octet ∷ octets) =
     if octet == 10 then record { octets = []; end = at + 1 } ∷ lines closed (at + 1) octets
     else onto closed octet (at + 1) (lines closed (at + 1) octets)
 
--- the most octets of a trace, and of a line
+-- the most octets of a trace up to the end of its `end` line, 2^28
 abbrev pub most : ℕ
 most = 268435456
 
+-- the most octets of a line, without its octet 10
 abbrev pub longest : ℕ
 longest = 160
 
+-- a printable character of ASCII, or the space
 abbrev pub is_printable : ℕ → Bool
 is_printable octet = nat_le 32 octet && nat_le octet 126
 

@@ -3,19 +3,18 @@ use Rattle.std.specs.Prelude.{◌≡◌, ℕ, ◌<◌, List, [], ◌∷◌, code
 use Rattle.std.specs.Str.{bytes_eq}
 use Rattle.wf_trace.specs.declared.fault.FaultKind.{FaultKind}
 use Rattle.wf_trace.specs.declared.fault.FaultKind.TheVariants as kind
-use Rattle.wf_trace.specs.declared.call.Arg.TheVariants.{Number}
 use Rattle.wf_frame.specs.declared.settings.Config.{Config}
 use Rattle.wf_frame.specs.declared.notes.Note.{Note}
 use Rattle.wf_trace.specs.declared.meaning.Meaning.{Meaning}
 use Rattle.wf_trace.specs.declared.meaning.Meaning.TheVariants.{Head, Entry, Finish}
 use Rattle.wf_trace.specs.declared.meaning.Place.{Place}
 use Rattle.wf_trace.specs.Faults.{earlier}
-use Rattle.wf_trace.specs.Grammar.{read_arg}
+use Rattle.wf_trace.specs.Words.{number_of, in_range}
 use Rattle.wf_trace.specs.Notes.{read_call}
 use Rattle.wf_frame.specs.Settings.{standard}
 use Rattle.wf_trace.specs.Settings.{read_words}
 
--- the settings of the head
+-- the settings that the words behind `cell` name, and the standard ones for the others
 abbrev pub read_head : List (List ℕ) → Result Config FaultKind
 read_head words = read_words words (replicate 12 false) standard
 
@@ -23,25 +22,38 @@ read_head words = read_words words (replicate 12 false) standard
 abbrev pub allowed : ℕ → Option Place → Result Note FaultKind → Result Meaning FaultKind
 allowed caller place (Err fault) = Err fault
 allowed caller None (Ok note) = Err kind.NoHead
-allowed caller (Some place) (Ok note) = if nat_le place.limit place.count then Err kind.TooLong else Ok (Entry caller note)
+allowed caller (Some place) (Ok note) =
+    if nat_le place.limit place.count then Err kind.TooLong else Ok (Entry caller note)
 
+-- the call that words name, of a caller, where it may stand
 abbrev pub entry_of : ℕ → Option Place → List (List ℕ) → Result Meaning FaultKind
 entry_of caller place words = allowed caller place (read_call words)
 
--- a call behind the word of its caller
+-- the greatest number of a caller
+abbrev pub greatest_caller : ℕ
+greatest_caller = 65535
+
+-- the caller that the octets behind @ name
+abbrev pub caller_of : List ℕ → Result ℕ FaultKind
+caller_of octets = in_range 0 greatest_caller (number_of octets)
+
+-- the fault of a caller, or an earlier one of the call behind it
 abbrev pub against : FaultKind → Result Meaning FaultKind → Result Meaning FaultKind
 against fault (Ok meaning) = Err fault
 against fault (Err other) = Err (earlier fault other)
 
+-- a call behind the word of its caller, which may be at fault itself
 abbrev pub caller_first : Result ℕ FaultKind → Option Place → List (List ℕ) → Result Meaning FaultKind
 caller_first (Ok caller) place words = entry_of caller place words
 caller_first (Err fault) place words = against fault (entry_of 0 place words)
 
+-- the head, where none stood before
 abbrev pub headed : Option Place → Result Config FaultKind → Result Meaning FaultKind
 headed (Some place) read = Err kind.Word
 headed None (Ok config) = Ok (Head config)
 headed None (Err fault) = Err fault
 
+-- the `end` line, which has no other word and stands behind a head
 abbrev pub finished : Option Place → List (List ℕ) → Result Meaning FaultKind
 finished place (word ∷ words) = Err kind.Count
 finished None [] = Err kind.NoHead
@@ -54,22 +66,25 @@ named place word words =
     else if bytes_eq word (codes "end") then finished place words
     else entry_of 0 place (word ∷ words)
 
+-- what a line says by its words: behind a word that begins with @ stands a call
 abbrev pub meant : Option Place → List (List ℕ) → Result Meaning FaultKind
 meant place [] = Err kind.Word
 meant place ([] ∷ words) = Err kind.Word
 meant place ((octet ∷ octets) ∷ words) =
-    if octet == 64 then caller_first (read_arg (Number 0 65535) octets) place words
+    if octet == 64 then caller_first (caller_of octets) place words
     else named place (octet ∷ octets) words
 
--- the word of a head, and its settings
+-- whether words are those of a head
 abbrev pub is_head : List (List ℕ) → Bool
 is_head [] = false
 is_head (word ∷ words) = bytes_eq word (codes "cell")
 
+-- settings, where none is at fault
 abbrev pub settings_if : Result Config FaultKind → Option Config
 settings_if (Ok config) = Some config
 settings_if (Err fault) = None
 
+-- the settings of a head, by its words
 abbrev pub settings_of : List (List ℕ) → Option Config
 settings_of [] = None
 settings_of (word ∷ words) = settings_if (read_head words)

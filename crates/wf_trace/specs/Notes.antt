@@ -1,66 +1,135 @@
 -- Calls as numbers, and the line that names one.
-use Rattle.std.specs.Prelude.{ℕ, ◌-◌, ◌≤◌, ◌==◌, zero, suc, List, [], ◌∷◌, length, Option, Some, None, Result, Ok, Err, slice_index}
+use Rattle.std.specs.Prelude.{ℕ, Bool, false, List, [], ◌∷◌, Option, Some, None, Result, Ok, Err, slice_get}
 use Rattle.wf_trace.specs.declared.fault.FaultKind.{FaultKind}
 use Rattle.wf_trace.specs.declared.fault.FaultKind.TheVariants as kind
 use Rattle.wf_trace.specs.declared.call.Call.{Call}
 use Rattle.wf_trace.specs.declared.call.Call.TheVariants as call
-use Rattle.wf_trace.specs.declared.call.Arg.{Arg}
-use Rattle.wf_trace.specs.declared.call.Arg.TheVariants.{Number, Optional, Word}
+use Rattle.wf_trace.specs.declared.call.Value.{Value}
+use Rattle.wf_trace.specs.declared.call.Value.TheVariants as value
 use Rattle.wf_frame.specs.declared.classes.Class.{Class}
-use Rattle.wf_frame.specs.declared.classes.Class.TheVariants.{Bk, Be, Vi, Vo}
+use Rattle.wf_frame.specs.declared.classes.Class.TheVariants.{Bk}
 use Rattle.wf_frame.specs.declared.notes.Note.{Note}
 use Rattle.wf_frame.specs.declared.notes.Note.TheVariants.{Enqueue, Asked}
 use Rattle.wf_frame.specs.declared.notes.Ask.TheVariants.{Join, Leave, Rate, Tick, Pull, Arrive, Answer, Done, Sleep, Wake, Poll, Rx, Reap}
-use Rattle.wf_trace.specs.Grammar.{call_named, args_of, read_args, vocabulary}
+use Rattle.wf_trace.specs.Grammar.{call_named, args_of, read_args}
 
-abbrev pub class_of : ℕ → Class
-class_of zero = Bk
-class_of (suc zero) = Be
-class_of (suc (suc zero)) = Vi
-class_of (suc (suc (suc n))) = Vo
+-- Each argument's value has the kind that its argument gives, so the other kinds and None are unreached below.
 
--- the call with these arguments
-abbrev pub note_of : Call → List ℕ → Note
-note_of call.Join values = Asked (Join (slice_index values 0) (slice_index values 1) (slice_index values 2) (slice_index values 3) (slice_index values 4))
-note_of call.Leave values = Asked (Leave (slice_index values 0))
-note_of call.Rate values = Asked (Rate (slice_index values 0) (slice_index values 1) (slice_index values 2) (slice_index values 3 == 1))
-note_of call.Tick values = Asked (Tick (slice_index values 0))
-note_of call.Enq values = Enqueue (slice_index values 0) (slice_index values 1) (slice_index values 2) (slice_index values 3)
-note_of call.Pull values = Asked (Pull (class_of (slice_index values 0)))
-note_of call.Arrive values = Asked (Arrive (slice_index values 0) (slice_index values 1))
-note_of call.Answer values = Asked (Answer (slice_index values 0))
-note_of call.Done values = Asked (Done (slice_index values 0) (slice_index values 1 == 0))
-note_of call.Sleep values = Asked (Sleep (slice_index values 0))
-note_of call.Wake values = Asked (Wake (slice_index values 0))
-note_of call.Poll values = Asked (Poll (slice_index values 0))
-note_of call.Rx values = Asked (Rx (slice_index values 0) (class_of (slice_index values 1)) (slice_index values 2))
+-- a number of 16 bits, of a value
+abbrev pub short_in : Option Value → ℕ
+short_in (Some (value.Short s)) = s
+short_in (Some (value.Octet x)) = 0
+short_in (Some (value.Long x)) = 0
+short_in (Some (value.Class x)) = 0
+short_in (Some (value.Guard x)) = 0
+short_in (Some (value.Heard x)) = 0
+short_in None = 0
+
+-- the same, of the value at a place
+abbrev pub short_at : List Value → ℕ → ℕ
+short_at values i = short_in (slice_get values i)
+
+-- a number of 8 bits, of a value
+abbrev pub octet_in : Option Value → ℕ
+octet_in (Some (value.Octet o)) = o
+octet_in (Some (value.Short x)) = 0
+octet_in (Some (value.Long x)) = 0
+octet_in (Some (value.Class x)) = 0
+octet_in (Some (value.Guard x)) = 0
+octet_in (Some (value.Heard x)) = 0
+octet_in None = 0
+
+-- the same, of the value at a place
+abbrev pub octet_at : List Value → ℕ → ℕ
+octet_at values i = octet_in (slice_get values i)
+
+-- a number of 32 bits, of a value
+abbrev pub long_in : Option Value → ℕ
+long_in (Some (value.Long l)) = l
+long_in (Some (value.Short x)) = 0
+long_in (Some (value.Octet x)) = 0
+long_in (Some (value.Class x)) = 0
+long_in (Some (value.Guard x)) = 0
+long_in (Some (value.Heard x)) = 0
+long_in None = 0
+
+-- the same, of the value at a place
+abbrev pub long_at : List Value → ℕ → ℕ
+long_at values i = long_in (slice_get values i)
+
+-- a class, of a value
+abbrev pub class_in : Option Value → Class
+class_in (Some (value.Class c)) = c
+class_in (Some (value.Short x)) = Bk
+class_in (Some (value.Octet x)) = Bk
+class_in (Some (value.Long x)) = Bk
+class_in (Some (value.Guard x)) = Bk
+class_in (Some (value.Heard x)) = Bk
+class_in None = Bk
+
+-- the same, of the value at a place
+abbrev pub class_at : List Value → ℕ → Class
+class_at values i = class_in (slice_get values i)
+
+-- whether the guard interval is short, of a value
+abbrev pub guard_in : Option Value → Bool
+guard_in (Some (value.Guard g)) = g
+guard_in (Some (value.Short x)) = false
+guard_in (Some (value.Octet x)) = false
+guard_in (Some (value.Long x)) = false
+guard_in (Some (value.Class x)) = false
+guard_in (Some (value.Heard x)) = false
+guard_in None = false
+
+-- the same, of the value at a place
+abbrev pub guard_at : List Value → ℕ → Bool
+guard_at values i = guard_in (slice_get values i)
+
+-- whether the answer was heard, of a value
+abbrev pub heard_in : Option Value → Bool
+heard_in (Some (value.Heard h)) = h
+heard_in (Some (value.Short x)) = false
+heard_in (Some (value.Octet x)) = false
+heard_in (Some (value.Long x)) = false
+heard_in (Some (value.Class x)) = false
+heard_in (Some (value.Guard x)) = false
+heard_in None = false
+
+-- the same, of the value at a place
+abbrev pub heard_at : List Value → ℕ → Bool
+heard_at values i = heard_in (slice_get values i)
+
+-- the call with the values of its arguments
+abbrev pub note_of : Call → List Value → Note
+note_of call.Join values =
+    Asked (Join (short_at values 0) (short_at values 1) (short_at values 2) (octet_at values 3) (octet_at values 4))
+note_of call.Leave values = Asked (Leave (short_at values 0))
+note_of call.Rate values =
+    Asked (Rate (short_at values 0) (octet_at values 1) (octet_at values 2) (guard_at values 3))
+note_of call.Tick values = Asked (Tick (long_at values 0))
+note_of call.Enq values =
+    Enqueue (short_at values 0) (octet_at values 1) (long_at values 2) (short_at values 3)
+note_of call.Pull values = Asked (Pull (class_at values 0))
+note_of call.Arrive values = Asked (Arrive (long_at values 0) (short_at values 1))
+note_of call.Answer values = Asked (Answer (long_at values 0))
+note_of call.Done values = Asked (Done (long_at values 0) (heard_at values 1))
+note_of call.Sleep values = Asked (Sleep (short_at values 0))
+note_of call.Wake values = Asked (Wake (short_at values 0))
+note_of call.Poll values = Asked (Poll (short_at values 0))
+note_of call.Rx values = Asked (Rx (short_at values 0) (class_at values 1) (long_at values 2))
 note_of call.Reap values = Asked Reap
 
--- each argument is in its range
-abbrev pub low_of : Arg → ℕ
-low_of (Number low high) = low
-low_of (Optional low high default) = low
-low_of (Word v) = 0
-
-abbrev pub high_of : Arg → ℕ
-high_of (Number low high) = high
-high_of (Optional low high default) = high
-high_of (Word v) = length (vocabulary v) - 1
-
-abbrev pub Within : List Arg → List ℕ → Type 0
-Within [] values = Unit {0}
-Within (arg ∷ args) [] = ⊥
-Within (arg ∷ args) (value ∷ values) = (low_of arg ≤ value) × (value ≤ high_of arg) × Within args values
-
--- the call that the words of a line name
-abbrev pub noted : Call → Result (List ℕ) FaultKind → Result Note FaultKind
+-- the call, where its arguments were read
+abbrev pub noted : Call → Result (List Value) FaultKind → Result Note FaultKind
 noted call (Ok values) = Ok (note_of call values)
 noted call (Err fault) = Err fault
 
+-- the call that a name and the words behind it name
 abbrev pub called : Option Call → List (List ℕ) → Result Note FaultKind
 called None words = Err kind.Word
 called (Some call) words = noted call (read_args (args_of call) words)
 
+-- the call that the words of a line name
 abbrev pub read_call : List (List ℕ) → Result Note FaultKind
 read_call [] = Err kind.Word
 read_call (name ∷ words) = called (call_named name) words

@@ -6,11 +6,20 @@ use Rattle.wf_trace.specs.declared.scanner.Found.{Found}
 use Rattle.wf_trace.specs.declared.scanner.Found.TheVariants as found
 use Rattle.wf_trace.specs.Lines.{Line, Texts, texts_of, before, flaw}
 
--- how many octets were looked at, the begun line up to 161 octets, and the octets that were taken and not looked at
+-- how many octets were looked at, the begun line up to 161 octets, and the octets that were taken and not
+-- looked at
 pub record Scanning : Type 0 where
   pub looked : ℕ
   pub line : List ℕ
   pub waiting : List ℕ
+
+-- how many octets are taken from a source at once, at most
+abbrev pub buffer_size : ℕ
+buffer_size = 4096
+
+-- nothing was taken
+abbrev pub untouched : Scanning
+untouched = record { looked = 0; line = []; waiting = [] }
 
 -- the begun line, where no octet 10 comes any more
 abbrev pub rest_line : Bool → ℕ → List ℕ → List Line
@@ -33,8 +42,13 @@ texts_from s closed more = texts_of closed (lines_behind closed s.looked s.line 
 abbrev pub texts_behind : Scanning → Bool → List ℕ → Texts
 texts_behind s closed more = texts_of closed (lines_behind closed s.looked [] (s.waiting ++ more))
 
--- what was found among the octets: no end of a line, the end of the begun line, or that it goes past the end of any trace
+-- what was found among the octets: no end of a line, the end of the begun line, or that it goes past the end of
+-- any trace
 abbrev pub Finds : Scanning → Option Found → Scanning → Type 0
-Finds old None new = (closed : Bool) (more : List ℕ) → texts_from old closed more ≡ texts_from new closed more
-Finds old (Some found.Line) new = (closed : Bool) (more : List ℕ) → texts_from old closed more ≡ before (flaw new.looked new.line) new.line (texts_behind new closed more)
-Finds old (Some found.TooBig) new = (more : List ℕ) → texts_from old true more ≡ record { texts = []; ending = Some (Flaw TooBig) }
+Finds old None new =
+    (closed : Bool) (more : List ℕ) → texts_from old closed more ≡ texts_from new closed more
+Finds old (Some found.Line) new =
+    (closed : Bool) (more : List ℕ) → texts_from old closed more ≡
+    before (flaw new.looked new.line) new.line (texts_behind new closed more)
+Finds old (Some found.TooBig) new =
+    (more : List ℕ) → texts_from old true more ≡ record { texts = []; ending = Some (Flaw TooBig) }

@@ -3,15 +3,14 @@ use Rattle.std.specs.Prelude.{ℕ, List, [], ◌∷◌, codes, Bool, true, false
 use Rattle.std.specs.Str.{bytes_eq}
 use Rattle.wf_trace.specs.declared.fault.FaultKind.{FaultKind}
 use Rattle.wf_trace.specs.declared.fault.FaultKind.TheVariants as kind
-use Rattle.wf_trace.specs.declared.call.Arg.{Arg}
-use Rattle.wf_trace.specs.declared.call.Arg.TheVariants.{Number}
 use Rattle.wf_frame.specs.declared.settings.Config.{Config}
 use Rattle.wf_frame.specs.declared.settings.Field.{Field}
 use Rattle.wf_frame.specs.declared.settings.Field.TheVariants.{Stations, Flows, Limit, Room, FlowQuantum, Quantum, Inflight, Attempts, Agg, Cap, Sleeping, Calls}
 use Rattle.wf_frame.specs.Settings.{fields, lowest_of, greatest_of, with_value}
 use Rattle.wf_trace.specs.Faults.{earlier}
-use Rattle.wf_trace.specs.Grammar.{read_arg}
+use Rattle.wf_trace.specs.Words.{number_of, in_range}
 
+-- the name of a setting in a head
 abbrev pub name_of : Field → List ℕ
 name_of Stations = codes "stations"
 name_of Flows = codes "flows"
@@ -26,11 +25,13 @@ name_of Cap = codes "cap"
 name_of Sleeping = codes "sleeping"
 name_of Calls = codes "calls"
 
+-- the setting of a name
 abbrev pub field_named : List ℕ → Option Field
 field_named word = find (λ field. bytes_eq (name_of field) word) fields
 
-abbrev pub range_of : Field → Arg
-range_of field = Number (lowest_of field) (greatest_of field)
+-- the value of a setting, by its text
+abbrev pub value_read : Field → List ℕ → Result ℕ FaultKind
+value_read field text = in_range (lowest_of field) (greatest_of field) (number_of text)
 
 -- its number in the table
 abbrev pub place_of : Field → ℕ
@@ -47,15 +48,17 @@ place_of Cap = 9
 place_of Sleeping = 10
 place_of Calls = 11
 
--- what stands before the first =, and behind it
+-- an octet in front of what stands before the =
 abbrev pub grown : ℕ → Option (List ℕ × List ℕ) → Option (List ℕ × List ℕ)
 grown octet None = None
 grown octet (Some p) = Some (octet ∷ p.0, p.1)
 
+-- what stands before the first =, and behind it
 abbrev pub split_once : List ℕ → Option (List ℕ × List ℕ)
 split_once [] = None
 split_once (octet ∷ octets) = if octet == 61 then Some ([], octets) else grown octet (split_once octets)
 
+-- a setting beside the text of its value
 abbrev pub beside : Option Field → List ℕ → Option (Field × List ℕ)
 beside None value = None
 beside (Some field) value = Some (field, value)
@@ -70,19 +73,24 @@ abbrev pub worse : FaultKind → Result Config FaultKind → Result Config Fault
 worse fault (Ok config) = Err fault
 worse fault (Err other) = Err (earlier fault other)
 
+-- whether a setting was named before
 abbrev pub was_seen : List Bool → Field → Bool
 was_seen seen field = slice_index_or seen (place_of field) false
 
 -- a value in its place, and the other settings
-abbrev pub placed : Result ℕ FaultKind → Field → Config → (Config → Result Config FaultKind) → Result Config FaultKind
+abbrev pub placed : Result ℕ FaultKind → Field → Config → (Config → Result Config FaultKind) →
+    Result Config FaultKind
 placed (Ok value) field config others = others (with_value config field value)
 placed (Err fault) field config others = worse fault (others config)
 
-abbrev pub set_one : Option (Field × List ℕ) → List Bool → Config → (List Bool → Config → Result Config FaultKind) → Result Config FaultKind
+-- what one word sets, and what the others do: a word that names no setting, or one that was named, is at fault
+abbrev pub set_one : Option (Field × List ℕ) → List Bool → Config →
+    (List Bool → Config → Result Config FaultKind) → Result Config FaultKind
 set_one None seen config others = worse kind.Word (others seen config)
 set_one (Some p) seen config others =
     if was_seen seen p.0 then worse kind.Word (others seen config)
-    else placed (read_arg (range_of p.0) p.1) p.0 config (others (slice_set seen (place_of p.0) true))
+    else placed (value_read p.0 p.1) p.0 config
+    (others (slice_set seen (place_of p.0) true))
 
 -- the settings of these words, behind those that were named
 abbrev pub read_words : List (List ℕ) → List Bool → Config → Result Config FaultKind

@@ -1,63 +1,97 @@
 //! The arguments of a line.
 
-ghost use Rattle.std.specs.Prelude.{◌≡◌, ◌≤◌, ◌∷◌, List, length, position};
-ghost use Rattle.std.specs.Str.{bytes_eq};
-ghost use Rattle.wf_trace.specs.Words.{words};
+ghost use Rattle.std.specs.Prelude.{◌≡◌, ◌≤◌, ◌∷◌, List, length, IfOk};
+ghost use Rattle.wf_trace.specs.Words.{words, number_of, in_range};
+ghost use Rattle.wf_trace.specs.Faults.{first_fault};
 ghost use Rattle.wf_trace.specs.declared.call.Arg.{Arg as Kind};
-ghost use Rattle.wf_trace.specs.Grammar.{read_arg, absent_arg, vocabulary as known_words, seen, both, read_args};
+ghost use Rattle.wf_trace.specs.Grammar.{octet_most, long_most, known_value, read_arg, absent_arg, seen, both, read_args};
 
-use crate::call::{Arg, Vocabulary};
+use crate::call::{Arg, Value};
 use crate::fault::{FaultKind, first_of};
 use crate::words::{in_range, next_word};
 use arrayvec::ArrayVec;
+use wf_frame::{Class, GREATEST_BODY};
 
-// The place of a word in a vocabulary.
-fn place(vocabulary: Vocabulary, word: &[u8]) -> Option<u32>
-    ensures { result ≡ position (λ known. bytes_eq known word.now) (known_words vocabulary) }
+// A number from low to high.
+fn number_in(low: u32, high: u32, word: &[u8]) -> Result<u32, FaultKind>
+    ensures reads { result ≡ in_range low high (number_of word.now) }
+    ensures within { IfOk result (λ n. (low ≤ n) × (n ≤ high)) }
 {
-    match vocabulary {
-        Vocabulary::Class => match word {
-            b"bk" => Some(0),
-            b"be" => Some(1),
-            b"vi" => Some(2),
-            b"vo" => Some(3),
-            _ => None,
-        },
-        Vocabulary::Guard => match word {
-            b"long" => Some(0),
-            b"short" => Some(1),
-            _ => None,
-        },
-        Vocabulary::Heard => match word {
-            b"heard" => Some(0),
-            b"lost" => Some(1),
-            _ => None,
-        },
+    in_range(low, high, word)
+}
+
+// A number of 16 bits, from low to high.
+fn short(low: u16, high: u16, word: &[u8]) -> Result<Value, FaultKind>
+    ensures { result ≡ seen Value.Short (in_range low high (number_of word.now)) }
+{
+    match number_in(u32::from(low), u32::from(high), word) {
+        Ok(number) => Ok(Value::Short(number as u16)),
+        Err(fault) => Err(fault),
     }
 }
 
-/// The value of the argument that a word is; a word's own value is its place in the vocabulary.
-pub fn read_one(arg: Arg, word: &[u8]) -> Result<u32, FaultKind>
+// A number of 8 bits.
+fn octet(word: &[u8]) -> Result<Value, FaultKind>
+    ensures { result ≡ seen Value.Octet (in_range 0 octet_most (number_of word.now)) }
+{
+    match number_in(0, u32::from(u8::MAX), word) {
+        Ok(number) => Ok(Value::Octet(number as u8)),
+        Err(fault) => Err(fault),
+    }
+}
+
+// A number of 32 bits.
+fn long(word: &[u8]) -> Result<Value, FaultKind>
+    ensures { result ≡ seen Value.Long (in_range 0 long_most (number_of word.now)) }
+{
+    match in_range(0, u32::MAX, word) {
+        Ok(number) => Ok(Value::Long(number)),
+        Err(fault) => Err(fault),
+    }
+}
+
+// One of the words that an argument may be.
+fn known(arg: Arg, word: &[u8]) -> Option<Value>
+    ensures { result ≡ known_value arg word.now }
+{
+    match (arg, word) {
+        (Arg::Class, _) => match Class::named(word) {
+            Some(class) => Some(Value::Class(class)),
+            None => None,
+        },
+        (Arg::Guard, b"long") => Some(Value::Guard(false)),
+        (Arg::Guard, b"short") => Some(Value::Guard(true)),
+        (Arg::Heard, b"heard") => Some(Value::Heard(true)),
+        (Arg::Heard, b"lost") => Some(Value::Heard(false)),
+        _ => None,
+    }
+}
+
+// The value of the argument that a word is.
+fn read_one(arg: Arg, word: &[u8]) -> Result<Value, FaultKind>
     ensures { result ≡ read_arg arg word.now }
 {
     match arg {
-        Arg::Number { low, high } | Arg::Optional { low, high, .. } => in_range(low, high, word),
-        Arg::Word(vocabulary) => place(vocabulary, word).ok_or(FaultKind::Word),
+        Arg::Short => short(0, u16::MAX, word),
+        Arg::Octet | Arg::Weight => octet(word),
+        Arg::Long => long(word),
+        Arg::Length => short(1, GREATEST_BODY, word),
+        Arg::Class | Arg::Guard | Arg::Heard => known(arg, word).ok_or(FaultKind::Word),
     }
 }
 
 // The value of an argument that no word stands for.
-fn absent(arg: Arg) -> Result<u32, FaultKind>
+fn absent(arg: Arg) -> Result<Value, FaultKind>
     ensures { result ≡ absent_arg arg }
 {
     match arg {
-        Arg::Optional { default, .. } => Ok(default),
-        Arg::Number { .. } | Arg::Word(_) => Err(FaultKind::Count),
+        Arg::Weight => Ok(Value::Octet(1)),
+        _ => Err(FaultKind::Count),
     }
 }
 
 // The value of the next argument of a line, and what is behind it.
-fn next_arg(arg: Arg, line: &[u8]) -> (Result<u32, FaultKind>, &[u8])
+fn next_arg(arg: Arg, line: &[u8]) -> (Result<Value, FaultKind>, &[u8])
     ensures { (args : List Kind) → read_args (arg ∷ args) (words line.now) ≡ both result.0 (read_args args (words result.1.now)) }
 {
     match next_word(line) {
@@ -67,7 +101,7 @@ fn next_arg(arg: Arg, line: &[u8]) -> (Result<u32, FaultKind>, &[u8])
 }
 
 /// The values of a line's arguments, or the fault that it is judged by.
-pub fn read_all(args: &[Arg], line: &[u8]) -> Result<ArrayVec<u32, 5>, FaultKind>
+pub fn read_all(args: &[Arg], line: &[u8]) -> Result<ArrayVec<Value, 5>, FaultKind>
     requires { length args.now ≤ 5 }
     ensures { seen (λ values. values.items) result ≡ read_args args.now (words line.now) }
 {

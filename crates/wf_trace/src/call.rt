@@ -3,6 +3,8 @@
 ghost use Rattle.std.specs.Prelude.{◌≡◌, ◌≤◌, length};
 ghost use Rattle.wf_trace.specs.Grammar.{word_of, call_named, args_of};
 
+use wf_frame::Class;
+
 /// The calls that a line can name.
 #[derive(Clone, Copy, Debug, PartialEq, Eq)]
 pub enum Call {
@@ -22,53 +24,45 @@ pub enum Call {
     Reap,
 }
 
-/// What a word that stands for an argument is taken from.
+/// What an argument may be.
 #[derive(Clone, Copy, Debug, PartialEq, Eq)]
-pub enum Vocabulary {
+pub enum Arg {
+    /// A number 0 to 65535.
+    Short,
+    /// A number 0 to 255.
+    Octet,
+    /// A number 0 to 4294967295.
+    Long,
+    /// The length of a frame: 1 to 2304 octets.
+    Length,
+    /// A weight, 0 to 255, which is 1 where it is left out.
+    Weight,
     /// `bk`, `be`, `vi` or `vo`.
     Class,
-    /// `long` or `short`: the guard interval.
+    /// `long` or `short`.
     Guard,
     /// `heard` or `lost`.
     Heard,
 }
 
-/// What an argument may be.
+/// What the word of an argument says.
 #[derive(Clone, Copy, Debug, PartialEq, Eq)]
-pub enum Arg {
-    /// A number in a range.
-    Number { low: u32, high: u32 },
-    /// A number in a range that may be left out, for the default.
-    Optional { low: u32, high: u32, default: u32 },
-    /// A word.
-    Word(Vocabulary),
+pub enum Value {
+    Short(u16),
+    Octet(u8),
+    Long(u32),
+    Class(Class),
+    /// The guard interval is the short one.
+    Guard(bool),
+    /// The answer was heard.
+    Heard(bool),
 }
 
-const SHORT: Arg = Arg::Number {
-    low: 0,
-    high: 65_535,
-};
-
-const OCTET: Arg = Arg::Number { low: 0, high: 255 };
-
-const LONG: Arg = Arg::Number {
-    low: 0,
-    high: u32::MAX,
-};
-
-const LENGTH: Arg = Arg::Number { low: 1, high: 2304 };
-
-const WEIGHT: Arg = Arg::Optional {
-    low: 0,
-    high: 255,
-    default: 1,
-};
-
-const CLASS: Arg = Arg::Word(Vocabulary::Class);
-
-const GUARD: Arg = Arg::Word(Vocabulary::Guard);
-
-const HEARD: Arg = Arg::Word(Vocabulary::Heard);
+impl Default for Value {
+    fn default() -> Self {
+        Value::Octet(0)
+    }
+}
 
 const CALLS: [Call; 14] = [
     Call::Join,
@@ -124,19 +118,19 @@ impl Call {
         ensures most { length result.now ≤ 5 }
     {
         match self {
-            Call::Join => &[SHORT, SHORT, SHORT, OCTET, WEIGHT],
-            Call::Leave => &[SHORT],
-            Call::Rate => &[SHORT, OCTET, OCTET, GUARD],
-            Call::Tick => &[LONG],
-            Call::Enq => &[SHORT, OCTET, LONG, LENGTH],
-            Call::Pull => &[CLASS],
-            Call::Arrive => &[LONG, SHORT],
-            Call::Answer => &[LONG],
-            Call::Done => &[LONG, HEARD],
-            Call::Sleep => &[SHORT],
-            Call::Wake => &[SHORT],
-            Call::Poll => &[SHORT],
-            Call::Rx => &[SHORT, CLASS, LONG],
+            Call::Join => &[Arg::Short, Arg::Short, Arg::Short, Arg::Octet, Arg::Weight],
+            Call::Leave => &[Arg::Short],
+            Call::Rate => &[Arg::Short, Arg::Octet, Arg::Octet, Arg::Guard],
+            Call::Tick => &[Arg::Long],
+            Call::Enq => &[Arg::Short, Arg::Octet, Arg::Long, Arg::Length],
+            Call::Pull => &[Arg::Class],
+            Call::Arrive => &[Arg::Long, Arg::Short],
+            Call::Answer => &[Arg::Long],
+            Call::Done => &[Arg::Long, Arg::Heard],
+            Call::Sleep => &[Arg::Short],
+            Call::Wake => &[Arg::Short],
+            Call::Poll => &[Arg::Short],
+            Call::Rx => &[Arg::Short, Arg::Class, Arg::Long],
             Call::Reap => &[],
         }
     }

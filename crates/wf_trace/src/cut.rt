@@ -34,6 +34,7 @@ pub struct Cut {
 
 impl Model for Cut {
     ghost use Rattle.std.specs.Prelude.{◌≤◌, ◌+◌};
+    ghost use Rattle.wf_trace.specs.Lines.{most};
     ghost use Rattle.wf_trace.specs.Cutting.{room};
     ghost use Rattle.wf_trace.specs.Numbering.{Numbering, IsLastPiece};
 
@@ -41,7 +42,7 @@ impl Model for Cut {
 
     ghost view = { λ c. record { cutter = c.cutter; line = c.line + 1; ended = c.ended } };
 
-    ghost invariant = { λ c. (c.line + room c.cutter ≤ 268435457) × IsLastPiece c.ended };
+    ghost invariant = { λ c. (c.line + room c.cutter ≤ most + 1) × IsLastPiece c.ended };
 }
 
 impl Cut {
@@ -51,7 +52,8 @@ impl Cut {
 
     /// A cutter at the front of an input. It takes its buffer of 4096 octets here, and no memory later.
     pub fn new(alloc: Global) -> Result<Self, AllocError>
-        ensures pieces { IfOk result (λ c. (closed : Bool) (octets : List ℕ) → pieces_left c closed octets ≡ pieces closed octets) }
+        ensures pieces { IfOk result (λ c.
+            (closed : Bool) (octets : List ℕ) → pieces_left c closed octets ≡ pieces closed octets) }
         ensures fresh { IfOk result (λ c. c.ended ≡ None) }
     {
         let cutter = Cutter::new(alloc)?;
@@ -87,7 +89,8 @@ impl Cut {
     // The next piece, of which the first octets may be looked at.
     fn advance<S: Source>(&mut self, source: &mut S) -> Result<Piece, Failed>
         requires { self.old.ended ≡ None }
-        ensures cuts { (octets : List ℕ) × Cuts self.old (S.left source.old) result self.new (S.left source.new) octets }
+        ensures cuts { (octets : List ℕ) ×
+            Cuts self.old (S.left source.old) result self.new (S.left source.new) octets }
         ensures text { OnText result (HasText self.new) }
         ensures held { OnErr result (HasNoLine self.new) }
         ensures progress { OnText result (room self.new.cutter < room self.old.cutter) }
@@ -111,8 +114,10 @@ impl Cut {
     /// The next piece. After Ended or Bad every later call answers the same. Failed only where the source's faults rose;
     /// then the octets taken are kept, and a later call goes on from there. It takes no memory.
     pub fn next<S: Source>(&mut self, source: &mut S) -> Result<Piece, Failed>
-        ensures again { IfSome self.old.ended (λ piece. (result ≡ Ok piece) × (self.new ≡ self.old) × (S.left source.new ≡ S.left source.old)) }
-        ensures cuts { (octets : List ℕ) × Cuts self.old (S.left source.old) result self.new (S.left source.new) octets }
+        ensures again { IfSome self.old.ended (λ piece.
+            (result ≡ Ok piece) × (self.new ≡ self.old) × (S.left source.new ≡ S.left source.old)) }
+        ensures cuts { (octets : List ℕ) ×
+            Cuts self.old (S.left source.old) result self.new (S.left source.new) octets }
         ensures text { OnText result (HasText self.new) }
         ensures held { OnErr result (HasNoLine self.new) }
         ensures progress { OnText result (room self.new.cutter < room self.old.cutter) }

@@ -54,10 +54,10 @@ impl Model for Cutter {
 }
 
 impl Cutter {
-    ghost use Rattle.wf_trace.specs.Cutting.{Cutting, Takes, Follows, to_come, room};
+    ghost use Rattle.wf_trace.specs.Cutting.{fresh, Takes, Follows, to_come, room};
 
     pub fn new(alloc: Global) -> Result<Self, AllocError>
-        ensures { IfOk result (λ c. c ≡ record { scanner = record { looked = 0; line = []; waiting = [] }; given = false; ended = None }) }
+        ensures { IfOk result (λ c. c ≡ fresh) }
     {
         let scanner = Scanner::new(alloc)?;
         Ok(Cutter {
@@ -78,7 +78,8 @@ impl Cutter {
     fn judge(&mut self) -> Option<End>
         ensures { MatchOption (flaw self.old.scanner.looked self.old.scanner.line)
             ((result ≡ None) × (self.new ≡ record self.old { given = true }))
-            (λ kind. (result ≡ Some (End.Flaw kind)) × (self.new ≡ record self.old { ended = Some (End.Flaw kind) })) }
+            (λ kind. (result ≡ Some (End.Flaw kind))
+            × (self.new ≡ record self.old { ended = Some (End.Flaw kind) })) }
     {
         match flaw_of(self.scanner.looked(), self.scanner.line()) {
             None => {
@@ -117,8 +118,10 @@ impl Cutter {
     fn advance<S: Source>(&mut self, source: &mut S) -> Result<Option<End>, Failed>
         requires going { self.old.ended ≡ None }
         requires fresh { self.old.given ≡ false }
-        ensures takes { (octets : List ℕ) × Takes self.old (S.left source.old) result self.new (S.left source.new) octets }
-        ensures held { OnErr result ((self.new.scanner.waiting ≡ []) × (self.new.given ≡ false) × (self.new.ended ≡ None)) }
+        ensures takes { (octets : List ℕ) ×
+            Takes self.old (S.left source.old) result self.new (S.left source.new) octets }
+        ensures held { OnErr result
+            ((self.new.scanner.waiting ≡ []) × (self.new.given ≡ false) × (self.new.ended ≡ None)) }
         ensures given { result ≡ Ok None → self.new.given ≡ true }
         ensures progress { result ≡ Ok None → room self.new < room self.old }
         ensures grows { room self.new ≤ room self.old }
@@ -143,8 +146,10 @@ impl Cutter {
     /// Cuts the next line. Else why no more comes, which is then answered again at each call. After a failure the octets
     /// taken are kept.
     pub fn next<S: Source>(&mut self, source: &mut S) -> Result<Option<End>, Failed>
-        ensures takes { (octets : List ℕ) × Takes self.old (S.left source.old) result self.new (S.left source.new) octets }
-        ensures held { OnErr result ((self.new.scanner.waiting ≡ []) × (self.new.given ≡ false) × (self.new.ended ≡ None)) }
+        ensures takes { (octets : List ℕ) ×
+            Takes self.old (S.left source.old) result self.new (S.left source.new) octets }
+        ensures held { OnErr result
+            ((self.new.scanner.waiting ≡ []) × (self.new.given ≡ false) × (self.new.ended ≡ None)) }
         ensures given { result ≡ Ok None → self.new.given ≡ true }
         ensures progress { result ≡ Ok None → room self.new < room self.old }
         ensures grows { room self.new ≤ room self.old }

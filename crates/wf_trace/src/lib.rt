@@ -1,5 +1,5 @@
-//! Traces: octets of a source cut into lines, the words of a line and the numbers that they are, and lines read as the calls
-//! of a machine.
+//! Traces: octets of a source cut into lines, the words of a line and the numbers that they are, lines read
+//! as the calls of a machine, and calls printed as lines.
 #![tactic(auto)]
 
 mod args;
@@ -9,6 +9,7 @@ mod cutter;
 mod fault;
 mod meaning;
 mod note;
+mod print;
 mod reader;
 mod scanner;
 mod settings;
@@ -16,8 +17,9 @@ mod words;
 
 pub use cut::{Cut, Piece};
 pub use fault::{Fault, FaultKind, first_of, print_fault};
+pub use print::print_note;
 pub use reader::{Item, TraceReader};
-pub use words::{in_range, next_word, number};
+pub use words::{in_range, is_plain_number, next_word, number};
 
 #[cfg(test)]
 mod tests;

@@ -1,19 +1,16 @@
 //! What a line says in its place.
 
-ghost use Rattle.std.specs.Prelude.{◌≡◌, ◌∷◌, slice_index};
+ghost use Rattle.std.specs.Prelude.{◌≡◌, ◌∷◌};
 ghost use Rattle.wf_trace.specs.Words.{words};
 ghost use Rattle.wf_trace.specs.Notes.{read_call};
-ghost use Rattle.wf_trace.specs.Meanings.{entry_of, caller_first, meant, named as named_line, HasRoom};
-ghost use Rattle.wf_trace.specs.Grammar.{read_arg};
-ghost use Rattle.wf_trace.specs.declared.call.Arg.TheVariants.{Number};
+ghost use Rattle.wf_trace.specs.Meanings.{entry_of, caller_of, caller_first, meant, named as named_line, HasRoom};
 
-use crate::args::{read_all, read_one};
-use crate::call::{Arg, Call};
+use crate::args::read_all;
+use crate::call::Call;
 use crate::fault::FaultKind;
-use crate::note::made;
+use crate::note::note_from;
 use crate::settings::read_head;
-use crate::words::next_word;
-use arrayvec::ArrayVec;
+use crate::words::{in_range, next_word};
 use wf_frame::{Config, Note};
 
 /// What a line says: it is the head, a call of a caller, or the end.
@@ -31,18 +28,8 @@ pub struct Place {
     pub count: u32,
 }
 
-const CALLER: Arg = Arg::Number {
-    low: 0,
-    high: 65535,
-};
-
-// A value, or 0 where there is none.
-fn value_at(values: &ArrayVec<u32, 5>, i: usize) -> u32
-    ensures { result ≡ slice_index values.now.items i }
-{
-    let values = values.as_slice();
-    if i < values.len() { values[i] } else { 0 }
-}
+/// The greatest number of a caller.
+pub const GREATEST_CALLER: u32 = 65_535;
 
 // The call that a line names.
 fn call(line: &[u8]) -> Result<Note, FaultKind>
@@ -55,14 +42,7 @@ fn call(line: &[u8]) -> Result<Note, FaultKind>
         return Err(FaultKind::Word);
     };
     match read_all(call.args(), rest) {
-        Ok(values) => Ok(made(
-            call,
-            value_at(&values, 0),
-            value_at(&values, 1),
-            value_at(&values, 2),
-            value_at(&values, 3),
-            value_at(&values, 4),
-        )),
+        Ok(values) => Ok(note_from(call, values.as_slice())),
         Err(fault) => Err(fault),
     }
 }
@@ -87,10 +67,10 @@ fn entry(caller: u32, place: Option<Place>, line: &[u8]) -> Result<Meaning, Faul
 
 // A call behind the word of its caller.
 fn called(caller: &[u8], place: Option<Place>, line: &[u8]) -> Result<Meaning, FaultKind>
-    ensures says { result ≡ caller_first (read_arg (Number 0 65535) caller.now) place (words line.now) }
+    ensures says { result ≡ caller_first (caller_of caller.now) place (words line.now) }
     ensures room { HasRoom result place }
 {
-    match read_one(CALLER, caller) {
+    match in_range(0, GREATEST_CALLER, caller) {
         Ok(caller) => entry(caller, place, line),
         Err(fault) => match entry(0, place, line) {
             Ok(_) => Err(fault),

@@ -1,72 +1,126 @@
-//! Calls made of a word and its arguments.
+//! Calls made of a word and the values of its arguments.
 
-ghost use Rattle.std.specs.Prelude.{◌≡◌, ◌<◌, ◌≤◌, [], ◌∷◌};
-ghost use Rattle.wf_trace.specs.Notes.{note_of, class_of, Within};
-ghost use Rattle.wf_trace.specs.Grammar.{args_of};
+ghost use Rattle.std.specs.Prelude.{◌≡◌};
+ghost use Rattle.wf_trace.specs.Notes.{note_of, short_at as short_among, octet_at as octet_among, long_at as long_among, class_at as class_among, guard_at as guard_among, heard_at as heard_among};
 
-use crate::call::Call;
+use crate::call::{Call, Value};
 use wf_frame::{Ask, Class, Note};
 
-// The class that stands at this place in its vocabulary.
-fn class_at(place: u32) -> Class
-    requires { place ≤ 3 }
-    ensures { result ≡ class_of place }
+fn short_at(values: &[Value], i: usize) -> u16
+    ensures { result ≡ short_among values.now i }
 {
-    match place {
-        0 => Class::Bk,
-        1 => Class::Be,
-        2 => Class::Vi,
-        _ => Class::Vo,
+    match values.get(i) {
+        Some(Value::Short(number)) => *number,
+        _ => 0,
     }
 }
 
-/// The call with these arguments, of which it has at most five.
-pub fn made(call: Call, a: u32, b: u32, c: u32, d: u32, e: u32) -> Note
-    requires { Within (args_of call) (a ∷ b ∷ c ∷ d ∷ e ∷ []) }
-    ensures { result ≡ note_of call (a ∷ b ∷ c ∷ d ∷ e ∷ []) }
+fn octet_at(values: &[Value], i: usize) -> u8
+    ensures { result ≡ octet_among values.now i }
 {
-    match call {
-        Call::Join => Note::Asked(Ask::Join {
-            station: a as u16,
-            window: b as u16,
-            start: c as u16,
-            exponent: d as u8,
-            weight: e as u8,
-        }),
-        Call::Leave => Note::Asked(Ask::Leave { station: a as u16 }),
-        Call::Rate => Note::Asked(Ask::Rate {
-            station: a as u16,
-            mcs: b as u8,
-            mhz: c as u8,
-            short: d == 1,
-        }),
-        Call::Tick => Note::Asked(Ask::Tick { by: a }),
-        Call::Enq => Note::Enqueue {
-            station: a as u16,
-            tid: b as u8,
-            flow: c,
-            len: d as u16,
-        },
-        Call::Pull => Note::Asked(Ask::Pull { class: class_at(a) }),
-        Call::Arrive => Note::Asked(Ask::Arrive {
-            exchange: u64::from(a),
-            index: b as u16,
-        }),
-        Call::Answer => Note::Asked(Ask::Answer {
-            exchange: u64::from(a),
-        }),
-        Call::Done => Note::Asked(Ask::Done {
-            exchange: u64::from(a),
-            heard: b == 0,
-        }),
-        Call::Sleep => Note::Asked(Ask::Sleep { station: a as u16 }),
-        Call::Wake => Note::Asked(Ask::Wake { station: a as u16 }),
-        Call::Poll => Note::Asked(Ask::Poll { station: a as u16 }),
-        Call::Rx => Note::Asked(Ask::Rx {
-            station: a as u16,
-            class: class_at(b),
-            air: c,
-        }),
-        Call::Reap => Note::Asked(Ask::Reap),
+    match values.get(i) {
+        Some(Value::Octet(number)) => *number,
+        _ => 0,
     }
+}
+
+fn long_at(values: &[Value], i: usize) -> u32
+    ensures { result ≡ long_among values.now i }
+{
+    match values.get(i) {
+        Some(Value::Long(number)) => *number,
+        _ => 0,
+    }
+}
+
+fn class_at(values: &[Value], i: usize) -> Class
+    ensures { result ≡ class_among values.now i }
+{
+    match values.get(i) {
+        Some(Value::Class(class)) => *class,
+        _ => Class::Bk,
+    }
+}
+
+fn guard_at(values: &[Value], i: usize) -> bool
+    ensures { result ≡ guard_among values.now i }
+{
+    match values.get(i) {
+        Some(Value::Guard(short)) => *short,
+        _ => false,
+    }
+}
+
+fn heard_at(values: &[Value], i: usize) -> bool
+    ensures { result ≡ heard_among values.now i }
+{
+    match values.get(i) {
+        Some(Value::Heard(heard)) => *heard,
+        _ => false,
+    }
+}
+
+/// The call with the values of its arguments in order.
+pub fn note_from(call: Call, values: &[Value]) -> Note
+    ensures { result ≡ note_of call values.now }
+{
+    let ask = match call {
+        Call::Enq => {
+            return Note::Enqueue {
+                station: short_at(values, 0),
+                tid: octet_at(values, 1),
+                flow: long_at(values, 2),
+                len: short_at(values, 3),
+            };
+        }
+        Call::Join => Ask::Join {
+            station: short_at(values, 0),
+            window: short_at(values, 1),
+            start: short_at(values, 2),
+            exponent: octet_at(values, 3),
+            weight: octet_at(values, 4),
+        },
+        Call::Leave => Ask::Leave {
+            station: short_at(values, 0),
+        },
+        Call::Rate => Ask::Rate {
+            station: short_at(values, 0),
+            mcs: octet_at(values, 1),
+            mhz: octet_at(values, 2),
+            short: guard_at(values, 3),
+        },
+        Call::Tick => Ask::Tick {
+            by: long_at(values, 0),
+        },
+        Call::Pull => Ask::Pull {
+            class: class_at(values, 0),
+        },
+        Call::Arrive => Ask::Arrive {
+            exchange: u64::from(long_at(values, 0)),
+            index: short_at(values, 1),
+        },
+        Call::Answer => Ask::Answer {
+            exchange: u64::from(long_at(values, 0)),
+        },
+        Call::Done => Ask::Done {
+            exchange: u64::from(long_at(values, 0)),
+            heard: heard_at(values, 1),
+        },
+        Call::Sleep => Ask::Sleep {
+            station: short_at(values, 0),
+        },
+        Call::Wake => Ask::Wake {
+            station: short_at(values, 0),
+        },
+        Call::Poll => Ask::Poll {
+            station: short_at(values, 0),
+        },
+        Call::Rx => Ask::Rx {
+            station: short_at(values, 0),
+            class: class_at(values, 1),
+            air: long_at(values, 2),
+        },
+        Call::Reap => Ask::Reap,
+    };
+    Note::Asked(ask)
 }

@@ -34,20 +34,27 @@ pub struct Scanner {
 
 impl Model for Scanner {
     ghost use Rattle.std.specs.Prelude.{◌≡◌, ◌≤◌, length, slice_range};
-    ghost use Rattle.wf_trace.specs.Scanning.{Scanning};
+    ghost use Rattle.wf_trace.specs.Lines.{most};
+    ghost use Rattle.wf_trace.specs.Scanning.{Scanning, buffer_size};
 
     ghost Value = { Scanning };
 
-    ghost view = { λ s. record { looked = s.looked; line = s.line.items; waiting = slice_range s.buffer.items s.from s.to } };
+    ghost view = { λ s. record {
+      looked = s.looked;
+      line = s.line.items;
+      waiting = slice_range s.buffer.items s.from s.to;
+    } };
 
-    ghost invariant = { λ s. (s.from ≤ s.to) × (s.to ≤ length s.buffer.items) × (length s.buffer.items ≡ 4096) × (s.looked ≤ 268435456) };
+    ghost invariant = { λ s. (s.from ≤ s.to) × (s.to ≤ length s.buffer.items)
+        × (length s.buffer.items ≡ buffer_size) × (s.looked ≤ most) };
 }
 
 impl Scanner {
-    ghost use Rattle.wf_trace.specs.Scanning.{Finds};
+    ghost use Rattle.wf_trace.specs.Lines.{most};
+    ghost use Rattle.wf_trace.specs.Scanning.{Finds, untouched};
 
     pub fn new(alloc: Global) -> Result<Self, AllocError>
-        ensures { IfOk result (λ s. s ≡ record { looked = 0; line = []; waiting = [] }) }
+        ensures { IfOk result (λ s. s ≡ untouched) }
     {
         let buffer = vec![in alloc; 0; BUFFER]?;
         Ok(Scanner {
@@ -74,7 +81,7 @@ impl Scanner {
 
     pub fn looked(&self) -> u64
         ensures value { result ≡ self.now.looked }
-        ensures most { result ≤ 268435456 }
+        ensures most { result ≤ most }
     {
         self.looked
     }
@@ -86,7 +93,7 @@ impl Scanner {
         ensures looked { IfNone result (self.new.looked ≡ self.old.looked + 1) }
         ensures grows { self.old.looked ≤ self.new.looked }
         ensures line { result ≡ Some Found.Line → self.old.looked < self.new.looked }
-        ensures most { self.new.looked ≤ 268435456 }
+        ensures most { self.new.looked ≤ most }
         ensures finds { Finds self.old result self.new }
     {
         let octet = self.buffer[self.from];
@@ -106,7 +113,7 @@ impl Scanner {
 
     fn is_dry(&self) -> bool
         ensures value { result ≡ (length self.now.waiting == 0) }
-        ensures most { self.now.looked ≤ 268435456 }
+        ensures most { self.now.looked ≤ most }
     {
         self.from == self.to
     }
@@ -118,7 +125,7 @@ impl Scanner {
         ensures looked { IfNone result (self.new.looked ≡ self.old.looked + length self.old.waiting) }
         ensures grows { self.old.looked ≤ self.new.looked }
         ensures line { result ≡ Some Found.Line → self.old.looked < self.new.looked }
-        ensures most { self.new.looked ≤ 268435456 }
+        ensures most { self.new.looked ≤ most }
     {
         while !self.is_dry() {
             if let Some(found) = self.step() {

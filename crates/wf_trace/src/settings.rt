@@ -3,12 +3,10 @@
 ghost use Rattle.std.specs.Prelude.{◌≡◌, ◌<◌, Some, None, List, Bool, Result, MatchOption, replicate, false};
 ghost use Rattle.wf_frame.specs.Settings.{standard};
 ghost use Rattle.wf_trace.specs.Words.{words};
-ghost use Rattle.wf_trace.specs.Settings.{name_of, field_named, range_of, place_of, split_once, named_field, set_one, after_fault, read_words};
+ghost use Rattle.wf_trace.specs.Settings.{name_of, field_named, value_read, place_of, split_once, named_field, set_one, after_fault, read_words};
 
-use crate::args::read_one;
-use crate::call::Arg;
 use crate::fault::{FaultKind, first_of};
-use crate::words::next_word;
+use crate::words::{in_range, next_word};
 use wf_frame::{Config, Field};
 
 // The name of a setting.
@@ -39,12 +37,12 @@ fn named(word: &[u8]) -> Option<Field>
     fields.iter().copied().find(|field| name(*field) == word)
 }
 
-// What its value may be.
-fn range(field: Field) -> Arg
-    ensures { result ≡ range_of field }
+// Its value, where it is in its range.
+fn value_of(field: Field, word: &[u8]) -> Result<u32, FaultKind>
+    ensures { result ≡ value_read field word.now }
 {
     let (low, high) = field.range();
-    Arg::Number { low, high }
+    in_range(low, high, word)
 }
 
 // Its number in the table.
@@ -90,7 +88,7 @@ fn apply(word: &[u8], seen: &mut [bool; 12], config: &mut Config) -> Option<Faul
         return Some(FaultKind::Word);
     }
     seen[place(field)] = true;
-    match read_one(range(field), value) {
+    match value_of(field, value) {
         Ok(value) => {
             field.set(config, value);
             None

@@ -1,9 +1,9 @@
-//! The reader on short traces.
+//! The cutter and the reader on short traces, and the line of each call.
 
-use crate::{Cut, Fault, FaultKind, Item, Piece, TraceReader};
+use crate::{Cut, Fault, FaultKind, Item, Piece, TraceReader, print_note};
 use std::test::Fail;
-use wf_frame::{Ask, Config, Note};
-use wf_io::{Given, Source};
+use wf_frame::{Ask, Class, Config, Note};
+use wf_io::{Given, Line, Source};
 
 #[test]
 fn lines_that_say_something_come_with_their_numbers(rt: HostRuntime) -> Result<(), Fail> {
@@ -77,4 +77,81 @@ fn the_first_fault_is_that_of_the_first_faulty_line(rt: HostRuntime) -> Result<(
         assert!(rt; ending(&mut reader, &mut source) == Some(Item::Bad(Fault { line, kind })));
     }
     Ok(())
+}
+
+#[test]
+fn calls_have_their_lines(rt: HostRuntime) {
+    let join = |weight: u8| Note::Asked(Ask::Join {
+        station: 65535,
+        window: 64,
+        start: 4095,
+        exponent: 3,
+        weight,
+    });
+    let cases: [(u32, Note, &[u8]); 15] = [
+        (0, join(1), b"join 65535 64 4095 3\n"),
+        (3, join(16), b"@3 join 65535 64 4095 3 16\n"),
+        (0, Note::Asked(Ask::Leave { station: 7 }), b"leave 7\n"),
+        (
+            65535,
+            Note::Asked(Ask::Rate {
+                station: 7,
+                mcs: 15,
+                mhz: 40,
+                short: true,
+            }),
+            b"@65535 rate 7 15 40 short\n",
+        ),
+        (
+            0,
+            Note::Asked(Ask::Tick { by: u32::MAX }),
+            b"tick 4294967295\n",
+        ),
+        (
+            1,
+            Note::Enqueue {
+                station: 0,
+                tid: 6,
+                flow: 10,
+                len: 1500,
+            },
+            b"@1 enq 0 6 10 1500\n",
+        ),
+        (0, Note::Asked(Ask::Pull { class: Class::Vo }), b"pull vo\n"),
+        (
+            0,
+            Note::Asked(Ask::Arrive {
+                exchange: 9,
+                index: 0,
+            }),
+            b"arrive 9 0\n",
+        ),
+        (0, Note::Asked(Ask::Answer { exchange: 9 }), b"answer 9\n"),
+        (
+            2,
+            Note::Asked(Ask::Done {
+                exchange: 9,
+                heard: false,
+            }),
+            b"@2 done 9 lost\n",
+        ),
+        (0, Note::Asked(Ask::Sleep { station: 1 }), b"sleep 1\n"),
+        (0, Note::Asked(Ask::Wake { station: 1 }), b"wake 1\n"),
+        (0, Note::Asked(Ask::Poll { station: 1 }), b"poll 1\n"),
+        (
+            0,
+            Note::Asked(Ask::Rx {
+                station: 1,
+                class: Class::Be,
+                air: 248,
+            }),
+            b"rx 1 be 248\n",
+        ),
+        (0, Note::Asked(Ask::Reap), b"reap\n"),
+    ];
+    for (caller, note, want) in &cases {
+        let mut line = Line::new();
+        print_note(*caller, note, &mut line);
+        assert_eq!(rt; line.octets(), *want);
+    }
 }

@@ -2,9 +2,12 @@
 
 ghost use Rattle.std.specs.Prelude.{◌≡◌, ◌+◌, ◌<◌, ◌≤◌, ◌^◌, ◌∷◌, [], ℕ, List, length, MatchOption, IsTrue, ◌≢◌, slice_index};
 ghost use Rattle.std.specs.List.{list_all};
-ghost use Rattle.wf_trace.specs.Words.{words, skipped, is_digit, is_number, number_of, value_from, in_range};
+ghost use Rattle.wf_trace.specs.Words.{words, skipped, is_digit, is_plain_number as is_plain, most_digits, number_of, value_from, in_range};
 
 use crate::fault::FaultKind;
+
+/// The most digits of a number of a trace.
+const MOST_DIGITS: usize = 10;
 
 /// The line behind the spaces at its front.
 fn trimmed(line: &[u8]) -> &[u8]
@@ -62,21 +65,19 @@ fn are_digits(word: &[u8]) -> bool
     word.iter().all(|octet| b'0' <= *octet && *octet <= b'9')
 }
 
-/// One to ten digits without a needless zero.
-fn is_numeral(word: &[u8]) -> bool
-    ensures { result ≡ is_number word.now }
+/// Whether a word is a number: decimal digits without a needless zero in front.
+pub fn is_plain_number(word: &[u8]) -> bool
+    ensures { result ≡ is_plain word.now }
 {
     match word {
         [] => false,
-        [first, more @ ..] => word.len() <= 10
-            && are_digits(word)
-            && (more.is_empty() || *first != b'0'),
+        [first, more @ ..] => are_digits(word) && (more.is_empty() || *first != b'0'),
     }
 }
 
 /// The value of at most ten digits.
 fn value_of(digits: &[u8]) -> u64
-    requires few { length digits.now ≤ 10 }
+    requires few { length digits.now ≤ most_digits }
     requires digits { IsTrue (list_all is_digit digits.now) }
     ensures { result ≡ value_from 0 digits.now }
 {
@@ -87,11 +88,11 @@ fn value_of(digits: &[u8]) -> u64
     value
 }
 
-/// The number that a word is.
+/// The number that a word is: one to ten decimal digits without a needless zero in front. None where it is none.
 pub fn number(word: &[u8]) -> Option<u64>
     ensures { result ≡ number_of word.now }
 {
-    if is_numeral(word) {
+    if word.len() <= MOST_DIGITS && is_plain_number(word) {
         Some(value_of(word))
     } else {
         None

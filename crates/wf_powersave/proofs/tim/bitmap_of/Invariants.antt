@@ -1,5 +1,6 @@
 use Rattle.std.proofs.Common.{◌≡◌, ℕ, ◌<◌, ◌≤◌, IfSome, length, get_or}
-use Rattle.wf_powersave.specs.Tim.{map_octet, ends_of}
+use Rattle.wf_powersave.specs.Tim.{ends_of}
+use Rattle.wf_rules.specs.Tim.{map_octet}
 use Rattle.wf_powersave.proofs.Maps.{below}
 use Rattle.wf_powersave.proofs.tim.bitmap_of.Given as goal
 

@@ -1,7 +1,8 @@
 use Rattle.std.proofs.Common.{◌≡◌, ◌≤◌, ◌<◌, ◌∙◌, ℕ, false, ap, sym, refl, subst, arith, length, take, drop, length-take, length-drop}
 use Rattle.wf_fields.proofs.Places.{then_put}
 use Rattle.wf_powersave.specs.declared.tim.Tim.{Tim}
-use Rattle.wf_powersave.specs.Tim.{IsTim, aids_of, shortest, octets_between}
+use Rattle.wf_powersave.specs.Tim.{IsTim, aids_of, octets_between}
+use Rattle.wf_rules.specs.Tim.{tim_element}
 use Rattle.wf_powersave.proofs.Elements.{element_is, octets_bound, shortest_is_tim}
 use Rattle.wf_powersave.proofs.tim.encode_tim.Goals as goal
 

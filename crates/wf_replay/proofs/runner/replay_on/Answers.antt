@@ -14,7 +14,7 @@ items-init g c = (
   (λ some. rw (c.in-Ok.ensures.fresh.1) at some),
   omega arith,
   omega arith,
-  omega (arith, room_most c.in-Ok.reader.cutter),
+  omega (arith, room_most c.in-Ok.reader.cut.cutter),
   (λ none. refl),
 )
 

@@ -1,6 +1,6 @@
 use Rattle.std.proofs.Common.{arith}
-use Rattle.wf_note.proofs.PrintLaws.{text_read, text_printable}
-use Rattle.wf_note.proofs.print.print_note.Goals as goal
+use Rattle.wf_trace.proofs.PrintLaws.{text_read, text_printable}
+use Rattle.wf_trace.proofs.print.print_note.Goals as goal
 
 pub returns-clause-read : goal.returns-clause-read
 returns-clause-read c = λ place room. text_read c.args.caller c.args.note.now place (omega (arith, c.requires.caller)) c.push_note.ensures.range room

@@ -1,30 +1,20 @@
 //! The canonical line of an entry.
 
-ghost use Rattle.std.specs.Prelude.{◌≡◌, ◌+◌, ◌<◌, ◌≤◌, ◌++◌, ◌∷◌, [], length, map, sum_by, decimal, codes, true, Some, Ok};
+ghost use Rattle.std.specs.Prelude.{◌≡◌, ◌+◌, ◌<◌, ◌≤◌, ◌++◌, ◌∷◌, [], length, map, sum_by, decimal, true, Some, Ok};
 ghost use Rattle.std.specs.List.{join_with_byte, list_all};
 ghost use Rattle.wf_io.specs.Words.{text_of, width_of};
 ghost use Rattle.wf_trace.specs.declared.meaning.Place.{Place};
 ghost use Rattle.wf_trace.specs.declared.meaning.Meaning.TheVariants.{Entry};
-ghost use Rattle.wf_trace.specs.Lines.{is_printable};
+ghost use Rattle.wf_trace.specs.Lines.{is_printable, longest};
+ghost use Rattle.wf_trace.specs.Meanings.{greatest_caller};
 ghost use Rattle.wf_trace.specs.Words.{words as words_of};
 ghost use Rattle.wf_trace.specs.Meanings.{meant};
-ghost use Rattle.wf_note.specs.Printing.{class_word as word_of_class, guard_word as word_of_guard, heard_word as word_of_heard, ask_words, note_words, weight_words, note_text, note_line, IsAskPrintable, IsPrintable, IsAskInRange, IsInRange};
+ghost use Rattle.wf_trace.specs.Grammar.{word_of, guard_word as word_of_guard, heard_word as word_of_heard};
+ghost use Rattle.wf_trace.specs.Printing.{ask_words, note_words, weight_words, note_text, note_line, IsAskPrintable, IsPrintable, IsAskInRange, IsInRange};
 
+use crate::call::Call;
 use wf_frame::{Ask, Class, Note};
 use wf_io::{Line, Word};
-
-// The word of a class.
-fn class_word(class: Class) -> &'static [u8]
-    ensures word { result.now ≡ word_of_class class }
-    ensures short { length result.now ≤ 5 }
-{
-    match class {
-        Class::Bk => b"bk",
-        Class::Be => b"be",
-        Class::Vi => b"vi",
-        Class::Vo => b"vo",
-    }
-}
 
 // The word of a guard interval.
 fn guard_word(short: bool) -> &'static [u8]
@@ -43,26 +33,64 @@ fn heard_word(heard: bool) -> &'static [u8]
 }
 
 // The word of a call, and its arguments behind it, each with one space in front.
-fn push_call(out: &mut Line, name: &'static [u8], words: &[Word])
-    requires { length out.old + length name.now + sum_by (λ w. width_of w + 1) words.now ≤ 8192 }
-    ensures text { out.new ≡ out.old ++ join_with_byte 32 (name.now ∷ map text_of words.now) }
-    ensures len { length out.new ≤ length out.old + length name.now + sum_by (λ w. width_of w + 1) words.now }
+fn push_call(out: &mut Line, call: Call, words: &[Word])
+    requires { length out.old + 6 + sum_by (λ w. width_of w + 1) words.now ≤ 8192 }
+    ensures text { out.new ≡ out.old ++ join_with_byte 32 (word_of call ∷ map text_of words.now) }
+    ensures len { length out.new ≤ length out.old + 6 + sum_by (λ w. width_of w + 1) words.now }
 {
-    out.push_all(name);
+    out.push_all(call.word());
     out.push_words(words);
 }
 
-// A `join`, whose weight is left out where it is 1.
+// A call of a station and nothing else.
+fn push_station(out: &mut Line, call: Call, station: u16)
+    requires { length out.old ≤ 22 }
+    ensures text { out.new ≡ out.old ++ join_with_byte 32 (word_of call ∷ decimal station ∷ []) }
+    ensures len { length out.new ≤ length out.old + 120 }
+{
+    push_call(out, call, &[Word::Number(u64::from(station))]);
+}
+
+// A `join` with these words, whose weight is left out where it is 1.
 fn push_join(out: &mut Line, words: &[Word], weight: u8)
     requires room { length out.old ≤ 22 }
     requires narrow { sum_by (λ w. width_of w + 1) words.now ≤ 84 }
-    ensures text { out.new ≡ out.old ++ join_with_byte 32 (codes "join" ∷ (map text_of words.now ++ weight_words weight)) }
+    ensures text { out.new ≡ out.old ++ join_with_byte 32 (word_of Call.Join ∷ (map text_of words.now ++ weight_words weight)) }
     ensures len { length out.new ≤ length out.old + 120 }
 {
-    push_call(out, b"join", words);
+    push_call(out, Call::Join, words);
     if weight != 1 {
         out.push_words(&[Word::Number(u64::from(weight))]);
     }
+}
+
+// A `rate`.
+fn push_rate(out: &mut Line, station: u16, mcs: u8, mhz: u8, short: bool)
+    requires { length out.old ≤ 22 }
+    ensures text { out.new ≡ out.old ++ join_with_byte 32 (ask_words (Ask.Rate station mcs mhz short)) }
+    ensures len { length out.new ≤ length out.old + 120 }
+{
+    let words = [
+        Word::Number(u64::from(station)),
+        Word::Number(u64::from(mcs)),
+        Word::Number(u64::from(mhz)),
+        Word::Text(guard_word(short)),
+    ];
+    push_call(out, Call::Rate, &words);
+}
+
+// An `rx`.
+fn push_rx(out: &mut Line, station: u16, class: Class, air: u32)
+    requires { length out.old ≤ 22 }
+    ensures text { out.new ≡ out.old ++ join_with_byte 32 (ask_words (Ask.Rx station class air)) }
+    ensures len { length out.new ≤ length out.old + 120 }
+{
+    let words = [
+        Word::Number(u64::from(station)),
+        Word::Text(class.word()),
+        Word::Number(u64::from(air)),
+    ];
+    push_call(out, Call::Rx, &words);
 }
 
 // The words of a call that carries no frame.
@@ -90,52 +118,35 @@ fn push_ask(ask: Ask, out: &mut Line)
             ],
             weight,
         ),
-        Ask::Leave { station } => push_call(out, b"leave", &[Word::Number(u64::from(station))]),
+        Ask::Leave { station } => push_station(out, Call::Leave, station),
         Ask::Rate {
             station,
             mcs,
             mhz,
             short,
-        } => push_call(
-            out,
-            b"rate",
-            &[
-                Word::Number(u64::from(station)),
-                Word::Number(u64::from(mcs)),
-                Word::Number(u64::from(mhz)),
-                Word::Text(guard_word(short)),
-            ],
-        ),
-        Ask::Tick { by } => push_call(out, b"tick", &[Word::Number(u64::from(by))]),
-        Ask::Pull { class } => push_call(out, b"pull", &[Word::Text(class_word(class))]),
+        } => push_rate(out, station, mcs, mhz, short),
+        Ask::Tick { by } => push_call(out, Call::Tick, &[Word::Number(u64::from(by))]),
+        Ask::Pull { class } => push_call(out, Call::Pull, &[Word::Text(class.word())]),
         Ask::Arrive { exchange, index } => push_call(
             out,
-            b"arrive",
+            Call::Arrive,
             &[Word::Number(exchange), Word::Number(u64::from(index))],
         ),
-        Ask::Answer { exchange } => push_call(out, b"answer", &[Word::Number(exchange)]),
+        Ask::Answer { exchange } => push_call(out, Call::Answer, &[Word::Number(exchange)]),
         Ask::Done { exchange, heard } => push_call(
             out,
-            b"done",
+            Call::Done,
             &[Word::Number(exchange), Word::Text(heard_word(heard))],
         ),
-        Ask::Sleep { station } => push_call(out, b"sleep", &[Word::Number(u64::from(station))]),
-        Ask::Wake { station } => push_call(out, b"wake", &[Word::Number(u64::from(station))]),
-        Ask::Poll { station } => push_call(out, b"poll", &[Word::Number(u64::from(station))]),
+        Ask::Sleep { station } => push_station(out, Call::Sleep, station),
+        Ask::Wake { station } => push_station(out, Call::Wake, station),
+        Ask::Poll { station } => push_station(out, Call::Poll, station),
         Ask::Rx {
             station,
             class,
             air,
-        } => push_call(
-            out,
-            b"rx",
-            &[
-                Word::Number(u64::from(station)),
-                Word::Text(class_word(class)),
-                Word::Number(u64::from(air)),
-            ],
-        ),
-        Ask::Reap => push_call(out, b"reap", &[]),
+        } => push_rx(out, station, class, air),
+        Ask::Reap => push_call(out, Call::Reap, &[]),
     }
 }
 
@@ -155,7 +166,7 @@ fn push_note(note: &Note, out: &mut Line)
             len,
         } => push_call(
             out,
-            b"enq",
+            Call::Enq,
             &[
                 Word::Number(u64::from(*station)),
                 Word::Number(u64::from(*tid)),
@@ -173,11 +184,12 @@ fn push_note(note: &Note, out: &mut Line)
 /// Behind a head that allows one more call the line is read as this entry.
 pub fn print_note(caller: u32, note: &Note, out: &mut Line)
     requires empty { out.old ≡ [] }
-    requires caller { caller ≤ 65535 }
+    requires caller { caller ≤ greatest_caller }
     requires printable { IsPrintable note.now }
     ensures line { out.new ≡ note_line caller note.now }
-    ensures read { (place : Place) → place.count < place.limit → meant (Some place) (words_of (note_text caller note.now)) ≡ Ok (Entry caller note.now) }
-    ensures short { length (note_text caller note.now) ≤ 160 }
+    ensures read { (place : Place) → place.count < place.limit →
+        meant (Some place) (words_of (note_text caller note.now)) ≡ Ok (Entry caller note.now) }
+    ensures short { length (note_text caller note.now) ≤ longest }
     ensures plain { list_all is_printable (note_text caller note.now) ≡ true }
 {
     if caller != 0 {

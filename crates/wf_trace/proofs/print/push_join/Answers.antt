@@ -1,8 +1,8 @@
 use Rattle.std.proofs.Common.{◌≡◌, arith}
 use Rattle.std.specs.Prelude.{map, codes}
 use Rattle.wf_io.specs.Words.{text_of}
-use Rattle.wf_note.proofs.PrintLaws.{weight_behind}
-use Rattle.wf_note.proofs.print.push_join.Goals as goal
+use Rattle.wf_trace.proofs.PrintLaws.{weight_behind}
+use Rattle.wf_trace.proofs.print.push_join.Goals as goal
 
 pub returns-then-weight-ne1-clause-text : goal.returns-then-weight-ne1-clause-text
 returns-then-weight-ne1-clause-text c =

@@ -12,21 +12,23 @@ use Rattle.wf_frame.specs.declared.notes.Note.{Note}
 use Rattle.wf_frame.specs.declared.notes.Note.TheVariants.{Enqueue, Asked}
 use Rattle.wf_frame.specs.declared.notes.Ask.{Ask}
 use Rattle.wf_frame.specs.declared.notes.Ask.TheVariants.{Join, Leave, Rate, Tick, Pull, Arrive, Answer, Done, Sleep, Wake, Poll, Rx, Reap}
-use Rattle.wf_frame.specs.Classes.{class_number}
+use Rattle.wf_frame.specs.Classes.{class_word}
+use Rattle.wf_rules.specs.Lengths.{greatest_body}
 use Rattle.wf_io.specs.Words.{spaced}
 use Rattle.wf_io.proofs.Spaces.{join-spaced, spaced-append}
 use Rattle.wf_trace.specs.declared.call.Call.{Call}
 use Rattle.wf_trace.specs.declared.call.Call.TheVariants as call
-use Rattle.wf_trace.specs.declared.call.Arg.TheVariants.{Number, Optional, Word}
-use Rattle.wf_trace.specs.declared.call.Vocabulary.TheVariants as vocabulary
+use Rattle.wf_trace.specs.declared.call.Arg.TheVariants as arg
+use Rattle.wf_trace.specs.declared.call.Value.{Value}
+use Rattle.wf_trace.specs.declared.call.Value.TheVariants.{Short, Octet, Long, Class as TheClass, Guard, Heard}
 use Rattle.wf_trace.specs.declared.meaning.Place.{Place}
 use Rattle.wf_trace.specs.declared.meaning.Meaning.TheVariants.{Entry}
 use Rattle.wf_trace.specs.Lines.{is_printable}
 use Rattle.wf_trace.specs.Words.{words, parts, in_front, is_word, is_digit, is_number, value_from, number_of, in_range}
-use Rattle.wf_trace.specs.Grammar.{word_of, call_named, args_of, read_arg, read_args, short_number, octet_number, long_number}
-use Rattle.wf_trace.specs.Notes.{class_of, note_of, read_call}
+use Rattle.wf_trace.specs.Grammar.{word_of, call_named, args_of, read_arg, read_args, guard_word, heard_word}
+use Rattle.wf_trace.specs.Notes.{note_of, read_call}
 use Rattle.wf_trace.specs.Meanings.{meant, entry_of}
-use Rattle.wf_note.specs.Printing.{class_word, guard_word, heard_word, weight_words, ask_words, note_words, caller_words, note_text, IsAskInRange, IsInRange}
+use Rattle.wf_trace.specs.Printing.{weight_words, ask_words, note_words, caller_words, note_text, IsAskInRange, IsInRange}
 
 own : IsNumeralModel (λ ds. list_all is_digit ds ≡ true) (value_from 0)
 own = numerals_by_fold _ (search rules) value_from (search rules)
@@ -47,7 +49,7 @@ number_of-decimal n small =
     let low : nat_le 1 (length (decimal n)) ≡ true = grind (arith, nat_tests) in
     let high : nat_le (length (decimal n)) 10 ≡ true = grind (arith, nat_tests) in
     let digits = digits_decimal own n fits in
-    let is : is_number (decimal n) ≡ true = rw (low, high, digits, first_digit n fits) refl in
+    let is : is_number (decimal n) ≡ true = rw (high, low, digits, first_digit n fits) refl in
     rw is (ap Some (digits_value-decimal own n fits))
 
 -- and so does each argument
@@ -57,26 +59,28 @@ number_read low high value above below small =
     let two : nat_le value high ≡ true = grind (arith, nat_tests) in
     rw (number_of-decimal value small, one, two) refl
 
-short_read : (n : ℕ) → n < 2 ^ 16 → read_arg short_number (decimal n) ≡ Ok n
-short_read n small = number_read 0 65535 n (omega arith) (omega arith) (omega arith)
+short_read : (n : ℕ) → n < 2 ^ 16 → read_arg arg.Short (decimal n) ≡ Ok (Short n)
+short_read n small = rw (number_read 0 65535 n (omega arith) (omega arith) (omega arith)) refl
 
-octet_read : (n : ℕ) → n < 2 ^ 8 → read_arg octet_number (decimal n) ≡ Ok n
-octet_read n small = number_read 0 255 n (omega arith) (omega arith) (omega arith)
+octet_read : (n : ℕ) → n < 2 ^ 8 → read_arg arg.Octet (decimal n) ≡ Ok (Octet n)
+octet_read n small = rw (number_read 0 255 n (omega arith) (omega arith) (omega arith)) refl
 
-long_read : (n : ℕ) → n < 2 ^ 32 → read_arg long_number (decimal n) ≡ Ok n
-long_read n small = number_read 0 4294967295 n (omega arith) (omega arith) small
+long_read : (n : ℕ) → n < 2 ^ 32 → read_arg arg.Long (decimal n) ≡ Ok (Long n)
+long_read n small = rw (number_read 0 4294967295 n (omega arith) (omega arith) small) refl
 
-class_read : (c : Class) → read_arg (Word vocabulary.Class) (class_word c) ≡ Ok (class_number c)
+class_read : (c : Class) → read_arg arg.Class (class_word c) ≡ Ok (TheClass c)
 class_read Bk = refl
 class_read Be = refl
 class_read Vi = refl
 class_read Vo = refl
 
-class_same : (c : Class) → class_of (class_number c) ≡ c
-class_same Bk = refl
-class_same Be = refl
-class_same Vi = refl
-class_same Vo = refl
+guard_read : (short : Bool) → read_arg arg.Guard (guard_word short) ≡ Ok (Guard short)
+guard_read true = refl
+guard_read false = refl
+
+heard_read : (heard : Bool) → read_arg arg.Heard (heard_word heard) ≡ Ok (Heard heard)
+heard_read true = refl
+heard_read false = refl
 
 -- and every call of the table
 call_read : (c : Call) → call_named (word_of c) ≡ Some c
@@ -95,48 +99,48 @@ call_read call.Poll = refl
 call_read call.Rx = refl
 call_read call.Reap = refl
 
-named_read : (c : Call) (texts : List (List ℕ)) (values : List ℕ) → read_args (args_of c) texts ≡ Ok values → read_call (word_of c ∷ texts) ≡ Ok (note_of c values)
+named_read : (c : Call) (texts : List (List ℕ)) (values : List Value) → read_args (args_of c) texts ≡ Ok values → read_call (word_of c ∷ texts) ≡ Ok (note_of c values)
 named_read c texts values read = rw (call_read c, read) refl
 
 not_one : (n : ℕ) → nat_eq (suc (suc n)) 1 ≡ false
 not_one n = grind (arith, nat_tests)
 
-weight_read : (weight : ℕ) → weight < 2 ^ 8 → read_args (Optional 0 255 1 ∷ []) (weight_words weight) ≡ Ok (weight ∷ [])
+weight_read : (weight : ℕ) → weight < 2 ^ 8 → read_args (arg.Weight ∷ []) (weight_words weight) ≡ Ok (Octet weight ∷ [])
 weight_read zero small = let one = decimal_digit 0 (omega arith) in rw one refl
 weight_read (suc zero) small = refl
-weight_read (suc (suc n)) small = rw (not_one n, number_read 0 255 (suc (suc n)) (omega arith) (omega arith) (omega arith)) refl
+weight_read (suc (suc n)) small = rw (not_one n, octet_read (suc (suc n)) small) refl
 
 -- the words of a call name it
 ask_read : (ask : Ask) → IsAskInRange ask → read_call (ask_words ask) ≡ Ok (Asked ask)
 ask_read (Join station window start exponent weight) r =
-    named_read call.Join (decimal station ∷ decimal window ∷ decimal start ∷ decimal exponent ∷ weight_words weight) (station ∷ window ∷ start ∷ exponent ∷ weight ∷ [])
+    named_read call.Join (decimal station ∷ decimal window ∷ decimal start ∷ decimal exponent ∷ weight_words weight)
+    (Short station ∷ Short window ∷ Short start ∷ Octet exponent ∷ Octet weight ∷ [])
     (rw (short_read station r.0, short_read window r.1, short_read start r.2, octet_read exponent r.3, weight_read weight r.4) refl)
-ask_read (Leave station) r = named_read call.Leave (decimal station ∷ []) (station ∷ []) (rw (short_read station r) refl)
-ask_read (Rate station mcs mhz true) r =
-    named_read call.Rate (decimal station ∷ decimal mcs ∷ decimal mhz ∷ guard_word true ∷ []) (station ∷ mcs ∷ mhz ∷ 1 ∷ []) (rw (short_read station r.0, octet_read mcs r.1, octet_read mhz r.2) refl)
-ask_read (Rate station mcs mhz false) r =
-    named_read call.Rate (decimal station ∷ decimal mcs ∷ decimal mhz ∷ guard_word false ∷ []) (station ∷ mcs ∷ mhz ∷ 0 ∷ []) (rw (short_read station r.0, octet_read mcs r.1, octet_read mhz r.2) refl)
-ask_read (Tick by) r = named_read call.Tick (decimal by ∷ []) (by ∷ []) (rw (long_read by r) refl)
-ask_read (Pull class) r =
-    named_read call.Pull (class_word class ∷ []) (class_number class ∷ []) (rw (class_read class) refl) ∙ ap (λ c. Ok (Asked (Pull c))) (class_same class)
-ask_read (Arrive exchange index) r = named_read call.Arrive (decimal exchange ∷ decimal index ∷ []) (exchange ∷ index ∷ []) (rw (long_read exchange r.0, short_read index r.1) refl)
-ask_read (Answer exchange) r = named_read call.Answer (decimal exchange ∷ []) (exchange ∷ []) (rw (long_read exchange r) refl)
-ask_read (Done exchange true) r = named_read call.Done (decimal exchange ∷ heard_word true ∷ []) (exchange ∷ 0 ∷ []) (rw (long_read exchange r) refl)
-ask_read (Done exchange false) r = named_read call.Done (decimal exchange ∷ heard_word false ∷ []) (exchange ∷ 1 ∷ []) (rw (long_read exchange r) refl)
-ask_read (Sleep station) r = named_read call.Sleep (decimal station ∷ []) (station ∷ []) (rw (short_read station r) refl)
-ask_read (Wake station) r = named_read call.Wake (decimal station ∷ []) (station ∷ []) (rw (short_read station r) refl)
-ask_read (Poll station) r = named_read call.Poll (decimal station ∷ []) (station ∷ []) (rw (short_read station r) refl)
+ask_read (Leave station) r = named_read call.Leave (decimal station ∷ []) (Short station ∷ []) (rw (short_read station r) refl)
+ask_read (Rate station mcs mhz short) r =
+    named_read call.Rate (decimal station ∷ decimal mcs ∷ decimal mhz ∷ guard_word short ∷ []) (Short station ∷ Octet mcs ∷ Octet mhz ∷ Guard short ∷ [])
+    (rw (short_read station r.0, octet_read mcs r.1, octet_read mhz r.2, guard_read short) refl)
+ask_read (Tick by) r = named_read call.Tick (decimal by ∷ []) (Long by ∷ []) (rw (long_read by r) refl)
+ask_read (Pull class) r = named_read call.Pull (class_word class ∷ []) (TheClass class ∷ []) (rw (class_read class) refl)
+ask_read (Arrive exchange index) r =
+    named_read call.Arrive (decimal exchange ∷ decimal index ∷ []) (Long exchange ∷ Short index ∷ []) (rw (long_read exchange r.0, short_read index r.1) refl)
+ask_read (Answer exchange) r = named_read call.Answer (decimal exchange ∷ []) (Long exchange ∷ []) (rw (long_read exchange r) refl)
+ask_read (Done exchange heard) r =
+    named_read call.Done (decimal exchange ∷ heard_word heard ∷ []) (Long exchange ∷ Heard heard ∷ []) (rw (long_read exchange r, heard_read heard) refl)
+ask_read (Sleep station) r = named_read call.Sleep (decimal station ∷ []) (Short station ∷ []) (rw (short_read station r) refl)
+ask_read (Wake station) r = named_read call.Wake (decimal station ∷ []) (Short station ∷ []) (rw (short_read station r) refl)
+ask_read (Poll station) r = named_read call.Poll (decimal station ∷ []) (Short station ∷ []) (rw (short_read station r) refl)
 ask_read (Rx station class air) r =
-    named_read call.Rx (decimal station ∷ class_word class ∷ decimal air ∷ []) (station ∷ class_number class ∷ air ∷ []) (rw (short_read station r.0, class_read class, long_read air r.1) refl)
-    ∙ ap (λ c. Ok (Asked (Rx station c air))) (class_same class)
+    named_read call.Rx (decimal station ∷ class_word class ∷ decimal air ∷ []) (Short station ∷ TheClass class ∷ Long air ∷ [])
+    (rw (short_read station r.0, class_read class, long_read air r.1) refl)
 ask_read Reap r = refl
 
-len_read : (len : ℕ) → 1 ≤ len → len ≤ 2304 → read_arg (Number 1 2304) (decimal len) ≡ Ok len
-len_read len some most = number_read 1 2304 len some most (omega arith)
+len_read : (len : ℕ) → 1 ≤ len → len ≤ greatest_body → read_arg arg.Length (decimal len) ≡ Ok (Short len)
+len_read len some most = rw (number_read 1 greatest_body len some most (omega arith)) refl
 
 note_read : (note : Note) → IsInRange note → read_call (note_words note) ≡ Ok note
 note_read (Enqueue station tid flow len) r =
-    named_read call.Enq (decimal station ∷ decimal tid ∷ decimal flow ∷ decimal len ∷ []) (station ∷ tid ∷ flow ∷ len ∷ [])
+    named_read call.Enq (decimal station ∷ decimal tid ∷ decimal flow ∷ decimal len ∷ []) (Short station ∷ Octet tid ∷ Long flow ∷ Short len ∷ [])
     (rw (short_read station r.0, octet_read tid r.1, long_read flow r.2, len_read len r.3 r.4) refl)
 note_read (Asked ask) r = ask_read ask r
 
@@ -325,7 +329,7 @@ entry_read caller note place r room =
 with_caller : (caller : ℕ) (note : Note) (place : Place) → caller < 2 ^ 16 → IsInRange note → place.count < place.limit →
     meant (Some place) (caller_words caller ++ note_words note) ≡ Ok (Entry caller note)
 with_caller zero note place small r room = note_line note place ∙ entry_read 0 note place r room
-with_caller (suc n) note place small r room = rw (not_zero n, short_read (suc n) small) (entry_read (suc n) note place r room)
+with_caller (suc n) note place small r room = rw (not_zero n, number_read 0 65535 (suc n) (omega arith) (omega arith) (omega arith)) (entry_read (suc n) note place r room)
 
 pub text_read : (caller : ℕ) (note : Note) (place : Place) → caller < 2 ^ 16 → IsInRange note → place.count < place.limit →
     meant (Some place) (words (note_text caller note)) ≡ Ok (Entry caller note)

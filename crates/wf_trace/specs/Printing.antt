@@ -1,37 +1,27 @@
 -- The canonical line of an entry.
-use Rattle.std.specs.Prelude.{ℕ, ◌<◌, ◌≤◌, ◌^◌, List, [], ◌∷◌, ◌++◌, codes, decimal, Bool, ◌==◌, if◌then◌else◌}
+use Rattle.std.specs.Prelude.{ℕ, ◌<◌, ◌≤◌, ◌^◌, List, [], ◌∷◌, ◌++◌, codes, decimal, ◌==◌, if◌then◌else◌}
 use Rattle.std.specs.List.{join_with_byte}
-use Rattle.wf_frame.specs.declared.classes.Class.{Class}
-use Rattle.wf_frame.specs.declared.classes.Class.TheVariants.{Bk, Be, Vi, Vo}
 use Rattle.wf_frame.specs.declared.notes.Note.{Note}
 use Rattle.wf_frame.specs.declared.notes.Note.TheVariants.{Enqueue, Asked}
 use Rattle.wf_frame.specs.declared.notes.Ask.{Ask}
 use Rattle.wf_frame.specs.declared.notes.Ask.TheVariants.{Join, Leave, Rate, Tick, Pull, Arrive, Answer, Done, Sleep, Wake, Poll, Rx, Reap}
 use Rattle.wf_trace.specs.declared.call.Call.TheVariants as call
-use Rattle.wf_trace.specs.Grammar.{word_of}
+use Rattle.wf_frame.specs.Classes.{class_word}
+use Rattle.wf_frame.specs.Words.{line}
+use Rattle.wf_rules.specs.Lengths.{greatest_body}
+use Rattle.wf_trace.specs.Grammar.{word_of, weight_default, guard_word, heard_word}
 
-abbrev pub class_word : Class → List ℕ
-class_word Bk = codes "bk"
-class_word Be = codes "be"
-class_word Vi = codes "vi"
-class_word Vo = codes "vo"
-
-abbrev pub guard_word : Bool → List ℕ
-guard_word short = if short then codes "short" else codes "long"
-
-abbrev pub heard_word : Bool → List ℕ
-heard_word heard = if heard then codes "heard" else codes "lost"
-
--- a weight of 1 is left out
+-- the word of a weight, which is left out where it is the default
 abbrev pub weight_words : ℕ → List (List ℕ)
-weight_words weight = if weight == 1 then [] else decimal weight ∷ []
+weight_words weight = if weight == weight_default then [] else decimal weight ∷ []
 
 -- a call that carries no frame: its word and its arguments
 abbrev pub ask_words : Ask → List (List ℕ)
 ask_words (Join station window start exponent weight) =
     word_of call.Join ∷ decimal station ∷ decimal window ∷ decimal start ∷ decimal exponent ∷ weight_words weight
 ask_words (Leave station) = word_of call.Leave ∷ decimal station ∷ []
-ask_words (Rate station mcs mhz short) = word_of call.Rate ∷ decimal station ∷ decimal mcs ∷ decimal mhz ∷ guard_word short ∷ []
+ask_words (Rate station mcs mhz short) =
+    word_of call.Rate ∷ decimal station ∷ decimal mcs ∷ decimal mhz ∷ guard_word short ∷ []
 ask_words (Tick by) = word_of call.Tick ∷ decimal by ∷ []
 ask_words (Pull class) = word_of call.Pull ∷ class_word class ∷ []
 ask_words (Arrive exchange index) = word_of call.Arrive ∷ decimal exchange ∷ decimal index ∷ []
@@ -43,22 +33,29 @@ ask_words (Poll station) = word_of call.Poll ∷ decimal station ∷ []
 ask_words (Rx station class air) = word_of call.Rx ∷ decimal station ∷ class_word class ∷ decimal air ∷ []
 ask_words Reap = word_of call.Reap ∷ []
 
+-- a call: its word and its arguments
 abbrev pub note_words : Note → List (List ℕ)
-note_words (Enqueue station tid flow len) = word_of call.Enq ∷ decimal station ∷ decimal tid ∷ decimal flow ∷ decimal len ∷ []
+note_words (Enqueue station tid flow len) =
+    word_of call.Enq ∷ decimal station ∷ decimal tid ∷ decimal flow ∷ decimal len ∷ []
 note_words (Asked ask) = ask_words ask
 
 -- the word of a caller, which is left out for the caller 0
 abbrev pub caller_words : ℕ → List (List ℕ)
 caller_words caller = if caller == 0 then [] else (codes "@" ++ decimal caller) ∷ []
 
--- the line without and with its end: words with one space between them
+-- the words of the canonical line of an entry
+abbrev pub entry_words : ℕ → Note → List (List ℕ)
+entry_words caller note = caller_words caller ++ note_words note
+
+-- the line without its end: its words with one space between them
 abbrev pub note_text : ℕ → Note → List ℕ
-note_text caller note = join_with_byte 32 (caller_words caller ++ note_words note)
+note_text caller note = join_with_byte 32 (entry_words caller note)
 
+-- the line
 abbrev pub note_line : ℕ → Note → List ℕ
-note_line caller note = note_text caller note ++ 10 ∷ []
+note_line caller note = line (entry_words caller note)
 
--- a line has room for the number of the exchange, and for the length
+-- an exchange number has at most 32 bits: a line names no greater one
 abbrev pub IsAskPrintable : Ask → Type 0
 IsAskPrintable (Join station window start exponent weight) = Unit {0}
 IsAskPrintable (Leave station) = Unit {0}
@@ -74,13 +71,15 @@ IsAskPrintable (Poll station) = Unit {0}
 IsAskPrintable (Rx station class air) = Unit {0}
 IsAskPrintable Reap = Unit {0}
 
+-- a line has room for the numbers of a call
 abbrev pub IsPrintable : Note → Type 0
-IsPrintable (Enqueue station tid flow len) = (1 ≤ len) × (len ≤ 2304)
+IsPrintable (Enqueue station tid flow len) = (1 ≤ len) × (len ≤ greatest_body)
 IsPrintable (Asked ask) = IsAskPrintable ask
 
--- each number is in the range of its argument
+-- each number of a call that carries no frame is in the range of its argument
 abbrev pub IsAskInRange : Ask → Type 0
-IsAskInRange (Join station window start exponent weight) = (station < 2 ^ 16) × (window < 2 ^ 16) × (start < 2 ^ 16) × (exponent < 2 ^ 8) × (weight < 2 ^ 8)
+IsAskInRange (Join station window start exponent weight) =
+    (station < 2 ^ 16) × (window < 2 ^ 16) × (start < 2 ^ 16) × (exponent < 2 ^ 8) × (weight < 2 ^ 8)
 IsAskInRange (Leave station) = station < 2 ^ 16
 IsAskInRange (Rate station mcs mhz short) = (station < 2 ^ 16) × (mcs < 2 ^ 8) × (mhz < 2 ^ 8)
 IsAskInRange (Tick by) = by < 2 ^ 32
@@ -94,6 +93,8 @@ IsAskInRange (Poll station) = station < 2 ^ 16
 IsAskInRange (Rx station class air) = (station < 2 ^ 16) × (air < 2 ^ 32)
 IsAskInRange Reap = Unit {0}
 
+-- each number of a call is in the range of its argument
 abbrev pub IsInRange : Note → Type 0
-IsInRange (Enqueue station tid flow len) = (station < 2 ^ 16) × (tid < 2 ^ 8) × (flow < 2 ^ 32) × (1 ≤ len) × (len ≤ 2304)
+IsInRange (Enqueue station tid flow len) =
+    (station < 2 ^ 16) × (tid < 2 ^ 8) × (flow < 2 ^ 32) × (1 ≤ len) × (len ≤ greatest_body)
 IsInRange (Asked ask) = IsAskInRange ask
