@@ -42,5 +42,5 @@ fn main(rt: HostRuntime) -> ExitCode {
     if !text.is_empty() {
         let _ = eprintln!(rt; "{text}");
     }
-    ExitCode::from(status as u8)
+    ExitCode::from(status.code())
 }

@@ -10,7 +10,7 @@ use rand_core::utils::NextWord;
 use rand_pcg::Lcg64Xsh32;
 use std::alloc::Global;
 use std::marker::Model;
-use wf_frame::{Ask, Class, Config, Note, Part, Refusal, ReplyNote};
+use wf_frame::{Answer, Ask, Class, Config, Note, Part, Refusal, ReplyNote};
 use wf_plain::{Fault, Machine};
 
 /// A soak under way: the machine, the calls that it was given, the words to come, and how many calls are left.
@@ -84,7 +84,8 @@ impl SoakRun {
                 None,
             ));
         }
-        let reply = machine.step(&note)?;
+        let mut answer = Answer::new();
+        machine.step(&note, &mut answer)?;
         past.push((0, note))?;
         Ok((
             SoakRun {
@@ -93,7 +94,7 @@ impl SoakRun {
                 words,
                 left: left - 1,
             },
-            Some(reply),
+            Some(answer.reply()),
         ))
     }
 

@@ -1,6 +1,7 @@
 //! The machine as a plain program: it computes the step of the definitions, takes memory, and may be slow.
 #![tactic(auto)]
 
+mod answers;
 mod calls;
 mod dispatch;
 mod machine;

@@ -1,16 +1,18 @@
 //! The machine, its step and its readers.
 
 ghost use Rattle.std.specs.Prelude.{◌≡◌, length, IfOk, OnOk};
+ghost use Rattle.wf_frame.specs.Answers.{reply_of};
 ghost use Rattle.wf_world.specs.Step.{answer, refused, step};
 ghost use Rattle.wf_world.specs.Text.{tally, traffic_map, with_traffic};
 ghost use Rattle.wf_world.specs.World.{accepted, is_live, live_stations, opening, share};
 
+use crate::answers::put_reply;
 use crate::dispatch::done;
 use crate::refuse::{concerned, refusal};
 use crate::traffic;
 use std::alloc::Global;
 use std::marker::Model;
-use wf_frame::{Ask, Class, Config, Fate, Note, Refusal, ReplyNote};
+use wf_frame::{Answer, Ask, Class, Config, Fate, Note, Refusal, ReplyNote};
 use wf_plain_exchanges::pay_pick;
 use wf_plain_lists::Fault;
 use wf_plain_parts::Share;
@@ -71,11 +73,13 @@ impl Machine {
         }
     }
 
-    /// One call: its answer, and what it leaves. After a `Fault` nothing is known of the machine.
-    pub fn step(&mut self, note: &Note) -> Result<ReplyNote, Fault>
-        ensures { IfOk result (λ r. step self.old note.now ≡ record { world = self.new; reply = r }) }
+    /// One call: its answer, and what it leaves. After a `Fault` nothing is known of the machine or of the answer.
+    pub fn step(&mut self, note: &Note, answer: &mut Answer) -> Result<(), Fault>
+        ensures { OnOk result (step self.old note.now ≡ record { world = self.new; reply = reply_of answer.new }) }
     {
-        step_of(&mut self.world, note)
+        let reply = step_of(&mut self.world, note)?;
+        put_reply(reply, answer);
+        Ok(())
     }
 
     /// The settings.

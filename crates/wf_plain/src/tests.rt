@@ -1,22 +1,27 @@
 //! Each call once, with ample memory.
 
 use crate::{Fault, Machine};
-use wf_frame::{Ask, Class, Config, Fate, Note, Part, ReplyNote};
+use wf_frame::{Answer, Ask, Brief, Class, Config, Fate, Note};
 
+// A call whose answer does not matter.
+fn made(machine: &mut Machine, note: &Note) -> Result<(), Fault> {
+    machine.step(note, &mut Answer::new())
+}
+
+// Pulls an aggregate of one frame: the exchange, the frame's number, the charge and the frame's id.
 fn pull(machine: &mut Machine, class: Class) -> Result<(u64, u16, u32, u64), Fault> {
-    match machine.step(&Note::Asked(Ask::Pull { class }))? {
-        ReplyNote::Send {
+    let mut answer = Answer::new();
+    machine.step(&Note::Asked(Ask::Pull { class }), &mut answer)?;
+    match answer.brief {
+        Brief::Send {
             exchange,
-            station: _,
-            tid: _,
             air,
-            part: Part::Mpdus(pairs),
-            more: _,
-        } => if pairs.len() == 1 {
-            Ok((exchange, pairs.at(0).1, air, pairs.at(0).0))
-        } else {
-            Err(Fault::TooLarge)
-        },
+            request: None,
+            ..
+        } if answer.pairs.len() == 1 => {
+            let (id, number) = answer.pairs.at(0);
+            Ok((exchange, number, air, id))
+        }
         _ => Err(Fault::TooLarge),
     }
 }
@@ -25,31 +30,43 @@ fn pull(machine: &mut Machine, class: Class) -> Result<(u64, u16, u32, u64), Fau
 fn one_frame_is_acknowledged(rt: HostRuntime) -> Result<(), Fault> {
     let mut machine = Machine::new(rt.alloc(), Config::standard());
     assert!(rt; machine.config() == Config::standard());
-    machine.step(&Note::Asked(Ask::Join {
-        station: 0,
-        window: 64,
-        start: 100,
-        exponent: 3,
-        weight: 1,
-    }))?;
-    machine.step(&Note::Enqueue {
-        station: 0,
-        tid: 0,
-        flow: 1,
-        len: 1500,
-    })?;
+    made(
+        &mut machine,
+        &Note::Asked(Ask::Join {
+            station: 0,
+            window: 64,
+            start: 100,
+            exponent: 3,
+            weight: 1,
+        }),
+    )?;
+    made(
+        &mut machine,
+        &Note::Enqueue {
+            station: 0,
+            tid: 0,
+            flow: 1,
+            len: 1500,
+        },
+    )?;
     let (exchange, number, air, id) = pull(&mut machine, Class::Be)?;
     assert!(rt; exchange == 0 && number == 100 && air == 1976 && id == 0);
     assert!(rt; machine.exchanges() == 1 && machine.open_exchanges() == 1);
-    machine.step(&Note::Asked(Ask::Arrive {
-        exchange: 0,
-        index: 0,
-    }))?;
-    machine.step(&Note::Asked(Ask::Answer { exchange: 0 }))?;
-    machine.step(&Note::Asked(Ask::Done {
-        exchange: 0,
-        heard: true,
-    }))?;
+    made(
+        &mut machine,
+        &Note::Asked(Ask::Arrive {
+            exchange: 0,
+            index: 0,
+        }),
+    )?;
+    made(&mut machine, &Note::Asked(Ask::Answer { exchange: 0 }))?;
+    made(
+        &mut machine,
+        &Note::Asked(Ask::Done {
+            exchange: 0,
+            heard: true,
+        }),
+    )?;
     assert!(rt; machine.accepted() == 1 && machine.open_exchanges() == 0);
     let acked = machine.tally(Fate::Acked);
     let held = machine.tally(Fate::Held);
@@ -62,21 +79,27 @@ fn one_frame_is_acknowledged(rt: HostRuntime) -> Result<(), Fault> {
 #[test]
 fn a_sleeper_with_traffic_is_in_the_map(rt: HostRuntime) -> Result<(), Fault> {
     let mut machine = Machine::new(rt.alloc(), Config::standard());
-    machine.step(&Note::Asked(Ask::Join {
-        station: 0,
-        window: 64,
-        start: 0,
-        exponent: 3,
-        weight: 1,
-    }))?;
-    machine.step(&Note::Asked(Ask::Sleep { station: 0 }))?;
-    machine.step(&Note::Enqueue {
-        station: 0,
-        tid: 0,
-        flow: 7,
-        len: 100,
-    })?;
-    machine.step(&Note::Asked(Ask::Tick { by: 5 }))?;
+    made(
+        &mut machine,
+        &Note::Asked(Ask::Join {
+            station: 0,
+            window: 64,
+            start: 0,
+            exponent: 3,
+            weight: 1,
+        }),
+    )?;
+    made(&mut machine, &Note::Asked(Ask::Sleep { station: 0 }))?;
+    made(
+        &mut machine,
+        &Note::Enqueue {
+            station: 0,
+            tid: 0,
+            flow: 7,
+            len: 100,
+        },
+    )?;
+    made(&mut machine, &Note::Asked(Ask::Tick { by: 5 }))?;
     assert!(rt; machine.clock() == 5);
     let live = machine.live_stations()?;
     let traffic = machine.traffic()?;

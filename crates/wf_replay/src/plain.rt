@@ -1,13 +1,14 @@
 //! The plain program as a machine to replay.
 
-ghost use Rattle.std.specs.Prelude.{◌≡◌, ◌+◌, ◌<◌, ◌≤◌, length, take, IfOk};
+ghost use Rattle.std.specs.Prelude.{◌≡◌, ◌+◌, ◌<◌, ◌≤◌, length, take, IfOk, OnOk};
+ghost use Rattle.wf_frame.specs.Answers.{reply_of};
 ghost use Rattle.wf_world.specs.World.{World, opening, is_live, accepted, share as share_of};
 ghost use Rattle.wf_world.specs.Step.{step as step_of};
 ghost use Rattle.wf_world.specs.Text.{tally as tally_of, traffic_map as map_of, with_traffic};
 
 use std::alloc::Global;
 use std::marker::Model;
-use wf_frame::{Class, Config, Fate, Note, ReplyNote};
+use wf_frame::{Answer, Class, Config, Fate, Note};
 use wf_plain::Machine;
 use wf_report::{Runs, ShareNote, Stopped};
 
@@ -44,12 +45,12 @@ impl Runs for Plain {
         })
     }
 
-    fn step(&mut self, caller: u32, note: &Note) -> Result<ReplyNote, Stopped>
-        ensures steps { IfOk result (λ r. step_of self.old note.now ≡ record { world = self.new; reply = r }) }
+    fn step(&mut self, caller: u32, note: &Note, answer: &mut Answer) -> Result<(), Stopped>
+        ensures steps { OnOk result (step_of self.old note.now ≡ record { world = self.new; reply = reply_of answer.new }) }
     {
         let _ = caller;
-        match self.machine.step(note) {
-            Ok(reply) => Ok(reply),
+        match self.machine.step(note, answer) {
+            Ok(()) => Ok(()),
             Err(_) => Err(Stopped),
         }
     }

@@ -5,12 +5,12 @@ ghost use Rattle.std.specs.Io.KnownBytes.{prepend_known, append_known};
 ghost use Rattle.wf_io.specs.Faults.{HasRisen};
 ghost use Rattle.wf_trace.specs.declared.reader.Item.TheVariants as item;
 ghost use Rattle.wf_report.specs.Fronts.{HoldsFront};
-ghost use Rattle.wf_replay.specs.Running.{answer, behind_item, closing};
+ghost use Rattle.wf_replay.specs.Running.{answer as answer_to, behind_item, closing};
 ghost use Rattle.wf_replay.specs.Outcome.{Outcome};
 
 use crate::status::Status;
 use std::alloc::Global;
-use wf_frame::Note;
+use wf_frame::{Answer, Note};
 use wf_io::{Line, Sink, Source, write_all};
 use wf_report::{Runs, Stopped, Unwritten, print_reply, summary};
 use wf_trace::{Item, TraceReader, print_fault};
@@ -20,17 +20,18 @@ fn make<M: Runs>(
     machine: &mut Option<M>,
     caller: u32,
     note: Note,
+    answer: &mut Answer,
     line: &mut Line,
 ) -> Result<(), Stopped>
     requires some { IsSome machine.old }
     requires empty { line.old ≡ [] }
     ensures some { OnOk result (IsSome machine.new) }
     ensures world { OnOk result (option_map M.world machine.new ≡ behind_item (option_map M.world machine.old) (item.Entry caller note)) }
-    ensures line { OnOk result (line.new ≡ answer (option_map M.world machine.old) (item.Entry caller note)) }
+    ensures line { OnOk result (line.new ≡ answer_to (option_map M.world machine.old) (item.Entry caller note)) }
 {
     if let Some(machine) = machine {
-        let reply = machine.step(caller, &note)?;
-        print_reply(&reply, line);
+        machine.step(caller, &note, answer)?;
+        print_reply(answer, line);
     }
     Ok(())
 }
@@ -62,8 +63,10 @@ pub fn replay_on<M: Runs, S: Source, K: Sink>(alloc: Global, source: &mut S, sin
     };
     let mut machine: Option<M> = None;
     let mut calls = 0;
+    let mut answer = Answer::new();
+    let mut line = Line::new();
     'items: loop {
-        let mut line = Line::new();
+        line.clear();
         match reader.next(source) {
             Err(_) => return Status::ReadFault,
             Ok(Item::Head(config)) => match M::open(alloc, config) {
@@ -71,7 +74,7 @@ pub fn replay_on<M: Runs, S: Source, K: Sink>(alloc: Global, source: &mut S, sin
                 Err(_) => return Status::NoMemory,
             },
             Ok(Item::Entry(caller, note)) => {
-                match make(&mut machine, caller, note, &mut line) {
+                match make(&mut machine, caller, note, &mut answer, &mut line) {
                     Ok(()) => {}
                     Err(_) => return Status::NoMemory,
                 }

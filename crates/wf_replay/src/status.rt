@@ -1,6 +1,9 @@
 //! How a run ends.
 
-/// How a run ends; as a number it is the program's exit status.
+ghost use Rattle.std.specs.Prelude.{◌≡◌};
+ghost use Rattle.wf_replay.specs.Statuses.{status_code};
+
+/// How a run ends.
 #[derive(Clone, Copy, Debug, PartialEq, Eq)]
 pub enum Status {
     /// The text was written whole.
@@ -15,4 +18,13 @@ pub enum Status {
     WriteFault = 4,
     /// There was no memory.
     NoMemory = 5,
+}
+
+impl Status {
+    /// The number that the program ends with, 0 to 5.
+    pub fn code(self) -> u8
+        ensures { result ≡ status_code self }
+    {
+        self as u8
+    }
 }

@@ -26,8 +26,8 @@ more_spaced f xs i x front is =
 pub four : (out a b c d : List ℕ) → (((out ++ a) ++ b) ++ c) ++ d ≡ out ++ (((a ++ b) ++ c) ++ d)
 four out a b c d = simp append_assoc
 
-pub joined_three : (out word : List ℕ) (head part more : List (List ℕ)) → ((out ++ (word ++ spaced head)) ++ spaced part) ++ spaced more ≡ out ++ join_with_byte 32 (word ∷ (head ++ (part ++ more)))
-joined_three out word head part more =
+pub joined_three : (word : List ℕ) (head part more : List (List ℕ)) → ((word ++ spaced head) ++ spaced part) ++ spaced more ≡ join_with_byte 32 (word ∷ (head ++ (part ++ more)))
+joined_three word head part more =
     rw (join-spaced word (head ++ (part ++ more)), spaced-append head (part ++ more), spaced-append part more) (simp append_assoc)
 
 pub joined_last : (out word : List ℕ) (head : List (List ℕ)) (last : List ℕ) → ((out ++ (word ++ spaced head)) ++ 32 ∷ []) ++ last ≡ out ++ join_with_byte 32 (word ∷ (head ++ last ∷ []))

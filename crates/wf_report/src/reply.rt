@@ -1,14 +1,15 @@
-//! The answer line of a reply.
+//! The answer line of an answer.
 
 ghost use Rattle.std.specs.Prelude.{◌≡◌, ◌+◌, ◌<◌, ◌≤◌, ◌++◌, ◌∷◌, [], length, map, decimal, sum_by, codes, slice_index, ◌*◌, if◌then◌else◌, true};
 ghost use Rattle.std.specs.List.{join_with_byte};
 ghost use Rattle.wf_io.specs.Words.{text_of, width_of, spaced};
 ghost use Rattle.wf_world.specs.Text.{answer_line, reply_words, refusal_words, part_words, score_digits};
-ghost use Rattle.wf_frame.specs.declared.notes.ReplyNote.TheVariants.{Accepted, Send};
+ghost use Rattle.wf_frame.specs.Answers.{part_of, reply_of};
+ghost use Rattle.wf_frame.specs.declared.notes.ReplyNote.TheVariants.{Accepted};
 ghost use Rattle.wf_report.specs.Replies.{refusal_name, refusal_numbers, pair_text};
 
 use crate::parts::{fate_name, push_hex};
-use wf_frame::{Ids, Pairs, Part, Refusal, ReplyNote};
+use wf_frame::{Answer, Brief, Ids, Pairs, Refusal};
 use wf_io::{Line, Word};
 
 // A word, and words behind it.
@@ -121,18 +122,18 @@ fn push_ids(out: &mut Line, ids: &Ids)
 }
 
 // What an exchange sends.
-fn push_part(out: &mut Line, part: &Part)
+fn push_part(out: &mut Line, request: Option<u16>, pairs: &Pairs)
     requires { length out.old ≤ 190 }
-    ensures text { out.new ≡ out.old ++ spaced (part_words part.now) }
+    ensures text { out.new ≡ out.old ++ spaced (part_words (part_of request pairs.now)) }
     ensures len { length out.new ≤ 7200 }
 {
-    match part {
-        Part::Mpdus(pairs) => {
+    match request {
+        None => {
             out.push_words(&[Word::Text(b"data")]);
             push_pairs(out, pairs);
         }
-        Part::Request(start) => {
-            out.push_words(&[Word::Text(b"bar"), Word::Number(u64::from(*start))]);
+        Some(start) => {
+            out.push_words(&[Word::Text(b"bar"), Word::Number(u64::from(start))]);
         }
     }
 }
@@ -146,17 +147,6 @@ fn push_more(out: &mut Line, more: bool)
     if more {
         out.push_words(&[Word::Text(b"more")]);
     }
-}
-
-// An exchange to send.
-fn push_send(out: &mut Line, words: &[Word], part: &Part, more: bool)
-    requires { length out.old + sum_by (λ w. width_of w + 1) words.now ≤ 180 }
-    ensures text { out.new ≡ out.old ++ join_with_byte 32 (codes "send" ∷ (map text_of words.now ++ (part_words part.now ++ (if more then codes "more" ∷ [] else [])))) }
-    ensures len { length out.new ≤ 7300 }
-{
-    start(out, b"send", words);
-    push_part(out, part);
-    push_more(out, more);
 }
 
 // The bits of a wide block acknowledgement, offset 255 first.
@@ -217,12 +207,12 @@ fn push_ended(out: &mut Line, acked: u16, waiting: u16, failed: u16)
     );
 }
 
-/// Writes the answer line of a reply to an empty line.
-pub fn print_reply(note: &ReplyNote, out: &mut Line)
+/// Writes the line of an answer, with its octet 10, to an empty line.
+pub fn print_reply(answer: &Answer, out: &mut Line)
     requires { out.old ≡ [] }
-    ensures { out.new ≡ answer_line note.now }
+    ensures { out.new ≡ answer_line (reply_of answer.now) }
 {
-    push_reply(note, out);
+    push_reply(answer, out);
     out.push(b'\n');
 }
 
@@ -245,19 +235,11 @@ fn push_accepted(out: &mut Line, id: u64, dropped: Option<u64>)
     }
 }
 
-// An exchange to send, from its numbers on.
-fn push_exchange(
-    out: &mut Line,
-    exchange: u64,
-    station: u16,
-    tid: u8,
-    air: u32,
-    part: &Part,
-    more: bool,
-)
+// An exchange to send, but for what it sends.
+fn push_exchange(out: &mut Line, exchange: u64, station: u16, tid: u8, air: u32)
     requires { out.old ≡ [] }
-    ensures text { out.new ≡ join_with_byte 32 (reply_words (Send exchange station tid air part.now more)) }
-    ensures len { length out.new ≤ 7300 }
+    ensures text { out.new ≡ codes "send" ++ spaced (decimal exchange ∷ codes "sta" ∷ decimal station ∷ codes "tid" ∷ decimal tid ∷ codes "air" ∷ decimal air ∷ []) }
+    ensures len { length out.new ≤ 190 }
 {
     let words = [
         Word::Number(exchange),
@@ -268,56 +250,60 @@ fn push_exchange(
         Word::Text(b"air"),
         Word::Number(u64::from(air)),
     ];
-    push_send(out, &words, part, more);
+    start(out, b"send", &words);
 }
 
-// The words of a reply.
-fn push_reply(note: &ReplyNote, out: &mut Line)
+// The words of an answer.
+fn push_reply(answer: &Answer, out: &mut Line)
     requires { out.old ≡ [] }
-    ensures text { out.new ≡ join_with_byte 32 (reply_words note.now) }
+    ensures text { out.new ≡ join_with_byte 32 (reply_words (reply_of answer.now)) }
     ensures len { length out.new ≤ 8000 }
 {
-    match note {
-        ReplyNote::Joined => start(out, b"joined", &[]),
-        ReplyNote::Gone { dropped } => start(out, b"left", &[Word::Number(u64::from(*dropped))]),
-        ReplyNote::RateSet => start(out, b"set", &[]),
-        ReplyNote::Ticked { now } => start(out, b"now", &[Word::Number(*now)]),
-        ReplyNote::Accepted { id, dropped } => push_accepted(out, *id, *dropped),
-        ReplyNote::Send {
+    match answer.brief {
+        Brief::Joined => start(out, b"joined", &[]),
+        Brief::Gone { dropped } => start(out, b"left", &[Word::Number(u64::from(dropped))]),
+        Brief::RateSet => start(out, b"set", &[]),
+        Brief::Ticked { now } => start(out, b"now", &[Word::Number(now)]),
+        Brief::Accepted { id, dropped } => push_accepted(out, id, dropped),
+        Brief::Send {
             exchange,
             station,
             tid,
             air,
-            part,
+            request,
             more,
-        } => push_exchange(out, *exchange, *station, *tid, *air, part, *more),
-        ReplyNote::Released { ids } => {
-            start(out, b"released", &[]);
-            push_ids(out, ids);
+        } => {
+            push_exchange(out, exchange, station, tid, air);
+            push_part(out, request, &answer.pairs);
+            push_more(out, more);
         }
-        ReplyNote::Ba {
+        Brief::Released => {
+            start(out, b"released", &[]);
+            push_ids(out, &answer.ids);
+        }
+        Brief::Ba {
             start: first,
             b0,
             b1,
             b2,
             b3,
             wide,
-        } => push_answer(out, *first, &[*b0, *b1, *b2, *b3], *wide),
-        ReplyNote::Ended {
+        } => push_answer(out, first, &[b0, b1, b2, b3], wide),
+        Brief::Ended {
             acked,
             waiting,
             failed,
-        } => push_ended(out, *acked, *waiting, *failed),
-        ReplyNote::Slept => start(out, b"slept", &[]),
-        ReplyNote::Woken => start(out, b"woken", &[]),
-        ReplyNote::Credited { class } => {
+        } => push_ended(out, acked, waiting, failed),
+        Brief::Slept => start(out, b"slept", &[]),
+        Brief::Woken => start(out, b"woken", &[]),
+        Brief::Credited { class } => {
             start(out, b"polled", &[Word::Text(class.word())]);
         }
-        ReplyNote::Charged { deficit } => start(out, b"charged", &[Word::Signed(*deficit)]),
-        ReplyNote::Reaped { id, fate } => {
-            let words = [Word::Number(*id), Word::Text(fate_name(*fate))];
+        Brief::Charged { deficit } => start(out, b"charged", &[Word::Signed(deficit)]),
+        Brief::Reaped { id, fate } => {
+            let words = [Word::Number(id), Word::Text(fate_name(fate))];
             start(out, b"reaped", &words);
         }
-        ReplyNote::Refused(refusal) => push_refusal(out, *refusal),
+        Brief::Refused(refusal) => push_refusal(out, refusal),
     }
 }

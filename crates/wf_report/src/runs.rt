@@ -1,12 +1,13 @@
 //! The machine behind a report.
 
-ghost use Rattle.std.specs.Prelude.{◌≡◌, ◌+◌, ◌<◌, ◌≤◌, length, take, IfOk};
+ghost use Rattle.std.specs.Prelude.{◌≡◌, ◌+◌, ◌<◌, ◌≤◌, length, take, IfOk, OnOk};
+ghost use Rattle.wf_frame.specs.Answers.{reply_of};
 ghost use Rattle.wf_world.specs.World.{World, opening, is_live, accepted, share as share_of};
 ghost use Rattle.wf_world.specs.Step.{step as step_of};
 ghost use Rattle.wf_world.specs.Text.{tally as tally_of, traffic_map as map_of, with_traffic};
 
 use std::alloc::Global;
-use wf_frame::{Class, Config, Fate, Note, ReplyNote};
+use wf_frame::{Answer, Class, Config, Fate, Note};
 
 /// The machine cannot go on: it found no memory, or a number went past its type.
 #[derive(Clone, Copy, Debug, PartialEq, Eq)]
@@ -31,9 +32,9 @@ pub trait Runs: Drop {
         Self: Sized,
         ensures { IfOk result (λ m. world m ≡ opening config) };
 
-    /// Makes a call.
-    fn step(&mut self, caller: u32, note: &Note) -> Result<ReplyNote, Stopped>
-        ensures steps { IfOk result (λ r. step_of (world self.old) note.now ≡ record { world = world self.new; reply = r }) };
+    /// Makes a call, and gives its answer.
+    fn step(&mut self, caller: u32, note: &Note, answer: &mut Answer) -> Result<(), Stopped>
+        ensures steps { OnOk result (step_of (world self.old) note.now ≡ record { world = world self.new; reply = reply_of answer.new }) };
 
     /// How many station numbers there are.
     fn stations(&self) -> u32

@@ -17,7 +17,7 @@ returns-then-left-eq0-clause-reply c =
 
 pub invariant_of-result-2 : goal.invariant_of-result-2
 invariant_of-result-2 c =
-    let stepped : c.step.new.self ≡ (step c.self.inside.machine c.args.note).world = ap (λ (o : Outcome). o.world) (sym c.in_ok-reply.ensures) in
+    let stepped : c.step.new.self ≡ (step c.self.inside.machine c.args.note).world = ap (λ (o : Outcome). o.world) (sym c.in_ok-step.ensures) in
     stepped ∙ ap (λ (w : World). (step w c.args.note).world) c.self.invariant
     ∙ sym (one_more c.self.inside.past.items (opening standard) (0, c.args.note)) ∙ ap (world_after (opening standard)) (sym c.in_ok-push.ensures.items)
 
@@ -30,6 +30,6 @@ returns-clause-made c =
 pub returns-clause-reply : goal.returns-clause-reply
 returns-clause-reply c =
     let some : 0 < c.self.inside.left = omega (arith, c.if-left-eq0.false) in
-    let replied : c.in_ok-reply.reply ≡ (step c.self.inside.machine c.args.note).reply = ap (λ (o : Outcome). o.reply) (sym c.in_ok-reply.ensures) in
+    let replied : c.reply.result ≡ (step c.self.inside.machine c.args.note).reply = c.reply.ensures ∙ ap (λ (o : Outcome). o.reply) (sym c.in_ok-step.ensures) in
     ap Some (replied ∙ ap (λ (w : World). (step w c.args.note).reply) c.self.invariant)
     ∙ sym (reply_one c.args.note _ some) ∙ ap (reply_to c.args.note) c.self.view_is
