@@ -21,10 +21,12 @@ const SLOW_BELOW: u32 = 12_000;
 
 /// The target and the interval of a station that is not slow, in microseconds.
 const USUAL_TARGET: u32 = 20_000;
+
 const USUAL_INTERVAL: u32 = 100_000;
 
 /// The target and the interval of a slow station, in microseconds.
 const SLOW_TARGET: u32 = 50_000;
+
 const SLOW_INTERVAL: u32 = 300_000;
 
 /// How much later the next drop is due: the greatest d with `d*d*count <= interval*interval`, the interval over the
