@@ -20,10 +20,12 @@ const SLOW_BELOW: u32 = 12_000;
 
 /// The target and the interval of a station that is not slow, in microseconds.
 const USUAL_TARGET: u32 = 20_000;
+
 const USUAL_INTERVAL: u32 = 100_000;
 
 /// The target and the interval of a slow station, in microseconds.
 const SLOW_TARGET: u32 = 50_000;
+
 const SLOW_INTERVAL: u32 = 300_000;
 
 /// For how many intervals after the time of the last drop dropping begins again at the rate that it had (RFC 8289, 5.5).

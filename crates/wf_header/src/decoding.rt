@@ -11,11 +11,17 @@ use wf_seq12::Seq12;
 /// Where a header's fields begin, in octets (8.2.4): the second octet of Frame Control, Duration, the addresses, and a
 /// QoS frame's Sequence Control and QoS Control.
 const FLAGS_AT: usize = 1;
+
 const DURATION_AT: usize = 2;
+
 const ADDRESS_1_AT: usize = 4;
+
 const ADDRESS_2_AT: usize = 10;
+
 const ADDRESS_3_AT: usize = 16;
+
 const SEQUENCE_AT: usize = 22;
+
 const QOS_AT: usize = 24;
 
 /// Why octets are no header.

@@ -20,10 +20,12 @@ use wf_plain_rules::{Codel, Dequeued, Item, Params};
 
 /// CoDel's target and interval for a station that is not slow, in microseconds.
 const USUAL_TARGET: u64 = 20_000;
+
 const USUAL_INTERVAL: u64 = 100_000;
 
 /// CoDel's target and interval for a slow station, in microseconds.
 const SLOW_TARGET: u64 = 50_000;
+
 const SLOW_INTERVAL: u64 = 300_000;
 
 fn total_of(queues: &[Queue]) -> Result<u64, Fault>
