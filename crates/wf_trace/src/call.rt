@@ -43,6 +43,10 @@ pub enum Arg {
     Guard,
     /// `heard` or `lost`.
     Heard,
+    /// A number from low to high.
+    Number { low: u32, high: u32 },
+    /// `a` or `b`: an end of an agreement, the originator or the recipient.
+    End,
 }
 
 /// What the word of an argument says.
@@ -56,6 +60,8 @@ pub enum Value {
     Guard(bool),
     /// The answer was heard.
     Heard(bool),
+    /// The end is the recipient.
+    End(bool),
 }
 
 impl Default for Value {
