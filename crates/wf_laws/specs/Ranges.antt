@@ -2,7 +2,7 @@
 use Rattle.std.specs.Prelude.{◌≡◌, ℕ, ◌<◌, ◌≤◌, true, ◌⊎◌, List, IfSome}
 use Rattle.wf_frame.specs.declared.settings.Config.{Config}
 use Rattle.wf_rules.specs.Airtime.{Rate}
-use Rattle.wf_rules.specs.Codel.{Codel}
+use Rattle.wf_rules.specs.Codel.{Codel, greatest_count}
 use Rattle.wf_rules.specs.Bounds.{greatest_window, greatest_exponent, greatest_weight, greatest_mcs}
 use Rattle.wf_world.specs.World.{World, station, session, receiver, queue, is_live}
 use Rattle.wf_world.specs.Run.{Entry}
@@ -28,8 +28,8 @@ pub record IsStation (config : Config) (w : World) (s : ℕ) : Type 0 where
 -- CoDel's counts: at least 1 while it drops, so that a next drop is due, and never past 32 bits
 pub record CountsRight (c : Codel) : Type 0 where
   pub some : c.dropping ≡ true → 1 ≤ c.count
-  pub count : c.count ≤ 4294967295
-  pub last : c.last_count ≤ 4294967295
+  pub count : c.count ≤ greatest_count
+  pub last : c.last_count ≤ greatest_count
 
 pub record KeepsRanges (config : Config) (w : World) : Type 0 where
   pub stations : (s : ℕ) → is_live w s ≡ true → IsStation config w s
