@@ -49,7 +49,7 @@ winner_at nodes count k h some inner =
     let ne : k ≢ 0 = omega arith in
     rw (h.played k some inner ne) (wins _ _)
 
-value_at : (nodes : List Candidate) (count leaf : ℕ) → slice_index (values_of nodes count) leaf ≡ (node_at nodes (count + leaf)).value
+pub value_at : (nodes : List Candidate) (count leaf : ℕ) → slice_index (values_of nodes count) leaf ≡ (node_at nodes (count + leaf)).value
 value_at nodes count leaf = get_or-map (λ (c : Candidate). c.value) (drop count nodes) leaf no_candidate ∙ ap (λ (c : Candidate). c.value) (get_or-drop count nodes leaf no_candidate)
 
 root_over_child : (nodes : List Candidate) (count : ℕ) → IsPlayedBut nodes count 0 → (k q : ℕ) → 0 < q → q < count → (2 * q ≡ k) ⊎ (2 * q < k) → k ≤ 2 * q + 1 → IsNoWorse (node_at nodes 1) (node_at nodes q) → IsNoWorse (node_at nodes 1) (node_at nodes k)
@@ -99,7 +99,7 @@ strictly a b leaf other most tie less = elim (eq-or-lt_of_le most) [ inl e ↦ a
 leaf_below : (nodes : List Candidate) (count leaf : ℕ) → IsPlayedBut nodes count 0 → leaf < count → IsNoWorse (node_at nodes 1) (node_at nodes (count + leaf))
 leaf_below nodes count leaf h within = root_over nodes count h (count + leaf) (count + leaf) (omega arith) (omega (arith, h.some)) (omega arith)
 
-value_below : (nodes : List Candidate) (count : ℕ) → IsPlayedBut nodes count 0 → (leaf : ℕ) → slice_index (values_of nodes count) leaf ≤ (node_at nodes 1).value
+pub value_below : (nodes : List Candidate) (count : ℕ) → IsPlayedBut nodes count 0 → (leaf : ℕ) → slice_index (values_of nodes count) leaf ≤ (node_at nodes 1).value
 value_below nodes count h leaf = elim (cases_lt leaf count) [
   | inl within ↦ rw value_at (leaf_below nodes count leaf h within).value
   | inr past ↦ rw (get_or_past (values_of nodes count) leaf 0 (omega (arith, length_of nodes count h.size))) (omega arith)
@@ -215,3 +215,17 @@ filled_played nodes count h some = record {
   leaves = λ leaf within. h.leaves leaf within (omega arith);
   played = λ k positive inner ne. h.played k positive inner;
 }
+
+-- the children of a node are worth no more than it, and one of them as much
+pub children_below : (nodes : List Candidate) (count k : ℕ) → IsPlayedBut nodes count 0 → 0 < k → k < count →
+    ((node_at nodes (2 * k)).value ≤ (node_at nodes k).value) × ((node_at nodes (2 * k + 1)).value ≤ (node_at nodes k).value)
+children_below nodes count k h some inner =
+    let w = winner_at nodes count k h some inner in
+    (w.first.value, w.second.value)
+
+pub one_child : (nodes : List Candidate) (count k : ℕ) → IsPlayedBut nodes count 0 → 0 < k → k < count →
+    ((node_at nodes k).value ≡ (node_at nodes (2 * k)).value) ⊎ ((node_at nodes k).value ≡ (node_at nodes (2 * k + 1)).value)
+one_child nodes count k h some inner = elim ((winner_at nodes count k h some inner).one) [
+  | inl e ↦ inl (ap (λ (c : Candidate). c.value) e)
+  | inr e ↦ inr (ap (λ (c : Candidate). c.value) e)
+]

@@ -3,7 +3,7 @@
 #![tactic(auto)]
 
 ghost use Rattle.std.specs.Prelude.{◌≡◌, ℕ, ◌+◌, ◌-◌, ◌*◌, ◌^◌, ◌<◌, ◌≤◌, length, replicate, slice_index, slice_set, IfOk, IfNone, IfSome};
-ghost use Rattle.wf_peak.specs.Best.{IsBest};
+ghost use Rattle.wf_peak.specs.Best.{IsBest, IsFirstFrom, IsPowerOfTwo};
 ghost use Rattle.wf_peak.specs.Tree.{node_at, winner_of};
 
 use std::alloc::{AllocError, Global};
@@ -111,6 +111,26 @@ impl Peak {
     {
         let top = self.nodes[1];
         if top.value > 0 { Some(top.leaf) } else { None }
+    }
+
+    /// The least leaf whose value is at least `least`, in one look for each level. None where no leaf has such a value. The
+    /// leaves must be as many as a power of two, so that those below a node follow one another.
+    pub fn first_from(&self, least: u64) -> Option<u32>
+        requires { IsPowerOfTwo (length self.now) }
+        ensures none { IfNone result ((leaf : ℕ) → leaf < length self.now → slice_index self.now leaf < least) }
+        ensures some { IfSome result (λ leaf. IsFirstFrom self.now least leaf) }
+    {
+        if self.nodes[1].value < least {
+            return None;
+        }
+        let mut node = 1;
+        while node < self.count {
+            node *= 2;
+            if self.nodes[node].value < least {
+                node += 1;
+            }
+        }
+        Some(self.nodes[node].leaf)
     }
 }
 

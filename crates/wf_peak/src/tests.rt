@@ -53,3 +53,23 @@ fn one_leaf(rt: HostRuntime) -> Result<(), AllocError> {
     assert_eq!(rt; peak.best(), Some(0));
     Ok(())
 }
+
+fn first_of_four(peak: &Peak, least: u64) -> Option<u32>
+    requires { length peak.now ≡ 4 }
+{
+    peak.first_from(least)
+}
+
+/// The first of four leaves whose value is at least a number.
+#[test]
+fn peak_of_four(rt: HostRuntime) -> Result<(), AllocError> {
+    let mut peak = Peak::new(rt.alloc(), 4)?;
+    assert_eq!(rt; first_of_four(&peak, 1), None);
+    set(&mut peak, 1, 5);
+    set(&mut peak, 2, 9);
+    set(&mut peak, 3, 5);
+    assert_eq!(rt; first_of_four(&peak, 5), Some(1));
+    assert_eq!(rt; first_of_four(&peak, 6), Some(2));
+    assert_eq!(rt; first_of_four(&peak, 10), None);
+    Ok(())
+}

@@ -1,0 +1,5 @@
+use Rattle.wf_uplink.proofs.Calls.{tids_told}
+use Rattle.wf_uplink.proofs.laws.tid_law.Goals as goal
+
+pub returns : goal.returns
+returns c = tids_told

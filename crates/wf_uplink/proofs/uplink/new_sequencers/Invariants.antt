@@ -1,0 +1,6 @@
+use Rattle.std.proofs.Common.{◌≡◌, replicate}
+use Rattle.wf_uplink.specs.Reordering.{unopened}
+use Rattle.wf_uplink.proofs.uplink.new_sequencers.Given as goal
+
+abbrev pub invariant-loop : goal.invariant-loop
+invariant-loop l = l.made.items ≡ replicate l.counter unopened

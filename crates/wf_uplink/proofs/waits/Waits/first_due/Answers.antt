@@ -1,0 +1,4 @@
+use Rattle.wf_uplink.proofs.waits.Waits.first_due.Goals as goal
+
+pub first_from-requires : goal.first_from-requires
+first_from-requires c = (11, c.self.invariant)

@@ -1,0 +1,301 @@
+//! The uplink of all stations.
+
+ghost use Rattle.std.specs.Prelude.{◌≡◌, ◌+◌, ◌*◌, ◌^◌, ◌<◌, ◌≤◌, false, [], length, map, replicate, slice_index_or, slice_set, IfOk, OnOk, OnErr, IfSome, is_some, is_ok, None};
+ghost use Rattle.wf_uplink.specs.Reordering.{unopened, arrived, timed_out, is_none_stored, waits_since_of};
+ghost use Rattle.wf_uplink.specs.Shown.{item_of, up_of, totals_of};
+ghost use Rattle.wf_uplink.specs.Soundness.{latest};
+ghost use Rattle.wf_uplink.specs.World.{Open, SetRate, Receive, Tick, Expire, new_world, rate_of, is_open, place_of as place_at, open_fault, begun, receive_fault, refusal_of, delivery_of, first_due, timeout_of, after_call};
+
+use crate::fault::{Closed, OpenFault, UplinkFault};
+use crate::items::Items;
+use crate::reading::{body_of, data_header, is_from, sender_of};
+use crate::sequencer::Sequencer;
+use crate::up::{Totals, Up};
+use crate::waits::Waits;
+use std::alloc::{AllocError, Global};
+use std::marker::Model;
+use wf_airtime::Rate;
+use wf_seq12::Seq12;
+
+/// How many traffic identifiers a station has.
+const TIDS: u32 = 8;
+
+/// The octets of a header of data.
+const HEADER: u32 = 26;
+
+/// The octets that go on the air beside a frame's own: its delimiter and its check sequence, four each.
+const AROUND: u32 = 8;
+
+/// What many stations send to the access point: for each traffic identifier of each station the frames are put in the order of
+/// their sequence numbers, and a hole is waited for 100,000 microseconds.
+///
+/// Only `new` takes memory.
+#[derive(Drop)]
+pub struct Uplink {
+    clock: u64,
+    rates: Vec<Option<Rate>>,
+    sequencers: Vec<Sequencer>,
+    waits: Waits,
+    frames: u64,
+    up: u64,
+    back: u64,
+    missing: u64,
+}
+
+impl Model for Uplink {
+    ghost use Rattle.wf_uplink.specs.Soundness.{IsSound, IsWatched, world_of};
+    ghost use Rattle.wf_uplink.specs.World.{World};
+
+    ghost Value = { World };
+
+    ghost view = { λ u. world_of u.clock u.rates.items u.sequencers.items u.frames u.up u.back u.missing };
+
+    ghost invariant = { λ u. let w = world_of u.clock u.rates.items u.sequencers.items u.frames u.up u.back u.missing in IsSound w × IsWatched w u.waits };
+}
+
+fn new_sequencers(alloc: Global, count: u32) -> Result<Vec<Sequencer>, AllocError>
+    ensures { IfOk result (λ made. made.items ≡ replicate count unopened) }
+{
+    let mut made = Vec::with_capacity(alloc, count as usize)?;
+    for _ in 0..count {
+        made.push(Sequencer::new(alloc)?)?;
+    }
+    Ok(made)
+}
+
+/// The traffic identifiers of a station begin anew.
+fn begin(sequencers: &mut [Sequencer], station: u16, window: u16, start: u16)
+    requires window { (1 ≤ window) × (window ≤ 256) }
+    requires start { start ≤ 4095 }
+    requires within { 8 * station + 8 ≤ length sequencers.old }
+    ensures { sequencers.new ≡ begun 8 station window start sequencers.old }
+{
+    for tid in 0..8u8 {
+        sequencers[place_of(station, tid)].reset(start, window);
+    }
+}
+
+/// Twelve bits of a number arrive at the reordering of a place, with the frame's id. Whether the frame is given back, and since
+/// when the reordering waits.
+fn arrive_at(
+    sequencers: &mut [Sequencer],
+    place: usize,
+    bits: Seq12,
+    id: u64,
+    now: u64,
+    items: &mut Items,
+) -> (bool, Option<u64>)
+    requires place { place < length sequencers.old }
+    requires low { (slice_index_or sequencers.old place unopened).start < 2 ^ 63 + 4096 }
+    requires empty { items.old ≡ [] }
+    ensures old { result.0 ≡ (arrived bits id now (slice_index_or sequencers.old place unopened)).old }
+    ensures since { result.1 ≡ waits_since_of (arrived bits id now (slice_index_or sequencers.old place unopened)).after }
+    ensures after { sequencers.new ≡ slice_set sequencers.old place (arrived bits id now (slice_index_or sequencers.old place unopened)).after }
+    ensures items { items.new ≡ map item_of (arrived bits id now (slice_index_or sequencers.old place unopened)).passed }
+{
+    let sequencer = &mut sequencers[place];
+    let old = sequencer.arrive(bits, id, now, items);
+    (old, sequencer.waits_since())
+}
+
+/// The reordering of a place, which is due, gives up its hole. Since when it waits.
+fn time_out_at(
+    sequencers: &mut [Sequencer],
+    place: usize,
+    now: u64,
+    items: &mut Items,
+) -> Option<u64>
+    requires place { place < length sequencers.old }
+    requires low { (slice_index_or sequencers.old place unopened).start < 2 ^ 63 + 4096 }
+    requires some { is_none_stored (slice_index_or sequencers.old place unopened).stored ≡ false }
+    requires empty { items.old ≡ [] }
+    ensures since { result ≡ waits_since_of (timed_out now (slice_index_or sequencers.old place unopened)).after }
+    ensures after { sequencers.new ≡ slice_set sequencers.old place (timed_out now (slice_index_or sequencers.old place unopened)).after }
+    ensures items { items.new ≡ map item_of (timed_out now (slice_index_or sequencers.old place unopened)).passed }
+{
+    let sequencer = &mut sequencers[place];
+    sequencer.time_out(now, items);
+    sequencer.waits_since()
+}
+
+/// Where the reordering of a station's traffic identifier stands in the list.
+fn place_of(station: u16, tid: u8) -> usize
+    ensures { result ≡ place_at station tid }
+{
+    8 * usize::from(station) + usize::from(tid)
+}
+
+impl Uplink {
+    /// The uplink of so many stations, 1 to 256, none of which is opened. The clock is at 0.
+    ///
+    /// Fails for want of memory, which no other call takes.
+    pub fn new(alloc: Global, stations: u32) -> Result<Uplink, AllocError>
+        requires { (1 ≤ stations) × (stations ≤ 256) }
+        ensures { IfOk result (λ u. u ≡ new_world stations) }
+    {
+        let rates = vec![in alloc; None; stations as usize]?;
+        let sequencers = new_sequencers(alloc, TIDS * stations)?;
+        let waits = Waits::new(alloc)?;
+        Ok(Uplink {
+            clock: 0,
+            rates,
+            sequencers,
+            waits,
+            frames: 0,
+            up: 0,
+            back: 0,
+            missing: 0,
+        })
+    }
+
+    /// Opens a station, with this window and first number for each of its eight traffic identifiers, at the lowest rate.
+    #[tactic(auto, unfolding(crate::specs::World::after_call))]
+    pub fn open(&mut self, station: u16, window: u16, start: u16) -> Result<(), OpenFault>
+        // refused exactly where a check fails, for the first that does
+        ensures fault { refusal_of result ≡ open_fault station window start self.old }
+        ensures clock { self.new.clock ≡ self.old.clock }
+        ensures after { self.new ≡ after_call (Open station window start) self.old }
+    {
+        let number = usize::from(station);
+        if number >= self.rates.len() {
+            return Err(OpenFault::BadStation);
+        }
+        if window < 1 || window > 256 {
+            return Err(OpenFault::BadWindow);
+        }
+        if start > 4095 {
+            return Err(OpenFault::BadStart);
+        }
+        if self.rates[number].is_some() {
+            return Err(OpenFault::Live);
+        }
+        self.rates[number] = Some(Rate::lowest());
+        begin(&mut self.sequencers, station, window, start);
+        Ok(())
+    }
+
+    /// Sets the rate of a station. Refused exactly where it was not opened.
+    #[tactic(auto, unfolding(crate::specs::World::after_call))]
+    pub fn set_rate(&mut self, station: u16, rate: Rate) -> Result<(), Closed>
+        ensures refused { is_ok result ≡ is_open self.old station }
+        ensures clock { self.new.clock ≡ self.old.clock }
+        ensures after { self.new ≡ after_call (SetRate station rate) self.old }
+    {
+        if self.rate_of(station).is_none() {
+            return Err(Closed);
+        }
+        self.rates[usize::from(station)] = Some(rate);
+        Ok(())
+    }
+
+    /// The rate of a station; none where it is not opened.
+    fn rate_of(&self, station: u16) -> Option<Rate>
+        ensures { result ≡ rate_of self.now station }
+    {
+        let number = usize::from(station);
+        if number < self.rates.len() {
+            self.rates[number]
+        } else {
+            None
+        }
+    }
+
+    /// Octets came in. `up` tells what goes up of a data frame; after a fault it is as it was.
+    #[tactic(auto, unfolding(crate::specs::World::after_call))]
+    pub fn receive(&mut self, octets: &[u8], up: &mut Up) -> Result<(), UplinkFault>
+        requires frames { self.old.frames < 2 ^ 62 }
+        requires missing { self.old.missing < 2 ^ 62 }
+
+        // refused exactly where a check fails, for the first that does
+        ensures fault { refusal_of result ≡ receive_fault octets.now self.old }
+        ensures clock { self.new.clock ≡ self.old.clock }
+        ensures after { self.new ≡ after_call (Receive octets.now) self.old }
+        ensures up { OnOk result (up.exit.now ≡ up_of (delivery_of octets.now self.old)) }
+        ensures unchanged { OnErr result (up.exit.now ≡ up.entry.now) }
+    {
+        let header = data_header(octets)?;
+        let station = sender_of(&header);
+        let rate = match self.rate_of(station) {
+            Some(rate) => rate,
+            None => return Err(UplinkFault::NotMine),
+        };
+        if !is_from(&header, station) {
+            return Err(UplinkFault::NotMine);
+        }
+        let length = body_of(header.tid, octets)?;
+        up.station = station;
+        up.tid = header.tid;
+        up.air = rate.data_charge(length + HEADER + AROUND, false);
+        up.items.clear();
+        let place = place_of(station, header.tid);
+        let (old, since) = arrive_at(
+            &mut self.sequencers,
+            place,
+            header.seq,
+            self.frames,
+            self.clock,
+            &mut up.items,
+        );
+        up.old = old;
+        self.waits.set(place, since);
+        let (released, given_up) = up.items.counts();
+        self.frames += 1;
+        self.up += released;
+        self.missing += given_up;
+        self.back += u64::from(old);
+        Ok(())
+    }
+
+    /// The clock goes on by so many microseconds, at most 10,000,000.
+    #[tactic(auto, unfolding(crate::specs::World::after_call))]
+    pub fn tick(&mut self, by: u32)
+        requires step { by ≤ 10000000 }
+        requires clock { self.old.clock + by < latest }
+        ensures clock { self.new.clock ≡ self.old.clock + by }
+        ensures after { self.new ≡ after_call (Tick by) self.old }
+    {
+        self.clock += u64::from(by);
+    }
+
+    /// The first traffic identifier, by station and then by its number, that is due gives up its hole, and `up` tells of it.
+    /// False where none is due; then `up` is as it was.
+    #[tactic(auto, unfolding(crate::specs::World::after_call))]
+    pub fn expired(&mut self, up: &mut Up) -> bool
+        requires frames { self.old.frames < 2 ^ 62 }
+        requires missing { self.old.missing < 2 ^ 62 }
+        ensures due { result ≡ is_some (first_due self.old) }
+        ensures clock { self.new.clock ≡ self.old.clock }
+        ensures after { self.new ≡ after_call Expire self.old }
+        ensures up { IfSome (first_due self.old) (λ place. up.exit.now ≡ up_of (timeout_of place self.old)) }
+        ensures unchanged { first_due self.old ≡ None → up.exit.now ≡ up.entry.now }
+    {
+        let place = match self.waits.first_due(self.clock) {
+            Some(place) => place,
+            None => return false,
+        };
+        up.station = (place / 8) as u16;
+        up.tid = (place % 8) as u8;
+        up.air = 0;
+        up.old = false;
+        up.items.clear();
+        let since = time_out_at(&mut self.sequencers, place, self.clock, &mut up.items);
+        self.waits.set(place, since);
+        let (released, given_up) = up.items.counts();
+        self.up += released;
+        self.missing += given_up;
+        true
+    }
+
+    /// How many frames there were, and what became of them.
+    pub fn totals(&self) -> Totals
+        ensures { result ≡ totals_of self.now }
+    {
+        Totals {
+            frames: self.frames,
+            up: self.up,
+            old: self.back,
+            held: self.frames - self.up - self.back,
+            missing: self.missing,
+        }
+    }
+}
