@@ -1,12 +1,16 @@
 //! A frame with its body.
 
 ghost use Rattle.std.specs.Prelude.{◌≡◌, ◌<◌, ◌≤◌, ◌⊎◌, length, IfOk, IfErr, MatchResult};
+ghost use Rattle.wf_rules.specs.Lengths.{greatest_body};
 ghost use Rattle.wf_frame.specs.Frames.{new_frame, sample_body};
 ghost use Rattle.wf_frame.specs.declared.classes.Fate.TheVariants.{Held};
 
 use crate::Fate;
 use std::alloc::{AllocError, Global};
 use std::marker::Model;
+
+/// The greatest body in octets: the greatest MSDU (IEEE 802.11-2012, 8.2.3).
+pub const GREATEST_BODY: u16 = 2304;
 
 /// A frame: its body of 1 to 2304 octets, where it goes, and what becomes of it.
 #[derive(Drop)]
@@ -22,13 +26,14 @@ pub struct Frame {
 
 impl Model for Frame {
     ghost use Rattle.std.specs.Prelude.{◌<◌, ◌≤◌, length};
+    ghost use Rattle.wf_rules.specs.Lengths.{greatest_body};
     ghost use Rattle.wf_frame.specs.Frames.{FrameValue};
 
     ghost Value = { FrameValue };
 
     ghost view = { λ f. record { body = f.body.items; id = f.id; stamp = f.stamp; station = f.station; tid = f.tid; flow = f.flow; fate = f.fate } };
 
-    ghost invariant = { λ f. (0 < length f.body.items) × (length f.body.items ≤ 2304) };
+    ghost invariant = { λ f. (0 < length f.body.items) × (length f.body.items ≤ greatest_body) };
 }
 
 impl Frame {
@@ -36,11 +41,11 @@ impl Frame {
     /// the body has no octet or more than 2304 (the greatest MSDU, IEEE 802.11-2012, 8.2.3).
     pub fn new(station: u16, tid: u8, flow: u32, body: Vec<u8>) -> Result<Frame, Vec<u8>>
         ensures made { IfOk result (λ f. f ≡ new_frame station tid flow body.items) }
-        ensures within { IfOk result (λ f. (0 < length body.items) × (length body.items ≤ 2304)) }
+        ensures within { IfOk result (λ f. (0 < length body.items) × (length body.items ≤ greatest_body)) }
         ensures handed_back { IfErr result (λ b. b ≡ body) }
-        ensures refused { IfErr result (λ b. (length body.items ≡ 0) ⊎ (2304 < length body.items)) }
+        ensures refused { IfErr result (λ b. (length body.items ≡ 0) ⊎ (greatest_body < length body.items)) }
     {
-        if body.is_empty() || 2304 < body.len() {
+        if body.is_empty() || usize::from(GREATEST_BODY) < body.len() {
             return Err(body);
         }
         Ok(Frame {
@@ -62,7 +67,7 @@ impl Frame {
         flow: u32,
         len: u16,
     ) -> Result<Frame, AllocError>
-        requires within { (0 < len) × (len ≤ 2304) }
+        requires within { (0 < len) × (len ≤ greatest_body) }
         ensures { IfOk result (λ f. f ≡ new_frame station tid flow (sample_body flow len)) }
     {
         let mut body = Vec::new(alloc);
@@ -119,7 +124,7 @@ impl Frame {
     pub fn len(&self) -> u16
         ensures exact { result ≡ length self.now.body }
         ensures some { 0 < result }
-        ensures most { result ≤ 2304 }
+        ensures most { result ≤ greatest_body }
     {
         self.body.len() as u16
     }

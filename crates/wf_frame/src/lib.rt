@@ -8,7 +8,7 @@ mod notes;
 mod settings;
 
 pub use classes::{Cause, Class, Fate};
-pub use frames::Frame;
+pub use frames::{Frame, GREATEST_BODY};
 pub use lists::{Ids, Pairs};
 pub use notes::{Ask, Note, Part, Refusal, ReplyNote};
 pub use settings::{Config, Field};

@@ -22,8 +22,8 @@ use Rattle.wf_trace.specs.declared.call.Vocabulary.TheVariants as vocabulary
 use Rattle.wf_trace.specs.declared.meaning.Place.{Place}
 use Rattle.wf_trace.specs.declared.meaning.Meaning.TheVariants.{Entry}
 use Rattle.wf_trace.specs.Lines.{is_printable}
-use Rattle.wf_trace.specs.Words.{words, parts, in_front, is_word, is_digit, is_number, value_from, number_of}
-use Rattle.wf_trace.specs.Grammar.{word_of, call_named, args_of, in_range, read_arg, read_args, short_number, octet_number, long_number}
+use Rattle.wf_trace.specs.Words.{words, parts, in_front, is_word, is_digit, is_number, value_from, number_of, in_range}
+use Rattle.wf_trace.specs.Grammar.{word_of, call_named, args_of, read_arg, read_args, short_number, octet_number, long_number}
 use Rattle.wf_trace.specs.Notes.{class_of, note_of, read_call}
 use Rattle.wf_trace.specs.Meanings.{meant, entry_of}
 use Rattle.wf_note.specs.Printing.{class_word, guard_word, heard_word, weight_words, ask_words, note_words, caller_words, note_text, IsAskInRange, IsInRange}

@@ -18,13 +18,13 @@ use Rattle.wf_trace.specs.declared.reader.Item.{Item}
 use Rattle.wf_trace.specs.declared.reader.Item.TheVariants as item
 use Rattle.wf_trace.specs.declared.call.Call.{Call}
 use Rattle.wf_trace.specs.declared.call.Call.TheVariants as call
-use Rattle.wf_trace.specs.Grammar.{in_range, read_arg, args_of, call_named, read_args}
+use Rattle.wf_trace.specs.Grammar.{read_arg, args_of, call_named, read_args}
 use Rattle.wf_trace.specs.Notes.{Within, note_of, noted, called, read_call}
 use Rattle.wf_trace.proofs.ArgLaws.{within_read}
 use Rattle.wf_trace.specs.Lines.{Texts, texts_of, lines}
-use Rattle.wf_trace.specs.Words.{words, number_of}
+use Rattle.wf_trace.specs.Words.{words, skipped, number_of, in_range}
 use Rattle.wf_trace.specs.Settings.{worse, placed, set_one, read_words, range_of, was_seen, named_field, split_once, place_of}
-use Rattle.wf_trace.specs.Meanings.{read_head, allowed, entry_of, against, caller_first, headed, finished, named, meant, skipped}
+use Rattle.wf_trace.specs.Meanings.{read_head, allowed, entry_of, against, caller_first, headed, finished, named, meant}
 use Rattle.wf_trace.specs.Reading.{Reading, told, stopped, read_behind, place_behind, reading}
 use Rattle.wf_replay.specs.Texts.{settings_among, history_among}
 use Rattle.wf_replay.specs.Laws.{HasLengths, HasLaws}

@@ -16,7 +16,8 @@ use Rattle.wf_trace.specs.Reader.{Reader, Reads, Gives, IsHeld, rest}
 use Rattle.wf_replay.specs.declared.status.Status.{Status}
 use Rattle.wf_replay.specs.declared.status.Status.TheVariants.{Done, Usage, BadTrace, ReadFault, WriteFault, NoMemory}
 use Rattle.wf_world.specs.World.{World, opening}
-use Rattle.wf_replay.specs.Texts.{history_among, text, fault_line}
+use Rattle.wf_trace.specs.Faults.{fault_line}
+use Rattle.wf_replay.specs.Texts.{history_among, text}
 use Rattle.wf_report.specs.Fronts.{HoldsFront}
 use Rattle.wf_replay.specs.Running.{Progress, behind_item, answer, closing}
 use Rattle.wf_replay.specs.Outcome.{Outcome, IsFrontOf, ReachesEnd}

@@ -13,8 +13,8 @@ use Rattle.wf_trace.specs.declared.reader.Item.{Item}
 use Rattle.wf_trace.specs.declared.reader.Item.TheVariants.{Head, Entry, Finish, Bad}
 use Rattle.wf_trace.specs.Lines.{texts_of}
 use Rattle.wf_trace.specs.Scanning.{lines_behind}
-use Rattle.wf_trace.specs.Words.{words}
-use Rattle.wf_trace.specs.Meanings.{meant, skipped}
+use Rattle.wf_trace.specs.Words.{words, skipped}
+use Rattle.wf_trace.specs.Meanings.{meant}
 use Rattle.wf_trace.specs.Reading.{Reading, reading, stopped}
 use Rattle.wf_trace.specs.Reader.{next_place, said, read_texts}
 use Rattle.wf_trace.proofs.PlaceLaws.{Sorted, sorted, reading_placed}

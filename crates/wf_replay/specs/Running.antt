@@ -5,7 +5,7 @@ use Rattle.wf_trace.specs.declared.reader.Item.TheVariants.{Head, Entry, Finish,
 use Rattle.wf_world.specs.World.{World, opening}
 use Rattle.wf_world.specs.Step.{Outcome, step}
 use Rattle.wf_world.specs.Text.{answer_line, summary}
-use Rattle.wf_replay.specs.Texts.{fault_line}
+use Rattle.wf_trace.specs.Faults.{fault_line}
 
 abbrev pub behind_item : Option World → Item → Option World
 behind_item w (Head config) = Some (opening config)

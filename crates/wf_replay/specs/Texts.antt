@@ -2,30 +2,13 @@
 use Rattle.std.specs.Prelude.{ℕ, List, [], ◌∷◌, ◌++◌, codes, decimal, map, length, Option, Some, None}
 use Rattle.std.specs.List.{concat}
 use Rattle.wf_frame.specs.declared.settings.Config.{Config}
-use Rattle.wf_trace.specs.declared.fault.FaultKind.{FaultKind}
-use Rattle.wf_trace.specs.declared.fault.FaultKind.TheVariants as kind
-use Rattle.wf_trace.specs.declared.fault.Fault.{Fault}
 use Rattle.wf_trace.specs.declared.reader.Item.{Item}
 use Rattle.wf_trace.specs.declared.reader.Item.TheVariants as item
+use Rattle.wf_trace.specs.Faults.{fault_line}
 use Rattle.wf_trace.specs.Reading.{Reading}
 use Rattle.wf_world.specs.World.{opening}
 use Rattle.wf_world.specs.Run.{Entry, by, replies, world_after}
-use Rattle.wf_world.specs.Text.{line, answer_line, summary}
-
-abbrev pub kind_name : FaultKind → List ℕ
-kind_name kind.TooBig = codes "too-big"
-kind_name kind.LongLine = codes "long-line"
-kind_name kind.NotAscii = codes "not-ascii"
-kind_name kind.Word = codes "word"
-kind_name kind.Count = codes "count"
-kind_name kind.Number = codes "number"
-kind_name kind.Range = codes "range"
-kind_name kind.NoHead = codes "no-head"
-kind_name kind.NoEnd = codes "no-end"
-kind_name kind.TooLong = codes "too-long"
-
-abbrev pub fault_line : Fault → List ℕ
-fault_line fault = line (codes "fault" ∷ codes "line" ∷ decimal fault.line ∷ kind_name fault.kind ∷ [])
+use Rattle.wf_world.specs.Text.{answer_line, summary}
 
 -- the settings of a trace, if it has a head, and its history
 abbrev pub settings_among : List Item → Option Config

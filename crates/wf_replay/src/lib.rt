@@ -2,7 +2,6 @@
 #![tactic(auto)]
 
 mod commands;
-mod faults;
 mod plain;
 mod runner;
 mod status;

@@ -1,4 +1,5 @@
 pub mod Table
+pub mod Lengths
 pub mod Airtime
 pub mod Fit
 pub mod Codel

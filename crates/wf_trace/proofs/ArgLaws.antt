@@ -3,14 +3,15 @@ use Rattle.std.proofs.Common.{◌≡◌, ℕ, zero, suc, ◌+◌, ◌<◌, ◌�
 use Rattle.std.specs.Prelude.{◌-◌, Option, Some, None, Result, Ok, Err, position}
 use Rattle.std.specs.Str.{bytes_eq}
 use Rattle.wf_trace.specs.declared.call.Arg.TheVariants.{Number, Optional, Word}
-use Rattle.wf_trace.specs.Words.{number_of}
+use Rattle.wf_trace.specs.Words.{number_of, in_range}
 use Rattle.wf_trace.specs.Notes.{Within, low_of, high_of}
 use Rattle.std.proofs.lemmas.Bool.Decides.{nat_tests}
 use Rattle.wf_trace.specs.declared.fault.FaultKind.{FaultKind}
 use Rattle.wf_trace.specs.declared.call.Arg.{Arg}
 use Rattle.wf_trace.specs.declared.call.Call.{Call}
 use Rattle.wf_trace.specs.declared.call.Call.TheVariants.{Join, Leave, Rate, Tick, Enq, Pull, Arrive, Answer, Done, Sleep, Wake, Poll, Rx, Reap}
-use Rattle.wf_trace.specs.Grammar.{earlier, both, read_arg, read_args, absent_arg, args_of, first_fault, in_range, among, vocabulary}
+use Rattle.wf_trace.specs.Faults.{earlier, first_fault}
+use Rattle.wf_trace.specs.Grammar.{both, read_arg, read_args, absent_arg, args_of, among, vocabulary}
 use Rattle.std.proofs.lemmas.List.{drop_more}
 
 -- what is read, behind values and faults

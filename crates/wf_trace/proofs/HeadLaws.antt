@@ -4,7 +4,7 @@ use Rattle.std.specs.Prelude.{Option, Some, None, Result, Ok, Err}
 use Rattle.std.proofs.lemmas.Bool.Decides.{nat_tests}
 use Rattle.wf_trace.specs.declared.fault.FaultKind.{FaultKind}
 use Rattle.wf_frame.specs.declared.settings.Config.{Config}
-use Rattle.wf_trace.specs.Grammar.{first_fault}
+use Rattle.wf_trace.specs.Faults.{first_fault}
 use Rattle.wf_trace.specs.Settings.{split_once, grown, worse, after_fault, read_words, set_one, named_field}
 use Rattle.wf_trace.proofs.ArgLaws.{earlier_assoc}
 

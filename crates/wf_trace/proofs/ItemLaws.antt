@@ -4,14 +4,13 @@ use Rattle.std.specs.Prelude.{Option, Some, None, Result, Ok, Err, IsSome, IsSom
 use Rattle.std.specs.Io.KnownBytes.{prepend_known}
 use Rattle.wf_io.specs.declared.source.Failed.{Failed}
 use Rattle.wf_trace.specs.declared.fault.End.{End}
-use Rattle.wf_trace.specs.declared.cutter.Piece.TheVariants.{Text, Ended}
 use Rattle.wf_trace.specs.declared.meaning.Place.{Place}
 use Rattle.wf_trace.specs.declared.fault.Fault.{Fault}
 use Rattle.wf_trace.specs.declared.reader.Item.{Item}
 use Rattle.wf_trace.specs.declared.reader.Item.TheVariants.{Head, Entry, Finish, Bad}
 use Rattle.wf_trace.specs.Lines.{Texts}
-use Rattle.wf_trace.specs.Words.{words}
-use Rattle.wf_trace.specs.Meanings.{meant, skipped, HasRoom}
+use Rattle.wf_trace.specs.Words.{words, skipped}
+use Rattle.wf_trace.specs.Meanings.{meant, HasRoom}
 use Rattle.wf_frame.specs.declared.notes.Note.{Note}
 use Rattle.wf_trace.specs.declared.meaning.Meaning.TheVariants as meaning
 use Rattle.wf_trace.specs.Cutting.{Cutting, Takes, Fits, to_come}
@@ -49,7 +48,7 @@ grown first cutter new place line left left_now left_new octets closed more held
 
 -- a line that says nothing
 pub held_skip : (first : Reader) (cutter new : Cutting) (place : Option Place) (line : ℕ) (left left_now left_new : Option (List ℕ)) (octets : List ℕ) →
-    Held first (at cutter place line) left left_now → (IsSome cutter.ended → IsSome new.ended) → Takes cutter left_now (Ok Text) new left_new octets →
+    Held first (at cutter place line) left left_now → (IsSome cutter.ended → IsSome new.ended) → Takes cutter left_now (Ok None) new left_new octets →
     skipped (words new.scanner.line) ≡ true → Held first (at new place (line + 1)) left left_new
 held_skip first cutter new place line left left_now left_new octets held sticky takes skips = record {
   octets = held.octets ++ octets;
@@ -65,7 +64,7 @@ replaced result new before other after is gives = subst (λ (r : Reading). Gives
 
 -- a line that says something
 pub reads_line : (first : Reader) (cutter new : Cutting) (place : Option Place) (line : ℕ) (left left_now left_new : Option (List ℕ)) (octets : List ℕ) (item : Item) (after : Reader) →
-    Held first (at cutter place line) left left_now → (IsSome cutter.ended → IsSome new.ended) → Takes cutter left_now (Ok Text) new left_new octets →
+    Held first (at cutter place line) left left_now → (IsSome cutter.ended → IsSome new.ended) → Takes cutter left_now (Ok None) new left_new octets →
     skipped (words new.scanner.line) ≡ false → after.cutter ≡ new →
     ((t : Texts) → Gives (Ok item) after (said (meant place (words new.scanner.line)) place (line + 1 - 1) (λ next. read_texts t.texts t.ending next (line + 1))) (rest_of after.ended after.place after.line t)) →
     (taken : List ℕ) × Reads first left (Ok item) after left_new taken
@@ -87,7 +86,7 @@ reads_line first cutter new place line left left_now left_new octets item after 
 
 -- no line more
 pub reads_end : (first : Reader) (cutter new : Cutting) (place : Option Place) (line : ℕ) (left left_now left_new : Option (List ℕ)) (octets : List ℕ) (end : End) (fault : Fault) (after : Reader) →
-    Held first (at cutter place line) left left_now → (IsSome cutter.ended → IsSome new.ended) → Takes cutter left_now (Ok (Ended end)) new left_new octets →
+    Held first (at cutter place line) left left_now → (IsSome cutter.ended → IsSome new.ended) → Takes cutter left_now (Ok (Some end)) new left_new octets →
     stopped place line (Some end) ≡ ends (Bad fault) → after ≡ record { cutter = new; place = place; line = line; ended = Some (Bad fault) } →
     (taken : List ℕ) × Reads first left (Ok (Bad fault)) after left_new taken
 reads_end first cutter new place line left left_now left_new octets end fault after held sticky takes stops is = (

@@ -1,5 +1,7 @@
 pub mod ScanLaws
 pub mod Taking
+pub mod CutLaws
+pub mod InputLaws
 pub mod WordLaws
 pub mod ArgLaws
 pub mod ItemLaws

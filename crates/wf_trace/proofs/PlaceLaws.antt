@@ -16,10 +16,10 @@ use Rattle.wf_trace.specs.declared.meaning.Meaning.TheVariants.{Head, Entry, Fin
 use Rattle.wf_trace.specs.declared.meaning.Place.{Place}
 use Rattle.wf_trace.specs.Lines.{texts_of, lines}
 use Rattle.wf_trace.specs.Scanning.{lines_behind}
-use Rattle.wf_trace.specs.Words.{words}
+use Rattle.wf_trace.specs.Words.{words, skipped}
 use Rattle.wf_trace.specs.Grammar.{read_arg}
 use Rattle.wf_trace.specs.Notes.{read_call}
-use Rattle.wf_trace.specs.Meanings.{skipped, is_head, settings_of, settings_if, read_head, allowed, entry_of, against, caller_first, headed, finished, named, meant}
+use Rattle.wf_trace.specs.Meanings.{is_head, settings_of, settings_if, read_head, allowed, entry_of, against, caller_first, headed, finished, named, meant}
 use Rattle.wf_trace.specs.Reading.{Reading, with_item, head_of, first_some, head_among, is_call, place_behind, told, read_behind, reading}
 use Rattle.wf_trace.specs.Reader.{next_place, said, read_texts}
 use Rattle.wf_trace.proofs.Parted.{lines_parted}

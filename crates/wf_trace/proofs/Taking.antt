@@ -7,8 +7,6 @@ use Rattle.wf_trace.specs.declared.fault.FaultKind.TheVariants.{TooBig}
 use Rattle.wf_trace.specs.declared.fault.End.{End}
 use Rattle.wf_trace.specs.declared.fault.End.TheVariants.{Flaw}
 use Rattle.wf_trace.specs.declared.scanner.Found.TheVariants as found
-use Rattle.wf_trace.specs.declared.cutter.Piece.{Piece}
-use Rattle.wf_trace.specs.declared.cutter.Piece.TheVariants.{Text, Ended}
 use Rattle.wf_trace.specs.Lines.{before, flaw, texts_of}
 use Rattle.wf_trace.specs.Scanning.{Scanning, Finds, lines_behind, texts_from, texts_behind}
 use Rattle.wf_trace.specs.Cutting.{Cutting, Takes, Fits, Follows, to_come}
@@ -53,30 +51,30 @@ took_refill first s t left left_now left_new took dry refilled same = record {
 abbrev pub going : Scanning → Cutting
 going s = record { scanner = s; given = false; ended = None }
 
-abbrev pub Judged : Option FaultKind → Piece → Scanning → Cutting → Type 0
-Judged f piece s new = MatchOption f ((piece ≡ Text) × (new ≡ record { scanner = s; given = true; ended = None }))
-    (λ kind. (piece ≡ Ended (Flaw kind)) × (new ≡ record { scanner = s; given = false; ended = Some (Flaw kind) }))
+abbrev pub Judged : Option FaultKind → Option End → Scanning → Cutting → Type 0
+Judged f end s new = MatchOption f ((end ≡ None) × (new ≡ record { scanner = s; given = true; ended = None }))
+    (λ kind. (end ≡ Some (Flaw kind)) × (new ≡ record { scanner = s; given = false; ended = Some (Flaw kind) }))
 
-judged : (f : Option FaultKind) (first s t : Scanning) (left left_now : Option (List ℕ)) (piece : Piece) (new : Cutting) → (took : Took first s left left_now) →
+judged : (f : Option FaultKind) (first s t : Scanning) (left left_now : Option (List ℕ)) (end : Option End) (new : Cutting) → (took : Took first s left left_now) →
     ((closed : Bool) (more : List ℕ) → texts_from s closed more ≡ before f t.line (texts_behind t closed more)) →
-    Judged f piece t new → Takes (going first) left (Ok piece) new left_now took.octets
-judged None first s t left left_now piece new took finds is = record {
+    Judged f end t new → Takes (going first) left (Ok end) new left_now took.octets
+judged None first s t left left_now end new took finds is = record {
   taken = took.taken;
   gives = rw (is.0, is.1) (λ closed more fits. took.same closed more ∙ finds closed more);
 }
-judged (Some kind) first s t left left_now piece new took finds is = record {
+judged (Some kind) first s t left left_now end new took finds is = record {
   taken = took.taken;
   gives = rw (is.0, is.1) (λ closed more fits. (refl, took.same closed more ∙ finds closed more));
 }
 
 -- a line ended
-pub takes_line : (first s t : Scanning) (left left_now : Option (List ℕ)) (piece : Piece) (new : Cutting) → Took first s left left_now →
-    Finds s (Some found.Line) t → Judged (flaw t.looked t.line) piece t new → (octets : List ℕ) × Takes (going first) left (Ok piece) new left_now octets
-takes_line first s t left left_now piece new took finds is = (took.octets, judged (flaw t.looked t.line) first s t left left_now piece new took finds is)
+pub takes_line : (first s t : Scanning) (left left_now : Option (List ℕ)) (end : Option End) (new : Cutting) → Took first s left left_now →
+    Finds s (Some found.Line) t → Judged (flaw t.looked t.line) end t new → (octets : List ℕ) × Takes (going first) left (Ok end) new left_now octets
+takes_line first s t left left_now end new took finds is = (took.octets, judged (flaw t.looked t.line) first s t left left_now end new took finds is)
 
 -- the line goes past the end of any trace
 pub takes_big : (first s t : Scanning) (left left_now : Option (List ℕ)) → Took first s left left_now → Finds s (Some found.TooBig) t →
-    (octets : List ℕ) × Takes (going first) left (Ok (Ended (Flaw TooBig))) (record { scanner = t; given = false; ended = Some (Flaw TooBig) }) left_now octets
+    (octets : List ℕ) × Takes (going first) left (Ok (Some (Flaw TooBig))) (record { scanner = t; given = false; ended = Some (Flaw TooBig) }) left_now octets
 takes_big first s t left left_now took finds = (
   took.octets,
   record {
@@ -96,10 +94,10 @@ nothing_left None now new closed more some at_end is fits = absurd (cc)
 nothing_left (Some e) now new closed more some at_end is fits =
     (fits.0, let told : now ≡ Some more = is ∙ rw (fits.1) refl in subst (λ (l : Option (List ℕ)). IsAtEnd l) told at_end)
 
-pub takes_end : (first s : Scanning) (left left_now left_new : Option (List ℕ)) (piece : Piece) (new : Cutting) → Took first s left left_new →
+pub takes_end : (first s : Scanning) (left left_now left_new : Option (List ℕ)) (end : Option End) (new : Cutting) → Took first s left left_new →
     IsAtEnd left_now → left_now ≡ prepend_known [] left_new → IsSome new.ended →
-    Follows (Ok piece) new (to_come (going s) true []) (to_come new true []) → (octets : List ℕ) × Takes (going first) left (Ok piece) new left_new octets
-takes_end first s left left_now left_new piece new took at_end is ended follows = (
+    Follows (Ok end) new (to_come (going s) true []) (to_come new true []) → (octets : List ℕ) × Takes (going first) left (Ok end) new left_new octets
+takes_end first s left left_now left_new end new took at_end is ended follows = (
   took.octets,
   record {
     taken = took.taken;

@@ -3,8 +3,6 @@ use Rattle.std.specs.Prelude.{◌≡◌, ℕ, ◌+◌, ◌-◌, List, [], ◌∷
 use Rattle.std.specs.Io.KnownBytes.{prepend_known}
 use Rattle.wf_io.specs.declared.source.Failed.{Failed}
 use Rattle.wf_trace.specs.declared.fault.End.{End}
-use Rattle.wf_trace.specs.declared.cutter.Piece.{Piece}
-use Rattle.wf_trace.specs.declared.cutter.Piece.TheVariants.{Text, Ended}
 use Rattle.wf_trace.specs.Lines.{Texts}
 use Rattle.wf_trace.specs.Scanning.{Scanning, texts_from, texts_behind}
 
@@ -29,13 +27,13 @@ Fits None left closed more = Unit {0}
 Fits (Some end) left closed more = (closed ≡ true) × (left ≡ Some more)
 
 -- what was to come before a call, by its answer and what is to come after it
-abbrev pub Follows : Result Piece Failed → Cutting → Texts → Texts → Type 0
-Follows (Ok Text) new before after = before ≡ record { texts = new.scanner.line ∷ after.texts; ending = after.ending }
-Follows (Ok (Ended end)) new before after = (new.ended ≡ Some end) × (before ≡ after)
+abbrev pub Follows : Result (Option End) Failed → Cutting → Texts → Texts → Type 0
+Follows (Ok None) new before after = before ≡ record { texts = new.scanner.line ∷ after.texts; ending = after.ending }
+Follows (Ok (Some end)) new before after = (new.ended ≡ Some end) × (before ≡ after)
 Follows (Err failed) new before after = before ≡ after
 
 -- the octets that a call took, and what it gave of them
-pub record Takes (old : Cutting) (left : Option (List ℕ)) (result : Result Piece Failed) (new : Cutting) (left_new : Option (List ℕ)) (octets : List ℕ) : Type 0 where
+pub record Takes (old : Cutting) (left : Option (List ℕ)) (result : Result (Option End) Failed) (new : Cutting) (left_new : Option (List ℕ)) (octets : List ℕ) : Type 0 where
   pub taken : left ≡ prepend_known octets left_new
   pub gives : (closed : Bool) (more : List ℕ) → Fits new.ended left_new closed more → Follows result new (to_come old closed (octets ++ more)) (to_come new closed more)
 

@@ -1,5 +1,5 @@
 -- The call lines of a trace: a word and arguments for each call.
-use Rattle.std.specs.Prelude.{ℕ, List, [], ◌∷◌, codes, ◌&&◌, nat_le, if◌then◌else◌, Option, Some, None, Result, Ok, Err, find, position}
+use Rattle.std.specs.Prelude.{ℕ, List, [], ◌∷◌, codes, Option, Some, None, Result, Ok, Err, find, position}
 use Rattle.std.specs.Str.{bytes_eq}
 use Rattle.wf_trace.specs.declared.fault.FaultKind.{FaultKind}
 use Rattle.wf_trace.specs.declared.fault.FaultKind.TheVariants as kind
@@ -9,7 +9,8 @@ use Rattle.wf_trace.specs.declared.call.Arg.{Arg}
 use Rattle.wf_trace.specs.declared.call.Arg.TheVariants.{Number, Optional, Word}
 use Rattle.wf_trace.specs.declared.call.Vocabulary.{Vocabulary}
 use Rattle.wf_trace.specs.declared.call.Vocabulary.TheVariants.{Class, Guard, Heard}
-use Rattle.wf_trace.specs.Words.{number_of, words}
+use Rattle.wf_trace.specs.Faults.{earlier}
+use Rattle.wf_trace.specs.Words.{number_of, in_range}
 
 -- the word of a call
 abbrev pub word_of : Call → List ℕ
@@ -66,27 +67,7 @@ vocabulary Class = codes "bk" ∷ codes "be" ∷ codes "vi" ∷ codes "vo" ∷ [
 vocabulary Guard = codes "long" ∷ codes "short" ∷ []
 vocabulary Heard = codes "heard" ∷ codes "lost" ∷ []
 
--- a line is judged by the first of its faults in this order
-abbrev pub rank : FaultKind → ℕ
-rank kind.TooBig = 1
-rank kind.LongLine = 2
-rank kind.NotAscii = 3
-rank kind.Word = 4
-rank kind.Count = 5
-rank kind.Number = 6
-rank kind.Range = 7
-rank kind.NoHead = 8
-rank kind.NoEnd = 9
-rank kind.TooLong = 10
-
-abbrev pub earlier : FaultKind → FaultKind → FaultKind
-earlier one two = if nat_le (rank one) (rank two) then one else two
-
 -- the value of an argument, a word's being its place
-abbrev pub in_range : ℕ → ℕ → Option ℕ → Result ℕ FaultKind
-in_range low high None = Err kind.Number
-in_range low high (Some value) = if nat_le low value && nat_le value high then Ok value else Err kind.Range
-
 abbrev pub among : Option ℕ → Result ℕ FaultKind
 among None = Err kind.Word
 among (Some place) = Ok place
@@ -120,7 +101,3 @@ read_args (arg ∷ args) (word ∷ words) = both (read_arg arg word) (read_args 
 abbrev pub seen : {X Y : Type 0} → (X → Y) → Result X FaultKind → Result Y FaultKind
 seen f (Ok x) = Ok (f x)
 seen f (Err fault) = Err fault
-
-abbrev pub first_fault : Option FaultKind → FaultKind → FaultKind
-first_fault None other = other
-first_fault (Some fault) other = earlier fault other

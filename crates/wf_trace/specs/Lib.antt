@@ -2,6 +2,9 @@ pub mod Lines
 pub mod Scanning
 pub mod Cutting
 pub mod Words
+pub mod Faults
+pub mod Pieces
+pub mod Numbering
 pub mod Grammar
 pub mod Notes
 pub mod Meanings

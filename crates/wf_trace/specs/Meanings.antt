@@ -1,5 +1,5 @@
 -- What a line says in its place.
-use Rattle.std.specs.Prelude.{◌≡◌, ℕ, ◌<◌, List, [], ◌∷◌, codes, Bool, true, false, ◌==◌, nat_le, if◌then◌else◌, Option, Some, None, Result, Ok, Err, replicate}
+use Rattle.std.specs.Prelude.{◌≡◌, ℕ, ◌<◌, List, [], ◌∷◌, codes, Bool, false, ◌==◌, nat_le, if◌then◌else◌, Option, Some, None, Result, Ok, Err, replicate}
 use Rattle.std.specs.Str.{bytes_eq}
 use Rattle.wf_trace.specs.declared.fault.FaultKind.{FaultKind}
 use Rattle.wf_trace.specs.declared.fault.FaultKind.TheVariants as kind
@@ -9,16 +9,11 @@ use Rattle.wf_frame.specs.declared.notes.Note.{Note}
 use Rattle.wf_trace.specs.declared.meaning.Meaning.{Meaning}
 use Rattle.wf_trace.specs.declared.meaning.Meaning.TheVariants.{Head, Entry, Finish}
 use Rattle.wf_trace.specs.declared.meaning.Place.{Place}
-use Rattle.wf_trace.specs.Grammar.{read_arg, earlier}
+use Rattle.wf_trace.specs.Faults.{earlier}
+use Rattle.wf_trace.specs.Grammar.{read_arg}
 use Rattle.wf_trace.specs.Notes.{read_call}
 use Rattle.wf_frame.specs.Settings.{standard}
 use Rattle.wf_trace.specs.Settings.{read_words}
-
--- a line without words, or whose first octet that is not a space is #
-abbrev pub skipped : List (List ℕ) → Bool
-skipped [] = true
-skipped ([] ∷ words) = false
-skipped ((octet ∷ octets) ∷ words) = octet == 35
 
 -- the settings of the head
 abbrev pub read_head : List (List ℕ) → Result Config FaultKind

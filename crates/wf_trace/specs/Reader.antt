@@ -10,8 +10,8 @@ use Rattle.wf_trace.specs.declared.meaning.Place.{Place}
 use Rattle.wf_trace.specs.declared.reader.Item.{Item}
 use Rattle.wf_trace.specs.declared.reader.Item.TheVariants.{Head, Entry, Finish, Bad}
 use Rattle.wf_trace.specs.Lines.{Texts}
-use Rattle.wf_trace.specs.Words.{words}
-use Rattle.wf_trace.specs.Meanings.{meant, skipped}
+use Rattle.wf_trace.specs.Words.{words, skipped}
+use Rattle.wf_trace.specs.Meanings.{meant}
 use Rattle.wf_trace.specs.Reading.{Reading, with_item, ends, bad, stopped}
 use Rattle.wf_trace.specs.Cutting.{Cutting, to_come, Fits, room}
 

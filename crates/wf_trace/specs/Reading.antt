@@ -11,8 +11,8 @@ use Rattle.wf_trace.specs.declared.meaning.Place.{Place}
 use Rattle.wf_trace.specs.declared.reader.Item.{Item}
 use Rattle.wf_trace.specs.declared.reader.Item.TheVariants.{Head, Entry, Finish, Bad}
 use Rattle.wf_trace.specs.Lines.{Texts, texts_of, lines}
-use Rattle.wf_trace.specs.Words.{words}
-use Rattle.wf_trace.specs.Meanings.{meant, skipped, is_head, settings_of}
+use Rattle.wf_trace.specs.Words.{words, skipped}
+use Rattle.wf_trace.specs.Meanings.{meant, is_head, settings_of}
 
 -- the head and the calls in order, and how the trace ends, as far as it is known
 pub record Reading : Type 0 where

@@ -9,7 +9,8 @@ use Rattle.wf_frame.specs.declared.settings.Config.{Config}
 use Rattle.wf_frame.specs.declared.settings.Field.{Field}
 use Rattle.wf_frame.specs.declared.settings.Field.TheVariants.{Stations, Flows, Limit, Room, FlowQuantum, Quantum, Inflight, Attempts, Agg, Cap, Sleeping, Calls}
 use Rattle.wf_frame.specs.Settings.{fields, lowest_of, greatest_of, with_value}
-use Rattle.wf_trace.specs.Grammar.{read_arg, earlier}
+use Rattle.wf_trace.specs.Faults.{earlier}
+use Rattle.wf_trace.specs.Grammar.{read_arg}
 
 abbrev pub name_of : Field → List ℕ
 name_of Stations = codes "stations"

@@ -4,35 +4,12 @@ ghost use Rattle.std.specs.Prelude.{◌≡◌, ◌≤◌, ◌∷◌, List, lengt
 ghost use Rattle.std.specs.Str.{bytes_eq};
 ghost use Rattle.wf_trace.specs.Words.{words};
 ghost use Rattle.wf_trace.specs.declared.call.Arg.{Arg as Kind};
-ghost use Rattle.wf_trace.specs.Grammar.{read_arg, absent_arg, vocabulary as known_words, earlier, first_fault, seen, both, read_args};
+ghost use Rattle.wf_trace.specs.Grammar.{read_arg, absent_arg, vocabulary as known_words, seen, both, read_args};
 
 use crate::call::{Arg, Vocabulary};
-use crate::fault::FaultKind;
-use crate::words::{next_word, number};
+use crate::fault::{FaultKind, first_of};
+use crate::words::{in_range, next_word};
 use arrayvec::ArrayVec;
-
-impl FaultKind {
-    /// The one that a line is judged by.
-    pub fn earlier(self, other: FaultKind) -> FaultKind
-        ensures { result ≡ earlier self other }
-    {
-        if self as u8 <= other as u8 {
-            self
-        } else {
-            other
-        }
-    }
-}
-
-/// The earlier of a fault, if there is one, and another.
-pub fn first_of(fault: Option<FaultKind>, other: FaultKind) -> FaultKind
-    ensures { result ≡ first_fault fault other }
-{
-    match fault {
-        None => other,
-        Some(fault) => fault.earlier(other),
-    }
-}
 
 // The place of a word in a vocabulary.
 fn place(vocabulary: Vocabulary, word: &[u8]) -> Option<u32>
@@ -56,17 +33,6 @@ fn place(vocabulary: Vocabulary, word: &[u8]) -> Option<u32>
             b"lost" => Some(1),
             _ => None,
         },
-    }
-}
-
-// A number in its range.
-fn in_range(low: u32, high: u32, word: &[u8]) -> Result<u32, FaultKind>
-    ensures { result ≡ read_arg (Kind.Number low high) word.now }
-{
-    match number(word) {
-        None => Err(FaultKind::Number),
-        Some(value) if u64::from(low) <= value && value <= u64::from(high) => Ok(value as u32),
-        Some(_) => Err(FaultKind::Range),
     }
 }
 

@@ -1,6 +1,6 @@
 //! Lines of a source.
 
-ghost use Rattle.std.specs.Prelude.{◌≡◌, ◌<◌, ◌≤◌, [], List, ℕ, true, false, MatchOption, IfOk, OnErr, Some, None, IsSome, Ok};
+ghost use Rattle.std.specs.Prelude.{◌≡◌, ◌<◌, ◌≤◌, [], List, ℕ, true, false, MatchOption, IfNone, IfOk, OnErr, Some, None, IsSome, Ok};
 ghost use Rattle.std.specs.List.{list_all};
 ghost use Rattle.std.specs.Io.KnownBytes.{IsAtEnd};
 ghost use Rattle.wf_io.specs.Faults.{CountsFaults};
@@ -15,13 +15,6 @@ use wf_io::{Failed, Source};
 const MOST: u64 = 268_435_456;
 
 const LONGEST: usize = 160;
-
-/// What comes next: a line, or the end.
-#[derive(Clone, Copy, Debug, PartialEq, Eq)]
-pub enum Piece {
-    Text,
-    Ended(End),
-}
 
 fn is_printable_line(octets: &[u8]) -> bool
     ensures { result ≡ list_all is_printable octets.now }
@@ -82,52 +75,54 @@ impl Cutter {
     }
 
     // Gives the begun line, which has ended.
-    fn judge(&mut self) -> Piece
+    fn judge(&mut self) -> Option<End>
         ensures { MatchOption (flaw self.old.scanner.looked self.old.scanner.line)
-            ((result ≡ Piece.Text) × (self.new ≡ record self.old { given = true }))
-            (λ kind. (result ≡ Piece.Ended (End.Flaw kind)) × (self.new ≡ record self.old { ended = Some (End.Flaw kind) })) }
+            ((result ≡ None) × (self.new ≡ record self.old { given = true }))
+            (λ kind. (result ≡ Some (End.Flaw kind)) × (self.new ≡ record self.old { ended = Some (End.Flaw kind) })) }
     {
         match flaw_of(self.scanner.looked(), self.scanner.line()) {
             None => {
                 self.given = true;
-                Piece::Text
+                None
             }
             Some(kind) => {
                 self.ended = Some(End::Flaw(kind));
-                Piece::Ended(End::Flaw(kind))
+                Some(End::Flaw(kind))
             }
         }
     }
 
     // Gives the rest of the input as a line, or that it is over.
-    fn finish(&mut self) -> Piece
+    fn finish(&mut self) -> Option<End>
         requires going { self.old.ended ≡ None }
         requires fresh { self.old.given ≡ false }
         requires dry { self.old.scanner.waiting ≡ [] }
         ensures ended { IsSome self.new.ended }
         ensures looked { self.new.scanner.looked ≡ self.old.scanner.looked }
+        ensures given { IfNone result (self.new.given ≡ true) }
         ensures follows { Follows (Ok result) self.new (to_come self.old true []) (to_come self.new true []) }
     {
         if self.scanner.line().is_empty() {
             self.ended = Some(End::Over);
-            return Piece::Ended(End::Over);
+            return Some(End::Over);
         }
-        let piece = self.judge();
+        let end = self.judge();
         if self.ended.is_none() {
             self.ended = Some(End::Over);
         }
-        piece
+        end
     }
 
     // The next line of which the first octets may be looked at.
-    fn advance<S: Source>(&mut self, source: &mut S) -> Result<Piece, Failed>
+    fn advance<S: Source>(&mut self, source: &mut S) -> Result<Option<End>, Failed>
         requires going { self.old.ended ≡ None }
         requires fresh { self.old.given ≡ false }
         ensures takes { (octets : List ℕ) × Takes self.old (S.left source.old) result self.new (S.left source.new) octets }
         ensures held { OnErr result ((self.new.scanner.waiting ≡ []) × (self.new.given ≡ false) × (self.new.ended ≡ None)) }
-        ensures progress { result ≡ Ok Piece.Text → room self.new < room self.old }
+        ensures given { result ≡ Ok None → self.new.given ≡ true }
+        ensures progress { result ≡ Ok None → room self.new < room self.old }
         ensures grows { room self.new ≤ room self.old }
-        ensures over { result ≡ Ok Piece.Text → IsSome self.new.ended → IsAtEnd (S.left source.new) }
+        ensures over { result ≡ Ok None → IsSome self.new.ended → IsAtEnd (S.left source.new) }
         ensures cause { CountsFaults (S.faults source.old) (S.faults source.new) result }
     {
         'lines: loop {
@@ -135,7 +130,7 @@ impl Cutter {
                 Some(Found::Line) => return Ok(self.judge()),
                 Some(Found::TooBig) => {
                     self.ended = Some(End::Flaw(FaultKind::TooBig));
-                    return Ok(Piece::Ended(End::Flaw(FaultKind::TooBig)));
+                    return Ok(Some(End::Flaw(FaultKind::TooBig)));
                 }
                 None => {}
             }
@@ -145,18 +140,20 @@ impl Cutter {
         }
     }
 
-    /// The next line, or the end, which is then given again at each call. After a failure the octets taken are kept.
-    pub fn next<S: Source>(&mut self, source: &mut S) -> Result<Piece, Failed>
+    /// Cuts the next line. Else why no more comes, which is then answered again at each call. After a failure the octets
+    /// taken are kept.
+    pub fn next<S: Source>(&mut self, source: &mut S) -> Result<Option<End>, Failed>
         ensures takes { (octets : List ℕ) × Takes self.old (S.left source.old) result self.new (S.left source.new) octets }
         ensures held { OnErr result ((self.new.scanner.waiting ≡ []) × (self.new.given ≡ false) × (self.new.ended ≡ None)) }
-        ensures progress { result ≡ Ok Piece.Text → room self.new < room self.old }
+        ensures given { result ≡ Ok None → self.new.given ≡ true }
+        ensures progress { result ≡ Ok None → room self.new < room self.old }
         ensures grows { room self.new ≤ room self.old }
-        ensures over { result ≡ Ok Piece.Text → IsSome self.new.ended → IsAtEnd (S.left source.new) }
+        ensures over { result ≡ Ok None → IsSome self.new.ended → IsAtEnd (S.left source.new) }
         ensures sticky { IsSome self.old.ended → IsSome self.new.ended }
         ensures cause { CountsFaults (S.faults source.old) (S.faults source.new) result }
     {
         if let Some(end) = self.ended {
-            return Ok(Piece::Ended(end));
+            return Ok(Some(end));
         }
         if self.given {
             self.scanner.begin();

@@ -1,8 +1,10 @@
-//! Traces: octets of a source cut into lines, lines read as the calls of a machine, and calls printed as lines.
+//! Traces: octets of a source cut into lines, the words of a line and the numbers that they are, and lines read as the calls
+//! of a machine.
 #![tactic(auto)]
 
 mod args;
 mod call;
+mod cut;
 mod cutter;
 mod fault;
 mod meaning;
@@ -12,8 +14,10 @@ mod scanner;
 mod settings;
 mod words;
 
-pub use fault::{Fault, FaultKind};
+pub use cut::{Cut, Piece};
+pub use fault::{Fault, FaultKind, first_of, print_fault};
 pub use reader::{Item, TraceReader};
+pub use words::{in_range, next_word, number};
 
 #[cfg(test)]
 mod tests;

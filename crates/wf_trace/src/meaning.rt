@@ -3,7 +3,7 @@
 ghost use Rattle.std.specs.Prelude.{◌≡◌, ◌∷◌, slice_index};
 ghost use Rattle.wf_trace.specs.Words.{words};
 ghost use Rattle.wf_trace.specs.Notes.{read_call};
-ghost use Rattle.wf_trace.specs.Meanings.{skipped, entry_of, caller_first, meant, named as named_line, HasRoom};
+ghost use Rattle.wf_trace.specs.Meanings.{entry_of, caller_first, meant, named as named_line, HasRoom};
 ghost use Rattle.wf_trace.specs.Grammar.{read_arg};
 ghost use Rattle.wf_trace.specs.declared.call.Arg.TheVariants.{Number};
 
@@ -35,16 +35,6 @@ const CALLER: Arg = Arg::Number {
     low: 0,
     high: 65535,
 };
-
-/// Whether a line says nothing: it has no words, or is a comment.
-pub fn is_skipped(line: &[u8]) -> bool
-    ensures { result ≡ skipped (words line.now) }
-{
-    match next_word(line) {
-        Some(([b'#', ..], _)) | None => true,
-        Some(_) => false,
-    }
-}
 
 // A value, or 0 where there is none.
 fn value_at(values: &ArrayVec<u32, 5>, i: usize) -> u32

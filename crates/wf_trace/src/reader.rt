@@ -5,9 +5,10 @@ ghost use Rattle.std.specs.Io.KnownBytes.{IsAtEnd};
 ghost use Rattle.wf_io.specs.Faults.{CountsFaults};
 ghost use Rattle.wf_trace.specs.Reader.{next_place};
 
-use crate::cutter::{Cutter, Piece};
+use crate::cutter::Cutter;
 use crate::fault::{End, Fault, FaultKind};
-use crate::meaning::{Meaning, Place, is_skipped, meaning_of};
+use crate::meaning::{Meaning, Place, meaning_of};
+use crate::words::is_skipped;
 use std::alloc::{AllocError, Global};
 use std::marker::Model;
 use wf_frame::{Config, Note};
@@ -150,8 +151,8 @@ impl TraceReader {
     {
         'lines: loop {
             match self.cutter.next(source) {
-                Ok(Piece::Text) => {}
-                Ok(Piece::Ended(end)) => return Ok(Item::Bad(self.stop(end))),
+                Ok(None) => {}
+                Ok(Some(end)) => return Ok(Item::Bad(self.stop(end))),
                 Err(failed) => return Err(failed),
             }
             self.line += 1;

@@ -5,9 +5,9 @@ ghost use Rattle.wf_frame.specs.Settings.{standard};
 ghost use Rattle.wf_trace.specs.Words.{words};
 ghost use Rattle.wf_trace.specs.Settings.{name_of, field_named, range_of, place_of, split_once, named_field, set_one, after_fault, read_words};
 
-use crate::args::{first_of, read_one};
+use crate::args::read_one;
 use crate::call::Arg;
-use crate::fault::FaultKind;
+use crate::fault::{FaultKind, first_of};
 use crate::words::next_word;
 use wf_frame::{Config, Field};
 

@@ -1,9 +1,21 @@
 //! The reader on short traces.
 
-use crate::{Fault, FaultKind, Item, TraceReader};
+use crate::{Cut, Fault, FaultKind, Item, Piece, TraceReader};
 use std::test::Fail;
 use wf_frame::{Ask, Config, Note};
 use wf_io::{Given, Source};
+
+#[test]
+fn lines_that_say_something_come_with_their_numbers(rt: HostRuntime) -> Result<(), Fail> {
+    let octets = b"# note\n\n  to a 0\n #\nend".to_vec(rt.alloc())?;
+    let mut source = Given::new(octets, 4, Vec::new(rt.alloc()));
+    let mut cut = Cut::new(rt.alloc())?;
+    assert!(rt; cut.next(&mut source) == Ok(Piece::Text { line: 3 }));
+    assert!(rt; cut.next(&mut source) == Ok(Piece::Text { line: 5 }));
+    assert!(rt; cut.next(&mut source) == Ok(Piece::Ended { line: 6 }));
+    assert!(rt; cut.next(&mut source) == Ok(Piece::Ended { line: 6 }));
+    Ok(())
+}
 
 #[test]
 fn items_come_in_order_and_the_end_again(rt: HostRuntime) -> Result<(), Fail> {

@@ -2,7 +2,9 @@
 
 ghost use Rattle.std.specs.Prelude.{◌≡◌, ◌+◌, ◌<◌, ◌≤◌, ◌^◌, ◌∷◌, [], ℕ, List, length, MatchOption, IsTrue, ◌≢◌, slice_index};
 ghost use Rattle.std.specs.List.{list_all};
-ghost use Rattle.wf_trace.specs.Words.{words, is_digit, is_number, number_of, value_from};
+ghost use Rattle.wf_trace.specs.Words.{words, skipped, is_digit, is_number, number_of, value_from, in_range};
+
+use crate::fault::FaultKind;
 
 /// The line behind the spaces at its front.
 fn trimmed(line: &[u8]) -> &[u8]
@@ -44,6 +46,16 @@ pub fn next_word(line: &[u8]) -> Option<(&[u8], &[u8])>
     Some((word, rest))
 }
 
+/// Whether a line says nothing: it has no words, or is a comment.
+pub fn is_skipped(line: &[u8]) -> bool
+    ensures { result ≡ skipped (words line.now) }
+{
+    match next_word(line) {
+        Some(([b'#', ..], _)) | None => true,
+        Some(_) => false,
+    }
+}
+
 fn are_digits(word: &[u8]) -> bool
     ensures { result ≡ list_all is_digit word.now }
 {
@@ -83,5 +95,17 @@ pub fn number(word: &[u8]) -> Option<u64>
         Some(value_of(word))
     } else {
         None
+    }
+}
+
+/// The number that a word is, where it lies from low to high. Number where it is none, and Range where it lies
+/// outside.
+pub fn in_range(low: u32, high: u32, word: &[u8]) -> Result<u32, FaultKind>
+    ensures { result ≡ in_range low high (number_of word.now) }
+{
+    match number(word) {
+        None => Err(FaultKind::Number),
+        Some(value) if u64::from(low) <= value && value <= u64::from(high) => Ok(value as u32),
+        Some(_) => Err(FaultKind::Range),
     }
 }
