@@ -8,7 +8,7 @@ use Rattle.wf_trace.specs.declared.call.Call.TheVariants.{Join, Leave, Rate, Tic
 use Rattle.wf_trace.specs.declared.call.Arg.{Arg}
 use Rattle.wf_trace.specs.declared.call.Arg.TheVariants.{Number, Optional, Word}
 use Rattle.wf_trace.specs.declared.call.Vocabulary.{Vocabulary}
-use Rattle.wf_trace.specs.declared.call.Vocabulary.TheVariants.{Class, Guard, Heard}
+use Rattle.wf_trace.specs.declared.call.Vocabulary.TheVariants.{Class, Guard, Heard, End}
 use Rattle.wf_trace.specs.Faults.{earlier}
 use Rattle.wf_trace.specs.Words.{number_of, in_range}
 
@@ -66,6 +66,7 @@ abbrev pub vocabulary : Vocabulary → List (List ℕ)
 vocabulary Class = codes "bk" ∷ codes "be" ∷ codes "vi" ∷ codes "vo" ∷ []
 vocabulary Guard = codes "long" ∷ codes "short" ∷ []
 vocabulary Heard = codes "heard" ∷ codes "lost" ∷ []
+vocabulary End = codes "a" ∷ codes "b" ∷ []
 
 -- the value of an argument, a word's being its place
 abbrev pub among : Option ℕ → Result ℕ FaultKind

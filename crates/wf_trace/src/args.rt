@@ -33,6 +33,11 @@ fn place(vocabulary: Vocabulary, word: &[u8]) -> Option<u32>
             b"lost" => Some(1),
             _ => None,
         },
+        Vocabulary::End => match word {
+            b"a" => Some(0),
+            b"b" => Some(1),
+            _ => None,
+        },
     }
 }
 

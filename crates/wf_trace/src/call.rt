@@ -31,6 +31,8 @@ pub enum Vocabulary {
     Guard,
     /// `heard` or `lost`.
     Heard,
+    /// `a` or `b`: the ends of an agreement, the originator and the recipient.
+    End,
 }
 
 /// What an argument may be.

@@ -1,13 +1,13 @@
-//! How a run ends.
+//! How a command ends.
 
-/// How a run ends; as a number it is the program's exit status.
+/// How a command ends; as a number it is the program's exit status.
 #[derive(Clone, Copy, Debug, PartialEq, Eq)]
 pub enum Status {
     /// The text was written whole.
     Done = 0,
     /// The words are no command.
     Usage = 1,
-    /// The trace has a fault; the text up to it was written.
+    /// The input has a fault; the text up to it was written, and its line.
     BadTrace = 2,
     /// The source failed.
     ReadFault = 3,
