@@ -14,14 +14,15 @@ use Rattle.wf_trace.specs.Lines.{most}
 use Rattle.wf_trace.specs.Cutting.{Cutting, Fits, room, room_of}
 use Rattle.wf_trace.specs.Reading.{Reading, reading, with_item, ends}
 use Rattle.wf_trace.specs.Reader.{Reader, Reads, Gives, IsHeld, rest}
-use Rattle.wf_replay.specs.declared.status.Status.{Status}
-use Rattle.wf_replay.specs.declared.status.Status.TheVariants.{Done, Usage, BadTrace, ReadFault, WriteFault, NoMemory}
+use Rattle.wf_status.specs.declared.status.Status.{Status}
+use Rattle.wf_status.specs.declared.status.Status.TheVariants.{Done, Usage, BadTrace, ReadFault, WriteFault, NoMemory}
 use Rattle.wf_world.specs.World.{World, opening}
 use Rattle.wf_trace.specs.Faults.{fault_line}
 use Rattle.wf_replay.specs.Texts.{history_among, text}
 use Rattle.wf_report.specs.Fronts.{HoldsFront}
 use Rattle.wf_replay.specs.Running.{Progress, behind_item, answer, closing}
-use Rattle.wf_replay.specs.Outcome.{Outcome, IsFrontOf, ReachesEnd}
+use Rattle.wf_status.specs.Fronts.{IsFrontOf}
+use Rattle.wf_replay.specs.Outcome.{Outcome, ReachesEnd}
 use Rattle.wf_replay.proofs.Shapes.{answers_from, behind_items, told_text, answers_told, text_told}
 
 -- items in front
