@@ -4,7 +4,7 @@ use Rattle.std.specs.Prelude.{nat_lt, nat_le, slice_get, IsNone, is_some}
 use Rattle.std.specs.Option.{option_map}
 use Rattle.std.proofs.lemmas.List.{take-map, drop-map}
 use Rattle.std.proofs.lemmas.Bool.{ltb-true}
-use Rattle.wf_rules.specs.Codel.{Item, Params, Codel, Look, look_at, law, rise, octets, begin_dropping, first_count, look, raised, drops_dropping, state_dropping, drops_plain, state_plain, drops, state_after, dequeued_after, dequeue}
+use Rattle.wf_rules.specs.Codel.{Item, Params, Codel, Look, look_at, control_law, rise, octets, begin_dropping, first_count, look, raised_count, drops_dropping, state_dropping, drops_plain, state_plain, drops, state_after, dequeued_after, dequeue}
 use Rattle.wf_codel.specs.Takes.{Takes}
 use Rattle.wf_codel.specs.Looks.{look_by, started}
 use Rattle.wf_rule_laws.proofs.Lemmas.Drops.{dropped_once, seen, drops-bad, drops-early, drops-more, drops-none, state-none}
@@ -81,7 +81,7 @@ drops-inside (y ∷ rest) p now c due x =
       | false ↦ λ bad. rw (drops-bad p now c due x (y ∷ rest) bad) (omega arith)
       | true ↦ λ good. elim (nat_lt now due) as (λ b. nat_lt now due ≡ b → drops_dropping p now c due (x ∷ y ∷ rest) ≤ length (y ∷ rest)) [
         | true ↦ λ early. rw (drops-early p now c due x (y ∷ rest) early) (omega arith)
-        | false ↦ λ late. rw (drops-more p now c due x (y ∷ rest) good late) (let more : _ ≤ _ = drops-inside rest p now (dropped_once p now c due (seen p now c due x (y ∷ rest)).first_above) (law p due (rise c.count)) y in omega (arith, more))
+        | false ↦ λ late. rw (drops-more p now c due x (y ∷ rest) good late) (let more : _ ≤ _ = drops-inside rest p now (dropped_once p now c due (seen p now c due x (y ∷ rest)).first_above) (control_law p due (rise c.count)) y in omega (arith, more))
       ] refl
     ] refl
 
@@ -107,7 +107,7 @@ gives-some tossed x rest after thrown thrown' n given takes inside none = get-in
 abbrev pub IsCounted : Codel → Type 0
 IsCounted c = c.dropping ≡ true → 1 ≤ c.count
 
-pub raised-counted : (count i : ℕ) → 1 ≤ count → 1 ≤ raised count i
+pub raised-counted : (count i : ℕ) → 1 ≤ count → 1 ≤ raised_count count i
 raised-counted count zero some = some
 raised-counted count (suc i) some = omega arith
 

@@ -1,7 +1,7 @@
 -- CoDel on a lane of items of any type.
 use Rattle.std.proofs.Common.{◌≡◌, ℕ, suc, ◌+◌, ◌≤◌, ◌<◌, ◌∙◌, refl, sym, ap, Bool, true, false, List, [], ◌∷◌, ◌++◌, append_assoc, take, drop, map, if◌then◌else◌, Option, Some, None}
 use Rattle.std.specs.Prelude.{nat_lt, slice_get}
-use Rattle.wf_rules.specs.Codel.{Item, Params, Codel, Look, look_at, law, rise, octets, step_of, drops_dropping, state_dropping}
+use Rattle.wf_rules.specs.Codel.{Item, Params, Codel, Look, look_at, control_law, rise, octets, step_of, drops_dropping, state_dropping}
 use Rattle.wf_codel.specs.Takes.{Takes}
 use Rattle.std.proofs.lemmas.Bool.{lt-ltb, le-ltb}
 use Rattle.wf_codel.specs.Looks.{look_by}
@@ -23,7 +23,7 @@ unfoldable pub while_dropping : {X : Type 0} → (X → Item) → (X → X) → 
 while_dropping view tossed p now c due thrown [] = gives thrown (record c { first_above = 0; dropping = false }) []
 while_dropping view tossed p now c due thrown (x ∷ rest) =
     let look : Look = look_at p now c.first_above (view x ∷ map view rest) in
-    let on : Outcome _ = while_dropping view tossed p now (dropped_once p now c due look.first_above) (law p due (rise c.count)) (thrown ++ tossed x ∷ []) rest in
+    let on : Outcome _ = while_dropping view tossed p now (dropped_once p now c due look.first_above) (control_law p due (rise c.count)) (thrown ++ tossed x ∷ []) rest in
     if look.ok then (if nat_lt now due then gives thrown (record c { first_above = look.first_above; drop_next = due }) (x ∷ rest) else on)
     else gives thrown (record c { first_above = look.first_above; dropping = false }) (x ∷ rest)
 
@@ -48,7 +48,7 @@ module _ {X : Type 0} (view : X → Item) (tossed : X → X) (p : Params) (now :
     unfolding while_dropping
     while-early good early = rw (good, early) refl
 
-    pub while-more : saw.ok ≡ true → nat_lt now due ≡ false → while_dropping view tossed p now c due thrown (x ∷ rest) ≡ while_dropping view tossed p now (dropped_once p now c due saw.first_above) (law p due (rise c.count)) (thrown ++ tossed x ∷ []) rest
+    pub while-more : saw.ok ≡ true → nat_lt now due ≡ false → while_dropping view tossed p now c due thrown (x ∷ rest) ≡ while_dropping view tossed p now (dropped_once p now c due saw.first_above) (control_law p due (rise c.count)) (thrown ++ tossed x ∷ []) rest
     unfolding while_dropping
     while-more good late = rw (good, late) refl
 
@@ -60,7 +60,7 @@ module _ {X : Type 0} (view : X → Item) (tossed : X → X) (p : Params) (now :
   while-drops [] c due thrown on = while-none c due thrown ∙ sym (rw (drops-none p now c due, state-none p now c due, append-nil thrown) refl)
   while-drops (x ∷ rest) c due thrown on =
       let c' : Codel = dropped_once p now c due (saw c due thrown x rest).first_above in
-      let due' : ℕ = law p due (rise c.count) in
+      let due' : ℕ = control_law p due (rise c.count) in
       let looks : List Item = map view rest in
       elim (saw c due thrown x rest).ok as (λ b. (saw c due thrown x rest).ok ≡ b → while_dropping view tossed p now c due thrown (x ∷ rest) ≡ after_drops tossed thrown (x ∷ rest) (drops_dropping p now c due (view x ∷ looks)) (state_dropping p now c due (view x ∷ looks) (drops_dropping p now c due (view x ∷ looks)))) [
         | false ↦ λ bad. while-bad c due thrown x rest bad ∙ sym (rw (drops-bad p now c due (view x) looks bad, state-bad p now c due (view x) looks bad, append-nil thrown) refl)

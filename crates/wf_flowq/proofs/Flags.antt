@@ -12,15 +12,15 @@ use Rattle.wf_rules.specs.Codel.{octets}
 use Rattle.wf_rota.specs.Rotas.{is_ready}
 use Rattle.wf_store.specs.Queues.{octets_of}
 use Rattle.wf_store.specs.Store.{IsLongest}
-use Rattle.wf_backlog.specs.Backlog.{BacklogValue, frames_at, first_id, item_of, settled, head_dropped, as_store}
-use Rattle.wf_backlog.proofs.LongestLemmas.{longest_found}
-use Rattle.wf_flowq.specs.Flows.{has_frames, as_queue, longest}
+use Rattle.wf_codel_queues.specs.Backlog.{BacklogValue, frames_at, first_id, item_of, frame_with_fate, after_head_drop, as_store}
+use Rattle.wf_codel_queues.proofs.LongestLemmas.{longest_found}
+use Rattle.wf_flowq.specs.Flows.{has_frames, as_queue, longest_queue}
 use Rattle.wf_flowq.specs.Kept.{flags, is_some_frame}
 
 -- an empty queue has no head to drop
-pub nothing_dropped : (b : BacklogValue) (q : ℕ) → frames_at b q ≡ [] → head_dropped b q ≡ b
+pub nothing_dropped : (b : BacklogValue) (q : ℕ) → frames_at b q ≡ [] → after_head_drop b q ≡ b
 nothing_dropped b q empty =
-    ap (λ (xs : List FrameValue). let w : BacklogValue = record b { queues = set b.queues q (drop 1 xs); finished = b.finished ++ map (settled (Dropped Overlimit)) (take 1 xs) } in w) empty
+    ap (λ (xs : List FrameValue). let w : BacklogValue = record b { queues = set b.queues q (drop 1 xs); finished = b.finished ++ map (frame_with_fate (Dropped Overlimit)) (take 1 xs) } in w) empty
     ∙ ap (λ (all : List (List FrameValue)). let w : BacklogValue = record b { queues = all; finished = b.finished ++ [] } in w) (ap (set b.queues q) (sym empty) ∙ set-get_or b.queues q [])
     ∙ ap (λ (fs : List FrameValue). let w : BacklogValue = record b { finished = fs } in w) (append-nil b.finished)
 
@@ -44,7 +44,7 @@ pub changed_at : (b after : BacklogValue) (q : ℕ) (xs : List FrameValue) → q
 changed_at b after q xs low changed = ap (λ (all : List (List FrameValue)). get_or all q []) changed ∙ get_or-set_same b.queues q xs [] low
 
 -- a queue's head is dropped, also where it has none
-pub head_gone : (b after : BacklogValue) (q : ℕ) (o : Option ℕ) (xs : List FrameValue) → frames_at b q ≡ xs → o ≡ first_id xs → OnSome o (after ≡ head_dropped b q) → IfNone o (after ≡ b) → after ≡ head_dropped b q
+pub head_gone : (b after : BacklogValue) (q : ℕ) (o : Option ℕ) (xs : List FrameValue) → frames_at b q ≡ xs → o ≡ first_id xs → OnSome o (after ≡ after_head_drop b q) → IfNone o (after ≡ b) → after ≡ after_head_drop b q
 head_gone b after q None [] frames is some none = none ∙ sym (nothing_dropped b q frames)
 head_gone b after q None (f ∷ fs) frames is some none = absurd cc
 head_gone b after q (Some id) xs frames is some none = some
@@ -68,10 +68,10 @@ octets_each [] = refl
 octets_each (xs ∷ all) = ap (λ (n : ℕ). n ∷ map octets_of all) (sym (octets_same xs)) ∙ ap (λ (ns : List ℕ). octets (map item_of xs) ∷ ns) (octets_each all)
 
 -- the longest queue of a store is the one that the pass over the queues finds
-pub longest_is : (b : BacklogValue) (q : ℕ) → IsLongest (as_store b) q → q ≡ longest b
-unfolding longest
+pub longest_is : (b : BacklogValue) (q : ℕ) → IsLongest (as_store b) q → q ≡ longest_queue b
+unfolding longest_queue
 longest_is b q l = sym (longest_found b (map as_queue b.queues) q (octets_each b.queues) l)
 
-pub longest_some : (b : BacklogValue) (o : Option ℕ) → IfSome o (IsLongest (as_store b)) → IfSome o (λ q. q ≡ longest b)
+pub longest_some : (b : BacklogValue) (o : Option ℕ) → IfSome o (IsLongest (as_store b)) → IfSome o (λ q. q ≡ longest_queue b)
 longest_some b None l = l
 longest_some b (Some q) l = longest_is b q l

@@ -14,7 +14,7 @@ use Rattle.wf_rules.specs.Lists.{on}
 use Rattle.wf_rota.specs.Lists.{lists_at, on_at}
 use Rattle.wf_rota.specs.Rotas.{Rotas, deficit_at}
 use Rattle.wf_rule_laws.proofs.Lemmas.Counts.{on-nil}
-use Rattle.wf_backlog.specs.Backlog.{BacklogValue, held}
+use Rattle.wf_codel_queues.specs.Backlog.{BacklogValue, held}
 use Rattle.wf_flowq.specs.Flows.{empty_flows, waiting}
 use Rattle.wf_flowq.specs.Kept.{is_some_frame, depth, AreListed, IsKept}
 

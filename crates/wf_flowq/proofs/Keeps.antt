@@ -4,10 +4,10 @@ use Rattle.std.specs.Prelude.{sum_by, ℤ, pos, negsuc, ◌≤ℤ◌}
 use Rattle.std.proofs.lemmas.List.{get_or-set_same, get_or-set_other, set_past}
 use Rattle.std.proofs.lemmas.Bool.{cases_eq, cases_lt}
 use Rattle.wf_frame.specs.Frames.{FrameValue}
-use Rattle.wf_rules.specs.Rotation.{in_order, add_new}
+use Rattle.wf_rules.specs.Rotation.{in_order, with_new_key}
 use Rattle.wf_rota.specs.Lists.{lists_at, on_at}
 use Rattle.wf_rota.specs.Rotas.{Rotas, deficit_at, quantum_at}
-use Rattle.wf_backlog.specs.Backlog.{BacklogValue}
+use Rattle.wf_codel_queues.specs.Backlog.{BacklogValue}
 use Rattle.wf_flowq.specs.Flows.{FlowsValue}
 use Rattle.wf_flowq.specs.Kept.{depth, AreListed, IsKept}
 use Rattle.wf_flowq.proofs.Waiting.{depth_within, waiting_few}
@@ -75,11 +75,11 @@ module _ (v : FlowsValue) (counts : List ℕ) (ok : IsKept v counts) where
       (kept_lists (record v.rotas { deficits = set v.rotas.deficits q d }) refl (λ i k. omega arith) (λ i k some. refl) (length-set v.rotas.deficits q d) refl (low-set v.rotas.deficits q d ok.sized.low low))
 
   -- a queue that nobody lists is listed with a fresh deficit
-  pub kept_fresh : (after : Rotas) (i q : ℕ) (d : ℤ) → after ≡ record v.rotas { lists = set v.rotas.lists i (add_new (lists_at v.rotas.lists i) q); deficits = set v.rotas.deficits q d } → negsuc 2302 ≤ℤ d
+  pub kept_fresh : (after : Rotas) (i q : ℕ) (d : ℤ) → after ≡ record v.rotas { lists = set v.rotas.lists i (with_new_key (lists_at v.rotas.lists i) q); deficits = set v.rotas.deficits q d } → negsuc 2302 ≤ℤ d
       → i < 8 * v.stations → q < v.flows + 8 * v.stations → ((j : ℕ) → on_at v.rotas.lists j q ≡ 0) → (v.flows ≤ q → q ≡ v.flows + i) → IsKept (record v { rotas = after }) counts
   kept_fresh after i q d is low low_i low_q off own = subst (λ (r : Rotas). IsKept (record v { rotas = r }) counts) (sym is) (record {
     sized = record {
-      lists = length-set v.rotas.lists i (add_new (lists_at v.rotas.lists i) q) ∙ ok.sized.lists;
+      lists = length-set v.rotas.lists i (with_new_key (lists_at v.rotas.lists i) q) ∙ ok.sized.lists;
       deficits = length-set v.rotas.deficits q d ∙ ok.sized.deficits;
       queues = ok.sized.queues;
       tids = ok.sized.tids;

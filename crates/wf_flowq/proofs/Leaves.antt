@@ -11,7 +11,7 @@ use Rattle.wf_rota.specs.Lists.{lists_at, on_at, has_on}
 use Rattle.wf_rota.specs.Rotas.{Rotas, IsUnlisted}
 use Rattle.wf_rule_laws.proofs.Lemmas.Counts.{on_order-none}
 use Rattle.wf_rule_laws.proofs.Lemmas.Counts.{on-nil, on-append}
-use Rattle.wf_backlog.specs.Backlog.{BacklogValue, frames_at, first_id, head_dropped, flushed}
+use Rattle.wf_codel_queues.specs.Backlog.{BacklogValue, frames_at, first_id, after_head_drop, after_flush}
 use Rattle.wf_flowq.specs.Flows.{FlowsValue, tids, queues, is_listed, is_listed_elsewhere, queue_for}
 use Rattle.wf_flowq.specs.Kept.{depth, IsKept, CanList, without_queue}
 use Rattle.wf_flowq.proofs.Flags.{nothing_dropped, changed_at}
@@ -71,7 +71,7 @@ module _ (v now : FlowsValue) (counts : List ℕ) (same : v ≡ now) (ok : IsKep
     pub drop_fits : 1 ≤ x
     drop_fits = omega (arith, first_some (frames_at v.backlog q) o id has, read place x low read_x, depth_counted v counts ok place q (low_place place low) (low_queue q low_q) (stands q place side is))
 
-    pub drop_keeps : (after : BacklogValue) → after ≡ head_dropped v.backlog q → IsKept (record v { backlog = after }) (set counts place (x - 1))
+    pub drop_keeps : (after : BacklogValue) → after ≡ after_head_drop v.backlog q → IsKept (record v { backlog = after }) (set counts place (x - 1))
     drop_keeps after dropped =
         kept_frames v counts ok after place q (x - 1) (drop 1 (frames_at v.backlog q)) (ap (λ (b : BacklogValue). b.queues) dropped) (ap (λ (b : BacklogValue). b.room) dropped) (low_place place low) (low_queue q low_q) (stands q place side is)
         (omega (arith, drop_fits, first_some (frames_at v.backlog q) o id has, read place x low read_x, length-drop 1 (frames_at v.backlog q)))
@@ -79,8 +79,8 @@ module _ (v now : FlowsValue) (counts : List ℕ) (same : v ≡ now) (ok : IsKep
   no_frames : (q : ℕ) → IsUnlisted v.rotas.lists q → frames_at v.backlog q ≡ []
   no_frames q none = nil_from_length (frames_at v.backlog q) (unlisted_empty v counts ok q (λ j. on_order-none (lists_at v.rotas.lists j) q (none j)))
 
-  pub none_dropped : (q : ℕ) → IsUnlisted v.rotas.lists q → now ≡ record now { backlog = head_dropped now.backlog q }
-  none_dropped q none = subst (λ (w : FlowsValue). w ≡ record w { backlog = head_dropped w.backlog q }) same (ap (λ (b : BacklogValue). let w : FlowsValue = record v { backlog = b } in w) (sym (nothing_dropped v.backlog q (no_frames q none))))
+  pub none_dropped : (q : ℕ) → IsUnlisted v.rotas.lists q → now ≡ record now { backlog = after_head_drop now.backlog q }
+  none_dropped q none = subst (λ (w : FlowsValue). w ≡ record w { backlog = after_head_drop w.backlog q }) same (ap (λ (b : BacklogValue). let w : FlowsValue = record v { backlog = b } in w) (sym (nothing_dropped v.backlog q (no_frames q none))))
 
   pub none_id : (q : ℕ) → IsUnlisted v.rotas.lists q → None ≡ first_id (frames_at now.backlog q)
   none_id q none = subst (λ (w : FlowsValue). None ≡ first_id (frames_at w.backlog q)) same (ap first_id (sym (no_frames q none)))
@@ -100,7 +100,7 @@ module _ (v now : FlowsValue) (counts : List ℕ) (same : v ≡ now) (ok : IsKep
     pub purge_fits : gone ≤ x
     purge_fits = omega (arith, count, read i x low_i read_x, depth_counted v counts ok i q (low_place i low_i) low_q stands_i)
 
-    pub purge_keeps : (after : BacklogValue) (rotas : Rotas) → after ≡ flushed v.backlog q → rotas ≡ record v.rotas { lists = all_without v.rotas.lists q } → IsKept (record v { backlog = after; rotas = rotas }) (set counts i (x - gone))
+    pub purge_keeps : (after : BacklogValue) (rotas : Rotas) → after ≡ after_flush v.backlog q → rotas ≡ record v.rotas { lists = all_without v.rotas.lists q } → IsKept (record v { backlog = after; rotas = rotas }) (set counts i (x - gone))
     purge_keeps after rotas flush removed =
         subst (λ (r : Rotas). IsKept (record v { backlog = after; rotas = r }) (set counts i (x - gone))) (sym removed)
         (kept_lists (record v { backlog = after }) (set counts i (x - gone)) kept (record v.rotas { lists = all_without v.rotas.lists q }) (length-map v.rotas.lists (λ r. without_key r q))

@@ -3,7 +3,7 @@ use Rattle.std.proofs.Common.{◌≡◌, ℕ, ◌+◌, ◌*◌, ◌<◌, ◌≤�
 use Rattle.std.proofs.lemmas.List.{get_or-set_same, get_or-set_other}
 use Rattle.std.proofs.lemmas.Bool.{cases_eq, cases_lt}
 use Rattle.wf_frame.specs.Frames.{FrameValue}
-use Rattle.wf_rules.specs.Rotation.{Rotation, no_keys, in_order, add_new}
+use Rattle.wf_rules.specs.Rotation.{Rotation, no_keys, in_order, with_new_key}
 use Rattle.wf_rules.specs.Lists.{on}
 use Rattle.wf_rota.specs.Lists.{lists_at, on_at}
 use Rattle.wf_rule_laws.proofs.Lemmas.Counts.{on-nil, on-cons_same, on-cons_other, on-append}
@@ -59,7 +59,7 @@ module _ (flows keys : ℕ) (lists : List Rotation) (all : List (List FrameValue
       ]
 
 -- a key that comes last on the new list
-on-added : (r : Rotation) (q k : ℕ) → on (in_order (add_new r q)) k ≡ on (in_order r) k + on (q ∷ []) k
+on-added : (r : Rotation) (q k : ℕ) → on (in_order (with_new_key r q)) k ≡ on (in_order r) k + on (q ∷ []) k
 on-added r q k = omega (arith, on-append r.old (r.new ++ q ∷ []) k, on-append r.new (q ∷ []) k, on-append r.old r.new k)
 
 one_on : (q : ℕ) → on (q ∷ []) q ≡ 1
@@ -70,13 +70,13 @@ none_on q k other = omega (arith, on-cons_other q k [] (λ e. other (sym e)), on
 
 module _ (flows keys : ℕ) (lists : List Rotation) (all : List (List FrameValue)) (counts : List ℕ) (ok : AreListed flows keys lists all counts) (i q : ℕ) (low : i < length lists) (unlisted : (j : ℕ) → on_at lists j q ≡ 0) where
   abbrev after : List Rotation
-  after = set lists i (add_new (lists_at lists i) q)
+  after = set lists i (with_new_key (lists_at lists i) q)
 
   on-here : (k : ℕ) → on_at after i k ≡ on_at lists i k + on (q ∷ []) k
-  on-here k = ap (λ (r : Rotation). on (in_order r) k) (get_or-set_same lists i (add_new (lists_at lists i) q) no_keys low) ∙ on-added (lists_at lists i) q k
+  on-here k = ap (λ (r : Rotation). on (in_order r) k) (get_or-set_same lists i (with_new_key (lists_at lists i) q) no_keys low) ∙ on-added (lists_at lists i) q k
 
   on-there : (j k : ℕ) → (j ≡ i → ⊥) → on_at after j k ≡ on_at lists j k
-  on-there j k other = ap (λ (r : Rotation). on (in_order r) k) (get_or-set_other lists i j (add_new (lists_at lists i) q) no_keys other)
+  on-there j k other = ap (λ (r : Rotation). on (in_order r) k) (get_or-set_other lists i j (with_new_key (lists_at lists i) q) no_keys other)
 
   on-other : (j k : ℕ) → (k ≡ q → ⊥) → on_at after j k ≡ on_at lists j k
   on-other j k other = elim (cases_eq j i) [
@@ -113,6 +113,6 @@ module _ (flows keys : ℕ) (lists : List Rotation) (all : List (List FrameValue
     listed = λ k some.
         let other : k ≡ q → ⊥ = λ e. omega (arith, ap (depth all) e) in
         let l : (j : ℕ) × (j < length lists) × (0 < on_at lists j k) = ok.listed k some in
-        (l.0, omega (arith, l.1, length-set lists i (add_new (lists_at lists i) q)), omega (arith, l.2, on-other l.0 k other));
+        (l.0, omega (arith, l.1, length-set lists i (with_new_key (lists_at lists i) q)), omega (arith, l.2, on-other l.0 k other));
     counted = λ j within. ok.counted j within ∙ waiting_same all (in_order (lists_at lists j)) (in_order (lists_at after j)) (λ k some. sym (on-other j k (λ e. omega (arith, ap (depth all) e))));
   }

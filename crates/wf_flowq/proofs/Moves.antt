@@ -6,22 +6,22 @@ use Rattle.std.proofs.lemmas.List.{get_or-set_same, get_or_read}
 use Rattle.std.proofs.lemmas.Bool.{cases_eq, both_ways, ne_eqb, or_left, or_right, cond-true, cond-false}
 use Rattle.wf_frame.specs.Frames.{FrameValue}
 use Rattle.wf_rules.specs.Table.{has}
-use Rattle.wf_rules.specs.Rotation.{Rotation, no_keys, lists, add_new}
+use Rattle.wf_rules.specs.Rotation.{Rotation, no_keys, has_key, with_new_key}
 use Rattle.wf_rules.specs.Codel.{Params}
 use Rattle.wf_rota.specs.declared.Side.{Side}
 use Rattle.wf_rota.specs.declared.Side.TheVariants.{New, Old}
 use Rattle.wf_rota.specs.Lists.{lists_at, on_at, has_on, side_of}
 use Rattle.wf_rota.specs.Rotas.{Rotas, deficit_at, quantum_at, IsUnlisted}
 use Rattle.wf_rule_laws.proofs.Lemmas.Counts.{on_order-none}
-use Rattle.wf_backlog.specs.Backlog.{BacklogValue, frames_at, held, with_frames, drops_at, taken}
-use Rattle.wf_flowq.specs.Flows.{FlowsValue, tids, queues, is_listed, is_listed_elsewhere, listed_queue}
+use Rattle.wf_codel_queues.specs.Backlog.{BacklogValue, frames_at, held, with_frames, drops_at, after_take}
+use Rattle.wf_flowq.specs.Flows.{FlowsValue, tids, queues, is_listed, is_listed_elsewhere, with_listed_queue}
 use Rattle.wf_flowq.specs.Kept.{depth, IsKept, CanList}
 use Rattle.wf_flowq.proofs.Flags.{changed_at}
 use Rattle.wf_flowq.proofs.Owners.{listed_elsewhere, listed_nowhere_else, on-listed}
 use Rattle.wf_flowq.proofs.Keeps.{kept_frames, kept_deficit, kept_fresh, depth_counted, count_few}
 
 -- a key of one of the two lists is listed
-pub has_lists : (r : Rotation) (side : Side) (k : ℕ) → has (side_of r side) k ≡ true → lists r k ≡ true
+pub has_lists : (r : Rotation) (side : Side) (k : ℕ) → has (side_of r side) k ≡ true → has_key r k ≡ true
 has_lists r New k is = or_left (has r.new k) (has r.old k) is
 has_lists r Old k is = or_right (has r.new k) (has r.old k) is
 
@@ -59,7 +59,7 @@ module _ (v now : FlowsValue) (counts : List ℕ) (same : v ≡ now) (ok : IsKep
   pub take_fits : (i q x before : ℕ) → i < tids now → is_listed now i q ≡ true → x ≡ get_or counts i x → before ≡ depth v.backlog.queues q → before ≤ x
   take_fits i q x before low is read_x count = omega (arith, read i x low read_x, depth_counted v counts ok i q (low_tid i low) (below_key i q is) (stands i q is))
 
-  pub take_keeps : (i q x before left len clock : ℕ) (p : Params) (after : BacklogValue) (paid : Rotas) → i < tids now → is_listed now i q ≡ true → x ≡ get_or counts i x → before ≡ depth v.backlog.queues q → left ≡ depth after.queues q → after ≡ taken p clock v.backlog q
+  pub take_keeps : (i q x before left len clock : ℕ) (p : Params) (after : BacklogValue) (paid : Rotas) → i < tids now → is_listed now i q ≡ true → x ≡ get_or counts i x → before ≡ depth v.backlog.queues q → left ≡ depth after.queues q → after ≡ after_take p clock v.backlog q
       → pos 0 <ℤ deficit_at now.rotas.deficits q → len ≤ 2304 → paid ≡ record v.rotas { deficits = set v.rotas.deficits q (deficit_at v.rotas.deficits q -ℤ pos len) } → IsKept (record v { backlog = after; rotas = paid }) (set counts i (x - (before - left)))
   take_keeps i q x before left len clock p after paid low is read_x was now_left took positive few charged =
       kept_deficit (record v { backlog = after }) (set counts i (x - (before - left))) kept paid q (deficit_at v.rotas.deficits q -ℤ pos len) charged enough
@@ -95,30 +95,30 @@ module _ (v now : FlowsValue) (counts : List ℕ) (same : v ≡ now) (ok : IsKep
   unlisted_off q none j = on_order-none (lists_at v.rotas.lists j) q (none j)
 
   abbrev fresh : ℕ → ℕ → ℤ → Rotas
-  fresh i q d = record v.rotas { lists = set v.rotas.lists i (add_new (lists_at v.rotas.lists i) q); deficits = set v.rotas.deficits q d }
+  fresh i q d = record v.rotas { lists = set v.rotas.lists i (with_new_key (lists_at v.rotas.lists i) q); deficits = set v.rotas.deficits q d }
 
   pub list_keeps : (i q : ℕ) (after : Rotas) → i < tids now → q < queues now → CanList now i q → IsUnlisted v.rotas.lists q → after ≡ fresh i q (pos (quantum_at v.rotas.quanta q)) → IsKept (record v { rotas = after }) counts
   list_keeps i q after low_i low_q can none is =
       let own : v.flows ≤ q → q ≡ v.flows + i = subst (λ (w : FlowsValue). w.flows ≤ q → q ≡ w.flows + i) (sym same) can.overflow in
       kept_fresh v counts ok after i q (pos (quantum_at v.rotas.quanta q)) is (omega (arith, ints)) (low_tid i low_i) (low_queue q low_q) (unlisted_off q none) own
 
-  pub list_is : (i q : ℕ) (after : Rotas) → q < queues now → IsUnlisted v.rotas.lists q → after ≡ fresh i q (pos (quantum_at v.rotas.quanta q)) → record v { rotas = after } ≡ listed_queue now i q
-  unfolding listed_queue
+  pub list_is : (i q : ℕ) (after : Rotas) → q < queues now → IsUnlisted v.rotas.lists q → after ≡ fresh i q (pos (quantum_at v.rotas.quanta q)) → record v { rotas = after } ≡ with_listed_queue now i q
+  unfolding with_listed_queue
   list_is i q after low_q none is =
       ap (λ (r : Rotas). let w : FlowsValue = record v { rotas = r } in w) (is ∙ ap (λ (n : ℕ). fresh i q (pos n)) (ok.sized.quanta q (low_queue q low_q)))
-      ∙ sym (cond-false (is_listed v i q) v (record v { rotas = fresh i q (pos v.flow_quantum) }) (none i)) ∙ ap (λ (w : FlowsValue). listed_queue w i q) same
+      ∙ sym (cond-false (is_listed v i q) v (record v { rotas = fresh i q (pos v.flow_quantum) }) (none i)) ∙ ap (λ (w : FlowsValue). with_listed_queue w i q) same
 
-  pub list_stands : (i q : ℕ) (d : ℤ) (after : Rotas) → i < tids now → after ≡ fresh i q d → lists (lists_at after.lists i) q ≡ true
+  pub list_stands : (i q : ℕ) (d : ℤ) (after : Rotas) → i < tids now → after ≡ fresh i q d → has_key (lists_at after.lists i) q ≡ true
   list_stands i q d after low is =
-      ap (λ (r : Rotas). lists (lists_at r.lists i) q) is ∙ ap (λ (r : Rotation). lists r q) (get_or-set_same v.rotas.lists i (add_new (lists_at v.rotas.lists i) q) no_keys (omega (arith, ok.sized.lists, low_tid i low)))
+      ap (λ (r : Rotas). has_key (lists_at r.lists i) q) is ∙ ap (λ (r : Rotation). has_key r q) (get_or-set_same v.rotas.lists i (with_new_key (lists_at v.rotas.lists i) q) no_keys (omega (arith, ok.sized.lists, low_tid i low)))
       ∙ or_left (has ((lists_at v.rotas.lists i).new ++ q ∷ []) q) (has (lists_at v.rotas.lists i).old q) (has-last (lists_at v.rotas.lists i).new q)
     where
       has-last : (xs : List ℕ) (k : ℕ) → has (xs ++ k ∷ []) k ≡ true
       has-last [] k = or_left (k == k) false (eq-eqb k k refl)
       has-last (x ∷ xs) k = or_right (x == k) (has (xs ++ k ∷ []) k) (has-last xs k)
 
-  pub listed_already : (i q place : ℕ) (side : Side) → CanList now i q → has_on v.rotas.lists place side q ≡ true → now ≡ listed_queue now i q
-  unfolding listed_queue
+  pub listed_already : (i q place : ℕ) (side : Side) → CanList now i q → has_on v.rotas.lists place side q ≡ true → now ≡ with_listed_queue now i q
+  unfolding with_listed_queue
   listed_already i q place side can is =
       let listed : is_listed v place q ≡ true = has_lists (lists_at v.rotas.lists place) side q is in
       let there : is_listed now place q ≡ true = subst (λ (w : FlowsValue). is_listed w place q ≡ true) same listed in

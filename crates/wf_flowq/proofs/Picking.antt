@@ -4,13 +4,13 @@ use Rattle.std.specs.Prelude.{ℤ, pos, ◌+ℤ◌, ◌≤ℤ◌, ◌<ℤ◌, If
 use Rattle.std.proofs.lemmas.Int.{ints}
 use Rattle.std.proofs.lemmas.List.{get_or-set_same, get_or-set_other}
 use Rattle.std.proofs.lemmas.Bool.{cases_eq, cases_lt, lt-ltb, ltb-true}
-use Rattle.wf_rules.specs.Rotation.{Rotation, no_keys, lists, in_order, need_of, Picked, pick}
+use Rattle.wf_rules.specs.Rotation.{Rotation, no_keys, has_key, in_order, need_of, Picked, pick}
 use Rattle.wf_rules.specs.Lists.{on}
 use Rattle.wf_rota.specs.Lists.{lists_at, on_at}
 use Rattle.wf_rota.specs.Rotas.{Rotas, deficit_at, quantum_at, need_at, is_ready}
 use Rattle.wf_rule_laws.proofs.Lemmas.Counts.{listed-some}
-use Rattle.wf_backlog.specs.Backlog.{frames_at}
-use Rattle.wf_flowq.specs.Flows.{FlowsValue, tids, is_listed, has_frames, picked, paid, after_pick, queued}
+use Rattle.wf_codel_queues.specs.Backlog.{frames_at}
+use Rattle.wf_flowq.specs.Flows.{FlowsValue, tids, is_listed, has_frames, pick_of_tid, with_quanta_paid, after_pick, frames_queued}
 use Rattle.wf_flowq.specs.Kept.{depth, flags, IsKept, IsPicked}
 use Rattle.wf_flowq.proofs.Flags.{flags_tell}
 use Rattle.wf_flowq.proofs.Paid.{paid_is}
@@ -24,7 +24,7 @@ pick_low v now i same low = subst (λ (w : FlowsValue). i < tids w) (sym same) l
 
 module _ (v : FlowsValue) (counts : List ℕ) (ok : IsKept v counts) (ready : List Bool) (ready_is : ready ≡ flags v.backlog) (i : ℕ) (low : i < 8 * v.stations) (after : Rotas) (won : Option ℕ) (p : IsPicked v.rotas ready i after won) where
   abbrev chosen : Picked
-  chosen = picked v i
+  chosen = pick_of_tid v i
 
   -- the flags are those of the queues with frames
   picks : pick (need_at v.rotas) (is_ready ready) (lists_at v.rotas.lists i) ≡ chosen
@@ -70,7 +70,7 @@ module _ (v : FlowsValue) (counts : List ℕ) (ok : IsKept v counts) (ready : Li
       p.deficits q ∙ ap (λ (x : Picked). deficit_at v.rotas.deficits q +ℤ pos (x.quanta q * quantum_at v.rotas.quanta q)) picks
       ∙ ap (λ (n : ℕ). deficit_at v.rotas.deficits q +ℤ pos (chosen.quanta q * n)) (ok.sized.quanta q (omega (arith, below, ok.sized.deficits)))
 
-  deficits_are : after.deficits ≡ paid chosen.quanta v.flow_quantum 0 v.rotas.deficits
+  deficits_are : after.deficits ≡ with_quanta_paid chosen.quanta v.flow_quantum 0 v.rotas.deficits
   deficits_are = paid_is chosen.quanta v.flow_quantum v.rotas.deficits after.deficits p.keys raised
 
   abbrev rotas_of : List Rotation → List ℤ → List ℕ → FlowsValue
@@ -81,12 +81,12 @@ module _ (v : FlowsValue) (counts : List ℕ) (ok : IsKept v counts) (ready : Li
   pick_is =
       ap (λ (all : List Rotation). rotas_of all after.deficits after.quanta) lists_are
       ∙ ap (λ (ds : List ℤ). rotas_of (set v.rotas.lists i chosen.lists) ds after.quanta) deficits_are
-      ∙ ap (rotas_of (set v.rotas.lists i chosen.lists) (paid chosen.quanta v.flow_quantum 0 v.rotas.deficits)) p.quanta
+      ∙ ap (rotas_of (set v.rotas.lists i chosen.lists) (with_quanta_paid chosen.quanta v.flow_quantum 0 v.rotas.deficits)) p.quanta
 
   pub pick_winner : won ≡ chosen.winner
   pick_winner = p.winner_is ∙ ap (λ (x : Picked). x.winner) picks
 
-  pub pick_none : IfNone won (queued v i ≡ 0)
+  pub pick_none : IfNone won (frames_queued v i ≡ 0)
   pick_none = go won refl
     where
       empty : chosen.winner ≡ None → (q : ℕ) → 0 < on_at v.rotas.lists i q → depth v.backlog.queues q ≡ 0
@@ -95,15 +95,15 @@ module _ (v : FlowsValue) (counts : List ℕ) (ok : IsKept v counts) (ready : Li
         | inr few ↦ omega arith
       ]
 
-      go : (o : Option ℕ) → won ≡ o → IfNone o (queued v i ≡ 0)
+      go : (o : Option ℕ) → won ≡ o → IfNone o (frames_queued v i ≡ 0)
       go None e = none_waiting v.backlog.queues 0 (in_order (lists_at v.rotas.lists i)) (empty (sym pick_winner ∙ e))
       go (Some q) e = tt
 
   ready_key : (q : ℕ) → won ≡ Some q → is_ready ready q ≡ true
   ready_key q e = subst (λ (o : Option ℕ). IfSome o (λ key. is_ready ready key ≡ true)) e p.is_ready
 
-  listed_key : (q : ℕ) → won ≡ Some q → lists (lists_at v.rotas.lists i) q ≡ true
-  listed_key q e = subst (λ (o : Option ℕ). IfSome o (λ key. lists (lists_at v.rotas.lists i) key ≡ true)) e p.listed
+  listed_key : (q : ℕ) → won ≡ Some q → has_key (lists_at v.rotas.lists i) q ≡ true
+  listed_key q e = subst (λ (o : Option ℕ). IfSome o (λ key. has_key (lists_at v.rotas.lists i) key ≡ true)) e p.listed
 
   frames_key : (q : ℕ) → won ≡ Some q → 0 < depth v.backlog.queues q
   frames_key q e = ltb-true 0 (length (frames_at v.backlog q)) (sym (ap (λ (f : ℕ → Bool). f q) (ap is_ready ready_is ∙ flags_tell v.backlog)) ∙ ready_key q e)
@@ -124,7 +124,7 @@ module _ (v : FlowsValue) (counts : List ℕ) (ok : IsKept v counts) (ready : Li
   pub pick_listed : IfSome won (λ q. is_listed (record v { rotas = after }) i q ≡ true)
   pick_listed = go won refl
     where
-      go : (o : Option ℕ) → won ≡ o → IfSome o (λ q. lists (lists_at after.lists i) q ≡ true)
+      go : (o : Option ℕ) → won ≡ o → IfSome o (λ q. has_key (lists_at after.lists i) q ≡ true)
       go None e = tt
       go (Some q) e = listed-some (lists_at after.lists i) q (stays_key q e)
 

@@ -5,7 +5,7 @@ use Rattle.std.specs.List.{filter}
 use Rattle.std.proofs.lemmas.Int.{ints}
 use Rattle.std.proofs.lemmas.Bool.{cases_Bool, eqb-true, and_parts}
 use Rattle.wf_rules.specs.Table.{has}
-use Rattle.wf_rules.specs.Rotation.{Rotation, in_order, need_of, before, from, round, first_of_two, first_least, is_out, picked_now, picked_later, pick_later, pick_from, pick}
+use Rattle.wf_rules.specs.Rotation.{Rotation, in_order, need_of, keys_before, keys_from, round, first_of_two, first_least, is_out, picked_now, picked_later, pick_later, pick_from, pick}
 use Rattle.wf_rules.specs.Lists.{on}
 use Rattle.wf_rule_laws.proofs.Lemmas.Counts.{on-nil, on-first, on-cons_other, on-append}
 
@@ -37,15 +37,15 @@ on-filter_le p (x ∷ xs) y = elim (cases_Bool (p x)) [
 ]
 
 -- a list is what stands before a key and what stands from it on
-before_from : (v : ℕ) (xs : List ℕ) → before v xs ++ from v xs ≡ xs
+before_from : (v : ℕ) (xs : List ℕ) → keys_before v xs ++ keys_from v xs ≡ xs
 before_from v [] = refl
 before_from v (x ∷ xs) = elim (cases_Bool (x == v)) [
   | inl holds ↦ rw holds refl
   | inr fails ↦ rw fails (ap (λ (t : List ℕ). x ∷ t) (before_from v xs))
 ]
 
-on-split : (v : ℕ) (xs : List ℕ) (y : ℕ) → on (before v xs) y + on (from v xs) y ≡ on xs y
-on-split v xs y = sym (on-append (before v xs) (from v xs) y) ∙ ap (λ (t : List ℕ). on t y) (before_from v xs)
+on-split : (v : ℕ) (xs : List ℕ) (y : ℕ) → on (keys_before v xs) y + on (keys_from v xs) y ≡ on xs y
+on-split v xs y = sym (on-append (keys_before v xs) (keys_from v xs) y) ∙ ap (λ (t : List ℕ). on t y) (before_from v xs)
 
 -- ---- who wins
 
@@ -81,10 +81,10 @@ find-passes p (x ∷ xs) v e = elim (cases_Bool (p x)) [
 
 module _ (need : ℕ → ℕ) (ready : ℕ → Bool) (r : Rotation) where
   on-now : (w y : ℕ) → on (in_order (picked_now need r w).lists) y ≡ on (in_order r) y
-  on-now w y = omega (arith, on-append (r.old ++ before w r.new) (from w r.new) y, on-append r.old (before w r.new) y, on-append r.old r.new y, on-split w r.new y)
+  on-now w y = omega (arith, on-append (r.old ++ keys_before w r.new) (keys_from w r.new) y, on-append r.old (keys_before w r.new) y, on-append r.old r.new y, on-split w r.new y)
 
-  turned : (w y : ℕ) → on (from w (in_order r) ++ before w (in_order r)) y ≡ on (in_order r) y
-  turned w y = omega (arith, on-append (from w (in_order r)) (before w (in_order r)) y, on-split w (in_order r) y)
+  turned : (w y : ℕ) → on (keys_from w (in_order r) ++ keys_before w (in_order r)) y ≡ on (in_order r) y
+  turned w y = omega (arith, on-append (keys_from w (in_order r)) (keys_before w (in_order r)) y, on-split w (in_order r) y)
 
   stays : (w turn : ℕ) → ℕ → Bool
   stays w turn y = not (is_out need ready r w turn y)
@@ -92,13 +92,13 @@ module _ (need : ℕ → ℕ) (ready : ℕ → Bool) (r : Rotation) where
   on-later_le : (w turn y : ℕ) → on (in_order (picked_later need ready r w turn).lists) y ≤ on (in_order r) y
   unfolding stays
   on-later_le w turn y =
-      omega (arith, on-append (filter (stays w turn) (from w (in_order r) ++ before w (in_order r))) [] y, on-nil y, on-filter_le (stays w turn) (from w (in_order r) ++ before w (in_order r)) y, turned w y)
+      omega (arith, on-append (filter (stays w turn) (keys_from w (in_order r) ++ keys_before w (in_order r))) [] y, on-nil y, on-filter_le (stays w turn) (keys_from w (in_order r) ++ keys_before w (in_order r)) y, turned w y)
 
   on-later : (w turn y : ℕ) → ready y ≡ true → on (in_order (picked_later need ready r w turn).lists) y ≡ on (in_order r) y
   unfolding stays
   on-later w turn y is =
       let stay : stays w turn y ≡ true = rw is refl in
-      omega (arith, on-append (filter (stays w turn) (from w (in_order r) ++ before w (in_order r))) [] y, on-nil y, on-filter (stays w turn) (from w (in_order r) ++ before w (in_order r)) y stay, turned w y)
+      omega (arith, on-append (filter (stays w turn) (keys_from w (in_order r) ++ keys_before w (in_order r))) [] y, on-nil y, on-filter (stays w turn) (keys_from w (in_order r) ++ keys_before w (in_order r)) y stay, turned w y)
 
   -- no key comes on the lists
   pub on-picked_le : (y : ℕ) → on (in_order (pick need ready r).lists) y ≤ on (in_order r) y
@@ -160,7 +160,7 @@ module _ (need : ℕ → ℕ) (ready : ℕ → Bool) (r : Rotation) where
           let same : w ≡ v = cc in
           let passes : (ready w && (need w == 0)) ≡ true = find-passes (λ k. ready k && (need k == 0)) r.new w found in
           let zero_need : need w ≡ 0 = eqb-true (need w) 0 (and_parts (ready w) (need w == 0) passes).1 in
-          none_needed (has (before w r.new) v) (need v) (ap need (sym same) ∙ zero_need)
+          none_needed (has (keys_before w r.new) v) (need v) (ap need (sym same) ∙ zero_need)
 
 -- what a key needs lifts its deficit above 0
 pub lifted_above : (d : ℤ) (q : ℕ) → 0 < q → pos 0 <ℤ (d +ℤ pos (need_of q d * q))

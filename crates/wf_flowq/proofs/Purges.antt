@@ -6,13 +6,13 @@ use Rattle.std.proofs.lemmas.List.{append-nil, set-get_or, map-set, get_or-map, 
 use Rattle.std.proofs.lemmas.List.Elements.{filter-append}
 use Rattle.std.proofs.lemmas.Bool.{cases_eq, cases_lt, cases_Bool, ne_eqb, le-leb, lt-leb, cond-true, cond-false}
 use Rattle.wf_rules.specs.Table.{has, count_from, upto}
-use Rattle.wf_rules.specs.Rotation.{Rotation, no_keys, lists, in_order, without_key}
+use Rattle.wf_rules.specs.Rotation.{Rotation, no_keys, has_key, in_order, without_key}
 use Rattle.wf_rules.specs.Lists.{on}
 use Rattle.wf_rota.specs.Lists.{AreDisjoint, lists_at, on_at}
 use Rattle.wf_rule_laws.proofs.Lemmas.Counts.{on-first, on-cons_same, on-append}
 use Rattle.wf_rule_laws.proofs.Lemmas.Counts.{on_order-none}
-use Rattle.wf_backlog.specs.Backlog.{BacklogValue, flushed}
-use Rattle.wf_flowq.specs.Flows.{FlowsValue, tids, rotation, is_listed, queues, queues_of, all_flushed, purged}
+use Rattle.wf_codel_queues.specs.Backlog.{BacklogValue, after_flush}
+use Rattle.wf_flowq.specs.Flows.{FlowsValue, tids, rotation, is_listed, queues, queues_of, all_flushed, after_purge}
 use Rattle.wf_flowq.specs.Kept.{IsKept, rest_from, without_queue, purged_below}
 use Rattle.wf_flowq.proofs.Owners.{on-listed}
 
@@ -92,7 +92,7 @@ upto-more p k =
 flushed-append : (b : BacklogValue) (xs ys : List ℕ) → all_flushed b (xs ++ ys) ≡ all_flushed (all_flushed b xs) ys
 unfolding all_flushed
 flushed-append b [] ys = refl
-flushed-append b (x ∷ xs) ys = flushed-append (flushed b x) xs ys
+flushed-append b (x ∷ xs) ys = flushed-append (after_flush b x) xs ys
 
 -- ---- the walk
 
@@ -110,7 +110,7 @@ module _ (v : FlowsValue) (i : ℕ) (apart : AreDisjoint (record { lists = v.rot
   rest_rotation : (k : ℕ) → lists_at (set v.rotas.lists i (rest_from k (rotation v i))) i ≡ rest_from k (rotation v i)
   rest_rotation k = get_or-set_same v.rotas.lists i (rest_from k (rotation v i)) no_keys low
 
-  lists-rest : (k : ℕ) (r : Rotation) → lists (rest_from k r) k ≡ lists r k
+  lists-rest : (k : ℕ) (r : Rotation) → has_key (rest_from k r) k ≡ has_key r k
   lists-rest k r =
       let is : nat_le k k ≡ true = le-leb k k (omega arith) in
       rw (has-filter (nat_le k) r.new k is, has-filter (nat_le k) r.old k is) refl
@@ -164,7 +164,7 @@ module _ (v : FlowsValue) (i : ℕ) (apart : AreDisjoint (record { lists = v.rot
   one_fails : (k : ℕ) → is_listed v i k ≡ false → filter (is_listed v i) (k ∷ []) ≡ []
   one_fails k fails = rw fails refl
 
-  flushed-next : (k : ℕ) → is_listed v i k ≡ true → flushed (all_flushed v.backlog (filter (is_listed v i) (upto k))) k ≡ all_flushed v.backlog (filter (is_listed v i) (upto (suc k)))
+  flushed-next : (k : ℕ) → is_listed v i k ≡ true → after_flush (all_flushed v.backlog (filter (is_listed v i) (upto k))) k ≡ all_flushed v.backlog (filter (is_listed v i) (upto (suc k)))
   unfolding all_flushed
   flushed-next k holds =
       sym (ap (all_flushed v.backlog) (upto-more (is_listed v i) k ∙ ap (λ (t : List ℕ). filter (is_listed v i) (upto k) ++ t) (one_passes k holds))
@@ -176,10 +176,10 @@ module _ (v : FlowsValue) (i : ℕ) (apart : AreDisjoint (record { lists = v.rot
 
   is_same : (k : ℕ) → is_listed (purged_below v i k) i k ≡ is_listed v i k
   unfolding purged_below
-  is_same k = ap (λ (r : Rotation). lists r k) (rest_rotation k) ∙ lists-rest k (rotation v i)
+  is_same k = ap (λ (r : Rotation). has_key r k) (rest_rotation k) ∙ lists-rest k (rotation v i)
 
   abbrev gone : FlowsValue → ℕ → FlowsValue
-  gone w k = record w { backlog = flushed w.backlog k; rotas = record w.rotas { lists = map (λ r. without_key r k) w.rotas.lists } }
+  gone w k = record w { backlog = after_flush w.backlog k; rotas = record w.rotas { lists = map (λ r. without_key r k) w.rotas.lists } }
 
   next_gone : (k : ℕ) → is_listed v i k ≡ true → gone (purged_below v i k) k ≡ purged_below v i (suc k)
   unfolding purged_below
@@ -210,8 +210,8 @@ module _ (v : FlowsValue) (i : ℕ) (apart : AreDisjoint (record { lists = v.rot
       ap (λ (xs : List ℕ). let s : Rotation = record { new = xs; old = filter (nat_le (queues v)) (rotation v i).old } in s) (rest_none (queues v) (rotation v i).new (λ y at. apart.below i y (omega (arith, at, on-append (rotation v i).old (rotation v i).new y))))
       ∙ ap (λ (xs : List ℕ). let s : Rotation = record { new = []; old = xs } in s) (rest_none (queues v) (rotation v i).old (λ y at. apart.below i y (omega (arith, at, on-append (rotation v i).old (rotation v i).new y))))
 
-  pub purged_last : (k : ℕ) → k ≡ queues v → purged_below v i k ≡ purged v i
-  unfolding purged_below purged
+  pub purged_last : (k : ℕ) → k ≡ queues v → purged_below v i k ≡ after_purge v i
+  unfolding purged_below after_purge
   purged_last k e = ap (purged_below v i) e ∙ ap (λ (r : Rotation). with_lists (all_flushed v.backlog (queues_of v i)) (set v.rotas.lists i r)) rest_end
 
 pub tids_below : (v : FlowsValue) (i k : ℕ) → tids (purged_below v i k) ≡ tids v

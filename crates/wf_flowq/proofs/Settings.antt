@@ -4,34 +4,34 @@ use Rattle.std.specs.Prelude.{◌==◌}
 use Rattle.std.proofs.lemmas.Bool.{cond_both}
 use Rattle.wf_frame.specs.Frames.{FrameValue}
 use Rattle.wf_rules.specs.Codel.{Params}
-use Rattle.wf_backlog.specs.Backlog.{BacklogValue, in_queues, flushed}
-use Rattle.wf_flowq.specs.Flows.{is_at_limit, FlowsValue, SettingsValue, settings, is_listed, within_limit, queue_for, listed_queue, put, picked, after_pick, taken_from, take, queues_of, all_flushed, purged}
+use Rattle.wf_codel_queues.specs.Backlog.{BacklogValue, in_queues, after_flush}
+use Rattle.wf_flowq.specs.Flows.{is_at_limit, FlowsValue, SettingsValue, settings, is_listed, after_limit, queue_for, with_listed_queue, after_put, pick_of_tid, after_pick, taken_from_picked, taken_for_tid, queues_of, all_flushed, after_purge}
 
-settings_within : (v : FlowsValue) → settings (within_limit v) ≡ settings v
-unfolding within_limit
+settings_within : (v : FlowsValue) → settings (after_limit v) ≡ settings v
+unfolding after_limit
 settings_within v = cond_both (is_at_limit v) _ v (λ w. settings w ≡ settings v) (λ e. refl) (λ e. refl)
 
-settings_listed : (v : FlowsValue) (i q : ℕ) → settings (listed_queue v i q) ≡ settings v
-unfolding listed_queue
+settings_listed : (v : FlowsValue) (i q : ℕ) → settings (with_listed_queue v i q) ≡ settings v
+unfolding with_listed_queue
 settings_listed v i q = cond_both (is_listed v i q) v _ (λ w. settings w ≡ settings v) (λ e. refl) (λ e. refl)
 
-pub settings_put : (v : FlowsValue) (i : ℕ) (f : FrameValue) → settings (put v i f) ≡ settings v
-unfolding put
-settings_put v i f = settings_listed _ i (queue_for (within_limit v) i f.flow) ∙ settings_within v
+pub settings_put : (v : FlowsValue) (i : ℕ) (f : FrameValue) → settings (after_put v i f) ≡ settings v
+unfolding after_put
+settings_put v i f = settings_listed _ i (queue_for (after_limit v) i f.flow) ∙ settings_within v
 
-pub settings_take : (v : FlowsValue) (i clock : ℕ) (p : Params) → settings (take v i clock p).flows ≡ settings v
-unfolding take after_pick
-settings_take v i clock p = go (picked v i).winner
+pub settings_take : (v : FlowsValue) (i clock : ℕ) (p : Params) → settings (taken_for_tid v i clock p).flows ≡ settings v
+unfolding taken_for_tid after_pick
+settings_take v i clock p = go (pick_of_tid v i).winner
   where
-    go : (o : Option ℕ) → settings (taken_from (after_pick v i) o clock p).flows ≡ settings v
+    go : (o : Option ℕ) → settings (taken_from_picked (after_pick v i) o clock p).flows ≡ settings v
     go None = refl
     go (Some q) = refl
 
 room_flushed : (b : BacklogValue) (qs : List ℕ) → (all_flushed b qs).room ≡ b.room
 unfolding all_flushed
 room_flushed b [] = refl
-room_flushed b (q ∷ qs) = room_flushed (flushed b q) qs
+room_flushed b (q ∷ qs) = room_flushed (after_flush b q) qs
 
-pub settings_purged : (v : FlowsValue) (i : ℕ) → settings (purged v i) ≡ settings v
-unfolding purged
+pub settings_purged : (v : FlowsValue) (i : ℕ) → settings (after_purge v i) ≡ settings v
+unfolding after_purge
 settings_purged v i = ap (λ (n : ℕ). let s : SettingsValue = record { flows = v.flows; stations = v.stations; limit = v.limit; flow_quantum = v.flow_quantum; room = n } in s) (room_flushed v.backlog (queues_of v i))

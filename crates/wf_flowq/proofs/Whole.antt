@@ -6,17 +6,17 @@ use Rattle.wf_frame.specs.Frames.{FrameValue}
 use Rattle.wf_rules.specs.Codel.{Params}
 use Rattle.wf_rota.specs.Lists.{on_at}
 use Rattle.wf_store.specs.Store.{IsLongest}
-use Rattle.wf_backlog.specs.Backlog.{as_store, frames_at, in_queues, first_id, head_dropped}
-use Rattle.wf_flowq.specs.Flows.{FlowsValue, is_at_limit, longest, within_limit, dropped_for_limit, queue_for, listed_queue, appended, put_in, put, picked, after_pick, Taken, Gives, taken_from, take, AreListedOnce}
+use Rattle.wf_codel_queues.specs.Backlog.{as_store, frames_at, in_queues, first_id, after_head_drop}
+use Rattle.wf_flowq.specs.Flows.{FlowsValue, is_at_limit, longest_queue, after_limit, dropped_for_limit, queue_for, with_listed_queue, with_appended, after_put_in, after_put, pick_of_tid, after_pick, Taken, TakeGives, taken_from_picked, taken_for_tid, AreListedOnce}
 use Rattle.wf_flowq.specs.Kept.{IsKept}
 use Rattle.wf_flowq.proofs.Owners.{on-listed, listed-on}
 use Rattle.wf_flowq.proofs.Puts.{put_is}
 
 module _ (v now : FlowsValue) (same : v ≡ now) where
   -- there is room
-  pub roomy : (n : ℕ) → n ≡ in_queues v.backlog → n < v.limit → now ≡ within_limit now
-  unfolding within_limit
-  roomy n is other = subst (λ (w : FlowsValue). w ≡ within_limit w) same (sym (cond-false (is_at_limit v) _ v (lt-leb v.limit (in_queues v.backlog) (omega (arith, is, other)))))
+  pub roomy : (n : ℕ) → n ≡ in_queues v.backlog → n < v.limit → now ≡ after_limit now
+  unfolding after_limit
+  roomy n is other = subst (λ (w : FlowsValue). w ≡ after_limit w) same (sym (cond-false (is_at_limit v) _ v (lt-leb v.limit (in_queues v.backlog) (omega (arith, is, other)))))
 
   pub roomy_id : (n : ℕ) → n ≡ in_queues v.backlog → n < v.limit → None ≡ dropped_for_limit now
   unfolding dropped_for_limit
@@ -41,32 +41,32 @@ module _ (v now : FlowsValue) (same : v ≡ now) where
       first_some [] o some e = absurd (omega arith)
       first_some (f ∷ fs) o some e = ap is_some e
 
-  pub full_greatest : (q : ℕ) (o : Option ℕ) → q ≡ longest v.backlog → IsLongest (as_store v.backlog) q → OnSome o (IsLongest (as_store now.backlog) (longest now.backlog))
-  full_greatest q o e most = on_some o (subst (λ (w : FlowsValue). IsLongest (as_store w.backlog) (longest w.backlog)) same (subst (IsLongest (as_store v.backlog)) e most))
+  pub full_greatest : (q : ℕ) (o : Option ℕ) → q ≡ longest_queue v.backlog → IsLongest (as_store v.backlog) q → OnSome o (IsLongest (as_store now.backlog) (longest_queue now.backlog))
+  full_greatest q o e most = on_some o (subst (λ (w : FlowsValue). IsLongest (as_store w.backlog) (longest_queue w.backlog)) same (subst (IsLongest (as_store v.backlog)) e most))
     where
       on_some : {P : Type 0} (o : Option ℕ) → P → OnSome o P
       on_some None p = tt
       on_some (Some x) p = p
 
   -- the queues are full
-  module _ (n q : ℕ) (is : n ≡ in_queues v.backlog) (full : v.limit ≤ n) (longest_is : q ≡ longest v.backlog) where
+  module _ (n q : ℕ) (is : n ≡ in_queues v.backlog) (full : v.limit ≤ n) (longest_is : q ≡ longest_queue v.backlog) where
     test : is_at_limit now ≡ true
     test = subst (λ (w : FlowsValue). is_at_limit w ≡ true) same (le-leb v.limit (in_queues v.backlog) (omega (arith, is, full)))
 
-    longest_now : q ≡ longest now.backlog
-    longest_now = subst (λ (w : FlowsValue). q ≡ longest w.backlog) same longest_is
+    longest_now : q ≡ longest_queue now.backlog
+    longest_now = subst (λ (w : FlowsValue). q ≡ longest_queue w.backlog) same longest_is
 
-    pub full_dropped : (after : FlowsValue) → after ≡ record now { backlog = head_dropped now.backlog q } → after ≡ within_limit now
-    unfolding within_limit
+    pub full_dropped : (after : FlowsValue) → after ≡ record now { backlog = after_head_drop now.backlog q } → after ≡ after_limit now
+    unfolding after_limit
     full_dropped after dropped =
-        dropped ∙ ap (λ (k : ℕ). let w : FlowsValue = record now { backlog = head_dropped now.backlog k } in w) longest_now
-        ∙ sym (cond-true (is_at_limit now) (record now { backlog = head_dropped now.backlog (longest now.backlog) }) now test)
+        dropped ∙ ap (λ (k : ℕ). let w : FlowsValue = record now { backlog = after_head_drop now.backlog k } in w) longest_now
+        ∙ sym (cond-true (is_at_limit now) (record now { backlog = after_head_drop now.backlog (longest_queue now.backlog) }) now test)
 
     pub full_id : (o : Option ℕ) → o ≡ first_id (frames_at now.backlog q) → o ≡ dropped_for_limit now
     unfolding dropped_for_limit
     full_id o id =
         id ∙ ap (λ (k : ℕ). first_id (frames_at now.backlog k)) longest_now
-        ∙ sym (cond-true (is_at_limit now) (first_id (frames_at now.backlog (longest now.backlog))) None test)
+        ∙ sym (cond-true (is_at_limit now) (first_id (frames_at now.backlog (longest_queue now.backlog))) None test)
 
   -- each queue with frames is listed once
   pub listed_once : (counts : List ℕ) → IsKept v counts → AreListedOnce now
@@ -78,21 +78,21 @@ module _ (v now : FlowsValue) (same : v ≡ now) where
     overflow = λ q i at past. ok.listed.overflow i q (on-listed v i q at) past;
   })
 
-pub put_parts : (now a b c : FlowsValue) (i q : ℕ) (f : FrameValue) → a ≡ within_limit now → q ≡ queue_for a i f.flow → b ≡ listed_queue a i q → c ≡ appended b q f → c ≡ put now i f
-unfolding put
+pub put_parts : (now a b c : FlowsValue) (i q : ℕ) (f : FrameValue) → a ≡ after_limit now → q ≡ queue_for a i f.flow → b ≡ with_listed_queue a i q → c ≡ with_appended b q f → c ≡ after_put now i f
+unfolding after_put
 put_parts now a b c i q f limited chosen listed pushed =
-    pushed ∙ ap (λ (w : FlowsValue). appended w q f) listed ∙ put_is a i q f ∙ ap (λ (k : ℕ). put_in a i k f) chosen
-    ∙ ap (λ (w : FlowsValue). put_in w i (queue_for w i f.flow) f) limited
+    pushed ∙ ap (λ (w : FlowsValue). with_appended w q f) listed ∙ put_is a i q f ∙ ap (λ (k : ℕ). after_put_in a i k f) chosen
+    ∙ ap (λ (w : FlowsValue). after_put_in w i (queue_for w i f.flow) f) limited
 
-pub take_parts : (now a : FlowsValue) (i q clock : ℕ) (p : Params) → a ≡ after_pick now i → Some q ≡ (picked now i).winner → taken_from a (Some q) clock p ≡ take now i clock p
-unfolding take
+pub take_parts : (now a : FlowsValue) (i q clock : ℕ) (p : Params) → a ≡ after_pick now i → Some q ≡ (pick_of_tid now i).winner → taken_from_picked a (Some q) clock p ≡ taken_for_tid now i clock p
+unfolding taken_for_tid
 take_parts now a i q clock p after winner =
-    ap (λ (w : FlowsValue). taken_from w (Some q) clock p) after ∙ ap (λ (o : Option ℕ). taken_from (after_pick now i) o clock p) winner
+    ap (λ (w : FlowsValue). taken_from_picked w (Some q) clock p) after ∙ ap (λ (o : Option ℕ). taken_from_picked (after_pick now i) o clock p) winner
 
-pub gives_as : (o : Option FrameValue) (after : FlowsValue) (t u : Taken) → t ≡ u → IfSome o (λ f. Gives after f t) → IfSome o (λ f. Gives after f u)
-gives_as o after t u e = λ h. subst (λ (x : Taken). IfSome o (λ f. Gives after f x)) e h
+pub gives_as : (o : Option FrameValue) (after : FlowsValue) (t u : Taken) → t ≡ u → IfSome o (λ f. TakeGives after f t) → IfSome o (λ f. TakeGives after f u)
+gives_as o after t u e = λ h. subst (λ (x : Taken). IfSome o (λ f. TakeGives after f x)) e h
 
 -- a take that gives a frame leaves what its definition says
-pub gives_flows : (o : Option FrameValue) (after : FlowsValue) (t : Taken) → IsSome o → IfSome o (λ f. Gives after f t) → after ≡ t.flows
+pub gives_flows : (o : Option FrameValue) (after : FlowsValue) (t : Taken) → IsSome o → IfSome o (λ f. TakeGives after f t) → after ≡ t.flows
 gives_flows None after t is h = absurd (both_ways false refl is)
 gives_flows (Some f) after t is h = h.0

@@ -6,12 +6,12 @@ use Rattle.wf_frame.specs.Frames.{FrameValue}
 use Rattle.wf_rules.specs.Table.{upto}
 use Rattle.wf_frame.specs.declared.settings.Config.{Config}
 use Rattle.wf_rules.specs.Codel.{Params, new_codel}
-use Rattle.wf_rules.specs.Rotation.{Rotation, no_keys, lists, in_order, add_new, Picked, pick}
+use Rattle.wf_rules.specs.Rotation.{Rotation, no_keys, has_key, in_order, with_new_key, Picked, pick}
 use Rattle.wf_rota.specs.Lists.{lists_at}
 use Rattle.wf_rota.specs.Rotas.{Rotas, deficit_at, need_at}
 use Rattle.wf_world.specs.World.{Queue}
 use Rattle.wf_world.specs.FlowQueues.{longest_of}
-use Rattle.wf_backlog.specs.Backlog.{BacklogValue, frames_at, in_queues, first_id, item_of, with_frames, head_dropped, flushed, given_at, taken}
+use Rattle.wf_codel_queues.specs.Backlog.{BacklogValue, frames_at, in_queues, first_id, item_of, with_frames, after_head_drop, after_flush, given_at, after_take}
 
 -- Queues below `flows` are shared by all TIDs; each TID has one more, its overflow queue. Queue q is key q of the rotations.
 pub record FlowsValue : Type 0 where
@@ -48,7 +48,7 @@ abbrev pub rotation : FlowsValue → ℕ → Rotation
 rotation v i = lists_at v.rotas.lists i
 
 abbrev pub is_listed : FlowsValue → ℕ → ℕ → Bool
-is_listed v i q = lists (rotation v i) q
+is_listed v i q = has_key (rotation v i) q
 
 abbrev pub has_frames : BacklogValue → ℕ → Bool
 has_frames b q = nat_lt 0 (length (frames_at b q))
@@ -58,8 +58,8 @@ abbrev pub waiting : List (List FrameValue) → List ℕ → ℕ
 waiting all qs = sum_by (λ q. length (slice_index_or all q [])) qs
 
 -- the frames in the queues of TID i
-abbrev pub queued : FlowsValue → ℕ → ℕ
-queued v i = waiting v.backlog.queues (in_order (rotation v i))
+abbrev pub frames_queued : FlowsValue → ℕ → ℕ
+frames_queued v i = waiting v.backlog.queues (in_order (rotation v i))
 
 -- no frame and no list, with these settings
 abbrev pub empty_flows : Config → FlowsValue
@@ -87,20 +87,20 @@ abbrev pub as_queue : List FrameValue → Queue
 as_queue frames = record { items = map item_of frames; deficit = pos 0; codel = new_codel }
 
 -- the longest queue, the least number on a tie
-unfoldable pub longest : BacklogValue → ℕ
-longest b = longest_of (map as_queue b.queues)
+unfoldable pub longest_queue : BacklogValue → ℕ
+longest_queue b = longest_of (map as_queue b.queues)
 
 -- the queues hold `limit` frames or more
 abbrev pub is_at_limit : FlowsValue → Bool
 is_at_limit v = nat_le v.limit (in_queues v.backlog)
 
 -- there the head of the longest is dropped as Overlimit
-unfoldable pub within_limit : FlowsValue → FlowsValue
-within_limit v = if is_at_limit v then record v { backlog = head_dropped v.backlog (longest v.backlog) } else v
+unfoldable pub after_limit : FlowsValue → FlowsValue
+after_limit v = if is_at_limit v then record v { backlog = after_head_drop v.backlog (longest_queue v.backlog) } else v
 
 -- the id of the frame that is dropped for the limit
 unfoldable pub dropped_for_limit : FlowsValue → Option ℕ
-dropped_for_limit v = if is_at_limit v then first_id (frames_at v.backlog (longest v.backlog)) else None
+dropped_for_limit v = if is_at_limit v then first_id (frames_at v.backlog (longest_queue v.backlog)) else None
 
 -- ---- putting a frame in
 
@@ -115,42 +115,42 @@ unfoldable pub queue_for : FlowsValue → ℕ → ℕ → ℕ
 queue_for v i flow = if is_listed_elsewhere v i (flow % v.flows) then overflow_queue v i else flow % v.flows
 
 -- the queue goes last on the TID's new list, with a fresh deficit, where it is not listed
-unfoldable pub listed_queue : FlowsValue → ℕ → ℕ → FlowsValue
-listed_queue v i q =
+unfoldable pub with_listed_queue : FlowsValue → ℕ → ℕ → FlowsValue
+with_listed_queue v i q =
     if is_listed v i q then v
     else record v {
       rotas = record v.rotas {
-        lists = slice_set v.rotas.lists i (add_new (rotation v i) q);
+        lists = slice_set v.rotas.lists i (with_new_key (rotation v i) q);
         deficits = slice_set v.rotas.deficits q (pos v.flow_quantum);
       };
     }
 
-abbrev pub appended : FlowsValue → ℕ → FrameValue → FlowsValue
-appended v q f = record v { backlog = with_frames v.backlog q (frames_at v.backlog q ++ f ∷ []) }
+abbrev pub with_appended : FlowsValue → ℕ → FrameValue → FlowsValue
+with_appended v q f = record v { backlog = with_frames v.backlog q (frames_at v.backlog q ++ f ∷ []) }
 
-abbrev pub put_in : FlowsValue → ℕ → ℕ → FrameValue → FlowsValue
-put_in v i q f = listed_queue (appended v q f) i q
+abbrev pub after_put_in : FlowsValue → ℕ → ℕ → FrameValue → FlowsValue
+after_put_in v i q f = with_listed_queue (with_appended v q f) i q
 
 -- TID i puts a frame in
-unfoldable pub put : FlowsValue → ℕ → FrameValue → FlowsValue
-put v i f = put_in (within_limit v) i (queue_for (within_limit v) i f.flow) f
+unfoldable pub after_put : FlowsValue → ℕ → FrameValue → FlowsValue
+after_put v i f = after_put_in (after_limit v) i (queue_for (after_limit v) i f.flow) f
 
 -- ---- taking a frame out
 
 -- the pick among the queues of TID i, of which those with frames are ready
-abbrev pub picked : FlowsValue → ℕ → Picked
-picked v i = pick (need_at v.rotas) (has_frames v.backlog) (rotation v i)
+abbrev pub pick_of_tid : FlowsValue → ℕ → Picked
+pick_of_tid v i = pick (need_at v.rotas) (has_frames v.backlog) (rotation v i)
 
 -- the deficits from queue q on, each with its quanta
-abbrev pub paid : (ℕ → ℕ) → ℕ → ℕ → List ℤ → List ℤ
-paid quanta quantum q [] = []
-paid quanta quantum q (d ∷ ds) = (d +ℤ pos (quanta q * quantum)) ∷ paid quanta quantum (suc q) ds
+abbrev pub with_quanta_paid : (ℕ → ℕ) → ℕ → ℕ → List ℤ → List ℤ
+with_quanta_paid quanta quantum q [] = []
+with_quanta_paid quanta quantum q (d ∷ ds) = (d +ℤ pos (quanta q * quantum)) ∷ with_quanta_paid quanta quantum (suc q) ds
 
 unfoldable pub after_pick : FlowsValue → ℕ → FlowsValue
 after_pick v i = record v {
   rotas = record v.rotas {
-    lists = slice_set v.rotas.lists i (picked v i).lists;
-    deficits = paid (picked v i).quanta v.flow_quantum 0 v.rotas.deficits;
+    lists = slice_set v.rotas.lists i (pick_of_tid v i).lists;
+    deficits = with_quanta_paid (pick_of_tid v i).quanta v.flow_quantum 0 v.rotas.deficits;
   };
 }
 
@@ -164,26 +164,26 @@ length_given None = 0
 length_given (Some f) = length f.body
 
 -- CoDel takes a frame from the queue, and its length leaves the queue's deficit
-abbrev pub dequeued : FlowsValue → ℕ → ℕ → Params → Option FrameValue → Taken
-dequeued v q now params given = record {
+abbrev pub taken_by_codel : FlowsValue → ℕ → ℕ → Params → Option FrameValue → Taken
+taken_by_codel v q now params given = record {
   flows = record v {
-    backlog = taken params now v.backlog q;
+    backlog = after_take params now v.backlog q;
     rotas = record v.rotas { deficits = slice_set v.rotas.deficits q (deficit_at v.rotas.deficits q -ℤ pos (length_given given)) };
   };
   frame = given;
 }
 
-abbrev pub taken_from : FlowsValue → Option ℕ → ℕ → Params → Taken
-taken_from v None now params = record { flows = v; frame = None }
-taken_from v (Some q) now params = dequeued v q now params (given_at params now v.backlog q)
+abbrev pub taken_from_picked : FlowsValue → Option ℕ → ℕ → Params → Taken
+taken_from_picked v None now params = record { flows = v; frame = None }
+taken_from_picked v (Some q) now params = taken_by_codel v q now params (given_at params now v.backlog q)
 
 -- the take leaves these flow queues, and gives this frame
-abbrev pub Gives : FlowsValue → FrameValue → Taken → Type 0
-Gives after f t = (after ≡ t.flows) × (Some f ≡ t.frame)
+abbrev pub TakeGives : FlowsValue → FrameValue → Taken → Type 0
+TakeGives after f t = (after ≡ t.flows) × (Some f ≡ t.frame)
 
 -- TID i takes a frame out
-unfoldable pub take : FlowsValue → ℕ → ℕ → Params → Taken
-take v i now params = taken_from (after_pick v i) (picked v i).winner now params
+unfoldable pub taken_for_tid : FlowsValue → ℕ → ℕ → Params → Taken
+taken_for_tid v i now params = taken_from_picked (after_pick v i) (pick_of_tid v i).winner now params
 
 -- ---- leaving
 
@@ -194,11 +194,11 @@ queues_of v i = filter (is_listed v i) (upto (queues v))
 -- all frames of these queues are dropped as Left, and their CoDel states become new
 unfoldable pub all_flushed : BacklogValue → List ℕ → BacklogValue
 all_flushed b [] = b
-all_flushed b (q ∷ qs) = all_flushed (flushed b q) qs
+all_flushed b (q ∷ qs) = all_flushed (after_flush b q) qs
 
 -- all frames of TID i are dropped, and its queues leave its rotation
-unfoldable pub purged : FlowsValue → ℕ → FlowsValue
-purged v i = record v {
+unfoldable pub after_purge : FlowsValue → ℕ → FlowsValue
+after_purge v i = record v {
   backlog = all_flushed v.backlog (queues_of v i);
   rotas = record v.rotas { lists = slice_set v.rotas.lists i no_keys };
 }

@@ -3,10 +3,10 @@ use Rattle.std.specs.Prelude.{◌≡◌, ℕ, ◌+◌, ◌*◌, ◌<◌, ◌≤�
 use Rattle.wf_frame.specs.Frames.{FrameValue}
 use Rattle.wf_rules.specs.Lengths.{greatest_body}
 use Rattle.wf_rules.specs.Table.{upto}
-use Rattle.wf_rules.specs.Rotation.{Rotation, lists as lists_of, in_order, without_key}
+use Rattle.wf_rules.specs.Rotation.{Rotation, has_key as lists_of, in_order, without_key}
 use Rattle.wf_rota.specs.Lists.{AreDisjoint, lists_at, on_at}
 use Rattle.wf_rota.specs.Rotas.{Rotas, deficit_at, quantum_at, picked_at, is_ready as is_ready_of}
-use Rattle.wf_backlog.specs.Backlog.{BacklogValue, flushed}
+use Rattle.wf_codel_queues.specs.Backlog.{BacklogValue, after_flush}
 use Rattle.wf_flowq.specs.Flows.{FlowsValue, rotation, is_listed, waiting, all_flushed}
 
 abbrev pub is_some_frame : List FrameValue → Bool
@@ -55,7 +55,7 @@ pub record CanList (v : FlowsValue) (i q : ℕ) : Type 0 where
 -- a queue of TID i loses its frames and leaves the rotation
 abbrev pub without_queue : FlowsValue → ℕ → ℕ → FlowsValue
 without_queue v i q =
-    if is_listed v i q then record v { backlog = flushed v.backlog q; rotas = record v.rotas { lists = map (λ r. without_key r q) v.rotas.lists } } else v
+    if is_listed v i q then record v { backlog = after_flush v.backlog q; rotas = record v.rotas { lists = map (λ r. without_key r q) v.rotas.lists } } else v
 
 -- the keys from k on
 abbrev pub rest_from : ℕ → Rotation → Rotation

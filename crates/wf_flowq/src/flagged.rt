@@ -4,14 +4,14 @@ ghost use Rattle.std.specs.Prelude.{◌≡◌, ◌+◌, ◌<◌, ◌≤◌, ◌^
 ghost use Rattle.wf_rules.specs.Codel.{new_codel};
 ghost use Rattle.wf_codel.specs.Params.{params_of};
 ghost use Rattle.wf_store.specs.Store.{IsLongest};
-ghost use Rattle.wf_backlog.specs.Backlog.{as_store, frames_at, in_queues, held, first_id, with_frames, head_dropped, flushed, given_at, taken};
-ghost use Rattle.wf_flowq.specs.Flows.{longest};
+ghost use Rattle.wf_codel_queues.specs.Backlog.{as_store, frames_at, in_queues, held, first_id, with_frames, after_head_drop, after_flush, given_at, after_take};
+ghost use Rattle.wf_flowq.specs.Flows.{longest_queue};
 ghost use Rattle.wf_flowq.specs.Kept.{flags};
 
 use std::alloc::{AllocError, Global};
 use std::marker::Model;
-use wf_backlog::{Backlog, Parcel};
 use wf_codel::Params;
+use wf_codel_queues::{Backlog, Parcel};
 
 /// The queues, and for each of them whether it has frames.
 #[derive(Drop)]
@@ -22,7 +22,7 @@ pub(crate) struct Flagged {
 
 impl Model for Flagged {
     ghost use Rattle.std.specs.Prelude.{◌≡◌};
-    ghost use Rattle.wf_backlog.specs.Backlog.{BacklogValue};
+    ghost use Rattle.wf_codel_queues.specs.Backlog.{BacklogValue};
     ghost use Rattle.wf_flowq.specs.Kept.{flags};
 
     ghost Value = { BacklogValue };
@@ -63,7 +63,7 @@ impl Flagged {
     pub(crate) fn drop_head(&mut self, q: u32) -> Option<u64>
         requires { q < length self.old.queues }
         ensures id { result ≡ first_id (frames_at self.old q) }
-        ensures dropped { self.new ≡ head_dropped self.old q }
+        ensures dropped { self.new ≡ after_head_drop self.old q }
         ensures held { held self.new ≡ held self.old }
     {
         let id = self.backlog.drop_head(q);
@@ -77,7 +77,7 @@ impl Flagged {
         requires time { now < 2 ^ 62 }
         ensures given { result ≡ given_at (params_of params) now self.old q }
         ensures none { IsNone result ↔ (frames_at self.old q ≡ []) }
-        ensures taken { self.new ≡ taken (params_of params) now self.old q }
+        ensures taken { self.new ≡ after_take (params_of params) now self.old q }
         ensures held { MatchOption result (held self.new ≡ held self.old) (λ _. held self.new + 1 ≡ held self.old) }
     {
         let parcel = self.backlog.take(q, now, params);
@@ -89,7 +89,7 @@ impl Flagged {
     pub(crate) fn flush(&mut self, q: u32) -> u32
         requires { q < length self.old.queues }
         ensures count { result ≡ length (frames_at self.old q) }
-        ensures flushed { self.new ≡ flushed self.old q }
+        ensures flushed { self.new ≡ after_flush self.old q }
         ensures held { held self.new ≡ held self.old }
     {
         let count = self.backlog.flush(q);
@@ -130,7 +130,7 @@ impl Flagged {
     /// The queue with the most octets, the least number on a tie.
     pub(crate) fn longest(&self) -> Option<u32>
         ensures none { IsNone result ↔ (in_queues self.now ≡ 0) }
-        ensures some { IfSome result (λ q. q ≡ longest self.now) }
+        ensures some { IfSome result (λ q. q ≡ longest_queue self.now) }
         ensures greatest { IfSome result (λ q. IsLongest (as_store self.now) q) }
         ensures within { IfSome result (λ q. q < length self.now.queues) }
         ensures has_frames { IfSome result (λ q. 0 < length (frames_at self.now q)) }

@@ -5,16 +5,16 @@ ghost use Rattle.wf_frame.specs.Settings.{first_out_of_range};
 ghost use Rattle.wf_codel.specs.Params.{params_of};
 ghost use Rattle.wf_rota.specs.Rotas.{deficit_at};
 ghost use Rattle.wf_store.specs.Store.{IsLongest};
-ghost use Rattle.wf_backlog.specs.Backlog.{as_store, frames_at, in_queues, held, first_id, head_dropped};
-ghost use Rattle.wf_flowq.specs.Flows.{settings, tid_number, tids, queues, rotation, is_listed, queued, longest, within_limit, dropped_for_limit, is_listed_elsewhere, queue_for, listed_queue, appended, put, picked, after_pick, taken_from, take, purged, empty_flows, AreListedOnce, Gives};
+ghost use Rattle.wf_codel_queues.specs.Backlog.{as_store, frames_at, in_queues, held, first_id, after_head_drop};
+ghost use Rattle.wf_flowq.specs.Flows.{settings, tid_number, tids, queues, rotation, is_listed, frames_queued, longest_queue, after_limit, dropped_for_limit, is_listed_elsewhere, queue_for, with_listed_queue, with_appended, after_put, pick_of_tid, after_pick, taken_from_picked, taken_for_tid, after_purge, empty_flows, AreListedOnce, TakeGives};
 ghost use Rattle.wf_flowq.specs.Kept.{CanList, without_queue, IsPicked};
 
 use crate::flagged::Flagged;
 use std::alloc::{AllocError, Global};
 use std::marker::{Brand, Model};
 use std::sync::ledger::{Blank, Ledger};
-use wf_backlog::Parcel;
 use wf_codel::Params;
+use wf_codel_queues::Parcel;
 use wf_frame::Config;
 use wf_rota::Rota;
 use wf_steps::Steps;
@@ -101,7 +101,7 @@ impl Flows {
     pub fn queued(&self, station: u16, tid: u8) -> u32
         requires station { station < self.now.stations }
         requires tid { tid < 8 }
-        ensures { result ≡ queued self.now (tid_number station tid) }
+        ensures { result ≡ frames_queued self.now (tid_number station tid) }
     {
         self.queued[number_of(station, tid) as usize]
     }
@@ -122,10 +122,10 @@ impl Flows {
         requires tid { parcel.tid < 8 }
         requires stamp { parcel.stamp ≡ now }
         requires room { held self.old.backlog < self.old.backlog.room }
-        ensures put { self.new ≡ put self.old (tid_number parcel.station parcel.tid) parcel }
+        ensures put { self.new ≡ after_put self.old (tid_number parcel.station parcel.tid) parcel }
         ensures dropped { result ≡ dropped_for_limit self.old }
         ensures full { IsSome result ↔ (self.old.limit ≤ in_queues self.old.backlog) }
-        ensures greatest { OnSome result (IsLongest (as_store self.old.backlog) (longest self.old.backlog)) }
+        ensures greatest { OnSome result (IsLongest (as_store self.old.backlog) (longest_queue self.old.backlog)) }
         ensures held { held self.new.backlog ≡ held self.old.backlog + 1 }
         ensures settings { settings self.new ≡ settings self.old }
     {
@@ -145,10 +145,10 @@ impl Flows {
         requires station { station < self.old.stations }
         requires tid { tid < 8 }
         requires time { now < 2 ^ 62 }
-        ensures none { IfNone result (queued self.old (tid_number station tid) ≡ 0) }
+        ensures none { IfNone result (frames_queued self.old (tid_number station tid) ≡ 0) }
         ensures unchanged { IfNone result (self.new ≡ self.old) }
-        ensures some { IfSome result (λ _. 0 < queued self.old (tid_number station tid)) }
-        ensures taken { IfSome result (λ p. Gives self.new p (take self.old (tid_number station tid) now (params_of params))) }
+        ensures some { IfSome result (λ _. 0 < frames_queued self.old (tid_number station tid)) }
+        ensures taken { IfSome result (λ p. TakeGives self.new p (taken_for_tid self.old (tid_number station tid) now (params_of params))) }
         ensures held { IfSome result (λ _. held self.new.backlog + 1 ≡ held self.old.backlog) }
         ensures settings { settings self.new ≡ settings self.old }
     {
@@ -167,8 +167,8 @@ impl Flows {
     pub fn purge(&mut self, station: u16, tid: u8) -> u32
         requires station { station < self.old.stations }
         requires tid { tid < 8 }
-        ensures purged { self.new ≡ purged self.old (tid_number station tid) }
-        ensures count { result ≡ queued self.old (tid_number station tid) }
+        ensures purged { self.new ≡ after_purge self.old (tid_number station tid) }
+        ensures count { result ≡ frames_queued self.old (tid_number station tid) }
         ensures held { held self.new.backlog ≡ held self.old.backlog }
         ensures settings { settings self.new ≡ settings self.old }
     {
@@ -199,10 +199,10 @@ impl Flows {
 
     // Drops the head of the longest queue where the queues hold `limit` frames or more.
     fn make_room(&mut self) -> Option<u64>
-        ensures within { self.new ≡ within_limit self.old }
+        ensures within { self.new ≡ after_limit self.old }
         ensures id { result ≡ dropped_for_limit self.old }
         ensures full { IsSome result ↔ (self.old.limit ≤ in_queues self.old.backlog) }
-        ensures greatest { OnSome result (IsLongest (as_store self.old.backlog) (longest self.old.backlog)) }
+        ensures greatest { OnSome result (IsLongest (as_store self.old.backlog) (longest_queue self.old.backlog)) }
         ensures held { held self.new.backlog ≡ held self.old.backlog }
         ensures room { self.new.backlog.room ≡ self.old.backlog.room }
         ensures stations { self.new.stations ≡ self.old.stations }
@@ -219,7 +219,7 @@ impl Flows {
     // Drops the head of a queue for the limit, and gives its id.
     fn drop_head(&mut self, q: u32) -> Option<u64>
         requires { q < queues self.old }
-        ensures dropped { self.new ≡ record self.old { backlog = head_dropped self.old.backlog q } }
+        ensures dropped { self.new ≡ record self.old { backlog = after_head_drop self.old.backlog q } }
         ensures id { result ≡ first_id (frames_at self.old.backlog q) }
         ensures held { held self.new.backlog ≡ held self.old.backlog }
     {
@@ -267,7 +267,7 @@ impl Flows {
         requires list { list < tids self.old }
         requires queue { q < queues self.old }
         requires own { CanList self.old list q }
-        ensures listed { self.new ≡ listed_queue self.old list q }
+        ensures listed { self.new ≡ with_listed_queue self.old list q }
         ensures stands { is_listed self.new list q ≡ true }
         ensures backlog { self.new.backlog ≡ self.old.backlog }
         ensures flows { self.new.flows ≡ self.old.flows }
@@ -285,7 +285,7 @@ impl Flows {
         requires queue { q < queues self.old }
         requires listed { is_listed self.old list q ≡ true }
         requires room { held self.old.backlog < self.old.backlog.room }
-        ensures appended { self.new ≡ appended self.old q parcel }
+        ensures appended { self.new ≡ with_appended self.old q parcel }
         ensures held { held self.new.backlog ≡ held self.old.backlog + 1 }
     {
         self.waiting.push(q, parcel);
@@ -298,8 +298,8 @@ impl Flows {
         ensures picked { self.new ≡ after_pick self.old list }
         ensures stations { self.new.stations ≡ self.old.stations }
         ensures backlog { self.new.backlog ≡ self.old.backlog }
-        ensures winner { result ≡ (picked self.old list).winner }
-        ensures none { IfNone result (queued self.old list ≡ 0) }
+        ensures winner { result ≡ (pick_of_tid self.old list).winner }
+        ensures none { IfNone result (frames_queued self.old list ≡ 0) }
         ensures listed { IfSome result (λ q. is_listed self.new list q ≡ true) }
         ensures positive { IfSome result (λ q. pos 0 <ℤ deficit_at self.new.rotas.deficits q) }
         ensures frames { IfSome result (λ q. 0 < length (frames_at self.new.backlog q)) }
@@ -316,7 +316,7 @@ impl Flows {
         requires time { now < 2 ^ 62 }
         ensures some { IsSome result }
         ensures held { held self.new.backlog + 1 ≡ held self.old.backlog }
-        ensures taken { IfSome result (λ p. Gives self.new p (taken_from self.old (Some q) now (params_of params))) }
+        ensures taken { IfSome result (λ p. TakeGives self.new p (taken_from_picked self.old (Some q) now (params_of params))) }
     {
         let before = self.waiting.count(q);
         let parcel = self.waiting.take(q, now, params)?;

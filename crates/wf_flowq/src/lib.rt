@@ -6,7 +6,7 @@ mod flagged;
 mod flows;
 
 pub use flows::Flows;
-pub use wf_backlog::Parcel;
+pub use wf_codel_queues::Parcel;
 
 #[cfg(test)]
 mod tests;

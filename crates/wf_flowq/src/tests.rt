@@ -1,7 +1,7 @@
 //! The calls together, with ample memory.
 
 ghost use Rattle.std.specs.Prelude.{◌≡◌, ◌+◌, ◌^◌, ◌<◌, ◌≤◌, IfOk};
-ghost use Rattle.wf_backlog.specs.Backlog.{held};
+ghost use Rattle.wf_codel_queues.specs.Backlog.{held};
 
 use crate::{Flows, Parcel};
 use std::alloc::{AllocError, Global};

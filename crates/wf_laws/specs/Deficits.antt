@@ -6,7 +6,7 @@ use Rattle.wf_frame.specs.declared.notes.Ask.TheVariants.{Join, Rx}
 use Rattle.wf_frame.specs.declared.notes.Note.{Note}
 use Rattle.wf_frame.specs.declared.notes.Note.TheVariants.{Asked}
 use Rattle.wf_rules.specs.Airtime.{longest_answer}
-use Rattle.wf_rules.specs.Rotation.{lists}
+use Rattle.wf_rules.specs.Rotation.{has_key}
 use Rattle.wf_rules.specs.Bounds.{greatest_debt}
 use Rattle.wf_world.specs.World.{World, Exchange, station, share, rotation, is_live, opening}
 use Rattle.wf_frame.specs.Classes.{same_class}
@@ -40,7 +40,7 @@ pub record IsAccounted (config : Config) (w : World) (s : ℕ) (c : Class) : Typ
   pub least : (pos 0 -ℤ pos (greatest_debt + most_owed config)) ≤ℤ (share w s c).deficit
   pub quiet : IsQuiet w s c → (pos 1 -ℤ pos (most_owed config)) ≤ℤ ((share w s c).deficit -ℤ pos (owed s c w.opened))
   pub floor : IsQuiet w s c → (pos 1 -ℤ pos (most_owed config)) ≤ℤ (share w s c).deficit
-  pub ready : IsTrue (is_ready w c s) → IsTrue (lists (rotation w c) s)
+  pub ready : IsTrue (is_ready w c s) → IsTrue (has_key (rotation w c) s)
 
 -- after each entry, for each live station and class
 abbrev pub DeficitLaw : Config → List Entry → Type 0
@@ -69,16 +69,16 @@ abbrev pub FairnessLaw : Config → List Entry → Type 0
 FairnessLaw config h = (i j : ℕ) (c : Class) (a b : ℕ) → IsStretch config h i j c a b → IsQuiet (world_at config h b) i c → IsQuiet (world_at config h b) j c → IsFairStretch config h i j c a b
 
 -- how many receive charges of a class a station had since its join, after a call: n is how many before it
-abbrev pub heard_by : World → ℕ → Class → Note → ℕ → ℕ
-heard_by w s c (Asked (Join i window start exponent weight)) n = if is_none (refusal w (Asked (Join i window start exponent weight))) && (i == s) then 0 else n
-heard_by w s c (Asked (Rx i d air)) n = if is_none (refusal w (Asked (Rx i d air))) && ((i == s) && same_class d c) then n + 1 else n
-heard_by w s c _ n = n
+abbrev pub receive_charges_by : World → ℕ → Class → Note → ℕ → ℕ
+receive_charges_by w s c (Asked (Join i window start exponent weight)) n = if is_none (refusal w (Asked (Join i window start exponent weight))) && (i == s) then 0 else n
+receive_charges_by w s c (Asked (Rx i d air)) n = if is_none (refusal w (Asked (Rx i d air))) && ((i == s) && same_class d c) then n + 1 else n
+receive_charges_by w s c _ n = n
 
-abbrev pub heard_in : World → ℕ → Class → List Entry → ℕ → ℕ
-heard_in w s c [] n = n
-heard_in w s c (e ∷ es) n = heard_in (step w e.1).world s c es (heard_by w s c e.1 n)
+abbrev pub receive_charges_in : World → ℕ → Class → List Entry → ℕ → ℕ
+receive_charges_in w s c [] n = n
+receive_charges_in w s c (e ∷ es) n = receive_charges_in (step w e.1).world s c es (receive_charges_by w s c e.1 n)
 
 -- a live station is quiet exactly where none of its calls Rx in the class was answered Charged since its join
 abbrev pub QuietLaw : Config → List Entry → Type 0
 QuietLaw config h = (m s : ℕ) (c : Class) → IsTrue (is_live (world_at config h m) s) →
-    (heard_in (opening config) s c (take m h) 0 ≡ 0 → IsQuiet (world_at config h m) s c) × (IsQuiet (world_at config h m) s c → heard_in (opening config) s c (take m h) 0 ≡ 0)
+    (receive_charges_in (opening config) s c (take m h) 0 ≡ 0 → IsQuiet (world_at config h m) s c) × (IsQuiet (world_at config h m) s c → receive_charges_in (opening config) s c (take m h) 0 ≡ 0)

@@ -4,7 +4,7 @@ use Rattle.wf_frame.specs.declared.settings.Config.{Config}
 use Rattle.wf_frame.specs.declared.classes.Fate.TheVariants.{Held}
 use Rattle.wf_rules.specs.Table.{has}
 use Rattle.wf_rules.specs.Session.{slot, is_settled, next_number}
-use Rattle.wf_world.specs.World.{World, session, queue, frame, accepted}
+use Rattle.wf_world.specs.World.{World, session, queue, frame, accepted_count}
 use Rattle.wf_world.specs.Run.{Entry}
 use Rattle.wf_world.specs.Stretches.{world_at}
 use Rattle.wf_laws.specs.Queues.{IsFor, IsListed}
@@ -38,8 +38,8 @@ pub record StandsOnce (w : World) (id : ℕ) : Type 0 where
   pub right : IsRightFor w id place
 
 pub record KeepsPlaces (w : World) : Type 0 where
-  pub held : (id : ℕ) → id < accepted w → (frame w id).fate ≡ Held → StandsOnce w id
-  pub only_held : (id : ℕ) (p : Place) → StandsAt w id p → (id < accepted w) × ((frame w id).fate ≡ Held)
+  pub held : (id : ℕ) → id < accepted_count w → (frame w id).fate ≡ Held → StandsOnce w id
+  pub only_held : (id : ℕ) (p : Place) → StandsAt w id p → (id < accepted_count w) × ((frame w id).fate ≡ Held)
 
 abbrev pub PlaceLaw : Config → List Entry → Type 0
 PlaceLaw config history = (m : ℕ) → KeepsPlaces (world_at config history m)

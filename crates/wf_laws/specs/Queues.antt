@@ -4,7 +4,7 @@ use Rattle.wf_frame.specs.declared.settings.Config.{Config}
 use Rattle.wf_frame.specs.declared.notes.Note.{Note}
 use Rattle.wf_frame.specs.declared.notes.Note.TheVariants.{Enqueue, Asked}
 use Rattle.wf_rules.specs.Codel.{Item}
-use Rattle.wf_rules.specs.Rotation.{lists, in_order}
+use Rattle.wf_rules.specs.Rotation.{has_key, in_order}
 use Rattle.wf_world.specs.World.{World, tid_of, queue, frame, is_live}
 use Rattle.wf_world.specs.FlowQueues.{overflow_queue}
 use Rattle.wf_world.specs.Run.{Entry}
@@ -26,7 +26,7 @@ IsFor s t (Enqueue i j flow len) = (i ≡ s) × (j ≡ t)
 IsFor s t (Asked ask) = ⊥
 
 abbrev pub IsListed : World → ℕ → ℕ → ℕ → Type 0
-IsListed w s t q = lists (tid_of w s t).queues q ≡ true
+IsListed w s t q = has_key (tid_of w s t).queues q ≡ true
 
 -- some TID lists the queue
 pub record HasLister (w : World) (q : ℕ) : Type 0 where

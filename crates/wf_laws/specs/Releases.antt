@@ -17,23 +17,23 @@ use Rattle.wf_world.specs.Stretches.{world_at}
 use Rattle.wf_rules.specs.Lists.{IsRising, IsOnce}
 
 -- whether a call asks that station s joins
-abbrev pub joins : ℕ → Note → Bool
-joins s (Asked (Join i window start exponent weight)) = i == s
-joins s note = false
+abbrev pub is_join_of : ℕ → Note → Bool
+is_join_of s (Asked (Join i window start exponent weight)) = i == s
+is_join_of s note = false
 
 abbrev pub is_at : ℕ → ℕ → Option Exchange → Bool
 is_at s t None = false
 is_at s t (Some x) = (x.station == s) && (x.tid == t)
 
 -- whether a call is an arrival at TID t of station s
-abbrev pub arrives : World → ℕ → ℕ → Note → Bool
-arrives w s t (Asked (Arrive e index)) = is_at s t (exchange w e)
-arrives w s t note = false
+abbrev pub is_arrival_for : World → ℕ → ℕ → Note → Bool
+is_arrival_for w s t (Asked (Arrive e index)) = is_at s t (exchange w e)
+is_arrival_for w s t note = false
 
 -- the ids passed up to TID t of station s since the station joined: what a call and its reply make of those before it
 abbrev pub passed_by : World → ℕ → ℕ → Note → List ℕ → ReplyNote → List ℕ
-passed_by w s t note before Joined = if joins s note then [] else before
-passed_by w s t note before (Released ids) = if arrives w s t note then before ++ ids else before
+passed_by w s t note before Joined = if is_join_of s note then [] else before
+passed_by w s t note before (Released ids) = if is_arrival_for w s t note then before ++ ids else before
 passed_by w s t note before reply = before
 
 unfoldable pub passed_from : World → List ℕ → List Entry → ℕ → ℕ → List ℕ

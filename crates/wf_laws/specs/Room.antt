@@ -5,7 +5,7 @@ use Rattle.wf_frame.specs.declared.notes.Ask.TheVariants.{Reap}
 use Rattle.wf_frame.specs.declared.notes.Note.{Note}
 use Rattle.wf_frame.specs.declared.notes.Note.TheVariants.{Asked}
 use Rattle.wf_rules.specs.Session.{is_settled}
-use Rattle.wf_world.specs.World.{World, Station, Tid, accepted, inside, opening}
+use Rattle.wf_world.specs.World.{World, Station, Tid, accepted_count, inside, opening}
 use Rattle.wf_world.specs.FlowQueues.{total_queued}
 use Rattle.wf_world.specs.Refusals.{refusal}
 use Rattle.wf_world.specs.Step.{step}
@@ -41,7 +41,7 @@ pub record HasRoom (config : Config) (r : ℕ) (w : World) : Type 0 where
   -- a frame that is inside is in a flow queue, at a number that waits or is in flight, or on the finished list
   pub placed : total_queued w + in_windows w + length w.finished ≡ inside w
   -- each accepted frame is inside or was reaped
-  pub reaped : inside w + r ≡ accepted w
+  pub reaped : inside w + r ≡ accepted_count w
 
 abbrev pub RoomLaw : Config → List Entry → Type 0
 RoomLaw config history = (m : ℕ) → HasRoom config (reaped_in (opening config) (take m history)) (world_at config history m)

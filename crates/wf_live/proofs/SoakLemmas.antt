@@ -6,7 +6,7 @@ use Rattle.wf_world.specs.Step.{step}
 use Rattle.wf_world.specs.Run.{Entry, by, world_after}
 use Rattle.wf_frame.specs.declared.notes.Note.TheVariants.{Asked}
 use Rattle.wf_frame.specs.declared.notes.Ask.TheVariants.{Reap}
-use Rattle.wf_live.specs.Soak.{Soak, machine_of, call, reply_to, stations_join, station_joins, all_sent, transmission_sent, some_arrive, arrives, is_nothing, reaped, rounds_played, round_played}
+use Rattle.wf_live.specs.Soak.{Soak, machine_of, call, reply_to, stations_join, station_joins, all_sent, transmission_sent, some_arrive, lets_arrive, is_nothing, after_reaps, rounds_played, round_played}
 
 pub nothing_past : (w : World) → world_after w [] ≡ w
 unfolding world_after
@@ -66,12 +66,12 @@ pub sent_over : (e i count : ℕ) (k : Soak) → count ≤ i → all_sent e i (c
 unfolding all_sent
 sent_over e i count k over = let none : count - i ≡ 0 = omega arith in ap (λ n. all_sent e i n k) none
 
-pub arrive_on : (e i count : ℕ) (k : Soak) → i < count → (arrives k || some_arrive e (i + 1) (count - (i + 1)) (transmission_sent e i k)) ≡ some_arrive e i (count - i) k
+pub arrive_on : (e i count : ℕ) (k : Soak) → i < count → (lets_arrive k || some_arrive e (i + 1) (count - (i + 1)) (transmission_sent e i k)) ≡ some_arrive e i (count - i) k
 unfolding some_arrive
 arrive_on e i count k below =
     let rest : count - i ≡ suc (count - (i + 1)) = omega arith in
     let next : i + 1 ≡ suc i = omega arith in
-    ap (λ j. arrives k || some_arrive e j (count - (i + 1)) (transmission_sent e i k)) next ∙ sym (ap (λ n. some_arrive e i n k) rest)
+    ap (λ j. lets_arrive k || some_arrive e j (count - (i + 1)) (transmission_sent e i k)) next ∙ sym (ap (λ n. some_arrive e i n k) rest)
 
 pub arrive_over : (e i count : ℕ) (k : Soak) → count ≤ i → some_arrive e i (count - i) k ≡ false
 unfolding some_arrive
@@ -85,23 +85,23 @@ pub or_false : (a : Bool) → (a || false) ≡ a
 or_false true = refl
 or_false false = refl
 
-pub reaps_on : (i left : ℕ) (k : Soak) → i < left → is_nothing (reply_to (Asked Reap) k) ≡ false → reaped (left - (i + 1)) (call (Asked Reap) k) ≡ reaped (left - i) k
-unfolding reaped
+pub reaps_on : (i left : ℕ) (k : Soak) → i < left → is_nothing (reply_to (Asked Reap) k) ≡ false → after_reaps (left - (i + 1)) (call (Asked Reap) k) ≡ after_reaps (left - i) k
+unfolding after_reaps
 reaps_on i left k below more =
     let rest : left - i ≡ suc (left - (i + 1)) = omega arith in
-    let step : reaped (suc (left - (i + 1))) k ≡ reaped (left - (i + 1)) (call (Asked Reap) k) = rw more refl in
-    sym (ap (λ n. reaped n k) rest ∙ step)
+    let step : after_reaps (suc (left - (i + 1))) k ≡ after_reaps (left - (i + 1)) (call (Asked Reap) k) = rw more refl in
+    sym (ap (λ n. after_reaps n k) rest ∙ step)
 
-pub reaps_end : (i left : ℕ) (k : Soak) → i < left → is_nothing (reply_to (Asked Reap) k) ≡ true → call (Asked Reap) k ≡ reaped (left - i) k
-unfolding reaped
+pub reaps_end : (i left : ℕ) (k : Soak) → i < left → is_nothing (reply_to (Asked Reap) k) ≡ true → call (Asked Reap) k ≡ after_reaps (left - i) k
+unfolding after_reaps
 reaps_end i left k below none =
     let rest : left - i ≡ suc (left - (i + 1)) = omega arith in
-    let step : reaped (suc (left - (i + 1))) k ≡ call (Asked Reap) k = rw none refl in
-    sym (ap (λ n. reaped n k) rest ∙ step)
+    let step : after_reaps (suc (left - (i + 1))) k ≡ call (Asked Reap) k = rw none refl in
+    sym (ap (λ n. after_reaps n k) rest ∙ step)
 
-pub reaps_over : (i left : ℕ) (k : Soak) → left ≤ i → reaped (left - i) k ≡ k
-unfolding reaped
-reaps_over i left k over = let none : left - i ≡ 0 = omega arith in ap (λ n. reaped n k) none
+pub reaps_over : (i left : ℕ) (k : Soak) → left ≤ i → after_reaps (left - i) k ≡ k
+unfolding after_reaps
+reaps_over i left k over = let none : left - i ≡ 0 = omega arith in ap (λ n. after_reaps n k) none
 
 pub rounds_on : (r most : ℕ) (k : Soak) → r < most → 0 < k.left → rounds_played (most - (r + 1)) (r + 1) (round_played r k) ≡ rounds_played (most - r) r k
 unfolding rounds_played

@@ -78,11 +78,11 @@ sleeper_called r k =
     else (if r % 64 == 32 then call (Asked (Wake ((r / 64) % 16))) k else k))
 
 -- one transmission of an exchange: nine words in ten let it arrive
-abbrev pub arrives : Soak → Bool
-arrives k = not (word k % 10 == 0)
+abbrev pub lets_arrive : Soak → Bool
+lets_arrive k = not (word k % 10 == 0)
 
 abbrev pub transmission_sent : ℕ → ℕ → Soak → Soak
-transmission_sent e i k = if arrives k then call (Asked (Arrive e i)) (drawn k) else drawn k
+transmission_sent e i k = if lets_arrive k then call (Asked (Arrive e i)) (drawn k) else drawn k
 
 -- n transmissions, from index i on; whether one arrived
 unfoldable pub all_sent : ℕ → ℕ → ℕ → Soak → Soak
@@ -91,10 +91,10 @@ all_sent e i (suc n) k = all_sent e (suc i) n (transmission_sent e i k)
 
 unfoldable pub some_arrive : ℕ → ℕ → ℕ → Soak → Bool
 some_arrive e i zero k = false
-some_arrive e i (suc n) k = arrives k || some_arrive e (suc i) n (transmission_sent e i k)
+some_arrive e i (suc n) k = lets_arrive k || some_arrive e (suc i) n (transmission_sent e i k)
 
-abbrev pub answered_if : Bool → ℕ → Soak → Soak
-answered_if answered e k = if answered then call (Asked (Answer e)) k else k
+abbrev pub after_answer_if : Bool → ℕ → Soak → Soak
+after_answer_if answered e k = if answered then call (Asked (Answer e)) k else k
 
 -- an exchange is heard where it was answered, but for one word in twenty
 abbrev pub exchange_ended : Bool → ℕ → Soak → Soak
@@ -107,7 +107,7 @@ transmissions_in (Request start) = 1
 unfoldable pub exchange_played : ℕ → ℕ → Soak → Soak
 exchange_played e n k =
     let answered : Bool = some_arrive e 0 n k in
-    exchange_ended answered e (answered_if answered e (all_sent e 0 n k))
+    exchange_ended answered e (after_answer_if answered e (all_sent e 0 n k))
 
 -- the exchange that a reply begins, and how many transmissions it has
 abbrev pub sending : Option ReplyNote → Option (ℕ × ℕ)
@@ -122,24 +122,24 @@ sending_played (Some exchange) k = exchange_played exchange.0 exchange.1 k
 abbrev pub class_in_round : ℕ → Class
 class_in_round r = at Vo (Bk ∷ Be ∷ Vi ∷ []) (r % 4)
 
-abbrev pub pulled : Class → Soak → Soak
-pulled c k = sending_played (sending (reply_to (Asked (Pull c)) k)) (call (Asked (Pull c)) k)
+abbrev pub after_pull : Class → Soak → Soak
+after_pull c k = sending_played (sending (reply_to (Asked (Pull c)) k)) (call (Asked (Pull c)) k)
 
 -- reap until nothing is left to reap, or no call is left: at most n times
 abbrev pub is_nothing : Option ReplyNote → Bool
 is_nothing (Some (Refused Nothing)) = true
 is_nothing _ = false
 
-unfoldable pub reaped : ℕ → Soak → Soak
-reaped zero k = k
-reaped (suc n) k = if is_nothing (reply_to (Asked Reap) k) then call (Asked Reap) k else reaped n (call (Asked Reap) k)
+unfoldable pub after_reaps : ℕ → Soak → Soak
+after_reaps zero k = k
+after_reaps (suc n) k = if is_nothing (reply_to (Asked Reap) k) then call (Asked Reap) k else after_reaps n (call (Asked Reap) k)
 
-abbrev pub all_reaped : Soak → Soak
-all_reaped k = reaped k.left k
+abbrev pub after_all_reaps : Soak → Soak
+after_all_reaps k = after_reaps k.left k
 
 unfoldable pub round_played : ℕ → Soak → Soak
 round_played r k =
-    all_reaped (pulled (class_in_round r) (sleeper_called r (air_used r (call (Asked (Tick 1000)) (frame_put (frame_put (frame_put (frame_put k))))))))
+    after_all_reaps (after_pull (class_in_round r) (sleeper_called r (air_used r (call (Asked (Tick 1000)) (frame_put (frame_put (frame_put (frame_put k))))))))
 
 -- rounds from round r on, until no call is left: at most n of them
 unfoldable pub rounds_played : ℕ → ℕ → Soak → Soak

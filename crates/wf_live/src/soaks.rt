@@ -2,7 +2,7 @@
 
 ghost use Rattle.std.specs.Prelude.{◌≡◌, ◌+◌, ◌-◌, ◌≤◌, ◌<◌, IfOk, length};
 ghost use Rattle.wf_frame.specs.Settings.{standard};
-ghost use Rattle.wf_live.specs.Soak.{IsLater, frame_for, soak_begun, call, reply_to, stations_join, station_joins, frame_put, air_used, sleeper_called, transmission_sent, arrives, all_sent, some_arrive, exchange_ended, answered_if, exchange_played, transmissions_in, sending, sending_played, class_in_round, pulled, reaped, all_reaped, round_played, rounds_played, soak_history, drawn, word, is_nothing};
+ghost use Rattle.wf_live.specs.Soak.{IsLater, frame_for, soak_begun, call, reply_to, stations_join, station_joins, frame_put, air_used, sleeper_called, transmission_sent, lets_arrive, all_sent, some_arrive, exchange_ended, after_answer_if, exchange_played, transmissions_in, sending, sending_played, class_in_round, after_pull, after_reaps, after_all_reaps, round_played, rounds_played, soak_history, drawn, word, is_nothing};
 ghost use Rattle.wf_world.specs.World.{opening};
 ghost use Rattle.wf_world.specs.Run.{world_after};
 
@@ -209,7 +209,7 @@ impl SoakRun {
     /// One transmission: nine words in ten let it arrive. Tells whether it did.
     fn transmission_sent(self, exchange: u64, index: u16) -> Result<(SoakRun, bool), Fault>
         ensures made { IfOk result (λ r. r.0 ≡ transmission_sent exchange index self) }
-        ensures arrived { IfOk result (λ r. r.1 ≡ arrives self) }
+        ensures arrived { IfOk result (λ r. r.1 ≡ lets_arrive self) }
         ensures later { IfOk result (λ r. IsLater self r.0) }
     {
         let (soak, word) = self.draw();
@@ -237,7 +237,7 @@ impl SoakRun {
     }
 
     fn answered_if(self, answered: bool, exchange: u64) -> Result<SoakRun, Fault>
-        ensures made { IfOk result (λ k. k ≡ answered_if answered exchange self) }
+        ensures made { IfOk result (λ k. k ≡ after_answer_if answered exchange self) }
         ensures later { IfOk result (λ k. IsLater self k) }
     {
         if answered {
@@ -283,7 +283,7 @@ impl SoakRun {
 
     /// A pull of a class, and the exchange that it begins.
     fn pulled(self, class: Class) -> Result<SoakRun, Fault>
-        ensures made { IfOk result (λ k. k ≡ pulled class self) }
+        ensures made { IfOk result (λ k. k ≡ after_pull class self) }
         ensures later { IfOk result (λ k. IsLater self k) }
     {
         let (soak, reply) = self.asked(Note::Asked(Ask::Pull { class }))?;
@@ -292,7 +292,7 @@ impl SoakRun {
 
     /// Reaps until nothing is left to reap, or no call is left.
     fn all_reaped(self) -> Result<SoakRun, Fault>
-        ensures made { IfOk result (λ k. k ≡ all_reaped self) }
+        ensures made { IfOk result (λ k. k ≡ after_all_reaps self) }
         ensures later { IfOk result (λ k. IsLater self k) }
     {
         let mut soak = self;

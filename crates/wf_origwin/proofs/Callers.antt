@@ -2,7 +2,7 @@
 use Rattle.std.proofs.Common.{◌≡◌, ℕ, zero, suc, ◌+◌, ◌-◌, ◌%◌, ◌<◌, ◌≤◌, Bool, true, false, if◌then◌else◌, is_some, List, [], ◌∷◌, ◌++◌, length, set, map, refl, ap, sym, ◌∙◌, arith, length-append, length-set}
 use Rattle.std.proofs.lemmas.List.{nil_from_length}
 use Rattle.wf_frame.specs.Frames.{FrameValue}
-use Rattle.wf_rules.specs.Session.{Session, Slot, State, no_slot, slot, on_slot, give, start_of, next_number, request_due, is_settled}
+use Rattle.wf_rules.specs.Session.{Session, Slot, State, no_slot, slot, on_slot, with_number_given, start_of, next_number, request_due, is_settled}
 use Rattle.wf_rules.specs.Table.{at, change}
 use Rattle.wf_origwin.specs.Places.{state_of, place_of, slot_state, front, settled_first}
 use Rattle.wf_seq12.specs.Distance.{distance}
@@ -108,13 +108,13 @@ module _ (w : WindowValue) (s : Session) (bodies : ℕ → FrameValue) (stands :
 
 -- a number that is given
 
-pub slot_given : (s : Session) (id : ℕ) → slot (give s id) (next_number s) ≡ record { id = id; attempts = 0; state = State.Waiting }
+pub slot_given : (s : Session) (id : ℕ) → slot (with_number_given s id) (next_number s) ≡ record { id = id; attempts = 0; state = State.Waiting }
 slot_given s id =
     let same : next_number s - s.first ≡ length s.slots = omega arith in
-    ap (at no_slot (give s id).slots) same ∙ at_append s.slots (record { id = id; attempts = 0; state = State.Waiting })
+    ap (at no_slot (with_number_given s id).slots) same ∙ at_append s.slots (record { id = id; attempts = 0; state = State.Waiting })
 
-pub next_given : (s : Session) (id : ℕ) → next_number (give s id) ≡ next_number s + 1
+pub next_given : (s : Session) (id : ℕ) → next_number (with_number_given s id) ≡ next_number s + 1
 next_given s id = omega (arith, length-append s.slots (record { id = id; attempts = 0; state = State.Waiting } ∷ []))
 
-pub start_given : (s : Session) (id : ℕ) → start_of (give s id) ≡ start_of s
-start_given s id = omega (arith, start_of_is (give s id), start_of_is s, ap length (front_push slot_state s.slots (record { id = id; attempts = 0; state = State.Waiting }) refl))
+pub start_given : (s : Session) (id : ℕ) → start_of (with_number_given s id) ≡ start_of s
+start_given s id = omega (arith, start_of_is (with_number_given s id), start_of_is s, ap length (front_push slot_state s.slots (record { id = id; attempts = 0; state = State.Waiting }) refl))

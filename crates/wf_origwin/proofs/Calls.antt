@@ -3,7 +3,7 @@ use Rattle.std.proofs.Common.{◌≡◌, ℕ, zero, suc, ◌+◌, ◌-◌, ◌%�
 use Rattle.std.proofs.lemmas.List.{append_assoc, map-append}
 use Rattle.std.proofs.lemmas.Bool.Decides.{nat_tests}
 use Rattle.wf_frame.specs.Frames.{FrameValue}
-use Rattle.wf_rules.specs.Session.{Session, Slot, State, slot, on_slot, give, new_session, start_of, is_settled, request_due, has_room, with_state, missed, missed_slot}
+use Rattle.wf_rules.specs.Session.{Session, Slot, State, slot, on_slot, with_number_given, new_session, start_of, is_settled, request_due, has_room, with_state, after_miss, slot_after_miss}
 use Rattle.wf_origwin.specs.declared.place.Place.{Place}
 use Rattle.wf_origwin.specs.declared.place.Place.TheVariants.{Waiting as Waits, Flying as Flies, Failed as Fails}
 use Rattle.wf_origwin.specs.Places.{state_of, place_of, place_as, slot_state, front, settled_first, since_failed, at_most}
@@ -80,7 +80,7 @@ module _ (w : WindowValue) (s : Session) (bodies : ℕ → FrameValue) (stands :
       none_some None = refl
       none_some (Some d) = refl
 
-  pub give_law : (id : ℕ) (parcel : FrameValue) → parcel ≡ bodies id → length w.places < w.size → StandsFor (record w { places = w.places ++ Some (Waits parcel 0) ∷ [] }) (give s id) bodies
+  pub give_law : (id : ℕ) (parcel : FrameValue) → parcel ≡ bodies id → length w.places < w.size → StandsFor (record w { places = w.places ++ Some (Waits parcel 0) ∷ [] }) (with_number_given s id) bodies
   give_law id parcel same room =
       let fresh : Slot = record { id = id; attempts = 0; state = State.Waiting } in
       let ys : List Slot = slots_from_start s ++ fresh ∷ [] in
@@ -140,18 +140,18 @@ module _ (w : WindowValue) (s : Session) (bodies : ℕ → FrameValue) (stands :
       pub acked_law : StandsFor (moved_on (record w { places = set w.places (distance seq w.start) None })) (with_state State.Acked n s) bodies
       acked_law = slot_changed w s bodies stands n seq number (λ y. record y { state = State.Acked }) None refl
 
-      pub failed_law : limit ≤ attempts + 1 → StandsFor (moved_on (record w { places = set w.places (distance seq w.start) (Some Fails) })) (missed limit n s) bodies
+      pub failed_law : limit ≤ attempts + 1 → StandsFor (moved_on (record w { places = set w.places (distance seq w.start) (Some Fails) })) (after_miss limit n s) bodies
       failed_law last =
           let over : nat_le limit ((slot s n).attempts + 1) ≡ true = is_over _ _ _ last found_slot.attempts_is in
-          slot_changed w s bodies stands n seq number (missed_slot limit) (Some Fails) (ap (λ (b : Bool). place_as (if b then State.Failed else State.Waiting) (bodies (slot s n).id) ((slot s n).attempts + 1)) (sym over))
+          slot_changed w s bodies stands n seq number (slot_after_miss limit) (Some Fails) (ap (λ (b : Bool). place_as (if b then State.Failed else State.Waiting) (bodies (slot s n).id) ((slot s n).attempts + 1)) (sym over))
         where
           is_over : (l a b : ℕ) → l ≤ a + 1 → a ≡ b → nat_le l (b + 1) ≡ true
           is_over l a b h e = grind (arith, nat_tests)
 
-      pub missed_law : attempts + 1 < limit → StandsFor (record w { places = set w.places (distance seq w.start) (Some (Waits parcel (attempts + 1))) }) (missed limit n s) bodies
+      pub missed_law : attempts + 1 < limit → StandsFor (record w { places = set w.places (distance seq w.start) (Some (Waits parcel (attempts + 1))) }) (after_miss limit n s) bodies
       missed_law more =
           let under : nat_le limit ((slot s n).attempts + 1) ≡ false = is_under _ _ _ more found_slot.attempts_is in
-          kept_law (missed_slot limit) (Some (Waits parcel (attempts + 1))) (same_waits _ _ _ _ found_slot.parcel_is found_slot.attempts_is ∙ ap (λ (b : Bool). place_as (if b then State.Failed else State.Waiting) (bodies (slot s n).id) ((slot s n).attempts + 1)) (sym under)) refl
+          kept_law (slot_after_miss limit) (Some (Waits parcel (attempts + 1))) (same_waits _ _ _ _ found_slot.parcel_is found_slot.attempts_is ∙ ap (λ (b : Bool). place_as (if b then State.Failed else State.Waiting) (bodies (slot s n).id) ((slot s n).attempts + 1)) (sym under)) refl
         where
           is_under : (l a b : ℕ) → a + 1 < l → a ≡ b → nat_le l (b + 1) ≡ false
           is_under l a b h e = grind (arith, nat_tests)

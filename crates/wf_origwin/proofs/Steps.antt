@@ -2,7 +2,7 @@
 use Rattle.std.proofs.Common.{◌≡◌, ℕ, zero, suc, ◌+◌, ◌-◌, ◌%◌, ◌<◌, ◌≤◌, nat_le, Bool, true, false, ◌||◌, if◌then◌else◌, Option, Some, None, List, [], ◌∷◌, length, get_or, set, refl, ap, sym, ◌∙◌, subst, arith, length-set, max}
 use Rattle.std.proofs.lemmas.List.{set-set}
 use Rattle.wf_frame.specs.Frames.{FrameValue}
-use Rattle.wf_rules.specs.Session.{Session, State, slot, start_of, next_number, is_settled, is_waiting, with_state, missed}
+use Rattle.wf_rules.specs.Session.{Session, State, slot, start_of, next_number, is_settled, is_waiting, with_state, after_miss}
 use Rattle.wf_origwin.specs.declared.place.Place.{Place}
 use Rattle.wf_origwin.specs.declared.place.Place.TheVariants.{Waiting as Waits, Flying as Flies, Failed as Fails}
 use Rattle.wf_origwin.specs.Ring.{RingValue}
@@ -110,7 +110,7 @@ module _ (size start : ℕ) (due : Option ℕ) (r r1 r2 : RingValue) (now : Wind
 
     pub failed_step : (r0 : RingValue) (start2 moved : ℕ) (due2 : Option ℕ) → limit ≤ attempts + 1 → r0 ≡ with_items r (set r.items i None) → r1 ≡ with_items r0 (set r0.items i (Some Fails)) → r2 ≡ with_items r1 (rest state_of r1.items) → moved ≡ length (front state_of r1.items) → due2 ≡ since_failed state_of due (front state_of r1.items) → start2 ≡ (start + moved) % 4096 → StandsFor (shown size start2 due2 r2) (settled false limit n s) bodies
     failed_step r0 start2 moved due2 last z a b m d e =
-        let P : WindowValue → Type 0 = λ v. StandsFor v (missed limit n s) bodies in
+        let P : WindowValue → Type 0 = λ v. StandsFor v (after_miss limit n s) bodies in
         let a_here : r1 ≡ with_items r (set r.items (distance seq start) (Some Fails)) = replaced_twice r r0 r1 i None (Some Fails) z a ∙ ap (λ (k : ℕ). with_items r (set r.items k (Some Fails))) i_is in
         subst P (sym (moved_on_is size start start2 moved due due2 r r1 r2 _ a_here b m d e)) (failed_law (shown size start due r) s bodies (here s bodies stands) n seq number parcel attempts exchange limit found_here last)
 
@@ -118,7 +118,7 @@ module _ (size start : ℕ) (due : Option ℕ) (r r1 r2 : RingValue) (now : Wind
     missed_step more a b =
         let q : Option Place = Some (Waits parcel (attempts + 1)) in
         let ring_is : r2 ≡ with_items r (set r.items (distance seq start) q) = replaced_twice r r1 r2 i None q a b ∙ ap (λ (k : ℕ). with_items r (set r.items k q)) i_is in
-        let P : RingValue → Type 0 = λ v. StandsFor (shown size start due v) (missed limit n s) bodies in
+        let P : RingValue → Type 0 = λ v. StandsFor (shown size start due v) (after_miss limit n s) bodies in
         subst P (sym ring_is) (missed_law (shown size start due r) s bodies (here s bodies stands) n seq number parcel attempts exchange limit found_here more)
 
     slot_found : IsFlyingSlot bodies (slot s n) parcel attempts exchange

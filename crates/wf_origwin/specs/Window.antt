@@ -6,7 +6,7 @@ use Rattle.wf_origwin.specs.declared.place.Place.{Place}
 use Rattle.wf_origwin.specs.declared.place.Place.TheVariants.{Waiting as Waits, Flying as Flies}
 use Rattle.wf_seq12.specs.Distance.{distance}
 use Rattle.wf_origwin.specs.Places.{settled_first, state_of, place_of, slot_state, front, rest, since_failed, at_most}
-use Rattle.wf_rules.specs.Session.{Session, Slot, State, start_of, next_number, request_due, has_room, waiting_numbers, is_waiting, with_state, missed}
+use Rattle.wf_rules.specs.Session.{Session, Slot, State, start_of, next_number, request_due, has_room, waiting_numbers, is_waiting, with_state, after_miss}
 
 -- a window as its callers see it
 pub record WindowValue : Type 0 where
@@ -56,7 +56,7 @@ on_air n = n % 4096
 -- the session after a number was settled
 abbrev pub settled : Bool → ℕ → ℕ → Session → Session
 settled true limit n s = with_state State.Acked n s
-settled false limit n s = missed limit n s
+settled false limit n s = after_miss limit n s
 
 -- the window
 

@@ -7,7 +7,7 @@ ghost use Rattle.std.specs.Prelude.{◌≡◌, ℕ, ◌+◌, ◌%◌, ◌<◌, �
 ghost use Rattle.wf_frame.specs.Frames.{FrameValue};
 ghost use Rattle.wf_frame.specs.declared.classes.Fate.TheVariants.{Dropped};
 ghost use Rattle.wf_frame.specs.declared.classes.Cause.TheVariants.{Left};
-ghost use Rattle.wf_rules.specs.Session.{Session, State, slot, new_session, give, with_state, start_of, next_number, request_due, is_settled};
+ghost use Rattle.wf_rules.specs.Session.{Session, State, slot, new_session, with_number_given, with_state, start_of, next_number, request_due, is_settled};
 ghost use Rattle.wf_seq12.specs.Distance.{distance};
 ghost use Rattle.wf_origwin.specs.Places.{state_of, front, rest, next_since, since_failed};
 ghost use Rattle.wf_origwin.specs.Window.{StandsFor, IsNumber, may_give, waiting_from, on_air, settled, place_at, state_at, attempts_of, is_flying, is_held, HasFrame, waits, some_fly, can_take};
@@ -258,7 +258,7 @@ impl Window {
         ensures exactly { is_ok result ≡ can_take self.old }
         ensures given { IfOk result (λ seq. (s : Session) (bodies : ℕ → FrameValue) → StandsFor self.old s bodies →
             parcel ≡ bodies parcel.id →
-            (seq ≡ next_number s % 4096) × StandsFor self.new (give s parcel.id) bodies) }
+            (seq ≡ next_number s % 4096) × StandsFor self.new (with_number_given s parcel.id) bodies) }
         ensures refused { IfErr result (λ back. (back ≡ parcel) × (self.new ≡ self.old)) }
         ensures capacity { self.new.capacity ≡ self.old.capacity }
     {

@@ -1,9 +1,9 @@
 -- The receive half of one station: for each traffic identifier (TID) a scoreboard and a reordering buffer, which hear the same numbers.
 use Rattle.std.specs.Prelude.{◌≡◌, ℕ, List, [], ◌++◌, replicate, slice_set, slice_index_or, Option, MatchOption}
 use Rattle.wf_score.specs.Board.{Board, empty_board}
-use Rattle.wf_score.specs.Board.{arrived as board_arrived, requested as board_requested}
-use Rattle.wf_reorder.specs.Buffer.{Buffer, Outcome, empty_buffer, items_of, HasOneMore}
-use Rattle.wf_reorder.specs.Buffer.{arrived as buffer_arrived, requested as buffer_requested}
+use Rattle.wf_score.specs.Board.{after_number as board_arrived, after_start as board_requested}
+use Rattle.wf_reorder.specs.Buffer.{Buffer, BufferOutcome, empty_buffer, items_of, HasOneMore}
+use Rattle.wf_reorder.specs.Buffer.{number_outcome as buffer_arrived, request_outcome as buffer_requested}
 use Rattle.wf_peer.specs.declared.reading.Reading.{Reading}
 use Rattle.wf_peer.specs.declared.reading.Reading.TheVariants.{Data, Request}
 use Rattle.wf_peer.specs.Receiving.{tid_of}
@@ -34,24 +34,24 @@ board_after (Data tid number) b = board_arrived number b
 board_after (Request tid start) b = board_requested start b
 
 -- a data frame's item has this id
-abbrev pub outcome : Reading → ℕ → Buffer → Outcome
-outcome (Data tid number) id b = buffer_arrived number id b
-outcome (Request tid start) id b = buffer_requested start b
+abbrev pub buffer_outcome : Reading → ℕ → Buffer → BufferOutcome
+buffer_outcome (Data tid number) id b = buffer_arrived number id b
+buffer_outcome (Request tid start) id b = buffer_requested start b
 
-abbrev pub heard : Reading → ℕ → AgreementValue → AgreementValue
-heard reading id a = record { board = board_after reading a.board; buffer = (outcome reading id a.buffer).after }
+abbrev pub agreement_after : Reading → ℕ → AgreementValue → AgreementValue
+agreement_after reading id a = record { board = board_after reading a.board; buffer = (buffer_outcome reading id a.buffer).after }
 
 -- the agreement of the frame's TID hears it, and the others stay
-abbrev pub received : Reading → ℕ → PeerValue → PeerValue
-received reading id p = record p { agreements = slice_set p.agreements (tid_of reading) (heard reading id (agreement p (tid_of reading))) }
+abbrev pub after_frame : Reading → ℕ → PeerValue → PeerValue
+after_frame reading id p = record p { agreements = slice_set p.agreements (tid_of reading) (agreement_after reading id (agreement p (tid_of reading))) }
 
 -- the buffer of the frame's TID
 abbrev pub buffer_of : Reading → PeerValue → Buffer
 buffer_of reading p = (agreement p (tid_of reading)).buffer
 
 -- what that buffer releases
-abbrev pub released : Reading → ℕ → PeerValue → Outcome
-released reading id p = outcome reading id (buffer_of reading p)
+abbrev pub outcome_of_frame : Reading → ℕ → PeerValue → BufferOutcome
+outcome_of_frame reading id p = buffer_outcome reading id (buffer_of reading p)
 
 -- Each item once. Of data: where the new item is not given back, what is passed up and what is stored are what was stored and it. Of a
 -- request: they are what was stored.

@@ -2,7 +2,7 @@
 
 ghost use Rattle.std.specs.Prelude.{◌≡◌, ◌≤◌, ◌<◌, [], nat_lt, IfOk, take, drop};
 ghost use Rattle.wf_bits.specs.Offsets.{IsOffsets};
-ghost use Rattle.wf_peer.specs.Agreements.{new_agreement, heard, outcome, IsEachOnce};
+ghost use Rattle.wf_peer.specs.Agreements.{new_agreement, agreement_after, buffer_outcome, IsEachOnce};
 ghost use Rattle.wf_peer.specs.Answering.{answer_size, narrow_answer, wide_answer, IsWritten, IsWrittenWide, IsAnswer};
 
 use crate::reading::Reading;
@@ -63,9 +63,9 @@ impl Agreement {
     /// discarded. What is passed up is put into `up`, which must be empty.
     pub(crate) fn hear(&mut self, reading: Reading, id: u64, up: &mut Ids) -> Option<u64>
         requires { up.old ≡ [] }
-        ensures after { self.new ≡ heard reading id self.old }
-        ensures up { up.new ≡ (outcome reading id self.old.buffer).up }
-        ensures back { result ≡ (outcome reading id self.old.buffer).back }
+        ensures after { self.new ≡ agreement_after reading id self.old }
+        ensures up { up.new ≡ (buffer_outcome reading id self.old.buffer).up }
+        ensures back { result ≡ (buffer_outcome reading id self.old.buffer).back }
         ensures each_once { IsEachOnce reading id up.new result self.old.buffer self.new.buffer }
     {
         match reading {

@@ -6,7 +6,7 @@ ghost use Rattle.wf_blockack.specs.declared.frames.Bar.{Bar};
 ghost use Rattle.wf_peer.specs.declared.reading.Reading.TheVariants.{Data, Request};
 ghost use Rattle.wf_peer.specs.Frames.{IsDataFor, IsRequestFor};
 ghost use Rattle.wf_peer.specs.Receiving.{reading_of, first_fault, fault_of};
-ghost use Rattle.wf_peer.specs.Agreements.{new_agreement, new_peer, agreement, received, released, IsEachOnce, buffer_of};
+ghost use Rattle.wf_peer.specs.Agreements.{new_agreement, new_peer, agreement, after_frame, outcome_of_frame, IsEachOnce, buffer_of};
 ghost use Rattle.wf_peer.specs.Answering.{answer_size, IsAnswer};
 
 use crate::PeerFault;
@@ -105,9 +105,9 @@ impl Peer {
             IsOk result × (reading_of octets.now ≡ Request b.tid b.start) }
 
         // then one agreement hears of it, and the others stay
-        ensures after { OnOk result (self.new ≡ received (reading_of octets.now) id self.old) }
-        ensures up { OnOk result (up.new ≡ (released (reading_of octets.now) id self.old).up) }
-        ensures back { IfOk result (λ back. back ≡ (released (reading_of octets.now) id self.old).back) }
+        ensures after { OnOk result (self.new ≡ after_frame (reading_of octets.now) id self.old) }
+        ensures up { OnOk result (up.new ≡ (outcome_of_frame (reading_of octets.now) id self.old).up) }
+        ensures back { IfOk result (λ back. back ≡ (outcome_of_frame (reading_of octets.now) id self.old).back) }
         ensures each_once { IfOk result (λ back. let reading = reading_of octets.now in
             IsEachOnce reading id up.new back (buffer_of reading self.old) (buffer_of reading self.new)) }
         ensures eight { length self.new.agreements ≡ 8 }

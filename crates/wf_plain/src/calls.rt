@@ -3,10 +3,10 @@
 ghost use Rattle.std.specs.Prelude.{◌≡◌, ◌++◌, ◌%◌, IfOk, OnOk};
 ghost use Rattle.wf_frame.specs.declared.notes.ReplyNote.TheVariants.{Ba, Send};
 ghost use Rattle.wf_plain_parts.specs.Contents.{content_of};
-ghost use Rattle.wf_rules.specs.Receiver.{word};
-ghost use Rattle.wf_world.specs.Exchanges.{part_of, spent};
-ghost use Rattle.wf_world.specs.Step.{answered, arrived, class_to_send, credited, ended, enqueued, gone, joined, left_tid, left_tids, off_lists, on_open, pulled, pulled_by, reaped, received, rising, sent, slept, ticked, with_rate, woken};
-ghost use Rattle.wf_world.specs.World.{accepted, exchange as exchange_at};
+ghost use Rattle.wf_rules.specs.Receiver.{bitmap_word};
+ghost use Rattle.wf_world.specs.Exchanges.{part_of, without_credit};
+ghost use Rattle.wf_world.specs.Step.{answer_outcome, arrive_outcome, class_to_send, poll_outcome, done_outcome, enqueue_outcome, leave_outcome, join_outcome, after_tid_left, after_tids_left, without_listings, outcome_where_open, pull_outcome, pull_outcome_for, reap_outcome, rx_outcome, in_rising_order, send_outcome, sleep_outcome, tick_outcome, rate_outcome, wake_outcome};
+ghost use Rattle.wf_world.specs.World.{accepted_count, exchange as exchange_at};
 
 use std::alloc::Global;
 use wf_frame::{Cause, Class, Fate, Ids, Note, ReplyNote};
@@ -31,7 +31,7 @@ pub fn join(
     exponent: u64,
     weight: u64,
 ) -> Result<ReplyNote, Fault>
-    ensures { IfOk result (λ r. joined world.old station window start exponent weight ≡ record { world = world.new; reply = r }) }
+    ensures { IfOk result (λ r. join_outcome world.old station window start exponent weight ≡ record { world = world.new; reply = r }) }
 {
     let quantum = world.config().quantum as u64;
     let fresh = Station::new(world.alloc(), quantum, window, start, exponent, weight)?;
@@ -40,7 +40,7 @@ pub fn join(
 }
 
 fn rising(alloc: Global, numbers: &[u64]) -> Result<Vec<u64>, Fault>
-    ensures { IfOk result (λ r. r.items ≡ rising numbers.now) }
+    ensures { IfOk result (λ r. r.items ≡ in_rising_order numbers.now) }
 {
     match numbers.split_first() {
         None => Ok(Vec::new(alloc)),
@@ -48,9 +48,9 @@ fn rising(alloc: Global, numbers: &[u64]) -> Result<Vec<u64>, Fault>
     }
 }
 
-#[tactic(auto, unfolding(wf_world::specs::Step::left_tid))]
+#[tactic(auto, unfolding(wf_world::specs::Step::after_tid_left))]
 fn leave_tid(world: &mut World, station: u64, tid: u64) -> Result<(), Fault>
-    ensures { OnOk result (world.new ≡ left_tid world.old station tid) }
+    ensures { OnOk result (world.new ≡ after_tid_left world.old station tid) }
 {
     let alloc = world.alloc();
     let queues = rising(alloc, &world.queues_of(station, tid)?.in_order(alloc)?)?;
@@ -60,9 +60,9 @@ fn leave_tid(world: &mut World, station: u64, tid: u64) -> Result<(), Fault>
     world.set_queues(station, tid, Rotation::blank(alloc))
 }
 
-#[tactic(auto, unfolding(wf_world::specs::Step::left_tids))]
+#[tactic(auto, unfolding(wf_world::specs::Step::after_tids_left))]
 fn leave_tids(world: &mut World, station: u64, tids: &[u64]) -> Result<(), Fault>
-    ensures { OnOk result (world.new ≡ left_tids world.old station tids.now) }
+    ensures { OnOk result (world.new ≡ after_tids_left world.old station tids.now) }
 {
     match tids.split_first() {
         None => Ok(()),
@@ -73,9 +73,9 @@ fn leave_tids(world: &mut World, station: u64, tids: &[u64]) -> Result<(), Fault
     }
 }
 
-#[tactic(auto, unfolding(wf_world::specs::Step::off_lists))]
+#[tactic(auto, unfolding(wf_world::specs::Step::without_listings))]
 fn off_lists(world: &mut World, station: u64, classes: &[Class]) -> Result<(), Fault>
-    ensures { OnOk result (world.new ≡ off_lists world.old station classes.now) }
+    ensures { OnOk result (world.new ≡ without_listings world.old station classes.now) }
 {
     match classes.split_first() {
         None => Ok(()),
@@ -88,9 +88,9 @@ fn off_lists(world: &mut World, station: u64, classes: &[Class]) -> Result<(), F
 }
 
 /// A station leaves: its frames are dropped, and it is on no list.
-#[tactic(auto, unfolding(wf_world::specs::Step::gone))]
+#[tactic(auto, unfolding(wf_world::specs::Step::leave_outcome))]
 pub fn leave(world: &mut World, station: u64) -> Result<ReplyNote, Fault>
-    ensures { IfOk result (λ r. gone world.old station ≡ record { world = world.new; reply = r }) }
+    ensures { IfOk result (λ r. leave_outcome world.old station ≡ record { world = world.new; reply = r }) }
 {
     let before = world.finished().len() as u64;
     leave_tids(world, station, &[0, 1, 2, 3, 4, 5, 6, 7])?;
@@ -112,7 +112,7 @@ pub fn set_rate(
     mhz: u8,
     short: bool,
 ) -> Result<ReplyNote, Fault>
-    ensures { IfOk result (λ r. with_rate world.old station mcs mhz short ≡ record { world = world.new; reply = r }) }
+    ensures { IfOk result (λ r. rate_outcome world.old station mcs mhz short ≡ record { world = world.new; reply = r }) }
 {
     let rate = Rate::new(mcs as u64, mhz as u64, short);
     let changed = rated(rate, world.take_station(station)?);
@@ -121,9 +121,9 @@ pub fn set_rate(
 }
 
 /// The clock moves on.
-#[tactic(auto, unfolding(wf_world::specs::Step::ticked))]
+#[tactic(auto, unfolding(wf_world::specs::Step::tick_outcome))]
 pub fn tick(world: &mut World, by: u32) -> Result<ReplyNote, Fault>
-    ensures { IfOk result (λ r. ticked world.old by ≡ record { world = world.new; reply = r }) }
+    ensures { IfOk result (λ r. tick_outcome world.old by ≡ record { world = world.new; reply = r }) }
 {
     world.pass(by as u64)?;
     Ok(ReplyNote::Ticked { now: world.clock() })
@@ -132,13 +132,13 @@ pub fn tick(world: &mut World, by: u32) -> Result<ReplyNote, Fault>
 // ---- frames
 
 fn new_item(world: &World, len: u16) -> Item
-    ensures { result ≡ record { id = accepted world.now; stamp = world.now.clock; len = len } }
+    ensures { result ≡ record { id = accepted_count world.now; stamp = world.now.clock; len = len } }
 {
     Item::new(world.accepted(), world.clock(), len as u64)
 }
 
 /// A frame is accepted.
-#[tactic(auto, unfolding(wf_world::specs::Step::enqueued))]
+#[tactic(auto, unfolding(wf_world::specs::Step::enqueue_outcome))]
 pub fn enqueue(
     world: &mut World,
     station: u16,
@@ -146,7 +146,7 @@ pub fn enqueue(
     flow: u32,
     len: u16,
 ) -> Result<ReplyNote, Fault>
-    ensures { IfOk result (λ r. enqueued world.old station tid flow len ≡ record { world = world.new; reply = r }) }
+    ensures { IfOk result (λ r. enqueue_outcome world.old station tid flow len ≡ record { world = world.new; reply = r }) }
 {
     let to = station as u64;
     let on = tid as u64;
@@ -170,7 +170,7 @@ pub fn enqueue(
 // ---- pulls
 
 fn spend(world: &mut World, station: u64) -> Result<(), Fault>
-    ensures { OnOk result (world.new ≡ spent world.old station) }
+    ensures { OnOk result (world.new ≡ without_credit world.old station) }
 {
     let changed = uncredited(world.take_station(station)?);
     world.put_station(station, changed)?;
@@ -190,7 +190,7 @@ fn send_note(exchange: &Exchange, station: u64, tid: u64) -> Result<ReplyNote, F
     })
 }
 
-#[tactic(auto, unfolding(wf_world::specs::Step::sent))]
+#[tactic(auto, unfolding(wf_world::specs::Step::send_outcome))]
 fn send(
     world: &mut World,
     station: u64,
@@ -198,7 +198,7 @@ fn send(
     class: Class,
     prepared: Prepared,
 ) -> Result<ReplyNote, Fault>
-    ensures { IfOk result (λ r. sent station tid class (record { world = world.old; content = content_of prepared.content; charge = prepared.charge }) ≡ record { world = world.new; reply = r }) }
+    ensures { IfOk result (λ r. send_outcome station tid class (record { world = world.old; content = content_of prepared.content; charge = prepared.charge }) ≡ record { world = world.new; reply = r }) }
 {
     let exchange = exchange_of(world, station, tid, class, prepared)?;
     let reply = send_note(&exchange, station, tid)?;
@@ -207,9 +207,9 @@ fn send(
     Ok(reply)
 }
 
-#[tactic(auto, unfolding(wf_world::specs::Step::pulled_by))]
+#[tactic(auto, unfolding(wf_world::specs::Step::pull_outcome_for))]
 fn pull_by(world: &mut World, class: Class, winner: Option<u64>) -> Result<ReplyNote, Fault>
-    ensures { IfOk result (λ r. pulled_by world.old class winner ≡ record { world = world.new; reply = r }) }
+    ensures { IfOk result (λ r. pull_outcome_for world.old class winner ≡ record { world = world.new; reply = r }) }
 {
     match winner {
         None => Ok(ReplyNote::Released { ids: Ids::new() }),
@@ -224,9 +224,9 @@ fn pull_by(world: &mut World, class: Class, winner: Option<u64>) -> Result<Reply
 }
 
 /// The driver asks for the next exchange of a class.
-#[tactic(auto, unfolding(wf_world::specs::Step::pulled))]
+#[tactic(auto, unfolding(wf_world::specs::Step::pull_outcome))]
 pub fn pull(world: &mut World, class: Class) -> Result<ReplyNote, Fault>
-    ensures { IfOk result (λ r. pulled world.old class ≡ record { world = world.new; reply = r }) }
+    ensures { IfOk result (λ r. pull_outcome world.old class ≡ record { world = world.new; reply = r }) }
 {
     let winner = picked_station(world, class)?;
     pay_pick(world, class)?;
@@ -259,9 +259,9 @@ fn fixed(numbers: &Vec<u64>) -> Result<Ids, Fault>
     Ok(ids)
 }
 
-#[tactic(auto, unfolding(wf_world::specs::Step::arrived))]
+#[tactic(auto, unfolding(wf_world::specs::Step::arrive_outcome))]
 fn arrive_at(world: &mut World, found: Exchange, index: u64) -> Result<ReplyNote, Fault>
-    ensures { IfOk result (λ r. arrived world.old found index ≡ record { world = world.new; reply = r }) }
+    ensures { IfOk result (λ r. arrive_outcome world.old found index ≡ record { world = world.new; reply = r }) }
 {
     let released = receive(world, &found, index)?;
     let changed = found.with_arrival(world.alloc(), index)?;
@@ -271,9 +271,9 @@ fn arrive_at(world: &mut World, found: Exchange, index: u64) -> Result<ReplyNote
 }
 
 /// A transmission of an open exchange reaches its station.
-#[tactic(auto, unfolding(wf_world::specs::Step::on_open))]
+#[tactic(auto, unfolding(wf_world::specs::Step::outcome_where_open))]
 pub fn arrive(world: &mut World, exchange: u64, index: u64) -> Result<ReplyNote, Fault>
-    ensures { IfOk result (λ r. on_open world.old (exchange_at world.old exchange) (λ x. arrived world.old x index) ≡ record { world = world.new; reply = r }) }
+    ensures { IfOk result (λ r. outcome_where_open world.old (exchange_at world.old exchange) (λ x. arrive_outcome world.old x index) ≡ record { world = world.new; reply = r }) }
 {
     match world.exchange(exchange)? {
         None => Ok(ReplyNote::Released { ids: Ids::new() }),
@@ -285,7 +285,7 @@ pub fn arrive(world: &mut World, exchange: u64, index: u64) -> Result<ReplyNote,
 }
 
 fn score_note(score: &Score, wide: bool) -> Result<ReplyNote, Fault>
-    ensures { IfOk result (λ r. r ≡ Ba (score.now.start % 4096) (word score.now 0) (word score.now 1) (word score.now 2) (word score.now 3) wide) }
+    ensures { IfOk result (λ r. r ≡ Ba (score.now.start % 4096) (bitmap_word score.now 0) (bitmap_word score.now 1) (bitmap_word score.now 2) (bitmap_word score.now 3) wide) }
 {
     let b0 = score.word(0)?;
     let b1 = score.word(1)?;
@@ -302,9 +302,9 @@ fn score_note(score: &Score, wide: bool) -> Result<ReplyNote, Fault>
     })
 }
 
-#[tactic(auto, unfolding(wf_world::specs::Step::answered))]
+#[tactic(auto, unfolding(wf_world::specs::Step::answer_outcome))]
 fn answer_to(world: &mut World, found: Exchange) -> Result<ReplyNote, Fault>
-    ensures { IfOk result (λ r. answered world.old found ≡ record { world = world.new; reply = r }) }
+    ensures { IfOk result (λ r. answer_outcome world.old found ≡ record { world = world.new; reply = r }) }
 {
     let station = found.station();
     let tid = found.tid();
@@ -317,9 +317,9 @@ fn answer_to(world: &mut World, found: Exchange) -> Result<ReplyNote, Fault>
 }
 
 /// The station answers an open exchange.
-#[tactic(auto, unfolding(wf_world::specs::Step::on_open))]
+#[tactic(auto, unfolding(wf_world::specs::Step::outcome_where_open))]
 pub fn answer(world: &mut World, exchange: u64) -> Result<ReplyNote, Fault>
-    ensures { IfOk result (λ r. on_open world.old (exchange_at world.old exchange) (λ x. answered world.old x) ≡ record { world = world.new; reply = r }) }
+    ensures { IfOk result (λ r. outcome_where_open world.old (exchange_at world.old exchange) (λ x. answer_outcome world.old x) ≡ record { world = world.new; reply = r }) }
 {
     match world.exchange(exchange)? {
         None => Ok(ReplyNote::Released { ids: Ids::new() }),
@@ -331,7 +331,7 @@ pub fn answer(world: &mut World, exchange: u64) -> Result<ReplyNote, Fault>
 }
 
 fn end_of(world: &mut World, found: &Exchange, heard: bool) -> Result<ReplyNote, Fault>
-    ensures { IfOk result (λ r. ended world.old found.now heard ≡ record { world = world.new; reply = r }) }
+    ensures { IfOk result (λ r. done_outcome world.old found.now heard ≡ record { world = world.new; reply = r }) }
 {
     world.close(found.number())?;
     charge(world, found)?;
@@ -345,9 +345,9 @@ fn end_of(world: &mut World, found: &Exchange, heard: bool) -> Result<ReplyNote,
 }
 
 /// An exchange ends.
-#[tactic(auto, unfolding(wf_world::specs::Step::on_open))]
+#[tactic(auto, unfolding(wf_world::specs::Step::outcome_where_open))]
 pub fn end(world: &mut World, exchange: u64, heard: bool) -> Result<ReplyNote, Fault>
-    ensures { IfOk result (λ r. on_open world.old (exchange_at world.old exchange) (λ x. ended world.old x heard) ≡ record { world = world.new; reply = r }) }
+    ensures { IfOk result (λ r. outcome_where_open world.old (exchange_at world.old exchange) (λ x. done_outcome world.old x heard) ≡ record { world = world.new; reply = r }) }
 {
     match world.exchange(exchange)? {
         None => Ok(ReplyNote::Released { ids: Ids::new() }),
@@ -362,7 +362,7 @@ pub fn end(world: &mut World, exchange: u64, heard: bool) -> Result<ReplyNote, F
 
 /// A station goes to sleep.
 pub fn sleep(world: &mut World, station: u64) -> Result<ReplyNote, Fault>
-    ensures { IfOk result (λ r. slept world.old station ≡ record { world = world.new; reply = r }) }
+    ensures { IfOk result (λ r. sleep_outcome world.old station ≡ record { world = world.new; reply = r }) }
 {
     let changed = asleep(world.take_station(station)?);
     world.put_station(station, changed)?;
@@ -371,7 +371,7 @@ pub fn sleep(world: &mut World, station: u64) -> Result<ReplyNote, Fault>
 
 /// A station wakes.
 pub fn wake(world: &mut World, station: u64) -> Result<ReplyNote, Fault>
-    ensures { IfOk result (λ r. woken world.old station ≡ record { world = world.new; reply = r }) }
+    ensures { IfOk result (λ r. wake_outcome world.old station ≡ record { world = world.new; reply = r }) }
 {
     let changed = awake(world.take_station(station)?);
     world.put_station(station, changed)?;
@@ -394,7 +394,7 @@ fn class_to_send(world: &World, station: u64) -> Result<Class, Fault>
 
 /// A sleeping station asks for one frame.
 pub fn poll(world: &mut World, station: u64) -> Result<ReplyNote, Fault>
-    ensures { IfOk result (λ r. credited world.old station ≡ record { world = world.new; reply = r }) }
+    ensures { IfOk result (λ r. poll_outcome world.old station ≡ record { world = world.new; reply = r }) }
 {
     let class = class_to_send(world, station)?;
     let changed = credited(class, world.take_station(station)?);
@@ -409,7 +409,7 @@ pub fn receive_air(
     class: Class,
     air: u32,
 ) -> Result<ReplyNote, Fault>
-    ensures { IfOk result (λ r. received world.old station class air ≡ record { world = world.new; reply = r }) }
+    ensures { IfOk result (λ r. rx_outcome world.old station class air ≡ record { world = world.new; reply = r }) }
 {
     let changed = world.share(station, class).with_receipt(air as u64)?;
     let deficit = changed.deficit();
@@ -418,9 +418,9 @@ pub fn receive_air(
 }
 
 /// The caller takes the next finished frame.
-#[tactic(auto, unfolding(wf_world::specs::Step::reaped))]
+#[tactic(auto, unfolding(wf_world::specs::Step::reap_outcome))]
 pub fn reap(world: &mut World) -> Result<ReplyNote, Fault>
-    ensures { IfOk result (λ r. reaped world.old world.old.finished ≡ record { world = world.new; reply = r }) }
+    ensures { IfOk result (λ r. reap_outcome world.old world.old.finished ≡ record { world = world.new; reply = r }) }
 {
     match world.finished().split_first() {
         None => Ok(ReplyNote::Released { ids: Ids::new() }),

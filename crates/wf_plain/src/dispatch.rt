@@ -2,16 +2,16 @@
 
 ghost use Rattle.std.specs.Prelude.{◌≡◌, IfOk};
 ghost use Rattle.wf_frame.specs.declared.notes.Note.TheVariants.{Asked};
-ghost use Rattle.wf_world.specs.Step.{done};
+ghost use Rattle.wf_world.specs.Step.{outcome_of};
 
 use crate::calls;
 use wf_frame::{Ask, Note, ReplyNote};
 use wf_plain_lists::Fault;
 use wf_plain_world::World;
 
-#[tactic(auto, unfolding(wf_world::specs::Step::done))]
+#[tactic(auto, unfolding(wf_world::specs::Step::outcome_of))]
 fn asked(world: &mut World, ask: Ask) -> Result<ReplyNote, Fault>
-    ensures { IfOk result (λ r. done world.old (Asked ask) ≡ record { world = world.new; reply = r }) }
+    ensures { IfOk result (λ r. outcome_of world.old (Asked ask) ≡ record { world = world.new; reply = r }) }
 {
     match ask {
         Ask::Join {
@@ -53,9 +53,9 @@ fn asked(world: &mut World, ask: Ask) -> Result<ReplyNote, Fault>
 }
 
 /// Does a call that is not refused.
-#[tactic(auto, unfolding(wf_world::specs::Step::done))]
+#[tactic(auto, unfolding(wf_world::specs::Step::outcome_of))]
 pub fn done(world: &mut World, note: &Note) -> Result<ReplyNote, Fault>
-    ensures { IfOk result (λ r. done world.old note.now ≡ record { world = world.new; reply = r }) }
+    ensures { IfOk result (λ r. outcome_of world.old note.now ≡ record { world = world.new; reply = r }) }
 {
     match *note {
         Note::Enqueue {

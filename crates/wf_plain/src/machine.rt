@@ -2,9 +2,9 @@
 
 ghost use Rattle.std.specs.Prelude.{◌≡◌, length, IfOk, OnOk};
 ghost use Rattle.wf_frame.specs.Answers.{reply_of};
-ghost use Rattle.wf_world.specs.Step.{answer, refused, step};
+ghost use Rattle.wf_world.specs.Step.{judged_outcome, after_refusal, step};
 ghost use Rattle.wf_world.specs.Text.{tally, traffic_map, with_traffic};
-ghost use Rattle.wf_world.specs.World.{accepted, is_live, live_stations, opening, share};
+ghost use Rattle.wf_world.specs.World.{accepted_count, is_live, live_stations, opening, share};
 
 use crate::answers::put_reply;
 use crate::dispatch::done;
@@ -32,9 +32,9 @@ impl Model for Machine {
     ghost view = { λ m. m.world };
 }
 
-#[tactic(auto, unfolding(wf_world::specs::Step::refused))]
+#[tactic(auto, unfolding(wf_world::specs::Step::after_refusal))]
 fn refuse(world: &mut World, note: &Note, reason: Refusal) -> Result<(), Fault>
-    ensures { OnOk result (world.new ≡ refused world.old note.now reason) }
+    ensures { OnOk result (world.new ≡ after_refusal world.old note.now reason) }
 {
     match *note {
         Note::Asked(Ask::Pull { class }) => match reason {
@@ -45,7 +45,7 @@ fn refuse(world: &mut World, note: &Note, reason: Refusal) -> Result<(), Fault>
     }
 }
 
-#[tactic(auto, unfolding(wf_world::specs::Step::step, wf_world::specs::Step::answer))]
+#[tactic(auto, unfolding(wf_world::specs::Step::step, wf_world::specs::Step::judged_outcome))]
 fn step_of(world: &mut World, note: &Note) -> Result<ReplyNote, Fault>
     ensures { IfOk result (λ r. step world.old note.now ≡ record { world = world.new; reply = r }) }
 {
@@ -112,7 +112,7 @@ impl Machine {
 
     /// How many frames were accepted.
     pub fn accepted(&self) -> u64
-        ensures { result ≡ accepted self.now }
+        ensures { result ≡ accepted_count self.now }
     {
         self.world.accepted()
     }

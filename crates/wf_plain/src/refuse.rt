@@ -6,8 +6,8 @@ ghost use Rattle.wf_frame.specs.Classes.{class_of, same_class};
 ghost use Rattle.wf_frame.specs.declared.notes.Ask.TheVariants.{Answer, Arrive, Done, Join, Leave, Poll, Pull, Rate, Reap, Rx, Sleep, Tick, Wake};
 ghost use Rattle.wf_frame.specs.declared.notes.Note.TheVariants.{Asked, Enqueue};
 ghost use Rattle.wf_world.specs.CanSend.{can_send};
-ghost use Rattle.wf_world.specs.Refusals.{bad_station, can_send_any, first_of, open_of_class, open_of_station, queued_in_class, refusal, refusals, refusals_of};
-ghost use Rattle.wf_world.specs.Step.{concerned, station_of};
+ghost use Rattle.wf_world.specs.Refusals.{is_bad_station, can_send_any, first_refusal, open_of_class, open_of_station, queued_in_class, refusal, refusals, refusals_of};
+ghost use Rattle.wf_world.specs.Step.{concerned_station, station_of};
 ghost use Rattle.wf_world.specs.World.{exchange as exchange_at};
 
 use wf_frame::{Ask, Class, Note, Refusal};
@@ -90,7 +90,7 @@ fn open_in(exchanges: &[Exchange], class: Class) -> Result<u64, Fault>
 }
 
 fn bad_station(world: &World, station: u64) -> bool
-    ensures { result ≡ bad_station world.now station }
+    ensures { result ≡ is_bad_station world.now station }
 {
     world.config().stations as u64 <= station
 }
@@ -137,7 +137,7 @@ fn can_send_any(world: &World, station: u64) -> Result<bool, Fault>
 
 // ---- each call's refusals, in order
 
-#[tactic(auto, unfolding(wf_world::specs::Refusals::first_of))]
+#[tactic(auto, unfolding(wf_world::specs::Refusals::first_refusal))]
 fn join_refusal(
     world: &World,
     station: u64,
@@ -146,7 +146,7 @@ fn join_refusal(
     exponent: u64,
     weight: u64,
 ) -> Option<Refusal>
-    ensures { result ≡ first_of (refusals_of world.now (Join station window start exponent weight)) }
+    ensures { result ≡ first_refusal (refusals_of world.now (Join station window start exponent weight)) }
 {
     if bad_station(world, station) {
         Some(Refusal::BadStation)
@@ -165,9 +165,9 @@ fn join_refusal(
     }
 }
 
-#[tactic(auto, unfolding(wf_world::specs::Refusals::first_of))]
+#[tactic(auto, unfolding(wf_world::specs::Refusals::first_refusal))]
 fn leave_refusal(world: &World, station: u64) -> Result<Option<Refusal>, Fault>
-    ensures { IfOk result (λ r. r ≡ first_of (refusals_of world.now (Leave station))) }
+    ensures { IfOk result (λ r. r ≡ first_refusal (refusals_of world.now (Leave station))) }
 {
     let count = to_u32(open_of_station(world, station)?)?;
     if bad_station(world, station) {
@@ -181,9 +181,9 @@ fn leave_refusal(world: &World, station: u64) -> Result<Option<Refusal>, Fault>
     }
 }
 
-#[tactic(auto, unfolding(wf_world::specs::Refusals::first_of))]
+#[tactic(auto, unfolding(wf_world::specs::Refusals::first_refusal))]
 fn rate_refusal(world: &World, station: u64, mcs: u8, mhz: u8, short: bool) -> Option<Refusal>
-    ensures { result ≡ first_of (refusals_of world.now (Rate station mcs mhz short)) }
+    ensures { result ≡ first_refusal (refusals_of world.now (Rate station mcs mhz short)) }
 {
     let _short = short;
     if bad_station(world, station) {
@@ -197,9 +197,9 @@ fn rate_refusal(world: &World, station: u64, mcs: u8, mhz: u8, short: bool) -> O
     }
 }
 
-#[tactic(auto, unfolding(wf_world::specs::Refusals::first_of))]
+#[tactic(auto, unfolding(wf_world::specs::Refusals::first_refusal))]
 fn tick_refusal(world: &World, by: u32) -> Option<Refusal>
-    ensures { result ≡ first_of (refusals_of world.now (Tick by)) }
+    ensures { result ≡ first_refusal (refusals_of world.now (Tick by)) }
 {
     let _world = world;
     if GREATEST_TICK < by {
@@ -209,9 +209,9 @@ fn tick_refusal(world: &World, by: u32) -> Option<Refusal>
     }
 }
 
-#[tactic(auto, unfolding(wf_world::specs::Refusals::first_of))]
+#[tactic(auto, unfolding(wf_world::specs::Refusals::first_refusal))]
 fn pull_refusal(world: &World, class: Class) -> Result<Option<Refusal>, Fault>
-    ensures { IfOk result (λ r. r ≡ first_of (refusals_of world.now (Pull class))) }
+    ensures { IfOk result (λ r. r ≡ first_refusal (refusals_of world.now (Pull class))) }
 {
     let count = to_u32(open_of_class(world, class)?)?;
     let winner = picked_station(world, class)?;
@@ -224,9 +224,9 @@ fn pull_refusal(world: &World, class: Class) -> Result<Option<Refusal>, Fault>
     }
 }
 
-#[tactic(auto, unfolding(wf_world::specs::Refusals::first_of))]
+#[tactic(auto, unfolding(wf_world::specs::Refusals::first_refusal))]
 fn arrive_refusal(world: &World, exchange: u64, index: u64) -> Result<Option<Refusal>, Fault>
-    ensures { IfOk result (λ r. r ≡ first_of (refusals_of world.now (Arrive exchange index))) }
+    ensures { IfOk result (λ r. r ≡ first_refusal (refusals_of world.now (Arrive exchange index))) }
 {
     match world.exchange(exchange)? {
         None => Ok(Some(Refusal::NoExchange)),
@@ -242,9 +242,9 @@ fn arrive_refusal(world: &World, exchange: u64, index: u64) -> Result<Option<Ref
     }
 }
 
-#[tactic(auto, unfolding(wf_world::specs::Refusals::first_of))]
+#[tactic(auto, unfolding(wf_world::specs::Refusals::first_refusal))]
 fn answer_refusal(world: &World, exchange: u64) -> Result<Option<Refusal>, Fault>
-    ensures { IfOk result (λ r. r ≡ first_of (refusals_of world.now (Answer exchange))) }
+    ensures { IfOk result (λ r. r ≡ first_refusal (refusals_of world.now (Answer exchange))) }
 {
     match world.exchange(exchange)? {
         None => Ok(Some(Refusal::NoExchange)),
@@ -258,9 +258,9 @@ fn answer_refusal(world: &World, exchange: u64) -> Result<Option<Refusal>, Fault
     }
 }
 
-#[tactic(auto, unfolding(wf_world::specs::Refusals::first_of))]
+#[tactic(auto, unfolding(wf_world::specs::Refusals::first_refusal))]
 fn done_refusal(world: &World, exchange: u64, heard: bool) -> Result<Option<Refusal>, Fault>
-    ensures { IfOk result (λ r. r ≡ first_of (refusals_of world.now (Done exchange heard))) }
+    ensures { IfOk result (λ r. r ≡ first_refusal (refusals_of world.now (Done exchange heard))) }
 {
     match world.exchange(exchange)? {
         None => Ok(Some(Refusal::NoExchange)),
@@ -272,9 +272,9 @@ fn done_refusal(world: &World, exchange: u64, heard: bool) -> Result<Option<Refu
     }
 }
 
-#[tactic(auto, unfolding(wf_world::specs::Refusals::first_of))]
+#[tactic(auto, unfolding(wf_world::specs::Refusals::first_refusal))]
 fn sleep_refusal(world: &World, station: u64) -> Option<Refusal>
-    ensures { result ≡ first_of (refusals_of world.now (Sleep station)) }
+    ensures { result ≡ first_refusal (refusals_of world.now (Sleep station)) }
 {
     if bad_station(world, station) {
         Some(Refusal::BadStation)
@@ -287,9 +287,9 @@ fn sleep_refusal(world: &World, station: u64) -> Option<Refusal>
     }
 }
 
-#[tactic(auto, unfolding(wf_world::specs::Refusals::first_of))]
+#[tactic(auto, unfolding(wf_world::specs::Refusals::first_refusal))]
 fn wake_refusal(world: &World, station: u64) -> Option<Refusal>
-    ensures { result ≡ first_of (refusals_of world.now (Wake station)) }
+    ensures { result ≡ first_refusal (refusals_of world.now (Wake station)) }
 {
     if bad_station(world, station) {
         Some(Refusal::BadStation)
@@ -302,9 +302,9 @@ fn wake_refusal(world: &World, station: u64) -> Option<Refusal>
     }
 }
 
-#[tactic(auto, unfolding(wf_world::specs::Refusals::first_of))]
+#[tactic(auto, unfolding(wf_world::specs::Refusals::first_refusal))]
 fn poll_refusal(world: &World, station: u64) -> Result<Option<Refusal>, Fault>
-    ensures { IfOk result (λ r. r ≡ first_of (refusals_of world.now (Poll station))) }
+    ensures { IfOk result (λ r. r ≡ first_refusal (refusals_of world.now (Poll station))) }
 {
     let can = can_send_any(world, station)?;
     if bad_station(world, station) {
@@ -322,9 +322,9 @@ fn poll_refusal(world: &World, station: u64) -> Result<Option<Refusal>, Fault>
     }
 }
 
-#[tactic(auto, unfolding(wf_world::specs::Refusals::first_of))]
+#[tactic(auto, unfolding(wf_world::specs::Refusals::first_refusal))]
 fn rx_refusal(world: &World, station: u64, class: Class, air: u32) -> Result<Option<Refusal>, Fault>
-    ensures { IfOk result (λ r. r ≡ first_of (refusals_of world.now (Rx station class air))) }
+    ensures { IfOk result (λ r. r ≡ first_refusal (refusals_of world.now (Rx station class air))) }
 {
     let deficit = world.share(station, class).deficit();
     let left = decreased(deficit, air as u64)?;
@@ -341,9 +341,9 @@ fn rx_refusal(world: &World, station: u64, class: Class, air: u32) -> Result<Opt
     }
 }
 
-#[tactic(auto, unfolding(wf_world::specs::Refusals::first_of))]
+#[tactic(auto, unfolding(wf_world::specs::Refusals::first_refusal))]
 fn reap_refusal(world: &World) -> Option<Refusal>
-    ensures { result ≡ first_of (refusals_of world.now Reap) }
+    ensures { result ≡ first_refusal (refusals_of world.now Reap) }
 {
     if world.finished().len() == 0 {
         Some(Refusal::Nothing)
@@ -352,7 +352,7 @@ fn reap_refusal(world: &World) -> Option<Refusal>
     }
 }
 
-#[tactic(auto, unfolding(wf_world::specs::Refusals::first_of))]
+#[tactic(auto, unfolding(wf_world::specs::Refusals::first_refusal))]
 fn enqueue_refusal(
     world: &World,
     station: u64,
@@ -360,7 +360,7 @@ fn enqueue_refusal(
     flow: u32,
     len: u16,
 ) -> Result<Option<Refusal>, Fault>
-    ensures { IfOk result (λ r. r ≡ first_of (refusals world.now (Enqueue station tid flow len))) }
+    ensures { IfOk result (λ r. r ≡ first_refusal (refusals world.now (Enqueue station tid flow len))) }
 {
     let _flow = flow;
     let _len = len;
@@ -450,7 +450,7 @@ fn station_of(world: &World, exchange: u64) -> Result<Option<u64>, Fault>
 }
 
 fn concerned_by(world: &World, ask: Ask) -> Result<Option<u64>, Fault>
-    ensures { IfOk result (λ r. r ≡ concerned world.now (Asked ask)) }
+    ensures { IfOk result (λ r. r ≡ concerned_station world.now (Asked ask)) }
 {
     match ask {
         Ask::Join {
@@ -486,7 +486,7 @@ fn concerned_by(world: &World, ask: Ask) -> Result<Option<u64>, Fault>
 
 /// The station that a call concerns, if any.
 pub fn concerned(world: &World, note: &Note) -> Result<Option<u64>, Fault>
-    ensures { IfOk result (λ r. r ≡ concerned world.now note.now) }
+    ensures { IfOk result (λ r. r ≡ concerned_station world.now note.now) }
 {
     match *note {
         Note::Enqueue {

@@ -5,8 +5,8 @@ ghost use Rattle.wf_plain_exchanges.specs.Settled.{count_of, settled_content};
 ghost use Rattle.wf_plain_parts.specs.Contents.{content_of};
 ghost use Rattle.wf_rules.specs.Receiver.{released_between};
 ghost use Rattle.wf_rules.specs.Session.State.{Acked};
-ghost use Rattle.wf_rules.specs.Session.{is_acknowledged, is_failed, is_waiting, missed, slot, with_state};
-ghost use Rattle.wf_world.specs.Exchanges.{after_arrival, all_settled, charged, count_in, heard_start, ids_of, is_acked, settled, settled_slot};
+ghost use Rattle.wf_rules.specs.Session.{is_acknowledged, is_failed, is_waiting, after_miss, slot, with_state};
+ghost use Rattle.wf_world.specs.Exchanges.{after_arrival, with_all_settled, after_charge, count_in, with_heard_start, ids_of, is_acked, with_settled, with_failed_finished};
 ghost use Rattle.wf_world.specs.World.{on_receiver, on_session, receiver, session};
 
 use wf_frame::{Cause, Fate};
@@ -53,7 +53,7 @@ pub fn receive(world: &mut World, exchange: &Exchange, index: u64) -> Result<Vec
 
 /// The charge of an exchange leaves the deficit and joins the charged airtime.
 pub fn charge(world: &mut World, exchange: &Exchange) -> Result<(), Fault>
-    ensures { OnOk result (world.new ≡ charged world.old exchange.now) }
+    ensures { OnOk result (world.new ≡ after_charge world.old exchange.now) }
 {
     let station = exchange.station();
     let class = exchange.class();
@@ -82,7 +82,7 @@ fn acknowledge(world: &mut World, station: u64, tid: u64, number: u64) -> Result
 }
 
 fn miss(world: &mut World, station: u64, tid: u64, limit: u64, number: u64) -> Result<(), Fault>
-    ensures { OnOk result (world.new ≡ on_session world.old station tid (missed limit number)) }
+    ensures { OnOk result (world.new ≡ on_session world.old station tid (after_miss limit number)) }
 {
     let alloc = world.alloc();
     let changed = world.take_tid(station, tid)?.missed(alloc, limit, number)?;
@@ -91,16 +91,16 @@ fn miss(world: &mut World, station: u64, tid: u64, limit: u64, number: u64) -> R
 }
 
 fn hear(world: &mut World, station: u64, tid: u64, heard: bool, start: u64) -> Result<(), Fault>
-    ensures { OnOk result (world.new ≡ on_session world.old station tid (heard_start heard start)) }
+    ensures { OnOk result (world.new ≡ on_session world.old station tid (with_heard_start heard start)) }
 {
     let changed = world.take_tid(station, tid)?.heard(heard, start);
     world.put_tid(station, tid, changed)?;
     Ok(())
 }
 
-#[tactic(auto, unfolding(wf_world::specs::Exchanges::settled_slot))]
+#[tactic(auto, unfolding(wf_world::specs::Exchanges::with_failed_finished))]
 fn drop_failed(world: &mut World, station: u64, tid: u64, mpdu: &Mpdu) -> Result<(), Fault>
-    ensures { OnOk result (world.new ≡ settled_slot world.old station tid mpdu.now) }
+    ensures { OnOk result (world.new ≡ with_failed_finished world.old station tid mpdu.now) }
 {
     if world.slot(station, tid, mpdu.number()).is_failed() {
         world.finish(Fate::Dropped(Cause::Retries), mpdu.id())
@@ -115,7 +115,7 @@ fn attempts(world: &World) -> u64
     world.config().attempts as u64
 }
 
-#[tactic(auto, unfolding(wf_world::specs::Exchanges::settled))]
+#[tactic(auto, unfolding(wf_world::specs::Exchanges::with_settled))]
 fn settle_one(
     world: &mut World,
     station: u64,
@@ -123,7 +123,7 @@ fn settle_one(
     acked: bool,
     mpdu: &Mpdu,
 ) -> Result<(), Fault>
-    ensures { OnOk result (world.new ≡ settled world.old station tid acked mpdu.now) }
+    ensures { OnOk result (world.new ≡ with_settled world.old station tid acked mpdu.now) }
 {
     if acked {
         acknowledge(world, station, tid, mpdu.number())?;
@@ -135,7 +135,7 @@ fn settle_one(
     }
 }
 
-#[tactic(auto, unfolding(wf_world::specs::Exchanges::all_settled))]
+#[tactic(auto, unfolding(wf_world::specs::Exchanges::with_all_settled))]
 fn settle_all(
     world: &mut World,
     station: u64,
@@ -144,7 +144,7 @@ fn settle_all(
     answer: &Option<Score>,
     mpdus: &[Mpdu],
 ) -> Result<(), Fault>
-    ensures { OnOk result (world.new ≡ all_settled world.old station tid (is_acked heard answer.now) mpdus.now) }
+    ensures { OnOk result (world.new ≡ with_all_settled world.old station tid (is_acked heard answer.now) mpdus.now) }
 {
     match mpdus.split_first() {
         None => Ok(()),

@@ -5,10 +5,10 @@ ghost use Rattle.std.specs.Prelude.{◌≡◌, ◌%◌, ◌||◌, ◌++◌, ◌�
 ghost use Rattle.wf_plain_exchanges.specs.Fresh.{fresh_of};
 ghost use Rattle.wf_plain_parts.specs.Contents.{content_of};
 ghost use Rattle.wf_rules.specs.Fit.{fits};
-ghost use Rattle.wf_rules.specs.Session.{give};
+ghost use Rattle.wf_rules.specs.Session.{with_number_given};
 ghost use Rattle.wf_world.specs.CanSend.{has_waiting};
-ghost use Rattle.wf_world.specs.Exchanges.{exchange_of, filled, fits_in, has_more, longest_fitting, most_frames, mpdu, numbers_fly, part_of, prepared, prepared_frames, waiting_mpdus, with_fresh, with_number};
-ghost use Rattle.wf_world.specs.FlowQueues.{queued};
+ghost use Rattle.wf_world.specs.Exchanges.{exchange_of, aggregate_of, fits_in, has_more, longest_fitting, most_frames, mpdu_of, with_flying, part_of, prepared_exchange, prepared_data, waiting_mpdus, with_fresh, with_number};
+ghost use Rattle.wf_world.specs.FlowQueues.{frames_queued};
 ghost use Rattle.wf_world.specs.World.{on_session};
 
 use std::alloc::Global;
@@ -94,14 +94,14 @@ fn fits_in(world: &World, station: u64, mpdus: &Vec<Mpdu>) -> Result<bool, Fault
 }
 
 fn mpdu(world: &World, station: u64, tid: u64, number: u64) -> Mpdu
-    ensures { result ≡ mpdu world.now station tid number }
+    ensures { result ≡ mpdu_of world.now station tid number }
 {
     let id = world.slot(station, tid, number).id();
     Mpdu::new(number, id, world.frame(id).len())
 }
 
 fn mpdus_at(world: &World, station: u64, tid: u64, numbers: &[u64]) -> Result<Vec<Mpdu>, Fault>
-    ensures { IfOk result (λ r. r.items ≡ map (mpdu world.now station tid) numbers.now) }
+    ensures { IfOk result (λ r. r.items ≡ map (mpdu_of world.now station tid) numbers.now) }
 {
     match numbers.split_first() {
         None => Ok(Vec::new(world.alloc())),
@@ -141,7 +141,7 @@ fn longest_fitting(
 }
 
 fn give(world: &mut World, station: u64, tid: u64, id: u64) -> Result<(), Fault>
-    ensures { OnOk result (world.new ≡ on_session world.old station tid (λ y. give y id)) }
+    ensures { OnOk result (world.new ≡ on_session world.old station tid (λ y. with_number_given y id)) }
 {
     let changed = world.take_tid(station, tid)?.given(id)?;
     world.put_tid(station, tid, changed)?;
@@ -191,9 +191,9 @@ fn with_fresh(
     }
 }
 
-#[tactic(auto, unfolding(wf_world::specs::Exchanges::filled))]
+#[tactic(auto, unfolding(wf_world::specs::Exchanges::aggregate_of))]
 fn fill(world: &mut World, station: u64, tid: u64) -> Result<Vec<Mpdu>, Fault>
-    ensures { IfOk result (λ r. filled world.old station tid ≡ record { world = world.new; mpdus = r.items }) }
+    ensures { IfOk result (λ r. aggregate_of world.old station tid ≡ record { world = world.new; mpdus = r.items }) }
 {
     let waiting = waiting_mpdus(world, station, tid)?;
     let chosen = longest_fitting(world, station, &[], &waiting)?;
@@ -213,7 +213,7 @@ fn fly(
     exchange: u64,
     mpdus: &[Mpdu],
 ) -> Result<(), Fault>
-    ensures { OnOk result (world.new ≡ on_session world.old station tid (numbers_fly exchange mpdus.now)) }
+    ensures { OnOk result (world.new ≡ on_session world.old station tid (with_flying exchange mpdus.now)) }
 {
     let alloc = world.alloc();
     let changed = world
@@ -223,9 +223,9 @@ fn fly(
     Ok(())
 }
 
-#[tactic(auto, unfolding(wf_world::specs::Exchanges::prepared_frames))]
+#[tactic(auto, unfolding(wf_world::specs::Exchanges::prepared_data))]
 fn prepare_frames(world: &mut World, station: u64, tid: u64) -> Result<Prepared, Fault>
-    ensures { IfOk result (λ r. prepared_frames station tid (filled world.old station tid) ≡ record { world = world.new; content = content_of r.content; charge = r.charge }) }
+    ensures { IfOk result (λ r. prepared_data station tid (aggregate_of world.old station tid) ≡ record { world = world.new; content = content_of r.content; charge = r.charge }) }
 {
     let mpdus = fill(world, station, tid)?;
     let wide = world.is_wide(station, tid);
@@ -240,9 +240,9 @@ fn prepare_frames(world: &mut World, station: u64, tid: u64) -> Result<Prepared,
 }
 
 /// What the next exchange of a TID sends: a request where one is due, else an aggregate, whose numbers fly from then on.
-#[tactic(auto, unfolding(wf_world::specs::Exchanges::prepared))]
+#[tactic(auto, unfolding(wf_world::specs::Exchanges::prepared_exchange))]
 pub fn prepare(world: &mut World, station: u64, tid: u64) -> Result<Prepared, Fault>
-    ensures { IfOk result (λ r. prepared world.old station tid ≡ record { world = world.new; content = content_of r.content; charge = r.charge }) }
+    ensures { IfOk result (λ r. prepared_exchange world.old station tid ≡ record { world = world.new; content = content_of r.content; charge = r.charge }) }
 {
     if world.request_due(station, tid)? {
         let start = world.start_of(station, tid)?;
@@ -258,7 +258,7 @@ pub fn prepare(world: &mut World, station: u64, tid: u64) -> Result<Prepared, Fa
 }
 
 fn has_more_on(world: &World, station: u64, tids: &[u64]) -> Result<bool, Fault>
-    ensures { IfOk result (λ r. r ≡ list_any (λ t. has_waiting world.now station t || nat_lt 0 (queued world.now station t)) tids.now) }
+    ensures { IfOk result (λ r. r ≡ list_any (λ t. has_waiting world.now station t || nat_lt 0 (frames_queued world.now station t)) tids.now) }
 {
     match tids.split_first() {
         None => Ok(false),

@@ -4,7 +4,7 @@ ghost use Rattle.std.specs.Prelude.{◌≡◌, ◌==◌, ℕ, map, IfOk, OnOk};
 ghost use Rattle.wf_plain_exchanges.specs.Picks.{pick_of_stations};
 ghost use Rattle.wf_plain_pick.specs.Choices.{IsChoice};
 ghost use Rattle.wf_world.specs.CanSend.{is_ready};
-ghost use Rattle.wf_world.specs.Exchanges.{after_pick, after_turn, first_tid, other_tid, pay_station, pay_stations, picked_station, sending_tid, station_need};
+ghost use Rattle.wf_world.specs.Exchanges.{after_pick, after_tid_turn, first_tid, other_tid, with_station_paid, with_stations_paid, picked_station, sending_tid, station_need};
 
 use wf_frame::Class;
 use wf_plain_lists::{Fault, split};
@@ -57,7 +57,7 @@ pub fn picked_station(world: &World, class: Class) -> Result<Option<u64>, Fault>
 }
 
 fn pay_station(world: &mut World, class: Class, quanta: u64, station: u64) -> Result<(), Fault>
-    ensures { OnOk result (world.new ≡ pay_station world.old class quanta station) }
+    ensures { OnOk result (world.new ≡ with_station_paid world.old class quanta station) }
 {
     let quantum = world.quantum(station)?;
     let paid = world.share(station, class).paid(quanta, quantum)?;
@@ -71,7 +71,7 @@ fn pay_stations(
     quanta: &[u64],
     stations: &[u64],
 ) -> Result<(), Fault>
-    ensures { OnOk result ((f : ℕ → ℕ) → quanta.now ≡ map f stations.now → world.new ≡ pay_stations world.old class f stations.now) }
+    ensures { OnOk result ((f : ℕ → ℕ) → quanta.now ≡ map f stations.now → world.new ≡ with_stations_paid world.old class f stations.now) }
 {
     match split(stations) {
         None => Ok(()),
@@ -137,7 +137,7 @@ pub fn sending_tid(world: &World, station: u64, class: Class) -> Result<u64, Fau
 
 /// The turn goes to the TID that does not send.
 pub fn turn(world: &mut World, station: u64, class: Class, tid: u64) -> Result<(), Fault>
-    ensures { OnOk result (world.new ≡ after_turn world.old station class tid) }
+    ensures { OnOk result (world.new ≡ after_tid_turn world.old station class tid) }
 {
     let turned = world
         .share(station, class)

@@ -1,7 +1,7 @@
 //! Lists, and sets of numbers as rising lists.
 
 ghost use Rattle.std.specs.Prelude.{◌≡◌, ◌∷◌, ◌++◌, ◌==◌, not, filter, [], MatchOption, IfOk};
-ghost use Rattle.wf_rules.specs.Rotation.{before, from};
+ghost use Rattle.wf_rules.specs.Rotation.{keys_before, keys_from};
 ghost use Rattle.wf_rules.specs.Table.{has, with_member, count_from};
 
 use crate::numbers::{Fault, sum};
@@ -55,7 +55,7 @@ pub fn with_member(alloc: Global, number: u64, set: &[u64]) -> Result<Vec<u64>, 
 
 /// The keys before a key.
 pub fn before(alloc: Global, key: u64, keys: &[u64]) -> Result<Vec<u64>, Fault>
-    ensures { IfOk result (λ r. r.items ≡ before key keys.now) }
+    ensures { IfOk result (λ r. r.items ≡ keys_before key keys.now) }
 {
     match keys.split_first() {
         None => Ok(Vec::new(alloc)),
@@ -71,7 +71,7 @@ pub fn before(alloc: Global, key: u64, keys: &[u64]) -> Result<Vec<u64>, Fault>
 
 /// The keys from a key on.
 pub fn from_key(key: u64, keys: &[u64]) -> &[u64]
-    ensures { result.now ≡ from key keys.now }
+    ensures { result.now ≡ keys_from key keys.now }
 {
     match keys.split_first() {
         None => keys,

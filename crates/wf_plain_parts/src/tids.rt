@@ -4,9 +4,9 @@ ghost use Rattle.std.specs.Prelude.{◌≡◌, IfOk};
 ghost use Rattle.wf_plain_parts.specs.Contents.{content_of};
 ghost use Rattle.wf_rules.specs.Receiver.{released_between, score};
 ghost use Rattle.wf_rules.specs.Session.State.{Acked};
-ghost use Rattle.wf_rules.specs.Session.{give, missed, with_state};
-ghost use Rattle.wf_world.specs.Exchanges.{after_arrival, heard_start, ids_of, numbers_fly};
-ghost use Rattle.wf_world.specs.Step.{held_slots};
+ghost use Rattle.wf_rules.specs.Session.{with_number_given, after_miss, with_state};
+ghost use Rattle.wf_world.specs.Exchanges.{after_arrival, with_heard_start, ids_of, with_flying};
+ghost use Rattle.wf_world.specs.Step.{waiting_ids};
 ghost use Rattle.wf_world.specs.World.{new_tid};
 
 use crate::exchanges::{Content, Mpdu};
@@ -78,7 +78,7 @@ fn numbers_fly(
     mpdus: &[Mpdu],
     session: Session,
 ) -> Result<Session, Fault>
-    ensures { IfOk result (λ r. r ≡ numbers_fly exchange mpdus.now session) }
+    ensures { IfOk result (λ r. r ≡ with_flying exchange mpdus.now session) }
 {
     match mpdus.split_first() {
         None => Ok(session),
@@ -91,7 +91,7 @@ fn numbers_fly(
 }
 
 fn held_slots(alloc: Global, slots: &[Slot]) -> Result<Vec<u64>, Fault>
-    ensures { IfOk result (λ r. r.items ≡ held_slots slots.now) }
+    ensures { IfOk result (λ r. r.items ≡ waiting_ids slots.now) }
 {
     match slots.split_first() {
         None => Ok(Vec::new(alloc)),
@@ -141,7 +141,7 @@ impl Tid {
 
     /// The frames whose numbers wait for a transmission.
     pub fn held(&self, alloc: Global) -> Result<Vec<u64>, Fault>
-        ensures { IfOk result (λ r. r.items ≡ held_slots self.now.session.slots) }
+        ensures { IfOk result (λ r. r.items ≡ waiting_ids self.now.session.slots) }
     {
         held_slots(alloc, self.session.slots())
     }
@@ -159,7 +159,7 @@ impl Tid {
 
     /// The TID once these numbers are sent by an exchange.
     pub fn flying(self, alloc: Global, exchange: u64, mpdus: &[Mpdu]) -> Result<Tid, Fault>
-        ensures { IfOk result (λ r. r ≡ record self { session = numbers_fly exchange mpdus.now self.session }) }
+        ensures { IfOk result (λ r. r ≡ record self { session = with_flying exchange mpdus.now self.session }) }
     {
         Ok(Tid {
             session: numbers_fly(alloc, exchange, mpdus, self.session)?,
@@ -170,7 +170,7 @@ impl Tid {
 
     /// The TID once a frame got the next number.
     pub fn given(self, id: u64) -> Result<Tid, Fault>
-        ensures { IfOk result (λ r. r ≡ record self { session = give self.session id }) }
+        ensures { IfOk result (λ r. r ≡ record self { session = with_number_given self.session id }) }
     {
         let mut session = self.session;
         session.give(id)?;
@@ -196,7 +196,7 @@ impl Tid {
 
     /// The TID once a number was sent in vain.
     pub fn missed(self, alloc: Global, limit: u64, number: u64) -> Result<Tid, Fault>
-        ensures { IfOk result (λ r. r ≡ record self { session = missed limit number self.session }) }
+        ensures { IfOk result (λ r. r ≡ record self { session = after_miss limit number self.session }) }
     {
         let mut session = self.session;
         session.miss(alloc, limit, number)?;
@@ -209,7 +209,7 @@ impl Tid {
 
     /// The TID once a request ended, heard or not.
     pub fn heard(self, heard: bool, start: u64) -> Tid
-        ensures { result ≡ record self { session = heard_start heard start self.session } }
+        ensures { result ≡ record self { session = with_heard_start heard start self.session } }
     {
         Tid {
             session: self.session.hear_start(heard, start),

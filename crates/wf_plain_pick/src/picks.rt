@@ -2,7 +2,7 @@
 
 ghost use Rattle.std.specs.Prelude.{◌≡◌, ◌+◌, ◌-◌, ◌==◌, ℕ, Bool, map, filter, find, min, not, ◌&&◌, if◌then◌else◌, IfOk};
 ghost use Rattle.wf_plain_pick.specs.Choices.{IsChoice};
-ghost use Rattle.wf_rules.specs.Rotation.{first_least, in_order, is_out, lists, need_of, none_ready, pick, pick_later, picked_later, picked_now, round, visits};
+ghost use Rattle.wf_rules.specs.Rotation.{first_least, in_order, is_out, has_key, need_of, none_ready, pick, pick_later, picked_later, picked_now, round, visits};
 ghost use Rattle.wf_rules.specs.Table.{has};
 
 use crate::rotations::Rotation;
@@ -156,7 +156,7 @@ fn quanta_none<K: Keys>(
     rotation: &Rotation,
     list: &[u64],
 ) -> Result<Vec<u64>, Fault>
-    ensures { IfOk result (λ v. v.items ≡ map (λ key. if lists rotation.now key then K.need keys.now key else 0) list.now) }
+    ensures { IfOk result (λ v. v.items ≡ map (λ key. if has_key rotation.now key then K.need keys.now key else 0) list.now) }
 {
     match list.split_first() {
         None => Ok(Vec::new(alloc)),
@@ -200,7 +200,7 @@ fn quanta_later<K: Keys>(
     round_won: u64,
     list: &[u64],
 ) -> Result<Vec<u64>, Fault>
-    ensures { IfOk result (λ v. v.items ≡ map (λ key. if key == winner then K.need keys.now key else (if lists rotation.now key then min (visits rotation.now winner round_won key) (K.need keys.now key) else 0)) list.now) }
+    ensures { IfOk result (λ v. v.items ≡ map (λ key. if key == winner then K.need keys.now key else (if has_key rotation.now key then min (visits rotation.now winner round_won key) (K.need keys.now key) else 0)) list.now) }
 {
     match list.split_first() {
         None => Ok(Vec::new(alloc)),

@@ -1,7 +1,7 @@
 //! A new and an old list of keys.
 
 ghost use Rattle.std.specs.Prelude.{◌≡◌, ◌+◌, ◌-◌, ◌++◌, IfOk, OnOk};
-ghost use Rattle.wf_rules.specs.Rotation.{add_new, before, from, in_order, lists, old_visits, visits, without_key};
+ghost use Rattle.wf_rules.specs.Rotation.{with_new_key, keys_before, keys_from, in_order, has_key, old_visits, visits, without_key};
 ghost use Rattle.wf_rules.specs.Table.{has};
 
 use std::alloc::Global;
@@ -39,7 +39,7 @@ impl Blank for Rotation {
 impl Rotation {
     /// Whether a key is on one of the lists.
     pub fn lists(&self, key: u64) -> bool
-        ensures { result ≡ lists self.now key }
+        ensures { result ≡ has_key self.now key }
     {
         has(&self.fresh, key) || has(&self.aged, key)
     }
@@ -53,7 +53,7 @@ impl Rotation {
 
     /// Puts a key last on the new list.
     pub fn add_new(&mut self, key: u64) -> Result<(), Fault>
-        ensures { OnOk result (self.new ≡ add_new self.old key) }
+        ensures { OnOk result (self.new ≡ with_new_key self.old key) }
     {
         self.fresh.push(key)?;
         Ok(())
@@ -86,7 +86,7 @@ impl Rotation {
     }
 
     pub(crate) fn now_lists(&self, alloc: Global, winner: u64) -> Result<Rotation, Fault>
-        ensures { IfOk result (λ r. r ≡ record { new = from winner self.now.new; old = self.now.old ++ before winner self.now.new }) }
+        ensures { IfOk result (λ r. r ≡ record { new = keys_from winner self.now.new; old = self.now.old ++ keys_before winner self.now.new }) }
     {
         Ok(Rotation {
             fresh: Vec::from_slice(alloc, from_key(winner, &self.fresh))?,
@@ -95,7 +95,7 @@ impl Rotation {
     }
 
     pub(crate) fn new_before(&self, alloc: Global, winner: u64) -> Result<Vec<u64>, Fault>
-        ensures { IfOk result (λ r. r.items ≡ before winner self.now.new) }
+        ensures { IfOk result (λ r. r.items ≡ keys_before winner self.now.new) }
     {
         before(alloc, winner, &self.fresh)
     }

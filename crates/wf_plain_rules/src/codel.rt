@@ -3,7 +3,7 @@
 ghost use Rattle.std.specs.Prelude.{◌≡◌, ◌+◌, ◌*◌, ◌-◌, ◌/◌, ℕ, true, false, IfOk};
 ghost use Rattle.wf_rules.specs.CodelLoop.{dequeue_dropping, dequeue_plain, dropping_first, giving, stepped};
 ghost use Rattle.wf_plain_rules.specs.Roots.{root_of};
-ghost use Rattle.wf_rules.specs.Codel.{begin_dropping, dequeue, first_count, law, look_at, new_codel, octets, rise, step_of};
+ghost use Rattle.wf_rules.specs.Codel.{begin_dropping, dequeue, first_count, control_law, look_at, new_codel, octets, rise, step_of};
 
 use std::alloc::Global;
 use std::marker::Model;
@@ -200,7 +200,7 @@ fn step_of(interval: u64, count: u64) -> Result<u64, Fault>
 
 /// When the drop after one at `time` is due.
 fn law(params: &Params, time: u64, count: u64) -> Result<u64, Fault>
-    ensures { IfOk result (λ r. r ≡ law params.now time count) }
+    ensures { IfOk result (λ r. r ≡ control_law params.now time count) }
 {
     sum(time, step_of(params.interval, count)?)
 }

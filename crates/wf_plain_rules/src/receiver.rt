@@ -1,7 +1,7 @@
 //! The recipient's side of one TID's agreement (IEEE 802.11-2012, 9.21.7.3 to 9.21.7.6), over numbers that do not wrap.
 
 ghost use Rattle.std.specs.Prelude.{◌≡◌, ◌+◌, ◌-◌, ◌*◌, ◌^◌, suc, map, filter, sum_by, nat_le, nat_lt, ◌&&◌, if◌then◌else◌, IfOk, OnOk};
-ghost use Rattle.wf_rules.specs.Receiver.{first_missing, greatest, new_receiver, release_start, score, score_start, shows, with_arrived, with_start, word};
+ghost use Rattle.wf_rules.specs.Receiver.{first_missing, greatest, new_receiver, release_start, score, score_start, shows, with_arrived, with_start, bitmap_word};
 
 use std::alloc::Global;
 use std::marker::Model;
@@ -192,7 +192,7 @@ impl Score {
 
     /// The word of the offsets `64 * place` to `64 * place + 63`.
     pub fn word(&self, place: u64) -> Result<u64, Fault>
-        ensures { IfOk result (λ r. r ≡ word self.now place) }
+        ensures { IfOk result (λ r. r ≡ bitmap_word self.now place) }
     {
         word_of(place, &self.offsets)
     }

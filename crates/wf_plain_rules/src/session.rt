@@ -3,7 +3,7 @@
 ghost use Rattle.std.specs.Prelude.{◌≡◌, ◌-◌, map, max, nat_lt, if◌then◌else◌, IfOk, OnOk};
 ghost use Rattle.wf_plain_rules.specs.States.{state_of};
 ghost use Rattle.wf_rules.specs.Bounds.{narrow_window};
-ghost use Rattle.wf_rules.specs.Session.{first_unsettled, give, has_room, is_failed, is_settled, is_waiting, missed, new_session, next_number, numbers_where, request_due, slot, start_of, waiting_numbers, with_state, is_acknowledged};
+ghost use Rattle.wf_rules.specs.Session.{first_unsettled, with_number_given, has_room, is_failed, is_settled, is_waiting, after_miss, new_session, next_number, numbers_where, request_due, slot, start_of, waiting_numbers, with_state, is_acknowledged};
 
 use std::alloc::Global;
 use std::marker::Model;
@@ -105,7 +105,7 @@ fn is_settled(state: State) -> bool
 }
 
 impl Slot {
-    ghost use Rattle.wf_rules.specs.Session.{missed_slot};
+    ghost use Rattle.wf_rules.specs.Session.{slot_after_miss};
 
     /// Whether its number waits for a transmission.
     pub fn is_waiting(&self) -> bool
@@ -152,7 +152,7 @@ impl Slot {
     }
 
     fn missed(&self, limit: u64) -> Result<Slot, Fault>
-        ensures { IfOk result (λ r. r ≡ missed_slot limit self.now) }
+        ensures { IfOk result (λ r. r ≡ slot_after_miss limit self.now) }
     {
         let attempts = sum(self.attempts, 1)?;
         let state = if limit <= attempts {
@@ -306,7 +306,7 @@ impl Session {
 
     /// Gives a frame the next number.
     pub fn give(&mut self, id: u64) -> Result<(), Fault>
-        ensures { OnOk result (self.new ≡ give self.old id) }
+        ensures { OnOk result (self.new ≡ with_number_given self.old id) }
     {
         self.slots.push(Slot {
             id,
@@ -328,7 +328,7 @@ impl Session {
 
     /// A number was sent in vain: it waits again, or fails where it was sent `limit` times.
     pub fn miss(&mut self, alloc: Global, limit: u64, number: u64) -> Result<(), Fault>
-        ensures { OnOk result (self.new ≡ missed limit number self.old) }
+        ensures { OnOk result (self.new ≡ after_miss limit number self.old) }
     {
         let place = number.saturating_sub(self.first);
         let slot = at(alloc, &self.slots, place).missed(limit)?;

@@ -5,9 +5,9 @@ use Rattle.wf_frame.specs.Classes.{class_number}
 use Rattle.wf_frame.specs.declared.classes.Fate.{Fate}
 use Rattle.wf_rules.specs.Table.{at, put}
 use Rattle.wf_rules.specs.Rotation.{Rotation, no_keys}
-use Rattle.wf_world.specs.World.{World, Station, Tid, Share, Queue, with_station, on_station, on_tid, on_share, on_queue, with_rotation, with_fate, finish, tid_of, share, queue, new_queue, no_tid, no_share, no_station}
-use Rattle.wf_world.specs.FlowQueues.{pay_queues}
-use Rattle.wf_world.specs.Exchanges.{pay_station, pay_stations}
+use Rattle.wf_world.specs.World.{World, Station, Tid, Share, Queue, with_station, on_station, on_tid, on_share, on_queue, with_rotation, with_fate, with_frame_finished, tid_of, share, queue, new_queue, no_tid, no_share, no_station}
+use Rattle.wf_world.specs.FlowQueues.{with_queues_paid}
+use Rattle.wf_world.specs.Exchanges.{with_station_paid, with_stations_paid}
 use Rattle.wf_plain_lists.proofs.Puts.{put_put, at_put_same}
 
 pub station_done : (w w1 w2 : World) (s : ℕ) (f : Station → Station) (o o' : Option Station) → o ≡ at None w.stations s → w1 ≡ with_station w s None → w2 ≡ with_station w1 s o' → o' ≡ option_map f o → w2 ≡ on_station w s f
@@ -70,30 +70,30 @@ unfolding with_rotation
 rotation_twice w w1 w2 c r e1 e2 =
     e2 ∙ ap (λ (v : World). with_rotation v c r) e1 ∙ ap (λ (xs : List Rotation). record w { rotations = xs }) (put_put no_keys w.rotations (class_number c) no_keys r)
 
-pub finish_done : (w v : World) (fate : Fate) (id : ℕ) (ids : List ℕ) → v ≡ with_fate w id fate → ids ≡ v.finished ++ id ∷ [] → record v { finished = ids } ≡ finish w fate id
-unfolding finish with_fate
+pub finish_done : (w v : World) (fate : Fate) (id : ℕ) (ids : List ℕ) → v ≡ with_fate w id fate → ids ≡ v.finished ++ id ∷ [] → record v { finished = ids } ≡ with_frame_finished w fate id
+unfolding with_frame_finished with_fate
 finish_done w v fate id ids e e1 = ap (λ (u : World). record u { finished = ids }) e ∙ ap (λ (xs : List ℕ). record (with_fate w id fate) { finished = xs }) (e1 ∙ ap (λ (u : World). u.finished ++ id ∷ []) e)
 
-pub pay_queues_none : (w : World) (f : ℕ → ℕ) (qs : List ℕ) → qs ≡ [] → w ≡ pay_queues w f qs
-unfolding pay_queues
-pay_queues_none w f qs e = sym (ap (λ (xs : List ℕ). pay_queues w f xs) e)
+pub pay_queues_none : (w : World) (f : ℕ → ℕ) (qs : List ℕ) → qs ≡ [] → w ≡ with_queues_paid w f qs
+unfolding with_queues_paid
+pay_queues_none w f qs e = sym (ap (λ (xs : List ℕ). with_queues_paid w f xs) e)
 
-pub pay_queues_some : (w w1 w2 : World) (f : ℕ → ℕ) (q n m : ℕ) (rest others qs quanta : List ℕ) → qs ≡ q ∷ rest → quanta ≡ n ∷ others → m ≡ n * w.config.flow_quantum → w1 ≡ on_queue w q (λ y. record y { deficit = y.deficit +ℤ pos m }) → (others ≡ map f rest → w2 ≡ pay_queues w1 f rest) → quanta ≡ map f qs → w2 ≡ pay_queues w f qs
-unfolding pay_queues
+pub pay_queues_some : (w w1 w2 : World) (f : ℕ → ℕ) (q n m : ℕ) (rest others qs quanta : List ℕ) → qs ≡ q ∷ rest → quanta ≡ n ∷ others → m ≡ n * w.config.flow_quantum → w1 ≡ on_queue w q (λ y. record y { deficit = y.deficit +ℤ pos m }) → (others ≡ map f rest → w2 ≡ with_queues_paid w1 f rest) → quanta ≡ map f qs → w2 ≡ with_queues_paid w f qs
+unfolding with_queues_paid
 pay_queues_some w w1 w2 f q n m rest others qs quanta e1 e2 e3 e4 h e5 =
     let e6 : n ∷ others ≡ f q ∷ map f rest = sym e2 ∙ e5 ∙ ap (λ (xs : List ℕ). map f xs) e1 in
     let e7 : others ≡ map f rest = cc in
     let e8 : n ≡ f q = cc in
-    h e7 ∙ ap (λ (v : World). pay_queues v f rest) (e4 ∙ ap (λ (k : ℕ). on_queue w q (λ y. record y { deficit = y.deficit +ℤ pos k })) (e3 ∙ ap (λ (k : ℕ). k * w.config.flow_quantum) e8)) ∙ sym (ap (λ (xs : List ℕ). pay_queues w f xs) e1)
+    h e7 ∙ ap (λ (v : World). with_queues_paid v f rest) (e4 ∙ ap (λ (k : ℕ). on_queue w q (λ y. record y { deficit = y.deficit +ℤ pos k })) (e3 ∙ ap (λ (k : ℕ). k * w.config.flow_quantum) e8)) ∙ sym (ap (λ (xs : List ℕ). with_queues_paid w f xs) e1)
 
-pub pay_stations_none : (w : World) (c : Class) (f : ℕ → ℕ) (ss : List ℕ) → ss ≡ [] → w ≡ pay_stations w c f ss
-unfolding pay_stations
-pay_stations_none w c f ss e = sym (ap (λ (xs : List ℕ). pay_stations w c f xs) e)
+pub pay_stations_none : (w : World) (c : Class) (f : ℕ → ℕ) (ss : List ℕ) → ss ≡ [] → w ≡ with_stations_paid w c f ss
+unfolding with_stations_paid
+pay_stations_none w c f ss e = sym (ap (λ (xs : List ℕ). with_stations_paid w c f xs) e)
 
-pub pay_stations_some : (w w1 w2 : World) (c : Class) (f : ℕ → ℕ) (s n : ℕ) (rest others ss quanta : List ℕ) → ss ≡ s ∷ rest → quanta ≡ n ∷ others → w1 ≡ pay_station w c n s → (others ≡ map f rest → w2 ≡ pay_stations w1 c f rest) → quanta ≡ map f ss → w2 ≡ pay_stations w c f ss
-unfolding pay_stations
+pub pay_stations_some : (w w1 w2 : World) (c : Class) (f : ℕ → ℕ) (s n : ℕ) (rest others ss quanta : List ℕ) → ss ≡ s ∷ rest → quanta ≡ n ∷ others → w1 ≡ with_station_paid w c n s → (others ≡ map f rest → w2 ≡ with_stations_paid w1 c f rest) → quanta ≡ map f ss → w2 ≡ with_stations_paid w c f ss
+unfolding with_stations_paid
 pay_stations_some w w1 w2 c f s n rest others ss quanta e1 e2 e4 h e5 =
     let e6 : n ∷ others ≡ f s ∷ map f rest = sym e2 ∙ e5 ∙ ap (λ (xs : List ℕ). map f xs) e1 in
     let e7 : others ≡ map f rest = cc in
     let e8 : n ≡ f s = cc in
-    h e7 ∙ ap (λ (v : World). pay_stations v c f rest) (e4 ∙ ap (λ (k : ℕ). pay_station w c k s) e8) ∙ sym (ap (λ (xs : List ℕ). pay_stations w c f xs) e1)
+    h e7 ∙ ap (λ (v : World). with_stations_paid v c f rest) (e4 ∙ ap (λ (k : ℕ). with_station_paid w c k s) e8) ∙ sym (ap (λ (xs : List ℕ). with_stations_paid w c f xs) e1)

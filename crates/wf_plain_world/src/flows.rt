@@ -6,10 +6,10 @@ ghost use Rattle.wf_plain_pick.specs.Choices.{IsChoice};
 ghost use Rattle.wf_plain_world.specs.Passes.{longest_after};
 ghost use Rattle.wf_plain_world.specs.Picks.{pick_of_queues};
 ghost use Rattle.wf_rules.specs.Codel.{new_codel};
-ghost use Rattle.wf_rules.specs.Rotation.{lists};
+ghost use Rattle.wf_rules.specs.Rotation.{has_key};
 ghost use Rattle.wf_rules.specs.Table.{upto};
-ghost use Rattle.wf_world.specs.FlowQueues.{appended, dequeued, dropped_for_limit, has_frames, is_at_limit, is_listed_elsewhere, listed_queue, longest, pay_queues, purge_queue, purge_queues, put_in, queue_for, queue_need, queued, take, taken_from, total_queued, within_limit, without_head};
-ghost use Rattle.wf_world.specs.World.{is_live, live_stations, on_queue, params, queue as queue_at, tid_of, with_queues};
+ghost use Rattle.wf_world.specs.FlowQueues.{with_appended, taken_by_codel, dropped_for_limit, has_frames, is_at_limit, is_listed_elsewhere, with_listed_queue, longest_queue, with_queues_paid, after_queue_left, after_queues_left, after_put_in, queue_for, queue_need, frames_queued, taken_for_tid, taken_from_picked, total_queued, after_limit, without_head};
+ghost use Rattle.wf_world.specs.World.{is_live, live_stations, on_queue, codel_params, queue as queue_at, tid_of, with_queues};
 
 use crate::world::World;
 use wf_frame::{Cause, Fate};
@@ -104,14 +104,14 @@ impl World {
 
     /// How many frames are queued for a TID.
     pub fn queued(&self, station: u64, tid: u64) -> Result<u64, Fault>
-        ensures { IfOk result (λ r. r ≡ queued self.now station tid) }
+        ensures { IfOk result (λ r. r ≡ frames_queued self.now station tid) }
     {
         self.frames_in(&self.queues_of(station, tid)?.in_order(self.alloc)?)
     }
 
     #[tactic(auto, using(crate::proofs::Passes::longest_passed))]
     fn longest(&self) -> Result<u64, Fault>
-        ensures { IfOk result (λ r. r ≡ longest self.now) }
+        ensures { IfOk result (λ r. r ≡ longest_queue self.now) }
     {
         longest_after(0, 0, 0, &self.queues)
     }
@@ -152,9 +152,9 @@ impl World {
     }
 
     /// Drops that frame.
-    #[tactic(auto, unfolding(wf_world::specs::FlowQueues::within_limit))]
+    #[tactic(auto, unfolding(wf_world::specs::FlowQueues::after_limit))]
     pub fn keep_limit(&mut self) -> Result<(), Fault>
-        ensures { OnOk result (self.new ≡ within_limit self.old) }
+        ensures { OnOk result (self.new ≡ after_limit self.old) }
     {
         if self.is_at_limit()? {
             let queue = self.longest()?;
@@ -168,7 +168,7 @@ impl World {
     // ---- putting a frame in
 
     fn lists_queue(&self, station: u64, tid: u64, queue: u64) -> Result<bool, Fault>
-        ensures { IfOk result (λ r. r ≡ lists (tid_of self.now station tid).queues queue) }
+        ensures { IfOk result (λ r. r ≡ has_key (tid_of self.now station tid).queues queue) }
     {
         Ok(self.queues_of(station, tid)?.lists(queue))
     }
@@ -181,7 +181,7 @@ impl World {
         other: u64,
         tids: &[u64],
     ) -> Result<bool, Fault>
-        ensures { IfOk result (λ r. r ≡ list_any (λ j. not ((other == station) && (j == tid)) && lists (tid_of self.now other j).queues queue) tids.now) }
+        ensures { IfOk result (λ r. r ≡ list_any (λ j. not ((other == station) && (j == tid)) && has_key (tid_of self.now other j).queues queue) tids.now) }
     {
         match tids.split_first() {
             None => Ok(false),
@@ -201,7 +201,7 @@ impl World {
         queue: u64,
         stations: &[u64],
     ) -> Result<bool, Fault>
-        ensures { IfOk result (λ r. r ≡ list_any (λ i. list_any (λ j. not ((i == station) && (j == tid)) && lists (tid_of self.now i j).queues queue) (upto 8)) stations.now) }
+        ensures { IfOk result (λ r. r ≡ list_any (λ i. list_any (λ j. not ((i == station) && (j == tid)) && has_key (tid_of self.now i j).queues queue) (upto 8)) stations.now) }
     {
         match stations.split_first() {
             None => Ok(false),
@@ -282,9 +282,9 @@ impl World {
         Ok(())
     }
 
-    #[tactic(auto, unfolding(wf_world::specs::FlowQueues::listed_queue))]
+    #[tactic(auto, unfolding(wf_world::specs::FlowQueues::with_listed_queue))]
     fn list_queue(&mut self, station: u64, tid: u64, queue: u64) -> Result<(), Fault>
-        ensures { OnOk result (self.new ≡ listed_queue self.old station tid queue) }
+        ensures { OnOk result (self.new ≡ with_listed_queue self.old station tid queue) }
     {
         let mut queues = self.queues_of(station, tid)?;
         if queues.lists(queue) {
@@ -297,7 +297,7 @@ impl World {
     }
 
     fn append(&mut self, queue: u64, item: &Item) -> Result<(), Fault>
-        ensures { OnOk result (self.new ≡ appended self.old queue item.now) }
+        ensures { OnOk result (self.new ≡ with_appended self.old queue item.now) }
     {
         let changed = self.take_queue(queue)?.with_item(item)?;
         self.put_queue(queue, changed)?;
@@ -305,9 +305,9 @@ impl World {
     }
 
     /// Puts a frame into a flow queue, which a TID lists from then on.
-    #[tactic(auto, unfolding(wf_world::specs::FlowQueues::put_in))]
+    #[tactic(auto, unfolding(wf_world::specs::FlowQueues::after_put_in))]
     pub fn put_in(&mut self, station: u64, tid: u64, queue: u64, item: &Item) -> Result<(), Fault>
-        ensures { OnOk result (self.new ≡ put_in self.old station tid queue item.now) }
+        ensures { OnOk result (self.new ≡ after_put_in self.old station tid queue item.now) }
     {
         self.append(queue, item)?;
         self.list_queue(station, tid, queue)
@@ -324,7 +324,7 @@ impl World {
     }
 
     fn pay_queues(&mut self, quanta: &[u64], queues: &[u64]) -> Result<(), Fault>
-        ensures { OnOk result ((f : ℕ → ℕ) → quanta.now ≡ map f queues.now → self.new ≡ pay_queues self.old f queues.now) }
+        ensures { OnOk result ((f : ℕ → ℕ) → quanta.now ≡ map f queues.now → self.new ≡ with_queues_paid self.old f queues.now) }
     {
         match split(queues) {
             None => Ok(()),
@@ -347,7 +347,7 @@ impl World {
     }
 
     fn params(&self, station: u64) -> Result<Params, Fault>
-        ensures { IfOk result (λ r. r ≡ params self.now station) }
+        ensures { IfOk result (λ r. r ≡ codel_params self.now station) }
     {
         if self.rate(station).is_slow()? {
             Ok(Params::new(SLOW_TARGET, SLOW_INTERVAL))
@@ -370,10 +370,10 @@ impl World {
         Ok(())
     }
 
-    #[tactic(auto, unfolding(wf_world::specs::FlowQueues::dequeued))]
+    #[tactic(auto, unfolding(wf_world::specs::FlowQueues::taken_by_codel))]
     fn dequeued(&mut self, queue: u64, outcome: Dequeued) -> Result<Option<Item>, Fault>
-        ensures world { OnOk result (self.new ≡ (dequeued self.old queue outcome).world) }
-        ensures item { IfOk result (λ r. r ≡ (dequeued self.old queue outcome).item) }
+        ensures world { OnOk result (self.new ≡ (taken_by_codel self.old queue outcome).world) }
+        ensures item { IfOk result (λ r. r ≡ (taken_by_codel self.old queue outcome).item) }
     {
         let (given, dropped, rest, state) = outcome.parts();
         let ids = ids_of_items(self.alloc, &dropped)?;
@@ -382,10 +382,10 @@ impl World {
         Ok(given)
     }
 
-    #[tactic(auto, unfolding(wf_world::specs::FlowQueues::taken_from))]
+    #[tactic(auto, unfolding(wf_world::specs::FlowQueues::taken_from_picked))]
     fn taken_from(&mut self, station: u64, winner: Option<u64>) -> Result<Option<Item>, Fault>
-        ensures world { OnOk result (self.new ≡ (taken_from self.old station winner).world) }
-        ensures item { IfOk result (λ r. r ≡ (taken_from self.old station winner).item) }
+        ensures world { OnOk result (self.new ≡ (taken_from_picked self.old station winner).world) }
+        ensures item { IfOk result (λ r. r ≡ (taken_from_picked self.old station winner).item) }
     {
         match winner {
             None => Ok(None),
@@ -400,10 +400,10 @@ impl World {
     }
 
     /// Takes a frame from the queues of a TID: the queue that is picked gives it, through CoDel.
-    #[tactic(auto, unfolding(wf_world::specs::FlowQueues::take))]
+    #[tactic(auto, unfolding(wf_world::specs::FlowQueues::taken_for_tid))]
     pub fn take(&mut self, station: u64, tid: u64) -> Result<Option<Item>, Fault>
-        ensures world { OnOk result (self.new ≡ (take self.old station tid).world) }
-        ensures item { IfOk result (λ r. r ≡ (take self.old station tid).item) }
+        ensures world { OnOk result (self.new ≡ (taken_for_tid self.old station tid).world) }
+        ensures item { IfOk result (λ r. r ≡ (taken_for_tid self.old station tid).item) }
     {
         let queues = self.queues_of(station, tid)?;
         let picked = self.picked_queue(&queues)?;
@@ -423,9 +423,9 @@ impl World {
         Ok(())
     }
 
-    #[tactic(auto, unfolding(wf_world::specs::FlowQueues::purge_queue))]
+    #[tactic(auto, unfolding(wf_world::specs::FlowQueues::after_queue_left))]
     fn purge_queue(&mut self, queue: u64) -> Result<(), Fault>
-        ensures { OnOk result (self.new ≡ purge_queue self.old queue) }
+        ensures { OnOk result (self.new ≡ after_queue_left self.old queue) }
     {
         let ids = ids_of_items(self.alloc, self.items_of(queue))?;
         self.empty_queue(queue)?;
@@ -433,9 +433,9 @@ impl World {
     }
 
     /// Drops the frames of these queues, as those of a station that leaves.
-    #[tactic(auto, unfolding(wf_world::specs::FlowQueues::purge_queues))]
+    #[tactic(auto, unfolding(wf_world::specs::FlowQueues::after_queues_left))]
     pub fn purge_queues(&mut self, queues: &[u64]) -> Result<(), Fault>
-        ensures { OnOk result (self.new ≡ purge_queues self.old queues.now) }
+        ensures { OnOk result (self.new ≡ after_queues_left self.old queues.now) }
     {
         match queues.split_first() {
             None => Ok(()),

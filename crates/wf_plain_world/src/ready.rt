@@ -3,7 +3,7 @@
 ghost use Rattle.std.specs.List.{list_any};
 ghost use Rattle.std.specs.Prelude.{◌≡◌, ◌==◌, ◌&&◌, IfOk, OnOk};
 ghost use Rattle.wf_frame.specs.Classes.{lower_tid, upper_tid};
-ghost use Rattle.wf_world.specs.CanSend.{can_give, can_send, can_send_in, has_credit, has_waiting, is_ready, is_request, listed, listed_in, listed_in_all, request_open};
+ghost use Rattle.wf_world.specs.CanSend.{can_give, can_send, can_send_in, has_credit, has_waiting, is_ready, is_request, with_listings_of, with_listing_in, with_listings_in, request_open};
 
 use crate::world::World;
 use wf_frame::Class;
@@ -110,9 +110,9 @@ impl World {
         Ok(live && (can && (!asleep || credit)))
     }
 
-    #[tactic(auto, unfolding(wf_world::specs::CanSend::listed_in))]
+    #[tactic(auto, unfolding(wf_world::specs::CanSend::with_listing_in))]
     fn list_in(&mut self, station: u64, class: Class) -> Result<(), Fault>
-        ensures { OnOk result (self.new ≡ listed_in self.old station class) }
+        ensures { OnOk result (self.new ≡ with_listing_in self.old station class) }
     {
         let ready = self.is_ready(class, station)?;
         let mut rotation = self.rotation(class)?;
@@ -125,9 +125,9 @@ impl World {
         }
     }
 
-    #[tactic(auto, unfolding(wf_world::specs::CanSend::listed_in_all))]
+    #[tactic(auto, unfolding(wf_world::specs::CanSend::with_listings_in))]
     fn list_in_all(&mut self, station: u64, classes: &[Class]) -> Result<(), Fault>
-        ensures { OnOk result (self.new ≡ listed_in_all self.old station classes.now) }
+        ensures { OnOk result (self.new ≡ with_listings_in self.old station classes.now) }
     {
         match classes.split_first() {
             None => Ok(()),
@@ -139,9 +139,9 @@ impl World {
     }
 
     /// A station goes last on the new list of each class in which it is ready and unlisted.
-    #[tactic(auto, unfolding(wf_world::specs::CanSend::listed))]
+    #[tactic(auto, unfolding(wf_world::specs::CanSend::with_listings_of))]
     pub fn list(&mut self, station: Option<u64>) -> Result<(), Fault>
-        ensures { OnOk result (self.new ≡ listed self.old station) }
+        ensures { OnOk result (self.new ≡ with_listings_of self.old station) }
     {
         match station {
             None => Ok(()),

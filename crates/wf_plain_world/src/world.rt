@@ -4,9 +4,9 @@ ghost use Rattle.std.specs.Prelude.{◌≡◌, ◌+◌, ◌==◌, not, map, filt
 ghost use Rattle.wf_rules.specs.Receiver.{score};
 ghost use Rattle.wf_rules.specs.Session.{has_room, next_number, request_due, slot, start_of, waiting_numbers};
 ghost use Rattle.wf_rules.specs.Table.{at};
-ghost use Rattle.wf_world.specs.Exchanges.{opening_exchange};
-ghost use Rattle.wf_world.specs.Step.{held_slots, with_frame};
-ghost use Rattle.wf_world.specs.World.{accepted, exchange as exchange_at, finish, finish_all, frame, inside, is_live, is_wide, new_queue, no_tid, on_queue, on_share, on_tid, opening, quantum, queue as queue_at, receiver, rotation, session, share, station as station_in, tid_of, with_exchange, with_fate, with_rotation, with_station, without_exchange};
+ghost use Rattle.wf_world.specs.Exchanges.{with_exchange_opened};
+ghost use Rattle.wf_world.specs.Step.{waiting_ids, with_frame};
+ghost use Rattle.wf_world.specs.World.{accepted_count, exchange as exchange_at, with_frame_finished, with_frames_finished, frame, inside, is_live, is_wide, new_queue, no_tid, on_queue, on_share, on_tid, opening, quantum, queue as queue_at, receiver, rotation, session, share, station as station_in, tid_of, with_exchange, with_fate, with_rotation, with_station, without_exchange};
 
 use crate::frames::Frames;
 use std::alloc::Global;
@@ -148,7 +148,7 @@ impl World {
 
     /// How many frames were accepted.
     pub fn accepted(&self) -> u64
-        ensures { result ≡ accepted self.now }
+        ensures { result ≡ accepted_count self.now }
     {
         self.frames.as_slice().len() as u64
     }
@@ -424,7 +424,7 @@ impl World {
 
     /// The frames whose numbers wait for a transmission.
     pub fn held(&self, station: u64, tid: u64) -> Result<Vec<u64>, Fault>
-        ensures { IfOk result (λ r. r.items ≡ held_slots (session self.now station tid).slots) }
+        ensures { IfOk result (λ r. r.items ≡ waiting_ids (session self.now station tid).slots) }
     {
         match self.tid_at(station, tid) {
             None => Ok(Vec::new(self.alloc)),
@@ -531,7 +531,7 @@ impl World {
 
     /// A frame gets its fate and goes last on the finished list.
     pub fn finish(&mut self, fate: Fate, id: u64) -> Result<(), Fault>
-        ensures { OnOk result (self.new ≡ finish self.old fate id) }
+        ensures { OnOk result (self.new ≡ with_frame_finished self.old fate id) }
     {
         self.set_fate(id, fate)?;
         self.finished.push(id)?;
@@ -539,9 +539,9 @@ impl World {
     }
 
     /// These frames get their fate and go last on the finished list.
-    #[tactic(auto, unfolding(wf_world::specs::World::finish_all))]
+    #[tactic(auto, unfolding(wf_world::specs::World::with_frames_finished))]
     pub fn finish_all(&mut self, fate: Fate, ids: &[u64]) -> Result<(), Fault>
-        ensures { OnOk result (self.new ≡ finish_all self.old fate ids.now) }
+        ensures { OnOk result (self.new ≡ with_frames_finished self.old fate ids.now) }
     {
         match ids.split_first() {
             None => Ok(()),
@@ -580,9 +580,9 @@ impl World {
     }
 
     /// An exchange begins.
-    #[tactic(auto, unfolding(wf_world::specs::Exchanges::opening_exchange))]
+    #[tactic(auto, unfolding(wf_world::specs::Exchanges::with_exchange_opened))]
     pub fn open(&mut self, exchange: Exchange) -> Result<(), Fault>
-        ensures { OnOk result (self.new ≡ opening_exchange self.old exchange) }
+        ensures { OnOk result (self.new ≡ with_exchange_opened self.old exchange) }
     {
         self.exchanges = sum(self.exchanges, 1)?;
         self.opened.push(exchange)?;

@@ -2,7 +2,7 @@
 use Rattle.std.proofs.Common.{◌≡◌, ℕ, zero, suc, ◌+◌, ◌-◌, ◌<◌, ◌≤◌, min, true, false, List, [], ◌∷◌, ◌++◌, length, take, drop, replicate, get_or, set, Option, None, Some, is_some, refl, ap, ap₂, ◌∙◌, sym, subst, arith, append_assoc, length-append, length-drop, add-one}
 use Rattle.std.specs.Option.{option_map}
 use Rattle.std.proofs.lemmas.List.{append-nil, take_more, take-append-drop, drop-append-le, drop-drop, replicate_more, get_or_append_left, get_or-drop, at_drop_more, at_drop_all, take_min, drop_min, length_push, length-set, length-replicate, drop_more, set_split, get_or-append_right}
-use Rattle.wf_reorder.specs.Buffer.{Buffer, IsSettled, HasOneMore, items_of, run_of, first_of, items_below, moved_on, with_item, released}
+use Rattle.wf_reorder.specs.Buffer.{Buffer, IsSettled, HasOneMore, items_of, run_of, first_stored, items_below, with_start_moved, with_item, release_outcome}
 
 -- ---- the items
 
@@ -102,39 +102,39 @@ run_passed (Some x ∷ ys) k = run_passed ys k
 -- ---- the first place that holds an item
 
 abbrev pub first_from : ℕ → List (Option ℕ) → Option ℕ
-first_from i xs = option_map (λ d. i + d) (first_of (drop i xs))
+first_from i xs = option_map (λ d. i + d) (first_stored (drop i xs))
 
 step_on : (i : ℕ) (o : Option ℕ) → option_map (λ d. i + d) (option_map (λ d. d + 1) o) ≡ option_map (λ d. (i + 1) + d) o
 step_on i None = refl
 step_on i (Some d) = ap Some (omega arith)
 
-first_of_empty : (p : Option ℕ) (ps : List (Option ℕ)) → is_some p ≡ false → first_of (p ∷ ps) ≡ option_map (λ d. d + 1) (first_of ps)
+first_of_empty : (p : Option ℕ) (ps : List (Option ℕ)) → is_some p ≡ false → first_stored (p ∷ ps) ≡ option_map (λ d. d + 1) (first_stored ps)
 first_of_empty None ps h = refl
 first_of_empty (Some x) ps h = grind arith
 
-first_of_stored : (p : Option ℕ) (ps : List (Option ℕ)) → is_some p ≡ true → first_of (p ∷ ps) ≡ Some 0
+first_of_stored : (p : Option ℕ) (ps : List (Option ℕ)) → is_some p ≡ true → first_stored (p ∷ ps) ≡ Some 0
 first_of_stored (Some x) ps h = refl
 first_of_stored None ps h = grind arith
 
 pub first_goes_on : (xs : List (Option ℕ)) (i : ℕ) → i < length xs → is_some (get_or xs i None) ≡ false → first_from i xs ≡ first_from (i + 1) xs
 first_goes_on xs i h s =
-    ap (option_map (λ d. i + d)) (at_drop_more first_of xs i None h ∙ first_of_empty (get_or xs i None) (drop (i + 1) xs) s)
-    ∙ step_on i (first_of (drop (i + 1) xs))
+    ap (option_map (λ d. i + d)) (at_drop_more first_stored xs i None h ∙ first_of_empty (get_or xs i None) (drop (i + 1) xs) s)
+    ∙ step_on i (first_stored (drop (i + 1) xs))
 
 pub first_found : (xs : List (Option ℕ)) (i : ℕ) → i < length xs → is_some (get_or xs i None) ≡ true → first_from i xs ≡ Some i
 first_found xs i h s =
     let here : i + 0 ≡ i = omega arith in
-    ap (option_map (λ d. i + d)) (at_drop_more first_of xs i None h ∙ first_of_stored (get_or xs i None) (drop (i + 1) xs) s) ∙ ap Some here
+    ap (option_map (λ d. i + d)) (at_drop_more first_stored xs i None h ∙ first_of_stored (get_or xs i None) (drop (i + 1) xs) s) ∙ ap Some here
 
 pub first_missing : (xs : List (Option ℕ)) (i : ℕ) → length xs ≤ i → first_from i xs ≡ None
-first_missing xs i h = ap (option_map (λ d. i + d)) (at_drop_all first_of xs i h)
+first_missing xs i h = ap (option_map (λ d. i + d)) (at_drop_all first_stored xs i h)
 
 same_from_first : (o : Option ℕ) → option_map (λ d. 0 + d) o ≡ o
 same_from_first None = refl
 same_from_first (Some d) = ap Some (omega arith)
 
-pub first_from_0 : (xs : List (Option ℕ)) → first_from 0 xs ≡ first_of xs
-first_from_0 xs = same_from_first (first_of xs)
+pub first_from_0 : (xs : List (Option ℕ)) → first_from 0 xs ≡ first_stored xs
+first_from_0 xs = same_from_first (first_stored xs)
 
 -- ---- room for the items that go up
 
@@ -171,7 +171,7 @@ room_after_jump n m r d x xs empty some few =
 
 -- ---- whole buffers
 
-pub is_settled : (up : List ℕ) (b : Buffer) → length b.places ≡ b.size → 1 ≤ b.size → b.size ≤ 256 → b.capacity ≤ 256 → IsSettled (released up b).after
+pub is_settled : (up : List ℕ) (b : Buffer) → length b.places ≡ b.size → 1 ≤ b.size → b.size ≤ 256 → b.capacity ≤ 256 → IsSettled (release_outcome up b).after
 is_settled up b e least most few =
     record { places = turned_length (run_of b.places) b.size b.places e; least = least; most = most; capacity = few; start = run_passed b.places (min (run_of b.places) b.size) }
 
@@ -190,13 +190,13 @@ IsWindow b = (length b.places ≡ b.size) × (1 ≤ b.size) × (b.size ≤ 256) 
 pub window_of : (b : Buffer) → IsSettled b → IsWindow b
 window_of b s = (s.places, s.least, s.most, s.capacity)
 
-pub window_moved : (n : ℕ) (b a : Buffer) → IsWindow b → a ≡ moved_on n b → IsWindow a
+pub window_moved : (n : ℕ) (b a : Buffer) → IsWindow b → a ≡ with_start_moved n b → IsWindow a
 window_moved n b a w e = subst IsWindow (sym e) (turned_length n b.size b.places w.0, w.1, w.2, w.3)
 
 pub window_stored : (d x : ℕ) (b a : Buffer) → IsWindow b → a ≡ with_item d x b → IsWindow a
 window_stored d x b a w e = subst IsWindow (sym e) (length-set b.places d (Some x) ∙ w.0, w.1, w.2, w.3)
 
-pub settled_after : (up : List ℕ) (b a : Buffer) → IsWindow b → a ≡ (released up b).after → IsSettled a
+pub settled_after : (up : List ℕ) (b a : Buffer) → IsWindow b → a ≡ (release_outcome up b).after → IsSettled a
 settled_after up b a w e = subst IsSettled (sym e) (is_settled up b w.0 w.1 w.2 w.3)
 
 -- room for what goes up from a window, after a move, after a store, and after both
@@ -205,7 +205,7 @@ first_room n u b w e =
     let few : length b.places ≤ 256 = omega (arith, w.0, w.2) in
     omega (arith, ap length e, room_in_window n b.places few)
 
-pub moved_room : (n : ℕ) (u : List ℕ) (b a : Buffer) → IsWindow b → u ≡ items_below n b → a ≡ moved_on n b →
+pub moved_room : (n : ℕ) (u : List ℕ) (b a : Buffer) → IsWindow b → u ≡ items_below n b → a ≡ with_start_moved n b →
     length u + length (items_below (run_of a.places) a) ≤ 256
 moved_room n u b a w f e =
     let few : length b.places ≤ 256 = omega (arith, w.0, w.2) in
@@ -217,7 +217,7 @@ pub stored_room : (d x : ℕ) (u : List ℕ) (b a : Buffer) → IsWindow b → u
     length u + length (items_below (run_of a.places) a) ≤ 256
 stored_room d x u b a w f e = first_room (run_of a.places) u a (window_stored d x b a w e) f
 
-pub jumped_room : (n d x : ℕ) (u : List ℕ) (b m a : Buffer) → IsSettled b → u ≡ items_below n b → m ≡ moved_on n b → a ≡ with_item d x m →
+pub jumped_room : (n d x : ℕ) (u : List ℕ) (b m a : Buffer) → IsSettled b → u ≡ items_below n b → m ≡ with_start_moved n b → a ≡ with_item d x m →
     length u + length (items_below (run_of a.places) a) ≤ 256
 jumped_room n d x u b m a s f e g =
     let few : length b.places ≤ 256 = omega (arith, s.places, s.most) in
@@ -230,7 +230,7 @@ jumped_room n d x u b m a s f e g =
 -- ---- each item once
 
 -- what a release passes up and what it leaves is what there was
-pub released_all : (up : List ℕ) (b : Buffer) → (released up b).up ++ items_of (released up b).after.places ≡ up ++ items_of b.places
+pub released_all : (up : List ℕ) (b : Buffer) → (release_outcome up b).up ++ items_of (release_outcome up b).after.places ≡ up ++ items_of b.places
 released_all up b =
     let r = run_of b.places in
     ap (λ ys. (up ++ items_of (take r b.places)) ++ ys) (items_turned r (min r b.size) b.places)
@@ -270,13 +270,13 @@ last_is_empty n s xs e moved some =
     ∙ none_there (min n s) (s - 1 - length (drop n xs)))
 
 -- what leaves the window and what stays is what there was
-pub moved_all : (n : ℕ) (b : Buffer) → items_below n b ++ items_of (moved_on n b).places ≡ items_of b.places
+pub moved_all : (n : ℕ) (b : Buffer) → items_below n b ++ items_of (with_start_moved n b).places ≡ items_of b.places
 moved_all n b =
     ap (λ us. items_below n b ++ us) (items_turned n (min n b.size) b.places)
     ∙ sym (items_append (take n b.places) (drop n b.places)) ∙ ap items_of (take-append-drop n b.places)
 
 pub stored_once : (d x : ℕ) (b s : Buffer) (u up : List ℕ) (a : Buffer) → IsWindow b → d < b.size → is_some (get_or b.places d None) ≡ false →
-    u ≡ [] → s ≡ with_item d x b → up ≡ (released u s).up → a ≡ (released u s).after → HasOneMore x (items_of b.places) (up ++ items_of a.places)
+    u ≡ [] → s ≡ with_item d x b → up ≡ (release_outcome u s).up → a ≡ (release_outcome u s).after → HasOneMore x (items_of b.places) (up ++ items_of a.places)
 stored_once d x b s u up a w inside empty none store e f =
     let within : d < length b.places = omega (arith, w.0) in
     let whole : up ++ items_of a.places ≡ items_of (set b.places d (Some x)) =
@@ -284,22 +284,22 @@ stored_once d x b s u up a w inside empty none store e f =
     subst (HasOneMore x (items_of b.places)) (sym whole) (more_once_stored d x b.places within empty)
 
 pub jumped_once : (n d x : ℕ) (b m s : Buffer) (u up : List ℕ) (a : Buffer) → IsWindow b → 1 ≤ n → d ≡ b.size - 1 →
-    u ≡ items_below n b → m ≡ moved_on n b → s ≡ with_item d x m → up ≡ (released u s).up → a ≡ (released u s).after →
+    u ≡ items_below n b → m ≡ with_start_moved n b → s ≡ with_item d x m → up ≡ (release_outcome u s).up → a ≡ (release_outcome u s).after →
     HasOneMore x (items_of b.places) (up ++ items_of a.places)
 jumped_once n d x b m s u up a w some last below move store e f =
     let ys : List (Option ℕ) = drop n b.places ++ replicate (min n b.size) None in
     let zs : List (Option ℕ) = set ys (b.size - 1) (Some x) in
     let us : List ℕ = items_below n b in
     let within : b.size - 1 < length ys = omega (arith, turned_length n b.size b.places w.0, w.1) in
-    let at_last : s ≡ with_item (b.size - 1) x (moved_on n b) = store ∙ ap₂ (λ (k : ℕ) (t : Buffer). with_item k x t) last move in
+    let at_last : s ≡ with_item (b.size - 1) x (with_start_moved n b) = store ∙ ap₂ (λ (k : ℕ) (t : Buffer). with_item k x t) last move in
     let whole : up ++ items_of a.places ≡ us ++ items_of zs =
     ap₂ (λ (vs : List ℕ) (t : Buffer). vs ++ items_of t.places) e f ∙ released_all u s ∙ ap₂ (λ (vs : List ℕ) (t : Buffer). vs ++ items_of t.places) below at_last in
     subst (HasOneMore x (items_of b.places)) (sym whole)
     (subst (λ vs. HasOneMore x vs (us ++ items_of zs)) (moved_all n b)
     (more_behind x us (items_of ys) (items_of zs) (more_once_stored (b.size - 1) x ys within (last_is_empty n b.size b.places w.0 some w.1))))
 
-pub requested_once : (n : ℕ) (b m : Buffer) (u up : List ℕ) (a : Buffer) → u ≡ items_below n b → m ≡ moved_on n b →
-    up ≡ (released u m).up → a ≡ (released u m).after → up ++ items_of a.places ≡ items_of b.places
+pub requested_once : (n : ℕ) (b m : Buffer) (u up : List ℕ) (a : Buffer) → u ≡ items_below n b → m ≡ with_start_moved n b →
+    up ≡ (release_outcome u m).up → a ≡ (release_outcome u m).after → up ++ items_of a.places ≡ items_of b.places
 requested_once n b m u up a below move e f =
     ap₂ (λ (us : List ℕ) (t : Buffer). us ++ items_of t.places) e f ∙ released_all u m
     ∙ ap₂ (λ (us : List ℕ) (t : Buffer). us ++ items_of t.places) below move ∙ moved_all n b

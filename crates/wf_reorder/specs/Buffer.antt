@@ -13,7 +13,7 @@ pub record Buffer : Type 0 where
   pub places : List (Option ℕ)
 
 -- what a call leads to: the items that are passed up, in order, the item that is given back, and the buffer
-pub record Outcome : Type 0 where
+pub record BufferOutcome : Type 0 where
   pub up : List ℕ
   pub back : Option ℕ
   pub after : Buffer
@@ -31,17 +31,17 @@ run_of (None ∷ places) = 0
 run_of (Some item ∷ places) = suc (run_of places)
 
 -- the first place that holds an item
-abbrev pub first_of : List (Option ℕ) → Option ℕ
-first_of [] = None
-first_of (None ∷ places) = option_map (λ d. d + 1) (first_of places)
-first_of (Some item ∷ places) = Some 0
+abbrev pub first_stored : List (Option ℕ) → Option ℕ
+first_stored [] = None
+first_stored (None ∷ places) = option_map (λ d. d + 1) (first_stored places)
+first_stored (Some item ∷ places) = Some 0
 
 abbrev pub empty_buffer : ℕ → ℕ → ℕ → Buffer
 empty_buffer capacity start size = record { capacity = capacity; start = start; size = size; places = replicate size None }
 
 -- the stored number least ahead of the start
 abbrev pub first_stored_of : Buffer → Option ℕ
-first_stored_of b = option_map (λ d. (b.start + d) % 4096) (first_of b.places)
+first_stored_of b = option_map (λ d. (b.start + d) % 4096) (first_stored b.places)
 
 -- the item of the number that stands d past the start
 abbrev pub with_item : ℕ → ℕ → Buffer → Buffer
@@ -52,43 +52,43 @@ abbrev pub items_below : ℕ → Buffer → List ℕ
 items_below n b = items_of (take n b.places)
 
 -- the start moves n numbers on
-abbrev pub moved_on : ℕ → Buffer → Buffer
-moved_on n b = record b { start = (b.start + n) % 4096; places = drop n b.places ++ replicate (min n b.size) None }
+abbrev pub with_start_moved : ℕ → Buffer → Buffer
+with_start_moved n b = record b { start = (b.start + n) % 4096; places = drop n b.places ++ replicate (min n b.size) None }
 
 -- after the items `up`, those from the start on without a hole are passed up, and the start moves past them
-abbrev pub released : List ℕ → Buffer → Outcome
-released up b = record { up = up ++ items_below (run_of b.places) b; back = None; after = moved_on (run_of b.places) b }
+abbrev pub release_outcome : List ℕ → Buffer → BufferOutcome
+release_outcome up b = record { up = up ++ items_below (run_of b.places) b; back = None; after = with_start_moved (run_of b.places) b }
 
-abbrev pub given_back : ℕ → Buffer → Outcome
-given_back item b = record { up = []; back = Some item; after = b }
+abbrev pub give_back_outcome : ℕ → Buffer → BufferOutcome
+give_back_outcome item b = record { up = []; back = Some item; after = b }
 
 -- in the window: the item is stored, unless one is stored already
-abbrev pub stored : ℕ → ℕ → Buffer → Outcome
-stored d item b =
-    if is_some (slice_index_or b.places d None) then given_back item b
-    else released [] (with_item d item b)
+abbrev pub store_outcome : ℕ → ℕ → Buffer → BufferOutcome
+store_outcome d item b =
+    if is_some (slice_index_or b.places d None) then give_back_outcome item b
+    else release_outcome [] (with_item d item b)
 
 -- n numbers past the window: the window moves so that the number is its last, and what is stored below it is passed up
-abbrev pub jumped : ℕ → ℕ → Buffer → Outcome
-jumped n item b = released (items_below n b) (with_item (b.size - 1) item (moved_on n b))
+abbrev pub jump_outcome : ℕ → ℕ → Buffer → BufferOutcome
+jump_outcome n item b = release_outcome (items_below n b) (with_item (b.size - 1) item (with_start_moved n b))
 
 -- a number arrives that stands d past the start: it is in the window, or past it, or it stands behind
-abbrev pub after_arrival : ℕ → ℕ → Buffer → Outcome
-after_arrival d item b =
-    if nat_lt d b.size then stored d item b
-    else (if nat_le d 2047 then jumped (d + 1 - b.size) item b else given_back item b)
+abbrev pub number_outcome_at : ℕ → ℕ → Buffer → BufferOutcome
+number_outcome_at d item b =
+    if nat_lt d b.size then store_outcome d item b
+    else (if nat_le d 2047 then jump_outcome (d + 1 - b.size) item b else give_back_outcome item b)
 
-abbrev pub arrived : ℕ → ℕ → Buffer → Outcome
-arrived n item b = after_arrival (distance n b.start) item b
+abbrev pub number_outcome : ℕ → ℕ → Buffer → BufferOutcome
+number_outcome n item b = number_outcome_at (distance n b.start) item b
 
 -- a BlockAckReq arrives whose start stands d past the start: the window moves to it and what is stored below it is passed up, or nothing changes
-abbrev pub after_request : ℕ → Buffer → Outcome
-after_request d b =
-    if nat_le 1 d && nat_le d 2047 then released (items_below d b) (moved_on d b)
+abbrev pub request_outcome_at : ℕ → Buffer → BufferOutcome
+request_outcome_at d b =
+    if nat_le 1 d && nat_le d 2047 then release_outcome (items_below d b) (with_start_moved d b)
     else record { up = []; back = None; after = b }
 
-abbrev pub requested : ℕ → Buffer → Outcome
-requested start b = after_request (distance start b.start) b
+abbrev pub request_outcome : ℕ → Buffer → BufferOutcome
+request_outcome start b = request_outcome_at (distance start b.start) b
 
 -- what holds of a buffer between calls: nothing is stored at its start
 pub record IsSettled (b : Buffer) : Type 0 where

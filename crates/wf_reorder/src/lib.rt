@@ -4,7 +4,7 @@
 #![tactic(auto)]
 
 ghost use Rattle.std.specs.Prelude.{◌≡◌, ◌+◌, ◌≤◌, ◌<◌, ◌++◌, ◌∷◌, [], length, take, drop, replicate, IfOk, MatchOption, None, slice_index_or, is_some};
-ghost use Rattle.wf_reorder.specs.Buffer.{items_of, run_of, empty_buffer, first_of, first_stored_of, with_item, items_below, moved_on, released, stored, jumped, given_back, arrived, requested, HasOneMore};
+ghost use Rattle.wf_reorder.specs.Buffer.{items_of, run_of, empty_buffer, first_stored, first_stored_of, with_item, items_below, with_start_moved, release_outcome, store_outcome, jump_outcome, give_back_outcome, number_outcome, request_outcome, HasOneMore};
 
 use std::alloc::{AllocError, Global};
 use std::collections::VecDeque;
@@ -117,7 +117,7 @@ impl Slots {
     #[tactic(auto, using(crate::proofs::Places::take_least, crate::proofs::Places::drop_least))]
     fn move_on(&mut self, numbers: u16, up: &mut Ids)
         requires { length up.old + length (items_below numbers self.old) ≤ 256 }
-        ensures slots { self.new ≡ moved_on numbers self.old }
+        ensures slots { self.new ≡ with_start_moved numbers self.old }
         ensures up { up.new ≡ up.old ++ items_below numbers self.old }
     {
         self.turn_all(numbers.min(self.size), up);
@@ -141,7 +141,7 @@ impl Slots {
     /// How far past the start the first stored number stands.
     #[tactic(auto, using(crate::proofs::Places::first_goes_on, crate::proofs::Places::first_found, crate::proofs::Places::first_missing, crate::proofs::Places::first_from_0))]
     fn first(&self) -> Option<u16>
-        ensures { result ≡ first_of self.now.places }
+        ensures { result ≡ first_stored self.now.places }
     {
         for place in 0..self.size() {
             if self.holds(place) {
@@ -154,8 +154,8 @@ impl Slots {
     /// The items from the start on without a hole are passed up, and the start moves past them.
     fn release(&mut self, up: &mut Ids)
         requires { length up.old + length (items_below (run_of self.old.places) self.old) ≤ 256 }
-        ensures slots { self.new ≡ (released up.old self.old).after }
-        ensures up { up.new ≡ (released up.old self.old).up }
+        ensures slots { self.new ≡ (release_outcome up.old self.old).after }
+        ensures up { up.new ≡ (release_outcome up.old self.old).up }
     {
         let run = self.run();
         self.move_on(run, up);
@@ -204,9 +204,9 @@ impl Reorder {
     /// window.
     pub fn arrive(&mut self, seq: Seq12, item: u64, up: &mut Ids) -> Option<u64>
         requires { up.old ≡ [] }
-        ensures up { up.new ≡ (arrived seq item self.old).up }
-        ensures back { result ≡ (arrived seq item self.old).back }
-        ensures after { self.new ≡ (arrived seq item self.old).after }
+        ensures up { up.new ≡ (number_outcome seq item self.old).up }
+        ensures back { result ≡ (number_outcome seq item self.old).back }
+        ensures after { self.new ≡ (number_outcome seq item self.old).after }
 
         // each item once: where the new one is not given back, what is passed up and what is stored are what was stored and it
         ensures each_once { MatchOption result (HasOneMore item (items_of self.old.places) (up.new ++ items_of self.new.places))
@@ -228,8 +228,8 @@ impl Reorder {
     /// must be empty.
     pub fn bar(&mut self, start: Seq12, up: &mut Ids)
         requires { up.old ≡ [] }
-        ensures up { up.new ≡ (requested start self.old).up }
-        ensures after { self.new ≡ (requested start self.old).after }
+        ensures up { up.new ≡ (request_outcome start self.old).up }
+        ensures after { self.new ≡ (request_outcome start self.old).after }
 
         // each item once
         ensures each_once { up.new ++ items_of self.new.places ≡ items_of self.old.places }
@@ -260,9 +260,9 @@ impl Reorder {
     fn store(&mut self, place: u16, item: u64, up: &mut Ids) -> Option<u64>
         requires place { place < self.old.size }
         requires empty { up.old ≡ [] }
-        ensures up { up.new ≡ (stored place item self.old).up }
-        ensures back { result ≡ (stored place item self.old).back }
-        ensures after { self.new ≡ (stored place item self.old).after }
+        ensures up { up.new ≡ (store_outcome place item self.old).up }
+        ensures back { result ≡ (store_outcome place item self.old).back }
+        ensures after { self.new ≡ (store_outcome place item self.old).after }
         ensures each_once { MatchOption result (HasOneMore item (items_of self.old.places) (up.new ++ items_of self.new.places))
             (λ back. (back ≡ item) × (up.new ≡ []) × (self.new ≡ self.old)) }
     {
@@ -278,8 +278,8 @@ impl Reorder {
     fn jump(&mut self, past: u16, item: u64, up: &mut Ids)
         requires past { 1 ≤ past }
         requires empty { up.old ≡ [] }
-        ensures up { up.new ≡ (jumped past item self.old).up }
-        ensures after { self.new ≡ (jumped past item self.old).after }
+        ensures up { up.new ≡ (jump_outcome past item self.old).up }
+        ensures after { self.new ≡ (jump_outcome past item self.old).after }
         ensures each_once { HasOneMore item (items_of self.old.places) (up.new ++ items_of self.new.places) }
     {
         self.slots.move_on(past, up);

@@ -10,9 +10,9 @@ use Rattle.wf_trace.specs.declared.fault.End.{End}
 use Rattle.wf_trace.specs.declared.fault.Fault.{Fault}
 use Rattle.wf_trace.specs.declared.reader.Item.{Item}
 use Rattle.wf_trace.specs.declared.reader.Item.TheVariants.{Head, Entry, Finish, Bad}
-use Rattle.wf_trace.specs.Lines.{most}
+use Rattle.wf_trace.specs.Lines.{longest_trace}
 use Rattle.wf_trace.specs.Cutting.{Cutting, Fits, room, room_of}
-use Rattle.wf_trace.specs.Reading.{Reading, reading, with_item, ends}
+use Rattle.wf_trace.specs.Reading.{Reading, reading, with_item, reading_that_ends}
 use Rattle.wf_trace.specs.Reader.{Reader, Reads, Gives, IsHeld, rest}
 use Rattle.wf_status.specs.declared.status.Status.{Status}
 use Rattle.wf_status.specs.declared.status.Status.TheVariants.{Done, Usage, BadTrace, ReadFault, WriteFault, NoMemory}
@@ -20,9 +20,9 @@ use Rattle.wf_world.specs.World.{World, opening}
 use Rattle.wf_trace.specs.Faults.{fault_line}
 use Rattle.wf_replay.specs.Texts.{history_among, text}
 use Rattle.wf_report.specs.Fronts.{HoldsFront}
-use Rattle.wf_replay.specs.Running.{Progress, behind_item, answer, closing}
+use Rattle.wf_replay.specs.Running.{Progress, behind_item, text_of_item, closing}
 use Rattle.wf_status.specs.Fronts.{IsFrontOf}
-use Rattle.wf_replay.specs.Outcome.{Outcome, ReachesEnd}
+use Rattle.wf_replay.specs.Outcome.{StatusSays, ReachesEnd}
 use Rattle.wf_replay.proofs.Shapes.{answers_from, behind_items, told_text, answers_told, text_told}
 
 -- items in front
@@ -35,7 +35,7 @@ text_from m r = answers_from m.world r.items ++ closing (behind_items m.world r.
 
 answers_from-append : (w : Option World) (xs ys : List Item) → answers_from w (xs ++ ys) ≡ answers_from w xs ++ answers_from (behind_items w xs) ys
 answers_from-append w [] ys = refl
-answers_from-append w (x ∷ xs) ys = ap (λ l. answer w x ++ l) (answers_from-append (behind_item w x) xs ys) ∙ sym (append_assoc (answer w x) (answers_from (behind_item w x) xs) (answers_from (behind_items (behind_item w x) xs) ys))
+answers_from-append w (x ∷ xs) ys = ap (λ l. text_of_item w x ++ l) (answers_from-append (behind_item w x) xs ys) ∙ sym (append_assoc (text_of_item w x) (answers_from (behind_item w x) xs) (answers_from (behind_items (behind_item w x) xs) ys))
 
 behind_items-append : (w : Option World) (xs ys : List Item) → behind_items w (xs ++ ys) ≡ behind_items (behind_items w xs) ys
 behind_items-append w [] ys = refl
@@ -168,7 +168,7 @@ with_head new m left left_new held held_now config t none = record {
 }
 
 pub with_entry : (new : Reader) (m : Progress) (left left_new held held_now held_new : Option (List ℕ)) (caller : ℕ) (note : Note) (line : List ℕ) →
-    Turned (Ok (Entry caller note)) new m left left_new held held_now → line ≡ answer m.world (Entry caller note) → held_new ≡ append_known held_now line →
+    Turned (Ok (Entry caller note)) new m left left_new held held_now → line ≡ text_of_item m.world (Entry caller note) → held_new ≡ append_known held_now line →
     Replaying new (gone_on m caller note) left left_new held held_new
 with_entry new m left left_new held held_now held_new caller note line t is wrote = record {
   items = t.items ++ Entry caller note ∷ [];
@@ -176,7 +176,7 @@ with_entry new m left left_new held held_now held_new caller note line t is wrot
   took = t.took;
   same = λ closed more fits. let g = t.gives closed more fits in g.1 ∙ ap (with_items t.items) g.2 ∙ with_items-more t.items (Entry caller note) (rest new closed more);
   wrote = wrote ∙ ap (λ h. append_known h line) t.wrote ∙ append_known-append held (answers_from None t.items) line
-      ∙ ap (append_known held) (sym (answers_from-append None t.items (Entry caller note ∷ []) ∙ ap (λ l. answers_from None t.items ++ l) (append-nil (answer (behind_items None t.items) (Entry caller note)) ∙ ap (λ w. answer w (Entry caller note)) t.leads.world_is ∙ sym is)));
+      ∙ ap (append_known held) (sym (answers_from-append None t.items (Entry caller note ∷ []) ∙ ap (λ l. answers_from None t.items ++ l) (append-nil (text_of_item (behind_items None t.items) (Entry caller note)) ∙ ap (λ w. text_of_item w (Entry caller note)) t.leads.world_is ∙ sym is)));
   leads = leads_entry t.items m caller note t.leads;
 }
 
@@ -192,7 +192,7 @@ Says Usage input taken written = ⊥
 front_of_text : (input written : List ℕ) → IsFrontOf written (told_text (reading true input)) → IsFrontOf written (text (reading true input))
 front_of_text input written front = (front.0, sym (text_told true input) ∙ front.1)
 
-pub outcome : (status : Status) (input taken written : List ℕ) → Says status input taken written → Outcome status input taken written
+pub outcome : (status : Status) (input taken written : List ℕ) → Says status input taken written → StatusSays status input taken written
 outcome Done input taken written told = (told.0, told.1, told.2 ∙ text_told true input)
 outcome BadTrace input taken written told = (told.0, told.1, told.2 ∙ text_told true input)
 outcome ReadFault input taken written told = (told.0, told.1 ∙ answers_told false taken, front_of_text input written told.2)
@@ -255,7 +255,7 @@ ended_read new m left left_new held held_now failed t still = (
 -- the line that an item adds, and what follows it
 abbrev pub line_at : Progress → Item → List ℕ
 line_at m (Head config) = []
-line_at m (Entry caller note) = answer m.world (Entry caller note)
+line_at m (Entry caller note) = text_of_item m.world (Entry caller note)
 line_at m Finish = closing m.world m.calls (Some Finish)
 line_at m (Bad fault) = fault_line fault
 
@@ -263,19 +263,19 @@ fault_closes : (w : Option World) (calls : ℕ) (fault : Fault) → closing w ca
 fault_closes None calls fault = refl
 fault_closes (Some w) calls fault = refl
 
-text_ends : (m : Progress) (item : Item) → text_from m (ends item) ≡ closing m.world m.calls (Some item)
+text_ends : (m : Progress) (item : Item) → text_from m (reading_that_ends item) ≡ closing m.world m.calls (Some item)
 text_ends m item = let same : m.calls + 0 ≡ m.calls = omega arith in ap (λ n. closing m.world n (Some item)) same
 
-line_first : (m : Progress) (item : Item) (new : Reader) (r s : Reading) → (new.ended ≡ Some item → s ≡ ends item) → Gives (Ok item) new r s → (more : List ℕ) × (text_from m r ≡ line_at m item ++ more)
+line_first : (m : Progress) (item : Item) (new : Reader) (r s : Reading) → (new.ended ≡ Some item → s ≡ reading_that_ends item) → Gives (Ok item) new r s → (more : List ℕ) × (text_from m r ≡ line_at m item ++ more)
 line_first m (Head config) new r s is gives = (text_from m r, refl)
 line_first m (Entry caller note) new r s is gives = (
   answers_from (behind_item m.world (Entry caller note)) s.items ++ closing (behind_items (behind_item m.world (Entry caller note)) s.items) (m.calls + length (history_among (Entry caller note ∷ s.items))) s.ending,
-  ap (text_from m) gives ∙ append_assoc (answer m.world (Entry caller note)) (answers_from (behind_item m.world (Entry caller note)) s.items) (closing (behind_items (behind_item m.world (Entry caller note)) s.items) (m.calls + length (history_among (Entry caller note ∷ s.items))) s.ending),
+  ap (text_from m) gives ∙ append_assoc (text_of_item m.world (Entry caller note)) (answers_from (behind_item m.world (Entry caller note)) s.items) (closing (behind_items (behind_item m.world (Entry caller note)) s.items) (m.calls + length (history_among (Entry caller note ∷ s.items))) s.ending),
 )
 line_first m Finish new r s is gives = ([], ap (text_from m) (gives.1 ∙ is gives.0) ∙ text_ends m Finish ∙ sym (append-nil (closing m.world m.calls (Some Finish))))
 line_first m (Bad fault) new r s is gives = ([], ap (text_from m) (gives.1 ∙ is gives.0) ∙ text_ends m (Bad fault) ∙ fault_closes m.world m.calls fault ∙ sym (append-nil (fault_line fault)))
 
-rest_ended : (new : Reader) (item : Item) (closed : Bool) (more : List ℕ) → new.ended ≡ Some item → rest new closed more ≡ ends item
+rest_ended : (new : Reader) (item : Item) (closed : Bool) (more : List ℕ) → new.ended ≡ Some item → rest new closed more ≡ reading_that_ends item
 rest_ended new item closed more is = rw is refl
 
 -- some of a line was written
@@ -326,7 +326,7 @@ ended_done new m left left_new held held_now held_new line t is wrote over = (
   t.took,
   wrote ∙ ap (λ h. append_known h line) t.wrote ∙ append_known-append held (answers_from None t.items) line,
   λ input told_is. let w = whole (Ok Finish) new m left left_new held held_now t input told_is in
-      let r_is : w.0 ≡ ends Finish = w.4.1 ∙ rest_ended new Finish true w.1 w.4.0 in (
+      let r_is : w.0 ≡ reading_that_ends Finish = w.4.1 ∙ rest_ended new Finish true w.1 w.4.0 in (
         ap (λ (r : Reading). r.ending) (w.3 ∙ ap (with_items t.items) r_is),
         reaches new.cut.cutter.ended refl input told_is,
         sym (ap told_text w.3 ∙ text-with t.items m w.0 t.leads ∙ ap (λ l. answers_from None t.items ++ l) (ap (text_from m) r_is ∙ text_ends m Finish ∙ sym is)),
@@ -351,7 +351,7 @@ ended_bad new m left left_new held held_now held_new fault line t is wrote = (
   t.took,
   wrote ∙ ap (λ h. append_known h line) t.wrote ∙ append_known-append held (answers_from None t.items) line,
   λ input told_is. let w = whole (Ok (Bad fault)) new m left left_new held held_now t input told_is in
-      let r_is : w.0 ≡ ends (Bad fault) = w.4.1 ∙ rest_ended new (Bad fault) true w.1 w.4.0 in (
+      let r_is : w.0 ≡ reading_that_ends (Bad fault) = w.4.1 ∙ rest_ended new (Bad fault) true w.1 w.4.0 in (
         fault,
         ap (λ (r : Reading). r.ending) (w.3 ∙ ap (with_items t.items) r_is),
         sym (ap told_text w.3 ∙ text-with t.items m w.0 t.leads ∙ ap (λ l. answers_from None t.items ++ l) (ap (text_from m) r_is ∙ text_ends m (Bad fault) ∙ fault_closes m.world m.calls fault ∙ sym is)),
@@ -360,13 +360,13 @@ ended_bad new m left left_new held held_now held_new fault line t is wrote = (
 
 -- a status said item by item says what its contract states
 pub said : (status : Status) (left left_new held held_new : Option (List ℕ)) → Ended status left left_new held held_new →
-    (taken written : List ℕ) × (left ≡ prepend_known taken left_new) × (held_new ≡ append_known held written) × ((input : List ℕ) → left ≡ Some input → Outcome status input taken written)
+    (taken written : List ℕ) × (left ≡ prepend_known taken left_new) × (held_new ≡ append_known held written) × ((input : List ℕ) → left ≡ Some input → StatusSays status input taken written)
 said status left left_new held held_new ended = (ended.0, ended.1, ended.2, ended.3, λ input is. outcome status input ended.0 ended.1 (ended.4 input is))
 
 -- a fresh reader has room for any trace
-room_at_most : (looked : ℕ) (end : Option End) → room_of looked end ≤ most + 1
+room_at_most : (looked : ℕ) (end : Option End) → room_of looked end ≤ longest_trace + 1
 room_at_most looked None = omega arith
 room_at_most looked (Some end) = omega arith
 
-pub room_most : (c : Cutting) → room c ≤ most + 1
+pub room_most : (c : Cutting) → room c ≤ longest_trace + 1
 room_most c = room_at_most c.scanner.looked c.ended

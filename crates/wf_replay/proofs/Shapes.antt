@@ -22,7 +22,7 @@ use Rattle.wf_world.specs.Step.{Outcome, step}
 use Rattle.wf_world.specs.Run.{replies, world_after}
 use Rattle.wf_world.specs.Text.{answer_line}
 use Rattle.wf_replay.specs.Texts.{settings_among, history_among, answers_of, text_by, answers, text}
-use Rattle.wf_replay.specs.Running.{behind_item, answer, closing}
+use Rattle.wf_replay.specs.Running.{behind_item, text_of_item, closing}
 
 -- calls alone, and a head with calls behind it
 abbrev pub Calls : List Item → Type 0
@@ -75,7 +75,7 @@ reading_shaped closed octets =
 -- item by item
 abbrev pub answers_from : Option World → List Item → List ℕ
 answers_from w [] = []
-answers_from w (item ∷ items) = answer w item ++ answers_from (behind_item w item) items
+answers_from w (item ∷ items) = text_of_item w item ++ answers_from (behind_item w item) items
 
 abbrev pub behind_items : Option World → List Item → Option World
 behind_items w [] = w

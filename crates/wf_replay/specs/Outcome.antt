@@ -23,32 +23,32 @@ abbrev pub ReachesEnd : List ℕ → List ℕ → Type 0
 ReachesEnd input taken = ((reading false taken).ending ≡ Some Finish) ⊎ (taken ≡ input)
 
 -- by the octets of the input, those of them that were taken, and those that were written
-abbrev pub Outcome : Status → List ℕ → List ℕ → List ℕ → Type 0
+abbrev pub StatusSays : Status → List ℕ → List ℕ → List ℕ → Type 0
 -- the trace ends, what was taken reaches to the end of its last line, and its text was written
-Outcome Done input taken written = ((reading true input).ending ≡ Some Finish) × ReachesEnd input taken × (written ≡ text (reading true input))
+StatusSays Done input taken written = ((reading true input).ending ≡ Some Finish) × ReachesEnd input taken × (written ≡ text (reading true input))
 -- the trace has a fault, and its text was written
-Outcome BadTrace input taken written = (fault : Fault) × ((reading true input).ending ≡ Some (Bad fault)) × (written ≡ text (reading true input))
+StatusSays BadTrace input taken written = (fault : Fault) × ((reading true input).ending ≡ Some (Bad fault)) × (written ≡ text (reading true input))
 -- the answers to the calls whose lines, each with its octet 10, lie within the octets taken; the ending's line does not
-Outcome ReadFault input taken written = ((reading false taken).ending ≡ None) × (written ≡ answers (reading false taken)) × IsFrontOf written (text (reading true input))
+StatusSays ReadFault input taken written = ((reading false taken).ending ≡ None) × (written ≡ answers (reading false taken)) × IsFrontOf written (text (reading true input))
 -- some of the text was written
-Outcome WriteFault input taken written = IsFrontOf written (text (reading true input))
-Outcome NoMemory input taken written = IsFrontOf written (text (reading true input))
+StatusSays WriteFault input taken written = IsFrontOf written (text (reading true input))
+StatusSays NoMemory input taken written = IsFrontOf written (text (reading true input))
 -- nothing was taken and nothing written
-Outcome Usage input taken written = (taken ≡ []) × (written ≡ [])
+StatusSays Usage input taken written = (taken ≡ []) × (written ≡ [])
 
 -- by the seed and the number of calls of a soak, and the octets that were written: its summary, or some of it
-abbrev pub SoakOutcome : Status → ℕ → ℕ → List ℕ → Type 0
-SoakOutcome Done seed calls written = (written ≡ soak_text seed calls) × (length (soak_history seed calls) ≡ calls)
-SoakOutcome WriteFault seed calls written = IsFrontOf written (soak_text seed calls)
-SoakOutcome NoMemory seed calls written = IsFrontOf written (soak_text seed calls)
-SoakOutcome BadTrace seed calls written = ⊥
-SoakOutcome ReadFault seed calls written = ⊥
-SoakOutcome Usage seed calls written = ⊥
+abbrev pub SoakStatusSays : Status → ℕ → ℕ → List ℕ → Type 0
+SoakStatusSays Done seed calls written = (written ≡ soak_text seed calls) × (length (soak_history seed calls) ≡ calls)
+SoakStatusSays WriteFault seed calls written = IsFrontOf written (soak_text seed calls)
+SoakStatusSays NoMemory seed calls written = IsFrontOf written (soak_text seed calls)
+SoakStatusSays BadTrace seed calls written = ⊥
+SoakStatusSays ReadFault seed calls written = ⊥
+SoakStatusSays Usage seed calls written = ⊥
 
 -- how a run without faults of its source and sink ends
-abbrev pub Answered : Option Item → Status → Type 0
-Answered (Some Finish) status = (status ≡ Done) ⊎ (status ≡ NoMemory)
-Answered (Some (Bad fault)) status = (status ≡ BadTrace) ⊎ (status ≡ NoMemory)
-Answered (Some (Head config)) status = Unit {0}
-Answered (Some (Entry caller note)) status = Unit {0}
-Answered None status = Unit {0}
+abbrev pub FitsEnding : Option Item → Status → Type 0
+FitsEnding (Some Finish) status = (status ≡ Done) ⊎ (status ≡ NoMemory)
+FitsEnding (Some (Bad fault)) status = (status ≡ BadTrace) ⊎ (status ≡ NoMemory)
+FitsEnding (Some (Head config)) status = Unit {0}
+FitsEnding (Some (Entry caller note)) status = Unit {0}
+FitsEnding None status = Unit {0}

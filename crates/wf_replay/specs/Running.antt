@@ -14,12 +14,12 @@ behind_item None (Entry caller note) = None
 behind_item w Finish = w
 behind_item w (Bad fault) = w
 
-abbrev pub answer : Option World → Item → List ℕ
-answer (Some w) (Entry caller note) = let o : Outcome = step w note in answer_line o.reply
-answer None (Entry caller note) = []
-answer w (Head config) = []
-answer w Finish = []
-answer w (Bad fault) = []
+abbrev pub text_of_item : Option World → Item → List ℕ
+text_of_item (Some w) (Entry caller note) = let o : Outcome = step w note in answer_line o.reply
+text_of_item None (Entry caller note) = []
+text_of_item w (Head config) = []
+text_of_item w Finish = []
+text_of_item w (Bad fault) = []
 
 -- the last lines, after so many calls
 abbrev pub closing : Option World → ℕ → Option Item → List ℕ

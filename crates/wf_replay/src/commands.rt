@@ -4,7 +4,7 @@ ghost use Rattle.std.specs.Prelude.{◌≡◌, ◌≢◌, ◌↔◌, ℕ, List, 
 ghost use Rattle.std.specs.Io.KnownBytes.{prepend_known, append_known};
 ghost use Rattle.wf_io.specs.Faults.{HasRisen};
 ghost use Rattle.wf_trace.specs.Reading.{reading};
-ghost use Rattle.wf_replay.specs.Outcome.{Outcome, SoakOutcome, Answered};
+ghost use Rattle.wf_replay.specs.Outcome.{StatusSays, SoakStatusSays, FitsEnding};
 ghost use Rattle.wf_frame.specs.Settings.{standard};
 ghost use Rattle.wf_laws.specs.Laws.{Laws};
 ghost use Rattle.wf_live.specs.Soak.{soak_history};
@@ -31,20 +31,20 @@ use wf_turnstile::Turnstile;
 pub fn replay<S: Source, K: Sink>(alloc: Global, source: &mut S, sink: &mut K) -> Status
     ensures text { (taken written : List ℕ) × (S.left source.old ≡ prepend_known taken (S.left source.new))
         × (K.held sink.new ≡ append_known (K.held sink.old) written)
-        × ((input : List ℕ) → S.left source.old ≡ Some input → Outcome result input taken written) }
+        × ((input : List ℕ) → S.left source.old ≡ Some input → StatusSays result input taken written) }
     ensures read { result ≡ Status.ReadFault → HasRisen (S.faults source.old) (S.faults source.new) }
     ensures write { result ≡ Status.WriteFault → HasRisen (K.faults sink.old) (K.faults sink.new) }
     ensures command { result ≢ Status.Usage }
     ensures laws { (input : List ℕ) → S.left source.old ≡ Some input → HasLaws (reading true input) }
     ensures complete { (HasRisen (S.faults source.old) (S.faults source.new) → ⊥) → (HasRisen (K.faults sink.old) (K.faults sink.new) → ⊥) →
-        (input : List ℕ) → S.left source.old ≡ Some input → Answered (reading true input).ending result }
+        (input : List ℕ) → S.left source.old ≡ Some input → FitsEnding (reading true input).ending result }
 {
     replay_on::<Plain, S, K>(alloc, source, sink)
 }
 
 /// Writes the summary of the soak of a seed and a number of calls, 1 to 1,000,000.
 pub fn soaked<K: Sink>(alloc: Global, seed: u64, calls: u32, sink: &mut K) -> Status
-    ensures text { (written : List ℕ) × (K.held sink.new ≡ append_known (K.held sink.old) written) × SoakOutcome result seed calls written }
+    ensures text { (written : List ℕ) × (K.held sink.new ≡ append_known (K.held sink.old) written) × SoakStatusSays result seed calls written }
     ensures write { result ≡ Status.WriteFault → HasRisen (K.faults sink.old) (K.faults sink.new) }
 {
     let Ok(machine) = soak(alloc, seed, calls) else {
@@ -73,16 +73,16 @@ pub fn run<R: Threads + Wait + Sync, S: Source, K: Sink, T: Turnstile + Sync>(
     ensures text { command_of (map string_bytes words.now) ≡ Some Command.Replay →
         (taken written : List ℕ) × (S.left source.old ≡ prepend_known taken (S.left source.new))
         × (K.held sink.new ≡ append_known (K.held sink.old) written)
-        × ((input : List ℕ) → S.left source.old ≡ Some input → Outcome result input taken written) }
+        × ((input : List ℕ) → S.left source.old ≡ Some input → StatusSays result input taken written) }
     ensures complete { command_of (map string_bytes words.now) ≡ Some Command.Replay →
         (HasRisen (S.faults source.old) (S.faults source.new) → ⊥) → (HasRisen (K.faults sink.old) (K.faults sink.new) → ⊥) →
-        (input : List ℕ) → S.left source.old ≡ Some input → Answered (reading true input).ending result }
+        (input : List ℕ) → S.left source.old ≡ Some input → FitsEnding (reading true input).ending result }
     ensures laws { (input : List ℕ) → S.left source.old ≡ Some input → HasLaws (reading true input) }
 
     // on `soak SEED CALLS`
     ensures soak { (seed calls : ℕ) → command_of (map string_bytes words.now) ≡ Some (Command.Soak seed calls) →
         (S.left source.new ≡ S.left source.old)
-        × ((written : List ℕ) × (K.held sink.new ≡ append_known (K.held sink.old) written) × SoakOutcome result seed calls written) }
+        × ((written : List ℕ) × (K.held sink.new ≡ append_known (K.held sink.old) written) × SoakStatusSays result seed calls written) }
     ensures soak_laws { (seed calls : ℕ) → Laws standard (soak_history seed calls) }
 
     // on `session`

@@ -5,8 +5,8 @@ ghost use Rattle.std.specs.Io.KnownBytes.{prepend_known, append_known};
 ghost use Rattle.wf_io.specs.Faults.{HasRisen};
 ghost use Rattle.wf_trace.specs.declared.reader.Item.TheVariants as item;
 ghost use Rattle.wf_report.specs.Fronts.{HoldsFront};
-ghost use Rattle.wf_replay.specs.Running.{answer as answer_to, behind_item, closing};
-ghost use Rattle.wf_replay.specs.Outcome.{Outcome};
+ghost use Rattle.wf_replay.specs.Running.{text_of_item as answer_to, behind_item, closing};
+ghost use Rattle.wf_replay.specs.Outcome.{StatusSays};
 
 use std::alloc::Global;
 use wf_frame::{Answer, Note};
@@ -53,7 +53,7 @@ fn close<M: Runs, K: Sink>(machine: &Option<M>, calls: u64, sink: &mut K) -> Res
 pub fn replay_on<M: Runs, S: Source, K: Sink>(alloc: Global, source: &mut S, sink: &mut K) -> Status
     ensures text { (taken written : List ℕ) × (S.left source.old ≡ prepend_known taken (S.left source.new))
         × (K.held sink.new ≡ append_known (K.held sink.old) written)
-        × ((input : List ℕ) → S.left source.old ≡ Some input → Outcome result input taken written) }
+        × ((input : List ℕ) → S.left source.old ≡ Some input → StatusSays result input taken written) }
     ensures read { result ≡ Status.ReadFault → HasRisen (S.faults source.old) (S.faults source.new) }
     ensures write { result ≡ Status.WriteFault → HasRisen (K.faults sink.old) (K.faults sink.new) }
     ensures command { result ≢ Status.Usage }

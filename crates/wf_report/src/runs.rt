@@ -2,7 +2,7 @@
 
 ghost use Rattle.std.specs.Prelude.{◌≡◌, ◌+◌, ◌<◌, ◌≤◌, length, take, IfOk, OnOk};
 ghost use Rattle.wf_frame.specs.Answers.{reply_of};
-ghost use Rattle.wf_world.specs.World.{World, opening, is_live, accepted, share as share_of};
+ghost use Rattle.wf_world.specs.World.{World, opening, is_live, accepted_count, share as share_of};
 ghost use Rattle.wf_world.specs.Step.{step as step_of};
 ghost use Rattle.wf_world.specs.Text.{tally as tally_of, traffic_map as map_of, with_traffic};
 
@@ -54,7 +54,7 @@ pub trait Runs: Drop {
 
     /// How many frames were accepted.
     fn accepted(&self) -> u64
-        ensures { result ≡ accepted (world self.now) };
+        ensures { result ≡ accepted_count (world self.now) };
 
     /// How many of them have a fate.
     fn tally(&self, fate: Fate) -> u64

@@ -5,7 +5,7 @@ use Rattle.std.specs.Option.{option_map}
 use Rattle.std.specs.List.{filter}
 use Rattle.std.proofs.lemmas.List.{append_cancel_left}
 use Rattle.std.proofs.lemmas.Bool.{cases_eq, cases_Bool, both_ways, leb-true, leb-false, ne_eqb, and_parts, and_cases}
-use Rattle.wf_rules.specs.Rotation.{Rotation, in_order, before, from, round, first_of_two, first_least, none_ready, picked_now, picked_later, pick}
+use Rattle.wf_rules.specs.Rotation.{Rotation, in_order, keys_before, keys_from, round, first_of_two, first_least, none_ready, picked_now, picked_later, pick}
 use Rattle.wf_rota.specs.Cuts.{Cut, better, least}
 use Rattle.wf_rules.specs.Lists.{on}
 use Rattle.wf_rule_laws.proofs.Lemmas.Counts.{on-nil, on-first, on-cons_same, on-cons_other, on-append}
@@ -92,14 +92,14 @@ filter_none p [] fails = refl
 filter_none p (x ∷ xs) fails = rw (fails x (omega (arith, on-cons_same x xs))) (filter_none p xs (λ y stands. fails y (omega (arith, on-first x y xs))))
 
 -- the keys before a key, and from it on
-before_is : (xs : List ℕ) (k : ℕ) (ys : List ℕ) → on xs k ≡ 0 → before k (xs ++ k ∷ ys) ≡ xs
+before_is : (xs : List ℕ) (k : ℕ) (ys : List ℕ) → on xs k ≡ 0 → keys_before k (xs ++ k ∷ ys) ≡ xs
 before_is [] k ys none = rw (eq-eqb k k refl) refl
 before_is (x ∷ xs) k ys none = elim (cases_eq x k) [
   | inl e ↦ absurd (omega (arith, ap (λ (y : ℕ). on (y ∷ xs) k) e, on-cons_same k xs))
   | inr other ↦ rw (ne_eqb x k other) (ap (λ (t : List ℕ). x ∷ t) (before_is xs k ys (omega (arith, on-cons_other x k xs other))))
 ]
 
-from_is : (xs : List ℕ) (k : ℕ) (ys : List ℕ) → on xs k ≡ 0 → from k (xs ++ k ∷ ys) ≡ k ∷ ys
+from_is : (xs : List ℕ) (k : ℕ) (ys : List ℕ) → on xs k ≡ 0 → keys_from k (xs ++ k ∷ ys) ≡ k ∷ ys
 from_is [] k ys none = rw (eq-eqb k k refl) refl
 from_is (x ∷ xs) k ys none = elim (cases_eq x k) [
   | inl e ↦ absurd (omega (arith, ap (λ (y : ℕ). on (y ∷ xs) k) e, on-cons_same k xs))
@@ -119,8 +119,8 @@ pub record AtFront (need : ℕ → ℕ) (ready : ℕ → Bool) (r : Rotation) (c
   pub before_is : c.before ≡ r.old ++ front
   pub news : r.new ≡ front ++ c.key ∷ c.after
   pub picked : pick need ready r ≡ picked_now need r c.key
-  pub in_front : before c.key r.new ≡ front
-  pub from_winner : from c.key r.new ≡ c.key ∷ c.after
+  pub in_front : keys_before c.key r.new ≡ front
+  pub from_winner : keys_from c.key r.new ≡ c.key ∷ c.after
 
 module _ (need : ℕ → ℕ) (ready : ℕ → Bool) (r : Rotation) where
   -- in round 0
@@ -172,8 +172,8 @@ module _ (need : ℕ → ℕ) (ready : ℕ → Bool) (r : Rotation) where
       before_is = found.1;
       news = news;
       picked = picked;
-      in_front = ap (before c.key) news ∙ before_is found.0 c.key c.after none;
-      from_winner = ap (from c.key) news ∙ from_is found.0 c.key c.after none;
+      in_front = ap (keys_before c.key) news ∙ before_is found.0 c.key c.after none;
+      from_winner = ap (keys_from c.key) news ∙ from_is found.0 c.key c.after none;
     }
       where
         found : (front : List ℕ) × (c.before ≡ r.old ++ front)
@@ -225,8 +225,8 @@ module _ (need : ℕ → ℕ) (ready : ℕ → Bool) (r : Rotation) where
     none_before : on c.before c.key ≡ 0
     none_before = omega (arith, on_split c.key, once c.key, on-cons_same c.key c.after)
 
-    pub before_winner : before c.key (in_order r) ≡ c.before
+    pub before_winner : keys_before c.key (in_order r) ≡ c.before
     before_winner = rw split (before_is c.before c.key c.after none_before)
 
-    pub from_winner : from c.key (in_order r) ≡ c.key ∷ c.after
+    pub from_winner : keys_from c.key (in_order r) ≡ c.key ∷ c.after
     from_winner = rw split (from_is c.before c.key c.after none_before)

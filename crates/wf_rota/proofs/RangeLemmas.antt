@@ -5,7 +5,7 @@ use Rattle.std.specs.List.{filter}
 use Rattle.std.proofs.lemmas.Int.{ints}
 use Rattle.std.proofs.Math.Nat.{mul-le-mul_right}
 use Rattle.wf_rules.specs.Table.{has}
-use Rattle.wf_rules.specs.Rotation.{Rotation, lists, in_order, need_of, round, first_least, pick_later, pick_from, pick, before, visits}
+use Rattle.wf_rules.specs.Rotation.{Rotation, has_key, in_order, need_of, round, first_least, pick_later, pick_from, pick, keys_before, visits}
 use Rattle.wf_rules.specs.Lists.{on}
 use Rattle.wf_rota.specs.Lists.{AreDisjoint, lists_at}
 use Rattle.wf_rota.specs.Rotas.{Rotas, need_at, is_ready}
@@ -28,12 +28,12 @@ unfolding pick
 quanta_low need ready r y = go (find (λ k. ready k && (need k == 0)) r.new)
   where
     later : (o : Option ℕ) → (pick_later need ready r o).quanta y ≤ need y
-    later None = chosen (lists r y) (need y) (need y) (omega arith)
-    later (Some w) = between (y == w) (lists r y) (min (visits r w (round need r w) y) (need y)) (need y) (omega arith)
+    later None = chosen (has_key r y) (need y) (need y) (omega arith)
+    later (Some w) = between (y == w) (has_key r y) (min (visits r w (round need r w) y) (need y)) (need y) (omega arith)
 
     go : (o : Option ℕ) → (pick_from need ready r o).quanta y ≤ need y
     go None = later (first_least (round need r) (filter ready (in_order r)))
-    go (Some w) = chosen (has (before w r.new) y) (min 1 (need y)) (need y) (omega arith)
+    go (Some w) = chosen (has (keys_before w r.new) y) (min 1 (need y)) (need y) (omega arith)
 
 pub capped : (d : ℤ) (q n : ℕ) → n ≤ need_of q d → d ≤ℤ pos q → (d +ℤ pos (n * q)) ≤ℤ pos q
 capped (pos zero) q n low small =
@@ -54,8 +54,8 @@ module _ (v : Rotas) (ready : List Bool) (list : ℕ) (best : Best) (won : IsWon
   pub won_below : AreDisjoint (record { lists = v.lists; keys = length v.deficits }) → best.key < length v.deficits
   won_below apart = subst (λ (k : ℕ). k < length v.deficits) (sym won.2) (apart.below list won.0.key stands)
 
-  pub won_listed : lists (lists_at v.lists list) best.key ≡ true
-  won_listed = ap (lists (lists_at v.lists list)) won.2 ∙ listed-some (lists_at v.lists list) won.0.key stands
+  pub won_listed : has_key (lists_at v.lists list) best.key ≡ true
+  won_listed = ap (has_key (lists_at v.lists list)) won.2 ∙ listed-some (lists_at v.lists list) won.0.key stands
 
   pub won_ready : is_ready ready best.key ≡ true
   won_ready = ap (is_ready ready) won.2 ∙ (least-cut (is_ready ready) (round (need_at v) (lists_at v.lists list)) (in_order (lists_at v.lists list)) won.0 won.1).1

@@ -7,7 +7,7 @@ use Rattle.std.proofs.lemmas.List.Elements.{filter-append}
 use Rattle.std.proofs.Math.Seq.{drop-append_seam, take-append_seam}
 use Rattle.std.proofs.lemmas.Bool.{cases_eq, cases_lt, lt-ltb, le-ltb, ne_eqb, le-leb, lt-leb}
 use Rattle.wf_rules.specs.Table.{has}
-use Rattle.wf_rules.specs.Rotation.{Rotation, no_keys, lists, in_order, need_of, before, from, round, none_ready, picked_now, picked_later, visits, is_out}
+use Rattle.wf_rules.specs.Rotation.{Rotation, no_keys, has_key, in_order, need_of, keys_before, keys_from, round, none_ready, picked_now, picked_later, visits, is_out}
 use Rattle.wf_rota.specs.Cuts.{Cut}
 use Rattle.wf_rules.specs.Lists.{on}
 use Rattle.wf_rota.specs.Lists.{lists_at, with_keys}
@@ -51,7 +51,7 @@ nobody_picked v list v' once ok = record {
         let olds : drop (length (in_order (lists_at v.lists list))) (lists_at v.lists list).old ≡ [] = drop_all (length (in_order (lists_at v.lists list))) (lists_at v.lists list).old (omega (arith, length-append (lists_at v.lists list).old (lists_at v.lists list).new)) in
         rw (news, olds, filter_false) refl
 
-    gets : (k : ℕ) → min (on (take (length (in_order (lists_at v.lists list))) (in_order (lists_at v.lists list))) k * need_at v k) (need_at v k) ≡ cond (lists (lists_at v.lists list) k) (need_at v k) 0
+    gets : (k : ℕ) → min (on (take (length (in_order (lists_at v.lists list))) (in_order (lists_at v.lists list))) k * need_at v k) (need_at v k) ≡ cond (has_key (lists_at v.lists list) k) (need_at v k) 0
     gets k =
         let all : take (length (in_order (lists_at v.lists list))) (in_order (lists_at v.lists list)) ≡ in_order (lists_at v.lists list) = take_all (length (in_order (lists_at v.lists list))) (in_order (lists_at v.lists list)) (omega arith) in
         rw all (elim (cases_lt 0 (on (in_order (lists_at v.lists list)) k)) [
@@ -67,7 +67,7 @@ pub at_once_picked : (v : Rotas) (ready : ℕ → Bool) (list : ℕ) (v' : Rotas
     HasPicked v list (picked_now (need_at v) (lists_at v.lists list) c.key) v'
 at_once_picked v ready list v' c once at ok = record {
   lists = ok.lists ∙ ap (set v.lists list) moved;
-  deficits = λ k. ok.deficits k ∙ as_quanta (deficit_at v.deficits k) (quantum_at v.quanta k) (on (take (length at.front) (lists_at v.lists list).new) k * 1) (cond (has (before c.key (lists_at v.lists list).new) k) (min 1 (need_at v k)) 0) (gets k);
+  deficits = λ k. ok.deficits k ∙ as_quanta (deficit_at v.deficits k) (quantum_at v.quanta k) (on (take (length at.front) (lists_at v.lists list).new) k * 1) (cond (has (keys_before c.key (lists_at v.lists list).new) k) (min 1 (need_at v k)) 0) (gets k);
   keys = ok.keys;
   quanta = ok.quanta;
 }
@@ -80,7 +80,7 @@ at_once_picked v ready list v' c once at ok = record {
         let whole : length at.front - 0 ≡ length at.front = omega arith in
         ap (λ (n : ℕ). drop n (lists_at v.lists list).new) whole ∙ ap (drop (length at.front)) at.news ∙ drop-append_seam at.front (c.key ∷ c.after)
 
-    moved : lists_after AtOnce (lists_at v.lists list) (λ y. true) (length at.front) ≡ record { new = from c.key (lists_at v.lists list).new; old = (lists_at v.lists list).old ++ before c.key (lists_at v.lists list).new }
+    moved : lists_after AtOnce (lists_at v.lists list) (λ y. true) (length at.front) ≡ record { new = keys_from c.key (lists_at v.lists list).new; old = (lists_at v.lists list).old ++ keys_before c.key (lists_at v.lists list).new }
     moved = two _ _ _ _ (rest_is ∙ sym at.from_winner) (ap (λ (xs : List ℕ). (lists_at v.lists list).old ++ xs) (none_left (length at.front) ∙ ap (filter (λ y. true)) front_is ∙ filter_true at.front ∙ sym at.in_front))
       where
         rot : List ℕ → List ℕ → Rotation
@@ -92,7 +92,7 @@ at_once_picked v ready list v' c once at ok = record {
         none_left : (n : ℕ) → drop n [] ++ filter (λ y. true) (take n (lists_at v.lists list).new) ≡ filter (λ y. true) (take n (lists_at v.lists list).new)
         none_left n = ap (λ (xs : List ℕ). xs ++ filter (λ y. true) (take n (lists_at v.lists list).new)) (drop_all {X = ℕ} n [] (omega arith))
 
-    gets : (k : ℕ) → min (on (take (length at.front) (lists_at v.lists list).new) k * 1) (need_at v k) ≡ cond (has (before c.key (lists_at v.lists list).new) k) (min 1 (need_at v k)) 0
+    gets : (k : ℕ) → min (on (take (length at.front) (lists_at v.lists list).new) k * 1) (need_at v k) ≡ cond (has (keys_before c.key (lists_at v.lists list).new) k) (min 1 (need_at v k)) 0
     gets k =
         let most : on at.front k ≤ 1 = omega (arith, once k, on-append (lists_at v.lists list).old (lists_at v.lists list).new k, ap (λ (xs : List ℕ). on xs k) at.news, on-append at.front (c.key ∷ c.after) k) in
         ap (λ (xs : List ℕ). min (on xs k * 1) (need_at v k)) front_is ∙ (elim (cases_lt 0 (on at.front k)) [
@@ -160,8 +160,8 @@ by_place turn need ready false true = same_shares _ _ _ _ (omega arith) (ap (λ 
 by_place turn need ready false false = same_shares _ _ _ _ (omega arith) (ap (λ (k : ℕ). ready || ltb (turn - 1) (max 1 k)) (let e : need + 0 ≡ need = omega arith in e) ∙ sym (or_not ready (max 1 need) (turn - 1)))
 
 module _ (v : Rotas) (ready : List Bool) (list : ℕ) (once : (y : ℕ) → on (in_order (lists_at v.lists list)) y ≤ 1) (c : Cut)
-    (split : in_order (lists_at v.lists list) ≡ c.before ++ (c.key ∷ c.after)) (before_winner : before c.key (in_order (lists_at v.lists list)) ≡ c.before) (turn : ℕ) where
-  at_place : (i : ℕ) → i < length (in_order (lists_at v.lists list)) → has (before c.key (in_order (lists_at v.lists list))) (get_or (in_order (lists_at v.lists list)) i 0) ≡ ltb i (length c.before)
+    (split : in_order (lists_at v.lists list) ≡ c.before ++ (c.key ∷ c.after)) (before_winner : keys_before c.key (in_order (lists_at v.lists list)) ≡ c.before) (turn : ℕ) where
+  at_place : (i : ℕ) → i < length (in_order (lists_at v.lists list)) → has (keys_before c.key (in_order (lists_at v.lists list))) (get_or (in_order (lists_at v.lists list)) i 0) ≡ ltb i (length c.before)
   at_place i low =
       ap (λ (xs : List ℕ). has xs (get_or (in_order (lists_at v.lists list)) i 0)) before_winner
       ∙ ap (λ (xs : List ℕ). has c.before (get_or xs i 0)) split
@@ -171,7 +171,7 @@ module _ (v : Rotas) (ready : List Bool) (list : ℕ) (once : (y : ℕ) → on (
   shares_later i low =
       by_place turn (need_at v (get_or (in_order (lists_at v.lists list)) i 0)) (is_ready ready (get_or (in_order (lists_at v.lists list)) i 0)) (ltb i (length c.before)) (ltb i (length (lists_at v.lists list).old))
       ∙ ap (λ (p : Bool). told turn (need_at v (get_or (in_order (lists_at v.lists list)) i 0)) (is_ready ready (get_or (in_order (lists_at v.lists list)) i 0)) p (not (ltb i (length (lists_at v.lists list).old)))) (sym (at_place i low))
-      ∙ ap (λ (q : Bool). told turn (need_at v (get_or (in_order (lists_at v.lists list)) i 0)) (is_ready ready (get_or (in_order (lists_at v.lists list)) i 0)) (has (before c.key (in_order (lists_at v.lists list))) (get_or (in_order (lists_at v.lists list)) i 0)) q)
+      ∙ ap (λ (q : Bool). told turn (need_at v (get_or (in_order (lists_at v.lists list)) i 0)) (is_ready ready (get_or (in_order (lists_at v.lists list)) i 0)) (has (keys_before c.key (in_order (lists_at v.lists list))) (get_or (in_order (lists_at v.lists list)) i 0)) q)
       (sym (has_second (lists_at v.lists list).old (lists_at v.lists list).new i once low))
 
 once_times : (n m : ℕ) → min (1 * n) m ≡ min n m
@@ -199,7 +199,7 @@ last_some (x ∷ y ∷ ks) k h =
 
 module _ (v : Rotas) (ready : List Bool) (list : ℕ) (once : (y : ℕ) → on (in_order (lists_at v.lists list)) y ≤ 1) (c : Cut)
     (split : in_order (lists_at v.lists list) ≡ c.before ++ (c.key ∷ c.after)) (won : is_ready ready c.key ≡ true)
-    (before_winner : before c.key (in_order (lists_at v.lists list)) ≡ c.before) (from_winner : from c.key (in_order (lists_at v.lists list)) ≡ c.key ∷ c.after) (some_round : 0 < round (need_at v) (lists_at v.lists list) c.key)
+    (before_winner : keys_before c.key (in_order (lists_at v.lists list)) ≡ c.before) (from_winner : keys_from c.key (in_order (lists_at v.lists list)) ≡ c.key ∷ c.after) (some_round : 0 < round (need_at v) (lists_at v.lists list) c.key)
     (there : list < length v.lists) (v' : Rotas)
     (ok : HasPassed (Later (round (need_at v) (lists_at v.lists list) c.key) (length c.before)) v list (visits (lists_at v.lists list) c.key (round (need_at v) (lists_at v.lists list) c.key))
     (λ y. not (is_out (need_at v) (is_ready ready) (lists_at v.lists list) c.key (round (need_at v) (lists_at v.lists list) c.key) y)) (length (in_order (lists_at v.lists list))) v') where
@@ -234,8 +234,8 @@ module _ (v : Rotas) (ready : List Bool) (list : ℕ) (once : (y : ℕ) → on (
   pub now_is : lists_at v'.lists list ≡ record { new = []; old = filter stay c.before ++ (c.key ∷ filter stay c.after) }
   now_is = ap (λ (ls : List Rotation). lists_at ls list) ok.lists ∙ get_or-set_same v.lists list _ no_keys there ∙ passed_is
 
-  target_is : filter stay (from c.key (in_order (lists_at v.lists list)) ++ before c.key (in_order (lists_at v.lists list))) ≡ c.key ∷ (filter stay c.after ++ filter stay c.before)
-  target_is = ap (λ (xs : List ℕ). filter stay (xs ++ before c.key (in_order (lists_at v.lists list)))) from_winner ∙ ap (λ (xs : List ℕ). filter stay ((c.key ∷ c.after) ++ xs)) before_winner
+  target_is : filter stay (keys_from c.key (in_order (lists_at v.lists list)) ++ keys_before c.key (in_order (lists_at v.lists list))) ≡ c.key ∷ (filter stay c.after ++ filter stay c.before)
+  target_is = ap (λ (xs : List ℕ). filter stay (xs ++ keys_before c.key (in_order (lists_at v.lists list)))) from_winner ∙ ap (λ (xs : List ℕ). filter stay ((c.key ∷ c.after) ++ xs)) before_winner
       ∙ head (stay c.key) winner_stays ∙ ap (λ (xs : List ℕ). c.key ∷ xs) (filter-append stay c.after c.before)
     where
       head : (b : Bool) → b ≡ true → cond b (c.key ∷ filter stay (c.after ++ c.before)) (filter stay (c.after ++ c.before)) ≡ c.key ∷ filter stay (c.after ++ c.before)
@@ -246,7 +246,7 @@ module _ (v : Rotas) (ready : List Bool) (list : ℕ) (once : (y : ℕ) → on (
 
   winner_visits : visits (lists_at v.lists list) c.key (round (need_at v) (lists_at v.lists list) c.key) c.key ≡ need_at v c.key
   winner_visits =
-      let not_before : has (before c.key (in_order (lists_at v.lists list))) c.key ≡ false = ap (λ (xs : List ℕ). has xs c.key) before_winner ∙ on-hasnot c.before c.key (omega (arith, on_split c.key, once c.key, on-cons_same c.key c.after)) in
+      let not_before : has (keys_before c.key (in_order (lists_at v.lists list))) c.key ≡ false = ap (λ (xs : List ℕ). has xs c.key) before_winner ∙ on-hasnot c.before c.key (omega (arith, on_split c.key, once c.key, on-cons_same c.key c.after)) in
       ap (λ (b : Bool). cond b turn (turn - 1) + cond (has (lists_at v.lists list).new c.key) 1 0) not_before
       ∙ (elim (cases_lt 0 (on (lists_at v.lists list).new c.key)) [
         | inl new ↦
@@ -264,13 +264,13 @@ module _ (v : Rotas) (ready : List Bool) (list : ℕ) (once : (y : ℕ) → on (
       ap (λ (n : ℕ). min (n * visits (lists_at v.lists list) c.key turn c.key) (need_at v c.key)) one ∙ ap (λ (n : ℕ). min (1 * n) (need_at v c.key)) winner_visits ∙ omega arith
 
   gets : (k : ℕ) → min (on (take (length (in_order (lists_at v.lists list))) (in_order (lists_at v.lists list))) k * visits (lists_at v.lists list) c.key turn k) (need_at v k)
-      ≡ cond (eqb k c.key) (need_at v k) (cond (lists (lists_at v.lists list) k) (min (visits (lists_at v.lists list) c.key turn k) (need_at v k)) 0)
+      ≡ cond (eqb k c.key) (need_at v k) (cond (has_key (lists_at v.lists list) k) (min (visits (lists_at v.lists list) c.key turn k) (need_at v k)) 0)
   gets k =
       let all : take (length (in_order (lists_at v.lists list))) (in_order (lists_at v.lists list)) ≡ in_order (lists_at v.lists list) = take_all (length (in_order (lists_at v.lists list))) (in_order (lists_at v.lists list)) (omega arith) in
       ap (λ (xs : List ℕ). min (on xs k * visits (lists_at v.lists list) c.key turn k) (need_at v k)) all ∙ (elim (cases_eq k c.key) [
         | inl e ↦
             let P : ℕ → Type 0 = λ (y : ℕ). min (on (in_order (lists_at v.lists list)) y * visits (lists_at v.lists list) c.key turn y) (need_at v y) ≡ need_at v y in
-            subst P (sym e) gets_winner ∙ sym (ap (λ (b : Bool). cond b (need_at v k) (cond (lists (lists_at v.lists list) k) (min (visits (lists_at v.lists list) c.key turn k) (need_at v k)) 0)) (eq-eqb k c.key e))
+            subst P (sym e) gets_winner ∙ sym (ap (λ (b : Bool). cond b (need_at v k) (cond (has_key (lists_at v.lists list) k) (min (visits (lists_at v.lists list) c.key turn k) (need_at v k)) 0)) (eq-eqb k c.key e))
         | inr other ↦ (elim (cases_lt 0 (on (in_order (lists_at v.lists list)) k)) [
           | inl stands ↦
               let one : on (in_order (lists_at v.lists list)) k ≡ 1 = omega (arith, once k) in
@@ -280,7 +280,7 @@ module _ (v : Rotas) (ready : List Bool) (list : ℕ) (once : (y : ℕ) → on (
               let none : on (in_order (lists_at v.lists list)) k ≡ 0 = omega arith in
               ap (λ (m : ℕ). min (m * visits (lists_at v.lists list) c.key turn k) (need_at v k)) none ∙ none_times (visits (lists_at v.lists list) c.key turn k) (need_at v k)
               ∙ sym (ap (λ (b : Bool). cond b (min (visits (lists_at v.lists list) c.key turn k) (need_at v k)) 0) (listed-none (lists_at v.lists list) k none))
-        ]) ∙ sym (ap (λ (b : Bool). cond b (need_at v k) (cond (lists (lists_at v.lists list) k) (min (visits (lists_at v.lists list) c.key turn k) (need_at v k)) 0)) (ne_eqb k c.key other))
+        ]) ∙ sym (ap (λ (b : Bool). cond b (need_at v k) (cond (has_key (lists_at v.lists list) k) (min (visits (lists_at v.lists list) c.key turn k) (need_at v k)) 0)) (ne_eqb k c.key other))
       ])
 
   quanta_given : (k : ℕ) → deficit_at v'.deficits k ≡ deficit_at v.deficits k +ℤ pos ((picked_later (need_at v) (is_ready ready) (lists_at v.lists list) c.key turn).quanta k * quantum_at v.quanta k)
@@ -295,7 +295,7 @@ module _ (v : Rotas) (ready : List Bool) (list : ℕ) (once : (y : ℕ) → on (
     quanta = ok.quanta;
   }
     where
-      same : filter stay c.before ++ (c.key ∷ filter stay c.after) ≡ filter stay (from c.key (in_order (lists_at v.lists list)) ++ before c.key (in_order (lists_at v.lists list)))
+      same : filter stay c.before ++ (c.key ∷ filter stay c.after) ≡ filter stay (keys_from c.key (in_order (lists_at v.lists list)) ++ keys_before c.key (in_order (lists_at v.lists list)))
       same = ap (λ (xs : List ℕ). xs ++ (c.key ∷ filter stay c.after)) none ∙ sym (target_is ∙ ap (λ (xs : List ℕ). c.key ∷ (filter stay c.after ++ xs)) none ∙ ap (λ (xs : List ℕ). c.key ∷ xs) (append-nil (filter stay c.after)))
 
   -- where the old list is turned

@@ -2,7 +2,7 @@
 use Rattle.std.proofs.Common.{◌≡◌, ℕ, ◌+◌, ◌-◌, ◌<◌, ◌≤◌, min, Bool, true, not, List, [], ◌∷◌, ◌++◌, length, take, Option, Some, None, sym, ap, ◌∙◌, subst, arith, length-append, append_assoc}
 use Rattle.std.specs.List.{filter}
 use Rattle.std.proofs.Math.Seq.{take-append_seam}
-use Rattle.wf_rules.specs.Rotation.{Rotation, Picked, in_order, before, from, round, visits, is_out, picked_later}
+use Rattle.wf_rules.specs.Rotation.{Rotation, Picked, in_order, keys_before, keys_from, round, visits, is_out, picked_later}
 use Rattle.wf_rules.specs.Lists.{on}
 use Rattle.wf_rota.specs.Lists.{AreDisjoint, lists_at, keys_at, with_keys}
 use Rattle.wf_rota.specs.Rotas.{Rotas, need_at, is_ready, picked_at}
@@ -66,10 +66,10 @@ module _ (v : Rotas) (ready : List Bool) (list : ℕ) (apart : AreDisjoint (reco
     some_round : 0 < round (need_at v) (lists_at v.lists list) won.0.key
     some_round = subst (λ (n : ℕ). 0 < n) won.3 later
 
-    before_is : before won.0.key (in_order (lists_at v.lists list)) ≡ won.0.before
+    before_is : keys_before won.0.key (in_order (lists_at v.lists list)) ≡ won.0.before
     before_is = before_winner (need_at v) (is_ready ready) (lists_at v.lists list) once won.0 won.1
 
-    from_is : from won.0.key (in_order (lists_at v.lists list)) ≡ won.0.key ∷ won.0.after
+    from_is : keys_from won.0.key (in_order (lists_at v.lists list)) ≡ won.0.key ∷ won.0.after
     from_is = from_winner (need_at v) (is_ready ready) (lists_at v.lists list) once won.0 won.1
 
     picked_is : picked_at v ready list ≡ picked_later (need_at v) (is_ready ready) (lists_at v.lists list) won.0.key turn

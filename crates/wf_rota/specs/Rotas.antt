@@ -1,6 +1,6 @@
 -- Many disjoint rotations of numbered keys, each key with a deficit and a quantum of its own.
 use Rattle.std.specs.Prelude.{◌≡◌, ℕ, Bool, false, List, get_or, ℤ, pos}
-use Rattle.wf_rules.specs.Rotation.{Rotation, Picked, lists, need_of, pick}
+use Rattle.wf_rules.specs.Rotation.{Rotation, Picked, has_key, need_of, pick}
 use Rattle.wf_rota.specs.Lists.{lists_at}
 
 pub record Rotas : Type 0 where
@@ -24,7 +24,7 @@ is_ready ready key = get_or ready key false
 
 -- the key stands on no rotation
 abbrev pub IsUnlisted : List Rotation → ℕ → Type 0
-IsUnlisted all key = (list : ℕ) → lists (lists_at all list) key ≡ false
+IsUnlisted all key = (list : ℕ) → has_key (lists_at all list) key ≡ false
 
 -- the pick of one of the rotations
 abbrev pub picked_at : Rotas → List Bool → ℕ → Picked

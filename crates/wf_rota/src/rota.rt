@@ -1,5 +1,5 @@
 ghost use Rattle.std.specs.Prelude.{◌≡◌, ℕ, ◌+◌, ◌-◌, ◌*◌, ◌^◌, ◌<◌, ◌≤◌, Bool, true, false, List, [], ◌∷◌, ◌++◌, length, map, replicate, take, min, get_or, slice_set, filter, IfOk, IfSome, IfNone, Option, Some, None, pos, negsuc, ◌+ℤ◌, ◌-ℤ◌, ◌≤ℤ◌, ◌<ℤ◌};
-ghost use Rattle.wf_rules.specs.Rotation.{no_keys, add_new, without_key, lists, Picked, in_order};
+ghost use Rattle.wf_rules.specs.Rotation.{no_keys, with_new_key, without_key, has_key, Picked, in_order};
 ghost use Rattle.wf_rota.specs.Rotas.{Rotas, deficit_at, quantum_at, need_at, is_ready, IsUnlisted, picked_at};
 ghost use Rattle.wf_rules.specs.Lists.{on};
 ghost use Rattle.wf_rota.specs.Lists.{lists_at, keys_at, with_keys, has_on, first_of, rest_of, IsOff, AreDisjoint};
@@ -78,7 +78,7 @@ impl Rota {
         requires in_lists { list < length self.old.lists }
         requires in_keys { key < length self.old.deficits }
         requires unlisted { IsUnlisted self.old.lists key }
-        ensures { self.new ≡ record self.old { lists = slice_set self.old.lists list (add_new (lists_at self.old.lists list) key) } }
+        ensures { self.new ≡ record self.old { lists = slice_set self.old.lists list (with_new_key (lists_at self.old.lists list) key) } }
     {
         self.put_on(list, Side::New, key);
     }
@@ -88,7 +88,7 @@ impl Rota {
         requires in_lists { list < length self.old.lists }
         requires in_keys { key < length self.old.deficits }
         requires unlisted { IsUnlisted self.old.lists key }
-        ensures { self.new ≡ record self.old { lists = slice_set self.old.lists list (add_new (lists_at self.old.lists list) key); deficits = slice_set self.old.deficits key (pos (quantum_at self.old.quanta key)) } }
+        ensures { self.new ≡ record self.old { lists = slice_set self.old.lists list (with_new_key (lists_at self.old.lists list) key); deficits = slice_set self.old.deficits key (pos (quantum_at self.old.quanta key)) } }
     {
         self.reset(key);
         self.add_new(list, key);
@@ -372,7 +372,7 @@ impl Rota {
         ensures keys { length self.new.deficits ≡ length self.old.deficits }
         ensures quanta { self.new.quanta ≡ self.old.quanta }
         ensures below { IfSome result (λ key. key < length self.old.deficits) }
-        ensures listed { IfSome result (λ key. lists (lists_at self.old.lists list) key ≡ true) }
+        ensures listed { IfSome result (λ key. has_key (lists_at self.old.lists list) key ≡ true) }
         ensures is_ready { IfSome result (λ key. is_ready ready.now key ≡ true) }
         ensures capped { (key : ℕ) → deficit_at self.old.deficits key ≤ℤ pos (quantum_at self.old.quanta key) → deficit_at self.new.deficits key ≤ℤ pos (quantum_at self.old.quanta key) }
         ensures at_least { steps.old + length (in_order (lists_at self.old.lists list)) ≤ steps.new }

@@ -5,7 +5,7 @@ use Rattle.std.proofs.lemmas.List.{length-append}
 use Rattle.wf_rules.specs.Table.{has}
 use Rattle.wf_rules.specs.Lists.{IsOnce}
 use Rattle.wf_rules.specs.Rotation.{in_order, need_of}
-use Rattle.wf_rules.specs.Loop.{Turn, Empty, Wins, Again, turn_at, turn_of_new, turn_of_old, paid, Standing, turn_from, onward, after_turns, Ends, HasEnd, EndLaw}
+use Rattle.wf_rules.specs.Loop.{Turn, Empty, Wins, Again, turn_at, turn_of_new, turn_of_old, with_quantum_paid, Standing, turn_from, onward, after_turns, Ends, HasEnd, EndLaw}
 use Rattle.wf_rule_laws.proofs.Lemmas.Numbers.{on_bool}
 use Rattle.wf_rule_laws.proofs.Lemmas.Members.{has_head}
 use Rattle.wf_rule_laws.proofs.Lemmas.Turns.{others, gets}
@@ -39,7 +39,7 @@ not_ahead key xs ys h = on_bool (has xs key) (λ yes. absurd (cc (distinct_apart
 
 module _ (quantum : ℕ → ℕ) (deficit : ℕ → ℤ) (ready : ℕ → Bool) (key : ℕ) (some : (y : ℕ) → 1 ≤ quantum y) where
   -- the others need what they needed
-  needs-others : (xs : List ℕ) → has xs key ≡ false → needs quantum (paid quantum deficit key) xs ≡ needs quantum deficit xs
+  needs-others : (xs : List ℕ) → has xs key ≡ false → needs quantum (with_quantum_paid quantum deficit key) xs ≡ needs quantum deficit xs
   needs-others [] h = refl
   needs-others (x ∷ xs) h =
       let parts : ((x == key) ≡ false) × (has xs key ≡ false) = or_parts (x == key) (has xs key) h in
@@ -49,11 +49,11 @@ module _ (quantum : ℕ → ℕ) (deficit : ℕ → ℤ) (ready : ℕ → Bool) 
   falls_new : (keys old : List ℕ) → IsOnce (old ++ key ∷ keys) → Falls quantum (record { lists = record { new = key ∷ keys; old = old }; deficit = deficit }) (turn_of_new quantum deficit ready key keys old)
   falls_new keys old h = go (int_le (deficit key) (pos 0)) refl (ready key)
     where
-      go : (low : Bool) → int_le (deficit key) (pos 0) ≡ low → (is : Bool) → Falls quantum (record { lists = record { new = key ∷ keys; old = old }; deficit = deficit }) (if low then Again (record { new = keys; old = old ++ key ∷ [] }) (paid quantum deficit key) else (if is then Wins key else Again (record { new = keys; old = old ++ key ∷ [] }) deficit))
+      go : (low : Bool) → int_le (deficit key) (pos 0) ≡ low → (is : Bool) → Falls quantum (record { lists = record { new = key ∷ keys; old = old }; deficit = deficit }) (if low then Again (record { new = keys; old = old ++ key ∷ [] }) (with_quantum_paid quantum deficit key) else (if is then Wins key else Again (record { new = keys; old = old ++ key ∷ [] }) deficit))
       go true low is =
-          let front : needs quantum (paid quantum deficit key) old ≡ needs quantum deficit old = needs-others old (not_ahead key old keys h) in
-          let back : needs quantum (paid quantum deficit key) keys ≡ needs quantum deficit keys = needs-others keys (once_back old (key ∷ keys) h).0 in
-          omega (arith, front, back, gets quantum deficit ready key some low, needs-append quantum (paid quantum deficit key) (old ++ key ∷ []) keys, needs-append quantum (paid quantum deficit key) old (key ∷ []), needs-append quantum deficit old (key ∷ keys), length-append old (key ∷ []))
+          let front : needs quantum (with_quantum_paid quantum deficit key) old ≡ needs quantum deficit old = needs-others old (not_ahead key old keys h) in
+          let back : needs quantum (with_quantum_paid quantum deficit key) keys ≡ needs quantum deficit keys = needs-others keys (once_back old (key ∷ keys) h).0 in
+          omega (arith, front, back, gets quantum deficit ready key some low, needs-append quantum (with_quantum_paid quantum deficit key) (old ++ key ∷ []) keys, needs-append quantum (with_quantum_paid quantum deficit key) old (key ∷ []), needs-append quantum deficit old (key ∷ keys), length-append old (key ∷ []))
       go false low true = tt
       go false low false =
           omega (arith, needs-append quantum deficit (old ++ key ∷ []) keys, needs-append quantum deficit old (key ∷ []), needs-append quantum deficit old (key ∷ keys), length-append old (key ∷ []))
@@ -61,10 +61,10 @@ module _ (quantum : ℕ → ℕ) (deficit : ℕ → ℤ) (ready : ℕ → Bool) 
   falls_old : (keys : List ℕ) → IsOnce (key ∷ keys) → Falls quantum (record { lists = record { new = []; old = key ∷ keys }; deficit = deficit }) (turn_of_old quantum deficit ready key keys)
   falls_old keys h = go (int_le (deficit key) (pos 0)) refl (ready key)
     where
-      go : (low : Bool) → int_le (deficit key) (pos 0) ≡ low → (is : Bool) → Falls quantum (record { lists = record { new = []; old = key ∷ keys }; deficit = deficit }) (if low then Again (record { new = []; old = keys ++ key ∷ [] }) (paid quantum deficit key) else (if is then Wins key else Again (record { new = []; old = keys }) deficit))
+      go : (low : Bool) → int_le (deficit key) (pos 0) ≡ low → (is : Bool) → Falls quantum (record { lists = record { new = []; old = key ∷ keys }; deficit = deficit }) (if low then Again (record { new = []; old = keys ++ key ∷ [] }) (with_quantum_paid quantum deficit key) else (if is then Wins key else Again (record { new = []; old = keys }) deficit))
       go true low is =
-          let rest : needs quantum (paid quantum deficit key) keys ≡ needs quantum deficit keys = needs-others keys h.0 in
-          omega (arith, rest, gets quantum deficit ready key some low, needs-append quantum (paid quantum deficit key) (keys ++ key ∷ []) [], needs-append quantum (paid quantum deficit key) keys (key ∷ []), needs-append quantum deficit (key ∷ keys) [], length-append keys (key ∷ []))
+          let rest : needs quantum (with_quantum_paid quantum deficit key) keys ≡ needs quantum deficit keys = needs-others keys h.0 in
+          omega (arith, rest, gets quantum deficit ready key some low, needs-append quantum (with_quantum_paid quantum deficit key) (keys ++ key ∷ []) [], needs-append quantum (with_quantum_paid quantum deficit key) keys (key ∷ []), needs-append quantum deficit (key ∷ keys) [], length-append keys (key ∷ []))
       go false low true = tt
       go false low false = omega (arith, needs-append quantum deficit keys [], needs-append quantum deficit (key ∷ keys) [])
 

@@ -3,7 +3,7 @@ use Rattle.std.proofs.Common.{◌≡◌, refl, ap, sym, ◌∙◌, subst, append
 use Rattle.wf_rules.specs.Table.{has}
 use Rattle.wf_rules.specs.Lists.{IsOnce}
 use Rattle.wf_rules.specs.Rotation.{in_order}
-use Rattle.wf_rules.specs.Loop.{Turn, Empty, Wins, Again, turn_at, turn_of_new, turn_of_old, paid, Gives, Meets, Standing, turn_from, onward, after_turns, Ends, LoopLaw}
+use Rattle.wf_rules.specs.Loop.{Turn, Empty, Wins, Again, turn_at, turn_of_new, turn_of_old, with_quantum_paid, PickGives, Meets, Standing, turn_from, onward, after_turns, Ends, LoopLaw}
 use Rattle.wf_rule_laws.proofs.Lemmas.Joined.{once_append}
 use Rattle.wf_rule_laws.proofs.Lemmas.Numbers.{on_bool, eq_yes}
 use Rattle.wf_rule_laws.proofs.Lemmas.Turns.{turn_law}
@@ -26,7 +26,7 @@ apart_new quantum deficit ready key keys old h = go (int_le (deficit key) (pos 0
     moved : IsOnce ((old ++ key ∷ []) ++ keys)
     moved = subst IsOnce (sym (append_assoc old (key ∷ []) keys)) h
 
-    go : (low is : Bool) → IsApart (if low then Again (record { new = keys; old = old ++ key ∷ [] }) (paid quantum deficit key) else (if is then Wins key else Again (record { new = keys; old = old ++ key ∷ [] }) deficit))
+    go : (low is : Bool) → IsApart (if low then Again (record { new = keys; old = old ++ key ∷ [] }) (with_quantum_paid quantum deficit key) else (if is then Wins key else Again (record { new = keys; old = old ++ key ∷ [] }) deficit))
     go true is = moved
     go false true = tt
     go false false = moved
@@ -34,7 +34,7 @@ apart_new quantum deficit ready key keys old h = go (int_le (deficit key) (pos 0
 apart_old : (quantum : ℕ → ℕ) (deficit : ℕ → ℤ) (ready : ℕ → Bool) (key : ℕ) (keys : List ℕ) → IsOnce (key ∷ keys) → IsApart (turn_of_old quantum deficit ready key keys)
 apart_old quantum deficit ready key keys h = go (int_le (deficit key) (pos 0)) (ready key)
   where
-    go : (low is : Bool) → IsApart (if low then Again (record { new = []; old = keys ++ key ∷ [] }) (paid quantum deficit key) else (if is then Wins key else Again (record { new = []; old = keys }) deficit))
+    go : (low is : Bool) → IsApart (if low then Again (record { new = []; old = keys ++ key ∷ [] }) (with_quantum_paid quantum deficit key) else (if is then Wins key else Again (record { new = []; old = keys }) deficit))
     go true is = subst IsOnce (sym (append-nil (keys ++ key ∷ []))) (once_last key keys h)
     go false true = tt
     go false false = subst IsOnce (sym (append-nil keys)) h.1
@@ -46,13 +46,13 @@ apart quantum deficit ready (key ∷ keys) old h = apart_new quantum deficit rea
 
 module _ (quantum : ℕ → ℕ) (ready : ℕ → Bool) (some : (y : ℕ) → 1 ≤ quantum y) where
   -- the last turn
-  last : (s : Standing) (winner : Option ℕ) (t : Turn) → Meets quantum s.deficit ready s.lists t → Ends t winner → Gives quantum s.deficit ready s.lists winner s.lists s.deficit
-  last s winner Empty meets ends = subst (λ (w : Option ℕ). Gives quantum s.deficit ready s.lists w s.lists s.deficit) (sym ends) meets
-  last s winner (Wins key) meets ends = subst (λ (w : Option ℕ). Gives quantum s.deficit ready s.lists w s.lists s.deficit) (sym ends) meets
+  last : (s : Standing) (winner : Option ℕ) (t : Turn) → Meets quantum s.deficit ready s.lists t → Ends t winner → PickGives quantum s.deficit ready s.lists winner s.lists s.deficit
+  last s winner Empty meets ends = subst (λ (w : Option ℕ). PickGives quantum s.deficit ready s.lists w s.lists s.deficit) (sym ends) meets
+  last s winner (Wins key) meets ends = subst (λ (w : Option ℕ). PickGives quantum s.deficit ready s.lists w s.lists s.deficit) (sym ends) meets
   last s winner (Again lists after) meets ends = absurd ends
 
   -- one turn more before those of which the law is known
-  more : (s end : Standing) (winner : Option ℕ) (t : Turn) → Meets quantum s.deficit ready s.lists t → Gives quantum (onward s t).deficit ready (onward s t).lists winner end.lists end.deficit → Gives quantum s.deficit ready s.lists winner end.lists end.deficit
+  more : (s end : Standing) (winner : Option ℕ) (t : Turn) → Meets quantum s.deficit ready s.lists t → PickGives quantum (onward s t).deficit ready (onward s t).lists winner end.lists end.deficit → PickGives quantum s.deficit ready s.lists winner end.lists end.deficit
   more s end winner Empty meets gives = gives
   more s end winner (Wins key) meets gives = gives
   more s end winner (Again lists after) meets gives = record {
@@ -66,7 +66,7 @@ module _ (quantum : ℕ → ℕ) (ready : ℕ → Bool) (some : (y : ℕ) → 1 
   once_on s (Wins key) once h = once
   once_on s (Again lists after) once h = h
 
-  pub gives : (n : ℕ) (s : Standing) (winner : Option ℕ) → IsOnce (in_order s.lists) → Ends (turn_from quantum ready (after_turns quantum ready n s)) winner → Gives quantum s.deficit ready s.lists winner (after_turns quantum ready n s).lists (after_turns quantum ready n s).deficit
+  pub gives : (n : ℕ) (s : Standing) (winner : Option ℕ) → IsOnce (in_order s.lists) → Ends (turn_from quantum ready (after_turns quantum ready n s)) winner → PickGives quantum s.deficit ready s.lists winner (after_turns quantum ready n s).lists (after_turns quantum ready n s).deficit
   gives zero s winner once ends = last s winner (turn_from quantum ready s) (turn_law quantum s.deficit ready s.lists some once) ends
   gives (suc n) s winner once ends =
       more s (after_turns quantum ready (suc n) s) winner (turn_from quantum ready s) (turn_law quantum s.deficit ready s.lists some once)

@@ -2,7 +2,7 @@
 use Rattle.wf_rules.specs.Lists.{IsOnce}
 use Rattle.std.proofs.Common.{◌≡◌, refl, ap, sym, ◌∙◌, subst, arith, ℕ, ◌+◌, ◌-◌, min, max, append_assoc, append-nil, Bool, true, false, if◌then◌else◌, not, ◌&&◌, ◌||◌, ◌==◌, nat_le, List, [], ◌∷◌, ◌++◌, filter, find, Option, Some, None}
 use Rattle.wf_rules.specs.Table.{has}
-use Rattle.wf_rules.specs.Rotation.{Rotation, lists, in_order, before, from, round, first_of_two, first_least, Picked, none_ready, picked_now, old_visits, visits, is_out, picked_later, pick_later, pick_from, pick}
+use Rattle.wf_rules.specs.Rotation.{Rotation, has_key, in_order, keys_before, keys_from, round, first_of_two, first_least, Picked, none_ready, picked_now, old_visits, visits, is_out, picked_later, pick_later, pick_from, pick}
 use Rattle.wf_rule_laws.proofs.Lemmas.Joined.{has_append}
 use Rattle.wf_rule_laws.proofs.Order.{eq_true, eq_self, filter_has}
 
@@ -100,11 +100,11 @@ absent_if : (b : Bool) (x : ℕ) (xs : List ℕ) (y : ℕ) → (x == y) ≡ fals
 absent_if true x xs y h k = refl
 absent_if false x xs y h k = both_false (x == y) (has xs y) h k
 
-before_absent : (w : ℕ) (ks : List ℕ) (y : ℕ) → has ks y ≡ false → has (before w ks) y ≡ false
+before_absent : (w : ℕ) (ks : List ℕ) (y : ℕ) → has ks y ≡ false → has (keys_before w ks) y ≡ false
 before_absent w [] y h = refl
 before_absent w (x ∷ xs) y h =
     let e = either_false (x == y) (has xs y) h in
-    absent_if (x == w) x (before w xs) y e.0 (before_absent w xs y e.1)
+    absent_if (x == w) x (keys_before w xs) y e.0 (before_absent w xs y e.1)
 
 -- The first key of the new list does not win in this turn: it goes last on old, with x quanta (1 where its deficit was 0 or less, else 0).
 module _ (need need' : ℕ → ℕ) (ready : ℕ → Bool) (k x : ℕ) (new old : List ℕ) (d : IsOnce (old ++ k ∷ new))
@@ -142,19 +142,19 @@ module _ (need need' : ℕ → ℕ) (ready : ℕ → Bool) (k x : ℕ) (new old 
   new_k : has r.new k ≡ true
   new_k = in_head k new
 
-  lists_other : (y : ℕ) → (k == y) ≡ false → lists r y ≡ lists r' y
+  lists_other : (y : ℕ) → (k == y) ≡ false → has_key r y ≡ has_key r' y
   lists_other y e =
       ap (λ (b : Bool). b || has old y) (new_other y e)
       ∙ ap (λ (b : Bool). has new y || b) (sym (has_append old (k ∷ []) y ∙ ap (λ (b : Bool). has old y || (b || false)) e ∙ or_false (has old y)))
 
-  lists_k : lists r k ≡ true
+  lists_k : has_key r k ≡ true
   lists_k = ap (λ (b : Bool). b || has old k) new_k
 
   or_true : (b : Bool) → b || true ≡ true
   or_true true = refl
   or_true false = refl
 
-  lists_k' : lists r' k ≡ true
+  lists_k' : has_key r' k ≡ true
   lists_k' = ap (λ (b : Bool). b || has (old ++ k ∷ []) k) absent ∙ has_append old (k ∷ []) k ∙ ap (λ (b : Bool). has old k || (b || false)) (eq_self k) ∙ or_true (has old k)
 
   round_other : (y : ℕ) → (k == y) ≡ false → round need r y ≡ round need' r' y
@@ -184,18 +184,18 @@ module _ (need need' : ℕ → ℕ) (ready : ℕ → Bool) (k x : ℕ) (new old 
   now_same : (w : ℕ) → ready w && (need w == 0) ≡ true → Agrees (picked_now need r w) (picked_now need' r' w) extra
   now_same w h =
       let apart : (k == w) ≡ false = by_bool ((k == w) ≡ false) (k == w) (λ e. absurd (cc (ap (λ (n : ℕ). ready n && (need n == 0)) (eq_true k w e), h, loses))) (λ e. e) in
-      let first : before w (k ∷ new) ≡ k ∷ before w new = ap (λ (b : Bool). if b then [] else k ∷ before w new) apart in
+      let first : keys_before w (k ∷ new) ≡ k ∷ keys_before w new = ap (λ (b : Bool). if b then [] else k ∷ keys_before w new) apart in
       record {
         winner = refl;
-        lists = rotation_is _ _ _ _ (ap (λ (b : Bool). if b then k ∷ new else from w new) apart)
-            (ap (λ (zs : List ℕ). old ++ zs) first ∙ sym (append_assoc old (k ∷ []) (before w new)));
-        quanta = λ y. by_key (λ n. (if has (before w (k ∷ new)) n then min 1 (need n) else 0) ≡ (if has (before w new) n then min 1 (need' n) else 0) + extra n) y
+        lists = rotation_is _ _ _ _ (ap (λ (b : Bool). if b then k ∷ new else keys_from w new) apart)
+            (ap (λ (zs : List ℕ). old ++ zs) first ∙ sym (append_assoc old (k ∷ []) (keys_before w new)));
+        quanta = λ y. by_key (λ n. (if has (keys_before w (k ∷ new)) n then min 1 (need n) else 0) ≡ (if has (keys_before w new) n then min 1 (need' n) else 0) + extra n) y
             (ap (λ (zs : List ℕ). if has zs k then min 1 (need k) else 0) first
-            ∙ ap (λ (b : Bool). if b || has (before w new) k then min 1 (need k) else 0) (eq_self k) ∙ gets_one
+            ∙ ap (λ (b : Bool). if b || has (keys_before w new) k then min 1 (need k) else 0) (eq_self k) ∙ gets_one
             ∙ omega (arith, extra_k, ap (λ (b : Bool). if b then min 1 (need' k) else 0) (before_absent w new k absent)))
             (λ e. ap (λ (zs : List ℕ). if has zs y then min 1 (need y) else 0) first
-            ∙ ap (λ (b : Bool). if b || has (before w new) y then min 1 (need y) else 0) e
-            ∙ ap (λ (n : ℕ). if has (before w new) y then min 1 n else 0) (sym (others y e))
+            ∙ ap (λ (b : Bool). if b || has (keys_before w new) y then min 1 (need y) else 0) e
+            ∙ ap (λ (n : ℕ). if has (keys_before w new) y then min 1 n else 0) (sym (others y e))
             ∙ omega (arith, extra_other y e));
       }
 
@@ -203,9 +203,9 @@ module _ (need need' : ℕ → ℕ) (ready : ℕ → Bool) (k x : ℕ) (new old 
   none_same = record {
     winner = refl;
     lists = refl;
-    quanta = λ y. by_key (λ n. (if lists r n then need n else 0) ≡ (if lists r' n then need' n else 0) + extra n) y
+    quanta = λ y. by_key (λ n. (if has_key r n then need n else 0) ≡ (if has_key r' n then need' n else 0) + extra n) y
         (ap (λ (b : Bool). if b then need k else 0) lists_k ∙ omega (arith, gets, extra_k, ap (λ (b : Bool). if b then need' k else 0) lists_k'))
-        (λ e. ap (λ (b : Bool). if b then need y else 0) (lists_other y e) ∙ ap (λ (n : ℕ). if lists r' y then n else 0) (sym (others y e)) ∙ omega (arith, extra_other y e));
+        (λ e. ap (λ (b : Bool). if b then need y else 0) (lists_other y e) ∙ ap (λ (n : ℕ). if has_key r' y then n else 0) (sym (others y e)) ∙ omega (arith, extra_other y e));
   }
 
   module _ (w : ℕ) (ready_w : ready w ≡ true) where
@@ -220,7 +220,7 @@ module _ (need need' : ℕ → ℕ) (ready : ℕ → Bool) (k x : ℕ) (new old 
 
     old_same : (y : ℕ) → old_visits r w t y ≡ old_visits r' w t' y
     old_same y =
-        ap (λ (zs : List ℕ). if has (before w zs) y then t else t - 1) order ∙ ap (λ (n : ℕ). if has (before w (in_order r')) y then n else n - 1) turn_same
+        ap (λ (zs : List ℕ). if has (keys_before w zs) y then t else t - 1) order ∙ ap (λ (n : ℕ). if has (keys_before w (in_order r')) y then n else n - 1) turn_same
 
     out_same : (y : ℕ) → is_out need ready r w t y ≡ is_out need' ready r' w t' y
     out_same y =
@@ -241,17 +241,17 @@ module _ (need need' : ℕ → ℕ) (ready : ℕ → Bool) (k x : ℕ) (new old 
       winner = refl;
       lists = rotation_is _ _ _ _ refl
           (filter_same (λ y. not (is_out need ready r w t y)) (λ y. not (is_out need' ready r' w t' y)) _ (λ y there. ap not (out_same y))
-          ∙ ap (λ (zs : List ℕ). filter (λ y. not (is_out need' ready r' w t' y)) (from w zs ++ before w zs)) order);
-      quanta = λ y. by_key (λ n. (if n == w then need n else (if lists r n then min (visits r w t n) (need n) else 0)) ≡ (if n == w then need' n else (if lists r' n then min (visits r' w t' n) (need' n) else 0)) + extra n) y
+          ∙ ap (λ (zs : List ℕ). filter (λ y. not (is_out need' ready r' w t' y)) (keys_from w zs ++ keys_before w zs)) order);
+      quanta = λ y. by_key (λ n. (if n == w then need n else (if has_key r n then min (visits r w t n) (need n) else 0)) ≡ (if n == w then need' n else (if has_key r' n then min (visits r' w t' n) (need' n) else 0)) + extra n) y
           (by_bool _ (k == w)
-          (λ e. ap (λ (b : Bool). if b then need k else (if lists r k then min (visits r w t k) (need k) else 0)) e
-          ∙ omega (arith, gets, extra_k, ap (λ (b : Bool). if b then need' k else (if lists r' k then min (visits r' w t' k) (need' k) else 0)) e))
-          (λ e. ap (λ (b : Bool). if b then need k else (if lists r k then min (visits r w t k) (need k) else 0)) e
+          (λ e. ap (λ (b : Bool). if b then need k else (if has_key r k then min (visits r w t k) (need k) else 0)) e
+          ∙ omega (arith, gets, extra_k, ap (λ (b : Bool). if b then need' k else (if has_key r' k then min (visits r' w t' k) (need' k) else 0)) e))
+          (λ e. ap (λ (b : Bool). if b then need k else (if has_key r k then min (visits r w t k) (need k) else 0)) e
           ∙ ap (λ (b : Bool). if b then min (visits r w t k) (need k) else 0) lists_k ∙ ap (λ (n : ℕ). min n (need k)) visits_k ∙ gets_more (old_visits r w t k)
-          ∙ omega (arith, extra_k, ap (λ (b : Bool). if b then need' k else (if lists r' k then min (visits r' w t' k) (need' k) else 0)) e ∙ ap (λ (b : Bool). if b then min (visits r' w t' k) (need' k) else 0) lists_k' ∙ ap (λ (n : ℕ). min n (need' k)) visits_k')))
-          (λ e. ap (λ (n : ℕ). if y == w then n else (if lists r y then min (visits r w t y) n else 0)) (sym (others y e))
+          ∙ omega (arith, extra_k, ap (λ (b : Bool). if b then need' k else (if has_key r' k then min (visits r' w t' k) (need' k) else 0)) e ∙ ap (λ (b : Bool). if b then min (visits r' w t' k) (need' k) else 0) lists_k' ∙ ap (λ (n : ℕ). min n (need' k)) visits_k')))
+          (λ e. ap (λ (n : ℕ). if y == w then n else (if has_key r y then min (visits r w t y) n else 0)) (sym (others y e))
           ∙ ap (λ (b : Bool). if y == w then need' y else (if b then min (visits r w t y) (need' y) else 0)) (lists_other y e)
-          ∙ ap (λ (n : ℕ). if y == w then need' y else (if lists r' y then min n (need' y) else 0)) (visits_other y e)
+          ∙ ap (λ (n : ℕ). if y == w then need' y else (if has_key r' y then min n (need' y) else 0)) (visits_other y e)
           ∙ omega (arith, extra_other y e));
     }
 
@@ -294,11 +294,11 @@ from_if : (b : Bool) (x : ℕ) (xs zs : List ℕ) (y : ℕ) → (x == y) ≡ fal
 from_if true x xs zs y h k l = both_false (x == y) (has xs y) h k
 from_if false x xs zs y h k l = l
 
-from_absent : (w : ℕ) (ks : List ℕ) (y : ℕ) → has ks y ≡ false → has (from w ks) y ≡ false
+from_absent : (w : ℕ) (ks : List ℕ) (y : ℕ) → has ks y ≡ false → has (keys_from w ks) y ≡ false
 from_absent w [] y h = refl
 from_absent w (x ∷ xs) y h =
     let e = either_false (x == y) (has xs y) h in
-    from_if (x == w) x xs (from w xs) y e.0 e.1 (from_absent w xs y e.1)
+    from_if (x == w) x xs (keys_from w xs) y e.0 e.1 (from_absent w xs y e.1)
 
 other_member : (k : ℕ) (ks : List ℕ) → has ks k ≡ false → (y : ℕ) → has ks y ≡ true → (k == y) ≡ false
 other_member k ks absent y h = by_bool ((k == y) ≡ false) (k == y) (λ e. absurd (cc (ap (has ks) (eq_true k y e), h, absent))) (λ e. e)
@@ -324,8 +324,8 @@ module _ (need : ℕ → ℕ) (ready : ℕ → Bool) (k : ℕ) (old : List ℕ) 
   out_none = record {
     winner = refl;
     lists = refl;
-    quanta = λ y. by_bool ((if lists s y then need y else 0) ≡ (if lists s' y then need y else 0) + 0) (k == y)
-        (λ e. subst (λ (n : ℕ). (if lists s n then need n else 0) ≡ (if lists s' n then need n else 0) + 0) (eq_true k y e)
+    quanta = λ y. by_bool ((if has_key s y then need y else 0) ≡ (if has_key s' y then need y else 0) + 0) (k == y)
+        (λ e. subst (λ (n : ℕ). (if has_key s n then need n else 0) ≡ (if has_key s' n then need n else 0) + 0) (eq_true k y e)
         (ap (λ (b : Bool). if b || has old k then need k else 0) (eq_self k) ∙ omega (arith, above, ap (λ (b : Bool). if b then need k else 0) out_absent)))
         (λ e. ap (λ (b : Bool). if b || has old y then need y else 0) e ∙ omega arith);
   }
@@ -337,17 +337,17 @@ module _ (need : ℕ → ℕ) (ready : ℕ → Bool) (k : ℕ) (old : List ℕ) 
     out_apart : (k == w) ≡ false
     out_apart = by_bool ((k == w) ≡ false) (k == w) (λ e. absurd (cc (ap ready (eq_true k w e), ready_w, loses))) (λ e. e)
 
-    out_before : before w (k ∷ m) ≡ k ∷ before w m
-    out_before = ap (λ (b : Bool). if b then [] else k ∷ before w m) out_apart
+    out_before : keys_before w (k ∷ m) ≡ k ∷ keys_before w m
+    out_before = ap (λ (b : Bool). if b then [] else k ∷ keys_before w m) out_apart
 
-    out_from : from w (k ∷ m) ≡ from w m
-    out_from = ap (λ (b : Bool). if b then k ∷ m else from w m) out_apart
+    out_from : keys_from w (k ∷ m) ≡ keys_from w m
+    out_from = ap (λ (b : Bool). if b then k ∷ m else keys_from w m) out_apart
 
     out_visits_k : old_visits s w u k ≡ u
-    out_visits_k = ap (λ (zs : List ℕ). if has zs k then u else u - 1) out_before ∙ ap (λ (b : Bool). if b || has (before w m) k then u else u - 1) (eq_self k)
+    out_visits_k = ap (λ (zs : List ℕ). if has zs k then u else u - 1) out_before ∙ ap (λ (b : Bool). if b || has (keys_before w m) k then u else u - 1) (eq_self k)
 
     out_visits : (y : ℕ) → (k == y) ≡ false → old_visits s w u y ≡ old_visits s' w u y
-    out_visits y e = ap (λ (zs : List ℕ). if has zs y then u else u - 1) out_before ∙ ap (λ (b : Bool). if b || has (before w m) y then u else u - 1) e
+    out_visits y e = ap (λ (zs : List ℕ). if has zs y then u else u - 1) out_before ∙ ap (λ (b : Bool). if b || has (keys_before w m) y then u else u - 1) e
 
     abbrev keep : ℕ → Bool
     keep y = not (is_out need ready s w u y)
@@ -367,16 +367,16 @@ module _ (need : ℕ → ℕ) (ready : ℕ → Bool) (k : ℕ) (old : List ℕ) 
     keep_other : (y : ℕ) → (k == y) ≡ false → keep y ≡ keep' y
     keep_other y e = ap (λ (n : ℕ). not (not (ready y) && nat_le (max 1 (1 + need y)) n)) (out_visits y e)
 
-    out_ring : filter keep (from w (k ∷ m) ++ before w (k ∷ m)) ≡ filter keep' (from w m ++ before w m)
+    out_ring : filter keep (keys_from w (k ∷ m) ++ keys_before w (k ∷ m)) ≡ filter keep' (keys_from w m ++ keys_before w m)
     out_ring =
-        ap (λ (zs : List ℕ). filter keep (zs ++ before w (k ∷ m))) out_from ∙ ap (λ (zs : List ℕ). filter keep (from w m ++ zs)) out_before
-        ∙ filter-append keep (from w m) (k ∷ before w m)
-        ∙ ap (λ (b : Bool). filter keep (from w m) ++ (if b then k ∷ filter keep (before w m) else filter keep (before w m))) keep_k
-        ∙ sym (filter-append keep (from w m) (before w m))
-        ∙ filter_same keep keep' (from w m ++ before w m) (λ y there. keep_other y (other_member k (from w m ++ before w m) absent_ring y there))
+        ap (λ (zs : List ℕ). filter keep (zs ++ keys_before w (k ∷ m))) out_from ∙ ap (λ (zs : List ℕ). filter keep (keys_from w m ++ zs)) out_before
+        ∙ filter-append keep (keys_from w m) (k ∷ keys_before w m)
+        ∙ ap (λ (b : Bool). filter keep (keys_from w m) ++ (if b then k ∷ filter keep (keys_before w m) else filter keep (keys_before w m))) keep_k
+        ∙ sym (filter-append keep (keys_from w m) (keys_before w m))
+        ∙ filter_same keep keep' (keys_from w m ++ keys_before w m) (λ y there. keep_other y (other_member k (keys_from w m ++ keys_before w m) absent_ring y there))
       where
-        absent_ring : has (from w m ++ before w m) k ≡ false
-        absent_ring = has_append (from w m) (before w m) k ∙ both_false (has (from w m) k) (has (before w m) k) (from_absent w m k d.0) (before_absent w m k d.0)
+        absent_ring : has (keys_from w m ++ keys_before w m) k ≡ false
+        absent_ring = has_append (keys_from w m) (keys_before w m) k ∙ both_false (has (keys_from w m) k) (has (keys_before w m) k) (from_absent w m k d.0) (before_absent w m k d.0)
 
     min_zero : (n : ℕ) → min n 0 ≡ 0
     min_zero n = omega arith
@@ -385,11 +385,11 @@ module _ (need : ℕ → ℕ) (ready : ℕ → Bool) (k : ℕ) (old : List ℕ) 
     out_later = record {
       winner = refl;
       lists = λ i. record { new = []; old = out_ring i };
-      quanta = λ y. by_bool ((if y == w then need y else (if lists s y then min (visits s w u y) (need y) else 0)) ≡ (if y == w then need y else (if lists s' y then min (visits s' w u y) (need y) else 0)) + 0) (k == y)
-          (λ e. subst (λ (n : ℕ). (if n == w then need n else (if lists s n then min (visits s w u n) (need n) else 0)) ≡ (if n == w then need n else (if lists s' n then min (visits s' w u n) (need n) else 0)) + 0) (eq_true k y e)
-          (ap (λ (b : Bool). if b then need k else (if lists s k then min (visits s w u k) (need k) else 0)) out_apart
+      quanta = λ y. by_bool ((if y == w then need y else (if has_key s y then min (visits s w u y) (need y) else 0)) ≡ (if y == w then need y else (if has_key s' y then min (visits s' w u y) (need y) else 0)) + 0) (k == y)
+          (λ e. subst (λ (n : ℕ). (if n == w then need n else (if has_key s n then min (visits s w u n) (need n) else 0)) ≡ (if n == w then need n else (if has_key s' n then min (visits s' w u n) (need n) else 0)) + 0) (eq_true k y e)
+          (ap (λ (b : Bool). if b then need k else (if has_key s k then min (visits s w u k) (need k) else 0)) out_apart
           ∙ ap (λ (b : Bool). if b || has old k then min (visits s w u k) (need k) else 0) (eq_self k) ∙ ap (min (visits s w u k)) above ∙ min_zero (visits s w u k)
-          ∙ omega (arith, ap (λ (b : Bool). if b then need k else (if lists s' k then min (visits s' w u k) (need k) else 0)) out_apart ∙ ap (λ (b : Bool). if b then min (visits s' w u k) (need k) else 0) out_absent)))
+          ∙ omega (arith, ap (λ (b : Bool). if b then need k else (if has_key s' k then min (visits s' w u k) (need k) else 0)) out_apart ∙ ap (λ (b : Bool). if b then min (visits s' w u k) (need k) else 0) out_absent)))
           (λ e. ap (λ (b : Bool). if y == w then need y else (if b || has old y then min (visits s w u y) (need y) else 0)) e
           ∙ ap (λ (n : ℕ). if y == w then need y else (if has old y then min (n + 0) (need y) else 0)) (out_visits y e) ∙ omega arith);
     }
@@ -459,21 +459,21 @@ rotated_least : (f g : ℕ → ℕ) (k : ℕ) (ys : List ℕ) → f k ≡ 1 + g 
 rotated_least f g k ys h e =
     moved_back f g k (first_least f ys) h (λ z s. e z (least_member f ys z s)) ∙ ap (last_or g k) (least_same f g ys e) ∙ sym (least_append g ys k)
 
-before_front : (w : ℕ) (xs zs : List ℕ) → has xs w ≡ true → (before w (xs ++ zs) ≡ before w xs) × (from w (xs ++ zs) ≡ from w xs ++ zs)
+before_front : (w : ℕ) (xs zs : List ℕ) → has xs w ≡ true → (keys_before w (xs ++ zs) ≡ keys_before w xs) × (keys_from w (xs ++ zs) ≡ keys_from w xs ++ zs)
 before_front w [] zs h = absurd (cc h)
 before_front w (x ∷ xs) zs h = go (x == w) h (before_front w xs zs)
   where
-    go : (b : Bool) → (b || has xs w) ≡ true → (has xs w ≡ true → (before w (xs ++ zs) ≡ before w xs) × (from w (xs ++ zs) ≡ from w xs ++ zs))
-        → ((if b then [] else x ∷ before w (xs ++ zs)) ≡ (if b then [] else x ∷ before w xs)) × ((if b then x ∷ (xs ++ zs) else from w (xs ++ zs)) ≡ (if b then x ∷ xs else from w xs) ++ zs)
+    go : (b : Bool) → (b || has xs w) ≡ true → (has xs w ≡ true → (keys_before w (xs ++ zs) ≡ keys_before w xs) × (keys_from w (xs ++ zs) ≡ keys_from w xs ++ zs))
+        → ((if b then [] else x ∷ keys_before w (xs ++ zs)) ≡ (if b then [] else x ∷ keys_before w xs)) × ((if b then x ∷ (xs ++ zs) else keys_from w (xs ++ zs)) ≡ (if b then x ∷ xs else keys_from w xs) ++ zs)
     go true h f = (refl, refl)
     go false h f = (ap (λ (ys : List ℕ). x ∷ ys) (f h).0, (f h).1)
 
-before_last : (k : ℕ) (xs : List ℕ) → has xs k ≡ false → (before k (xs ++ k ∷ []) ≡ xs) × (from k (xs ++ k ∷ []) ≡ k ∷ [])
+before_last : (k : ℕ) (xs : List ℕ) → has xs k ≡ false → (keys_before k (xs ++ k ∷ []) ≡ xs) × (keys_from k (xs ++ k ∷ []) ≡ k ∷ [])
 before_last k [] h = (ap (λ (b : Bool). if b then [] else k ∷ []) (eq_self k), ap (λ (b : Bool). if b then k ∷ [] else []) (eq_self k))
 before_last k (x ∷ xs) h =
     let e = either_false (x == k) (has xs k) h in (
-      ap (λ (b : Bool). if b then [] else x ∷ before k (xs ++ k ∷ [])) e.0 ∙ ap (λ (ys : List ℕ). x ∷ ys) (before_last k xs e.1).0,
-      ap (λ (b : Bool). if b then x ∷ (xs ++ k ∷ []) else from k (xs ++ k ∷ [])) e.0 ∙ (before_last k xs e.1).1,
+      ap (λ (b : Bool). if b then [] else x ∷ keys_before k (xs ++ k ∷ [])) e.0 ∙ ap (λ (ys : List ℕ). x ∷ ys) (before_last k xs e.1).0,
+      ap (λ (b : Bool). if b then x ∷ (xs ++ k ∷ []) else keys_from k (xs ++ k ∷ [])) e.0 ∙ (before_last k xs e.1).1,
     )
 
 one_self : (k : ℕ) → one_for k k ≡ 1
@@ -499,7 +499,7 @@ module _ (need need' : ℕ → ℕ) (ready : ℕ → Bool) (k : ℕ) (old : List
   order_v' : in_order v' ≡ old ++ k ∷ []
   order_v' = append-nil (old ++ k ∷ [])
 
-  back_lists : (y : ℕ) → lists v y ≡ lists v' y
+  back_lists : (y : ℕ) → has_key v y ≡ has_key v' y
   back_lists y = flip (k == y) (has old y) ∙ sym (has_append old (k ∷ []) y)
     where
       flip : (a b : Bool) → (a || b) ≡ (b || (a || false))
@@ -508,18 +508,18 @@ module _ (need need' : ℕ → ℕ) (ready : ℕ → Bool) (k : ℕ) (old : List
       flip false true = refl
       flip false false = refl
 
-  back_lists_k : lists v k ≡ true
+  back_lists_k : has_key v k ≡ true
   back_lists_k = in_head k old
 
   back_none : Agrees (none_ready need v) (none_ready need' v') (one_for k)
   back_none = record {
     winner = refl;
     lists = refl;
-    quanta = λ y. by_bool ((if lists v y then need y else 0) ≡ (if lists v' y then need' y else 0) + one_for k y) (k == y)
-        (λ e. subst (λ (n : ℕ). (if lists v n then need n else 0) ≡ (if lists v' n then need' n else 0) + one_for k n) (eq_true k y e)
+    quanta = λ y. by_bool ((if has_key v y then need y else 0) ≡ (if has_key v' y then need' y else 0) + one_for k y) (k == y)
+        (λ e. subst (λ (n : ℕ). (if has_key v n then need n else 0) ≡ (if has_key v' n then need' n else 0) + one_for k n) (eq_true k y e)
         (ap (λ (b : Bool). if b then need k else 0) back_lists_k
         ∙ omega (arith, gets, one_self k, ap (λ (b : Bool). if b then need' k else 0) (sym (back_lists k) ∙ back_lists_k))))
-        (λ e. ap (λ (b : Bool). if b then need y else 0) (back_lists y) ∙ ap (λ (n : ℕ). if lists v' y then n else 0) (sym (others y e)) ∙ omega (arith, one_other k y e));
+        (λ e. ap (λ (b : Bool). if b then need y else 0) (back_lists y) ∙ ap (λ (n : ℕ). if has_key v' y then n else 0) (sym (others y e)) ∙ omega (arith, one_other k y e));
   }
 
   -- another key wins
@@ -533,20 +533,20 @@ module _ (need need' : ℕ → ℕ) (ready : ℕ → Bool) (k : ℕ) (old : List
     g_same : g ≡ g'
     g_same = ap (λ (n : ℕ). 1 + n) (sym (others w apart))
 
-    before_v : before w (in_order v) ≡ k ∷ before w old
-    before_v = ap (before w) order_v ∙ ap (λ (b : Bool). if b then [] else k ∷ before w old) apart
+    before_v : keys_before w (in_order v) ≡ k ∷ keys_before w old
+    before_v = ap (keys_before w) order_v ∙ ap (λ (b : Bool). if b then [] else k ∷ keys_before w old) apart
 
-    from_v : from w (in_order v) ≡ from w old
-    from_v = ap (from w) order_v ∙ ap (λ (b : Bool). if b then k ∷ old else from w old) apart
+    from_v : keys_from w (in_order v) ≡ keys_from w old
+    from_v = ap (keys_from w) order_v ∙ ap (λ (b : Bool). if b then k ∷ old else keys_from w old) apart
 
-    before_v' : before w (in_order v') ≡ before w old
-    before_v' = ap (before w) order_v' ∙ (before_front w old (k ∷ []) there).0
+    before_v' : keys_before w (in_order v') ≡ keys_before w old
+    before_v' = ap (keys_before w) order_v' ∙ (before_front w old (k ∷ []) there).0
 
-    from_v' : from w (in_order v') ≡ from w old ++ k ∷ []
-    from_v' = ap (from w) order_v' ∙ (before_front w old (k ∷ []) there).1
+    from_v' : keys_from w (in_order v') ≡ keys_from w old ++ k ∷ []
+    from_v' = ap (keys_from w) order_v' ∙ (before_front w old (k ∷ []) there).1
 
     visits_v : old_visits v w g k ≡ g
-    visits_v = ap (λ (zs : List ℕ). if has zs k then g else g - 1) before_v ∙ ap (λ (b : Bool). if b || has (before w old) k then g else g - 1) (eq_self k)
+    visits_v = ap (λ (zs : List ℕ). if has zs k then g else g - 1) before_v ∙ ap (λ (b : Bool). if b || has (keys_before w old) k then g else g - 1) (eq_self k)
 
     visits_v' : old_visits v' w g' k ≡ g - 1
     visits_v' =
@@ -555,8 +555,8 @@ module _ (need need' : ℕ → ℕ) (ready : ℕ → Bool) (k : ℕ) (old : List
 
     visits_same : (y : ℕ) → (k == y) ≡ false → old_visits v w g y ≡ old_visits v' w g' y
     visits_same y e =
-        ap (λ (zs : List ℕ). if has zs y then g else g - 1) before_v ∙ ap (λ (b : Bool). if b || has (before w old) y then g else g - 1) e
-        ∙ ap (λ (n : ℕ). if has (before w old) y then n else n - 1) g_same ∙ sym (ap (λ (zs : List ℕ). if has zs y then g' else g' - 1) before_v')
+        ap (λ (zs : List ℕ). if has zs y then g else g - 1) before_v ∙ ap (λ (b : Bool). if b || has (keys_before w old) y then g else g - 1) e
+        ∙ ap (λ (n : ℕ). if has (keys_before w old) y then n else n - 1) g_same ∙ sym (ap (λ (zs : List ℕ). if has zs y then g' else g' - 1) before_v')
 
     shift : (a b n : ℕ) → a ≡ 1 + b → nat_le (max 1 (1 + a)) (1 + n) ≡ nat_le (max 1 (1 + b)) (1 + n - 1)
     shift a b n e = go (nat_le (max 1 (1 + a)) (1 + n)) refl
@@ -573,12 +573,12 @@ module _ (need need' : ℕ → ℕ) (ready : ℕ → Bool) (k : ℕ) (old : List
         (λ e. ap (λ (n : ℕ). not (not (ready y) && nat_le (max 1 (1 + n)) (old_visits v w g y))) (sym (others y e))
         ∙ ap (λ (n : ℕ). not (not (ready y) && nat_le (max 1 (1 + need' y)) n)) (visits_same y e))
 
-    ring_same : filter (λ y. not (is_out need ready v w g y)) (from w (in_order v) ++ before w (in_order v)) ≡ filter (λ y. not (is_out need' ready v' w g' y)) (from w (in_order v') ++ before w (in_order v'))
+    ring_same : filter (λ y. not (is_out need ready v w g y)) (keys_from w (in_order v) ++ keys_before w (in_order v)) ≡ filter (λ y. not (is_out need' ready v' w g' y)) (keys_from w (in_order v') ++ keys_before w (in_order v'))
     ring_same =
         filter_same (λ y. not (is_out need ready v w g y)) (λ y. not (is_out need' ready v' w g' y)) _ (λ y h. keeps_same y)
         ∙ ap (filter (λ y. not (is_out need' ready v' w g' y)))
-        (ap (λ (zs : List ℕ). zs ++ before w (in_order v)) from_v ∙ ap (λ (zs : List ℕ). from w old ++ zs) before_v ∙ sym (append_assoc (from w old) (k ∷ []) (before w old))
-        ∙ sym (ap (λ (zs : List ℕ). zs ++ before w (in_order v')) from_v' ∙ ap (λ (zs : List ℕ). (from w old ++ k ∷ []) ++ zs) before_v'))
+        (ap (λ (zs : List ℕ). zs ++ keys_before w (in_order v)) from_v ∙ ap (λ (zs : List ℕ). keys_from w old ++ zs) before_v ∙ sym (append_assoc (keys_from w old) (k ∷ []) (keys_before w old))
+        ∙ sym (ap (λ (zs : List ℕ). zs ++ keys_before w (in_order v')) from_v' ∙ ap (λ (zs : List ℕ). (keys_from w old ++ k ∷ []) ++ zs) before_v'))
 
     more_min : (a b n : ℕ) → a ≡ 1 + b → min (1 + n + 0) a ≡ min (1 + n - 1 + 0) b + 1
     more_min a b n e = omega arith
@@ -587,19 +587,19 @@ module _ (need need' : ℕ → ℕ) (ready : ℕ → Bool) (k : ℕ) (old : List
     back_other = record {
       winner = refl;
       lists = λ i. record { new = []; old = ring_same i };
-      quanta = λ y. by_bool ((if y == w then need y else (if lists v y then min (visits v w g y) (need y) else 0)) ≡ (if y == w then need' y else (if lists v' y then min (visits v' w g' y) (need' y) else 0)) + one_for k y) (k == y)
-          (λ e. subst (λ (n : ℕ). (if n == w then need n else (if lists v n then min (visits v w g n) (need n) else 0)) ≡ (if n == w then need' n else (if lists v' n then min (visits v' w g' n) (need' n) else 0)) + one_for k n) (eq_true k y e)
-          (ap (λ (b : Bool). if b then need k else (if lists v k then min (visits v w g k) (need k) else 0)) apart
+      quanta = λ y. by_bool ((if y == w then need y else (if has_key v y then min (visits v w g y) (need y) else 0)) ≡ (if y == w then need' y else (if has_key v' y then min (visits v' w g' y) (need' y) else 0)) + one_for k y) (k == y)
+          (λ e. subst (λ (n : ℕ). (if n == w then need n else (if has_key v n then min (visits v w g n) (need n) else 0)) ≡ (if n == w then need' n else (if has_key v' n then min (visits v' w g' n) (need' n) else 0)) + one_for k n) (eq_true k y e)
+          (ap (λ (b : Bool). if b then need k else (if has_key v k then min (visits v w g k) (need k) else 0)) apart
           ∙ ap (λ (b : Bool). if b then min (visits v w g k) (need k) else 0) back_lists_k ∙ ap (λ (n : ℕ). min (n + 0) (need k)) visits_v ∙ more_min (need k) (need' k) (need w) gets
           ∙ omega (
             arith,
             one_self k,
-            ap (λ (b : Bool). if b then need' k else (if lists v' k then min (visits v' w g' k) (need' k) else 0)) apart
+            ap (λ (b : Bool). if b then need' k else (if has_key v' k then min (visits v' w g' k) (need' k) else 0)) apart
                 ∙ ap (λ (b : Bool). if b then min (visits v' w g' k) (need' k) else 0) (sym (back_lists k) ∙ back_lists_k) ∙ ap (λ (n : ℕ). min (n + 0) (need' k)) visits_v',
           )))
-          (λ e. ap (λ (n : ℕ). if y == w then n else (if lists v y then min (visits v w g y) n else 0)) (sym (others y e))
+          (λ e. ap (λ (n : ℕ). if y == w then n else (if has_key v y then min (visits v w g y) n else 0)) (sym (others y e))
           ∙ ap (λ (b : Bool). if y == w then need' y else (if b then min (visits v w g y) (need' y) else 0)) (back_lists y)
-          ∙ ap (λ (n : ℕ). if y == w then need' y else (if lists v' y then min (n + 0) (need' y) else 0)) (visits_same y e)
+          ∙ ap (λ (n : ℕ). if y == w then need' y else (if has_key v' y then min (n + 0) (need' y) else 0)) (visits_same y e)
           ∙ omega (arith, one_other k y e));
     }
 
@@ -611,17 +611,17 @@ module _ (need need' : ℕ → ℕ) (ready : ℕ → Bool) (k : ℕ) (old : List
     abbrev h' : ℕ
     h' = 1 + need' k
 
-    self_before : before k (in_order v) ≡ []
-    self_before = ap (λ (b : Bool). if b then [] else k ∷ before k (old ++ [])) (eq_self k)
+    self_before : keys_before k (in_order v) ≡ []
+    self_before = ap (λ (b : Bool). if b then [] else k ∷ keys_before k (old ++ [])) (eq_self k)
 
-    self_from : from k (in_order v) ≡ k ∷ old
-    self_from = ap (λ (b : Bool). if b then k ∷ (old ++ []) else from k (old ++ [])) (eq_self k) ∙ order_v
+    self_from : keys_from k (in_order v) ≡ k ∷ old
+    self_from = ap (λ (b : Bool). if b then k ∷ (old ++ []) else keys_from k (old ++ [])) (eq_self k) ∙ order_v
 
-    self_before' : before k (in_order v') ≡ old
-    self_before' = ap (before k) order_v' ∙ (before_last k old back_absent).0
+    self_before' : keys_before k (in_order v') ≡ old
+    self_before' = ap (keys_before k) order_v' ∙ (before_last k old back_absent).0
 
-    self_from' : from k (in_order v') ≡ k ∷ []
-    self_from' = ap (from k) order_v' ∙ (before_last k old back_absent).1
+    self_from' : keys_from k (in_order v') ≡ k ∷ []
+    self_from' = ap (keys_from k) order_v' ∙ (before_last k old back_absent).1
 
     self_visits : (y : ℕ) → old_visits v k h y ≡ h - 1
     self_visits y = ap (λ (zs : List ℕ). if has zs y then h else h - 1) self_before
@@ -639,36 +639,36 @@ module _ (need need' : ℕ → ℕ) (ready : ℕ → Bool) (k : ℕ) (old : List
         (λ e. ap (λ (n : ℕ). not (not (ready y) && nat_le (max 1 (1 + n)) (old_visits v k h y))) (sym (others y e))
         ∙ ap (λ (n : ℕ). not (not (ready y) && nat_le (max 1 (1 + need' y)) n)) (self_same y (ap (λ (b : Bool). b || has old y) (sym e) ∙ there)))
 
-    self_ring : filter (λ y. not (is_out need ready v k h y)) (from k (in_order v) ++ before k (in_order v)) ≡ filter (λ y. not (is_out need' ready v' k h' y)) (from k (in_order v') ++ before k (in_order v'))
+    self_ring : filter (λ y. not (is_out need ready v k h y)) (keys_from k (in_order v) ++ keys_before k (in_order v)) ≡ filter (λ y. not (is_out need' ready v' k h' y)) (keys_from k (in_order v') ++ keys_before k (in_order v'))
     self_ring =
-        ap (filter (λ y. not (is_out need ready v k h y))) (ap (λ (zs : List ℕ). zs ++ before k (in_order v)) self_from ∙ ap (λ (zs : List ℕ). (k ∷ old) ++ zs) self_before ∙ append-nil (k ∷ old))
+        ap (filter (λ y. not (is_out need ready v k h y))) (ap (λ (zs : List ℕ). zs ++ keys_before k (in_order v)) self_from ∙ ap (λ (zs : List ℕ). (k ∷ old) ++ zs) self_before ∙ append-nil (k ∷ old))
         ∙ filter_same (λ y. not (is_out need ready v k h y)) (λ y. not (is_out need' ready v' k h' y)) (k ∷ old) self_keeps
-        ∙ ap (filter (λ y. not (is_out need' ready v' k h' y))) (sym (ap (λ (zs : List ℕ). zs ++ before k (in_order v')) self_from' ∙ ap (λ (zs : List ℕ). (k ∷ []) ++ zs) self_before'))
+        ∙ ap (filter (λ y. not (is_out need' ready v' k h' y))) (sym (ap (λ (zs : List ℕ). zs ++ keys_before k (in_order v')) self_from' ∙ ap (λ (zs : List ℕ). (k ∷ []) ++ zs) self_before'))
 
     swapped : (y : ℕ) → (k == y) ≡ false → (y == k) ≡ false
     swapped y e = by_bool ((y == k) ≡ false) (y == k) (λ t. absurd (cc (sym (eq_self k) ∙ ap (λ (n : ℕ). k == n) (sym (eq_true y k t)) ∙ e))) (λ t. t)
 
-    self_paid : (y : ℕ) → (k == y) ≡ false → (if lists v y then min (visits v k h y) (need y) else 0) ≡ (if lists v' y then min (visits v' k h' y) (need' y) else 0)
+    self_paid : (y : ℕ) → (k == y) ≡ false → (if has_key v y then min (visits v k h y) (need y) else 0) ≡ (if has_key v' y then min (visits v' k h' y) (need' y) else 0)
     self_paid y e =
-        by_bool ((if lists v y then min (visits v k h y) (need y) else 0) ≡ (if lists v' y then min (visits v' k h' y) (need' y) else 0)) (has old y)
+        by_bool ((if has_key v y then min (visits v k h y) (need y) else 0) ≡ (if has_key v' y then min (visits v' k h' y) (need' y) else 0)) (has old y)
         (λ there.
-        ap (λ (n : ℕ). if lists v y then min (visits v k h y) n else 0) (sym (others y e))
+        ap (λ (n : ℕ). if has_key v y then min (visits v k h y) n else 0) (sym (others y e))
         ∙ ap (λ (b : Bool). if b then min (visits v k h y) (need' y) else 0) (back_lists y)
-        ∙ ap (λ (n : ℕ). if lists v' y then min (n + 0) (need' y) else 0) (self_same y there))
+        ∙ ap (λ (n : ℕ). if has_key v' y then min (n + 0) (need' y) else 0) (self_same y there))
         (λ absent.
-        let out : lists v y ≡ false = both_false (k == y) (has old y) e absent in
+        let out : has_key v y ≡ false = both_false (k == y) (has old y) e absent in
         ap (λ (b : Bool). if b then min (visits v k h y) (need y) else 0) out ∙ sym (ap (λ (b : Bool). if b then min (visits v' k h' y) (need' y) else 0) (sym (back_lists y) ∙ out)))
 
     back_self : Agrees (picked_later need ready v k h) (picked_later need' ready v' k h') (one_for k)
     back_self = record {
       winner = refl;
       lists = λ i. record { new = []; old = self_ring i };
-      quanta = λ y. by_bool ((if y == k then need y else (if lists v y then min (visits v k h y) (need y) else 0)) ≡ (if y == k then need' y else (if lists v' y then min (visits v' k h' y) (need' y) else 0)) + one_for k y) (k == y)
-          (λ e. subst (λ (n : ℕ). (if n == k then need n else (if lists v n then min (visits v k h n) (need n) else 0)) ≡ (if n == k then need' n else (if lists v' n then min (visits v' k h' n) (need' n) else 0)) + one_for k n) (eq_true k y e)
-          (ap (λ (b : Bool). if b then need k else (if lists v k then min (visits v k h k) (need k) else 0)) (eq_self k)
-          ∙ omega (arith, gets, one_self k, ap (λ (b : Bool). if b then need' k else (if lists v' k then min (visits v' k h' k) (need' k) else 0)) (eq_self k))))
-          (λ e. ap (λ (b : Bool). if b then need y else (if lists v y then min (visits v k h y) (need y) else 0)) (swapped y e) ∙ self_paid y e
-          ∙ omega (arith, one_other k y e, ap (λ (b : Bool). if b then need' y else (if lists v' y then min (visits v' k h' y) (need' y) else 0)) (swapped y e)));
+      quanta = λ y. by_bool ((if y == k then need y else (if has_key v y then min (visits v k h y) (need y) else 0)) ≡ (if y == k then need' y else (if has_key v' y then min (visits v' k h' y) (need' y) else 0)) + one_for k y) (k == y)
+          (λ e. subst (λ (n : ℕ). (if n == k then need n else (if has_key v n then min (visits v k h n) (need n) else 0)) ≡ (if n == k then need' n else (if has_key v' n then min (visits v' k h' n) (need' n) else 0)) + one_for k n) (eq_true k y e)
+          (ap (λ (b : Bool). if b then need k else (if has_key v k then min (visits v k h k) (need k) else 0)) (eq_self k)
+          ∙ omega (arith, gets, one_self k, ap (λ (b : Bool). if b then need' k else (if has_key v' k then min (visits v' k h' k) (need' k) else 0)) (eq_self k))))
+          (λ e. ap (λ (b : Bool). if b then need y else (if has_key v y then min (visits v k h y) (need y) else 0)) (swapped y e) ∙ self_paid y e
+          ∙ omega (arith, one_other k y e, ap (λ (b : Bool). if b then need' y else (if has_key v' y then min (visits v' k h' y) (need' y) else 0)) (swapped y e)));
     }
 
   back_later : (w : ℕ) → has (k ∷ old) w ≡ true → ready w ≡ true → Agrees (picked_later need ready v w (1 + need w)) (picked_later need' ready v' w (1 + need' w)) (one_for k)
@@ -735,8 +735,8 @@ new_wins need ready k new old above is_ready =
     subst (λ (o : Option ℕ). Agrees (pick_from need ready (record { new = k ∷ new; old = old }) o) (record { winner = Some k; lists = record { new = k ∷ new; old = old }; quanta = λ y. 0 }) (λ y. 0)) (sym found)
     (record {
       winner = refl;
-      lists = λ i. record { new = ap (λ (b : Bool). if b then k ∷ new else from k new) (eq_self k) i; old = (ap (λ (b : Bool). old ++ (if b then [] else k ∷ before k new)) (eq_self k) ∙ append-nil old) i };
-      quanta = λ y. ap (λ (b : Bool). if has (if b then [] else k ∷ before k new) y then min 1 (need y) else 0) (eq_self k);
+      lists = λ i. record { new = ap (λ (b : Bool). if b then k ∷ new else keys_from k new) (eq_self k) i; old = (ap (λ (b : Bool). old ++ (if b then [] else k ∷ keys_before k new)) (eq_self k) ∙ append-nil old) i };
+      quanta = λ y. ap (λ (b : Bool). if has (if b then [] else k ∷ keys_before k new) y then min 1 (need y) else 0) (eq_self k);
     })
   where
     found : find (λ y. ready y && (need y == 0)) (k ∷ new) ≡ Some k
@@ -753,9 +753,9 @@ old_wins need ready k old above is_ready =
     (record {
       winner = refl;
       lists = λ i. record { new = []; old = ring i };
-      quanta = λ y. by_bool ((if y == k then need y else (if lists p y then min (visits p k (1 + need k) y) (need y) else 0)) ≡ 0 + 0) (y == k)
-          (λ e. ap (λ (b : Bool). if b then need y else (if lists p y then min (visits p k (1 + need k) y) (need y) else 0)) e ∙ ap need (eq_true y k e) ∙ omega (arith, above))
-          (λ e. ap (λ (b : Bool). if b then need y else (if lists p y then min (visits p k (1 + need k) y) (need y) else 0)) e ∙ zero_if (lists p y) (need y) (visits p k (1 + need k) y) (omega (arith, no_visits y)));
+      quanta = λ y. by_bool ((if y == k then need y else (if has_key p y then min (visits p k (1 + need k) y) (need y) else 0)) ≡ 0 + 0) (y == k)
+          (λ e. ap (λ (b : Bool). if b then need y else (if has_key p y then min (visits p k (1 + need k) y) (need y) else 0)) e ∙ ap need (eq_true y k e) ∙ omega (arith, above))
+          (λ e. ap (λ (b : Bool). if b then need y else (if has_key p y then min (visits p k (1 + need k) y) (need y) else 0)) e ∙ zero_if (has_key p y) (need y) (visits p k (1 + need k) y) (omega (arith, no_visits y)));
     })
   where
     p : Rotation
@@ -775,7 +775,7 @@ old_wins need ready k old above is_ready =
     least = ap (λ (b : Bool). first_least (λ y. 1 + need y) (if b then k ∷ filter ready (old ++ []) else filter ready (old ++ []))) is_ready ∙ first (first_least (λ y. 1 + need y) (filter ready (old ++ [])))
 
     no_visits : (y : ℕ) → old_visits p k (1 + need k) y ≡ 0
-    no_visits y = ap (λ (b : Bool). if has (if b then [] else k ∷ before k (old ++ [])) y then 1 + need k else 1 + need k - 1) (eq_self k) ∙ omega (arith, above)
+    no_visits y = ap (λ (b : Bool). if has (if b then [] else k ∷ keys_before k (old ++ [])) y then 1 + need k else 1 + need k - 1) (eq_self k) ∙ omega (arith, above)
 
     zero_if : (b : Bool) (n m : ℕ) → m ≡ 0 → (if b then min m n else 0) ≡ 0 + 0
     zero_if true n m e = omega (arith, e)
@@ -792,8 +792,8 @@ old_wins need ready k old above is_ready =
     all_kept [] = refl
     all_kept (x ∷ xs) = ap (λ (zs : List ℕ). x ∷ zs) (all_kept xs)
 
-    ring : filter (λ y. not (is_out need ready p k (1 + need k) y)) (from k (k ∷ (old ++ [])) ++ before k (k ∷ (old ++ []))) ≡ k ∷ old
+    ring : filter (λ y. not (is_out need ready p k (1 + need k) y)) (keys_from k (k ∷ (old ++ [])) ++ keys_before k (k ∷ (old ++ []))) ≡ k ∷ old
     ring =
         filter_same (λ y. not (is_out need ready p k (1 + need k) y)) (λ y. true) _ (λ y h. kept y) ∙ all_kept _
-        ∙ ap (λ (b : Bool). (if b then k ∷ (old ++ []) else from k (old ++ [])) ++ (if b then [] else k ∷ before k (old ++ []))) (eq_self k)
+        ∙ ap (λ (b : Bool). (if b then k ∷ (old ++ []) else keys_from k (old ++ [])) ++ (if b then [] else k ∷ keys_before k (old ++ []))) (eq_self k)
         ∙ append-nil (k ∷ (old ++ [])) ∙ ap (λ (zs : List ℕ). k ∷ zs) (append-nil old)

@@ -2,7 +2,7 @@
 use Rattle.wf_rules.specs.Lists.{IsOnce}
 use Rattle.std.proofs.Common.{◌≡◌, ◌≢◌, refl, ap, sym, ◌∙◌, subst, arith, ℕ, suc, ◌+◌, ◌<◌, ◌≤◌, Bool, true, false, if◌then◌else◌, ◌||◌, ◌==◌, nat_lt, List, [], ◌∷◌, ◌++◌, length, filter}
 use Rattle.wf_rules.specs.Table.{has}
-use Rattle.wf_rules.specs.Rotation.{before, from}
+use Rattle.wf_rules.specs.Rotation.{keys_before, keys_from}
 
 -- the place of the first k, or the length
 abbrev pub place : ℕ → List ℕ → ℕ
@@ -51,13 +51,13 @@ place_inside (x ∷ xs) k h = inside_if (x == k) (has xs k) _ _ h (place_inside 
 -- ---- before a key, and from it on
 
 pub record IsParted (w k : ℕ) (xs : List ℕ) : Type 0 where
-  pub early : has (before w xs) k ≡ true → (place k xs < place w xs) × (place k (before w xs) ≡ place k xs) × (has xs k ≡ true)
-  pub later : has (before w xs) k ≡ false → has xs k ≡ true → (place w xs ≤ place k xs) × (has (from w xs) k ≡ true) × (place k (from w xs) + place w xs ≡ place k xs)
+  pub early : has (keys_before w xs) k ≡ true → (place k xs < place w xs) × (place k (keys_before w xs) ≡ place k xs) × (has xs k ≡ true)
+  pub later : has (keys_before w xs) k ≡ false → has xs k ≡ true → (place w xs ≤ place k xs) × (has (keys_from w xs) k ≡ true) × (place k (keys_from w xs) + place w xs ≡ place k xs)
 
 parted_here : (w k y : ℕ) (ys : List ℕ) → (y == w) ≡ true → IsParted w k (y ∷ ys)
 parted_here w k y ys e = record {
-  early = λ h. absurd (cc (subst (λ (b : Bool). has (if b then [] else y ∷ before w ys) k ≡ true) e h));
-  later = λ h yes. subst (λ (b : Bool). ((if b then 0 else suc (place w ys)) ≤ place k (y ∷ ys)) × (has (if b then y ∷ ys else from w ys) k ≡ true) × (place k (if b then y ∷ ys else from w ys) + (if b then 0 else suc (place w ys)) ≡ place k (y ∷ ys))) (sym e)
+  early = λ h. absurd (cc (subst (λ (b : Bool). has (if b then [] else y ∷ keys_before w ys) k ≡ true) e h));
+  later = λ h yes. subst (λ (b : Bool). ((if b then 0 else suc (place w ys)) ≤ place k (y ∷ ys)) × (has (if b then y ∷ ys else keys_from w ys) k ≡ true) × (place k (if b then y ∷ ys else keys_from w ys) + (if b then 0 else suc (place w ys)) ≡ place k (y ∷ ys))) (sym e)
       (omega arith, yes, omega arith);
 }
 
@@ -72,10 +72,10 @@ step_later false B X F kf kx w h there k = (omega (arith, (k h there).0), (k h t
 
 parted_there : (w k y : ℕ) (ys : List ℕ) → (y == w) ≡ false → IsParted w k ys → IsParted w k (y ∷ ys)
 parted_there w k y ys e p = record {
-  early = subst (λ (b : Bool). has (if b then [] else y ∷ before w ys) k ≡ true → (place k (y ∷ ys) < (if b then 0 else suc (place w ys))) × (place k (if b then [] else y ∷ before w ys) ≡ place k (y ∷ ys)) × (has (y ∷ ys) k ≡ true)) (sym e)
-      (λ h. step_early (y == k) (has (before w ys) k) (has ys k) (place k (before w ys)) (place k ys) (place w ys) h p.early);
-  later = subst (λ (b : Bool). has (if b then [] else y ∷ before w ys) k ≡ false → has (y ∷ ys) k ≡ true → ((if b then 0 else suc (place w ys)) ≤ place k (y ∷ ys)) × (has (if b then y ∷ ys else from w ys) k ≡ true) × (place k (if b then y ∷ ys else from w ys) + (if b then 0 else suc (place w ys)) ≡ place k (y ∷ ys))) (sym e)
-      (λ h yes. step_later (y == k) (has (before w ys) k) (has ys k) (has (from w ys) k) (place k (from w ys)) (place k ys) (place w ys) h yes p.later);
+  early = subst (λ (b : Bool). has (if b then [] else y ∷ keys_before w ys) k ≡ true → (place k (y ∷ ys) < (if b then 0 else suc (place w ys))) × (place k (if b then [] else y ∷ keys_before w ys) ≡ place k (y ∷ ys)) × (has (y ∷ ys) k ≡ true)) (sym e)
+      (λ h. step_early (y == k) (has (keys_before w ys) k) (has ys k) (place k (keys_before w ys)) (place k ys) (place w ys) h p.early);
+  later = subst (λ (b : Bool). has (if b then [] else y ∷ keys_before w ys) k ≡ false → has (y ∷ ys) k ≡ true → ((if b then 0 else suc (place w ys)) ≤ place k (y ∷ ys)) × (has (if b then y ∷ ys else keys_from w ys) k ≡ true) × (place k (if b then y ∷ ys else keys_from w ys) + (if b then 0 else suc (place w ys)) ≡ place k (y ∷ ys))) (sym e)
+      (λ h yes. step_later (y == k) (has (keys_before w ys) k) (has ys k) (has (keys_from w ys) k) (place k (keys_from w ys)) (place k ys) (place w ys) h yes p.later);
 }
 
 by_bool : (P : Type 0) (b : Bool) → (b ≡ true → P) → (b ≡ false → P) → P
@@ -88,11 +88,11 @@ parted (y ∷ ys) w k = by_bool (IsParted w k (y ∷ ys)) (y == w) (parted_here 
 
 -- ---- lists without a key twice
 
-pub before_from : (w : ℕ) (xs : List ℕ) → before w xs ++ from w xs ≡ xs
+pub before_from : (w : ℕ) (xs : List ℕ) → keys_before w xs ++ keys_from w xs ≡ xs
 before_from w [] = refl
 before_from w (y ∷ ys) = go (y == w) (before_from w ys)
   where
-    go : (b : Bool) → before w ys ++ from w ys ≡ ys → (if b then [] else y ∷ before w ys) ++ (if b then y ∷ ys else from w ys) ≡ y ∷ ys
+    go : (b : Bool) → keys_before w ys ++ keys_from w ys ≡ ys → (if b then [] else y ∷ keys_before w ys) ++ (if b then y ∷ ys else keys_from w ys) ≡ y ∷ ys
     go true h = refl
     go false h = ap (λ (zs : List ℕ). y ∷ zs) h
 
@@ -112,8 +112,8 @@ pub distinct_apart : (xs ys : List ℕ) (k : ℕ) → IsOnce (xs ++ ys) → has 
 distinct_apart [] ys k d h = absurd (cc h)
 distinct_apart (x ∷ xs) ys k d h = apart_if x k (x == k) xs ys refl d.0 h (distinct_apart xs ys k d.1)
 
-pub not_from : (w k : ℕ) (xs : List ℕ) → IsOnce xs → has (before w xs) k ≡ true → has (from w xs) k ≡ false
-not_from w k xs d h = distinct_apart (before w xs) (from w xs) k (subst IsOnce (sym (before_from w xs)) d) h
+pub not_from : (w k : ℕ) (xs : List ℕ) → IsOnce xs → has (keys_before w xs) k ≡ true → has (keys_from w xs) k ≡ false
+not_from w k xs d h = distinct_apart (keys_before w xs) (keys_from w xs) k (subst IsOnce (sym (before_from w xs)) d) h
 
 -- ---- filters
 

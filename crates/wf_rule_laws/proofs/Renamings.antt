@@ -3,7 +3,7 @@ use Rattle.std.proofs.Common.{◌≡◌, refl, ap, sym, ◌∙◌, ℕ, Bool, tr
 use Rattle.std.specs.Prelude.{filter, find, option_map}
 use Rattle.std.proofs.lemmas.Bool.{cases_eq, ne_eqb}
 use Rattle.wf_rules.specs.Table.{has}
-use Rattle.wf_rules.specs.Rotation.{before, from, first_of_two, first_least}
+use Rattle.wf_rules.specs.Rotation.{keys_before, keys_from, first_of_two, first_least}
 use Rattle.wf_rule_laws.specs.Renamed.{KeepsApart}
 use Rattle.wf_rule_laws.proofs.Lemmas.Members.{has_head, has_tail, has_least}
 
@@ -70,20 +70,20 @@ module _ (f : ℕ → ℕ) where
     before_by true x zs = refl
     before_by false x zs = refl
 
-    pub before_renamed : (w : ℕ) (xs : List ℕ) → before (f w) (map f xs) ≡ map f (before w xs)
+    pub before_renamed : (w : ℕ) (xs : List ℕ) → keys_before (f w) (map f xs) ≡ map f (keys_before w xs)
     before_renamed w [] = refl
     before_renamed w (x ∷ xs) =
-        ap (λ (b : Bool). cond b [] (f x ∷ before (f w) (map f xs))) (equal_renamed x w)
+        ap (λ (b : Bool). cond b [] (f x ∷ keys_before (f w) (map f xs))) (equal_renamed x w)
         ∙ ap (λ (zs : List ℕ). cond (eqb x w) [] (f x ∷ zs)) (before_renamed w xs)
-        ∙ before_by (eqb x w) x (before w xs)
+        ∙ before_by (eqb x w) x (keys_before w xs)
 
     from_by : (b : Bool) (x : ℕ) (xs zs : List ℕ) → cond b (f x ∷ map f xs) (map f zs) ≡ map f (cond b (x ∷ xs) zs)
     from_by true x xs zs = refl
     from_by false x xs zs = refl
 
-    pub from_renamed : (w : ℕ) (xs : List ℕ) → from (f w) (map f xs) ≡ map f (from w xs)
+    pub from_renamed : (w : ℕ) (xs : List ℕ) → keys_from (f w) (map f xs) ≡ map f (keys_from w xs)
     from_renamed w [] = refl
     from_renamed w (x ∷ xs) =
-        ap (λ (b : Bool). cond b (f x ∷ map f xs) (from (f w) (map f xs))) (equal_renamed x w)
+        ap (λ (b : Bool). cond b (f x ∷ map f xs) (keys_from (f w) (map f xs))) (equal_renamed x w)
         ∙ ap (λ (zs : List ℕ). cond (eqb x w) (f x ∷ map f xs) zs) (from_renamed w xs)
-        ∙ from_by (eqb x w) x xs (from w xs)
+        ∙ from_by (eqb x w) x xs (keys_from w xs)

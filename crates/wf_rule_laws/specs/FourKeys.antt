@@ -12,7 +12,7 @@
 --   1                  1 3        has 150, is ready: wins
 use Rattle.std.specs.Prelude.{◌≡◌, ℕ, ◌==◌, ℤ, pos, ◌-ℤ◌, Bool, ◌||◌, List, [], ◌∷◌, Some, if◌then◌else◌, map}
 use Rattle.wf_rules.specs.Rotation.{Rotation}
-use Rattle.wf_rules.specs.Loop.{Standing, Wins, after_turns, turn_from, picked, deficit_after}
+use Rattle.wf_rules.specs.Loop.{Standing, Wins, after_turns, turn_from, pick_by_deficits, deficit_after}
 
 -- key 3 has twice the weight of the others
 abbrev pub quantum : ℕ → ℕ
@@ -53,6 +53,6 @@ pub record LoopEnds : Type 0 where
 
 -- what the pick gives at once
 pub record PickGives : Type 0 where
-  pub winner : (picked quantum deficit ready start.lists).winner ≡ Some 1
-  pub lists : (picked quantum deficit ready start.lists).lists ≡ end_lists
-  pub deficits : of_each (deficit_after quantum deficit (picked quantum deficit ready start.lists)) ≡ end_deficits
+  pub winner : (pick_by_deficits quantum deficit ready start.lists).winner ≡ Some 1
+  pub lists : (pick_by_deficits quantum deficit ready start.lists).lists ≡ end_lists
+  pub deficits : of_each (deficit_after quantum deficit (pick_by_deficits quantum deficit ready start.lists)) ≡ end_deficits

@@ -6,7 +6,7 @@
 #![tactic(auto)]
 
 ghost use Rattle.std.specs.Prelude.{◌≡◌, ℕ, List, Bool, None, IsTrue, IsFalse, ◌<◌, ◌^◌, ◌↔◌};
-ghost use Rattle.wf_rules.specs.Codel.{Item, Codel, Params, dequeue, drops_dropping, ends, root, step_of, IsRoot, IsGreatestStep};
+ghost use Rattle.wf_rules.specs.Codel.{Item, Codel, Params, dequeue, drops_dropping, ends_drops, root, step_of, IsRoot, IsGreatestStep};
 ghost use Rattle.wf_rules.specs.CodelLoop.{stepped};
 ghost use Rattle.wf_rules.specs.Rotation.{Rotation, pick};
 ghost use Rattle.wf_rules.specs.Loop.{EndLaw, LoopLaw, TurnLaw};
@@ -19,9 +19,9 @@ pub fn dequeue_is_the_loop()
     ensures stepped { (times : Params) (now : ℕ) (state : Codel) (items : List Item) →
         stepped times now state items ≡ dequeue times now state items }
     ensures ends { (times : Params) (now : ℕ) (state : Codel) (due : ℕ) (items : List Item) →
-        IsTrue (ends times now state due items (drops_dropping times now state due items)) }
+        IsTrue (ends_drops times now state due items (drops_dropping times now state due items)) }
     ensures least { (times : Params) (now : ℕ) (state : Codel) (due : ℕ) (items : List Item) (i : ℕ) →
-        i < drops_dropping times now state due items → IsFalse (ends times now state due items i) }
+        i < drops_dropping times now state due items → IsFalse (ends_drops times now state due items i) }
 {}
 
 /// What is computed digit by digit is the whole root of a number, and there is one.

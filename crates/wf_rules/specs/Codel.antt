@@ -76,8 +76,8 @@ pub record IsGreatestStep (interval count d : ℕ) : Type 0 where
   pub greatest : (e : ℕ) → e * e * count ≤ interval * interval → e ≤ d
 
 -- when the drop after one at time t is due, with this count (control_law, 5.6)
-abbrev pub law : Params → ℕ → ℕ → ℕ
-law p t c = t + step_of p.interval c
+abbrev pub control_law : Params → ℕ → ℕ → ℕ
+control_law p t c = t + step_of p.interval c
 
 -- the count after one more drop
 abbrev pub rise : ℕ → ℕ
@@ -109,7 +109,7 @@ abbrev pub begin_dropping : Params → ℕ → Codel → Look → Codel
 begin_dropping p now c second =
     record {
       first_above = second.first_above;
-      drop_next = law p now (first_count p now c);
+      drop_next = control_law p now (first_count p now c);
       count = first_count p now c;
       last_count = first_count p now c;
       dropping = true;
@@ -121,14 +121,14 @@ look p now above items zero = look_at p now above items
 look p now above items (suc i) = look_at p now (look p now above items i).first_above (drop (suc i) items)
 
 -- the count behind i drops: one that would pass the greatest count is that count
-abbrev pub raised : ℕ → ℕ → ℕ
-raised count zero = count
-raised count (suc i) = min (count + suc i) greatest_count
+abbrev pub raised_count : ℕ → ℕ → ℕ
+raised_count count zero = count
+raised_count count (suc i) = min (count + suc i) greatest_count
 
 -- when drop i is due, counting from 0
-abbrev pub next : Params → ℕ → ℕ → ℕ → ℕ
-next p count due zero = due
-next p count due (suc i) = law p (next p count due i) (raised count (suc i))
+abbrev pub next_due : Params → ℕ → ℕ → ℕ → ℕ
+next_due p count due zero = due
+next_due p count due (suc i) = control_law p (next_due p count due i) (raised_count count (suc i))
 
 -- the least number that passes the test, or n where none below n does
 abbrev pub least : (ℕ → Bool) → ℕ → ℕ
@@ -136,24 +136,24 @@ least test zero = 0
 least test (suc n) = if test 0 then 0 else suc (least (λ i. test (suc i)) n)
 
 -- While dropping, look i ends the drops where it is not ok or drop i is not due yet.
-abbrev pub ends : Params → ℕ → Codel → ℕ → List Item → ℕ → Bool
-ends p now c due items i = not (look p now c.first_above items i).ok || nat_lt now (next p c.count due i)
+abbrev pub ends_drops : Params → ℕ → Codel → ℕ → List Item → ℕ → Bool
+ends_drops p now c due items i = not (look p now c.first_above items i).ok || nat_lt now (next_due p c.count due i)
 
 -- so many frames are dropped
 unfoldable pub drops_dropping : Params → ℕ → Codel → ℕ → List Item → ℕ
-drops_dropping p now c due items = least (ends p now c due items) (length items)
+drops_dropping p now c due items = least (ends_drops p now c due items) (length items)
 
 -- drop_next where look i is not ok
 abbrev pub last_due : Params → Codel → ℕ → ℕ → ℕ
 last_due p c due zero = c.drop_next
-last_due p c due (suc i) = next p c.count due i
+last_due p c due (suc i) = next_due p c.count due i
 
 -- the state after i drops
 unfoldable pub state_dropping : Params → ℕ → Codel → ℕ → List Item → ℕ → Codel
 state_dropping p now c due items i = record c {
   first_above = (look p now c.first_above items i).first_above;
-  drop_next = if (look p now c.first_above items i).ok then next p c.count due i else last_due p c due i;
-  count = raised c.count i;
+  drop_next = if (look p now c.first_above items i).ok then next_due p c.count due i else last_due p c due i;
+  count = raised_count c.count i;
   dropping = (look p now c.first_above items i).ok;
 }
 

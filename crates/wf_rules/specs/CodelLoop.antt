@@ -1,7 +1,7 @@
 -- CoDel's dequeue as RFC 8289 tells it (5.5 and 5.6), frame by frame. The RFC's names stand in
--- parentheses; its `dodequeue` is `look_at`, its `control_law` is `law`.
+-- parentheses; its `dodequeue` is `look_at`, its `control_law` is `control_law`.
 use Rattle.std.specs.Prelude.{ℕ, nat_lt, false, not, List, [], ◌∷◌, Some, None, if◌then◌else◌}
-use Rattle.wf_rules.specs.Codel.{Item, Params, Codel, Look, look_at, law, rise, begin_dropping, Dequeued}
+use Rattle.wf_rules.specs.Codel.{Item, Params, Codel, Look, look_at, control_law, rise, begin_dropping, Dequeued}
 
 -- the frame at the head is given (r.p), if there is one, and nothing is dropped
 abbrev pub giving : Codel → List Item → Dequeued
@@ -21,7 +21,7 @@ dequeue_dropping p now c next [] = giving (record c { first_above = 0; dropping 
 dequeue_dropping p now c next (x ∷ rest) =
     let look : Look = look_at p now c.first_above (x ∷ rest) in
     let after_drop : Dequeued =
-    dropping_first x (dequeue_dropping p now (record c { first_above = look.first_above; drop_next = next; count = rise c.count }) (law p next (rise c.count)) rest)
+    dropping_first x (dequeue_dropping p now (record c { first_above = look.first_above; drop_next = next; count = rise c.count }) (control_law p next (rise c.count)) rest)
     in
     if not look.ok then giving (record c { first_above = look.first_above; dropping = false }) (x ∷ rest)
     else (if nat_lt now next then giving (record c { first_above = look.first_above; drop_next = next }) (x ∷ rest)

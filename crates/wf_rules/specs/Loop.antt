@@ -14,15 +14,15 @@ pub data Turn : Type 0 where
   Again : (lists : Rotation) → (deficit : ℕ → ℤ) → Turn
 
 -- the deficits once a key got one quantum of its own
-abbrev pub paid : (ℕ → ℕ) → (ℕ → ℤ) → ℕ → ℕ → ℤ
-paid quantum deficit key y = if key == y then deficit y +ℤ pos (quantum y) else deficit y
+abbrev pub with_quantum_paid : (ℕ → ℕ) → (ℕ → ℤ) → ℕ → ℕ → ℤ
+with_quantum_paid quantum deficit key y = if key == y then deficit y +ℤ pos (quantum y) else deficit y
 
 -- A key of the new list is looked at, which `keys` follow there. Without a positive deficit it gets
 -- one quantum and goes last on the old list; and so it does, with no quantum, where it is not
 -- ready.
 abbrev pub turn_of_new : (ℕ → ℕ) → (ℕ → ℤ) → (ℕ → Bool) → ℕ → List ℕ → List ℕ → Turn
 turn_of_new quantum deficit ready key keys old =
-    if int_le (deficit key) (pos 0) then Again (record { new = keys; old = old ++ key ∷ [] }) (paid quantum deficit key)
+    if int_le (deficit key) (pos 0) then Again (record { new = keys; old = old ++ key ∷ [] }) (with_quantum_paid quantum deficit key)
     else (if ready key then Wins key
     else Again (record { new = keys; old = old ++ key ∷ [] }) deficit)
 
@@ -30,7 +30,7 @@ turn_of_new quantum deficit ready key keys old =
 -- one quantum and goes last; where it is not ready it leaves the rotation.
 abbrev pub turn_of_old : (ℕ → ℕ) → (ℕ → ℤ) → (ℕ → Bool) → ℕ → List ℕ → Turn
 turn_of_old quantum deficit ready key keys =
-    if int_le (deficit key) (pos 0) then Again (record { new = []; old = keys ++ key ∷ [] }) (paid quantum deficit key)
+    if int_le (deficit key) (pos 0) then Again (record { new = []; old = keys ++ key ∷ [] }) (with_quantum_paid quantum deficit key)
     else (if ready key then Wins key
     else Again (record { new = []; old = keys }) deficit)
 
@@ -45,25 +45,25 @@ abbrev pub turn : (ℕ → ℕ) → (ℕ → ℤ) → (ℕ → Bool) → Rotatio
 turn quantum deficit ready r = turn_at quantum deficit ready r.new r.old
 
 -- the pick in closed form, by the deficits
-abbrev pub picked : (ℕ → ℕ) → (ℕ → ℤ) → (ℕ → Bool) → Rotation → Picked
-picked quantum deficit ready r = pick (λ y. need_of (quantum y) (deficit y)) ready r
+abbrev pub pick_by_deficits : (ℕ → ℕ) → (ℕ → ℤ) → (ℕ → Bool) → Rotation → Picked
+pick_by_deficits quantum deficit ready r = pick (λ y. need_of (quantum y) (deficit y)) ready r
 
 -- a key's deficit after a pick
 abbrev pub deficit_after : (ℕ → ℕ) → (ℕ → ℤ) → Picked → ℕ → ℤ
 deficit_after quantum deficit p y = deficit y +ℤ pos (p.quanta y * quantum y)
 
 -- the pick gives this winner, these lists and these deficits
-pub record Gives (quantum : ℕ → ℕ) (deficit : ℕ → ℤ) (ready : ℕ → Bool) (r : Rotation) (key : Option ℕ) (kept : Rotation) (after : ℕ → ℤ) : Type 0 where
-  pub winner : (picked quantum deficit ready r).winner ≡ key
-  pub lists : (picked quantum deficit ready r).lists ≡ kept
-  pub deficits : (y : ℕ) → deficit_after quantum deficit (picked quantum deficit ready r) y ≡ after y
+pub record PickGives (quantum : ℕ → ℕ) (deficit : ℕ → ℤ) (ready : ℕ → Bool) (r : Rotation) (key : Option ℕ) (kept : Rotation) (after : ℕ → ℤ) : Type 0 where
+  pub winner : (pick_by_deficits quantum deficit ready r).winner ≡ key
+  pub lists : (pick_by_deficits quantum deficit ready r).lists ≡ kept
+  pub deficits : (y : ℕ) → deficit_after quantum deficit (pick_by_deficits quantum deficit ready r) y ≡ after y
 
 -- what the pick of a rotation gives, by the turn that the loop makes first
 abbrev pub Meets : (ℕ → ℕ) → (ℕ → ℤ) → (ℕ → Bool) → Rotation → Turn → Type 0
-Meets quantum deficit ready r Empty = Gives quantum deficit ready r None r deficit
-Meets quantum deficit ready r (Wins key) = Gives quantum deficit ready r (Some key) r deficit
+Meets quantum deficit ready r Empty = PickGives quantum deficit ready r None r deficit
+Meets quantum deficit ready r (Wins key) = PickGives quantum deficit ready r (Some key) r deficit
 Meets quantum deficit ready r (Again lists after) =
-    Gives quantum deficit ready r (picked quantum after ready lists).winner (picked quantum after ready lists).lists (deficit_after quantum after (picked quantum after ready lists))
+    PickGives quantum deficit ready r (pick_by_deficits quantum after ready lists).winner (pick_by_deficits quantum after ready lists).lists (deficit_after quantum after (pick_by_deficits quantum after ready lists))
 
 -- Where the key that the loop looks at does not win in this turn, the pick of the rotation before
 -- the turn and the pick of the rotation after it give the same winner, the same lists and the same
@@ -117,4 +117,4 @@ abbrev pub LoopLaw : Type 0
 LoopLaw =
     (quantum : ℕ → ℕ) (ready : ℕ → Bool) (s : Standing) (n : ℕ) (winner : Option ℕ) → ((y : ℕ) → 1 ≤ quantum y) → IsOnce (in_order s.lists) →
     Ends (turn_from quantum ready (after_turns quantum ready n s)) winner →
-    Gives quantum s.deficit ready s.lists winner (after_turns quantum ready n s).lists (after_turns quantum ready n s).deficit
+    PickGives quantum s.deficit ready s.lists winner (after_turns quantum ready n s).lists (after_turns quantum ready n s).deficit

@@ -70,5 +70,5 @@ abbrev pub shows : Score → ℕ → Bool
 shows b n = nat_le b.start n && has b.offsets (n - b.start)
 
 -- word i of the bitmap, of 64 bits: the one of offset 64 i + k has the value 2 ^ k
-abbrev pub word : Score → ℕ → ℕ
-word b i = word_of i b.offsets
+abbrev pub bitmap_word : Score → ℕ → ℕ
+bitmap_word b i = word_of i b.offsets

@@ -17,16 +17,16 @@ abbrev pub no_keys : Rotation
 no_keys = record { new = []; old = [] }
 
 -- whether a key is listed
-abbrev pub lists : Rotation → ℕ → Bool
-lists r key = has r.new key || has r.old key
+abbrev pub has_key : Rotation → ℕ → Bool
+has_key r key = has r.new key || has r.old key
 
 -- the keys, those that were looked at longest ago first
 abbrev pub in_order : Rotation → List ℕ
 in_order r = r.old ++ r.new
 
 -- a key is listed: it goes last on the new list
-abbrev pub add_new : Rotation → ℕ → Rotation
-add_new r key = record r { new = r.new ++ key ∷ [] }
+abbrev pub with_new_key : Rotation → ℕ → Rotation
+with_new_key r key = record r { new = r.new ++ key ∷ [] }
 
 -- a key leaves the rotation
 abbrev pub without_key : Rotation → ℕ → Rotation
@@ -39,13 +39,13 @@ need_of quantum (pos (suc n)) = 0
 need_of quantum (negsuc n) = (1 + n + quantum) / quantum
 
 -- the keys before a key, and those from it on
-abbrev pub before : ℕ → List ℕ → List ℕ
-before key [] = []
-before key (y ∷ ys) = if y == key then [] else y ∷ before key ys
+abbrev pub keys_before : ℕ → List ℕ → List ℕ
+keys_before key [] = []
+keys_before key (y ∷ ys) = if y == key then [] else y ∷ keys_before key ys
 
-abbrev pub from : ℕ → List ℕ → List ℕ
-from key [] = []
-from key (y ∷ ys) = if y == key then y ∷ ys else from key ys
+abbrev pub keys_from : ℕ → List ℕ → List ℕ
+keys_from key [] = []
+keys_from key (y ∷ ys) = if y == key then y ∷ ys else keys_from key ys
 
 -- the round in which a key has its turn: a key of the new list is looked at once before the old
 -- list is gone over
@@ -70,20 +70,20 @@ pub record Picked : Type 0 where
 
 -- no key is ready
 abbrev pub none_ready : (ℕ → ℕ) → Rotation → Picked
-none_ready need r = record { winner = None; lists = no_keys; quanta = λ y. if lists r y then need y else 0 }
+none_ready need r = record { winner = None; lists = no_keys; quanta = λ y. if has_key r y then need y else 0 }
 
 -- the winner has round 0
 abbrev pub picked_now : (ℕ → ℕ) → Rotation → ℕ → Picked
 picked_now need r winner = record {
   winner = Some winner;
-  lists = record { new = from winner r.new; old = r.old ++ before winner r.new };
-  quanta = λ y. if has (before winner r.new) y then min 1 (need y) else 0;
+  lists = record { new = keys_from winner r.new; old = r.old ++ keys_before winner r.new };
+  quanta = λ y. if has (keys_before winner r.new) y then min 1 (need y) else 0;
 }
 
 -- Where the winner wins in round `round_won`, which is not round 0: how often a key was looked at
 -- as one of the old list.
 abbrev pub old_visits : Rotation → ℕ → ℕ → ℕ → ℕ
-old_visits r winner round_won y = if has (before winner (in_order r)) y then round_won else round_won - 1
+old_visits r winner round_won y = if has (keys_before winner (in_order r)) y then round_won else round_won - 1
 
 -- how often it was looked at in all
 abbrev pub visits : Rotation → ℕ → ℕ → ℕ → ℕ
@@ -100,9 +100,9 @@ picked_later need ready r winner round_won = record {
   winner = Some winner;
   lists = record {
     new = [];
-    old = filter (λ y. not (is_out need ready r winner round_won y)) (from winner (in_order r) ++ before winner (in_order r));
+    old = filter (λ y. not (is_out need ready r winner round_won y)) (keys_from winner (in_order r) ++ keys_before winner (in_order r));
   };
-  quanta = λ y. if y == winner then need y else (if lists r y then min (visits r winner round_won y) (need y) else 0);
+  quanta = λ y. if y == winner then need y else (if has_key r y then min (visits r winner round_won y) (need y) else 0);
 }
 
 -- nobody has round 0: the first ready key of the least round wins, if there is one

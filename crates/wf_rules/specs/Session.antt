@@ -96,20 +96,20 @@ abbrev pub on_slot : ℕ → (Slot → Slot) → Session → Session
 on_slot n f s = record s { slots = change no_slot s.slots (n - s.first) f }
 
 -- a frame gets the next number
-abbrev pub give : Session → ℕ → Session
-give s id = record s { slots = s.slots ++ record { id = id; attempts = 0; state = Waiting } ∷ [] }
+abbrev pub with_number_given : Session → ℕ → Session
+with_number_given s id = record s { slots = s.slots ++ record { id = id; attempts = 0; state = Waiting } ∷ [] }
 
 -- number n gets a state
 abbrev pub with_state : State → ℕ → Session → Session
 with_state state n s = on_slot n (λ x. record x { state = state }) s
 
 -- a number was sent in vain: one attempt more, and it fails at the limit of attempts
-abbrev pub missed_slot : ℕ → Slot → Slot
-missed_slot limit x =
+abbrev pub slot_after_miss : ℕ → Slot → Slot
+slot_after_miss limit x =
     let attempts : ℕ = x.attempts + 1 in
     let state : State = if nat_le limit attempts then Failed else Waiting in
     record { id = x.id; attempts = attempts; state = state }
 
 -- the session after number n was sent in vain
-abbrev pub missed : ℕ → ℕ → Session → Session
-missed limit n s = on_slot n (missed_slot limit) s
+abbrev pub after_miss : ℕ → ℕ → Session → Session
+after_miss limit n s = on_slot n (slot_after_miss limit) s

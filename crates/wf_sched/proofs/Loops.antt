@@ -7,7 +7,7 @@ use Rattle.std.proofs.lemmas.Bool.{cases_eq}
 use Rattle.wf_rules.specs.Rotation.{Rotation, without_key}
 use Rattle.wf_rota.specs.Rotas.{Rotas}
 use Rattle.wf_rota.specs.Lists.{lists_at}
-use Rattle.wf_sched.specs.Turns.{Turns, turns_of, left, IsOfStations, IsKept}
+use Rattle.wf_sched.specs.ClassRotas.{ClassRota, class_rota_of, after_leave, IsOfStations, IsKept}
 
 abbrev pub left_rota : ℕ → Rotas → Rotas
 left_rota station r = record { lists = map (λ x. without_key x station) r.lists; deficits = r.deficits; quanta = r.quanta }
@@ -52,9 +52,9 @@ module _ (change : Rotas → Rotas) where
     most_quantum = kept.most_quantum;
   }
 
-  pub all_turned : (turn : Turns → Turns) → ((r : Rotas) → turns_of (change r) ≡ turn (turns_of r)) → (rotas : List Rotas) → map turns_of (map change rotas) ≡ map turn (map turns_of rotas)
+  pub all_turned : (turn : ClassRota → ClassRota) → ((r : Rotas) → class_rota_of (change r) ≡ turn (class_rota_of r)) → (rotas : List Rotas) → map class_rota_of (map change rotas) ≡ map turn (map class_rota_of rotas)
   all_turned turn one [] = refl
-  all_turned turn one (r ∷ rotas) = ap (λ (t : Turns). t ∷ map turns_of (map change rotas)) (one r) ∙ ap (λ (ts : List Turns). turn (turns_of r) ∷ ts) (all_turned turn one rotas)
+  all_turned turn one (r ∷ rotas) = ap (λ (t : ClassRota). t ∷ map class_rota_of (map change rotas)) (one r) ∙ ap (λ (ts : List ClassRota). turn (class_rota_of r) ∷ ts) (all_turned turn one rotas)
 
 -- ---- a station leaves
 
@@ -62,8 +62,8 @@ without_first : (ls : List Rotation) (station : ℕ) → lists_at (map (λ x. wi
 without_first [] station = refl
 without_first (x ∷ xs) station = refl
 
-pub left_turns : (station : ℕ) (r : Rotas) → turns_of (left_rota station r) ≡ left station (turns_of r)
-left_turns station r = ap (λ (x : Rotation). let t : Turns = record { rotation = x; deficits = r.deficits; quanta = r.quanta } in t) (without_first r.lists station)
+pub left_turns : (station : ℕ) (r : Rotas) → class_rota_of (left_rota station r) ≡ after_leave station (class_rota_of r)
+left_turns station r = ap (λ (x : Rotation). let t : ClassRota = record { rotation = x; deficits = r.deficits; quanta = r.quanta } in t) (without_first r.lists station)
 
 pub left_kept : (stations station : ℕ) (r : Rotas) → IsOfStations stations r → IsOfStations stations (left_rota station r)
 left_kept stations station r kept = record { one_list = length-map r.lists (λ (x : Rotation). without_key x station) ∙ kept.one_list; deficit_keys = kept.deficit_keys; quanta_keys = kept.quanta_keys }

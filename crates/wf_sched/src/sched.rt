@@ -3,12 +3,12 @@
 ghost use Rattle.std.specs.Prelude.{◌≡◌, ◌↔◌, ◌*◌, ◌^◌, ◌<◌, ◌≤◌, ◌-◌, true, false, length, map, IfOk, IfNone, IfSome, IsErr, MatchResult, pos, negsuc, ◌-ℤ◌, ◌≤ℤ◌, ◌<ℤ◌};
 ghost use Rattle.wf_frame.specs.Classes.{class_number};
 ghost use Rattle.wf_rules.specs.Bounds.{deepest_deficit};
-ghost use Rattle.wf_rules.specs.Rotation.{lists, add_new};
+ghost use Rattle.wf_rules.specs.Rotation.{has_key, with_new_key};
 ghost use Rattle.wf_rules.specs.Table.{has};
 ghost use Rattle.wf_rule_laws.specs.Renamed.{IsIdle};
 ghost use Rattle.wf_rota.specs.Rotas.{picked_at, is_ready};
 ghost use Rattle.wf_rota.specs.Lists.{lists_at, side_of};
-ghost use Rattle.wf_sched.specs.Turns.{turns_of, opening, turns, rotation, deficit, IsNowhere, with_turns, with_deficit, listed_on, joined, left, picked, HasTurned, IsSized};
+ghost use Rattle.wf_sched.specs.ClassRotas.{class_rota_of, opening, class_rota, rotation, deficit, IsNowhere, with_class_rota, with_deficit, with_listing, after_join, after_leave, pick_of_class, IsAfterPick, IsSized};
 
 use crate::Debt;
 use std::alloc::{AllocError, Global};
@@ -36,11 +36,11 @@ pub struct Sched {
 
 impl Model for Sched {
     ghost use Rattle.std.specs.Prelude.{map};
-    ghost use Rattle.wf_sched.specs.Turns.{SchedValue, turns_of, IsKept};
+    ghost use Rattle.wf_sched.specs.ClassRotas.{SchedValue, class_rota_of, IsKept};
 
     ghost Value = { SchedValue };
 
-    ghost view = { λ s. record { stations = s.stations; quantum = s.quantum; classes = map turns_of s.rotas } };
+    ghost view = { λ s. record { stations = s.stations; quantum = s.quantum; classes = map class_rota_of s.rotas } };
 
     ghost invariant = { λ s. IsKept s.rotas s.stations s.quantum };
 }
@@ -65,10 +65,10 @@ fn pick_from<L: Ledger>(rota: &mut Rota, ready: &[bool], blank: Blank) -> Option
     requires one_list { length rota.old.lists ≡ 1 }
     requires ready { length ready.now ≡ length rota.old.deficits }
     ensures winner { result ≡ (picked_at rota.old ready.now 0).winner }
-    ensures turned { HasTurned (turns_of rota.old) (picked_at rota.old ready.now 0) (turns_of rota.new) }
+    ensures turned { IsAfterPick (class_rota_of rota.old) (picked_at rota.old ready.now 0) (class_rota_of rota.new) }
     ensures lists { length rota.new.lists ≡ 1 }
     ensures below { IfSome result (λ key. key < length rota.old.deficits) }
-    ensures listed { IfSome result (λ key. lists (lists_at rota.old.lists 0) key ≡ true) }
+    ensures listed { IfSome result (λ key. has_key (lists_at rota.old.lists 0) key ≡ true) }
     ensures is_ready { IfSome result (λ key. is_ready ready.now key ≡ true) }
 {
     let mut steps = Steps::<L>::new(blank);
@@ -138,7 +138,7 @@ impl Sched {
         requires unlisted { IsNowhere self.old station }
         requires some { 1 ≤ weight }
         requires most { weight ≤ 16 }
-        ensures { self.new ≡ record self.old { classes = map (joined station (self.old.quantum * weight)) self.old.classes } }
+        ensures { self.new ≡ record self.old { classes = map (after_join station (self.old.quantum * weight)) self.old.classes } }
     {
         let key = u32::from(station);
         let quantum = self.quantum * u32::from(weight);
@@ -151,7 +151,7 @@ impl Sched {
     /// Takes the station off the lists of each class.
     pub fn leave(&mut self, station: u16)
         requires { station < self.old.stations }
-        ensures { self.new ≡ record self.old { classes = map (left station) self.old.classes } }
+        ensures { self.new ≡ record self.old { classes = map (after_leave station) self.old.classes } }
     {
         for rota in self.rotas.iter_mut() {
             rota.remove(u32::from(station));
@@ -161,7 +161,7 @@ impl Sched {
     /// Puts the station last on the new list of the class, unless it is on one of its lists.
     pub fn list(&mut self, station: u16, class: Class)
         requires { station < self.old.stations }
-        ensures { self.new ≡ with_turns self.old class (listed_on station (turns self.old class)) }
+        ensures { self.new ≡ with_class_rota self.old class (with_listing station (class_rota self.old class)) }
     {
         let key = u32::from(station);
         let rota = &mut self.rotas[place(class)];
@@ -173,7 +173,7 @@ impl Sched {
     /// The list of the class on which the station is. None exactly where it is on neither.
     pub fn listed(&self, station: u16, class: Class) -> Option<Side>
         requires { station < self.now.stations }
-        ensures none { IfNone result (lists (rotation self.now class) station ≡ false) }
+        ensures none { IfNone result (has_key (rotation self.now class) station ≡ false) }
         ensures some { IfSome result (λ side. has (side_of (rotation self.now class) side) station ≡ true) }
     {
         match self.rotas[place(class)].where_is(u32::from(station)) {
@@ -186,12 +186,12 @@ impl Sched {
     /// where no listed station is ready.
     pub fn pick(&mut self, class: Class, ready: &[bool]) -> Option<u16>
         requires { length ready.now ≡ self.old.stations }
-        ensures winner { result ≡ (picked self.old class ready.now).winner }
-        ensures turned { HasTurned (turns self.old class) (picked self.old class ready.now) (turns self.new class) }
-        ensures others { self.new ≡ with_turns self.old class (turns self.new class) }
+        ensures winner { result ≡ (pick_of_class self.old class ready.now).winner }
+        ensures turned { IsAfterPick (class_rota self.old class) (pick_of_class self.old class ready.now) (class_rota self.new class) }
+        ensures others { self.new ≡ with_class_rota self.old class (class_rota self.new class) }
         ensures none { IfNone result (IsIdle (is_ready ready.now) (rotation self.old class)) }
         ensures known { IfSome result (λ station. station < self.old.stations) }
-        ensures listed { IfSome result (λ station. lists (rotation self.old class) station ≡ true) }
+        ensures listed { IfSome result (λ station. has_key (rotation self.old class) station ≡ true) }
         ensures is_ready { IfSome result (λ station. is_ready ready.now station ≡ true) }
     {
         let rota = &mut self.rotas[place(class)];

@@ -19,21 +19,21 @@ abbrev pub with_arrived : ℕ → Board → Board
 with_arrived d b = record b { offsets = with_member d b.offsets }
 
 -- the start moves n numbers on: a number that stays in the window stays as it was, and a new one has not arrived
-abbrev pub moved_on : ℕ → Board → Board
-moved_on n b = record b { start = (b.start + n) % 4096; offsets = moved_down n b.offsets }
+abbrev pub with_start_moved : ℕ → Board → Board
+with_start_moved n b = record b { start = (b.start + n) % 4096; offsets = moved_down n b.offsets }
 
 -- a number arrives that stands d past the start: it is in the window, or the window moves so that it is the last, or it stands behind
-abbrev pub after_arrival : ℕ → Board → Board
-after_arrival d b =
+abbrev pub after_number_at : ℕ → Board → Board
+after_number_at d b =
     if nat_lt d b.size then with_arrived d b
-    else (if nat_le d 2047 then with_arrived (b.size - 1) (moved_on (d + 1 - b.size) b) else b)
+    else (if nat_le d 2047 then with_arrived (b.size - 1) (with_start_moved (d + 1 - b.size) b) else b)
 
-abbrev pub arrived : ℕ → Board → Board
-arrived n b = after_arrival (distance n b.start) b
+abbrev pub after_number : ℕ → Board → Board
+after_number n b = after_number_at (distance n b.start) b
 
 -- a BlockAckReq arrives whose start stands d past the start: the window moves to it, or it stands behind
-abbrev pub after_request : ℕ → Board → Board
-after_request d b = if nat_le d 2047 then moved_on d b else b
+abbrev pub after_start_at : ℕ → Board → Board
+after_start_at d b = if nat_le d 2047 then with_start_moved d b else b
 
-abbrev pub requested : ℕ → Board → Board
-requested start b = after_request (distance start b.start) b
+abbrev pub after_start : ℕ → Board → Board
+after_start start b = after_start_at (distance start b.start) b

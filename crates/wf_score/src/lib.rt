@@ -5,7 +5,7 @@
 
 ghost use Rattle.std.specs.Prelude.{◌≡◌, ◌≤◌, ◌<◌};
 ghost use Rattle.wf_bits.specs.Offsets.{IsOffsets};
-ghost use Rattle.wf_score.specs.Board.{empty_board, moved_on, arrived, requested};
+ghost use Rattle.wf_score.specs.Board.{empty_board, with_start_moved, after_number, after_start};
 
 use std::marker::Model;
 use wf_bits::Bits256;
@@ -55,7 +55,7 @@ impl Score {
 
     /// A number arrived.
     pub fn arrive(&mut self, seq: Seq12)
-        ensures { self.new ≡ arrived seq self.old }
+        ensures { self.new ≡ after_number seq self.old }
     {
         let ahead = seq.ahead(self.start);
         if ahead < self.size {
@@ -68,7 +68,7 @@ impl Score {
 
     /// The start of a BlockAckReq arrived.
     pub fn bar(&mut self, start: Seq12)
-        ensures { self.new ≡ requested start self.old }
+        ensures { self.new ≡ after_start start self.old }
     {
         let ahead = start.ahead(self.start);
         if ahead <= 2047 {
@@ -95,7 +95,7 @@ impl Score {
     }
 
     fn move_on(&mut self, places: u16)
-        ensures { self.new ≡ moved_on places self.old }
+        ensures { self.new ≡ with_start_moved places self.old }
     {
         self.start = self.start.plus(places);
         self.bits.shift(places.min(256));

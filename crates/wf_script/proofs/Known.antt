@@ -7,7 +7,7 @@ use Rattle.wf_trace.specs.declared.cut.Piece.TheVariants.{Bad as Flawed}
 use Rattle.wf_trace.specs.declared.fault.End.{End}
 use Rattle.wf_trace.specs.declared.fault.End.TheVariants.{Over, Flaw}
 use Rattle.wf_trace.specs.declared.fault.FaultKind.{FaultKind}
-use Rattle.wf_trace.specs.Lines.{Line, Texts, before, flaw, lines, texts_of}
+use Rattle.wf_trace.specs.Lines.{Line, Texts, before_texts, flaw, lines, texts_of}
 use Rattle.wf_trace.specs.Pieces.{Numbered, Pieces, pieces, pieces_from, with_line, ending_piece}
 use Rattle.wf_trace.specs.Words.{words, skipped}
 use Rattle.wf_script.specs.declared.ending.Ending.{Ending}
@@ -18,7 +18,7 @@ Known None = ⊥
 Known (Some thing) = Unit {0}
 
 -- the texts of a closed input end
-before_known : (fault : Option FaultKind) (text : List ℕ) (others : Texts) → Known others.ending → Known (before fault text others).ending
+before_known : (fault : Option FaultKind) (text : List ℕ) (others : Texts) → Known others.ending → Known (before_texts fault text others).ending
 before_known None text others is = is
 before_known (Some kind) text others is = tt
 

@@ -9,7 +9,7 @@ use Rattle.wf_trace.specs.declared.call.Value.{Value}
 use Rattle.wf_trace.specs.declared.call.Value.TheVariants as value
 use Rattle.wf_trace.specs.declared.call.Call.TheVariants.{Enq}
 use Rattle.wf_rules.specs.Lengths.{greatest_body}
-use Rattle.wf_trace.specs.Faults.{earlier, first_fault}
+use Rattle.wf_trace.specs.Faults.{earlier_fault, first_fault}
 use Rattle.wf_trace.specs.Words.{number_of, in_range}
 use Rattle.wf_trace.specs.Grammar.{both, seen, read_args, args_of}
 use Rattle.wf_trace.specs.Notes.{short_in, short_at}
@@ -19,9 +19,9 @@ abbrev pub behind : Option FaultKind → List Value → Result (List Value) Faul
 behind None front (Ok values) = Ok (front ++ values)
 behind None front (Err fault) = Err fault
 behind (Some fault) front (Ok values) = Err fault
-behind (Some fault) front (Err other) = Err (earlier fault other)
+behind (Some fault) front (Err other) = Err (earlier_fault fault other)
 
-pub earlier_assoc : (a b c : FaultKind) → earlier a (earlier b c) ≡ earlier (earlier a b) c
+pub earlier_assoc : (a b c : FaultKind) → earlier_fault a (earlier_fault b c) ≡ earlier_fault (earlier_fault a b) c
 earlier_assoc a b c = grind (arith, nat_tests)
 
 pub behind_value : (fault : Option FaultKind) (front : List Value) (value : Value) (read : Result (List Value) FaultKind) →
@@ -36,7 +36,7 @@ behind_fault fault front (Ok values) = refl
 behind_fault fault front (Err other) = refl
 
 pub behind_faults : (one two : FaultKind) (front : List Value) (read : Result (List Value) FaultKind) →
-    behind (Some one) front (both (Err two) read) ≡ behind (Some (earlier one two)) front read
+    behind (Some one) front (both (Err two) read) ≡ behind (Some (earlier_fault one two)) front read
 behind_faults one two front (Ok values) = refl
 behind_faults one two front (Err other) = ap Err (earlier_assoc one two other)
 

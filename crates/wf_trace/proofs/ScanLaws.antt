@@ -9,7 +9,7 @@ use Rattle.wf_trace.specs.declared.fault.FaultKind.TheVariants.{TooBig, LongLine
 use Rattle.wf_trace.specs.declared.fault.End.TheVariants.{Flaw}
 use Rattle.wf_trace.specs.declared.scanner.Found.{Found}
 use Rattle.wf_trace.specs.declared.scanner.Found.TheVariants as found
-use Rattle.wf_trace.specs.Lines.{Texts, most, longest, flaw, before, texts_of}
+use Rattle.wf_trace.specs.Lines.{Texts, longest_trace, longest_line, flaw, before_texts, texts_of}
 use Rattle.wf_trace.specs.Scanning.{Scanning, Finds, lines_behind}
 
 -- the first of a part of a list
@@ -25,54 +25,54 @@ waiting_first xs i j octet le fits some is =
 abbrev pub stops : FaultKind → Texts
 stops kind = record { texts = []; ending = Some (Flaw kind) }
 
-before_big : (end : ℕ) (octets : List ℕ) (others : Texts) → most < end → before (flaw end octets) octets others ≡ stops TooBig
+before_big : (end : ℕ) (octets : List ℕ) (others : Texts) → longest_trace < end → before_texts (flaw end octets) octets others ≡ stops TooBig
 before_big end octets others big =
-    let test : nat_lt most end ≡ true = grind (arith, nat_tests) in
+    let test : nat_lt longest_trace end ≡ true = grind (arith, nat_tests) in
     rw test refl
 
-before_long : (end : ℕ) (one two : List ℕ) (others : Texts) → longest < length one → longest < length two →
-    before (flaw end one) one others ≡ before (flaw end two) two others
+before_long : (end : ℕ) (one two : List ℕ) (others : Texts) → longest_line < length one → longest_line < length two →
+    before_texts (flaw end one) one others ≡ before_texts (flaw end two) two others
 before_long end one two others long_one long_two =
-    let first : nat_lt longest (length one) ≡ true = grind (arith, nat_tests) in
-    let second : nat_lt longest (length two) ≡ true = grind (arith, nat_tests) in
-    rw (first, second) (elim (nat_lt most end) as (λ b. before (cond b (Some TooBig) (Some LongLine)) one others ≡ before (cond b (Some TooBig) (Some LongLine)) two others) [ true ↦ refl | false ↦ refl ])
+    let first : nat_lt longest_line (length one) ≡ true = grind (arith, nat_tests) in
+    let second : nat_lt longest_line (length two) ≡ true = grind (arith, nat_tests) in
+    rw (first, second) (elim (nat_lt longest_trace end) as (λ b. before_texts (cond b (Some TooBig) (Some LongLine)) one others ≡ before_texts (cond b (Some TooBig) (Some LongLine)) two others) [ true ↦ refl | false ↦ refl ])
 
 length_more : (octets : List ℕ) (octet : ℕ) → length (octets ++ octet ∷ []) ≡ length octets + 1
 length_more octets octet = length-append octets (octet ∷ [])
 
 -- of a line that is too long, nothing but that matters
-pub long : (closed : Bool) (at : ℕ) (one two octets : List ℕ) → longest < length one → longest < length two →
+pub long : (closed : Bool) (at : ℕ) (one two octets : List ℕ) → longest_line < length one → longest_line < length two →
     texts_of closed (lines_behind closed at one octets) ≡ texts_of closed (lines_behind closed at two octets)
 long false at one two [] long_one long_two = refl
 long true at [] two [] long_one long_two = absurd (omega arith)
 long true at (x ∷ one) [] [] long_one long_two = absurd (omega arith)
 long true at (x ∷ one) (y ∷ two) [] long_one long_two = before_long at (x ∷ one) (y ∷ two) (texts_of true []) long_one long_two
 long closed at one two (octet ∷ octets) long_one long_two =
-    let more_one : longest < length (one ++ octet ∷ []) = omega (arith, length_more one octet) in
-    let more_two : longest < length (two ++ octet ∷ []) = omega (arith, length_more two octet) in
+    let more_one : longest_line < length (one ++ octet ∷ []) = omega (arith, length_more one octet) in
+    let more_two : longest_line < length (two ++ octet ∷ []) = omega (arith, length_more two octet) in
     let next = long closed (at + 1) (one ++ octet ∷ []) (two ++ octet ∷ []) octets more_one more_two in
     elim (nat_eq octet 10) as (λ b. texts_of closed (cond b (record { octets = one; end = at + 1 } ∷ lines_behind closed (at + 1) [] octets) (lines_behind closed (at + 1) (one ++ octet ∷ []) octets))
     ≡ texts_of closed (cond b (record { octets = two; end = at + 1 } ∷ lines_behind closed (at + 1) [] octets) (lines_behind closed (at + 1) (two ++ octet ∷ []) octets)))
     [ true ↦ before_long (at + 1) one two (texts_of closed (lines_behind closed (at + 1) [] octets)) long_one long_two | false ↦ next ]
 
 -- a line that goes past the end of any trace
-pub big : (at : ℕ) (begun octets : List ℕ) → most < at → 0 < length begun → texts_of true (lines_behind true at begun octets) ≡ stops TooBig
+pub big : (at : ℕ) (begun octets : List ℕ) → longest_trace < at → 0 < length begun → texts_of true (lines_behind true at begun octets) ≡ stops TooBig
 big at [] [] past some = absurd (omega arith)
 big at (x ∷ begun) [] past some = before_big at (x ∷ begun) (texts_of true []) past
 big at begun (octet ∷ octets) past some =
     let next = big (at + 1) (begun ++ octet ∷ []) octets (omega arith) (omega (arith, length_more begun octet)) in
-    let further : most < at + 1 = omega arith in
+    let further : longest_trace < at + 1 = omega arith in
     elim (nat_eq octet 10) as (λ b. texts_of true (cond b (record { octets = begun; end = at + 1 } ∷ lines_behind true (at + 1) [] octets) (lines_behind true (at + 1) (begun ++ octet ∷ []) octets)) ≡ stops TooBig)
     [ true ↦ before_big (at + 1) begun (texts_of true (lines_behind true (at + 1) [] octets)) further | false ↦ next ]
 
 -- The four ways to look at the first octet that waits.
-pub finds_big : (s : Scanning) (octet : ℕ) (rest : List ℕ) (new : Scanning) → s.waiting ≡ octet ∷ rest → s.looked ≡ most → Finds s (Some found.TooBig) new
+pub finds_big : (s : Scanning) (octet : ℕ) (rest : List ℕ) (new : Scanning) → s.waiting ≡ octet ∷ rest → s.looked ≡ longest_trace → Finds s (Some found.TooBig) new
 finds_big s octet rest new waits at_end more =
-    let next = big (most + 1) (s.line ++ octet ∷ []) (rest ++ more) (omega arith) (omega (arith, length_more s.line octet)) in
-    let further : most < most + 1 = omega arith in
+    let next = big (longest_trace + 1) (s.line ++ octet ∷ []) (rest ++ more) (omega arith) (omega (arith, length_more s.line octet)) in
+    let further : longest_trace < longest_trace + 1 = omega arith in
     rw (waits, at_end)
-    (elim (nat_eq octet 10) as (λ b. texts_of true (cond b (record { octets = s.line; end = most + 1 } ∷ lines_behind true (most + 1) [] (rest ++ more)) (lines_behind true (most + 1) (s.line ++ octet ∷ []) (rest ++ more))) ≡ stops TooBig)
-    [ true ↦ before_big (most + 1) s.line (texts_of true (lines_behind true (most + 1) [] (rest ++ more))) further | false ↦ next ])
+    (elim (nat_eq octet 10) as (λ b. texts_of true (cond b (record { octets = s.line; end = longest_trace + 1 } ∷ lines_behind true (longest_trace + 1) [] (rest ++ more)) (lines_behind true (longest_trace + 1) (s.line ++ octet ∷ []) (rest ++ more))) ≡ stops TooBig)
+    [ true ↦ before_big (longest_trace + 1) s.line (texts_of true (lines_behind true (longest_trace + 1) [] (rest ++ more))) further | false ↦ next ])
 
 pub finds_line : (s : Scanning) (octet : ℕ) (rest : List ℕ) → s.waiting ≡ octet ∷ rest → octet ≡ 10 →
     Finds s (Some found.Line) (record { looked = s.looked + 1; line = s.line; waiting = rest })
@@ -85,7 +85,7 @@ finds_more s octet rest waits other closed more =
     let test : nat_eq octet 10 ≡ false = grind (arith, nat_tests) in
     rw (waits, test) refl
 
-pub finds_long : (s : Scanning) (octet : ℕ) (rest : List ℕ) → s.waiting ≡ octet ∷ rest → octet ≢ 10 → longest < length s.line →
+pub finds_long : (s : Scanning) (octet : ℕ) (rest : List ℕ) → s.waiting ≡ octet ∷ rest → octet ≢ 10 → longest_line < length s.line →
     Finds s None (record { looked = s.looked + 1; line = s.line; waiting = rest })
 finds_long s octet rest waits other past closed more =
     let test : nat_eq octet 10 ≡ false = grind (arith, nat_tests) in

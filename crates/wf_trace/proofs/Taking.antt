@@ -7,7 +7,7 @@ use Rattle.wf_trace.specs.declared.fault.FaultKind.TheVariants.{TooBig}
 use Rattle.wf_trace.specs.declared.fault.End.{End}
 use Rattle.wf_trace.specs.declared.fault.End.TheVariants.{Flaw}
 use Rattle.wf_trace.specs.declared.scanner.Found.TheVariants as found
-use Rattle.wf_trace.specs.Lines.{before, flaw, texts_of}
+use Rattle.wf_trace.specs.Lines.{before_texts, flaw, texts_of}
 use Rattle.wf_trace.specs.Scanning.{Scanning, Finds, lines_behind, texts_from, texts_behind}
 use Rattle.wf_trace.specs.Cutting.{Cutting, Takes, Fits, Follows, to_come}
 
@@ -56,7 +56,7 @@ Judged f end s new = MatchOption f ((end ≡ None) × (new ≡ record { scanner 
     (λ kind. (end ≡ Some (Flaw kind)) × (new ≡ record { scanner = s; given = false; ended = Some (Flaw kind) }))
 
 judged : (f : Option FaultKind) (first s t : Scanning) (left left_now : Option (List ℕ)) (end : Option End) (new : Cutting) → (took : Took first s left left_now) →
-    ((closed : Bool) (more : List ℕ) → texts_from s closed more ≡ before f t.line (texts_behind t closed more)) →
+    ((closed : Bool) (more : List ℕ) → texts_from s closed more ≡ before_texts f t.line (texts_behind t closed more)) →
     Judged f end t new → Takes (going first) left (Ok end) new left_now took.octets
 judged None first s t left left_now end new took finds is = record {
   taken = took.taken;

@@ -3,7 +3,7 @@ use Rattle.std.specs.Prelude.{◌≡◌, ℕ, ◌+◌, ◌-◌, List, [], ◌∷
 use Rattle.std.specs.Io.KnownBytes.{prepend_known}
 use Rattle.wf_io.specs.declared.source.Failed.{Failed}
 use Rattle.wf_trace.specs.declared.fault.End.{End}
-use Rattle.wf_trace.specs.Lines.{Texts, most}
+use Rattle.wf_trace.specs.Lines.{Texts, longest_trace}
 use Rattle.wf_trace.specs.Scanning.{Scanning, untouched, texts_from, texts_behind}
 
 -- the octets taken, whether their line was given, and whether no more are
@@ -47,8 +47,8 @@ pub record Takes (old : Cutting) (left : Option (List ℕ)) (result : Result (Op
 
 -- how many octets may still be looked at, and one more as long as the end is not known: no line is cut without one of them
 abbrev pub room_of : ℕ → Option End → ℕ
-room_of looked None = (most - looked) + 1
-room_of looked (Some end) = most - looked
+room_of looked None = (longest_trace - looked) + 1
+room_of looked (Some end) = longest_trace - looked
 
 -- the same of a cutter
 abbrev pub room : Cutting → ℕ

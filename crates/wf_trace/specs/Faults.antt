@@ -19,13 +19,13 @@ rank kind.NoEnd = 9
 rank kind.TooLong = 10
 
 -- of two faults of a line the one that is told
-abbrev pub earlier : FaultKind → FaultKind → FaultKind
-earlier one two = if nat_le (rank one) (rank two) then one else two
+abbrev pub earlier_fault : FaultKind → FaultKind → FaultKind
+earlier_fault one two = if nat_le (rank one) (rank two) then one else two
 
 -- the same, where the one may be none
 abbrev pub first_fault : Option FaultKind → FaultKind → FaultKind
 first_fault None other = other
-first_fault (Some fault) other = earlier fault other
+first_fault (Some fault) other = earlier_fault fault other
 
 -- the word of a kind
 abbrev pub kind_name : FaultKind → List ℕ

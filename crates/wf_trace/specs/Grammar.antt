@@ -12,7 +12,7 @@ use Rattle.wf_rules.specs.Lengths.{greatest_body}
 use Rattle.wf_frame.specs.Classes.{class_named}
 use Rattle.wf_trace.specs.declared.call.Vocabulary.TheVariants.{End}
 use Rattle.wf_trace.specs.declared.call.Value.TheVariants as value
-use Rattle.wf_trace.specs.Faults.{earlier}
+use Rattle.wf_trace.specs.Faults.{earlier_fault}
 use Rattle.wf_trace.specs.Words.{number_of, in_range}
 
 -- the word of a call
@@ -132,7 +132,7 @@ abbrev pub both : Result Value FaultKind → Result (List Value) FaultKind → R
 both (Ok value) (Ok values) = Ok (value ∷ values)
 both (Ok value) (Err fault) = Err fault
 both (Err fault) (Ok values) = Err fault
-both (Err one) (Err two) = Err (earlier one two)
+both (Err one) (Err two) = Err (earlier_fault one two)
 
 -- the values of the arguments that the words of a line are
 abbrev pub read_args : List Arg → List (List ℕ) → Result (List Value) FaultKind

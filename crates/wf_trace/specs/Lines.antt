@@ -25,12 +25,12 @@ lines closed at (octet ∷ octets) =
     else onto closed octet (at + 1) (lines closed (at + 1) octets)
 
 -- the most octets of a trace up to the end of its `end` line, 2^28
-abbrev pub most : ℕ
-most = 268435456
+abbrev pub longest_trace : ℕ
+longest_trace = 268435456
 
 -- the most octets of a line, without its octet 10
-abbrev pub longest : ℕ
-longest = 160
+abbrev pub longest_line : ℕ
+longest_line = 160
 
 -- a printable character of ASCII, or the space
 abbrev pub is_printable : ℕ → Bool
@@ -39,8 +39,8 @@ is_printable octet = nat_le 32 octet && nat_le octet 126
 -- the first that is wrong with a line as octets
 abbrev pub flaw : ℕ → List ℕ → Option FaultKind
 flaw end octets =
-    if nat_lt most end then Some TooBig
-    else if nat_lt longest (length octets) then Some LongLine
+    if nat_lt longest_trace end then Some TooBig
+    else if nat_lt longest_line (length octets) then Some LongLine
     else if list_all is_printable octets then None
     else Some NotAscii
 
@@ -50,11 +50,11 @@ pub record Texts : Type 0 where
   pub ending : Option End
 
 -- a text in front of others, if nothing is wrong with it
-abbrev pub before : Option FaultKind → List ℕ → Texts → Texts
-before None text others = record { texts = text ∷ others.texts; ending = others.ending }
-before (Some kind) text others = record { texts = []; ending = Some (Flaw kind) }
+abbrev pub before_texts : Option FaultKind → List ℕ → Texts → Texts
+before_texts None text others = record { texts = text ∷ others.texts; ending = others.ending }
+before_texts (Some kind) text others = record { texts = []; ending = Some (Flaw kind) }
 
 -- the texts of lines up to the first in which something is wrong
 abbrev pub texts_of : Bool → List Line → Texts
 texts_of closed [] = record { texts = []; ending = if closed then Some Over else None }
-texts_of closed (line ∷ others) = before (flaw line.end line.octets) line.octets (texts_of closed others)
+texts_of closed (line ∷ others) = before_texts (flaw line.end line.octets) line.octets (texts_of closed others)

@@ -8,7 +8,7 @@ use Rattle.wf_frame.specs.declared.notes.Note.{Note}
 use Rattle.wf_trace.specs.declared.meaning.Meaning.{Meaning}
 use Rattle.wf_trace.specs.declared.meaning.Meaning.TheVariants.{Head, Entry, Finish}
 use Rattle.wf_trace.specs.declared.meaning.Place.{Place}
-use Rattle.wf_trace.specs.Faults.{earlier}
+use Rattle.wf_trace.specs.Faults.{earlier_fault}
 use Rattle.wf_trace.specs.Words.{number_of, in_range}
 use Rattle.wf_trace.specs.Notes.{read_call}
 use Rattle.wf_frame.specs.Settings.{standard}
@@ -40,7 +40,7 @@ caller_of octets = in_range 0 greatest_caller (number_of octets)
 -- the fault of a caller, or an earlier one of the call behind it
 abbrev pub against : FaultKind → Result Meaning FaultKind → Result Meaning FaultKind
 against fault (Ok meaning) = Err fault
-against fault (Err other) = Err (earlier fault other)
+against fault (Err other) = Err (earlier_fault fault other)
 
 -- a call behind the word of its caller, which may be at fault itself
 abbrev pub caller_first : Result ℕ FaultKind → Option Place → List (List ℕ) → Result Meaning FaultKind

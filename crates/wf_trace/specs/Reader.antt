@@ -13,7 +13,7 @@ use Rattle.wf_trace.specs.Pieces.{Numbered, Pieces}
 use Rattle.wf_trace.specs.Numbering.{Numbering, HasNoLine, pieces_left}
 use Rattle.wf_trace.specs.Words.{words}
 use Rattle.wf_trace.specs.Meanings.{meant}
-use Rattle.wf_trace.specs.Reading.{Reading, with_item, ends, bad, stopped}
+use Rattle.wf_trace.specs.Reading.{Reading, with_item, reading_that_ends, bad, stopped}
 use Rattle.wf_trace.specs.Cutting.{Fits, room}
 
 -- the place behind a call
@@ -25,8 +25,8 @@ next_place (Some place) = Some (record { limit = place.limit; count = place.coun
 abbrev pub said : Result Meaning FaultKind → Option Place → ℕ → (Option Place → Reading) → Reading
 said (Ok (meaning.Head config)) place line others = with_item (Head config) (others (Some (record { limit = config.calls; count = 0 })))
 said (Ok (meaning.Entry caller note)) place line others = with_item (Entry caller note) (others (next_place place))
-said (Ok meaning.Finish) place line others = ends Finish
-said (Err kind) place line others = ends (bad line kind)
+said (Ok meaning.Finish) place line others = reading_that_ends Finish
+said (Err kind) place line others = reading_that_ends (bad line kind)
 
 -- lines read in a place
 abbrev pub read_lines : List Numbered → Option Piece → Option Place → Reading
@@ -42,7 +42,7 @@ pub record Reader : Type 0 where
 
 -- what is still to come, of these pieces
 abbrev pub rest_of : Option Item → Option Place → Pieces → Reading
-rest_of (Some item) place p = ends item
+rest_of (Some item) place p = reading_that_ends item
 rest_of None place p = read_lines p.lines p.ending place
 
 -- what is still to come where these octets follow

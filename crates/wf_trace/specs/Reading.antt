@@ -24,8 +24,8 @@ abbrev pub with_item : Item → Reading → Reading
 with_item item reading = record { items = item ∷ reading.items; ending = reading.ending }
 
 -- no item, and this ending
-abbrev pub ends : Item → Reading
-ends item = record { items = []; ending = Some item }
+abbrev pub reading_that_ends : Item → Reading
+reading_that_ends item = record { items = []; ending = Some item }
 
 -- a fault of this kind on a line
 abbrev pub bad : ℕ → FaultKind → Item
@@ -63,15 +63,15 @@ missing (Some place) = NoEnd
 abbrev pub stopped : Option Place → Option Piece → Reading
 stopped place None = record { items = []; ending = None }
 stopped place (Some (piece.Text line)) = record { items = []; ending = None }
-stopped place (Some (piece.Ended line)) = ends (bad line (missing place))
-stopped place (Some (piece.Bad fault)) = ends (Bad fault)
+stopped place (Some (piece.Ended line)) = reading_that_ends (bad line (missing place))
+stopped place (Some (piece.Bad fault)) = reading_that_ends (Bad fault)
 
 -- what a line says, in front of what the others say
 abbrev pub told : ℕ → Result Meaning FaultKind → Reading → Reading
 told line (Ok (meaning.Head config)) others = with_item (Head config) others
 told line (Ok (meaning.Entry caller note)) others = with_item (Entry caller note) others
-told line (Ok meaning.Finish) others = ends Finish
-told line (Err kind) others = ends (bad line kind)
+told line (Ok meaning.Finish) others = reading_that_ends Finish
+told line (Err kind) others = reading_that_ends (bad line kind)
 
 -- lines, each judged by itself and by the lines before it
 abbrev pub read_behind : List Numbered → List Numbered → Option Piece → Reading

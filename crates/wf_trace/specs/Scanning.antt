@@ -4,7 +4,7 @@ use Rattle.wf_trace.specs.declared.fault.FaultKind.TheVariants.{TooBig}
 use Rattle.wf_trace.specs.declared.fault.End.TheVariants.{Flaw}
 use Rattle.wf_trace.specs.declared.scanner.Found.{Found}
 use Rattle.wf_trace.specs.declared.scanner.Found.TheVariants as found
-use Rattle.wf_trace.specs.Lines.{Line, Texts, texts_of, before, flaw}
+use Rattle.wf_trace.specs.Lines.{Line, Texts, texts_of, before_texts, flaw}
 
 -- how many octets were looked at, the begun line up to 161 octets, and the octets that were taken and not
 -- looked at
@@ -49,6 +49,6 @@ Finds old None new =
     (closed : Bool) (more : List ℕ) → texts_from old closed more ≡ texts_from new closed more
 Finds old (Some found.Line) new =
     (closed : Bool) (more : List ℕ) → texts_from old closed more ≡
-    before (flaw new.looked new.line) new.line (texts_behind new closed more)
+    before_texts (flaw new.looked new.line) new.line (texts_behind new closed more)
 Finds old (Some found.TooBig) new =
     (more : List ℕ) → texts_from old true more ≡ record { texts = []; ending = Some (Flaw TooBig) }

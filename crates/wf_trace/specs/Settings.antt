@@ -7,7 +7,7 @@ use Rattle.wf_frame.specs.declared.settings.Config.{Config}
 use Rattle.wf_frame.specs.declared.settings.Field.{Field}
 use Rattle.wf_frame.specs.declared.settings.Field.TheVariants.{Stations, Flows, Limit, Room, FlowQuantum, Quantum, Inflight, Attempts, Agg, Cap, Sleeping, Calls}
 use Rattle.wf_frame.specs.Settings.{fields, lowest_of, greatest_of, with_value}
-use Rattle.wf_trace.specs.Faults.{earlier}
+use Rattle.wf_trace.specs.Faults.{earlier_fault}
 use Rattle.wf_trace.specs.Words.{number_of, in_range}
 
 -- the name of a setting in a head
@@ -71,7 +71,7 @@ named_field (Some p) = beside (field_named p.0) p.1
 -- with one fault more
 abbrev pub worse : FaultKind → Result Config FaultKind → Result Config FaultKind
 worse fault (Ok config) = Err fault
-worse fault (Err other) = Err (earlier fault other)
+worse fault (Err other) = Err (earlier_fault fault other)
 
 -- whether a setting was named before
 abbrev pub was_seen : List Bool → Field → Bool

@@ -34,7 +34,7 @@ pub struct Cut {
 
 impl Model for Cut {
     ghost use Rattle.std.specs.Prelude.{◌≤◌, ◌+◌};
-    ghost use Rattle.wf_trace.specs.Lines.{most};
+    ghost use Rattle.wf_trace.specs.Lines.{longest_trace};
     ghost use Rattle.wf_trace.specs.Cutting.{room};
     ghost use Rattle.wf_trace.specs.Numbering.{Numbering, IsLastPiece};
 
@@ -42,7 +42,7 @@ impl Model for Cut {
 
     ghost view = { λ c. record { cutter = c.cutter; line = c.line + 1; ended = c.ended } };
 
-    ghost invariant = { λ c. (c.line + room c.cutter ≤ most + 1) × IsLastPiece c.ended };
+    ghost invariant = { λ c. (c.line + room c.cutter ≤ longest_trace + 1) × IsLastPiece c.ended };
 }
 
 impl Cut {

@@ -1,7 +1,7 @@
 //! What can be wrong with a trace.
 
 ghost use Rattle.std.specs.Prelude.{◌≡◌, ◌≤◌, [], length};
-ghost use Rattle.wf_trace.specs.Faults.{earlier, first_fault, kind_name, fault_line};
+ghost use Rattle.wf_trace.specs.Faults.{earlier_fault, first_fault, kind_name, fault_line};
 
 use wf_io::{Line, Word};
 
@@ -49,7 +49,7 @@ pub enum End {
 impl FaultKind {
     /// Of two faults of a line the one that is told: the first in the order of the kinds.
     pub fn earlier(self, other: FaultKind) -> FaultKind
-        ensures { result ≡ earlier self other }
+        ensures { result ≡ earlier_fault self other }
     {
         if self as u8 <= other as u8 {
             self

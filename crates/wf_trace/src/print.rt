@@ -5,7 +5,7 @@ ghost use Rattle.std.specs.List.{join_with_byte, list_all};
 ghost use Rattle.wf_io.specs.Words.{text_of, width_of};
 ghost use Rattle.wf_trace.specs.declared.meaning.Place.{Place};
 ghost use Rattle.wf_trace.specs.declared.meaning.Meaning.TheVariants.{Entry};
-ghost use Rattle.wf_trace.specs.Lines.{is_printable, longest};
+ghost use Rattle.wf_trace.specs.Lines.{is_printable, longest_line};
 ghost use Rattle.wf_trace.specs.Meanings.{greatest_caller};
 ghost use Rattle.wf_trace.specs.Words.{words as words_of};
 ghost use Rattle.wf_trace.specs.Meanings.{meant};
@@ -189,7 +189,7 @@ pub fn print_note(caller: u32, note: &Note, out: &mut Line)
     ensures line { out.new ≡ note_line caller note.now }
     ensures read { (place : Place) → place.count < place.limit →
         meant (Some place) (words_of (note_text caller note.now)) ≡ Ok (Entry caller note.now) }
-    ensures short { length (note_text caller note.now) ≤ longest }
+    ensures short { length (note_text caller note.now) ≤ longest_line }
     ensures plain { list_all is_printable (note_text caller note.now) ≡ true }
 {
     if caller != 0 {

@@ -34,7 +34,7 @@ pub struct Scanner {
 
 impl Model for Scanner {
     ghost use Rattle.std.specs.Prelude.{◌≡◌, ◌≤◌, length, slice_range};
-    ghost use Rattle.wf_trace.specs.Lines.{most};
+    ghost use Rattle.wf_trace.specs.Lines.{longest_trace};
     ghost use Rattle.wf_trace.specs.Scanning.{Scanning, buffer_size};
 
     ghost Value = { Scanning };
@@ -46,11 +46,11 @@ impl Model for Scanner {
     } };
 
     ghost invariant = { λ s. (s.from ≤ s.to) × (s.to ≤ length s.buffer.items)
-        × (length s.buffer.items ≡ buffer_size) × (s.looked ≤ most) };
+        × (length s.buffer.items ≡ buffer_size) × (s.looked ≤ longest_trace) };
 }
 
 impl Scanner {
-    ghost use Rattle.wf_trace.specs.Lines.{most};
+    ghost use Rattle.wf_trace.specs.Lines.{longest_trace};
     ghost use Rattle.wf_trace.specs.Scanning.{Finds, untouched};
 
     pub fn new(alloc: Global) -> Result<Self, AllocError>
@@ -81,7 +81,7 @@ impl Scanner {
 
     pub fn looked(&self) -> u64
         ensures value { result ≡ self.now.looked }
-        ensures most { result ≤ most }
+        ensures most { result ≤ longest_trace }
     {
         self.looked
     }
@@ -93,7 +93,7 @@ impl Scanner {
         ensures looked { IfNone result (self.new.looked ≡ self.old.looked + 1) }
         ensures grows { self.old.looked ≤ self.new.looked }
         ensures line { result ≡ Some Found.Line → self.old.looked < self.new.looked }
-        ensures most { self.new.looked ≤ most }
+        ensures most { self.new.looked ≤ longest_trace }
         ensures finds { Finds self.old result self.new }
     {
         let octet = self.buffer[self.from];
@@ -113,7 +113,7 @@ impl Scanner {
 
     fn is_dry(&self) -> bool
         ensures value { result ≡ (length self.now.waiting == 0) }
-        ensures most { self.now.looked ≤ most }
+        ensures most { self.now.looked ≤ longest_trace }
     {
         self.from == self.to
     }
@@ -125,7 +125,7 @@ impl Scanner {
         ensures looked { IfNone result (self.new.looked ≡ self.old.looked + length self.old.waiting) }
         ensures grows { self.old.looked ≤ self.new.looked }
         ensures line { result ≡ Some Found.Line → self.old.looked < self.new.looked }
-        ensures most { self.new.looked ≤ most }
+        ensures most { self.new.looked ≤ longest_trace }
     {
         while !self.is_dry() {
             if let Some(found) = self.step() {

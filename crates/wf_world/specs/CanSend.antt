@@ -3,11 +3,11 @@
 use Rattle.std.specs.Prelude.{ℕ, ◌==◌, nat_lt, Bool, true, false, not, ◌&&◌, ◌||◌, List, [], ◌∷◌, Option, Some, None, if◌then◌else◌, length}
 use Rattle.std.specs.List.{list_any}
 use Rattle.wf_frame.specs.declared.classes.Class.{Class}
-use Rattle.wf_rules.specs.Rotation.{Rotation, lists, add_new}
+use Rattle.wf_rules.specs.Rotation.{Rotation, has_key, with_new_key}
 use Rattle.wf_rules.specs.Session.{waiting_numbers, request_due, has_room}
 use Rattle.wf_world.specs.World.{World, Content, Frames, Request, station, session, is_live, rotation, with_rotation}
 use Rattle.wf_frame.specs.Classes.{lower_tid, upper_tid, same_class, all_classes}
-use Rattle.wf_world.specs.FlowQueues.{queued}
+use Rattle.wf_world.specs.FlowQueues.{frames_queued}
 
 -- whether an exchange sends a BlockAckReq
 abbrev pub is_request : Content → Bool
@@ -25,7 +25,7 @@ has_waiting w s t = nat_lt 0 (length (waiting_numbers (session w s t)))
 
 -- a queued frame can get a number: the transmit window has room
 abbrev pub can_give : World → ℕ → ℕ → Bool
-can_give w s t = nat_lt 0 (queued w s t) && has_room (session w s t)
+can_give w s t = nat_lt 0 (frames_queued w s t) && has_room (session w s t)
 
 -- whether a TID can send: a request that is due goes before all frames, one at a time
 abbrev pub can_send : World → ℕ → ℕ → Bool
@@ -51,17 +51,17 @@ abbrev pub is_ready : World → Class → ℕ → Bool
 is_ready w c s = is_live w s && (can_send_in w s c && may_receive w s c)
 
 -- the station goes last on the new list of a class in which it is ready and unlisted
-unfoldable pub listed_in : World → ℕ → Class → World
-listed_in w s c =
+unfoldable pub with_listing_in : World → ℕ → Class → World
+with_listing_in w s c =
     let r : Rotation = rotation w c in
-    if is_ready w c s && not (lists r s) then with_rotation w c (add_new r s) else w
+    if is_ready w c s && not (has_key r s) then with_rotation w c (with_new_key r s) else w
 
 -- the same for each of these classes
-unfoldable pub listed_in_all : World → ℕ → List Class → World
-listed_in_all w s [] = w
-listed_in_all w s (c ∷ cs) = listed_in_all (listed_in w s c) s cs
+unfoldable pub with_listings_in : World → ℕ → List Class → World
+with_listings_in w s [] = w
+with_listings_in w s (c ∷ cs) = with_listings_in (with_listing_in w s c) s cs
 
 -- the same for all classes, for the station that a call concerns
-unfoldable pub listed : World → Option ℕ → World
-listed w None = w
-listed w (Some s) = listed_in_all w s all_classes
+unfoldable pub with_listings_of : World → Option ℕ → World
+with_listings_of w None = w
+with_listings_of w (Some s) = with_listings_in w s all_classes

@@ -13,11 +13,11 @@ use Rattle.wf_rules.specs.Airtime.{data_charge, request_charge}
 use Rattle.wf_rules.specs.Fit.{octets_of, fits}
 use Rattle.wf_rules.specs.Codel.{Item}
 use Rattle.wf_rules.specs.Rotation.{in_order, need_of, Picked, pick}
-use Rattle.wf_rules.specs.Session.{Session, State, slot, waiting_numbers, next_number, start_of, request_due, with_state, give, missed, is_failed}
+use Rattle.wf_rules.specs.Session.{Session, State, slot, waiting_numbers, next_number, start_of, request_due, with_state, with_number_given, after_miss, is_failed}
 use Rattle.wf_rules.specs.Receiver.{Receiver, with_arrived, with_start, Score, shows}
-use Rattle.wf_world.specs.World.{World, Station, Share, Mpdu, Content, Frames, Request, Exchange, station, session, share, quantum, rotation, frame, len_of, is_wide, on_station, on_session, on_share, with_rotation, finish}
+use Rattle.wf_world.specs.World.{World, Station, Share, Mpdu, Content, Frames, Request, Exchange, station, session, share, quantum, rotation, frame, len_of, is_wide, on_station, on_session, on_share, with_rotation, with_frame_finished}
 use Rattle.wf_frame.specs.Classes.{lower_tid, upper_tid}
-use Rattle.wf_world.specs.FlowQueues.{queued, Taken, take}
+use Rattle.wf_world.specs.FlowQueues.{frames_queued, Taken, taken_for_tid}
 use Rattle.wf_world.specs.CanSend.{can_send, can_give, has_waiting, is_ready, is_request}
 
 -- ---- who is picked
@@ -31,21 +31,21 @@ abbrev pub picked_station : World → Class → Picked
 picked_station w c = pick (station_need w c) (is_ready w c) (rotation w c)
 
 -- a station gets so many quanta in a class
-unfoldable pub pay_station : World → Class → ℕ → ℕ → World
-pay_station w c quanta s =
+unfoldable pub with_station_paid : World → Class → ℕ → ℕ → World
+with_station_paid w c quanta s =
     let airtime : ℕ = quanta * quantum w s in
     on_share w s c (λ x. record x { deficit = x.deficit +ℤ pos airtime; quanta = x.quanta + quanta })
 
 -- each of these stations gets its quanta in a class
-unfoldable pub pay_stations : World → Class → (ℕ → ℕ) → List ℕ → World
-pay_stations w c quanta [] = w
-pay_stations w c quanta (s ∷ ss) = pay_stations (pay_station w c (quanta s) s) c quanta ss
+unfoldable pub with_stations_paid : World → Class → (ℕ → ℕ) → List ℕ → World
+with_stations_paid w c quanta [] = w
+with_stations_paid w c quanta (s ∷ ss) = with_stations_paid (with_station_paid w c (quanta s) s) c quanta ss
 
 -- the world after the pick: each station has its quanta, and the class its new lists
 unfoldable pub after_pick : World → Class → World
 after_pick w c =
     let p : Picked = picked_station w c in
-    with_rotation (pay_stations w c p.quanta (in_order (rotation w c))) c p.lists
+    with_rotation (with_stations_paid w c p.quanta (in_order (rotation w c))) c p.lists
 
 -- ---- what is sent
 
@@ -62,8 +62,8 @@ abbrev pub sending_tid : World → ℕ → Class → ℕ
 sending_tid w s c = if can_send w s (first_tid w s c) then first_tid w s c else other_tid w s c
 
 -- the turn goes to the TID that does not send
-unfoldable pub after_turn : World → ℕ → Class → ℕ → World
-after_turn w s c t = on_share w s c (λ x. record x { upper = t == lower_tid c })
+unfoldable pub after_tid_turn : World → ℕ → Class → ℕ → World
+after_tid_turn w s c t = on_share w s c (λ x. record x { upper = t == lower_tid c })
 
 -- the most frames of an aggregate: one where the station sleeps, since a poll asks for one
 abbrev pub most_frames : World → ℕ → ℕ
@@ -80,14 +80,14 @@ fits_in w s mpdus =
     fits x.rate x.exponent (most_frames w s) w.config.cap (lens_of mpdus)
 
 -- number n of a TID, with its frame
-abbrev pub mpdu : World → ℕ → ℕ → ℕ → Mpdu
-mpdu w s t n =
+abbrev pub mpdu_of : World → ℕ → ℕ → ℕ → Mpdu
+mpdu_of w s t n =
     let id : ℕ = (slot (session w s t) n).id in
     record { number = n; id = id; len = len_of (frame w id).note }
 
 -- the numbers of a TID that wait to be sent, rising, with their frames
 abbrev pub waiting_mpdus : World → ℕ → ℕ → List Mpdu
-waiting_mpdus w s t = map (mpdu w s t) (waiting_numbers (session w s t))
+waiting_mpdus w s t = map (mpdu_of w s t) (waiting_numbers (session w s t))
 
 -- the longest front of a list that fits
 unfoldable pub longest_fitting : World → ℕ → List Mpdu → List Mpdu
@@ -107,7 +107,7 @@ fresh_mpdus w s t (Some x) =
 -- the frame that a take gives gets the TID's next number
 unfoldable pub with_number : World → ℕ → ℕ → Option Item → World
 with_number w s t None = w
-with_number w s t (Some x) = on_session w s t (λ y. give y x.id)
+with_number w s t (Some x) = on_session w s t (λ y. with_number_given y x.id)
 
 -- An aggregate with at most n fresh frames more, while the TID can give one. A frame that does not fit
 -- has its number already: it waits with that, and the aggregate ends before it.
@@ -115,7 +115,7 @@ unfoldable pub with_fresh : ℕ → World → ℕ → ℕ → List Mpdu → Aggr
 with_fresh zero w s t mpdus = record { world = w; mpdus = mpdus }
 with_fresh (suc n) w s t mpdus =
     if not (can_give w s t) then record { world = w; mpdus = mpdus }
-    else let taken : Taken = take w s t in
+    else let taken : Taken = taken_for_tid w s t in
     let longer : List Mpdu = mpdus ++ fresh_mpdus w s t taken.item in
     let numbered : World = with_number taken.world s t taken.item in
     if fits_in w s longer then with_fresh n numbered s t longer
@@ -123,17 +123,17 @@ with_fresh (suc n) w s t mpdus =
 
 -- a TID's aggregate: the longest front of the waiting numbers that fits, and where that is all of
 -- them, fresh frames after it
-unfoldable pub filled : World → ℕ → ℕ → Aggregate
-filled w s t =
+unfoldable pub aggregate_of : World → ℕ → ℕ → Aggregate
+aggregate_of w s t =
     let waiting : List Mpdu = waiting_mpdus w s t in
     let chosen : List Mpdu = longest_fitting w s waiting in
     if length chosen == length waiting then with_fresh (most_frames w s - length chosen) w s t chosen
     else record { world = w; mpdus = chosen }
 
 -- the numbers of an aggregate fly in exchange e
-abbrev pub numbers_fly : ℕ → List Mpdu → Session → Session
-numbers_fly e [] x = x
-numbers_fly e (m ∷ ms) x = numbers_fly e ms (with_state (State.Flying e) m.number x)
+abbrev pub with_flying : ℕ → List Mpdu → Session → Session
+with_flying e [] x = x
+with_flying e (m ∷ ms) x = with_flying e ms (with_state (State.Flying e) m.number x)
 
 -- what an exchange is to send, with its charge, and the world with it on the air
 pub record Prepared : Type 0 where
@@ -147,10 +147,10 @@ aggregate_charge s t f =
     data_charge (station f.world s).rate (octets_of (lens_of f.mpdus)) (is_wide f.world s t)
 
 -- an aggregate, whose numbers fly from then on
-unfoldable pub prepared_frames : ℕ → ℕ → Aggregate → Prepared
-prepared_frames s t f =
+unfoldable pub prepared_data : ℕ → ℕ → Aggregate → Prepared
+prepared_data s t f =
     record {
-      world = on_session f.world s t (numbers_fly f.world.exchanges f.mpdus);
+      world = on_session f.world s t (with_flying f.world.exchanges f.mpdus);
       content = Frames f.mpdus;
       charge = aggregate_charge s t f;
     }
@@ -164,17 +164,17 @@ prepared_request w s t = record {
 }
 
 -- what a TID sends: a request where one is due, else an aggregate
-unfoldable pub prepared : World → ℕ → ℕ → Prepared
-prepared w s t =
-    if request_due (session w s t) then prepared_request w s t else prepared_frames s t (filled w s t)
+unfoldable pub prepared_exchange : World → ℕ → ℕ → Prepared
+prepared_exchange w s t =
+    if request_due (session w s t) then prepared_request w s t else prepared_data s t (aggregate_of w s t)
 
 -- a number waits or a frame is queued on some TID of a station
 abbrev pub has_more : World → ℕ → Bool
-has_more w s = list_any (λ t. has_waiting w s t || nat_lt 0 (queued w s t)) (upto 8)
+has_more w s = list_any (λ t. has_waiting w s t || nat_lt 0 (frames_queued w s t)) (upto 8)
 
 -- a used credit is spent
-unfoldable pub spent : World → ℕ → World
-spent w s = on_station w s (λ x. record x { credit = None })
+unfoldable pub without_credit : World → ℕ → World
+without_credit w s = on_station w s (λ x. record x { credit = None })
 
 -- the exchange that sends what is prepared: `more` is the More Data bit (8.2.4.1.8), of sleeping
 -- stations alone
@@ -193,8 +193,8 @@ exchange_of s t c p =
     }
 
 -- an exchange is open from then on
-unfoldable pub opening_exchange : World → Exchange → World
-opening_exchange w x = record w { exchanges = w.exchanges + 1; opened = w.opened ++ x ∷ [] }
+unfoldable pub with_exchange_opened : World → Exchange → World
+with_exchange_opened w x = record w { exchanges = w.exchanges + 1; opened = w.opened ++ x ∷ [] }
 
 -- what a reply says of an exchange: numbers on the air are modulo 4096
 abbrev pub part_of : Content → Part
@@ -228,8 +228,8 @@ abbrev pub paid : ℕ → Share → Share
 paid charge y = record y { deficit = y.deficit -ℤ pos charge; charged = y.charged + charge }
 
 -- a station pays for its exchange
-unfoldable pub charged : World → Exchange → World
-charged w x =
+unfoldable pub after_charge : World → Exchange → World
+after_charge w x =
     on_share w x.station x.class (paid x.charge)
 
 -- whether the kept answer shows a number, where the exchange was heard
@@ -238,29 +238,29 @@ is_acked heard None n = false
 is_acked heard (Some b) n = heard && shows b n
 
 -- the frame of a number that failed is finished
-unfoldable pub settled_slot : World → ℕ → ℕ → Mpdu → World
-settled_slot w s t m =
-    if is_failed (slot (session w s t) m.number).state then finish w (Dropped Retries) m.id else w
+unfoldable pub with_failed_finished : World → ℕ → ℕ → Mpdu → World
+with_failed_finished w s t m =
+    if is_failed (slot (session w s t) m.number).state then with_frame_finished w (Dropped Retries) m.id else w
 
 -- one number of an exchange that ends: it is acked, or was sent in vain
-unfoldable pub settled : World → ℕ → ℕ → Bool → Mpdu → World
-settled w s t acked m =
-    if acked then finish (on_session w s t (with_state State.Acked m.number)) Acked m.id
-    else settled_slot (on_session w s t (missed w.config.attempts m.number)) s t m
+unfoldable pub with_settled : World → ℕ → ℕ → Bool → Mpdu → World
+with_settled w s t acked m =
+    if acked then with_frame_finished (on_session w s t (with_state State.Acked m.number)) Acked m.id
+    else with_failed_finished (on_session w s t (after_miss w.config.attempts m.number)) s t m
 
 -- the numbers of an exchange that ends, in order
-unfoldable pub all_settled : World → ℕ → ℕ → (ℕ → Bool) → List Mpdu → World
-all_settled w s t acked [] = w
-all_settled w s t acked (m ∷ ms) = all_settled (settled w s t (acked m.number) m) s t acked ms
+unfoldable pub with_all_settled : World → ℕ → ℕ → (ℕ → Bool) → List Mpdu → World
+with_all_settled w s t acked [] = w
+with_all_settled w s t acked (m ∷ ms) = with_all_settled (with_settled w s t (acked m.number) m) s t acked ms
 
 -- a request that is heard tells the receiver of all numbers below its start
-abbrev pub heard_start : Bool → ℕ → Session → Session
-heard_start heard start x = if heard then record x { heard = max x.heard start } else x
+abbrev pub with_heard_start : Bool → ℕ → Session → Session
+with_heard_start heard start x = if heard then record x { heard = max x.heard start } else x
 
 -- the world after an exchange ends, heard or not
 unfoldable pub after_done : World → Exchange → Bool → Content → World
-after_done w x heard (Frames mpdus) = all_settled w x.station x.tid (is_acked heard x.answer) mpdus
-after_done w x heard (Request start) = on_session w x.station x.tid (heard_start heard start)
+after_done w x heard (Frames mpdus) = with_all_settled w x.station x.tid (is_acked heard x.answer) mpdus
+after_done w x heard (Request start) = on_session w x.station x.tid (with_heard_start heard start)
 
 -- the subframes of an exchange
 abbrev pub mpdus_of : Content → List Mpdu

@@ -7,16 +7,16 @@ use Rattle.wf_frame.specs.declared.classes.Cause.TheVariants.{Overlimit, Codel a
 use Rattle.wf_frame.specs.declared.classes.Fate.TheVariants.{Dropped}
 use Rattle.wf_rules.specs.Table.{at, upto}
 use Rattle.wf_rules.specs.Codel.{Item, new_codel, octets, Dequeued, dequeue}
-use Rattle.wf_rules.specs.Rotation.{lists, in_order, add_new, need_of, Picked, pick}
-use Rattle.wf_world.specs.World.{World, Queue, new_queue, tid_of, queue, on_queue, with_queues, finish, finish_all, params, live_stations}
+use Rattle.wf_rules.specs.Rotation.{has_key, in_order, with_new_key, need_of, Picked, pick}
+use Rattle.wf_world.specs.World.{World, Queue, new_queue, tid_of, queue, on_queue, with_queues, with_frame_finished, with_frames_finished, codel_params, live_stations}
 
 -- how many frames are in the flow queues and the overflow queues
 abbrev pub total_queued : World → ℕ
 total_queued w = sum_by (λ q. length q.items) w.queues
 
 -- how many frames are in the queues of a TID
-abbrev pub queued : World → ℕ → ℕ → ℕ
-queued w s t = sum_by (λ q. length (queue w q).items) (in_order (tid_of w s t).queues)
+abbrev pub frames_queued : World → ℕ → ℕ → ℕ
+frames_queued w s t = sum_by (λ q. length (queue w q).items) (in_order (tid_of w s t).queues)
 
 -- whether no queue of the list has more octets than its queue q
 abbrev pub has_most : List Queue → ℕ → Bool
@@ -28,14 +28,14 @@ abbrev pub longest_of : List Queue → ℕ
 longest_of queues = unwrap_or (find (has_most queues) (upto (length queues))) 0
 
 -- the longest queue, among flow queues and overflow queues
-abbrev pub longest : World → ℕ
-longest w = longest_of w.queues
+abbrev pub longest_queue : World → ℕ
+longest_queue w = longest_of w.queues
 
 -- queue q, whose frames are given, loses its head for the limit
 unfoldable pub without_head : World → ℕ → List Item → World
 without_head w q [] = w
 without_head w q (x ∷ rest) =
-    finish (on_queue w q (λ y. record y { items = rest })) (Dropped Overlimit) x.id
+    with_frame_finished (on_queue w q (λ y. record y { items = rest })) (Dropped Overlimit) x.id
 
 -- the id of a queue's first frame
 abbrev pub head_id : List Item → Option ℕ
@@ -48,11 +48,11 @@ is_at_limit w = nat_le w.config.limit (total_queued w)
 
 -- the frame that is dropped for the limit: the head of the longest queue
 abbrev pub dropped_for_limit : World → Option ℕ
-dropped_for_limit w = if is_at_limit w then head_id (queue w (longest w)).items else None
+dropped_for_limit w = if is_at_limit w then head_id (queue w (longest_queue w)).items else None
 
 -- the world without the frame that is dropped for the limit
-unfoldable pub within_limit : World → World
-within_limit w = if is_at_limit w then without_head w (longest w) (queue w (longest w)).items else w
+unfoldable pub after_limit : World → World
+after_limit w = if is_at_limit w then without_head w (longest_queue w) (queue w (longest_queue w)).items else w
 
 -- whether TID j of station i is another than TID t of station s
 abbrev pub is_other : ℕ → ℕ → ℕ → ℕ → Bool
@@ -61,7 +61,7 @@ is_other i j s t = not ((i == s) && (j == t))
 -- whether a TID other than t of s lists q
 abbrev pub is_listed_elsewhere : World → ℕ → ℕ → ℕ → Bool
 is_listed_elsewhere w s t q =
-    let listed : ℕ → ℕ → Bool = λ i j. is_other i j s t && lists (tid_of w i j).queues q in
+    let listed : ℕ → ℕ → Bool = λ i j. is_other i j s t && has_key (tid_of w i j).queues q in
     list_any (λ i. list_any (listed i) (upto 8)) (live_stations w)
 
 -- the overflow queue of TID t of station s: these come after the flow queues
@@ -75,19 +75,19 @@ queue_for w s t flow =
     if is_listed_elsewhere w s t q then overflow_queue w s t else q
 
 -- the queue goes last on the TID's new list, with a fresh deficit, where it is not listed
-unfoldable pub listed_queue : World → ℕ → ℕ → ℕ → World
-listed_queue w s t q =
-    if lists (tid_of w s t).queues q then w
+unfoldable pub with_listed_queue : World → ℕ → ℕ → ℕ → World
+with_listed_queue w s t q =
+    if has_key (tid_of w s t).queues q then w
     else let fresh : World = on_queue w q (λ y. record y { deficit = pos w.config.flow_quantum }) in
-    with_queues fresh s t (add_new (tid_of w s t).queues q)
+    with_queues fresh s t (with_new_key (tid_of w s t).queues q)
 
 -- a frame goes last on a queue
-unfoldable pub appended : World → ℕ → Item → World
-appended w q x = on_queue w q (λ y. record y { items = y.items ++ x ∷ [] })
+unfoldable pub with_appended : World → ℕ → Item → World
+with_appended w q x = on_queue w q (λ y. record y { items = y.items ++ x ∷ [] })
 
 -- algorithm 1: a frame goes last on a queue, which the TID lists from then on
-unfoldable pub put_in : World → ℕ → ℕ → ℕ → Item → World
-put_in w s t q x = listed_queue (appended w q x) s t q
+unfoldable pub after_put_in : World → ℕ → ℕ → ℕ → Item → World
+after_put_in w s t q x = with_listed_queue (with_appended w q x) s t q
 
 -- how many quanta a queue's deficit needs to come above 0
 abbrev pub queue_need : World → ℕ → ℕ
@@ -98,11 +98,11 @@ abbrev pub has_frames : World → ℕ → Bool
 has_frames w q = nat_lt 0 (length (queue w q).items)
 
 -- each of these queues gets so many quanta
-unfoldable pub pay_queues : World → (ℕ → ℕ) → List ℕ → World
-pay_queues w quanta [] = w
-pay_queues w quanta (q ∷ qs) =
+unfoldable pub with_queues_paid : World → (ℕ → ℕ) → List ℕ → World
+with_queues_paid w quanta [] = w
+with_queues_paid w quanta (q ∷ qs) =
     let octets : ℕ = quanta q * w.config.flow_quantum in
-    pay_queues (on_queue w q (λ y. record y { deficit = y.deficit +ℤ pos octets })) quanta qs
+    with_queues_paid (on_queue w q (λ y. record y { deficit = y.deficit +ℤ pos octets })) quanta qs
 
 -- what a take leaves, and the frame that it gives
 pub record Taken : Type 0 where
@@ -120,36 +120,36 @@ after_dequeue d y =
     record { items = d.rest; deficit = y.deficit -ℤ pos (len_given d.given); codel = d.state }
 
 -- CoDel's dequeue of queue q: the frames that it drops are finished, in order
-unfoldable pub dequeued : World → ℕ → Dequeued → Taken
-dequeued w q d = record {
-  world = finish_all (on_queue w q (after_dequeue d)) (Dropped By_codel) (map (λ x. x.id) d.dropped);
+unfoldable pub taken_by_codel : World → ℕ → Dequeued → Taken
+taken_by_codel w q d = record {
+  world = with_frames_finished (on_queue w q (after_dequeue d)) (Dropped By_codel) (map (λ x. x.id) d.dropped);
   item = d.given;
 }
 
 -- a take from the queue that is picked, where one is
-unfoldable pub taken_from : World → ℕ → Option ℕ → Taken
-taken_from w s None = record { world = w; item = None }
-taken_from w s (Some q) =
-    dequeued w q (dequeue (params w s) w.clock (queue w q).codel (queue w q).items)
+unfoldable pub taken_from_picked : World → ℕ → Option ℕ → Taken
+taken_from_picked w s None = record { world = w; item = None }
+taken_from_picked w s (Some q) =
+    taken_by_codel w q (dequeue (codel_params w s) w.clock (queue w q).codel (queue w q).items)
 
 -- deficit round robin over the TID's queues
 abbrev pub picked_queue : World → ℕ → ℕ → Picked
 picked_queue w s t = pick (queue_need w) (has_frames w) (tid_of w s t).queues
 
 -- algorithm 2: the queue that is picked gives a frame through CoDel
-unfoldable pub take : World → ℕ → ℕ → Taken
-take w s t =
+unfoldable pub taken_for_tid : World → ℕ → ℕ → Taken
+taken_for_tid w s t =
     let p : Picked = picked_queue w s t in
-    let paid : World = pay_queues w p.quanta (in_order (tid_of w s t).queues) in
-    taken_from (with_queues paid s t p.lists) s p.winner
+    let paid : World = with_queues_paid w p.quanta (in_order (tid_of w s t).queues) in
+    taken_from_picked (with_queues paid s t p.lists) s p.winner
 
 -- the frames of a queue are dropped as Left, and its CoDel state is new
-unfoldable pub purge_queue : World → ℕ → World
-purge_queue w q =
+unfoldable pub after_queue_left : World → ℕ → World
+after_queue_left w q =
     let emptied : World = on_queue w q (λ y. record y { items = []; codel = new_codel }) in
-    finish_all emptied (Dropped Left) (map (λ x. x.id) (queue w q).items)
+    with_frames_finished emptied (Dropped Left) (map (λ x. x.id) (queue w q).items)
 
 -- the frames of these queues are dropped as Left, in order
-unfoldable pub purge_queues : World → List ℕ → World
-purge_queues w [] = w
-purge_queues w (q ∷ qs) = purge_queues (purge_queue w q) qs
+unfoldable pub after_queues_left : World → List ℕ → World
+after_queues_left w [] = w
+after_queues_left w (q ∷ qs) = after_queues_left (after_queue_left w q) qs

@@ -16,12 +16,12 @@ use Rattle.wf_rules.specs.Airtime.{lowest_rate}
 use Rattle.wf_rules.specs.Codel.{Item}
 use Rattle.wf_rules.specs.Rotation.{in_order, without_key, no_keys}
 use Rattle.wf_rules.specs.Session.{Slot, State, is_acknowledged, is_waiting, is_failed}
-use Rattle.wf_rules.specs.Receiver.{Receiver, Score, score, word, released_between}
-use Rattle.wf_world.specs.World.{World, Exchange, new_share, new_tid, session, receiver, share, tid_of, rotation, frame, accepted, is_wide, exchange, with_station, on_station, on_share, on_receiver, with_rotation, with_queues, with_exchange, without_exchange, finish_all}
+use Rattle.wf_rules.specs.Receiver.{Receiver, Score, score, bitmap_word, released_between}
+use Rattle.wf_world.specs.World.{World, Exchange, new_share, new_tid, session, receiver, share, tid_of, rotation, frame, accepted_count, is_wide, exchange, with_station, on_station, on_share, on_receiver, with_rotation, with_queues, with_exchange, without_exchange, with_frames_finished}
 use Rattle.wf_frame.specs.Classes.{all_classes}
-use Rattle.wf_world.specs.FlowQueues.{dropped_for_limit, within_limit, queue_for, put_in, purge_queues}
-use Rattle.wf_world.specs.CanSend.{can_send_in, listed}
-use Rattle.wf_world.specs.Exchanges.{picked_station, after_pick, sending_tid, after_turn, Prepared, prepared, exchange_of, opening_exchange, spent, part_of, after_arrival, ids_of, charged, after_done, count_in}
+use Rattle.wf_world.specs.FlowQueues.{dropped_for_limit, after_limit, queue_for, after_put_in, after_queues_left}
+use Rattle.wf_world.specs.CanSend.{can_send_in, with_listings_of}
+use Rattle.wf_world.specs.Exchanges.{picked_station, after_pick, sending_tid, after_tid_turn, Prepared, prepared_exchange, exchange_of, with_exchange_opened, without_credit, part_of, after_arrival, ids_of, after_charge, after_done, count_in}
 use Rattle.wf_world.specs.Refusals.{refusal}
 
 -- what a call leaves and answers
@@ -38,8 +38,8 @@ unreached w = record { world = w; reply = Released [] }
 
 -- Join: a quantum of airtime in each class, and on each TID an agreement with this window, from this
 -- number on
-unfoldable pub joined : World → ℕ → ℕ → ℕ → ℕ → ℕ → Outcome
-joined w s window start exponent weight =
+unfoldable pub join_outcome : World → ℕ → ℕ → ℕ → ℕ → ℕ → Outcome
+join_outcome w s window start exponent weight =
     let share = new_share (w.config.quantum * weight) in
     let tid = new_tid start window in
     record {
@@ -56,51 +56,51 @@ joined w s window start exponent weight =
     }
 
 -- the frames of the numbers that wait
-abbrev pub held_slots : List Slot → List ℕ
-held_slots [] = []
-held_slots (x ∷ xs) = if is_waiting x.state then x.id ∷ held_slots xs else held_slots xs
+abbrev pub waiting_ids : List Slot → List ℕ
+waiting_ids [] = []
+waiting_ids (x ∷ xs) = if is_waiting x.state then x.id ∷ waiting_ids xs else waiting_ids xs
 
 -- the numbers of a list, rising and once each
-abbrev pub rising : List ℕ → List ℕ
-rising [] = []
-rising (x ∷ xs) = with_member x (rising xs)
+abbrev pub in_rising_order : List ℕ → List ℕ
+in_rising_order [] = []
+in_rising_order (x ∷ xs) = with_member x (in_rising_order xs)
 
 -- a TID's frames are dropped as Left: its numbers' first, then its queues', by their numbers
-unfoldable pub left_tid : World → ℕ → ℕ → World
-left_tid w s t =
-    let emptied : World = finish_all w (Dropped Left) (held_slots (session w s t).slots) in
-    with_queues (purge_queues emptied (rising (in_order (tid_of w s t).queues))) s t no_keys
+unfoldable pub after_tid_left : World → ℕ → ℕ → World
+after_tid_left w s t =
+    let emptied : World = with_frames_finished w (Dropped Left) (waiting_ids (session w s t).slots) in
+    with_queues (after_queues_left emptied (in_rising_order (in_order (tid_of w s t).queues))) s t no_keys
 
 -- the same for each of these TIDs, in order
-unfoldable pub left_tids : World → ℕ → List ℕ → World
-left_tids w s [] = w
-left_tids w s (t ∷ ts) = left_tids (left_tid w s t) s ts
+unfoldable pub after_tids_left : World → ℕ → List ℕ → World
+after_tids_left w s [] = w
+after_tids_left w s (t ∷ ts) = after_tids_left (after_tid_left w s t) s ts
 
 -- a station leaves the rotations of these classes
-unfoldable pub off_lists : World → ℕ → List Class → World
-off_lists w s [] = w
-off_lists w s (c ∷ cs) = off_lists (with_rotation w c (without_key (rotation w c) s)) s cs
+unfoldable pub without_listings : World → ℕ → List Class → World
+without_listings w s [] = w
+without_listings w s (c ∷ cs) = without_listings (with_rotation w c (without_key (rotation w c) s)) s cs
 
 -- Leave: the station's frames are dropped, and the reply is how many
-unfoldable pub gone : World → ℕ → Outcome
-gone w s =
-    let left : World = left_tids w s (upto 8) in
+unfoldable pub leave_outcome : World → ℕ → Outcome
+leave_outcome w s =
+    let left : World = after_tids_left w s (upto 8) in
     record {
-      world = with_station (off_lists left s all_classes) s None;
+      world = with_station (without_listings left s all_classes) s None;
       reply = Gone (length left.finished - length w.finished);
     }
 
 -- Rate: the rate of a station's data from then on
-unfoldable pub with_rate : World → ℕ → ℕ → ℕ → Bool → Outcome
-with_rate w s mcs mhz short =
+unfoldable pub rate_outcome : World → ℕ → ℕ → ℕ → Bool → Outcome
+rate_outcome w s mcs mhz short =
     record {
       world = on_station w s (λ x. record x { rate = record { mcs = mcs; mhz = mhz; short = short } });
       reply = RateSet;
     }
 
 -- Tick: the clock moves on by so many microseconds
-unfoldable pub ticked : World → ℕ → Outcome
-ticked w by = record { world = record w { clock = w.clock + by }; reply = Ticked (w.clock + by) }
+unfoldable pub tick_outcome : World → ℕ → Outcome
+tick_outcome w by = record { world = record w { clock = w.clock + by }; reply = Ticked (w.clock + by) }
 
 -- ---- frames
 
@@ -110,43 +110,43 @@ with_frame w note = record w { frames = w.frames ++ record { note = note; fate =
 
 -- the frame that the next call accepts, as it lies in its queue: it is stamped with the clock
 abbrev pub next_item : World → ℕ → Item
-next_item w len = record { id = accepted w; stamp = w.clock; len = len }
+next_item w len = record { id = accepted_count w; stamp = w.clock; len = len }
 
 -- Enqueue: at the limit the head of the longest queue leaves first; then the new frame goes in
-unfoldable pub enqueued : World → ℕ → ℕ → ℕ → ℕ → Outcome
-enqueued w s t flow len =
-    let w' : World = within_limit w in
+unfoldable pub enqueue_outcome : World → ℕ → ℕ → ℕ → ℕ → Outcome
+enqueue_outcome w s t flow len =
+    let w' : World = after_limit w in
     record {
       world =
-          with_frame (put_in w' s t (queue_for w' s t flow) (next_item w len)) (Enqueue s t flow len);
-      reply = Accepted (accepted w) (dropped_for_limit w);
+          with_frame (after_put_in w' s t (queue_for w' s t flow) (next_item w len)) (Enqueue s t flow len);
+      reply = Accepted (accepted_count w) (dropped_for_limit w);
     }
 
 -- what is prepared goes on the air: its exchange opens, and a credit is spent
-unfoldable pub sent : ℕ → ℕ → Class → Prepared → Outcome
-sent s t c p =
+unfoldable pub send_outcome : ℕ → ℕ → Class → Prepared → Outcome
+send_outcome s t c p =
     let x : Exchange = exchange_of s t c p in
     record {
-      world = spent (opening_exchange p.world x) s;
+      world = without_credit (with_exchange_opened p.world x) s;
       reply = Send x.number s t x.charge (part_of x.content) x.more;
     }
 
 -- what the station that is picked sends
-unfoldable pub pulled_by : World → Class → Option ℕ → Outcome
-pulled_by w c None = unreached w
-pulled_by w c (Some s) =
+unfoldable pub pull_outcome_for : World → Class → Option ℕ → Outcome
+pull_outcome_for w c None = unreached w
+pull_outcome_for w c (Some s) =
     let t : ℕ = sending_tid w s c in
-    sent s t c (prepared (after_turn w s c t) s t)
+    send_outcome s t c (prepared_exchange (after_tid_turn w s c t) s t)
 
 -- Pull: the station that is picked sends
-unfoldable pub pulled : World → Class → Outcome
-pulled w c = pulled_by (after_pick w c) c (picked_station w c).winner
+unfoldable pub pull_outcome : World → Class → Outcome
+pull_outcome w c = pull_outcome_for (after_pick w c) c (picked_station w c).winner
 
 -- ---- exchanges
 
 -- Arrive: transmission i reaches the receiver, which passes up the frames that are in order now
-unfoldable pub arrived : World → Exchange → ℕ → Outcome
-arrived w x i =
+unfoldable pub arrive_outcome : World → Exchange → ℕ → Outcome
+arrive_outcome w x i =
     let old : Receiver = receiver w x.station x.tid in
     let new : Receiver = after_arrival x.content i old in
     let marked : Exchange = record x { arrived = with_member i x.arrived } in
@@ -156,20 +156,20 @@ arrived w x i =
     }
 
 -- Answer: the receiver's BlockAck, its start on the air and its bitmap (IEEE 802.11-2012, 8.3.1.9.3)
-unfoldable pub answered : World → Exchange → Outcome
-answered w x =
+unfoldable pub answer_outcome : World → Exchange → Outcome
+answer_outcome w x =
     let b : Score = score (receiver w x.station x.tid) in
     record {
       world = with_exchange w (record x { answer = Some b });
       reply =
-          Ba (b.start % 4096) (word b 0) (word b 1) (word b 2) (word b 3) (is_wide w x.station x.tid);
+          Ba (b.start % 4096) (bitmap_word b 0) (bitmap_word b 1) (bitmap_word b 2) (bitmap_word b 3) (is_wide w x.station x.tid);
     }
 
 -- Done: the exchange is charged and settled, and the reply counts its numbers that are acknowledged,
 -- wait again, and failed
-unfoldable pub ended : World → Exchange → Bool → Outcome
-ended w x heard =
-    let after : World = after_done (charged (without_exchange w x.number) x) x heard x.content in
+unfoldable pub done_outcome : World → Exchange → Bool → Outcome
+done_outcome w x heard =
+    let after : World = after_done (after_charge (without_exchange w x.number) x) x heard x.content in
     let count : (State → Bool) → ℕ = count_in after x in
     record {
       world = after;
@@ -177,19 +177,19 @@ ended w x heard =
     }
 
 -- what a call does to an open exchange
-unfoldable pub on_open : World → Option Exchange → (Exchange → Outcome) → Outcome
-on_open w None f = unreached w
-on_open w (Some x) f = f x
+unfoldable pub outcome_where_open : World → Option Exchange → (Exchange → Outcome) → Outcome
+outcome_where_open w None f = unreached w
+outcome_where_open w (Some x) f = f x
 
 -- ---- power save, receive charges, reaping
 
 -- Sleep: the station is in power save mode (IEEE 802.11-2012, 10.2.1)
-unfoldable pub slept : World → ℕ → Outcome
-slept w s = record { world = on_station w s (λ x. record x { asleep = true }); reply = Slept }
+unfoldable pub sleep_outcome : World → ℕ → Outcome
+sleep_outcome w s = record { world = on_station w s (λ x. record x { asleep = true }); reply = Slept }
 
 -- Wake: the station is awake, and has no credit
-unfoldable pub woken : World → ℕ → Outcome
-woken w s =
+unfoldable pub wake_outcome : World → ℕ → Outcome
+wake_outcome w s =
     record { world = on_station w s (λ x. record x { asleep = false; credit = None }); reply = Woken }
 
 -- the first of Vo, Vi, Be and Bk in which the station can send
@@ -197,44 +197,44 @@ abbrev pub class_to_send : World → ℕ → Class
 class_to_send w s = unwrap_or (find (can_send_in w s) (Vo ∷ Vi ∷ Be ∷ [])) Bk
 
 -- Poll: a sleeping station may receive one exchange (PS-Poll, IEEE 802.11-2012, 10.2.1.6)
-unfoldable pub credited : World → ℕ → Outcome
-credited w s =
+unfoldable pub poll_outcome : World → ℕ → Outcome
+poll_outcome w s =
     let c : Class = class_to_send w s in
     record { world = on_station w s (λ x. record x { credit = Some c }); reply = Credited c }
 
 -- Rx: a station pays for the airtime in which it sent, in microseconds
-unfoldable pub received : World → ℕ → Class → ℕ → Outcome
-received w s c air = record {
+unfoldable pub rx_outcome : World → ℕ → Class → ℕ → Outcome
+rx_outcome w s c air = record {
   world =
       on_share w s c (λ x. record x { deficit = x.deficit -ℤ pos air; received = x.received + air });
   reply = Charged ((share w s c).deficit -ℤ pos air);
 }
 
 -- Reap: the first finished frame is told of
-unfoldable pub reaped : World → List ℕ → Outcome
-reaped w [] = unreached w
-reaped w (id ∷ ids) =
+unfoldable pub reap_outcome : World → List ℕ → Outcome
+reap_outcome w [] = unreached w
+reap_outcome w (id ∷ ids) =
     record { world = record w { finished = ids }; reply = Reaped id (frame w id).fate }
 
 -- ---- the step
 
 -- what a call does that is not refused
-unfoldable pub done : World → Note → Outcome
-done w (Enqueue s t flow len) = enqueued w s t flow len
-done w (Asked (Join s window start exponent weight)) =
-    joined w s window start exponent weight
-done w (Asked (Leave s)) = gone w s
-done w (Asked (Rate s mcs mhz short)) = with_rate w s mcs mhz short
-done w (Asked (Tick by)) = ticked w by
-done w (Asked (Pull c)) = pulled w c
-done w (Asked (Arrive e i)) = on_open w (exchange w e) (λ x. arrived w x i)
-done w (Asked (Answer e)) = on_open w (exchange w e) (λ x. answered w x)
-done w (Asked (Done e heard)) = on_open w (exchange w e) (λ x. ended w x heard)
-done w (Asked (Sleep s)) = slept w s
-done w (Asked (Wake s)) = woken w s
-done w (Asked (Poll s)) = credited w s
-done w (Asked (Rx s c air)) = received w s c air
-done w (Asked Reap) = reaped w w.finished
+unfoldable pub outcome_of : World → Note → Outcome
+outcome_of w (Enqueue s t flow len) = enqueue_outcome w s t flow len
+outcome_of w (Asked (Join s window start exponent weight)) =
+    join_outcome w s window start exponent weight
+outcome_of w (Asked (Leave s)) = leave_outcome w s
+outcome_of w (Asked (Rate s mcs mhz short)) = rate_outcome w s mcs mhz short
+outcome_of w (Asked (Tick by)) = tick_outcome w by
+outcome_of w (Asked (Pull c)) = pull_outcome w c
+outcome_of w (Asked (Arrive e i)) = outcome_where_open w (exchange w e) (λ x. arrive_outcome w x i)
+outcome_of w (Asked (Answer e)) = outcome_where_open w (exchange w e) (λ x. answer_outcome w x)
+outcome_of w (Asked (Done e heard)) = outcome_where_open w (exchange w e) (λ x. done_outcome w x heard)
+outcome_of w (Asked (Sleep s)) = sleep_outcome w s
+outcome_of w (Asked (Wake s)) = wake_outcome w s
+outcome_of w (Asked (Poll s)) = poll_outcome w s
+outcome_of w (Asked (Rx s c air)) = rx_outcome w s c air
+outcome_of w (Asked Reap) = reap_outcome w w.finished
 
 -- the station of an exchange, where it is open
 abbrev pub station_of : Option Exchange → Option ℕ
@@ -242,34 +242,34 @@ station_of None = None
 station_of (Some x) = Some x.station
 
 -- the station that a call concerns
-abbrev pub concerned : World → Note → Option ℕ
-concerned w (Enqueue s t flow len) = Some s
-concerned w (Asked (Join s window start exponent weight)) = Some s
-concerned w (Asked (Leave s)) = Some s
-concerned w (Asked (Rate s mcs mhz short)) = Some s
-concerned w (Asked (Tick by)) = None
-concerned w (Asked (Pull c)) = (picked_station w c).winner
-concerned w (Asked (Arrive e i)) = station_of (exchange w e)
-concerned w (Asked (Answer e)) = station_of (exchange w e)
-concerned w (Asked (Done e heard)) = station_of (exchange w e)
-concerned w (Asked (Sleep s)) = Some s
-concerned w (Asked (Wake s)) = Some s
-concerned w (Asked (Poll s)) = Some s
-concerned w (Asked (Rx s c air)) = Some s
-concerned w (Asked Reap) = None
+abbrev pub concerned_station : World → Note → Option ℕ
+concerned_station w (Enqueue s t flow len) = Some s
+concerned_station w (Asked (Join s window start exponent weight)) = Some s
+concerned_station w (Asked (Leave s)) = Some s
+concerned_station w (Asked (Rate s mcs mhz short)) = Some s
+concerned_station w (Asked (Tick by)) = None
+concerned_station w (Asked (Pull c)) = (picked_station w c).winner
+concerned_station w (Asked (Arrive e i)) = station_of (exchange w e)
+concerned_station w (Asked (Answer e)) = station_of (exchange w e)
+concerned_station w (Asked (Done e heard)) = station_of (exchange w e)
+concerned_station w (Asked (Sleep s)) = Some s
+concerned_station w (Asked (Wake s)) = Some s
+concerned_station w (Asked (Poll s)) = Some s
+concerned_station w (Asked (Rx s c air)) = Some s
+concerned_station w (Asked Reap) = None
 
 -- What a refusal changes: Idle alone does, where no station of the class was ready and the pick
 -- empties its lists.
-unfoldable pub refused : World → Note → Refusal → World
-refused w (Asked (Pull c)) Idle = after_pick w c
-refused w note _ = w
+unfoldable pub after_refusal : World → Note → Refusal → World
+after_refusal w (Asked (Pull c)) Idle = after_pick w c
+after_refusal w note _ = w
 
 -- a call that is refused, or not: then the station that it concerns is listed where it is ready
-unfoldable pub answer : World → Note → Option Refusal → Outcome
-answer w note (Some r) = record { world = refused w note r; reply = Refused r }
-answer w note None =
-    let o : Outcome = done w note in record o { world = listed o.world (concerned w note) }
+unfoldable pub judged_outcome : World → Note → Option Refusal → Outcome
+judged_outcome w note (Some r) = record { world = after_refusal w note r; reply = Refused r }
+judged_outcome w note None =
+    let o : Outcome = outcome_of w note in record o { world = with_listings_of o.world (concerned_station w note) }
 
 -- one call
 unfoldable pub step : World → Note → Outcome
-step w note = answer w note (refusal w note)
+step w note = judged_outcome w note (refusal w note)

@@ -15,7 +15,7 @@ use Rattle.wf_frame.specs.declared.notes.ReplyNote.{ReplyNote}
 use Rattle.wf_frame.specs.declared.notes.ReplyNote.TheVariants.{Joined, Gone, RateSet, Ticked, Accepted, Send, Released, Ba, Ended, Slept, Woken, Credited, Charged, Reaped, Refused}
 use Rattle.wf_frame.specs.declared.settings.Config.{Config}
 use Rattle.wf_rules.specs.Tim.{tim_element}
-use Rattle.wf_world.specs.World.{World, Share, share, station, live_stations, accepted, opening}
+use Rattle.wf_world.specs.World.{World, Share, share, station, live_stations, accepted_count, opening}
 use Rattle.wf_frame.specs.Classes.{all_classes, class_word}
 use Rattle.wf_frame.specs.Words.{line}
 use Rattle.wf_world.specs.Exchanges.{has_more}
@@ -132,7 +132,7 @@ tally w fate = count_by (λ f. same_fate f.fate fate) w.frames
 -- line 3: the accepted frames by their fates
 abbrev pub tally_words : World → List (List ℕ)
 tally_words w =
-    codes "frames" ∷ decimal (accepted w) ∷ codes "acked" ∷ decimal (tally w Acked) ∷ codes "overlimit" ∷ decimal (tally w (Dropped Overlimit)) ∷
+    codes "frames" ∷ decimal (accepted_count w) ∷ codes "acked" ∷ decimal (tally w Acked) ∷ codes "overlimit" ∷ decimal (tally w (Dropped Overlimit)) ∷
     codes "codel" ∷ decimal (tally w (Dropped Codel)) ∷ codes "retries" ∷ decimal (tally w (Dropped Retries)) ∷
     codes "left" ∷ decimal (tally w (Dropped Left)) ∷ codes "held" ∷ decimal (tally w Held) ∷ []
 

@@ -197,8 +197,8 @@ is_held Held = true
 is_held _ = false
 
 -- how many frames were accepted: the next id
-abbrev pub accepted : World → ℕ
-accepted w = length w.frames
+abbrev pub accepted_count : World → ℕ
+accepted_count w = length w.frames
 
 -- how many frames were accepted and are not yet reaped
 abbrev pub inside : World → ℕ
@@ -209,8 +209,8 @@ abbrev pub live_stations : World → List ℕ
 live_stations w = filter (is_live w) (upto w.config.stations)
 
 -- CoDel's parameters for the station's queues
-abbrev pub params : World → ℕ → Params
-params w s = params_at (station w s).rate
+abbrev pub codel_params : World → ℕ → Params
+codel_params w s = params_at (station w s).rate
 
 -- whether a TID's agreement has a window above 64: its BlockAcks have 256 bits
 abbrev pub is_wide : World → ℕ → ℕ → Bool
@@ -265,13 +265,13 @@ with_fate w id fate =
     record w { frames = change no_frame w.frames id (λ x. record x { fate = fate }) }
 
 -- a frame gets its fate and goes last on the finished list
-unfoldable pub finish : World → Fate → ℕ → World
-finish w fate id = record (with_fate w id fate) { finished = w.finished ++ id ∷ [] }
+unfoldable pub with_frame_finished : World → Fate → ℕ → World
+with_frame_finished w fate id = record (with_fate w id fate) { finished = w.finished ++ id ∷ [] }
 
 -- these frames get their fate and go last on the finished list, in order
-unfoldable pub finish_all : World → Fate → List ℕ → World
-finish_all w fate [] = w
-finish_all w fate (id ∷ ids) = finish_all (finish w fate id) fate ids
+unfoldable pub with_frames_finished : World → Fate → List ℕ → World
+with_frames_finished w fate [] = w
+with_frames_finished w fate (id ∷ ids) = with_frames_finished (with_frame_finished w fate id) fate ids
 
 -- the open exchange of x's number is x from then on
 unfoldable pub with_exchange : World → Exchange → World

@@ -11,9 +11,9 @@ use Rattle.wf_rules.specs.Codel.{Item}
 use Rattle.wf_rules.specs.Rotation.{without_key, in_order, Picked}
 use Rattle.wf_world.specs.World.{World, Station, Share, Exchange, Mpdu, Content, Frames, Request, no_share, no_station, rotation, quantum, with_rotation, without_exchange}
 use Rattle.wf_frame.specs.Classes.{class_number}
-use Rattle.wf_world.specs.FlowQueues.{without_head, within_limit, listed_queue, appended, put_in, pay_queues, dequeued, taken_from, take, purge_queue, purge_queues}
-use Rattle.wf_world.specs.Exchanges.{Aggregate, Prepared, pay_station, pay_stations, after_pick, after_turn, with_fresh, filled, with_number, spent, prepared_frames, prepared, opening_exchange, charged, settled_slot, settled, all_settled, after_done, exchange_of, picked_station}
-use Rattle.wf_world.specs.Step.{joined, left_tid, left_tids, off_lists, gone, with_rate, with_frame, enqueued, sent, ended, slept, woken, credited, received, reaped}
+use Rattle.wf_world.specs.FlowQueues.{without_head, after_limit, with_listed_queue, with_appended, after_put_in, with_queues_paid, taken_by_codel, taken_from_picked, taken_for_tid, after_queue_left, after_queues_left}
+use Rattle.wf_world.specs.Exchanges.{Aggregate, Prepared, with_station_paid, with_stations_paid, after_pick, after_tid_turn, with_fresh, aggregate_of, with_number, without_credit, prepared_data, prepared_exchange, with_exchange_opened, after_charge, with_failed_finished, with_settled, with_all_settled, after_done, exchange_of, picked_station}
+use Rattle.wf_world.specs.Step.{join_outcome, after_tid_left, after_tids_left, without_listings, leave_outcome, rate_outcome, with_frame, enqueue_outcome, send_outcome, done_outcome, sleep_outcome, wake_outcome, poll_outcome, rx_outcome, reap_outcome}
 use Rattle.wf_laws.proofs.Deficits.Books.{upd, updc, Account, plain, account, core, Books, books, with_account, with_lists, on_part, books_with_station, books_with_rotation, books_on_station, books_hidden, books_on_session, books_with_queues, books_on_share, books_on_queue, books_finish, books_finish_all, books_if, updc_idle, upd_idle, upd_same, upd_other, updc_same}
 use Rattle.wf_rules.specs.Lists.{on}
 use Rattle.wf_rule_laws.proofs.Lemmas.Counts.{on-nil, on-cons_same, on-cons_other}
@@ -25,41 +25,41 @@ unfolding without_head
 books_without_head w q [] = refl
 books_without_head w q (x ∷ rest) = books_finish _ _ _ ∙ books_on_queue w q _
 
-books_within_limit : (w : World) → books (within_limit w) ≡ books w
-unfolding within_limit
+books_within_limit : (w : World) → books (after_limit w) ≡ books w
+unfolding after_limit
 books_within_limit w = books_if _ (books w) _ _ (books_without_head w _ _) refl
 
-books_listed_queue : (w : World) (s t q : ℕ) → books (listed_queue w s t q) ≡ books w
-unfolding listed_queue
+books_listed_queue : (w : World) (s t q : ℕ) → books (with_listed_queue w s t q) ≡ books w
+unfolding with_listed_queue
 books_listed_queue w s t q = books_if _ (books w) _ _ refl (books_with_queues _ s t _ ∙ books_on_queue w q _)
 
-books_put_in : (w : World) (s t q : ℕ) (x : Item) → books (put_in w s t q x) ≡ books w
-unfolding put_in appended
+books_put_in : (w : World) (s t q : ℕ) (x : Item) → books (after_put_in w s t q x) ≡ books w
+unfolding after_put_in with_appended
 books_put_in w s t q x = books_listed_queue _ s t q ∙ books_on_queue w q _
 
-books_pay_queues : (qs : List ℕ) (w : World) (quanta : ℕ → ℕ) → books (pay_queues w quanta qs) ≡ books w
-unfolding pay_queues
+books_pay_queues : (qs : List ℕ) (w : World) (quanta : ℕ → ℕ) → books (with_queues_paid w quanta qs) ≡ books w
+unfolding with_queues_paid
 books_pay_queues [] w quanta = refl
 books_pay_queues (q ∷ qs) w quanta = books_pay_queues qs _ quanta ∙ books_on_queue w q _
 
-books_taken_from : (w : World) (s : ℕ) (o : Option ℕ) → books (taken_from w s o).world ≡ books w
-unfolding taken_from dequeued
+books_taken_from : (w : World) (s : ℕ) (o : Option ℕ) → books (taken_from_picked w s o).world ≡ books w
+unfolding taken_from_picked taken_by_codel
 books_taken_from w s None = refl
 books_taken_from w s (Some q) = books_finish_all _ _ _ ∙ books_on_queue w q _
 
-pub books_take : (w : World) (s t : ℕ) → books (take w s t).world ≡ books w
-unfolding take
+pub books_take : (w : World) (s t : ℕ) → books (taken_for_tid w s t).world ≡ books w
+unfolding taken_for_tid
 books_take w s t = books_taken_from _ s _ ∙ (books_with_queues _ s t _ ∙ books_pay_queues _ w _)
 
-books_purge_queues : (qs : List ℕ) (w : World) → books (purge_queues w qs) ≡ books w
-unfolding purge_queues purge_queue
+books_purge_queues : (qs : List ℕ) (w : World) → books (after_queues_left w qs) ≡ books w
+unfolding after_queues_left after_queue_left
 books_purge_queues [] w = refl
 books_purge_queues (q ∷ qs) w = books_purge_queues qs _ ∙ (books_finish_all _ _ _ ∙ books_on_queue w q _)
 
 -- ---- pulls
 
-pub books_after_turn : (w : World) (s : ℕ) (c : Class) (t : ℕ) → books (after_turn w s c t) ≡ books w
-unfolding after_turn
+pub books_after_turn : (w : World) (s : ℕ) (c : Class) (t : ℕ) → books (after_tid_turn w s c t) ≡ books w
+unfolding after_tid_turn
 books_after_turn w s c t =
     books_on_share w s c _ (λ x. x) (λ x. refl) ∙ ap (λ (g : ℕ → Option Account). record (books w) { accounts = g }) (upd_idle _ s _ (idle ((books w).accounts s)))
   where
@@ -80,19 +80,19 @@ pub books_with_fresh : (n : ℕ) (w : World) (s t : ℕ) (mpdus : List Mpdu) →
 unfolding with_fresh
 books_with_fresh zero w s t mpdus = refl
 books_with_fresh (suc n) w s t mpdus =
-    let k = books_with_number _ (take w s t).world s t ∙ books_take w s t in
+    let k = books_with_number _ (taken_for_tid w s t).world s t ∙ books_take w s t in
     books_if_filled _ (books w) _ _ refl (books_if_filled _ (books w) _ _ (books_with_fresh n _ s t _ ∙ k) k)
 
-pub books_filled : (w : World) (s t : ℕ) → books (filled w s t).world ≡ books w
-unfolding filled
+pub books_filled : (w : World) (s t : ℕ) → books (aggregate_of w s t).world ≡ books w
+unfolding aggregate_of
 books_filled w s t = books_if_filled _ (books w) _ _ (books_with_fresh _ w s t _) refl
 
 books_if_prepared : (b : Bool) (z : Books) (x y : Prepared) → books x.world ≡ z → books y.world ≡ z → books (if b then x else y).world ≡ z
 books_if_prepared true z x y h k = h
 books_if_prepared false z x y h k = k
 
-pub books_prepared : (w : World) (s t : ℕ) → books (prepared w s t).world ≡ books w
-unfolding prepared prepared_frames
+pub books_prepared : (w : World) (s t : ℕ) → books (prepared_exchange w s t).world ≡ books w
+unfolding prepared_exchange prepared_data
 books_prepared w s t = books_if_prepared _ (books w) _ _ refl (books_on_session _ s t _ ∙ books_filled w s t)
 
 -- ---- exchanges
@@ -104,16 +104,16 @@ map-append_one : (xs : List Exchange) (x : Exchange) → map core (xs ++ x ∷ [
 map-append_one [] x = refl
 map-append_one (y ∷ ys) x = ap (λ (t : List Exchange). core y ∷ t) (map-append_one ys x)
 
-books_opening : (w : World) (x : Exchange) → books (opening_exchange w x) ≡ with_opened (books w) x
-unfolding opening_exchange
+books_opening : (w : World) (x : Exchange) → books (with_exchange_opened w x) ≡ with_opened (books w) x
+unfolding with_exchange_opened
 books_opening w x = ap (λ (t : List Exchange). record (books w) { exchanges = w.exchanges + 1; opened = t }) (map-append_one w.opened x)
 
-books_spent : (w : World) (s : ℕ) → books (spent w s) ≡ books w
-unfolding spent
+books_spent : (w : World) (s : ℕ) → books (without_credit w s) ≡ books w
+unfolding without_credit
 books_spent w s = books_hidden w s _ (λ x. refl)
 
-pub books_sent : (s t : ℕ) (c : Class) (p : Prepared) → books (sent s t c p).world ≡ with_opened (books p.world) (exchange_of s t c p)
-unfolding sent
+pub books_sent : (s t : ℕ) (c : Class) (p : Prepared) → books (send_outcome s t c p).world ≡ with_opened (books p.world) (exchange_of s t c p)
+unfolding send_outcome
 books_sent s t c p = books_spent _ s ∙ books_opening p.world _
 
 abbrev pub without : Books → ℕ → Books
@@ -136,18 +136,18 @@ charge_share n y = record y { deficit = y.deficit -ℤ pos n; charged = y.charge
 abbrev pub with_charge : Books → ℕ → Class → ℕ → Books
 with_charge b s c n = with_account b s (option_map (on_part c (charge_share n)) (b.accounts s))
 
-pub books_charged : (w : World) (x : Exchange) → books (charged w x) ≡ with_charge (books w) x.station x.class x.charge
-unfolding charged
+pub books_charged : (w : World) (x : Exchange) → books (after_charge w x) ≡ with_charge (books w) x.station x.class x.charge
+unfolding after_charge
 books_charged w x = books_on_share w x.station x.class _ (charge_share x.charge) (λ y. refl)
 
-books_settled : (w : World) (s t : ℕ) (acked : Bool) (m : Mpdu) → books (settled w s t acked m) ≡ books w
-unfolding settled settled_slot
+books_settled : (w : World) (s t : ℕ) (acked : Bool) (m : Mpdu) → books (with_settled w s t acked m) ≡ books w
+unfolding with_settled with_failed_finished
 books_settled w s t acked m =
     books_if acked (books w) _ _ (books_finish _ _ _ ∙ books_on_session w s t _)
     (let k = books_on_session w s t _ in books_if _ (books w) _ _ (books_finish _ _ _ ∙ k) k)
 
-books_all_settled : (ms : List Mpdu) (w : World) (s t : ℕ) (acked : ℕ → Bool) → books (all_settled w s t acked ms) ≡ books w
-unfolding all_settled
+books_all_settled : (ms : List Mpdu) (w : World) (s t : ℕ) (acked : ℕ → Bool) → books (with_all_settled w s t acked ms) ≡ books w
+unfolding with_all_settled
 books_all_settled [] w s t acked = refl
 books_all_settled (m ∷ ms) w s t acked = books_all_settled ms _ s t acked ∙ books_settled w s t _ m
 
@@ -156,14 +156,14 @@ unfolding after_done
 books_after_done (Frames mpdus) w x heard = books_all_settled mpdus w _ _ _
 books_after_done (Request start) w x heard = books_on_session w _ _ _
 
-pub books_ended : (w : World) (x : Exchange) (heard : Bool) → books (ended w x heard).world ≡ with_charge (without (books w) x.number) x.station x.class x.charge
-unfolding ended
+pub books_ended : (w : World) (x : Exchange) (heard : Bool) → books (done_outcome w x heard).world ≡ with_charge (without (books w) x.number) x.station x.class x.charge
+unfolding done_outcome
 books_ended w x heard = books_after_done x.content _ x heard ∙ (books_charged _ x ∙ ap (λ (b : Books). with_charge b x.station x.class x.charge) (books_without w x.number))
 
 -- ---- stations
 
-pub books_left_tids : (ts : List ℕ) (w : World) (s : ℕ) → books (left_tids w s ts) ≡ books w
-unfolding left_tids left_tid
+pub books_left_tids : (ts : List ℕ) (w : World) (s : ℕ) → books (after_tids_left w s ts) ≡ books w
+unfolding after_tids_left after_tid_left
 books_left_tids [] w s = refl
 books_left_tids (t ∷ ts) w s = books_left_tids ts _ s ∙ (books_with_queues _ s t _ ∙ (books_purge_queues _ _ ∙ books_finish_all _ w _))
 
@@ -176,45 +176,45 @@ books_off_lists w s c cs b e = books_with_rotation w c _ ∙ ap (λ (z : Books).
 abbrev pub all_off : Books → ℕ → Books
 all_off b s = off (off (off (off b s Bk) s Be) s Vi) s Vo
 
-pub books_gone : (w : World) (s : ℕ) → books (gone w s).world ≡ with_account (all_off (books w) s) s None
-unfolding gone off_lists
+pub books_gone : (w : World) (s : ℕ) → books (leave_outcome w s).world ≡ with_account (all_off (books w) s) s None
+unfolding leave_outcome without_listings
 books_gone w s =
     books_with_station _ s None ∙ ap (λ (z : Books). with_account z s None)
     (books_off_lists _ s Vo [] _ (books_off_lists _ s Vi [] _ (books_off_lists _ s Be [] _ (books_off_lists _ s Bk [] _ (books_left_tids _ w s)))))
 
-pub books_enqueued : (w : World) (s t flow len : ℕ) → books (enqueued w s t flow len).world ≡ books w
-unfolding enqueued with_frame
+pub books_enqueued : (w : World) (s t flow len : ℕ) → books (enqueue_outcome w s t flow len).world ≡ books w
+unfolding enqueue_outcome with_frame
 books_enqueued w s t flow len = books_put_in _ s t _ _ ∙ books_within_limit w
 
 abbrev pub receive_share : ℕ → Share → Share
 receive_share n y = record y { deficit = y.deficit -ℤ pos n; received = y.received + n }
 
-pub books_received : (w : World) (s : ℕ) (c : Class) (air : ℕ) → books (received w s c air).world ≡ with_account (books w) s (option_map (on_part c (receive_share air)) ((books w).accounts s))
-unfolding received
+pub books_received : (w : World) (s : ℕ) (c : Class) (air : ℕ) → books (rx_outcome w s c air).world ≡ with_account (books w) s (option_map (on_part c (receive_share air)) ((books w).accounts s))
+unfolding rx_outcome
 books_received w s c air = books_on_share w s c _ (receive_share air) (λ y. refl)
 
-pub books_reaped : (ids : List ℕ) (w : World) → books (reaped w ids).world ≡ books w
-unfolding reaped
+pub books_reaped : (ids : List ℕ) (w : World) → books (reap_outcome w ids).world ≡ books w
+unfolding reap_outcome
 books_reaped [] w = refl
 books_reaped (id ∷ ids) w = refl
 
-pub books_slept : (w : World) (s : ℕ) → books (slept w s).world ≡ books w
-unfolding slept
+pub books_slept : (w : World) (s : ℕ) → books (sleep_outcome w s).world ≡ books w
+unfolding sleep_outcome
 books_slept w s = books_hidden w s _ (λ x. refl)
 
-pub books_woken : (w : World) (s : ℕ) → books (woken w s).world ≡ books w
-unfolding woken
+pub books_woken : (w : World) (s : ℕ) → books (wake_outcome w s).world ≡ books w
+unfolding wake_outcome
 books_woken w s = books_hidden w s _ (λ x. refl)
 
-pub books_credited : (w : World) (s : ℕ) → books (credited w s).world ≡ books w
-unfolding credited
+pub books_credited : (w : World) (s : ℕ) → books (poll_outcome w s).world ≡ books w
+unfolding poll_outcome
 books_credited w s = books_hidden w s _ (λ x. refl)
 
 abbrev pub rated : ℕ → ℕ → Bool → Account → Account
 rated mcs mhz short a = record a { rate = record { mcs = mcs; mhz = mhz; short = short } }
 
-pub books_with_rate : (w : World) (s mcs mhz : ℕ) (short : Bool) → books (with_rate w s mcs mhz short).world ≡ with_account (books w) s (option_map (rated mcs mhz short) ((books w).accounts s))
-unfolding with_rate
+pub books_with_rate : (w : World) (s mcs mhz : ℕ) (short : Bool) → books (rate_outcome w s mcs mhz short).world ≡ with_account (books w) s (option_map (rated mcs mhz short) ((books w).accounts s))
+unfolding rate_outcome
 books_with_rate w s mcs mhz short = books_on_station w s _ (rated mcs mhz short) (λ x. refl)
 
 abbrev pub fresh_share : ℕ → Share
@@ -223,8 +223,8 @@ fresh_share q = record { deficit = pos q; quanta = 0; charged = 0; received = 0;
 abbrev pub fresh_account : ℕ → ℕ → Account
 fresh_account q weight = record { weight = weight; rate = lowest_rate; shares = λ c. fresh_share (q * weight) }
 
-pub books_joined : (w : World) (s window start exponent weight : ℕ) → books (joined w s window start exponent weight).world ≡ with_account (books w) s (Some (fresh_account w.config.quantum weight))
-unfolding joined
+pub books_joined : (w : World) (s window start exponent weight : ℕ) → books (join_outcome w s window start exponent weight).world ≡ with_account (books w) s (Some (fresh_account w.config.quantum weight))
+unfolding join_outcome
 books_joined w s window start exponent weight = books_with_station w s _ ∙ ap (λ (f : Class → Share). with_account (books w) s (Some (record { weight = weight; rate = lowest_rate; shares = f }))) (fun_ext (four (w.config.quantum * weight)))
   where
     four : (q : ℕ) (c : Class) → plain (at no_share (fresh_share q ∷ fresh_share q ∷ fresh_share q ∷ fresh_share q ∷ []) (class_number c)) ≡ fresh_share q
@@ -245,8 +245,8 @@ paid q c n a = on_part c (pay_share (q * a.weight) n) a
 quantum_of : (w : World) (s : ℕ) (x : Station) → at None w.stations s ≡ Some x → quantum w s ≡ w.config.quantum * x.weight
 quantum_of w s x e = ap (λ (o : Option Station). w.config.quantum * (unwrap_or o no_station).weight) e
 
-books_pay_station : (w : World) (c : Class) (n s : ℕ) → books (pay_station w c n s) ≡ with_account (books w) s (option_map (paid w.config.quantum c n) ((books w).accounts s))
-unfolding pay_station
+books_pay_station : (w : World) (c : Class) (n s : ℕ) → books (with_station_paid w c n s) ≡ with_account (books w) s (option_map (paid w.config.quantum c n) ((books w).accounts s))
+unfolding with_station_paid
 books_pay_station w c n s = books_on_share w s c _ (pay_share (quantum w s) n) (λ x. refl) ∙ ap (with_account (books w) s) (known (at None w.stations s) refl)
   where
     known : (o : Option Station) → at None w.stations s ≡ o → option_map (on_part c (pay_share (quantum w s) n)) (option_map account o) ≡ option_map (paid w.config.quantum c n) (option_map account o)
@@ -289,8 +289,8 @@ all_paid b c quanta ss = record b { accounts = λ s. option_map (paid b.config.q
 one_more_times : (m n q : ℕ) → n ≡ 1 + m → q + m * q ≡ n * q
 one_more_times m n q e = rw e (omega arith)
 
-books_pay_stations : (ss : List ℕ) (w : World) (c : Class) (quanta : ℕ → ℕ) → books (pay_stations w c quanta ss) ≡ all_paid (books w) c quanta ss
-unfolding pay_stations
+books_pay_stations : (ss : List ℕ) (w : World) (c : Class) (quanta : ℕ → ℕ) → books (with_stations_paid w c quanta ss) ≡ all_paid (books w) c quanta ss
+unfolding with_stations_paid
 books_pay_stations [] w c quanta = ap (λ (f : ℕ → Option Account). record (books w) { accounts = f }) (fun_ext (λ s. sym (option_paid_none w.config.quantum c _ ((books w).accounts s) (ap (λ (n : ℕ). n * quanta s) (on-nil s) ∙ omega arith))))
 books_pay_stations (t ∷ ss) w c quanta = books_pay_stations ss _ c quanta ∙ (ap (λ (b : Books). all_paid b c quanta ss) (books_pay_station w c (quanta t) t) ∙ ap (λ (f : ℕ → Option Account). record (books w) { accounts = f }) (fun_ext each))
   where

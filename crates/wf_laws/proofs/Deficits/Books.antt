@@ -11,7 +11,7 @@ use Rattle.wf_rules.specs.Airtime.{Rate}
 use Rattle.wf_rules.specs.Rotation.{Rotation, no_keys}
 use Rattle.wf_rules.specs.Session.{Session}
 use Rattle.wf_rules.specs.Receiver.{Receiver}
-use Rattle.wf_world.specs.World.{World, Station, Share, Tid, Queue, Exchange, no_share, with_station, on_station, on_tid, on_session, on_receiver, with_queues, on_share, on_queue, with_rotation, with_fate, finish, finish_all}
+use Rattle.wf_world.specs.World.{World, Station, Share, Tid, Queue, Exchange, no_share, with_station, on_station, on_tid, on_session, on_receiver, with_queues, on_share, on_queue, with_rotation, with_fate, with_frame_finished, with_frames_finished}
 use Rattle.wf_frame.specs.Classes.{class_number}
 use Rattle.wf_rule_laws.proofs.Lemmas.Tables.{at_put_same, at_put_other}
 
@@ -183,12 +183,12 @@ pub books_on_queue : (w : World) (q : ℕ) (f : Queue → Queue) → books (on_q
 unfolding on_queue
 books_on_queue w q f = refl
 
-pub books_finish : (w : World) (fate : Fate) (id : ℕ) → books (finish w fate id) ≡ books w
-unfolding finish with_fate
+pub books_finish : (w : World) (fate : Fate) (id : ℕ) → books (with_frame_finished w fate id) ≡ books w
+unfolding with_frame_finished with_fate
 books_finish w fate id = refl
 
-pub books_finish_all : (ids : List ℕ) (w : World) (fate : Fate) → books (finish_all w fate ids) ≡ books w
-unfolding finish_all
+pub books_finish_all : (ids : List ℕ) (w : World) (fate : Fate) → books (with_frames_finished w fate ids) ≡ books w
+unfolding with_frames_finished
 books_finish_all [] w fate = refl
 books_finish_all (id ∷ ids) w fate = books_finish_all ids _ fate ∙ books_finish w fate id
 

@@ -5,7 +5,7 @@ use Rattle.wf_frame.specs.declared.settings.Config.{Config}
 use Rattle.wf_frame.specs.declared.classes.Class.{Class}
 use Rattle.wf_frame.specs.declared.classes.Class.TheVariants.{Bk, Be, Vi, Vo}
 use Rattle.wf_rules.specs.Table.{has}
-use Rattle.wf_rules.specs.Rotation.{Rotation, without_key, add_new, lists, in_order, Picked, need_of}
+use Rattle.wf_rules.specs.Rotation.{Rotation, without_key, with_new_key, has_key, in_order, Picked, need_of}
 use Rattle.wf_rules.specs.Bounds.{greatest_mcs}
 use Rattle.wf_world.specs.World.{Exchange}
 use Rattle.wf_frame.specs.Classes.{class_number, same_class}
@@ -81,29 +81,29 @@ kept_lists b c r i h = record {
   goods = i.goods;
 }
 
-pub unlisted-on : (r : Rotation) (s : ℕ) → lists r s ≡ false → on (in_order r) s ≡ 0
+pub unlisted-on : (r : Rotation) (s : ℕ) → has_key r s ≡ false → on (in_order r) s ≡ 0
 unlisted-on r s h =
     let both : (has r.new s ≡ false) × (has r.old s ≡ false) = or_parts _ _ h in
     omega (arith, on-append r.old r.new s, hasnot-on r.new s both.0, hasnot-on r.old s both.1)
 
-pub added-on : (r : Rotation) (s y : ℕ) → on (in_order (add_new r s)) y ≡ on (in_order r) y + on (s ∷ []) y
+pub added-on : (r : Rotation) (s y : ℕ) → on (in_order (with_new_key r s)) y ≡ on (in_order r) y + on (s ∷ []) y
 added-on r s y = omega (arith, on-append r.old (r.new ++ s ∷ []) y, on-append r.new (s ∷ []) y, on-append r.old r.new y)
 
-pub kept_add : (b : Books) (c : Class) (s : ℕ) → IsKept b → lists (b.rotations c) s ≡ false → is_some (b.accounts s) ≡ true → IsKept (with_lists b c (add_new (b.rotations c) s))
+pub kept_add : (b : Books) (c : Class) (s : ℕ) → IsKept b → has_key (b.rotations c) s ≡ false → is_some (b.accounts s) ≡ true → IsKept (with_lists b c (with_new_key (b.rotations c) s))
 kept_add b c s i off_lists is = record {
   range = i.range;
-  once = each_updc (λ d z. (y : ℕ) → on (in_order z) y ≤ 1) b.rotations c (add_new (b.rotations c) s) i.once (λ y. elim (cases_eq s y) [
+  once = each_updc (λ d z. (y : ℕ) → on (in_order z) y ≤ 1) b.rotations c (with_new_key (b.rotations c) s) i.once (λ y. elim (cases_eq s y) [
     | inl e ↦
         let none : on (in_order (b.rotations c)) y ≡ 0 = subst (λ (z : ℕ). on (in_order (b.rotations c)) z ≡ 0) e (unlisted-on (b.rotations c) s off_lists) in
         let one : on (s ∷ []) y ≡ 1 = subst (λ (z : ℕ). on (s ∷ []) z ≡ 1) e (omega (arith, on-cons_same s [], on-nil s)) in
         omega (arith, added-on (b.rotations c) s y)
     | inr other ↦ omega (arith, added-on (b.rotations c) s y, on-cons_other s y [] other, on-nil y, i.once c y)
   ]);
-  live = each_updc (λ d z. (y : ℕ) → 0 < on (in_order z) y → is_some (b.accounts y) ≡ true) b.rotations c (add_new (b.rotations c) s) i.live (λ y stands. elim (cases_eq s y) [
+  live = each_updc (λ d z. (y : ℕ) → 0 < on (in_order z) y → is_some (b.accounts y) ≡ true) b.rotations c (with_new_key (b.rotations c) s) i.live (λ y stands. elim (cases_eq s y) [
     | inl e ↦ subst (λ (z : ℕ). is_some (b.accounts z) ≡ true) e is
     | inr other ↦ i.live c y (omega (arith, added-on (b.rotations c) s y, on-cons_other s y [] other, on-nil y))
   ]);
-  opens = every_map (IsOpen b) (IsOpen (with_lists b c (add_new (b.rotations c) s))) (λ x o. record { live = o.live; below = o.below; charge = o.charge; some = o.some }) b.opened i.opens;
+  opens = every_map (IsOpen b) (IsOpen (with_lists b c (with_new_key (b.rotations c) s))) (λ x o. record { live = o.live; below = o.below; charge = o.charge; some = o.some }) b.opened i.opens;
   rising = i.rising;
   few = i.few;
   goods = i.goods;

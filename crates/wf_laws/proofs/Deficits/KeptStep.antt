@@ -11,15 +11,15 @@ use Rattle.wf_frame.specs.declared.notes.Note.TheVariants.{Enqueue, Asked}
 use Rattle.wf_frame.specs.declared.notes.Refusal.{Refusal}
 use Rattle.wf_frame.specs.declared.notes.Refusal.TheVariants.{Idle}
 use Rattle.wf_rules.specs.Table.{at}
-use Rattle.wf_rules.specs.Rotation.{add_new, lists, need_of}
+use Rattle.wf_rules.specs.Rotation.{with_new_key, has_key, need_of}
 use Rattle.wf_rules.specs.Bounds.{greatest_mcs, greatest_air, deepest_deficit}
 use Rattle.wf_world.specs.World.{World, Station, Exchange, no_share, no_station, station, share, rotation, is_live, exchange, with_exchange, with_rotation, on_receiver, on_tid, on_station, with_station, opening}
 use Rattle.wf_rule_laws.proofs.Lemmas.Numbers.{le_no}
 use Rattle.wf_frame.specs.Classes.{class_number, all_classes}
-use Rattle.wf_world.specs.CanSend.{is_ready, listed_in, listed_in_all, listed}
-use Rattle.wf_world.specs.Exchanges.{Prepared, station_need, picked_station, after_pick, after_turn, prepared, exchange_of, after_arrival, sending_tid}
-use Rattle.wf_world.specs.Refusals.{first_of, refusals, refusal, open_of_class, is_within}
-use Rattle.wf_world.specs.Step.{Outcome, ticked, sent, pulled_by, pulled, arrived, answered, on_open, received, done, refused, answer, step}
+use Rattle.wf_world.specs.CanSend.{is_ready, with_listing_in, with_listings_in, with_listings_of}
+use Rattle.wf_world.specs.Exchanges.{Prepared, station_need, picked_station, after_pick, after_tid_turn, prepared_exchange, exchange_of, after_arrival, sending_tid}
+use Rattle.wf_world.specs.Refusals.{first_refusal, refusals, refusal, open_of_class, is_within}
+use Rattle.wf_world.specs.Step.{Outcome, tick_outcome, send_outcome, pull_outcome_for, pull_outcome, arrive_outcome, answer_outcome, outcome_where_open, rx_outcome, outcome_of, after_refusal, judged_outcome, step}
 use Rattle.wf_world.specs.Run.{Entry, world_after}
 use Rattle.wf_frame.specs.Settings.{IsInRange}
 use Rattle.wf_laws.specs.Deficits.{longest_exchange, owed}
@@ -39,12 +39,12 @@ abbrev pub NoRow : List (Bool × Refusal) → Type 0
 NoRow [] = Unit {0}
 NoRow (row ∷ rows) = (row.0 ≡ false) × NoRow rows
 
-pub no_row : (rows : List (Bool × Refusal)) → first_of rows ≡ None → NoRow rows
-unfolding first_of
+pub no_row : (rows : List (Bool × Refusal)) → first_refusal rows ≡ None → NoRow rows
+unfolding first_refusal
 no_row [] h = tt
 no_row (row ∷ rows) h = go row.0 h (no_row rows)
   where
-    go : (b : Bool) → (if b then Some row.1 else first_of rows) ≡ None → (first_of rows ≡ None → NoRow rows) → (b ≡ false) × NoRow rows
+    go : (b : Bool) → (if b then Some row.1 else first_refusal rows) ≡ None → (first_refusal rows ≡ None → NoRow rows) → (b ≡ false) × NoRow rows
     go true k f = absurd (cc k)
     go false k f = (refl, f k)
 
@@ -57,24 +57,24 @@ live_account (Some x) = refl
 
 -- ---- listing
 
-listed_if : (w : World) (s : ℕ) (c : Class) (b : Bool) → (is_ready w c s && not (lists (rotation w c) s)) ≡ b → IsKept (books w) → IsKept (books (if b then with_rotation w c (add_new (rotation w c) s) else w))
+listed_if : (w : World) (s : ℕ) (c : Class) (b : Bool) → (is_ready w c s && not (has_key (rotation w c) s)) ≡ b → IsKept (books w) → IsKept (books (if b then with_rotation w c (with_new_key (rotation w c) s) else w))
 listed_if w s c true e i =
     let parts = and_parts _ _ e in
     let live : is_live w s ≡ true = (and_parts _ _ parts.0).0 in
     is _ _ (books_with_rotation w c _) (kept_add (books w) c s i (not-true _ parts.1) (live_account (at None w.stations s) ∙ live))
 listed_if w s c false e i = i
 
-kept_listed_in : (w : World) (s : ℕ) (c : Class) → IsKept (books w) → IsKept (books (listed_in w s c))
-unfolding listed_in
-kept_listed_in w s c i = listed_if w s c (is_ready w c s && not (lists (rotation w c) s)) refl i
+kept_listed_in : (w : World) (s : ℕ) (c : Class) → IsKept (books w) → IsKept (books (with_listing_in w s c))
+unfolding with_listing_in
+kept_listed_in w s c i = listed_if w s c (is_ready w c s && not (has_key (rotation w c) s)) refl i
 
-kept_listed_in_all : (cs : List Class) (w : World) (s : ℕ) → IsKept (books w) → IsKept (books (listed_in_all w s cs))
-unfolding listed_in_all
+kept_listed_in_all : (cs : List Class) (w : World) (s : ℕ) → IsKept (books w) → IsKept (books (with_listings_in w s cs))
+unfolding with_listings_in
 kept_listed_in_all [] w s i = i
 kept_listed_in_all (c ∷ cs) w s i = kept_listed_in_all cs _ s (kept_listed_in w s c i)
 
-kept_listed : (o : Option ℕ) (w : World) → IsKept (books w) → IsKept (books (listed w o))
-unfolding listed
+kept_listed : (o : Option ℕ) (w : World) → IsKept (books w) → IsKept (books (with_listings_of w o))
+unfolding with_listings_of
 kept_listed None w i = i
 kept_listed (Some s) w i = kept_listed_in_all all_classes w s i
 
@@ -124,24 +124,24 @@ rate_kept v s i = go (at None v.stations s) (i.goods s)
     go None g = omega arith
     go (Some x) g = g.mcs
 
-kept_sent : (v : World) (c : Class) (s t : ℕ) → IsKept (books v) → MaySend c s (books v) → IsKept (books (sent s t c (prepared v s t)).world)
+kept_sent : (v : World) (c : Class) (s t : ℕ) → IsKept (books v) → MaySend c s (books v) → IsKept (books (send_outcome s t c (prepared_exchange v s t)).world)
 kept_sent v c s t i m =
-    let p : Prepared = prepared v s t in
+    let p : Prepared = prepared_exchange v s t in
     let e : books p.world ≡ books v = books_prepared v s t in
     let k : IsKept (books p.world) = subst IsKept (sym e) i in
     let n : MaySend c s (books p.world) = subst (MaySend c s) (sym e) m in
     let cap : longest_exchange p.world.config ≡ longest_exchange v.config = ap (λ (b : Books). longest_exchange b.config) e in
     is _ _ (books_sent s t c p) (kept_opened (books p.world) (exchange_of s t c p) k n.live refl (subst (λ (l : ℕ). p.charge ≤ l) (sym cap) (charge_most v s t (i.range.cap.0) (rate_kept v s i))) (charge_some v s t) n.room n.above)
 
-kept_pulled_by : (o : Option ℕ) (v : World) (c : Class) → IsKept (books v) → ((s : ℕ) → o ≡ Some s → MaySend c s (books v)) → IsKept (books (pulled_by v c o).world)
-unfolding pulled_by
+kept_pulled_by : (o : Option ℕ) (v : World) (c : Class) → IsKept (books v) → ((s : ℕ) → o ≡ Some s → MaySend c s (books v)) → IsKept (books (pull_outcome_for v c o).world)
+unfolding pull_outcome_for
 kept_pulled_by None v c i m = i
 kept_pulled_by (Some s) v c i m =
-    let e : books (after_turn v s c (sending_tid v s c)) ≡ books v = books_after_turn v s c (sending_tid v s c) in
-    kept_sent (after_turn v s c (sending_tid v s c)) c s (sending_tid v s c) (subst IsKept (sym e) i) (subst (MaySend c s) (sym e) (m s refl))
+    let e : books (after_tid_turn v s c (sending_tid v s c)) ≡ books v = books_after_turn v s c (sending_tid v s c) in
+    kept_sent (after_tid_turn v s c (sending_tid v s c)) c s (sending_tid v s c) (subst IsKept (sym e) i) (subst (MaySend c s) (sym e) (m s refl))
 
-kept_pulled : (w : World) (c : Class) → (nat_le w.config.inflight (open_of_class w c)) ≡ false → IsKept (books w) → IsKept (books (pulled w c).world)
-unfolding pulled
+kept_pulled : (w : World) (c : Class) → (nat_le w.config.inflight (open_of_class w c)) ≡ false → IsKept (books w) → IsKept (books (pull_outcome w c).world)
+unfolding pull_outcome
 kept_pulled w c h i = kept_pulled_by (picked_station w c).winner (after_pick w c) c (kept_after_pick w c i) (λ s won. may_send w c s i h won)
 
 -- ---- exchanges
@@ -193,18 +193,18 @@ only_this w e x i found =
     every_map (λ y. y.number ≡ e → core y ≡ core x) (λ y. y.number ≡ x.number → core y ≡ core x) (λ y h k. h (k ∙ at_e)) w.opened
     (uncore (λ z. z.number ≡ e → z ≡ core x) w.opened (only_one 0 (map core w.opened) (core x) e i.rising (find_core e w.opened x found)))
 
-pub books_arrived : (w : World) (e j : ℕ) (x : Exchange) → IsKept (books w) → IsFound w e x → books (arrived w x j).world ≡ books w
-unfolding arrived on_receiver on_tid on_station with_station
+pub books_arrived : (w : World) (e j : ℕ) (x : Exchange) → IsKept (books w) → IsFound w e x → books (arrive_outcome w x j).world ≡ books w
+unfolding arrive_outcome on_receiver on_tid on_station with_station
 books_arrived w e j x i found = books_with_exchange _ _ (only_this w e x i found) ∙ books_on_receiver w x.station x.tid (after_arrival x.content j)
 
-pub books_answered : (w : World) (e : ℕ) (x : Exchange) → IsKept (books w) → IsFound w e x → books (answered w x).world ≡ books w
-unfolding answered
+pub books_answered : (w : World) (e : ℕ) (x : Exchange) → IsKept (books w) → IsFound w e x → books (answer_outcome w x).world ≡ books w
+unfolding answer_outcome
 books_answered w e x i found = books_with_exchange w _ (only_this w e x i found)
 
 -- ---- the step
 
-kept_open : (w : World) (e : ℕ) (o : Option Exchange) (f : Exchange → Outcome) → exchange w e ≡ o → IsKept (books w) → ((x : Exchange) → IsFound w e x → IsKept (books (f x).world)) → IsKept (books (on_open w o f).world)
-unfolding on_open
+kept_open : (w : World) (e : ℕ) (o : Option Exchange) (f : Exchange → Outcome) → exchange w e ≡ o → IsKept (books w) → ((x : Exchange) → IsFound w e x → IsKept (books (f x).world)) → IsKept (books (outcome_where_open w o f).world)
+unfolding outcome_where_open
 kept_open w e None f k i h = i
 kept_open w e (Some x) f k i h = h x k
 
@@ -214,7 +214,7 @@ rate_few mcs b h = let few : nat_lt greatest_mcs mcs ≡ false = (or_parts _ _ h
 debt_fits : (d : ℤ) (n : ℕ) → int_lt (d -ℤ pos n) deepest_deficit ≡ false → deepest_deficit ≤ℤ (d -ℤ pos n)
 debt_fits d n h = omega (arith, ints)
 
-kept_received : (w : World) (s : ℕ) (c : Class) (air : ℕ) → not (is_within 1 greatest_air air) ≡ false → int_lt ((share w s c).deficit -ℤ pos air) deepest_deficit ≡ false → IsKept (books w) → IsKept (books (received w s c air).world)
+kept_received : (w : World) (s : ℕ) (c : Class) (air : ℕ) → not (is_within 1 greatest_air air) ≡ false → int_lt ((share w s c).deficit -ℤ pos air) deepest_deficit ≡ false → IsKept (books w) → IsKept (books (rx_outcome w s c air).world)
 kept_received w s c air h k i = is _ _ (books_received w s c air) (kept_on (books w) s (on_part c (receive_share air)) i (λ a e good. record {
   weight = good.weight;
   mcs = good.mcs;
@@ -241,8 +241,8 @@ none_open (x ∷ xs) s h =
     none_open_if (x.station == s) (core x) (map core xs) s (count_by (λ x. x.station == s) xs) refl
     (subst (λ (n : ℕ). nat_lt 0 n ≡ false) (sum_by-cons (λ (y : Exchange). if y.station == s then 1 else 0) x xs) h) (none_open xs s)
 
-kept_done : (note : Note) (w : World) → NoRow (refusals w note) → IsKept (books w) → IsKept (books (done w note).world)
-unfolding done ticked
+kept_done : (note : Note) (w : World) → NoRow (refusals w note) → IsKept (books w) → IsKept (books (outcome_of w note).world)
+unfolding outcome_of tick_outcome
 kept_done (Enqueue s t flow len) w e i = is _ _ (books_enqueued w s t flow len) i
 kept_done (Asked (Join s window start exponent weight)) w e i = is _ _ (books_joined w s window start exponent weight) (kept_fresh (books w) s weight i (leb-true _ _ (and_parts _ _ (not-false _ e.1.1.1.1.0)).0))
 kept_done (Asked (Leave s)) w e i = is _ _ (books_gone w s) (kept_gone (books w) s i (none_open w.opened s e.1.1.0))
@@ -258,13 +258,13 @@ kept_done (Asked (Poll s)) w e i = is _ _ (books_credited w s) i
 kept_done (Asked (Rx s c air)) w e i = kept_received w s c air e.1.0 e.1.1.1.0 i
 kept_done (Asked Reap) w e i = is _ _ (books_reaped w.finished w) i
 
-kept_refused : (note : Note) (r : Refusal) (w : World) → IsKept (books w) → IsKept (books (refused w note r))
-unfolding refused
+kept_refused : (note : Note) (r : Refusal) (w : World) → IsKept (books w) → IsKept (books (after_refusal w note r))
+unfolding after_refusal
 kept_refused (Asked (Pull c)) Idle w i = kept_after_pick w c i
 kept_refused _ _ w i = i
 
-kept_answer : (r : Option Refusal) (w : World) (note : Note) → refusal w note ≡ r → IsKept (books w) → IsKept (books (answer w note r).world)
-unfolding answer
+kept_answer : (r : Option Refusal) (w : World) (note : Note) → refusal w note ≡ r → IsKept (books w) → IsKept (books (judged_outcome w note r).world)
+unfolding judged_outcome
 kept_answer (Some r) w note e i = kept_refused note r w i
 kept_answer None w note e i = kept_listed _ _ (kept_done note w (no_row (refusals w note) e) i)
 

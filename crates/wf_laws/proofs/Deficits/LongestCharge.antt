@@ -8,10 +8,10 @@ use Rattle.wf_world.proofs.Fitting.{front_passes}
 use Rattle.wf_rules.specs.Fit.{octets_of}
 use Rattle.wf_rules.specs.Bounds.{greatest_mcs}
 use Rattle.wf_world.specs.World.{World, Station, Mpdu, Request, no_station, station, session, is_wide}
-use Rattle.wf_world.specs.FlowQueues.{Taken, take}
+use Rattle.wf_world.specs.FlowQueues.{Taken, taken_for_tid}
 use Rattle.wf_rules.specs.Session.{request_due}
 use Rattle.wf_world.specs.CanSend.{can_give}
-use Rattle.wf_world.specs.Exchanges.{Aggregate, Prepared, fits_in, most_frames, waiting_mpdus, longest_fitting, fresh_mpdus, with_number, with_fresh, filled, prepared_frames, prepared}
+use Rattle.wf_world.specs.Exchanges.{Aggregate, Prepared, fits_in, most_frames, waiting_mpdus, longest_fitting, fresh_mpdus, with_number, with_fresh, aggregate_of, prepared_data, prepared_exchange}
 use Rattle.wf_laws.specs.Deficits.{longest_exchange}
 use Rattle.wf_laws.proofs.Deficits.Books.{Account, account, Books, books}
 use Rattle.wf_laws.proofs.Deficits.BookSteps.{books_take, books_with_number, books_filled}
@@ -81,7 +81,7 @@ timely_fresh : (n : ℕ) (w : World) (s t : ℕ) (mpdus : List Mpdu) → IsTimel
 unfolding with_fresh
 timely_fresh zero w s t mpdus h = h
 timely_fresh (suc n) w s t mpdus h =
-    let taken : Taken = take w s t in
+    let taken : Taken = taken_for_tid w s t in
     let numbered : World = with_number taken.world s t taken.item in
     let longer : List Mpdu = mpdus ++ fresh_mpdus w s t taken.item in
     let e : books numbered ≡ books w = books_with_number taken.item taken.world s t ∙ books_take w s t in
@@ -90,8 +90,8 @@ timely_fresh (suc n) w s t mpdus h =
     (λ b. timely_fresh n numbered s t longer (timely_same numbered w s longer e (timely_fits w s longer b)))
     (timely_same numbered w s mpdus e h))
 
-timely_filled : (w : World) (s t : ℕ) → 3000 ≤ w.config.cap → (station w s).rate.mcs ≤ greatest_mcs → IsTimely (filled w s t).world s (filled w s t).mpdus
-unfolding filled
+timely_filled : (w : World) (s t : ℕ) → 3000 ≤ w.config.cap → (station w s).rate.mcs ≤ greatest_mcs → IsTimely (aggregate_of w s t).world s (aggregate_of w s t).mpdus
+unfolding aggregate_of
 timely_filled w s t h k =
     let waiting : List Mpdu = waiting_mpdus w s t in
     let chosen : List Mpdu = longest_fitting w s waiting in
@@ -111,14 +111,14 @@ request_most : (b : Bool) (n : ℕ) → 3000 ≤ n → request_charge b ≤ n + 
 request_most true n h = omega arith
 request_most false n h = omega arith
 
-pub charge_most : (w : World) (s t : ℕ) → 3000 ≤ w.config.cap → (station w s).rate.mcs ≤ greatest_mcs → (prepared w s t).charge ≤ longest_exchange w.config
-unfolding prepared prepared_frames
-charge_most w s t h k = charge_if (request_due (session w s t)) (longest_exchange w.config) (record { world = w; content = Request _; charge = request_charge (is_wide w s t) }) (prepared_frames s t (filled w s t))
+pub charge_most : (w : World) (s t : ℕ) → 3000 ≤ w.config.cap → (station w s).rate.mcs ≤ greatest_mcs → (prepared_exchange w s t).charge ≤ longest_exchange w.config
+unfolding prepared_exchange prepared_data
+charge_most w s t h k = charge_if (request_due (session w s t)) (longest_exchange w.config) (record { world = w; content = Request _; charge = request_charge (is_wide w s t) }) (prepared_data s t (aggregate_of w s t))
     (request_most (is_wide w s t) w.config.cap h)
-    (let cap : (filled w s t).world.config.cap ≡ w.config.cap = ap (λ (b : Books). b.config.cap) (books_filled w s t) in
-    let wide : (prepared_frames s t (filled w s t)).charge ≤ data_time (station (filled w s t).world s).rate (octets_of (map (λ m. m.len) (filled w s t).mpdus)) + longest_answer =
-    wide_if (is_wide (filled w s t).world s t) (data_time (station (filled w s t).world s).rate (octets_of (map (λ m. m.len) (filled w s t).mpdus))) in
-    let time : IsTimely (filled w s t).world s (filled w s t).mpdus = timely_filled w s t h k in
+    (let cap : (aggregate_of w s t).world.config.cap ≡ w.config.cap = ap (λ (b : Books). b.config.cap) (books_filled w s t) in
+    let wide : (prepared_data s t (aggregate_of w s t)).charge ≤ data_time (station (aggregate_of w s t).world s).rate (octets_of (map (λ m. m.len) (aggregate_of w s t).mpdus)) + longest_answer =
+    wide_if (is_wide (aggregate_of w s t).world s t) (data_time (station (aggregate_of w s t).world s).rate (octets_of (map (λ m. m.len) (aggregate_of w s t).mpdus))) in
+    let time : IsTimely (aggregate_of w s t).world s (aggregate_of w s t).mpdus = timely_filled w s t h k in
     omega arith)
 
 some_if : (b : Bool) (x y : Prepared) → 1 ≤ x.charge → 1 ≤ y.charge → 1 ≤ (if b then x else y).charge
@@ -133,7 +133,7 @@ request_some : (b : Bool) → 1 ≤ request_charge b
 request_some true = omega arith
 request_some false = omega arith
 
-pub charge_some : (w : World) (s t : ℕ) → 1 ≤ (prepared w s t).charge
-unfolding prepared prepared_frames
-charge_some w s t = some_if (request_due (session w s t)) (record { world = w; content = Request _; charge = request_charge (is_wide w s t) }) (prepared_frames s t (filled w s t))
-    (request_some (is_wide w s t)) (wide_some (is_wide (filled w s t).world s t) (data_time (station (filled w s t).world s).rate (octets_of (map (λ m. m.len) (filled w s t).mpdus))))
+pub charge_some : (w : World) (s t : ℕ) → 1 ≤ (prepared_exchange w s t).charge
+unfolding prepared_exchange prepared_data
+charge_some w s t = some_if (request_due (session w s t)) (record { world = w; content = Request _; charge = request_charge (is_wide w s t) }) (prepared_data s t (aggregate_of w s t))
+    (request_some (is_wide w s t)) (wide_some (is_wide (aggregate_of w s t).world s t) (data_time (station (aggregate_of w s t).world s).rate (octets_of (map (λ m. m.len) (aggregate_of w s t).mpdus))))

@@ -9,9 +9,9 @@ use Rattle.wf_frame.specs.declared.classes.Fate.{Fate}
 use Rattle.wf_rules.specs.Table.{at, change}
 use Rattle.wf_rules.specs.Rotation.{Rotation, in_order}
 use Rattle.wf_rules.specs.Session.{waiting_numbers, request_due, has_room}
-use Rattle.wf_world.specs.World.{World, Station, Share, Tid, Queue, no_tid, no_station, new_queue, station, tid_of, queue, is_live, with_station, on_station, on_tid, on_share, on_queue, with_rotation, with_fate, finish, finish_all}
+use Rattle.wf_world.specs.World.{World, Station, Share, Tid, Queue, no_tid, no_station, new_queue, station, tid_of, queue, is_live, with_station, on_station, on_tid, on_share, on_queue, with_rotation, with_fate, with_frame_finished, with_frames_finished}
 use Rattle.wf_frame.specs.Classes.{lower_tid, upper_tid}
-use Rattle.wf_world.specs.FlowQueues.{queued}
+use Rattle.wf_world.specs.FlowQueues.{frames_queued}
 use Rattle.wf_world.specs.CanSend.{request_open, can_send, has_credit, can_send_in, is_ready}
 use Rattle.wf_rule_laws.proofs.Lemmas.Tables.{each_put, at_put_other}
 use Rattle.wf_rules.specs.Lists.{on}
@@ -80,17 +80,17 @@ sum_less f g (q ∷ qs) h =
     let rest : sum_by f qs ≤ sum_by g qs = sum_less f g qs (λ p k. h p (omega (arith, on-cons q p qs))) in
     omega (arith, sum_by-cons f q qs, sum_by-cons g q qs)
 
-queued_less : (s : ℕ) (w v : World) → IsMild s w v → (y t : ℕ) → (y ≡ s → ⊥) → t < 8 → queued v y t ≤ queued w y t
+queued_less : (s : ℕ) (w v : World) → IsMild s w v → (y t : ℕ) → (y ≡ s → ⊥) → t < 8 → frames_queued v y t ≤ frames_queued w y t
 queued_less s w v m y t other below =
-    subst (λ (x : Tid). sum_by (λ q. length (queue v q).items) (in_order x.queues) ≤ queued w y t) (sym (tid_same s w v m y t other))
+    subst (λ (x : Tid). sum_by (λ q. length (queue v q).items) (in_order x.queues) ≤ frames_queued w y t) (sym (tid_same s w v m y t other))
     (sum_less (λ q. length (queue v q).items) (λ q. length (queue w q).items) (in_order (tid_of w y t).queues) (λ q k. m.lengths y t q other below k))
 
 can_send_less : (s : ℕ) (w v : World) → IsMild s w v → (y t : ℕ) → (y ≡ s → ⊥) → t < 8 → can_send v y t ≡ true → can_send w y t ≡ true
 can_send_less s w v m y t other below h =
-    let h' : sends_with (tid_of w y t) (request_open w y t) (queued v y t) ≡ true =
-    subst (λ (b : Bool). sends_with (tid_of w y t) b (queued v y t) ≡ true) (m.requests y t other)
-    (subst (λ (x : Tid). sends_with x (request_open v y t) (queued v y t) ≡ true) (tid_same s w v m y t other) h) in
-    sends_more (tid_of w y t) (request_open w y t) (queued v y t) (queued w y t) (queued_less s w v m y t other below) h'
+    let h' : sends_with (tid_of w y t) (request_open w y t) (frames_queued v y t) ≡ true =
+    subst (λ (b : Bool). sends_with (tid_of w y t) b (frames_queued v y t) ≡ true) (m.requests y t other)
+    (subst (λ (x : Tid). sends_with x (request_open v y t) (frames_queued v y t) ≡ true) (tid_same s w v m y t other) h) in
+    sends_more (tid_of w y t) (request_open w y t) (frames_queued v y t) (frames_queued w y t) (queued_less s w v m y t other below) h'
 
 lower_below : (c : Class) → lower_tid c < 8
 lower_below Bk = omega arith
@@ -239,11 +239,11 @@ pub mild_with_rotation : (s : ℕ) (w : World) (c : Class) (r : Rotation) → Is
 unfolding with_rotation
 mild_with_rotation s w c r = record { config = refl; stations = λ y _. refl; requests = λ y t _. refl; lengths = λ y t q _ _ _. omega arith; keys = λ y t q k. inl k; live = λ y k. inl k }
 
-pub mild_finish : (s : ℕ) (w : World) (fate : Fate) (id : ℕ) → IsMild s w (finish w fate id)
-unfolding finish with_fate
+pub mild_finish : (s : ℕ) (w : World) (fate : Fate) (id : ℕ) → IsMild s w (with_frame_finished w fate id)
+unfolding with_frame_finished with_fate
 mild_finish s w fate id = record { config = refl; stations = λ y _. refl; requests = λ y t _. refl; lengths = λ y t q _ _ _. omega arith; keys = λ y t q k. inl k; live = λ y k. inl k }
 
-pub mild_finish_all : (ids : List ℕ) (s : ℕ) (w : World) (fate : Fate) → IsMild s w (finish_all w fate ids)
-unfolding finish_all
+pub mild_finish_all : (ids : List ℕ) (s : ℕ) (w : World) (fate : Fate) → IsMild s w (with_frames_finished w fate ids)
+unfolding with_frames_finished
 mild_finish_all [] s w fate = mild_here s w
 mild_finish_all (id ∷ ids) s w fate = mild_then s w _ _ (mild_finish s w fate id) (mild_finish_all ids s _ fate)

@@ -11,15 +11,15 @@ use Rattle.wf_frame.specs.declared.notes.Note.{Note}
 use Rattle.wf_frame.specs.declared.notes.Note.TheVariants.{Enqueue, Asked}
 use Rattle.wf_rules.specs.Table.{at, put, change, upto, count_from, has}
 use Rattle.wf_rules.specs.Codel.{Item, Dequeued}
-use Rattle.wf_rules.specs.Rotation.{Rotation, no_keys, lists, in_order, add_new, Picked}
+use Rattle.wf_rules.specs.Rotation.{Rotation, no_keys, has_key, in_order, with_new_key, Picked}
 use Rattle.wf_rules.specs.Session.{Session}
 use Rattle.wf_rules.specs.Receiver.{Receiver}
 use Rattle.wf_world.specs.World.{World, Station, Tid, Queue, Exchange, Mpdu, Content, Frames, Request, no_tid, no_station, new_queue, new_tid, tid_of, queue, is_live, live_stations, exchange, with_station, on_station, on_tid, on_session, on_receiver, with_queues, on_queue, with_exchange, without_exchange}
-use Rattle.wf_world.specs.FlowQueues.{without_head, within_limit, is_listed_elsewhere, overflow_queue, queue_for, listed_queue, appended, put_in, pay_queues, dequeued, taken_from, take, picked_queue, queue_need, has_frames, purge_queue, purge_queues}
+use Rattle.wf_world.specs.FlowQueues.{without_head, after_limit, is_listed_elsewhere, overflow_queue, queue_for, with_listed_queue, with_appended, after_put_in, with_queues_paid, taken_by_codel, taken_from_picked, taken_for_tid, picked_queue, queue_need, has_frames, after_queue_left, after_queues_left}
 use Rattle.wf_world.specs.CanSend.{is_request}
-use Rattle.wf_world.specs.Exchanges.{Aggregate, Prepared, picked_station, pay_station, pay_stations, after_pick, after_turn, with_number, with_fresh, filled, prepared_frames, prepared, spent, exchange_of, opening_exchange, charged, settled_slot, settled, all_settled, after_done, sending_tid, after_arrival}
+use Rattle.wf_world.specs.Exchanges.{Aggregate, Prepared, picked_station, with_station_paid, with_stations_paid, after_pick, after_tid_turn, with_number, with_fresh, aggregate_of, prepared_data, prepared_exchange, without_credit, exchange_of, with_exchange_opened, after_charge, with_failed_finished, with_settled, with_all_settled, after_done, sending_tid, after_arrival}
 use Rattle.wf_world.specs.Refusals.{refusals}
-use Rattle.wf_world.specs.Step.{Outcome, joined, left_tid, left_tids, off_lists, gone, with_rate, ticked, with_frame, enqueued, sent, pulled_by, pulled, arrived, answered, ended, on_open, slept, woken, credited, received, reaped, done, station_of, concerned}
+use Rattle.wf_world.specs.Step.{Outcome, join_outcome, after_tid_left, after_tids_left, without_listings, leave_outcome, rate_outcome, tick_outcome, with_frame, enqueue_outcome, send_outcome, pull_outcome_for, pull_outcome, arrive_outcome, answer_outcome, done_outcome, outcome_where_open, sleep_outcome, wake_outcome, poll_outcome, rx_outcome, reap_outcome, outcome_of, station_of, concerned_station}
 use Rattle.wf_rule_laws.proofs.Lemmas.Tables.{at_put_other}
 use Rattle.wf_rules.specs.Lists.{on}
 use Rattle.wf_rule_laws.proofs.Lemmas.Counts.{on-nil, on-cons_same, on-cons_other, on-append, on-filter, hasnot-on}
@@ -53,51 +53,51 @@ unfolding without_head
 mild_head s w q [] h = mild_here s w
 mild_head s w q (x ∷ rest) h = mild_then s w _ _ (mild_on_queue s w q (λ y. record y { items = rest }) (omega arith)) (mild_finish s _ _ _)
 
-mild_within_limit : (s : ℕ) (w : World) → IsMild s w (within_limit w)
-unfolding within_limit
+mild_within_limit : (s : ℕ) (w : World) → IsMild s w (after_limit w)
+unfolding after_limit
 mild_within_limit s w = mild_if _ s w _ _ (mild_head s w _ _ (omega arith)) (mild_here s w)
 
-mild_pay_queues : (qs : List ℕ) (s : ℕ) (w : World) (quanta : ℕ → ℕ) → IsMild s w (pay_queues w quanta qs)
-unfolding pay_queues
+mild_pay_queues : (qs : List ℕ) (s : ℕ) (w : World) (quanta : ℕ → ℕ) → IsMild s w (with_queues_paid w quanta qs)
+unfolding with_queues_paid
 mild_pay_queues [] s w quanta = mild_here s w
 mild_pay_queues (q ∷ qs) s w quanta = mild_then s w _ _ (mild_on_queue s w q _ (omega arith)) (mild_pay_queues qs s _ quanta)
 
-mild_dequeued : (s : ℕ) (w : World) (q : ℕ) (d : Dequeued) → length d.rest ≤ length (queue w q).items → IsMild s w (dequeued w q d).world
-unfolding dequeued
+mild_dequeued : (s : ℕ) (w : World) (q : ℕ) (d : Dequeued) → length d.rest ≤ length (queue w q).items → IsMild s w (taken_by_codel w q d).world
+unfolding taken_by_codel
 mild_dequeued s w q d h = mild_then s w _ _ (mild_on_queue s w q _ h) (mild_finish_all _ s _ _)
 
-mild_taken_from : (o : Option ℕ) (s : ℕ) (w : World) (i : ℕ) → IsMild s w (taken_from w i o).world
-unfolding taken_from
+mild_taken_from : (o : Option ℕ) (s : ℕ) (w : World) (i : ℕ) → IsMild s w (taken_from_picked w i o).world
+unfolding taken_from_picked
 mild_taken_from None s w i = mild_here s w
 mild_taken_from (Some q) s w i = mild_dequeued s w q _ (dequeue_less _ _ _ (queue w q).items)
 
 -- paying queues changes no list
-tids_pay_queues : (qs : List ℕ) (w : World) (quanta : ℕ → ℕ) → (pay_queues w quanta qs).stations ≡ w.stations
-unfolding pay_queues on_queue
+tids_pay_queues : (qs : List ℕ) (w : World) (quanta : ℕ → ℕ) → (with_queues_paid w quanta qs).stations ≡ w.stations
+unfolding with_queues_paid on_queue
 tids_pay_queues [] w quanta = refl
 tids_pay_queues (q ∷ qs) w quanta = tids_pay_queues qs _ quanta
 
-mild_take : (w : World) (s t : ℕ) → IsMild s w (take w s t).world
-unfolding take
+mild_take : (w : World) (s t : ℕ) → IsMild s w (taken_for_tid w s t).world
+unfolding taken_for_tid
 mild_take w s t =
     let p : Picked = picked_queue w s t in
-    let paid : World = pay_queues w p.quanta (in_order (tid_of w s t).queues) in
+    let paid : World = with_queues_paid w p.quanta (in_order (tid_of w s t).queues) in
     mild_then s w _ _ (mild_then s w paid _ (mild_pay_queues _ s w _) (mild_with_queues paid s t p.lists (λ q k. inl (listed q k)))) (mild_taken_from p.winner s _ s)
   where
-    listed : (q : ℕ) → 0 < on (in_order (picked_queue w s t).lists) q → Lists (pay_queues w (picked_queue w s t).quanta (in_order (tid_of w s t).queues)) s t q
+    listed : (q : ℕ) → 0 < on (in_order (picked_queue w s t).lists) q → Lists (with_queues_paid w (picked_queue w s t).quanta (in_order (tid_of w s t).queues)) s t q
     listed q k =
         let was : 0 < on (in_order (tid_of w s t).queues) q = omega (arith, pick_on (queue_need w) (has_frames w) (tid_of w s t).queues q) in
         subst (λ (z : List (Option Station)). 0 < on (in_order (at no_tid (unwrap_or (at None z s) no_station).tids t).queues) q) (sym (tids_pay_queues (in_order (tid_of w s t).queues) w (picked_queue w s t).quanta)) was
 
-mild_purge_queues : (qs : List ℕ) (s : ℕ) (w : World) → IsMild s w (purge_queues w qs)
-unfolding purge_queues purge_queue
+mild_purge_queues : (qs : List ℕ) (s : ℕ) (w : World) → IsMild s w (after_queues_left w qs)
+unfolding after_queues_left after_queue_left
 mild_purge_queues [] s w = mild_here s w
 mild_purge_queues (q ∷ qs) s w = mild_then s w _ _ (mild_then s w _ _ (mild_on_queue s w q _ (omega arith)) (mild_finish_all _ s _ _)) (mild_purge_queues qs s _)
 
 -- ---- pulls
 
-mild_pay_stations : (ss : List ℕ) (s : ℕ) (w : World) (c : Class) (quanta : ℕ → ℕ) → IsMild s w (pay_stations w c quanta ss)
-unfolding pay_stations pay_station
+mild_pay_stations : (ss : List ℕ) (s : ℕ) (w : World) (c : Class) (quanta : ℕ → ℕ) → IsMild s w (with_stations_paid w c quanta ss)
+unfolding with_stations_paid with_station_paid
 mild_pay_stations [] s w c quanta = mild_here s w
 mild_pay_stations (i ∷ ss) s w c quanta = mild_then s w _ _ (mild_on_share s w i c _) (mild_pay_stations ss s _ c quanta)
 
@@ -105,8 +105,8 @@ pub mild_after_pick : (s : ℕ) (w : World) (c : Class) → IsMild s w (after_pi
 unfolding after_pick
 mild_after_pick s w c = mild_then s w _ _ (mild_pay_stations _ s w c _) (mild_with_rotation s _ c _)
 
-mild_after_turn : (s : ℕ) (w : World) (i : ℕ) (c : Class) (t : ℕ) → IsMild s w (after_turn w i c t)
-unfolding after_turn
+mild_after_turn : (s : ℕ) (w : World) (i : ℕ) (c : Class) (t : ℕ) → IsMild s w (after_tid_turn w i c t)
+unfolding after_tid_turn
 mild_after_turn s w i c t = mild_on_share s w i c _
 
 mild_with_number : (o : Option Item) (w : World) (s t : ℕ) → IsMild s w (with_number w s t o)
@@ -122,19 +122,19 @@ mild_with_fresh : (n : ℕ) (w : World) (s t : ℕ) (mpdus : List Mpdu) → IsMi
 unfolding with_fresh
 mild_with_fresh zero w s t mpdus = mild_here s w
 mild_with_fresh (suc n) w s t mpdus =
-    let k = mild_then s w _ _ (mild_take w s t) (mild_with_number (take w s t).item (take w s t).world s t) in
+    let k = mild_then s w _ _ (mild_take w s t) (mild_with_number (taken_for_tid w s t).item (taken_for_tid w s t).world s t) in
     filled_if _ s w _ _ (mild_here s w) (filled_if _ s w _ _ (mild_then s w _ _ k (mild_with_fresh n _ s t _)) k)
 
-mild_filled : (w : World) (s t : ℕ) → IsMild s w (filled w s t).world
-unfolding filled
+mild_filled : (w : World) (s t : ℕ) → IsMild s w (aggregate_of w s t).world
+unfolding aggregate_of
 mild_filled w s t = filled_if _ s w _ _ (mild_with_fresh _ w s t _) (mild_here s w)
 
 prepared_if : (b : Bool) (s : ℕ) (w : World) (x y : Prepared) → IsMild s w x.world → IsMild s w y.world → IsMild s w (if b then x else y).world
 prepared_if true s w x y h k = h
 prepared_if false s w x y h k = k
 
-mild_prepared : (w : World) (s t : ℕ) → IsMild s w (prepared w s t).world
-unfolding prepared prepared_frames
+mild_prepared : (w : World) (s t : ℕ) → IsMild s w (prepared_exchange w s t).world
+unfolding prepared_exchange prepared_data
 mild_prepared w s t = prepared_if _ s w _ _ (mild_here s w) (mild_then s w _ _ (mild_filled w s t) (mild_on_session _ s t _))
 
 -- ---- open exchanges
@@ -168,8 +168,8 @@ asks-filter y t p (x ∷ xs) h = elim (cases_Bool (p x)) [
 mild_opened : (s : ℕ) (w : World) (xs : List Exchange) (n : ℕ) → ((y t : ℕ) → (y ≡ s → ⊥) → asks y t xs ≡ asks y t w.opened) → IsMild s w (record w { opened = xs; exchanges = n })
 mild_opened s w xs n h = record { config = refl; stations = λ y _. refl; requests = h; lengths = λ y t q _ _ _. omega arith; keys = λ y t q k. inl k; live = λ y k. inl k }
 
-mild_opening : (w : World) (x : Exchange) → IsMild x.station w (opening_exchange w x)
-unfolding opening_exchange
+mild_opening : (w : World) (x : Exchange) → IsMild x.station w (with_exchange_opened w x)
+unfolding with_exchange_opened
 mild_opening w x = mild_opened x.station w (w.opened ++ x ∷ []) (w.exchanges + 1) (λ y t other. asks-append y t w.opened x (λ e. other (sym e)))
 
 mild_without : (w : World) (e s : ℕ) → Every (λ y. y.number ≡ e → y.station ≡ s) w.opened → IsMild s w (without_exchange w e)
@@ -182,42 +182,42 @@ unfolding with_exchange
 mild_exchange s w x h = mild_opened s w (map (λ y. if y.number == x.number then x else y) w.opened) w.exchanges (λ y t _.
     sym (asks-core y t (map (λ y. if y.number == x.number then x else y) w.opened)) ∙ (ap (asks y t) (replaced x w.opened h) ∙ asks-core y t w.opened))
 
-mild_sent : (s t : ℕ) (c : Class) (p : Prepared) → IsMild s p.world (sent s t c p).world
-unfolding sent spent
+mild_sent : (s t : ℕ) (c : Class) (p : Prepared) → IsMild s p.world (send_outcome s t c p).world
+unfolding send_outcome without_credit
 mild_sent s t c p = mild_then s p.world _ _ (mild_opening p.world (exchange_of s t c p)) (mild_on_station _ s _ (λ x. refl))
 
-pub mild_pulled_by : (o : Option ℕ) (s : ℕ) (v : World) (c : Class) → ((y : ℕ) → o ≡ Some y → y ≡ s) → IsMild s v (pulled_by v c o).world
-unfolding pulled_by
+pub mild_pulled_by : (o : Option ℕ) (s : ℕ) (v : World) (c : Class) → ((y : ℕ) → o ≡ Some y → y ≡ s) → IsMild s v (pull_outcome_for v c o).world
+unfolding pull_outcome_for
 mild_pulled_by None s v c h = mild_here s v
 mild_pulled_by (Some i) s v c h =
     let t : ℕ = sending_tid v i c in
-    subst (λ (z : ℕ). IsMild z v (sent i t c (prepared (after_turn v i c t) i t)).world) (h i refl)
+    subst (λ (z : ℕ). IsMild z v (send_outcome i t c (prepared_exchange (after_tid_turn v i c t) i t)).world) (h i refl)
     (mild_then i v _ _ (mild_then i v _ _ (mild_after_turn i v i c t) (mild_prepared _ i t)) (mild_sent i t c _))
 
-mild_pulled : (s : ℕ) (w : World) (c : Class) → ((y : ℕ) → (picked_station w c).winner ≡ Some y → y ≡ s) → IsMild s w (pulled w c).world
-unfolding pulled
+mild_pulled : (s : ℕ) (w : World) (c : Class) → ((y : ℕ) → (picked_station w c).winner ≡ Some y → y ≡ s) → IsMild s w (pull_outcome w c).world
+unfolding pull_outcome
 mild_pulled s w c h = mild_then s w _ _ (mild_after_pick s w c) (mild_pulled_by (picked_station w c).winner s (after_pick w c) c h)
 
 same_opened : (w : World) (x : Exchange) (j : ℕ) → Every (λ y. y.number ≡ x.number → core y ≡ core x) w.opened → Every (λ y. y.number ≡ x.number → core y ≡ core x) (on_receiver w x.station x.tid (after_arrival x.content j)).opened
 unfolding on_receiver on_tid on_station with_station
 same_opened w x j h = h
 
-mild_arrived : (w : World) (e j : ℕ) (x : Exchange) → IsKept (books w) → IsFound w e x → IsMild x.station w (arrived w x j).world
-unfolding arrived
+mild_arrived : (w : World) (e j : ℕ) (x : Exchange) → IsKept (books w) → IsFound w e x → IsMild x.station w (arrive_outcome w x j).world
+unfolding arrive_outcome
 mild_arrived w e j x i found = mild_then x.station w _ _ (mild_on_receiver w x.station x.tid (after_arrival x.content j)) (mild_exchange x.station _ _ (same_opened w x j (only_this w e x i found)))
 
-mild_answered : (w : World) (e : ℕ) (x : Exchange) → IsKept (books w) → IsFound w e x → IsMild x.station w (answered w x).world
-unfolding answered
+mild_answered : (w : World) (e : ℕ) (x : Exchange) → IsKept (books w) → IsFound w e x → IsMild x.station w (answer_outcome w x).world
+unfolding answer_outcome
 mild_answered w e x i found = mild_exchange x.station w _ (only_this w e x i found)
 
-mild_settled : (w : World) (s t : ℕ) (acked : Bool) (m : Mpdu) → IsMild s w (settled w s t acked m)
-unfolding settled settled_slot
+mild_settled : (w : World) (s t : ℕ) (acked : Bool) (m : Mpdu) → IsMild s w (with_settled w s t acked m)
+unfolding with_settled with_failed_finished
 mild_settled w s t acked m =
     mild_if acked s w _ _ (mild_then s w _ _ (mild_on_session w s t _) (mild_finish s _ _ _))
     (let k = mild_on_session w s t _ in mild_if _ s w _ _ (mild_then s w _ _ k (mild_finish s _ _ _)) k)
 
-mild_all_settled : (ms : List Mpdu) (w : World) (s t : ℕ) (acked : ℕ → Bool) → IsMild s w (all_settled w s t acked ms)
-unfolding all_settled
+mild_all_settled : (ms : List Mpdu) (w : World) (s t : ℕ) (acked : ℕ → Bool) → IsMild s w (with_all_settled w s t acked ms)
+unfolding with_all_settled
 mild_all_settled [] w s t acked = mild_here s w
 mild_all_settled (m ∷ ms) w s t acked = mild_then s w _ _ (mild_settled w s t _ m) (mild_all_settled ms _ s t acked)
 
@@ -226,12 +226,12 @@ unfolding after_done
 mild_after_done (Frames mpdus) w x heard = mild_all_settled mpdus w _ _ _
 mild_after_done (Request start) w x heard = mild_on_session w _ _ _
 
-mild_charged : (s : ℕ) (w : World) (x : Exchange) → IsMild s w (charged w x)
-unfolding charged
+mild_charged : (s : ℕ) (w : World) (x : Exchange) → IsMild s w (after_charge w x)
+unfolding after_charge
 mild_charged s w x = mild_on_share s w _ _ _
 
-mild_ended : (w : World) (e : ℕ) (x : Exchange) (heard : Bool) → IsKept (books w) → IsFound w e x → IsMild x.station w (ended w x heard).world
-unfolding ended
+mild_ended : (w : World) (e : ℕ) (x : Exchange) (heard : Bool) → IsKept (books w) → IsFound w e x → IsMild x.station w (done_outcome w x heard).world
+unfolding done_outcome
 mild_ended w e x heard i found =
     mild_then x.station w _ _ (mild_then x.station w _ _
     (mild_without w x.number x.station (every_map (λ y. y.number ≡ x.number → core y ≡ core x) (λ y. y.number ≡ x.number → y.station ≡ x.station) (λ y h k. ap (λ (z : Exchange). z.station) (h k)) w.opened (only_this w e x i found)))
@@ -239,19 +239,19 @@ mild_ended w e x heard i found =
 
 -- ---- stations
 
-mild_left_tids : (ts : List ℕ) (w : World) (s : ℕ) → IsMild s w (left_tids w s ts)
-unfolding left_tids left_tid
+mild_left_tids : (ts : List ℕ) (w : World) (s : ℕ) → IsMild s w (after_tids_left w s ts)
+unfolding after_tids_left after_tid_left
 mild_left_tids [] w s = mild_here s w
 mild_left_tids (t ∷ ts) w s =
     mild_then s w _ _ (mild_then s w _ _ (mild_then s w _ _ (mild_finish_all _ s w _) (mild_purge_queues _ s _)) (mild_with_queues _ s t no_keys (λ q k. absurd (let none : on [] q ≡ 0 = on-nil q in omega arith)))) (mild_left_tids ts _ s)
 
-mild_off_lists : (cs : List Class) (w : World) (s : ℕ) → IsMild s w (off_lists w s cs)
-unfolding off_lists
+mild_off_lists : (cs : List Class) (w : World) (s : ℕ) → IsMild s w (without_listings w s cs)
+unfolding without_listings
 mild_off_lists [] w s = mild_here s w
 mild_off_lists (c ∷ cs) w s = mild_then s w _ _ (mild_with_rotation s w c _) (mild_off_lists cs _ s)
 
-mild_gone : (w : World) (s : ℕ) → IsMild s w (gone w s).world
-unfolding gone
+mild_gone : (w : World) (s : ℕ) → IsMild s w (leave_outcome w s).world
+unfolding leave_outcome
 mild_gone w s = mild_then s w _ _ (mild_then s w _ _ (mild_left_tids (upto 8) w s) (mild_off_lists _ _ s)) (mild_with_station _ s None (λ j q k. absurd (let none : on [] q ≡ 0 = on-nil q in omega arith)) (λ e. absurd (cc e)))
 
 eight : (y : Tid) (j q : ℕ) → on (in_order y.queues) q ≡ 0 → on (in_order (at no_tid (y ∷ y ∷ y ∷ y ∷ y ∷ y ∷ y ∷ y ∷ []) j).queues) q ≡ 0
@@ -265,8 +265,8 @@ eight y (suc (suc (suc (suc (suc (suc zero)))))) q h = h
 eight y (suc (suc (suc (suc (suc (suc (suc zero))))))) q h = h
 eight y (suc (suc (suc (suc (suc (suc (suc (suc j)))))))) q h = on-nil q
 
-mild_joined : (w : World) (s window start exponent weight : ℕ) → s < w.config.stations → IsMild s w (joined w s window start exponent weight).world
-unfolding joined
+mild_joined : (w : World) (s window start exponent weight : ℕ) → s < w.config.stations → IsMild s w (join_outcome w s window start exponent weight).world
+unfolding join_outcome
 mild_joined w s window start exponent weight h = mild_with_station w s _ (λ j q k. absurd (let none = eight (new_tid start window) j q (on-nil q) in omega arith)) (λ _. h)
 
 -- ---- frames
@@ -302,7 +302,7 @@ on_count (suc n) from y h k = elim (cases_eq from y) [
 pub on_upto : (n y : ℕ) → y < n → 0 < on (upto n) y
 on_upto n y h = on_count n 0 y (omega arith) (omega arith)
 
-pub lists-on : (r : Rotation) (y : ℕ) → 0 < on (in_order r) y → lists r y ≡ true
+pub lists-on : (r : Rotation) (y : ℕ) → 0 < on (in_order r) y → has_key r y ≡ true
 lists-on r y h = go (has r.new y) (has r.old y) refl refl
   where
     go : (a b : Bool) → has r.new y ≡ a → has r.old y ≡ b → a || b ≡ true
@@ -329,11 +329,11 @@ no_clash w s t flow y j i below other low h = go (is_listed_elsewhere w s t (flo
     go false e k =
         let live : is_live w y ≡ true = listing_live w y j (flow % w.config.flows) k in
         let here : 0 < on (live_stations w) y = omega (arith, on-filter (is_live w) (upto w.config.stations) y live, on_upto w.config.stations y (i.range y live)) in
-        let none : list_any (λ l. not ((y == s) && (l == t)) && lists (tid_of w y l).queues (flow % w.config.flows)) (upto 8) ≡ false =
-        any_false (λ x. list_any (λ l. not ((x == s) && (l == t)) && lists (tid_of w x l).queues (flow % w.config.flows)) (upto 8)) (live_stations w) y e here in
-        let not_here : (not ((y == s) && (j == t)) && lists (tid_of w y j).queues (flow % w.config.flows)) ≡ false =
-        any_false (λ l. not ((y == s) && (l == t)) && lists (tid_of w y l).queues (flow % w.config.flows)) (upto 8) j none (on_upto 8 j low) in
-        let listed : lists (tid_of w y j).queues (flow % w.config.flows) ≡ true = lists-on (tid_of w y j).queues (flow % w.config.flows) k in
+        let none : list_any (λ l. not ((y == s) && (l == t)) && has_key (tid_of w y l).queues (flow % w.config.flows)) (upto 8) ≡ false =
+        any_false (λ x. list_any (λ l. not ((x == s) && (l == t)) && has_key (tid_of w x l).queues (flow % w.config.flows)) (upto 8)) (live_stations w) y e here in
+        let not_here : (not ((y == s) && (j == t)) && has_key (tid_of w y j).queues (flow % w.config.flows)) ≡ false =
+        any_false (λ l. not ((y == s) && (l == t)) && has_key (tid_of w y l).queues (flow % w.config.flows)) (upto 8) j none (on_upto 8 j low) in
+        let listed : has_key (tid_of w y j).queues (flow % w.config.flows) ≡ true = lists-on (tid_of w y j).queues (flow % w.config.flows) k in
         let differs : (y == s) ≡ false = ne_eqb y s other in
         absurd (cc (rw (differs, listed) at not_here))
 
@@ -344,8 +344,8 @@ owned_for w s t flow i = go (is_listed_elsewhere w s t (flow % w.config.flows))
     go true = inr refl
     go false = inl (mod_below flow w.config.flows i.flows)
 
-mild_appended : (w : World) (s q : ℕ) (x : Item) → ((y j : ℕ) → (y ≡ s → ⊥) → j < 8 → Lists w y j q → ⊥) → IsMild s w (appended w q x)
-unfolding appended on_queue
+mild_appended : (w : World) (s q : ℕ) (x : Item) → ((y j : ℕ) → (y ≡ s → ⊥) → j < 8 → Lists w y j q → ⊥) → IsMild s w (with_appended w q x)
+unfolding with_appended on_queue
 mild_appended w s q x h = record {
   config = refl;
   stations = λ y _. refl;
@@ -360,39 +360,39 @@ mild_appended w s q x h = record {
   live = λ y k. inl k;
 }
 
-mild_added : (w : World) (s t q : ℕ) (f : Queue → Queue) → Owned w.config s t q → IsMild s (on_queue w q f) (with_queues (on_queue w q f) s t (add_new (tid_of w s t).queues q))
+mild_added : (w : World) (s t q : ℕ) (f : Queue → Queue) → Owned w.config s t q → IsMild s (on_queue w q f) (with_queues (on_queue w q f) s t (with_new_key (tid_of w s t).queues q))
 unfolding on_queue
-mild_added w s t q f o = mild_with_queues (record w { queues = change new_queue w.queues q f }) s t (add_new (tid_of w s t).queues q) (λ p k. elim (cases_eq q p) [
+mild_added w s t q f o = mild_with_queues (record w { queues = change new_queue w.queues q f }) s t (with_new_key (tid_of w s t).queues q) (λ p k. elim (cases_eq q p) [
   | inl e ↦ inr (subst (λ (z : ℕ). Owned w.config s t z) e o)
   | inr other ↦ inl (omega (arith, added-on (tid_of w s t).queues q p, on-cons_other q p [] other, on-nil p))
 ])
 
-mild_listed_queue : (w : World) (s t q : ℕ) → Owned w.config s t q → IsMild s w (listed_queue w s t q)
-unfolding listed_queue
+mild_listed_queue : (w : World) (s t q : ℕ) → Owned w.config s t q → IsMild s w (with_listed_queue w s t q)
+unfolding with_listed_queue
 mild_listed_queue w s t q o =
-    mild_if (lists (tid_of w s t).queues q) s w _ _ (mild_here s w)
+    mild_if (has_key (tid_of w s t).queues q) s w _ _ (mild_here s w)
     (mild_then s w _ _ (mild_on_queue s w q (λ y. record y { deficit = pos w.config.flow_quantum }) (omega arith)) (mild_added w s t q _ o))
 
-mild_put_in : (w : World) (s t flow : ℕ) (x : Item) → IsOwning w → t < 8 → IsMild s w (put_in w s t (queue_for w s t flow) x)
-unfolding put_in appended on_queue
+mild_put_in : (w : World) (s t flow : ℕ) (x : Item) → IsOwning w → t < 8 → IsMild s w (after_put_in w s t (queue_for w s t flow) x)
+unfolding after_put_in with_appended on_queue
 mild_put_in w s t flow x i below =
     mild_then s w _ _ (mild_appended w s (queue_for w s t flow) x (λ y j other low k. no_clash w s t flow y j i below other low k))
-    (mild_listed_queue (appended w (queue_for w s t flow) x) s t (queue_for w s t flow) (owned_for w s t flow i))
+    (mild_listed_queue (with_appended w (queue_for w s t flow) x) s t (queue_for w s t flow) (owned_for w s t flow i))
 
 mild_frame : (s : ℕ) (w : World) (note : Note) → IsMild s w (with_frame w note)
 unfolding with_frame
 mild_frame s w note = record { config = refl; stations = λ y _. refl; requests = λ y t _. refl; lengths = λ y t q _ _ _. omega arith; keys = λ y t q k. inl k; live = λ y k. inl k }
 
-mild_enqueued : (w : World) (s t flow len : ℕ) → IsOwning w → t < 8 → IsMild s w (enqueued w s t flow len).world
-unfolding enqueued
+mild_enqueued : (w : World) (s t flow len : ℕ) → IsOwning w → t < 8 → IsMild s w (enqueue_outcome w s t flow len).world
+unfolding enqueue_outcome
 mild_enqueued w s t flow len i below =
-    let m : IsMild s w (within_limit w) = mild_within_limit s w in
-    mild_then s w _ _ (mild_then s w _ _ m (mild_put_in (within_limit w) s t flow _ (owning_mild s w (within_limit w) m i) below)) (mild_frame s _ _)
+    let m : IsMild s w (after_limit w) = mild_within_limit s w in
+    mild_then s w _ _ (mild_then s w _ _ m (mild_put_in (after_limit w) s t flow _ (owning_mild s w (after_limit w) m i) below)) (mild_frame s _ _)
 
 -- ---- the calls
 
-mild_open : (o : Option Exchange) (w : World) (e s : ℕ) (f : Exchange → Outcome) → exchange w e ≡ o → ((y : ℕ) → station_of o ≡ Some y → y ≡ s) → ((x : Exchange) → IsFound w e x → IsMild x.station w (f x).world) → IsMild s w (on_open w o f).world
-unfolding on_open
+mild_open : (o : Option Exchange) (w : World) (e s : ℕ) (f : Exchange → Outcome) → exchange w e ≡ o → ((y : ℕ) → station_of o ≡ Some y → y ≡ s) → ((x : Exchange) → IsFound w e x → IsMild x.station w (f x).world) → IsMild s w (outcome_where_open w o f).world
+unfolding outcome_where_open
 mild_open None w e s f k h m = mild_here s w
 mild_open (Some x) w e s f k h m = subst (λ (z : ℕ). IsMild z w (f x).world) (h x.station refl) (m x k)
 
@@ -406,8 +406,8 @@ mild_plain s w v a b c d = record {
   live = λ y k. inl (subst (λ (z : List (Option Station)). is_some (at None z y) ≡ true) b k);
 }
 
-mild_reaped : (ids : List ℕ) (s : ℕ) (w : World) → IsMild s w (reaped w ids).world
-unfolding reaped
+mild_reaped : (ids : List ℕ) (s : ℕ) (w : World) → IsMild s w (reap_outcome w ids).world
+unfolding reap_outcome
 mild_reaped [] s w = mild_here s w
 mild_reaped (id ∷ ids) s w = mild_plain s w _ refl refl refl refl
 
@@ -415,8 +415,8 @@ mild_reaped (id ∷ ids) s w = mild_plain s w _ refl refl refl refl
 named : (i s : ℕ) (w v : World) → ((y : ℕ) → Some i ≡ Some y → y ≡ s) → IsMild i w v → IsMild s w v
 named i s w v h m = subst (λ (z : ℕ). IsMild z w v) (h i refl) m
 
-pub mild_done : (note : Note) (w : World) (s : ℕ) → NoRow (refusals w note) → IsKept (books w) → IsOwning w → ((y : ℕ) → concerned w note ≡ Some y → y ≡ s) → IsMild s w (done w note).world
-unfolding done ticked with_rate slept woken credited received
+pub mild_done : (note : Note) (w : World) (s : ℕ) → NoRow (refusals w note) → IsKept (books w) → IsOwning w → ((y : ℕ) → concerned_station w note ≡ Some y → y ≡ s) → IsMild s w (outcome_of w note).world
+unfolding outcome_of tick_outcome rate_outcome sleep_outcome wake_outcome poll_outcome rx_outcome
 mild_done (Enqueue i t flow len) w s r k o h = named i s w _ h (mild_enqueued w i t flow len o (omega (arith, ltb-false 7 t r.1.0)))
 mild_done (Asked (Join i window start exponent weight)) w s r k o h = named i s w _ h (mild_joined w i window start exponent weight (leb-false _ _ r.0))
 mild_done (Asked (Leave i)) w s r k o h = named i s w _ h (mild_gone w i)

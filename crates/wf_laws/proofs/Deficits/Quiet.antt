@@ -14,11 +14,11 @@ use Rattle.wf_world.specs.World.{World, Station, Share, Exchange, no_share, no_s
 use Rattle.wf_frame.specs.Classes.{class_number, same_class}
 use Rattle.wf_world.specs.Exchanges.{picked_station}
 use Rattle.wf_world.specs.Refusals.{refusals, refusal}
-use Rattle.wf_world.specs.Step.{Outcome, ticked, on_open, done, refused, answer, step}
+use Rattle.wf_world.specs.Step.{Outcome, tick_outcome, outcome_where_open, outcome_of, after_refusal, judged_outcome, step}
 use Rattle.wf_world.specs.Run.{Entry, world_after}
 use Rattle.wf_world.specs.Stretches.{world_at}
 use Rattle.wf_frame.specs.Settings.{IsInRange}
-use Rattle.wf_laws.specs.Deficits.{heard_by, heard_in, QuietLaw}
+use Rattle.wf_laws.specs.Deficits.{receive_charges_by, receive_charges_in, QuietLaw}
 use Rattle.wf_rules.specs.Lists.{on}
 use Rattle.wf_laws.proofs.Deficits.Books.{Account, account, Books, books, with_account, on_part, upd_same, upd_other, each_upd, updc_same, updc_other, each_updc, cases_class}
 use Rattle.wf_laws.proofs.Deficits.BookSteps.{books_ended, books_gone, all_off, books_enqueued, receive_share, books_received, books_reaped, books_slept, books_woken, books_credited, rated, books_with_rate, fresh_account, books_joined, charge_share, pay_share, after, books_after_pick}
@@ -88,18 +88,18 @@ counted s c (Asked (Join i window start exponent weight)) n = if i == s then 0 e
 counted s c (Asked (Rx i d air)) n = if (i == s) && same_class d c then n + 1 else n
 counted s c _ n = n
 
-counted_done : (note : Note) (w : World) (s : ℕ) (c : Class) (n : ℕ) → refusal w note ≡ None → heard_by w s c note n ≡ counted s c note n
+counted_done : (note : Note) (w : World) (s : ℕ) (c : Class) (n : ℕ) → refusal w note ≡ None → receive_charges_by w s c note n ≡ counted s c note n
 counted_done (Asked (Join i window start exponent weight)) w s c n h = ap (λ (o : Option Refusal). if is_none o && (i == s) then 0 else n) h
 counted_done (Asked (Rx i d air)) w s c n h = ap (λ (o : Option Refusal). if is_none o && ((i == s) && same_class d c) then n + 1 else n) h
 counted_done _ w s c n h = refl
 
-counted_refused : (note : Note) (r : Refusal) (w : World) (s : ℕ) (c : Class) (n : ℕ) → refusal w note ≡ Some r → heard_by w s c note n ≡ n
+counted_refused : (note : Note) (r : Refusal) (w : World) (s : ℕ) (c : Class) (n : ℕ) → refusal w note ≡ Some r → receive_charges_by w s c note n ≡ n
 counted_refused (Asked (Join i window start exponent weight)) r w s c n h = ap (λ (o : Option Refusal). if is_none o && (i == s) then 0 else n) h
 counted_refused (Asked (Rx i d air)) r w s c n h = ap (λ (o : Option Refusal). if is_none o && ((i == s) && same_class d c) then n + 1 else n) h
 counted_refused _ r w s c n h = refl
 
-heard_open : (w : World) (e : ℕ) (o : Option Exchange) (f : Exchange → Outcome) (c : Class) (n s : ℕ) → exchange w e ≡ o → IsHeard c n ((books w).accounts s) → ((x : Exchange) → IsFound w e x → IsHeard c n ((books (f x).world).accounts s)) → IsHeard c n ((books (on_open w o f).world).accounts s)
-unfolding on_open
+heard_open : (w : World) (e : ℕ) (o : Option Exchange) (f : Exchange → Outcome) (c : Class) (n s : ℕ) → exchange w e ≡ o → IsHeard c n ((books w).accounts s) → ((x : Exchange) → IsFound w e x → IsHeard c n ((books (f x).world).accounts s)) → IsHeard c n ((books (outcome_where_open w o f).world).accounts s)
+unfolding outcome_where_open
 heard_open w e None f c n s k i h = i
 heard_open w e (Some x) f c n s k i h = h x k
 
@@ -107,8 +107,8 @@ heard_open w e (Some x) f c n s k i h = h x k
 heard_books : (c : Class) (n s : ℕ) (a b : Books) → a ≡ b → IsHeard c n (b.accounts s) → IsHeard c n (a.accounts s)
 heard_books c n s a b e k = subst (λ (z : Books). IsHeard c n (z.accounts s)) (sym e) k
 
-heard_done : (note : Note) (w : World) (c : Class) (n s : ℕ) → NoRow (refusals w note) → IsKept (books w) → IsHeard c n ((books w).accounts s) → IsHeard c (counted s c note n) ((books (done w note).world).accounts s)
-unfolding done ticked
+heard_done : (note : Note) (w : World) (c : Class) (n s : ℕ) → NoRow (refusals w note) → IsKept (books w) → IsHeard c n ((books w).accounts s) → IsHeard c (counted s c note n) ((books (outcome_of w note).world).accounts s)
+unfolding outcome_of tick_outcome
 heard_done (Enqueue i t flow len) w c n s r k h = heard_books c n s _ _ (books_enqueued w i t flow len) h
 heard_done (Asked (Join i window start exponent weight)) w c n s r k h = heard_books c _ s _ _ (books_joined w i window start exponent weight) (heard_joined c n s i w.config.quantum weight (books w) h)
 heard_done (Asked (Leave i)) w c n s r k h = heard_books c n s _ _ (books_gone w i) (heard_gone c n s i (books w) h)
@@ -124,24 +124,24 @@ heard_done (Asked (Poll i)) w c n s r k h = heard_books c n s _ _ (books_credite
 heard_done (Asked (Rx i d air)) w c n s r k h = heard_books c _ s _ _ (books_received w i d air) (heard_received c d n s i air (books w) (leb-true _ _ (and_parts _ _ (not-false _ r.1.0)).0) h)
 heard_done (Asked Reap) w c n s r k h = heard_books c n s _ _ (books_reaped w.finished w) h
 
-heard_refused : (note : Note) (r : Refusal) (w : World) (c : Class) (n s : ℕ) → IsHeard c n ((books w).accounts s) → IsHeard c n ((books (refused w note r)).accounts s)
-unfolding refused
+heard_refused : (note : Note) (r : Refusal) (w : World) (c : Class) (n s : ℕ) → IsHeard c n ((books w).accounts s) → IsHeard c n ((books (after_refusal w note r)).accounts s)
+unfolding after_refusal
 heard_refused (Asked (Pull d)) Idle w c n s h = heard_books c n s _ _ (books_after_pick w d) (heard_after c n s w d h)
 heard_refused _ _ w c n s h = h
 
 heard_count : (c : Class) (m n : ℕ) (o : Option Account) → m ≡ n → IsHeard c n o → IsHeard c m o
 heard_count c m n o e h = subst (λ (k : ℕ). IsHeard c k o) (sym e) h
 
-heard_answer : (r : Option Refusal) (w : World) (note : Note) (c : Class) (n s : ℕ) → refusal w note ≡ r → IsKept (books w) → IsHeard c n ((books w).accounts s) → IsHeard c (heard_by w s c note n) ((books (answer w note r).world).accounts s)
-unfolding answer
+heard_answer : (r : Option Refusal) (w : World) (note : Note) (c : Class) (n s : ℕ) → refusal w note ≡ r → IsKept (books w) → IsHeard c n ((books w).accounts s) → IsHeard c (receive_charges_by w s c note n) ((books (judged_outcome w note r).world).accounts s)
+unfolding judged_outcome
 heard_answer (Some r) w note c n s e k h = heard_count c _ n _ (counted_refused note r w s c n e) (heard_refused note r w c n s h)
-heard_answer None w note c n s e k h = heard_count c _ (counted s c note n) _ (counted_done note w s c n e) (heard_calm c (counted s c note n) s _ _ (calm_listed _ (done w note).world) (heard_done note w c n s (no_row (refusals w note) e) k h))
+heard_answer None w note c n s e k h = heard_count c _ (counted s c note n) _ (counted_done note w s c n e) (heard_calm c (counted s c note n) s _ _ (calm_listed _ (outcome_of w note).world) (heard_done note w c n s (no_row (refusals w note) e) k h))
 
-heard_step : (w : World) (note : Note) (c : Class) (n s : ℕ) → IsKept (books w) → IsHeard c n ((books w).accounts s) → IsHeard c (heard_by w s c note n) ((books (step w note).world).accounts s)
+heard_step : (w : World) (note : Note) (c : Class) (n s : ℕ) → IsKept (books w) → IsHeard c n ((books w).accounts s) → IsHeard c (receive_charges_by w s c note n) ((books (step w note).world).accounts s)
 unfolding step
 heard_step w note c n s k h = heard_answer (refusal w note) w note c n s refl k h
 
-heard_run : (h : List Entry) (w : World) (c : Class) (n s : ℕ) → IsKept (books w) → IsHeard c n ((books w).accounts s) → IsHeard c (heard_in w s c h n) ((books (world_after w h)).accounts s)
+heard_run : (h : List Entry) (w : World) (c : Class) (n s : ℕ) → IsKept (books w) → IsHeard c n ((books w).accounts s) → IsHeard c (receive_charges_in w s c h n) ((books (world_after w h)).accounts s)
 unfolding world_after
 heard_run [] w c n s k i = i
 heard_run (e ∷ es) w c n s k i = heard_run es _ c _ s (kept_step w e.1 k) (heard_step w e.1 c n s k i)
@@ -155,6 +155,6 @@ received_here w s c n live h = go (at None w.stations s) refl live h
 
 pub quiet : (config : Config) (h : List Entry) → IsInRange config → QuietLaw config h
 quiet config h range m s c live =
-    let i : IsSame (heard_in (opening config) s c (take m h) 0) (share (world_at config h m) s c).received =
+    let i : IsSame (receive_charges_in (opening config) s c (take m h) 0) (share (world_at config h m) s c).received =
     received_here (world_at config h m) s c _ live (heard_run (take m h) (opening config) c 0 s (kept_opening config range) tt) in
     (i.to, i.back)

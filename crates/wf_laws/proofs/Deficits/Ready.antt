@@ -10,13 +10,13 @@ use Rattle.wf_frame.specs.declared.notes.Note.TheVariants.{Enqueue, Asked}
 use Rattle.wf_frame.specs.declared.notes.Refusal.{Refusal}
 use Rattle.wf_frame.specs.declared.notes.Refusal.TheVariants.{Idle}
 use Rattle.wf_rules.specs.Table.{has}
-use Rattle.wf_rules.specs.Rotation.{Rotation, lists, in_order, add_new, without_key}
+use Rattle.wf_rules.specs.Rotation.{Rotation, has_key, in_order, with_new_key, without_key}
 use Rattle.wf_world.specs.World.{World, Exchange, rotation, exchange, with_rotation, opening}
 use Rattle.wf_frame.specs.Classes.{all_classes}
-use Rattle.wf_world.specs.CanSend.{is_ready, listed_in, listed_in_all, listed}
-use Rattle.wf_world.specs.Exchanges.{Prepared, station_need, picked_station, after_pick, after_turn, prepared, sending_tid}
+use Rattle.wf_world.specs.CanSend.{is_ready, with_listing_in, with_listings_in, with_listings_of}
+use Rattle.wf_world.specs.Exchanges.{Prepared, station_need, picked_station, after_pick, after_tid_turn, prepared_exchange, sending_tid}
 use Rattle.wf_world.specs.Refusals.{refusals, refusal}
-use Rattle.wf_world.specs.Step.{Outcome, ticked, pulled_by, pulled, on_open, done, concerned, refused, answer, step}
+use Rattle.wf_world.specs.Step.{Outcome, tick_outcome, pull_outcome_for, pull_outcome, outcome_where_open, outcome_of, concerned_station, after_refusal, judged_outcome, step}
 use Rattle.wf_world.specs.Run.{Entry, world_after}
 use Rattle.wf_frame.specs.Settings.{IsInRange}
 use Rattle.wf_rules.specs.Lists.{on}
@@ -50,20 +50,20 @@ keeps_after s w d = record {
       (λ is k. let same : on (in_order (picked_station w d).lists) y ≡ on (in_order (rotation w d)) y = pick_keeps (station_need w d) (is_ready w d) (rotation w d) y is in omega arith) c is k;
 }
 
-rotations_pulled_by : (o : Option ℕ) (v : World) (d : Class) → (books (pulled_by v d o).world).rotations ≡ (books v).rotations
-unfolding pulled_by
+rotations_pulled_by : (o : Option ℕ) (v : World) (d : Class) → (books (pull_outcome_for v d o).world).rotations ≡ (books v).rotations
+unfolding pull_outcome_for
 rotations_pulled_by None v d = refl
 rotations_pulled_by (Some s) v d =
     let t : ℕ = sending_tid v s d in
-    let p : Prepared = prepared (after_turn v s d t) s t in
-    let e : books p.world ≡ books v = books_prepared (after_turn v s d t) s t ∙ books_after_turn v s d t in
+    let p : Prepared = prepared_exchange (after_tid_turn v s d t) s t in
+    let e : books p.world ≡ books v = books_prepared (after_tid_turn v s d t) s t ∙ books_after_turn v s d t in
     ap (λ (b : Books). b.rotations) (books_sent s t d p) ∙ ap (λ (b : Books). b.rotations) e
 
 keeps_rotations : (s : ℕ) (w : World) (a b : Books) → a.rotations ≡ b.rotations → Keeps s w b → Keeps s w a
 keeps_rotations s w a b e k = record { keeps = λ y c other is l. subst (λ (f : Class → Rotation). 0 < on (in_order (f c)) y) (sym e) (k.keeps y c other is l) }
 
-keeps_pulled : (s : ℕ) (w : World) (d : Class) → Keeps s w (books (pulled w d).world)
-unfolding pulled
+keeps_pulled : (s : ℕ) (w : World) (d : Class) → Keeps s w (books (pull_outcome w d).world)
+unfolding pull_outcome
 keeps_pulled s w d = keeps_rotations s w _ (after (books w) d (picked_station w d)) (rotations_pulled_by (picked_station w d).winner (after_pick w d) d ∙ ap (λ (b : Books). b.rotations) (books_after_pick w d)) (keeps_after s w d)
 
 without-on : (r : Rotation) (s y : ℕ) → (y ≡ s → ⊥) → on (in_order (without_key r s)) y ≡ on (in_order r) y
@@ -83,13 +83,13 @@ keeps_off s w = record { keeps = λ y c other _ k. let same : on (in_order ((all
 keeps_named : (i s : ℕ) (w : World) (b : Books) → ((y : ℕ) → Some i ≡ Some y → y ≡ s) → Keeps i w b → Keeps s w b
 keeps_named i s w b h m = subst (λ (z : ℕ). Keeps z w b) (h i refl) m
 
-keeps_open : (o : Option Exchange) (w : World) (e s : ℕ) (f : Exchange → Outcome) → exchange w e ≡ o → ((x : Exchange) → IsFound w e x → (books (f x).world).rotations ≡ (books w).rotations) → Keeps s w (books (on_open w o f).world)
-unfolding on_open
+keeps_open : (o : Option Exchange) (w : World) (e s : ℕ) (f : Exchange → Outcome) → exchange w e ≡ o → ((x : Exchange) → IsFound w e x → (books (f x).world).rotations ≡ (books w).rotations) → Keeps s w (books (outcome_where_open w o f).world)
+unfolding outcome_where_open
 keeps_open None w e s f k h = keeps_same s w (books w) refl
 keeps_open (Some x) w e s f k h = keeps_same s w _ (h x k)
 
-keeps_done : (note : Note) (w : World) (s : ℕ) → IsKept (books w) → ((y : ℕ) → concerned w note ≡ Some y → y ≡ s) → Keeps s w (books (done w note).world)
-unfolding done ticked
+keeps_done : (note : Note) (w : World) (s : ℕ) → IsKept (books w) → ((y : ℕ) → concerned_station w note ≡ Some y → y ≡ s) → Keeps s w (books (outcome_of w note).world)
+unfolding outcome_of tick_outcome
 keeps_done (Enqueue i t flow len) w s k h = keeps_same s w _ (ap (λ (b : Books). b.rotations) (books_enqueued w i t flow len))
 keeps_done (Asked (Join i window start exponent weight)) w s k h = keeps_same s w _ (ap (λ (b : Books). b.rotations) (books_joined w i window start exponent weight))
 keeps_done (Asked (Leave i)) w s k h = keeps_named i s w _ h (keeps_books i w _ _ (books_gone w i) (keeps_off i w))
@@ -125,29 +125,29 @@ ready_with_rotation w d r y c = refl
 rotation_with : (w : World) (d : Class) (r : Rotation) (c : Class) → rotation (with_rotation w d r) c ≡ updc (books w).rotations d r c
 rotation_with w d r c = ap (λ (b : Books). b.rotations c) (books_with_rotation w d r)
 
-longer_if : (w : World) (s : ℕ) (d : Class) (b : Bool) → IsLonger w (if b then with_rotation w d (add_new (rotation w d) s) else w)
+longer_if : (w : World) (s : ℕ) (d : Class) (b : Bool) → IsLonger w (if b then with_rotation w d (with_new_key (rotation w d) s) else w)
 longer_if w s d false = longer_here w
 longer_if w s d true = record {
   ready = ready_with_rotation w d _;
-  more = λ y c. subst (λ (r : Rotation). on (in_order (rotation w c)) y ≤ on (in_order r) y) (sym (rotation_with w d (add_new (rotation w d) s) c))
-      (each_updc (λ c r. on (in_order (rotation w c)) y ≤ on (in_order r) y) (books w).rotations d (add_new (rotation w d) s) (λ c. omega arith) (omega (arith, added-on (rotation w d) s y)) c);
+  more = λ y c. subst (λ (r : Rotation). on (in_order (rotation w c)) y ≤ on (in_order r) y) (sym (rotation_with w d (with_new_key (rotation w d) s) c))
+      (each_updc (λ c r. on (in_order (rotation w c)) y ≤ on (in_order r) y) (books w).rotations d (with_new_key (rotation w d) s) (λ c. omega arith) (omega (arith, added-on (rotation w d) s y)) c);
 }
 
-longer_in : (w : World) (s : ℕ) (d : Class) → IsLonger w (listed_in w s d)
-unfolding listed_in
+longer_in : (w : World) (s : ℕ) (d : Class) → IsLonger w (with_listing_in w s d)
+unfolding with_listing_in
 longer_in w s d = longer_if w s d _
 
-longer_in_all : (cs : List Class) (w : World) (s : ℕ) → IsLonger w (listed_in_all w s cs)
-unfolding listed_in_all
+longer_in_all : (cs : List Class) (w : World) (s : ℕ) → IsLonger w (with_listings_in w s cs)
+unfolding with_listings_in
 longer_in_all [] w s = longer_here w
 longer_in_all (d ∷ cs) w s = longer_then _ _ _ (longer_in w s d) (longer_in_all cs _ s)
 
-longer_listed : (o : Option ℕ) (w : World) → IsLonger w (listed w o)
-unfolding listed
+longer_listed : (o : Option ℕ) (w : World) → IsLonger w (with_listings_of w o)
+unfolding with_listings_of
 longer_listed None w = longer_here w
 longer_listed (Some s) w = longer_in_all all_classes w s
 
-pub on-lists : (r : Rotation) (y : ℕ) → lists r y ≡ true → 0 < on (in_order r) y
+pub on-lists : (r : Rotation) (y : ℕ) → has_key r y ≡ true → 0 < on (in_order r) y
 on-lists r y h = go (has r.new y) (has r.old y) refl refl h
   where
     go : (a b : Bool) → has r.new y ≡ a → has r.old y ≡ b → a || b ≡ true → 0 < on (in_order r) y
@@ -155,15 +155,15 @@ on-lists r y h = go (has r.new y) (has r.old y) refl refl h
     go false true e f k = omega (arith, on-append r.old r.new y, has-on r.old y f)
     go false false e f k = absurd (cc k)
 
-gets_if : (w : World) (s : ℕ) (d : Class) (b : Bool) → (is_ready w d s && not (lists (rotation w d) s)) ≡ b → is_ready w d s ≡ true → 0 < on (in_order (rotation (if b then with_rotation w d (add_new (rotation w d) s) else w) d)) s
-gets_if w s d true e is = subst (λ (r : Rotation). 0 < on (in_order r) s) (sym (rotation_with w d (add_new (rotation w d) s) d ∙ updc_same (books w).rotations d (add_new (rotation w d) s)))
+gets_if : (w : World) (s : ℕ) (d : Class) (b : Bool) → (is_ready w d s && not (has_key (rotation w d) s)) ≡ b → is_ready w d s ≡ true → 0 < on (in_order (rotation (if b then with_rotation w d (with_new_key (rotation w d) s) else w) d)) s
+gets_if w s d true e is = subst (λ (r : Rotation). 0 < on (in_order r) s) (sym (rotation_with w d (with_new_key (rotation w d) s) d ∙ updc_same (books w).rotations d (with_new_key (rotation w d) s)))
     (omega (arith, added-on (rotation w d) s s, on-cons_same s []))
 gets_if w s d false e is =
-    let there : not (lists (rotation w d) s) ≡ false = rw is at e in
+    let there : not (has_key (rotation w d) s) ≡ false = rw is at e in
     on-lists (rotation w d) s (not-false _ there)
 
-gets_in : (w : World) (s : ℕ) (d : Class) → is_ready w d s ≡ true → 0 < on (in_order (rotation (listed_in w s d) d)) s
-unfolding listed_in
+gets_in : (w : World) (s : ℕ) (d : Class) → is_ready w d s ≡ true → 0 < on (in_order (rotation (with_listing_in w s d) d)) s
+unfolding with_listing_in
 gets_in w s d is = gets_if w s d _ refl is
 
 OneOf : Class → List Class → Type 0
@@ -177,27 +177,27 @@ one_of_all Be = inr (inl refl)
 one_of_all Vi = inr (inr (inl refl))
 one_of_all Vo = inr (inr (inr (inl refl)))
 
-gets_in_all : (cs : List Class) (w : World) (s : ℕ) (d : Class) → OneOf d cs → is_ready w d s ≡ true → 0 < on (in_order (rotation (listed_in_all w s cs) d)) s
-unfolding listed_in_all OneOf
+gets_in_all : (cs : List Class) (w : World) (s : ℕ) (d : Class) → OneOf d cs → is_ready w d s ≡ true → 0 < on (in_order (rotation (with_listings_in w s cs) d)) s
+unfolding with_listings_in OneOf
 gets_in_all [] w s d m is = absurd m
 gets_in_all (c ∷ cs) w s d (inl e) is =
-    let here : 0 < on (in_order (rotation (listed_in w s c) d)) s = subst (λ (z : Class). 0 < on (in_order (rotation (listed_in w s z) d)) s) (sym e) (gets_in w s d is) in
-    omega (arith, here, (longer_in_all cs (listed_in w s c) s).more s d)
-gets_in_all (c ∷ cs) w s d (inr m) is = gets_in_all cs (listed_in w s c) s d m ((longer_in w s c).ready s d ∙ is)
+    let here : 0 < on (in_order (rotation (with_listing_in w s c) d)) s = subst (λ (z : Class). 0 < on (in_order (rotation (with_listing_in w s z) d)) s) (sym e) (gets_in w s d is) in
+    omega (arith, here, (longer_in_all cs (with_listing_in w s c) s).more s d)
+gets_in_all (c ∷ cs) w s d (inr m) is = gets_in_all cs (with_listing_in w s c) s d m ((longer_in w s c).ready s d ∙ is)
 
-gets_listed : (s : ℕ) (w : World) (d : Class) → is_ready w d s ≡ true → 0 < on (in_order (rotation (listed w (Some s)) d)) s
-unfolding listed
+gets_listed : (s : ℕ) (w : World) (d : Class) → is_ready w d s ≡ true → 0 < on (in_order (rotation (with_listings_of w (Some s)) d)) s
+unfolding with_listings_of
 gets_listed s w d is = gets_in_all all_classes w s d (one_of_all d) is
 
 -- ---- the step
 
-mild_in_all : (cs : List Class) (s : ℕ) (w : World) (i : ℕ) → IsMild s w (listed_in_all w i cs)
-unfolding listed_in_all listed_in
+mild_in_all : (cs : List Class) (s : ℕ) (w : World) (i : ℕ) → IsMild s w (with_listings_in w i cs)
+unfolding with_listings_in with_listing_in
 mild_in_all [] s w i = mild_here s w
 mild_in_all (c ∷ cs) s w i = mild_then s w _ _ (mild_if _ s w _ _ (mild_with_rotation s w c _) (mild_here s w)) (mild_in_all cs s _ i)
 
-mild_listed : (o : Option ℕ) (s : ℕ) (w : World) → IsMild s w (listed w o)
-unfolding listed
+mild_listed : (o : Option ℕ) (s : ℕ) (w : World) → IsMild s w (with_listings_of w o)
+unfolding with_listings_of
 mild_listed None s w = mild_here s w
 mild_listed (Some i) s w = mild_in_all all_classes s w i
 
@@ -218,28 +218,28 @@ only_apart None y e = absurd (cc e)
 only_apart (Some i) y e = cc e
 
 -- a station that was not concerned is listed as before
-listed_other : (w : World) (note : Note) (s y : ℕ) (c : Class) → NoRow (refusals w note) → IsOrderly w → ((z : ℕ) → concerned w note ≡ Some z → z ≡ s) → (y ≡ s → ⊥) → is_ready (done w note).world c y ≡ true → 0 < on (in_order (rotation (done w note).world c)) y
+listed_other : (w : World) (note : Note) (s y : ℕ) (c : Class) → NoRow (refusals w note) → IsOrderly w → ((z : ℕ) → concerned_station w note ≡ Some z → z ≡ s) → (y ≡ s → ⊥) → is_ready (outcome_of w note).world c y ≡ true → 0 < on (in_order (rotation (outcome_of w note).world c)) y
 listed_other w note s y c r i h other is =
-    let was : is_ready w c y ≡ true = ready_less s w (done w note).world (mild_done note w s r i.kept i.owning h) y c other is in
+    let was : is_ready w c y ≡ true = ready_less s w (outcome_of w note).world (mild_done note w s r i.kept i.owning h) y c other is in
     (keeps_done note w s i.kept h).keeps y c other was (i.listed.all y c was)
 
 own_differs : (y : ℕ) → y ≡ suc y → ⊥
 own_differs y e = omega arith
 
-listed_after : (o : Option ℕ) (w : World) (note : Note) → concerned w note ≡ o → NoRow (refusals w note) → IsOrderly w → IsListed (listed (done w note).world o)
+listed_after : (o : Option ℕ) (w : World) (note : Note) → concerned_station w note ≡ o → NoRow (refusals w note) → IsOrderly w → IsListed (with_listings_of (outcome_of w note).world o)
 listed_after None w note e r i = record {
   all = λ y c is.
-      let l : IsLonger (done w note).world (listed (done w note).world None) = longer_listed None (done w note).world in
-      let there : 0 < on (in_order (rotation (done w note).world c)) y = listed_other w note (suc y) y c r i (λ z k. absurd (cc (e, k))) (own_differs y) (sym (l.ready y c) ∙ is) in
+      let l : IsLonger (outcome_of w note).world (with_listings_of (outcome_of w note).world None) = longer_listed None (outcome_of w note).world in
+      let there : 0 < on (in_order (rotation (outcome_of w note).world c)) y = listed_other w note (suc y) y c r i (λ z k. absurd (cc (e, k))) (own_differs y) (sym (l.ready y c) ∙ is) in
       omega (arith, l.more y c, there);
 }
 listed_after (Some s) w note e r i = record {
   all = λ y c is. elim (cases_eq y s) [
-    | inl same ↦ subst (λ (z : ℕ). 0 < on (in_order (rotation (listed (done w note).world (Some s)) c)) z) (sym same)
-        (gets_listed s (done w note).world c (sym ((longer_listed (Some s) (done w note).world).ready s c) ∙ subst (λ (z : ℕ). is_ready (listed (done w note).world (Some s)) c z ≡ true) same is))
+    | inl same ↦ subst (λ (z : ℕ). 0 < on (in_order (rotation (with_listings_of (outcome_of w note).world (Some s)) c)) z) (sym same)
+        (gets_listed s (outcome_of w note).world c (sym ((longer_listed (Some s) (outcome_of w note).world).ready s c) ∙ subst (λ (z : ℕ). is_ready (with_listings_of (outcome_of w note).world (Some s)) c z ≡ true) same is))
     | inr other ↦
-        let l : IsLonger (done w note).world (listed (done w note).world (Some s)) = longer_listed (Some s) (done w note).world in
-        let there : 0 < on (in_order (rotation (done w note).world c)) y = listed_other w note s y c r i (λ z k. cc (e, k)) other (sym (l.ready y c) ∙ is) in
+        let l : IsLonger (outcome_of w note).world (with_listings_of (outcome_of w note).world (Some s)) = longer_listed (Some s) (outcome_of w note).world in
+        let there : 0 < on (in_order (rotation (outcome_of w note).world c)) y = listed_other w note s y c r i (λ z k. cc (e, k)) other (sym (l.ready y c) ∙ is) in
         omega (arith, l.more y c, there)
   ];
 }
@@ -251,27 +251,27 @@ listed_idle w d i = record {
       subst (λ (b : Books). 0 < on (in_order (b.rotations c)) y) (sym (books_after_pick w d)) ((keeps_after (suc y) w d).keeps y c (own_differs y) was (i.all y c was));
 }
 
-listed_refused : (note : Note) (r : Refusal) (w : World) → IsListed w → IsListed (refused w note r)
-unfolding refused
+listed_refused : (note : Note) (r : Refusal) (w : World) → IsListed w → IsListed (after_refusal w note r)
+unfolding after_refusal
 listed_refused (Asked (Pull c)) Idle w i = listed_idle w c i
 listed_refused _ _ w i = i
 
-owning_refused : (note : Note) (r : Refusal) (w : World) → IsOwning w → IsOwning (refused w note r)
-unfolding refused
+owning_refused : (note : Note) (r : Refusal) (w : World) → IsOwning w → IsOwning (after_refusal w note r)
+unfolding after_refusal
 owning_refused (Asked (Pull c)) Idle w i = owning_mild 0 w _ (mild_after_pick 0 w c) i
 owning_refused _ _ w i = i
 
-listed_answer : (r : Option Refusal) (w : World) (note : Note) → refusal w note ≡ r → IsOrderly w → IsListed (answer w note r).world
-unfolding answer
+listed_answer : (r : Option Refusal) (w : World) (note : Note) → refusal w note ≡ r → IsOrderly w → IsListed (judged_outcome w note r).world
+unfolding judged_outcome
 listed_answer (Some r) w note e i = listed_refused note r w i.listed
-listed_answer None w note e i = listed_after (concerned w note) w note refl (no_row (refusals w note) e) i
+listed_answer None w note e i = listed_after (concerned_station w note) w note refl (no_row (refusals w note) e) i
 
-owning_answer : (r : Option Refusal) (w : World) (note : Note) → refusal w note ≡ r → IsOrderly w → IsOwning (answer w note r).world
-unfolding answer
+owning_answer : (r : Option Refusal) (w : World) (note : Note) → refusal w note ≡ r → IsOrderly w → IsOwning (judged_outcome w note r).world
+unfolding judged_outcome
 owning_answer (Some r) w note e i = owning_refused note r w i.owning
 owning_answer None w note e i =
-    let s : ℕ = apart_from (concerned w note) in
-    owning_mild s w _ (mild_then s w _ _ (mild_done note w s (no_row (refusals w note) e) i.kept i.owning (only_apart (concerned w note))) (mild_listed (concerned w note) s (done w note).world)) i.owning
+    let s : ℕ = apart_from (concerned_station w note) in
+    owning_mild s w _ (mild_then s w _ _ (mild_done note w s (no_row (refusals w note) e) i.kept i.owning (only_apart (concerned_station w note))) (mild_listed (concerned_station w note) s (outcome_of w note).world)) i.owning
 
 pub orderly_step : (w : World) (note : Note) → IsOrderly w → IsOrderly (step w note).world
 unfolding step

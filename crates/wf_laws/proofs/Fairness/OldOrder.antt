@@ -9,13 +9,13 @@ use Rattle.wf_frame.specs.declared.notes.Note.TheVariants.{Enqueue, Asked}
 use Rattle.wf_frame.specs.declared.notes.Refusal.{Refusal}
 use Rattle.wf_frame.specs.declared.notes.Refusal.TheVariants.{Idle}
 use Rattle.wf_rules.specs.Table.{at}
-use Rattle.wf_rules.specs.Rotation.{Rotation, add_new, in_order, Picked}
+use Rattle.wf_rules.specs.Rotation.{Rotation, with_new_key, in_order, Picked}
 use Rattle.wf_world.specs.World.{World, Share, Exchange, no_station, rotation, is_live, exchange, with_rotation}
 use Rattle.wf_frame.specs.Classes.{class_number, same_class, all_classes}
-use Rattle.wf_world.specs.CanSend.{is_ready, listed_in, listed_in_all, listed}
-use Rattle.wf_world.specs.Exchanges.{Prepared, station_need, picked_station, after_pick, after_turn, prepared, exchange_of, sending_tid}
+use Rattle.wf_world.specs.CanSend.{is_ready, with_listing_in, with_listings_in, with_listings_of}
+use Rattle.wf_world.specs.Exchanges.{Prepared, station_need, picked_station, after_pick, after_tid_turn, prepared_exchange, exchange_of, sending_tid}
 use Rattle.wf_world.specs.Refusals.{refusals, refusal}
-use Rattle.wf_world.specs.Step.{Outcome, joined, ticked, with_rate, pulled_by, pulled, ended, on_open, received, done, refused, answer, step}
+use Rattle.wf_world.specs.Step.{Outcome, join_outcome, tick_outcome, rate_outcome, pull_outcome_for, pull_outcome, done_outcome, outcome_where_open, rx_outcome, outcome_of, after_refusal, judged_outcome, step}
 use Rattle.wf_world.specs.Stretches.{charge_to, charge_by}
 use Rattle.wf_rules.specs.Lists.{on}
 use Rattle.wf_rule_laws.proofs.Lemmas.Counts.{ahead, on-append, ahead-filter, on-filter_out}
@@ -120,24 +120,24 @@ calm_here b = record { accounts = refl; old = λ c. refl }
 calm_then : (a b c : Books) → IsCalm a b → IsCalm b c → IsCalm a c
 calm_then a b c h k = record { accounts = k.accounts ∙ h.accounts; old = λ d. k.old d ∙ h.old d }
 
-calm_listed_if : (w : World) (s : ℕ) (c : Class) (b : Bool) → IsCalm (books w) (books (if b then with_rotation w c (add_new (rotation w c) s) else w))
+calm_listed_if : (w : World) (s : ℕ) (c : Class) (b : Bool) → IsCalm (books w) (books (if b then with_rotation w c (with_new_key (rotation w c) s) else w))
 calm_listed_if w s c false = calm_here (books w)
 calm_listed_if w s c true = subst (IsCalm (books w)) (sym (books_with_rotation w c _)) (record {
   accounts = refl;
-  old = each_updc (λ d r. r.old ≡ ((books w).rotations d).old) (books w).rotations c (add_new (rotation w c) s) (λ d. refl) refl;
+  old = each_updc (λ d r. r.old ≡ ((books w).rotations d).old) (books w).rotations c (with_new_key (rotation w c) s) (λ d. refl) refl;
 })
 
-calm_listed_in : (w : World) (s : ℕ) (c : Class) → IsCalm (books w) (books (listed_in w s c))
-unfolding listed_in
+calm_listed_in : (w : World) (s : ℕ) (c : Class) → IsCalm (books w) (books (with_listing_in w s c))
+unfolding with_listing_in
 calm_listed_in w s c = calm_listed_if w s c _
 
-calm_listed_in_all : (cs : List Class) (w : World) (s : ℕ) → IsCalm (books w) (books (listed_in_all w s cs))
-unfolding listed_in_all
+calm_listed_in_all : (cs : List Class) (w : World) (s : ℕ) → IsCalm (books w) (books (with_listings_in w s cs))
+unfolding with_listings_in
 calm_listed_in_all [] w s = calm_here (books w)
 calm_listed_in_all (c ∷ cs) w s = calm_then _ _ _ (calm_listed_in w s c) (calm_listed_in_all cs _ s)
 
-pub calm_listed : (o : Option ℕ) (w : World) → IsCalm (books w) (books (listed w o))
-unfolding listed
+pub calm_listed : (o : Option ℕ) (w : World) → IsCalm (books w) (books (with_listings_of w o))
+unfolding with_listings_of
 calm_listed None w = calm_here (books w)
 calm_listed (Some s) w = calm_listed_in_all all_classes w s
 
@@ -199,26 +199,26 @@ turn_after w d c i j k h h' = elim (cases_class d c) [
 calm_opened : (b : Books) (x : Exchange) → IsCalm b (with_opened b x)
 calm_opened b x = record { accounts = refl; old = λ c. refl }
 
-calm_pulled_by : (o : Option ℕ) (v : World) (d : Class) → IsCalm (books v) (books (pulled_by v d o).world)
-unfolding pulled_by
+calm_pulled_by : (o : Option ℕ) (v : World) (d : Class) → IsCalm (books v) (books (pull_outcome_for v d o).world)
+unfolding pull_outcome_for
 calm_pulled_by None v d = calm_here (books v)
 calm_pulled_by (Some s) v d =
     let t : ℕ = sending_tid v s d in
-    let p : Prepared = prepared (after_turn v s d t) s t in
-    let e : books p.world ≡ books v = books_prepared (after_turn v s d t) s t ∙ books_after_turn v s d t in
+    let p : Prepared = prepared_exchange (after_tid_turn v s d t) s t in
+    let e : books p.world ≡ books v = books_prepared (after_tid_turn v s d t) s t ∙ books_after_turn v s d t in
     subst (IsCalm (books v)) (sym (books_sent s t d p)) (subst (λ (b : Books). IsCalm b (with_opened (books p.world) (exchange_of s t d p))) e (calm_opened (books p.world) (exchange_of s t d p)))
 
-pub calm_pulled : (w : World) (d : Class) → IsCalm (after (books w) d (picked_station w d)) (books (pulled w d).world)
-unfolding pulled
-calm_pulled w d = subst (λ (b : Books). IsCalm b (books (pulled_by (after_pick w d) d (picked_station w d).winner).world)) (books_after_pick w d) (calm_pulled_by (picked_station w d).winner (after_pick w d) d)
+pub calm_pulled : (w : World) (d : Class) → IsCalm (after (books w) d (picked_station w d)) (books (pull_outcome w d).world)
+unfolding pull_outcome
+calm_pulled w d = subst (λ (b : Books). IsCalm b (books (pull_outcome_for (after_pick w d) d (picked_station w d).winner).world)) (books_after_pick w d) (calm_pulled_by (picked_station w d).winner (after_pick w d) d)
 
-turn_pulled : (w : World) (d c : Class) (i j : ℕ) → IsKept (books w) → Both c i j (books w) → Both c i j (books (pulled w d).world) → IsTurn c i j 0 0 (books w) (books (pulled w d).world)
+turn_pulled : (w : World) (d c : Class) (i j : ℕ) → IsKept (books w) → Both c i j (books w) → Both c i j (books (pull_outcome w d).world) → IsTurn c i j 0 0 (books w) (books (pull_outcome w d).world)
 turn_pulled w d c i j k h h' =
     turn_calm c i j 0 0 (books w) _ _ (calm_pulled w d) (turn_after w d c i j k h (both_calm c i j _ _ (calm_pulled w d) h'))
 
 -- ---- a join and a leave
 
-turn_joined : (w : World) (s window start exponent weight : ℕ) (c : Class) (i j : ℕ) → is_live w s ≡ false → IsKept (books w) → Both c i j (books w) → IsTurn c i j 0 0 (books w) (books (joined w s window start exponent weight).world)
+turn_joined : (w : World) (s window start exponent weight : ℕ) (c : Class) (i j : ℕ) → is_live w s ≡ false → IsKept (books w) → Both c i j (books w) → IsTurn c i j 0 0 (books w) (books (join_outcome w s window start exponent weight).world)
 turn_joined w s window start exponent weight c i j dead k h =
     subst (IsTurn c i j 0 0 (books w)) (sym (books_joined w s window start exponent weight))
     (turn_other c i j s (books w) (Some (fresh_account w.config.quantum weight)) (λ e. away i h.first e) (λ e. away j h.second e))
@@ -277,11 +277,11 @@ grown_receive c d n a = record {
 quanta_receive : (c d : Class) (n : ℕ) (a : Account) → ((on_part d (receive_share n) a).shares c).quanta ≡ (a.shares c).quanta
 quanta_receive c d n a = each_updc (λ e x. x.quanta ≡ (a.shares e).quanta) a.shares d (receive_share n (a.shares d)) (λ e. refl) refl c
 
-turn_received : (w : World) (s : ℕ) (d : Class) (air : ℕ) (c : Class) (i j : ℕ) → IsTurn c i j 0 0 (books w) (books (received w s d air).world)
+turn_received : (w : World) (s : ℕ) (d : Class) (air : ℕ) (c : Class) (i j : ℕ) → IsTurn c i j 0 0 (books w) (books (rx_outcome w s d air).world)
 turn_received w s d air c i j = subst (IsTurn c i j 0 0 (books w)) (sym (books_received w s d air))
     (turn_on c i j s (books w) (on_part d (receive_share air)) (λ _. 0) (λ y _. refl) (λ _. refl) (grown_receive c d air) (quanta_receive c d air))
 
-turn_rated : (w : World) (s mcs mhz : ℕ) (short : Bool) (c : Class) (i j : ℕ) → IsTurn c i j 0 0 (books w) (books (with_rate w s mcs mhz short).world)
+turn_rated : (w : World) (s mcs mhz : ℕ) (short : Bool) (c : Class) (i j : ℕ) → IsTurn c i j 0 0 (books w) (books (rate_outcome w s mcs mhz short).world)
 turn_rated w s mcs mhz short c i j = subst (IsTurn c i j 0 0 (books w)) (sym (books_with_rate w s mcs mhz short))
     (turn_on c i j s (books w) (rated mcs mhz short) (λ _. 0) (λ y _. refl) (λ _. refl) (λ a. record { weight = refl; quanta = omega arith; charged = omega arith; received = omega arith }) (λ a. refl))
 
@@ -291,7 +291,7 @@ charge_here x c = rw (eq-eqb x.station x.station refl) refl
 charge_elsewhere : (x : Exchange) (c : Class) (y : ℕ) → (y ≡ x.station → ⊥) → charge_to y c (Some x) ≡ 0
 charge_elsewhere x c y other = rw (ne_eqb x.station y (λ e. other (sym e))) refl
 
-turn_ended : (w : World) (e : ℕ) (x : Exchange) (heard : Bool) (c : Class) (i j : ℕ) → IsKept (books w) → IsFound w e x → IsTurn c i j (charge_to i c (Some x)) (charge_to j c (Some x)) (books w) (books (ended w x heard).world)
+turn_ended : (w : World) (e : ℕ) (x : Exchange) (heard : Bool) (c : Class) (i j : ℕ) → IsKept (books w) → IsFound w e x → IsTurn c i j (charge_to i c (Some x)) (charge_to j c (Some x)) (books w) (books (done_outcome w x heard).world)
 turn_ended w e x heard c i j k found =
     let live : is_some ((books w).accounts x.station) ≡ true = (every_find (IsOpen (books w)) (λ z. z.number == x.number) (map core w.opened) (core x) k.opens (at_number w e x found)).1.live in
     let t : IsTurn c i j (charge_to i c (Some x)) (charge_to j c (Some x)) (books w) (with_charge (books w) x.station x.class x.charge) =
@@ -318,13 +318,13 @@ owing_refused (Asked (Done e heard)) r w s c h = ap (λ (o : Option Refusal). if
 owing_refused _ r w s c h = refl
 
 turn_open : (w : World) (e : ℕ) (o : Option Exchange) (f : Exchange → Outcome) (c : Class) (i j : ℕ) (m : ℕ → Option Exchange → ℕ) → ((y : ℕ) → m y None ≡ 0) → exchange w e ≡ o
-    → ((x : Exchange) → IsFound w e x → IsTurn c i j (m i (Some x)) (m j (Some x)) (books w) (books (f x).world)) → IsTurn c i j (m i o) (m j o) (books w) (books (on_open w o f).world)
-unfolding on_open
+    → ((x : Exchange) → IsFound w e x → IsTurn c i j (m i (Some x)) (m j (Some x)) (books w) (books (f x).world)) → IsTurn c i j (m i o) (m j o) (books w) (books (outcome_where_open w o f).world)
+unfolding outcome_where_open
 turn_open w e None f c i j m none k h = subst (λ (n : ℕ). IsTurn c i j n (m j None) (books w) (books w)) (sym (none i)) (subst (λ (n : ℕ). IsTurn c i j 0 n (books w) (books w)) (sym (none j)) (turn_here c i j (books w)))
 turn_open w e (Some x) f c i j m none k h = h x k
 
-turn_done : (note : Note) (w : World) (c : Class) (i j : ℕ) → NoRow (refusals w note) → IsKept (books w) → Both c i j (books w) → Both c i j (books (done w note).world) → IsTurn c i j (owing w i c note) (owing w j c note) (books w) (books (done w note).world)
-unfolding done ticked
+turn_done : (note : Note) (w : World) (c : Class) (i j : ℕ) → NoRow (refusals w note) → IsKept (books w) → Both c i j (books w) → Both c i j (books (outcome_of w note).world) → IsTurn c i j (owing w i c note) (owing w j c note) (books w) (books (outcome_of w note).world)
+unfolding outcome_of tick_outcome
 turn_done (Enqueue s t flow len) w c i j r k h h' = turn_same c i j _ _ (books_enqueued w s t flow len)
 turn_done (Asked (Join s window start exponent weight)) w c i j r k h h' = turn_joined w s window start exponent weight c i j r.1.1.1.1.1.0 k h
 turn_done (Asked (Leave s)) w c i j r k h h' = subst (λ (b : Books). Both c i j b → IsTurn c i j 0 0 (books w) b) (sym (books_gone w s)) (turn_off (books w) s c i j) h'
@@ -340,20 +340,20 @@ turn_done (Asked (Poll s)) w c i j r k h h' = turn_same c i j _ _ (books_credite
 turn_done (Asked (Rx s d air)) w c i j r k h h' = turn_received w s d air c i j
 turn_done (Asked Reap) w c i j r k h h' = turn_same c i j _ _ (books_reaped w.finished w)
 
-turn_refused : (note : Note) (r : Refusal) (w : World) (c : Class) (i j : ℕ) → IsKept (books w) → Both c i j (books w) → Both c i j (books (refused w note r)) → IsTurn c i j 0 0 (books w) (books (refused w note r))
-unfolding refused
+turn_refused : (note : Note) (r : Refusal) (w : World) (c : Class) (i j : ℕ) → IsKept (books w) → Both c i j (books w) → Both c i j (books (after_refusal w note r)) → IsTurn c i j 0 0 (books w) (books (after_refusal w note r))
+unfolding after_refusal
 turn_refused (Asked (Pull d)) Idle w c i j k h h' = subst (λ (b : Books). Both c i j b → IsTurn c i j 0 0 (books w) b) (sym (books_after_pick w d)) (turn_after w d c i j k h) h'
 turn_refused _ _ w c i j k h h' = turn_here c i j (books w)
 
 turn_charges : (c : Class) (i j m n m' n' : ℕ) (b b' : Books) → m' ≡ m → n' ≡ n → IsTurn c i j m n b b' → IsTurn c i j m' n' b b'
 turn_charges c i j m n m' n' b b' e f t = subst (λ (k : ℕ). IsTurn c i j k n' b b') (sym e) (subst (λ (k : ℕ). IsTurn c i j m k b b') (sym f) t)
 
-turn_answer : (r : Option Refusal) (w : World) (note : Note) (c : Class) (i j : ℕ) → refusal w note ≡ r → IsKept (books w) → Both c i j (books w) → Both c i j (books (answer w note r).world) → IsTurn c i j (charge_by w i c note) (charge_by w j c note) (books w) (books (answer w note r).world)
-unfolding answer
+turn_answer : (r : Option Refusal) (w : World) (note : Note) (c : Class) (i j : ℕ) → refusal w note ≡ r → IsKept (books w) → Both c i j (books w) → Both c i j (books (judged_outcome w note r).world) → IsTurn c i j (charge_by w i c note) (charge_by w j c note) (books w) (books (judged_outcome w note r).world)
+unfolding judged_outcome
 turn_answer (Some r) w note c i j e k h h' = turn_charges c i j 0 0 _ _ _ _ (owing_refused note r w i c e) (owing_refused note r w j c e) (turn_refused note r w c i j k h h')
 turn_answer None w note c i j e k h h' =
     turn_charges c i j (owing w i c note) (owing w j c note) _ _ _ _ (owing_done note w i c e) (owing_done note w j c e)
-    (turn_calm c i j _ _ (books w) _ _ (calm_listed _ (done w note).world) (turn_done note w c i j (no_row (refusals w note) e) k h (both_calm c i j _ _ (calm_listed _ (done w note).world) h')))
+    (turn_calm c i j _ _ (books w) _ _ (calm_listed _ (outcome_of w note).world) (turn_done note w c i j (no_row (refusals w note) e) k h (both_calm c i j _ _ (calm_listed _ (outcome_of w note).world) h')))
 
 pub turn_step : (w : World) (note : Note) (c : Class) (i j : ℕ) → IsKept (books w) → Both c i j (books w) → Both c i j (books (step w note).world) → IsTurn c i j (charge_by w i c note) (charge_by w j c note) (books w) (books (step w note).world)
 unfolding step

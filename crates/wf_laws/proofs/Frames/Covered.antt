@@ -3,12 +3,12 @@ use Rattle.std.proofs.Common.{pos, ◌-ℤ◌, ◌≡◌, ◌≢◌, refl, ap, s
 use Rattle.wf_frame.specs.declared.classes.Cause.{Cause}
 use Rattle.wf_frame.specs.declared.classes.Class.{Class}
 use Rattle.wf_rules.specs.Rotation.{Rotation, in_order}
-use Rattle.wf_rules.specs.Session.{request_due, Session, Slot, State, slot, on_slot, is_settled, next_number, give}
-use Rattle.wf_world.specs.World.{Mpdu, Exchange, tid_of, is_live, rotation, params, with_queues, on_share, with_rotation, on_tid, on_station, with_station, World, Queue, Frame, no_frame, new_queue, queue, session, frame, accepted, on_queue, on_session, with_fate, finish, finish_all}
-use Rattle.wf_world.specs.FlowQueues.{len_given, pay_queues, dequeued, taken_from, picked_queue, take}
+use Rattle.wf_rules.specs.Session.{request_due, Session, Slot, State, slot, on_slot, is_settled, next_number, with_number_given}
+use Rattle.wf_world.specs.World.{Mpdu, Exchange, tid_of, is_live, rotation, codel_params, with_queues, on_share, with_rotation, on_tid, on_station, with_station, World, Queue, Frame, no_frame, new_queue, queue, session, frame, accepted_count, on_queue, on_session, with_fate, with_frame_finished, with_frames_finished}
+use Rattle.wf_world.specs.FlowQueues.{len_given, with_queues_paid, taken_by_codel, taken_from_picked, picked_queue, taken_for_tid}
 use Rattle.wf_world.specs.CanSend.{is_ready}
-use Rattle.wf_world.specs.Exchanges.{Aggregate, Prepared, with_number, with_fresh, filled, longest_fitting, waiting_mpdus, most_frames, numbers_fly, prepared_frames, prepared, sending_tid, after_turn, after_pick, pay_stations, pay_station, picked_station, station_need, opening_exchange, spent, exchange_of}
-use Rattle.wf_world.specs.Step.{sent, pulled_by, pulled}
+use Rattle.wf_world.specs.Exchanges.{Aggregate, Prepared, with_number, with_fresh, aggregate_of, longest_fitting, waiting_mpdus, most_frames, with_flying, prepared_data, prepared_exchange, sending_tid, after_tid_turn, after_pick, with_stations_paid, with_station_paid, picked_station, station_need, with_exchange_opened, without_credit, exchange_of}
+use Rattle.wf_world.specs.Step.{send_outcome, pull_outcome_for, pull_outcome}
 use Rattle.wf_laws.proofs.Sessions.Flights.{Rises, next-give}
 use Rattle.wf_laws.proofs.Windows.Agreement.{slot_give, slot_new, slot_same, slot_other}
 use Rattle.wf_laws.proofs.Windows.Sides.{Same, then_same, same_take, same_pay_queues, same_with_queues, same_spent, same_after_turn, same_after_pick, same_finish_all, each_side_on}
@@ -34,7 +34,7 @@ use Rattle.wf_rule_laws.proofs.Lemmas.Sums.{length_put}
 
 -- each held frame is one that P names
 pub record Covers (P : ℕ → Type 0) (w : World) : Type 0 where
-  pub covers : (k : ℕ) → k < accepted w → IsHeld w k → P k
+  pub covers : (k : ℕ) → k < accepted_count w → IsHeld w k → P k
 
 abbrev pub Full : World → Type 0
 Full w = Covers (InHand w) w
@@ -45,12 +45,12 @@ covers_frames P w v e c = record { covers = λ k l h. c.covers k (subst (λ (fs 
 pub covers_more : (P Q : ℕ → Type 0) (w : World) → ((k : ℕ) → P k → Q k) → Covers P w → Covers Q w
 covers_more P Q w f c = record { covers = λ k l h. f k (c.covers k l h) }
 
-pub accepted_finish : (w : World) (fate : Fate) (id : ℕ) → id < accepted w → accepted (finish w fate id) ≡ accepted w
-unfolding finish with_fate
+pub accepted_finish : (w : World) (fate : Fate) (id : ℕ) → id < accepted_count w → accepted_count (with_frame_finished w fate id) ≡ accepted_count w
+unfolding with_frame_finished with_fate
 accepted_finish w fate id l = length_put no_frame w.frames id _ l
 
-pub covers_finish : (P Q : ℕ → Type 0) (w : World) (fate : Fate) (id : ℕ) → (fate ≡ Held → ⊥) → id < accepted w → Covers P w → ((k : ℕ) → k ≢ id → P k → Q k) → Covers Q (finish w fate id)
-unfolding finish with_fate
+pub covers_finish : (P Q : ℕ → Type 0) (w : World) (fate : Fate) (id : ℕ) → (fate ≡ Held → ⊥) → id < accepted_count w → Covers P w → ((k : ℕ) → k ≢ id → P k → Q k) → Covers Q (with_frame_finished w fate id)
+unfolding with_frame_finished with_fate
 covers_finish P Q w fate id never l c f = record {
   covers = λ k below h. elim (cases_eq id k) [
     | inl e ↦ absurd (never (sym (ap (λ (x : Frame). x.fate) (at_put_same no_frame w.frames id (record (frame w id) { fate = fate }))) ∙ ap (λ (j : ℕ). (at no_frame (put no_frame w.frames id (record (frame w id) { fate = fate })) j).fate) e ∙ h))
@@ -58,12 +58,12 @@ covers_finish P Q w fate id never l c f = record {
   ];
 }
 
-pub covers_all : (ids : List ℕ) (P Q : ℕ → Type 0) (w : World) (fate : Fate) → (fate ≡ Held → ⊥) → ((k : ℕ) → has ids k ≡ true → k < accepted w) → Covers P w → ((k : ℕ) → has ids k ≡ false → P k → Q k) → Covers Q (finish_all w fate ids)
-unfolding finish_all
+pub covers_all : (ids : List ℕ) (P Q : ℕ → Type 0) (w : World) (fate : Fate) → (fate ≡ Held → ⊥) → ((k : ℕ) → has ids k ≡ true → k < accepted_count w) → Covers P w → ((k : ℕ) → has ids k ≡ false → P k → Q k) → Covers Q (with_frames_finished w fate ids)
+unfolding with_frames_finished
 covers_all [] P Q w fate never old c f = covers_more P Q w (λ k p. f k refl p) c
 covers_all (x ∷ xs) P Q w fate never old c f =
-    let l : x < accepted w = old x (or_left (x == x) (has xs x) (yes_eq x x refl)) in
-    covers_all xs (λ k. P k × (k ≢ x)) Q (finish w fate x) fate never (λ k e. omega (arith, accepted_finish w fate x l, old k (or_right (x == k) (has xs k) e)))
+    let l : x < accepted_count w = old x (or_left (x == x) (has xs x) (yes_eq x x refl)) in
+    covers_all xs (λ k. P k × (k ≢ x)) Q (with_frame_finished w fate x) fate never (λ k e. omega (arith, accepted_finish w fate x l, old k (or_right (x == k) (has xs k) e)))
     (covers_finish P (λ k. P k × (k ≢ x)) w fate x never l c (λ k other p. (p, other)))
     (λ k none p. f k (ap (λ (b : Bool). b || has xs k) (not_eq x k (λ e. p.1 (sym e))) ∙ none) p.0)
 
@@ -149,16 +149,16 @@ kept_or xs p now c = each_dequeue IsKeptOr
 same_queues : (w v : World) → v.queues ≡ w.queues → (q k : ℕ) → carries (queue w q).items k ≡ true → carries (queue v q).items k ≡ true
 same_queues w v e q k h = ap (λ (qs : List Queue). carries (at new_queue qs q).items k) e ∙ h
 
-queues_spent : (w : World) (s q k : ℕ) → carries (queue w q).items k ≡ true → carries (queue (spent w s) q).items k ≡ true
-unfolding spent on_station with_station
+queues_spent : (w : World) (s q k : ℕ) → carries (queue w q).items k ≡ true → carries (queue (without_credit w s) q).items k ≡ true
+unfolding without_credit on_station with_station
 queues_spent w s q k h = h
 
-queues_after_turn : (w : World) (s : ℕ) (c : Class) (t q k : ℕ) → carries (queue w q).items k ≡ true → carries (queue (after_turn w s c t) q).items k ≡ true
-unfolding after_turn on_share on_station with_station
+queues_after_turn : (w : World) (s : ℕ) (c : Class) (t q k : ℕ) → carries (queue w q).items k ≡ true → carries (queue (after_tid_turn w s c t) q).items k ≡ true
+unfolding after_tid_turn on_share on_station with_station
 queues_after_turn w s c t q k h = h
 
-pub queues_pay_stations : (ss : List ℕ) (w : World) (c : Class) (quanta : ℕ → ℕ) → (pay_stations w c quanta ss).queues ≡ w.queues
-unfolding pay_stations pay_station on_share on_station with_station
+pub queues_pay_stations : (ss : List ℕ) (w : World) (c : Class) (quanta : ℕ → ℕ) → (with_stations_paid w c quanta ss).queues ≡ w.queues
+unfolding with_stations_paid with_station_paid on_share on_station with_station
 queues_pay_stations [] w c quanta = refl
 queues_pay_stations (s ∷ ss) w c quanta = queues_pay_stations ss _ c quanta
 
@@ -166,7 +166,7 @@ queues_after_pick : (w : World) (c : Class) (q k : ℕ) → carries (queue w q).
 unfolding after_pick with_rotation
 queues_after_pick w c q k h = ap (λ (qs : List Queue). carries (at new_queue qs q).items k) (queues_pay_stations (in_order (rotation w c)) w c _) ∙ h
 
-paid_items : (w : World) (s t : ℕ) (quanta : ℕ → ℕ) (r : Rotation) (ks : List ℕ) (q k : ℕ) → carries (queue w q).items k ≡ true → carries (queue (with_queues (pay_queues w quanta ks) s t r) q).items k ≡ true
+paid_items : (w : World) (s t : ℕ) (quanta : ℕ → ℕ) (r : Rotation) (ks : List ℕ) (q k : ℕ) → carries (queue w q).items k ≡ true → carries (queue (with_queues (with_queues_paid w quanta ks) s t r) q).items k ≡ true
 unfolding with_queues on_tid on_station with_station
 paid_items w s t quanta r ks q k h = ap (λ (b : Shelves). carries (b.queues q).items k) (shelves_pay_queues ks w quanta) ∙ h
 
@@ -178,19 +178,19 @@ never_dropped c e = cc e
 item_ids : (xs : List Item) (k : ℕ) → has (map (λ x. x.id) xs) k ≡ carries xs k
 item_ids xs k = ids_carried xs k
 
-pub queue_rest : (ids : List ℕ) (w : World) (fate : Fate) (q k : ℕ) → carries (queue w q).items k ≡ true → carries (queue (finish_all w fate ids) q).items k ≡ true
+pub queue_rest : (ids : List ℕ) (w : World) (fate : Fate) (q k : ℕ) → carries (queue w q).items k ≡ true → carries (queue (with_frames_finished w fate ids) q).items k ≡ true
 queue_rest ids w fate q k h = ap (λ (qs : List Queue). carries (at new_queue qs q).items k) (queues_dropped ids w fate) ∙ h
 
-hand_finish_all : (ids : List ℕ) (w : World) (fate : Fate) (k : ℕ) → InHand w k → InHand (finish_all w fate ids) k
-hand_finish_all ids w fate k i = hand_same w (finish_all w fate ids) k (λ q h. queue_rest ids w fate q k h) (λ s t. sym (session_same w _ (same_finish_all ids w fate) s t)) i
+hand_finish_all : (ids : List ℕ) (w : World) (fate : Fate) (k : ℕ) → InHand w k → InHand (with_frames_finished w fate ids) k
+hand_finish_all ids w fate k i = hand_same w (with_frames_finished w fate ids) k (λ q h. queue_rest ids w fate q k h) (λ s t. sym (session_same w _ (same_finish_all ids w fate) s t)) i
 
 covers_dequeued : (l : List ℕ) (w : World) (q : ℕ) (d : Dequeued) → Placing l w → ((k : ℕ) → has (ids_in d.dropped) k ≡ true → carries (queue w q).items k ≡ true)
-    → ((k : ℕ) → carries (queue w q).items k ≡ true → (has (ids_in d.dropped) k ≡ true) ⊎ ((carries d.rest k ≡ true) ⊎ IsGivenId d.given k)) → Full w → Covers (λ k. InHand (dequeued w q d).world k ⊎ IsGivenId d.given k) (dequeued w q d).world
-unfolding dequeued
+    → ((k : ℕ) → carries (queue w q).items k ≡ true → (has (ids_in d.dropped) k ≡ true) ⊎ ((carries d.rest k ≡ true) ⊎ IsGivenId d.given k)) → Full w → Covers (λ k. InHand (taken_by_codel w q d).world k ⊎ IsGivenId d.given k) (taken_by_codel w q d).world
+unfolding taken_by_codel
 covers_dequeued l w q d p there parts c =
     let g : Queue → Queue = λ y. record { items = d.rest; deficit = y.deficit -ℤ pos (len_given d.given); codel = d.state } in
     let u : World = on_queue w q g in
-    let v : World = finish_all u (Dropped By_codel) (map (λ x. x.id) d.dropped) in
+    let v : World = with_frames_finished u (Dropped By_codel) (map (λ x. x.id) d.dropped) in
     covers_all (ids_in d.dropped) (InHand w) (λ k. InHand v k ⊎ IsGivenId d.given k) u (Dropped By_codel) (never_dropped By_codel)
     (λ k e. subst (λ (fs : List Frame). k < length fs) (sym (untouched_on_queue w q g).frames) (p.queued q k (there k e)).old)
     (covers_frames (InHand w) w u (untouched_on_queue w q g).frames c)
@@ -205,20 +205,20 @@ covers_dequeued l w q d p there parts c =
       ]
     ])
 
-covers_taken : (o : Option ℕ) (l : List ℕ) (w : World) (s : ℕ) → Placing l w → Full w → Covers (λ k. InHand (taken_from w s o).world k ⊎ IsGivenId (taken_from w s o).item k) (taken_from w s o).world
-unfolding taken_from
+covers_taken : (o : Option ℕ) (l : List ℕ) (w : World) (s : ℕ) → Placing l w → Full w → Covers (λ k. InHand (taken_from_picked w s o).world k ⊎ IsGivenId (taken_from_picked w s o).item k) (taken_from_picked w s o).world
+unfolding taken_from_picked
 covers_taken None l w s p c = covers_more (InHand w) (λ k. InHand w k ⊎ IsGivenId None k) w (λ k i. inl i) c
 covers_taken (Some q) l w s p c =
     let xs : List Item = (queue w q).items in
-    let d : Dequeued = dequeue (params w s) w.clock (queue w q).codel xs in
-    subst (λ (o : Option Item). Covers (λ k. InHand (dequeued w q d).world k ⊎ IsGivenId o k) (dequeued w q d).world) (sym (given_dequeued-is w q d))
-    (covers_dequeued l w q d p (λ k e. (dropped_dequeue xs (params w s) w.clock (queue w q).codel 0 (p.ordered q)).there k e) (λ k h. kept_or xs (params w s) w.clock (queue w q).codel k h) c)
+    let d : Dequeued = dequeue (codel_params w s) w.clock (queue w q).codel xs in
+    subst (λ (o : Option Item). Covers (λ k. InHand (taken_by_codel w q d).world k ⊎ IsGivenId o k) (taken_by_codel w q d).world) (sym (given_dequeued-is w q d))
+    (covers_dequeued l w q d p (λ k e. (dropped_dequeue xs (codel_params w s) w.clock (queue w q).codel 0 (p.ordered q)).there k e) (λ k h. kept_or xs (codel_params w s) w.clock (queue w q).codel k h) c)
 
-covers_take : (l : List ℕ) (w : World) (s t : ℕ) → Placing l w → Full w → Covers (λ k. InHand (take w s t).world k ⊎ IsGivenId (take w s t).item k) (take w s t).world
-unfolding take
+covers_take : (l : List ℕ) (w : World) (s t : ℕ) → Placing l w → Full w → Covers (λ k. InHand (taken_for_tid w s t).world k ⊎ IsGivenId (taken_for_tid w s t).item k) (taken_for_tid w s t).world
+unfolding taken_for_tid
 covers_take l w s t p c =
     let ks : List ℕ = in_order (tid_of w s t).queues in
-    let a : World = pay_queues w (picked_queue w s t).quanta ks in
+    let a : World = with_queues_paid w (picked_queue w s t).quanta ks in
     let u : World = with_queues a s t (picked_queue w s t).lists in
     let h : Less Any w u = then_less Any w a u (less_pay_queues Any ks w _) (less_with_queues Any a s t _) in
     let k : Same w u = then_same w a u (same_pay_queues ks w _) (same_with_queues a s t _) in
@@ -226,19 +226,19 @@ covers_take l w s t p c =
     covers_taken (picked_queue w s t).winner l u s (placed_less l w u h k.sides p)
     (covers_frames (InHand u) w u e (covers_more (InHand w) (InHand u) w (λ j i. hand_same w u j (λ q m. paid_items w s t (picked_queue w s t).quanta (picked_queue w s t).lists ks q j m) (λ i j. sym (session_same w u k i j)) i) c))
 
-covers_give : (w : World) (s t id : ℕ) → is_live w s ≡ true → Covers (λ k. InHand w k ⊎ (k ≡ id)) w → Full (on_session w s t (λ y. give y id))
+covers_give : (w : World) (s t id : ℕ) → is_live w s ≡ true → Covers (λ k. InHand w k ⊎ (k ≡ id)) w → Full (on_session w s t (λ y. with_number_given y id))
 covers_give w s t id live c =
     let y : Session = session w s t in
-    let v : World = on_session w s t (λ y. give y id) in
-    covers_frames (InHand v) w v (untouched_on_session w s t (λ y. give y id)).frames (covers_more (λ k. InHand w k ⊎ (k ≡ id)) (InHand v) w (λ k i. elim i [
-      | inl a ↦ hand_session w s t k (λ y. give y id) (λ n h.
-          let d : slot (give y id) n ≡ slot y n = slot_give y id n h.from h.below in
+    let v : World = on_session w s t (λ y. with_number_given y id) in
+    covers_frames (InHand v) w v (untouched_on_session w s t (λ y. with_number_given y id)).frames (covers_more (λ k. InHand w k ⊎ (k ≡ id)) (InHand v) w (λ k i. elim i [
+      | inl a ↦ hand_session w s t k (λ y. with_number_given y id) (λ n h.
+          let d : slot (with_number_given y id) n ≡ slot y n = slot_give y id n h.from h.below in
           record { from = h.from; below = omega (arith, h.below, next-give y id); unsettled = ap (λ (x : Slot). is_settled x.state) d ∙ h.unsettled; id = ap (λ (x : Slot). x.id) d ∙ h.id }) a
       | inr e ↦ inr (record {
         station = s;
         tid = t;
         number = next_number y;
-        slot_of = subst (λ (z : Session). Carries z k (next_number y)) (sym (session_on_session w s t (λ y. give y id) live)) (record {
+        slot_of = subst (λ (z : Session). Carries z k (next_number y)) (sym (session_on_session w s t (λ y. with_number_given y id) live)) (record {
           from = omega arith;
           below = omega (arith, next-give y id);
           unsettled = ap is_settled (slot_new y id (next_number y) refl);
@@ -252,8 +252,8 @@ unfolding with_number
 covers_number None w s t live c = covers_more (λ k. InHand w k ⊎ ⊥) (InHand w) w (λ k i. elim i [ inl a ↦ a | inr b ↦ absurd b ]) c
 covers_number (Some x) w s t live c = covers_give w s t x.id live c
 
-covers_numbered : (l : List ℕ) (w : World) (s t : ℕ) → is_live w s ≡ true → Placing l w → Full w → Full (with_number (take w s t).world s t (take w s t).item)
-covers_numbered l w s t live p c = covers_number (take w s t).item (take w s t).world s t ((same_take w s t).live s ∙ live) (covers_take l w s t p c)
+covers_numbered : (l : List ℕ) (w : World) (s t : ℕ) → is_live w s ≡ true → Placing l w → Full w → Full (with_number (taken_for_tid w s t).world s t (taken_for_tid w s t).item)
+covers_numbered l w s t live p c = covers_number (taken_for_tid w s t).item (taken_for_tid w s t).world s t ((same_take w s t).live s ∙ live) (covers_take l w s t p c)
 
 covers_if : (b : Bool) (x y : Aggregate) → Full x.world → Full y.world → Full (if b then x else y).world
 covers_if true x y h k = h
@@ -263,18 +263,18 @@ covers_fresh : (n : ℕ) (l : List ℕ) (w : World) (s t : ℕ) (ms : List Mpdu)
 unfolding with_fresh
 covers_fresh zero l w s t ms live p f c = c
 covers_fresh (suc n) l w s t ms live p f c =
-    let v : World = (take w s t).world in
-    let numbered : Safe l w (with_number v s t (take w s t).item) = safe_numbered l w s t p f in
-    let k : Full (with_number v s t (take w s t).item) = covers_numbered l w s t live p c in
-    covers_if _ _ _ c (covers_if _ _ _ (covers_fresh n l _ s t _ (live_number (take w s t).item v s t ∙ ((same_take w s t).live s ∙ live)) numbered.placing numbered.fresh k) k)
+    let v : World = (taken_for_tid w s t).world in
+    let numbered : Safe l w (with_number v s t (taken_for_tid w s t).item) = safe_numbered l w s t p f in
+    let k : Full (with_number v s t (taken_for_tid w s t).item) = covers_numbered l w s t live p c in
+    covers_if _ _ _ c (covers_if _ _ _ (covers_fresh n l _ s t _ (live_number (taken_for_tid w s t).item v s t ∙ ((same_take w s t).live s ∙ live)) numbered.placing numbered.fresh k) k)
 
-covers_filled : (l : List ℕ) (w : World) (s t : ℕ) → is_live w s ≡ true → Placing l w → Fresh w → Full w → Full (filled w s t).world
-unfolding filled
+covers_filled : (l : List ℕ) (w : World) (s t : ℕ) → is_live w s ≡ true → Placing l w → Fresh w → Full w → Full (aggregate_of w s t).world
+unfolding aggregate_of
 covers_filled l w s t live p f c =
     let chosen : List Mpdu = longest_fitting w s (waiting_mpdus w s t) in
     covers_if (length chosen == length (waiting_mpdus w s t)) (with_fresh (most_frames w s - length chosen) w s t chosen) (record { world = w; mpdus = chosen }) (covers_fresh (most_frames w s - length chosen) l w s t chosen live p f c) c
 
-carries_fly : (ms : List Mpdu) (y : Session) (e lo hi k n : ℕ) → y.first ≤ lo → Rises lo hi ms → Carries y k n → Carries (numbers_fly e ms y) k n
+carries_fly : (ms : List Mpdu) (y : Session) (e lo hi k n : ℕ) → y.first ≤ lo → Rises lo hi ms → Carries y k n → Carries (with_flying e ms y) k n
 carries_fly [] y e lo hi k n b r c = c
 carries_fly (m ∷ ms) y e lo hi k n b r c =
     let f : Slot → Slot = λ x. record x { state = State.Flying e } in
@@ -283,42 +283,42 @@ carries_fly (m ∷ ms) y e lo hi k n b r c =
 pub covers_session : (w : World) (s t : ℕ) (f : Session → Session) → ((k n : ℕ) → Carries (session w s t) k n → Carries (f (session w s t)) k n) → Full w → Full (on_session w s t f)
 covers_session w s t f h c = covers_frames (InHand (on_session w s t f)) w _ (untouched_on_session w s t f).frames (covers_more (InHand w) (InHand (on_session w s t f)) w (λ k i. hand_session w s t k f (λ n d. h k n d) i) c)
 
-covers_frames_fly : (s t : ℕ) (f : Aggregate) → IsReady s t f.world f.mpdus → Full f.world → Full (prepared_frames s t f).world
-unfolding prepared_frames
+covers_frames_fly : (s t : ℕ) (f : Aggregate) → IsReady s t f.world f.mpdus → Full f.world → Full (prepared_data s t f).world
+unfolding prepared_data
 covers_frames_fly s t f r c =
     let y : Session = session f.world s t in
-    covers_session f.world s t (numbers_fly f.world.exchanges f.mpdus) (λ k n d. carries_fly f.mpdus y f.world.exchanges y.first (next_number y) k n (omega arith) r.chosen.rising d) c
+    covers_session f.world s t (with_flying f.world.exchanges f.mpdus) (λ k n d. carries_fly f.mpdus y f.world.exchanges y.first (next_number y) k n (omega arith) r.chosen.rising d) c
 
 covers_prepared_if : (b : Bool) (x y : Prepared) → Full x.world → (b ≡ false → Full y.world) → Full (if b then x else y).world
 covers_prepared_if true x y h k = h
 covers_prepared_if false x y h k = k refl
 
-covers_prepared : (l : List ℕ) (w : World) (s t : ℕ) → IsLawful w → is_live w s ≡ true → Placing l w → Fresh w → Full w → Full (prepared w s t).world
-unfolding prepared
-covers_prepared l w s t a live p f c = covers_prepared_if (request_due (session w s t)) _ _ c (λ quiet. covers_frames_fly s t (filled w s t) (ready_filled w s t a live quiet) (covers_filled l w s t live p f c))
+covers_prepared : (l : List ℕ) (w : World) (s t : ℕ) → IsLawful w → is_live w s ≡ true → Placing l w → Fresh w → Full w → Full (prepared_exchange w s t).world
+unfolding prepared_exchange
+covers_prepared l w s t a live p f c = covers_prepared_if (request_due (session w s t)) _ _ c (λ quiet. covers_frames_fly s t (aggregate_of w s t) (ready_filled w s t a live quiet) (covers_filled l w s t live p f c))
 
 pub covers_calm : (w v : World) → ((q k : ℕ) → carries (queue w q).items k ≡ true → carries (queue v q).items k ≡ true) → ((s t : ℕ) → session v s t ≡ session w s t) → v.frames ≡ w.frames → Full w → Full v
 covers_calm w v h d e c = covers_frames (InHand v) w v e (covers_more (InHand w) (InHand v) w (λ k i. hand_same w v k (λ q m. h q k m) (λ s t. sym (d s t)) i) c)
 
-covers_sent : (s t : ℕ) (c : Class) (q : Prepared) → Full q.world → Full (sent s t c q).world
-unfolding sent opening_exchange
+covers_sent : (s t : ℕ) (c : Class) (q : Prepared) → Full q.world → Full (send_outcome s t c q).world
+unfolding send_outcome with_exchange_opened
 covers_sent s t c q k =
     let x : Exchange = exchange_of s t c q in
     let u : World = record q.world { exchanges = q.world.exchanges + 1; opened = q.world.opened ++ x ∷ [] } in
-    covers_calm u (spent u s) (λ q k h. queues_spent u s q k h) (session_same u (spent u s) (same_spent u s)) (untouched_spent u s).frames (covers_calm q.world u (λ q k h. h) (λ i j. refl) refl k)
+    covers_calm u (without_credit u s) (λ q k h. queues_spent u s q k h) (session_same u (without_credit u s) (same_spent u s)) (untouched_spent u s).frames (covers_calm q.world u (λ q k h. h) (λ i j. refl) refl k)
 
-covers_pulled_by : (o : Option ℕ) (l : List ℕ) (w : World) (c : Class) → IfSome o (λ s. is_live w s ≡ true) → IsLawful w → Placing l w → Fresh w → Full w → Full (pulled_by w c o).world
-unfolding pulled_by
+covers_pulled_by : (o : Option ℕ) (l : List ℕ) (w : World) (c : Class) → IfSome o (λ s. is_live w s ≡ true) → IsLawful w → Placing l w → Fresh w → Full w → Full (pull_outcome_for w c o).world
+unfolding pull_outcome_for
 covers_pulled_by None l w c live a p f k = k
 covers_pulled_by (Some s) l w c live a p f k =
     let t : ℕ = sending_tid w s c in
-    let v : World = after_turn w s c t in
+    let v : World = after_tid_turn w s c t in
     let same_v : Same w v = same_after_turn w s c t in
     let b : Safe l w v = safe_calm l w v (less_after_turn Any w s c _) same_v (untouched_after_turn w s c _) p f in
     covers_sent s t c _ (covers_prepared l v s t (lawful_same _ _ same_v a) (same_v.live s ∙ live) b.placing b.fresh (covers_calm w v (λ q k h. queues_after_turn w s c t q k h) (session_same w v same_v) (untouched_after_turn w s c t).frames k))
 
-pub covers_pulled : (l : List ℕ) (w : World) (c : Class) → IsLawful w → Placing l w → Fresh w → Full w → Full (pulled w c).world
-unfolding pulled
+pub covers_pulled : (l : List ℕ) (w : World) (c : Class) → IsLawful w → Placing l w → Fresh w → Full w → Full (pull_outcome w c).world
+unfolding pull_outcome
 covers_pulled l w c a p f k =
     let v : World = after_pick w c in
     let same_v : Same w v = same_after_pick w c in

@@ -11,12 +11,12 @@ use Rattle.wf_frame.specs.declared.notes.Note.TheVariants.{Enqueue}
 use Rattle.wf_frame.specs.Classes.{all_classes}
 use Rattle.wf_rules.specs.Table.{at, has, upto}
 use Rattle.wf_rules.specs.Codel.{Item, new_codel}
-use Rattle.wf_rules.specs.Rotation.{Rotation, lists, in_order, no_keys}
-use Rattle.wf_rules.specs.Session.{Session, Slot, State, no_slot, slot, on_slot, is_settled, is_failed, is_waiting, missed_slot, next_number, numbers_where, new_session}
-use Rattle.wf_world.specs.World.{World, Station, Queue, Exchange, Mpdu, Content, Frames, Request, Frame, no_frame, no_tid, no_station, new_queue, queue, session, tid_of, is_live, accepted, on_queue, on_session, on_tid, on_station, on_share, with_station, with_queues, with_rotation, with_fate, finish, finish_all, without_exchange}
-use Rattle.wf_world.specs.FlowQueues.{is_at_limit, longest, without_head, within_limit, queue_for, listed_queue, appended, put_in, purge_queue, purge_queues}
-use Rattle.wf_world.specs.Exchanges.{is_acked, heard_start, mpdus_of, charged, settled, settled_slot, all_settled, after_done, ids_of}
-use Rattle.wf_world.specs.Step.{with_frame, enqueued, ended, held_slots, rising, left_tid, left_tids, off_lists, gone, joined}
+use Rattle.wf_rules.specs.Rotation.{Rotation, has_key, in_order, no_keys}
+use Rattle.wf_rules.specs.Session.{Session, Slot, State, no_slot, slot, on_slot, is_settled, is_failed, is_waiting, slot_after_miss, next_number, numbers_where, new_session}
+use Rattle.wf_world.specs.World.{World, Station, Queue, Exchange, Mpdu, Content, Frames, Request, Frame, no_frame, no_tid, no_station, new_queue, queue, session, tid_of, is_live, accepted_count, on_queue, on_session, on_tid, on_station, on_share, with_station, with_queues, with_rotation, with_fate, with_frame_finished, with_frames_finished, without_exchange}
+use Rattle.wf_world.specs.FlowQueues.{is_at_limit, longest_queue, without_head, after_limit, queue_for, with_listed_queue, with_appended, after_put_in, after_queue_left, after_queues_left}
+use Rattle.wf_world.specs.Exchanges.{is_acked, with_heard_start, mpdus_of, after_charge, with_settled, with_failed_finished, with_all_settled, after_done, ids_of}
+use Rattle.wf_world.specs.Step.{with_frame, enqueue_outcome, done_outcome, waiting_ids, in_rising_order, after_tid_left, after_tids_left, without_listings, leave_outcome, join_outcome}
 use Rattle.wf_rule_laws.proofs.Lemmas.Tables.{each_put}
 use Rattle.wf_rule_laws.proofs.Lemmas.Counts.{on-has}
 use Rattle.wf_rule_laws.proofs.Lemmas.Numbers.{on_bool, on_if, eq_yes, eq_no, yes_eq, either, or_left, or_right}
@@ -35,12 +35,12 @@ use Rattle.wf_laws.proofs.Deficits.MildStep.{on_upto}
 use Rattle.wf_laws.proofs.Queues.ShelvedStep.{accepted_limit, accepted_put}
 use Rattle.wf_laws.proofs.Frames.Covered.{Covers, Full, covers_frames, covers_more, covers_finish, covers_all, hand_same, queue_rest, queue_hand, hand_queue, hand_session, carries_other, carries_on_slot, covers_session, covers_calm}
 
-queue_finish : (w : World) (fate : Fate) (id q k : ℕ) → carries (queue w q).items k ≡ true → carries (queue (finish w fate id) q).items k ≡ true
-unfolding finish with_fate
+queue_finish : (w : World) (fate : Fate) (id q k : ℕ) → carries (queue w q).items k ≡ true → carries (queue (with_frame_finished w fate id) q).items k ≡ true
+unfolding with_frame_finished with_fate
 queue_finish w fate id q k h = h
 
-queues_charged : (w : World) (x : Exchange) (q k : ℕ) → carries (queue w q).items k ≡ true → carries (queue (charged (without_exchange w x.number) x) q).items k ≡ true
-unfolding charged without_exchange on_share on_station with_station
+queues_charged : (w : World) (x : Exchange) (q k : ℕ) → carries (queue w q).items k ≡ true → carries (queue (after_charge (without_exchange w x.number) x) q).items k ≡ true
+unfolding after_charge without_exchange on_share on_station with_station
 queues_charged w x q k h = h
 
 queues_with_queues : (w : World) (s t : ℕ) (r : Rotation) (q k : ℕ) → carries (queue w q).items k ≡ true → carries (queue (with_queues w s t r) q).items k ≡ true
@@ -51,15 +51,15 @@ queues_with_station : (w : World) (s : ℕ) (o : Option Station) (q k : ℕ) →
 unfolding with_station
 queues_with_station w s o q k h = h
 
-queues_off_lists : (cs : List Class) (w : World) (s : ℕ) → (off_lists w s cs).queues ≡ w.queues
-unfolding off_lists with_rotation
+queues_off_lists : (cs : List Class) (w : World) (s : ℕ) → (without_listings w s cs).queues ≡ w.queues
+unfolding without_listings with_rotation
 queues_off_lists [] w s = refl
 queues_off_lists (c ∷ cs) w s = queues_off_lists cs _ s
 
-queues_gone : (w : World) (s q k : ℕ) → carries (queue w q).items k ≡ true → carries (queue (with_station (off_lists w s all_classes) s None) q).items k ≡ true
-queues_gone w s q k h = queues_with_station (off_lists w s all_classes) s None q k (ap (λ (qs : List Queue). carries (at new_queue qs q).items k) (queues_off_lists all_classes w s) ∙ h)
+queues_gone : (w : World) (s q k : ℕ) → carries (queue w q).items k ≡ true → carries (queue (with_station (without_listings w s all_classes) s None) q).items k ≡ true
+queues_gone w s q k h = queues_with_station (without_listings w s all_classes) s None q k (ap (λ (qs : List Queue). carries (at new_queue qs q).items k) (queues_off_lists all_classes w s) ∙ h)
 
-carries_heard : (b : Bool) (f : ℕ) (y : Session) (k n : ℕ) → Carries y k n → Carries (heard_start b f y) k n
+carries_heard : (b : Bool) (f : ℕ) (y : Session) (k n : ℕ) → Carries y k n → Carries (with_heard_start b f y) k n
 carries_heard true f y k n c = record { from = c.from; below = c.below; unsettled = c.unsettled; id = c.id }
 carries_heard false f y k n c = c
 
@@ -73,16 +73,16 @@ dead_none w s t k n dead c = go (at None w.stations s) refl dead
         omega (arith, bare.from, bare.below)
     go (Some x) e d = cc d
 
-same_left_tid : (w : World) (s t : ℕ) → Same w (left_tid w s t)
-unfolding left_tids
+same_left_tid : (w : World) (s t : ℕ) → Same w (after_tid_left w s t)
+unfolding after_tids_left
 same_left_tid w s t = same_left_tids (t ∷ []) w s
 
-placed_left_tid : (l : List ℕ) (w : World) (s t : ℕ) → Placing l w → Placing l (left_tid w s t)
-unfolding left_tids
-placed_left_tid l w s t p = placed_less l w (left_tid w s t) (less_left_tids (t ∷ []) w s) (same_left_tid w s t).sides p
+placed_left_tid : (l : List ℕ) (w : World) (s t : ℕ) → Placing l w → Placing l (after_tid_left w s t)
+unfolding after_tids_left
+placed_left_tid l w s t p = placed_less l w (after_tid_left w s t) (less_left_tids (t ∷ []) w s) (same_left_tid w s t).sides p
 
-hand_finish : (w : World) (fate : Fate) (id k : ℕ) → InHand w k → InHand (finish w fate id) k
-hand_finish w fate id k i = hand_same w (finish w fate id) k (λ q h. queue_finish w fate id q k h) (λ s t. sym (session_same w _ (same_finish w fate id) s t)) i
+hand_finish : (w : World) (fate : Fate) (id k : ℕ) → InHand w k → InHand (with_frame_finished w fate id) k
+hand_finish w fate id k i = hand_same w (with_frame_finished w fate id) k (λ q h. queue_finish w fate id q k h) (λ s t. sym (session_same w _ (same_finish w fate id) s t)) i
 
 -- ---- a frame is queued
 
@@ -92,7 +92,7 @@ covers_head [] l w q e p c = c
 covers_head (x ∷ rest) l w q e p c =
     let g : Queue → Queue = λ y. record y { items = rest } in
     let u : World = on_queue w q g in
-    let v : World = finish u (Dropped Overlimit) x.id in
+    let v : World = with_frame_finished u (Dropped Overlimit) x.id in
     let there : carries (queue w q).items x.id ≡ true = ap (λ (ys : List Item). carries ys x.id) e ∙ or_left (x.id == x.id) (carries rest x.id) (yes_eq x.id x.id refl) in
     covers_finish (InHand w) (InHand v) u (Dropped Overlimit) x.id (λ d. cc d) (subst (λ (fs : List Frame). x.id < length fs) (sym (untouched_on_queue w q g).frames) (p.queued q x.id there).old)
     (covers_frames (InHand w) w u (untouched_on_queue w q g).frames c)
@@ -104,9 +104,9 @@ covers_head (x ∷ rest) l w q e p c =
       ]
     ])
 
-covers_limit : (l : List ℕ) (w : World) → Placing l w → Full w → Full (within_limit w)
-unfolding within_limit
-covers_limit l w p c = on_if (λ (v : World). Full v) (is_at_limit w) (without_head w (longest w) (queue w (longest w)).items) w (λ _. covers_head (queue w (longest w)).items l w (longest w) refl p c) (λ _. c)
+covers_limit : (l : List ℕ) (w : World) → Placing l w → Full w → Full (after_limit w)
+unfolding after_limit
+covers_limit l w p c = on_if (λ (v : World). Full v) (is_at_limit w) (without_head w (longest_queue w) (queue w (longest_queue w)).items) w (λ _. covers_head (queue w (longest_queue w)).items l w (longest_queue w) refl p c) (λ _. c)
 
 carries_front : (xs : List Item) (x : Item) (k : ℕ) → carries xs k ≡ true → carries (xs ++ x ∷ []) k ≡ true
 carries_front [] x k h = absurd (cc h)
@@ -116,45 +116,45 @@ carries_last : (xs : List Item) (x : Item) → carries (xs ++ x ∷ []) x.id ≡
 carries_last [] x = or_left (x.id == x.id) false (yes_eq x.id x.id refl)
 carries_last (y ∷ ys) x = or_right (y.id == x.id) _ (carries_last ys x)
 
-append_keeps : (u : World) (q : ℕ) (x : Item) (c k : ℕ) → carries (queue u c).items k ≡ true → carries (queue (appended u q x) c).items k ≡ true
-unfolding appended on_queue
+append_keeps : (u : World) (q : ℕ) (x : Item) (c k : ℕ) → carries (queue u c).items k ≡ true → carries (queue (with_appended u q x) c).items k ≡ true
+unfolding with_appended on_queue
 append_keeps u q x c k h = each_put (λ i y. carries (queue u i).items k ≡ true → carries y.items k ≡ true) new_queue u.queues q (record (queue u q) { items = (queue u q).items ++ x ∷ [] }) (λ i h. h) (λ h. carries_front (queue u q).items x k h) c h
 
-append_last : (u : World) (q : ℕ) (x : Item) → carries (queue (appended u q x) q).items x.id ≡ true
-unfolding appended
+append_last : (u : World) (q : ℕ) (x : Item) → carries (queue (with_appended u q x) q).items x.id ≡ true
+unfolding with_appended
 append_last u q x = ap (λ (y : Queue). carries y.items x.id) (queue_on u q (λ y. record y { items = y.items ++ x ∷ [] })) ∙ carries_last (queue u q).items x
 
-listed_keeps : (u : World) (s t q c k : ℕ) → carries (queue u c).items k ≡ true → carries (queue (listed_queue u s t q) c).items k ≡ true
-unfolding listed_queue with_queues on_tid on_station with_station on_queue
-listed_keeps u s t q c k h = on_if (λ (v : World). carries (queue v c).items k ≡ true) (lists (tid_of u s t).queues q) _ _ (λ _. h)
+listed_keeps : (u : World) (s t q c k : ℕ) → carries (queue u c).items k ≡ true → carries (queue (with_listed_queue u s t q) c).items k ≡ true
+unfolding with_listed_queue with_queues on_tid on_station with_station on_queue
+listed_keeps u s t q c k h = on_if (λ (v : World). carries (queue v c).items k ≡ true) (has_key (tid_of u s t).queues q) _ _ (λ _. h)
     (λ _. each_put (λ i y. carries (queue u i).items k ≡ true → carries y.items k ≡ true) new_queue u.queues q (record (queue u q) { deficit = pos u.config.flow_quantum }) (λ i h. h) (λ h. h) c h)
 
-put_keeps : (u : World) (s t q : ℕ) (x : Item) (c k : ℕ) → carries (queue (appended u q x) c).items k ≡ true → carries (queue (put_in u s t q x) c).items k ≡ true
-unfolding put_in
-put_keeps u s t q x c k h = listed_keeps (appended u q x) s t q c k h
+put_keeps : (u : World) (s t q : ℕ) (x : Item) (c k : ℕ) → carries (queue (with_appended u q x) c).items k ≡ true → carries (queue (after_put_in u s t q x) c).items k ≡ true
+unfolding after_put_in
+put_keeps u s t q x c k h = listed_keeps (with_appended u q x) s t q c k h
 
 queue_with_frame : (w : World) (note : Note) (q : ℕ) → queue (with_frame w note) q ≡ queue w q
 unfolding with_frame
 queue_with_frame w note q = refl
 
-pub covers_enqueued : (l : List ℕ) (w : World) (s t flow len : ℕ) → Placing l w → Full w → Full (enqueued w s t flow len).world
-unfolding enqueued
+pub covers_enqueued : (l : List ℕ) (w : World) (s t flow len : ℕ) → Placing l w → Full w → Full (enqueue_outcome w s t flow len).world
+unfolding enqueue_outcome
 covers_enqueued l w s t flow len p c =
-    let u : World = within_limit w in
+    let u : World = after_limit w in
     let q : ℕ = queue_for u s t flow in
-    let x : Item = record { id = accepted w; stamp = w.clock; len = len } in
-    let a : World = put_in u s t q x in
+    let x : Item = record { id = accepted_count w; stamp = w.clock; len = len } in
+    let a : World = after_put_in u s t q x in
     let note : Note = Enqueue s t flow len in
     let v : World = with_frame a note in
     let k : Full u = covers_limit l w p c in
-    let forward : (r j : ℕ) → carries (queue (appended u q x) r).items j ≡ true → carries (queue v r).items j ≡ true = λ r j h. ap (λ (y : Queue). carries y.items j) (queue_with_frame a note r) ∙ put_keeps u s t q x r j h in
-    let same_id : accepted a ≡ accepted w = accepted_put u s t q x ∙ accepted_limit l w p in
+    let forward : (r j : ℕ) → carries (queue (with_appended u q x) r).items j ≡ true → carries (queue v r).items j ≡ true = λ r j h. ap (λ (y : Queue). carries y.items j) (queue_with_frame a note r) ∙ put_keeps u s t q x r j h in
+    let same_id : accepted_count a ≡ accepted_count w = accepted_put u s t q x ∙ accepted_limit l w p in
     let sides : (i j : ℕ) → session u i j ≡ session v i j = λ i j. sym (ap (λ (b : Side). b.session) (side_with_frame a note i j ∙ (same_put_in u s t q x).sides i j)) in
     record {
-      covers = λ j below h. elim (cases_eq j (accepted w)) [
-        | inl e ↦ inl (record { place = q; there = forward q j (subst (λ (n : ℕ). carries (queue (appended u q x) q).items n ≡ true) (sym e) (append_last u q x)) })
+      covers = λ j below h. elim (cases_eq j (accepted_count w)) [
+        | inl e ↦ inl (record { place = q; there = forward q j (subst (λ (n : ℕ). carries (queue (with_appended u q x) q).items n ≡ true) (sym e) (append_last u q x)) })
         | inr other ↦ (
-            let old : j < accepted u = omega (arith, below, accepted_with_frame a note, same_id, accepted_limit l w p, other) in
+            let old : j < accepted_count u = omega (arith, below, accepted_with_frame a note, same_id, accepted_limit l w p, other) in
             let held : IsHeld u j = sym (ap (λ (fs : List Frame). (at no_frame fs j).fate) (untouched_put_in u s t q x).frames) ∙ (sym (fate_with_frame a note j) ∙ h) in
             hand_same u v j (λ r m. forward r j (append_keeps u q x r j m)) sides (k.covers j old held))
       ];
@@ -168,57 +168,57 @@ missed_open false h = refl
 
 -- the frame of a number that is settled now gets its fate
 covers_slot : (l : List ℕ) (e s t : ℕ) (acked : ℕ → Bool) (w : World) (m : Mpdu) (ms : List Mpdu) (f : Slot → Slot) (fate : Fate) → (fate ≡ Held → ⊥) → ((x : Slot) → (f x).id ≡ x.id) → IsEnding e s t acked w (m ∷ ms) → (slot (session w s t) m.number).id ≡ m.id
-    → Placing l w → Full w → Full (finish (on_session w s t (on_slot m.number f)) fate m.id)
+    → Placing l w → Full w → Full (with_frame_finished (on_session w s t (on_slot m.number f)) fate m.id)
 covers_slot l e s t acked w m ms f fate never same_id n own p c =
     let y : Session = session w s t in
     let v : World = on_session w s t (on_slot m.number f) in
     let frames : v.frames ≡ w.frames = (untouched_on_session w s t (on_slot m.number f)).frames in
-    let old : (slot y m.number).id < accepted w = (p.numbered s t m.number n.flies.rising.0 n.flies.rising.1).old in
-    covers_finish (InHand w) (InHand (finish v fate m.id)) v fate m.id never (subst (λ (fs : List Frame). m.id < length fs) (sym frames) (subst (λ (i : ℕ). i < accepted w) own old))
+    let old : (slot y m.number).id < accepted_count w = (p.numbered s t m.number n.flies.rising.0 n.flies.rising.1).old in
+    covers_finish (InHand w) (InHand (with_frame_finished v fate m.id)) v fate m.id never (subst (λ (fs : List Frame). m.id < length fs) (sym frames) (subst (λ (i : ℕ). i < accepted_count w) own old))
     (covers_frames (InHand w) w v frames c)
     (λ k other i. hand_finish v fate m.id k (hand_session w s t k (on_slot m.number f) (λ j d. carries_other y m.number k j f n.flies.rising.0 same_id (λ e. other (sym d.id ∙ (ap (λ (i : ℕ). (slot y i).id) (sym e) ∙ own))) d) i))
 
-covers_settled : (b : Bool) (l : List ℕ) (e s t : ℕ) (acked : ℕ → Bool) (w : World) (m : Mpdu) (ms : List Mpdu) → IsEnding e s t acked w (m ∷ ms) → (slot (session w s t) m.number).id ≡ m.id → Placing l w → Full w → Full (settled w s t b m)
-unfolding settled settled_slot
+covers_settled : (b : Bool) (l : List ℕ) (e s t : ℕ) (acked : ℕ → Bool) (w : World) (m : Mpdu) (ms : List Mpdu) → IsEnding e s t acked w (m ∷ ms) → (slot (session w s t) m.number).id ≡ m.id → Placing l w → Full w → Full (with_settled w s t b m)
+unfolding with_settled with_failed_finished
 covers_settled true l e s t acked w m ms n own p c = covers_slot l e s t acked w m ms (λ x. record x { state = State.Acked }) Acked (λ d. cc d) (λ x. refl) n own p c
 covers_settled false l e s t acked w m ms n own p c =
     let y : Session = session w s t in
-    let f : Slot → Slot = missed_slot w.config.attempts in
+    let f : Slot → Slot = slot_after_miss w.config.attempts in
     let v : World = on_session w s t (on_slot m.number f) in
     let state : (slot (session v s t) m.number).state ≡ (f (slot y m.number)).state = ap (λ (u : Session). (slot u m.number).state) (session_on_session w s t (on_slot m.number f) n.live) ∙ ap (λ (x : Slot). x.state) (slot_same y m.number f) in
-    on_if (λ (u : World). Full u) (is_failed (slot (session v s t) m.number).state) (finish v (Dropped Retries) m.id) v
+    on_if (λ (u : World). Full u) (is_failed (slot (session v s t) m.number).state) (with_frame_finished v (Dropped Retries) m.id) v
     (λ _. covers_slot l e s t acked w m ms f (Dropped Retries) (λ d. cc d) (λ x. refl) n own p c)
     (λ open_still. covers_session w s t (on_slot m.number f) (λ k j d. carries_on_slot y m.number k j f n.flies.rising.0 (λ x. refl) (missed_open _ (ap is_failed (sym state) ∙ open_still)) d) c)
 
-covers_all_settled : (ms : List Mpdu) (l : List ℕ) (e s t : ℕ) (acked : ℕ → Bool) (w : World) → IsEnding e s t acked w ms → Labelled (session w s t) ms → Placing l w → Full w → Full (all_settled w s t acked ms)
-unfolding all_settled
+covers_all_settled : (ms : List Mpdu) (l : List ℕ) (e s t : ℕ) (acked : ℕ → Bool) (w : World) → IsEnding e s t acked w ms → Labelled (session w s t) ms → Placing l w → Full w → Full (with_all_settled w s t acked ms)
+unfolding with_all_settled
 covers_all_settled [] l e s t acked w n a p c = c
 covers_all_settled (m ∷ ms) l e s t acked w n a p c =
-    let v : World = settled w s t (acked m.number) m in
+    let v : World = with_settled w s t (acked m.number) m in
     let kept : Kept w v = keep_settled (acked m.number) w s t m in
     covers_all_settled ms l e s t acked v (ending_settled (acked m.number) e s t acked w m ms refl n)
     (labelled_kept ms (session w s t) (session v s t) (suc m.number) (kept.sessions s t) (omega (arith, n.flies.rising.0)) n.flies.rising.2 a.1)
     (placed_settled (acked m.number) l e s t acked w m ms n p) (covers_settled (acked m.number) l e s t acked w m ms n a.0 p c)
 
-covers_after : (c : Content) (l : List ℕ) (w : World) (i : IsLawful w) (x : Exchange) (heard : Bool) → x.content ≡ c → IsFound w i x → Labelled (session w x.station x.tid) (mpdus_of c) → Placing l (charged (without_exchange w x.number) x) → Full (charged (without_exchange w x.number) x)
-    → Full (after_done (charged (without_exchange w x.number) x) x heard c)
+covers_after : (c : Content) (l : List ℕ) (w : World) (i : IsLawful w) (x : Exchange) (heard : Bool) → x.content ≡ c → IsFound w i x → Labelled (session w x.station x.tid) (mpdus_of c) → Placing l (after_charge (without_exchange w x.number) x) → Full (after_charge (without_exchange w x.number) x)
+    → Full (after_done (after_charge (without_exchange w x.number) x) x heard c)
 unfolding after_done
 covers_after (Frames ms) l w i x heard e f a p c =
-    let v : World = charged (without_exchange w x.number) x in
+    let v : World = after_charge (without_exchange w x.number) x in
     let d : session v x.station x.tid ≡ session w x.station x.tid = session_same _ _ (same_charged (without_exchange w x.number) x) x.station x.tid ∙ without_same w x.number x.station x.tid in
     covers_all_settled ms l x.number x.station x.tid (is_acked heard x.answer) v (ending_of w i x ms heard e f) (subst (λ (y : Session). Labelled y ms) (sym d) a) p c
 covers_after (Request g) l w i x heard e f a p c =
-    covers_session (charged (without_exchange w x.number) x) x.station x.tid (heard_start heard g) (λ k n d. carries_heard heard g _ k n d) c
+    covers_session (after_charge (without_exchange w x.number) x) x.station x.tid (with_heard_start heard g) (λ k n d. carries_heard heard g _ k n d) c
 
-covers_without : (w : World) (x : Exchange) → Full w → Full (charged (without_exchange w x.number) x)
-unfolding charged without_exchange on_share
+covers_without : (w : World) (x : Exchange) → Full w → Full (after_charge (without_exchange w x.number) x)
+unfolding after_charge without_exchange on_share
 covers_without w x c = covers_calm w _ (λ q k h. queues_charged w x q k h) (λ s t. session_same _ _ (same_charged (without_exchange w x.number) x) s t ∙ without_same w x.number s t) ((untouched_charged (without_exchange w x.number) x).frames ∙ (untouched_without w x.number).frames) c
 
-pub covers_ended : (l : List ℕ) (w : World) (i : IsLawful w) (x : Exchange) (heard : Bool) → IsFound w i x → Labelled (session w x.station x.tid) (mpdus_of x.content) → Placing l w → Full w → Full (ended w x heard).world
-unfolding ended
+pub covers_ended : (l : List ℕ) (w : World) (i : IsLawful w) (x : Exchange) (heard : Bool) → IsFound w i x → Labelled (session w x.station x.tid) (mpdus_of x.content) → Placing l w → Full w → Full (done_outcome w x heard).world
+unfolding done_outcome
 covers_ended l w i x heard f a p c =
     let u : World = without_exchange w x.number in
-    covers_after x.content l w i x heard refl f a (placed_less l u (charged u x) (less_charged Any u x) (same_charged u x).sides (placed_without l w x.number p)) (covers_without w x c)
+    covers_after x.content l w i x heard refl f a (placed_less l u (after_charge u x) (less_charged Any u x) (same_charged u x).sides (placed_without l w x.number p)) (covers_without w x c)
 
 -- ---- a station leaves
 
@@ -232,11 +232,11 @@ forward_pend s ts w v k h d p = elim p [
   })
 ]
 
-held_has : (xs : List Slot) (i : ℕ) → (at no_slot xs i).state ≡ State.Waiting → has (held_slots xs) (at no_slot xs i).id ≡ true
+held_has : (xs : List Slot) (i : ℕ) → (at no_slot xs i).state ≡ State.Waiting → has (waiting_ids xs) (at no_slot xs i).id ≡ true
 held_has [] i h = absurd (cc h)
-held_has (x ∷ xs) zero h = on_if (λ (ids : List ℕ). has ids x.id ≡ true) (is_waiting x.state) (x.id ∷ held_slots xs) (held_slots xs) (λ _. or_left (x.id == x.id) _ (yes_eq x.id x.id refl)) (λ e. absurd (cc (e, ap is_waiting h)))
+held_has (x ∷ xs) zero h = on_if (λ (ids : List ℕ). has ids x.id ≡ true) (is_waiting x.state) (x.id ∷ waiting_ids xs) (waiting_ids xs) (λ _. or_left (x.id == x.id) _ (yes_eq x.id x.id refl)) (λ e. absurd (cc (e, ap is_waiting h)))
 held_has (x ∷ xs) (suc i) h =
-    on_if (λ (ids : List ℕ). has ids (at no_slot xs i).id ≡ true) (is_waiting x.state) (x.id ∷ held_slots xs) (held_slots xs)
+    on_if (λ (ids : List ℕ). has ids (at no_slot xs i).id ≡ true) (is_waiting x.state) (x.id ∷ waiting_ids xs) (waiting_ids xs)
     (λ _. or_right (x.id == (at no_slot xs i).id) _ (held_has xs i h)) (λ _. held_has xs i h)
 
 -- of a station, no number is in flight
@@ -246,22 +246,22 @@ pub record IsQuiet (s : ℕ) (w : World) : Type 0 where
 quiet_same : (s : ℕ) (w v : World) → ((t : ℕ) → session v s t ≡ session w s t) → IsQuiet s w → IsQuiet s v
 quiet_same s w v d q = record { waits = λ t n k c. ap (λ (y : Session). (slot y n).state) (d t) ∙ q.waits t n k (subst (λ (y : Session). Carries y k n) (d t) c) }
 
-held_old : (l : List ℕ) (w : World) (s t k : ℕ) → Placing l w → has (held_slots (session w s t).slots) k ≡ true → k < accepted w
+held_old : (l : List ℕ) (w : World) (s t k : ℕ) → Placing l w → has (waiting_ids (session w s t).slots) k ≡ true → k < accepted_count w
 held_old l w s t k p h =
     let y : Session = session w s t in
-    let e : held_slots y.slots ≡ ids_of y (numbers_where is_waiting y.first y.slots) = held_ids y.slots y y.first (λ i. ap (at no_slot y.slots) (omega arith)) in
+    let e : waiting_ids y.slots ≡ ids_of y (numbers_where is_waiting y.first y.slots) = held_ids y.slots y y.first (λ i. ap (at no_slot y.slots) (omega arith)) in
     let o : IsIdOf y (numbers_where is_waiting y.first y.slots) k = has_ids (numbers_where is_waiting y.first y.slots) y k (ap (λ (xs : List ℕ). has xs k) (sym e) ∙ h) in
     let m : IsWaiting y y.first (next_number y) o.number = waiting_member y.slots y y.first o.number (λ i. ap (at no_slot y.slots) (omega arith)) o.among in
-    subst (λ (i : ℕ). i < accepted w) o.id (p.numbered s t o.number m.from m.below).old
+    subst (λ (i : ℕ). i < accepted_count w) o.id (p.numbered s t o.number m.from m.below).old
 
-gone_id : (w : World) (s t k n : ℕ) → has (held_slots (session w s t).slots) k ≡ false → IsQuiet s w → Carries (session w s t) k n → ⊥
-gone_id w s t k n none q c = cc (none, subst (λ (i : ℕ). has (held_slots (session w s t).slots) i ≡ true) c.id (held_has (session w s t).slots (n - (session w s t).first) (q.waits t n k c)))
+gone_id : (w : World) (s t k n : ℕ) → has (waiting_ids (session w s t).slots) k ≡ false → IsQuiet s w → Carries (session w s t) k n → ⊥
+gone_id w s t k n none q c = cc (none, subst (λ (i : ℕ). has (waiting_ids (session w s t).slots) i ≡ true) c.id (held_has (session w s t).slots (n - (session w s t).first) (q.waits t n k c)))
 
-pend_held : (l : List ℕ) (w : World) (s t : ℕ) (ts : List ℕ) → Placing l w → IsQuiet s w → Covers (Pend s (t ∷ ts) w) w → Covers (Pend s ts (finish_all w (Dropped Left) (held_slots (session w s t).slots))) (finish_all w (Dropped Left) (held_slots (session w s t).slots))
+pend_held : (l : List ℕ) (w : World) (s t : ℕ) (ts : List ℕ) → Placing l w → IsQuiet s w → Covers (Pend s (t ∷ ts) w) w → Covers (Pend s ts (with_frames_finished w (Dropped Left) (waiting_ids (session w s t).slots))) (with_frames_finished w (Dropped Left) (waiting_ids (session w s t).slots))
 pend_held l w s t ts p q c =
     let y : Session = session w s t in
-    let ids : List ℕ = held_slots y.slots in
-    let v : World = finish_all w (Dropped Left) ids in
+    let ids : List ℕ = waiting_ids y.slots in
+    let v : World = with_frames_finished w (Dropped Left) ids in
     let forward : (k : ℕ) → Pend s ts w k → Pend s ts v k = λ k i. forward_pend s ts w v k (λ r h. queue_rest ids w (Dropped Left) r k h) (session_same w v (same_finish_all ids w (Dropped Left))) i in
     covers_all ids (Pend s (t ∷ ts) w) (Pend s ts v) w (Dropped Left) (λ d. cc d) (λ k h. held_old l w s t k p h) c
     (λ k none i. elim i [
@@ -278,13 +278,13 @@ pend_held l w s t ts p q c =
       ]
     ])
 
-pend_one : (l : List ℕ) (w : World) (s : ℕ) (ts : List ℕ) (q : ℕ) → Placing l w → Covers (Pend s ts w) w → Covers (Pend s ts (purge_queue w q)) (purge_queue w q)
-unfolding purge_queue
+pend_one : (l : List ℕ) (w : World) (s : ℕ) (ts : List ℕ) (q : ℕ) → Placing l w → Covers (Pend s ts w) w → Covers (Pend s ts (after_queue_left w q)) (after_queue_left w q)
+unfolding after_queue_left
 pend_one l w s ts q p c =
     let g : Queue → Queue = λ y. record y { items = []; codel = new_codel } in
     let u : World = on_queue w q g in
     let ids : List ℕ = ids_in (queue w q).items in
-    let v : World = finish_all u (Dropped Left) ids in
+    let v : World = with_frames_finished u (Dropped Left) ids in
     covers_all ids (Pend s ts w) (Pend s ts v) u (Dropped Left) (λ d. cc d)
     (λ k h. subst (λ (fs : List Frame). k < length fs) (sym (untouched_on_queue w q g).frames) (p.queued q k (sym (ids_carried (queue w q).items k) ∙ h)).old)
     (covers_frames (Pend s ts w) w u (untouched_on_queue w q g).frames c)
@@ -299,36 +299,36 @@ pend_one l w s ts q p c =
       })
     ])
 
-pend_purged : (qs : List ℕ) (l : List ℕ) (w : World) (s : ℕ) (ts : List ℕ) → Placing l w → Covers (Pend s ts w) w → Covers (Pend s ts (purge_queues w qs)) (purge_queues w qs)
-unfolding purge_queues
+pend_purged : (qs : List ℕ) (l : List ℕ) (w : World) (s : ℕ) (ts : List ℕ) → Placing l w → Covers (Pend s ts w) w → Covers (Pend s ts (after_queues_left w qs)) (after_queues_left w qs)
+unfolding after_queues_left
 pend_purged [] l w s ts p c = c
-pend_purged (q ∷ qs) l w s ts p c = pend_purged qs l (purge_queue w q) s ts (placed_less l w (purge_queue w q) (less_purge_queue w q) (same_purge_queue w q).sides p) (pend_one l w s ts q p c)
+pend_purged (q ∷ qs) l w s ts p c = pend_purged qs l (after_queue_left w q) s ts (placed_less l w (after_queue_left w q) (less_purge_queue w q) (same_purge_queue w q).sides p) (pend_one l w s ts q p c)
 
-pend_left : (l : List ℕ) (w : World) (s t : ℕ) (ts : List ℕ) → Placing l w → IsQuiet s w → Covers (Pend s (t ∷ ts) w) w → Covers (Pend s ts (left_tid w s t)) (left_tid w s t)
-unfolding left_tid
+pend_left : (l : List ℕ) (w : World) (s t : ℕ) (ts : List ℕ) → Placing l w → IsQuiet s w → Covers (Pend s (t ∷ ts) w) w → Covers (Pend s ts (after_tid_left w s t)) (after_tid_left w s t)
+unfolding after_tid_left
 pend_left l w s t ts p q c =
-    let ids : List ℕ = held_slots (session w s t).slots in
-    let a : World = finish_all w (Dropped Left) ids in
-    let qs : List ℕ = rising (in_order (tid_of w s t).queues) in
-    let b : World = purge_queues a qs in
+    let ids : List ℕ = waiting_ids (session w s t).slots in
+    let a : World = with_frames_finished w (Dropped Left) ids in
+    let qs : List ℕ = in_rising_order (in_order (tid_of w s t).queues) in
+    let b : World = after_queues_left a qs in
     let v : World = with_queues b s t no_keys in
     let ka : Covers (Pend s ts a) a = pend_held l w s t ts p q c in
     let kb : Covers (Pend s ts b) b = pend_purged qs l a s ts (placed_less l w a (less_drop_all Any ids w (Dropped Left) (λ e. cc e)) (same_finish_all ids w (Dropped Left)).sides p) ka in
     covers_frames (Pend s ts v) b v (untouched_with_queues b s t no_keys).frames (covers_more (Pend s ts b) (Pend s ts v) b (λ k i. forward_pend s ts b v k (λ r h. queues_with_queues b s t no_keys r k h) (session_same b v (same_with_queues b s t no_keys)) i) kb)
 
-pend_all : (ts : List ℕ) (l : List ℕ) (w : World) (s : ℕ) → Placing l w → IsQuiet s w → Covers (Pend s ts w) w → Covers (Pend s [] (left_tids w s ts)) (left_tids w s ts)
-unfolding left_tids
+pend_all : (ts : List ℕ) (l : List ℕ) (w : World) (s : ℕ) → Placing l w → IsQuiet s w → Covers (Pend s ts w) w → Covers (Pend s [] (after_tids_left w s ts)) (after_tids_left w s ts)
+unfolding after_tids_left
 pend_all [] l w s p q c = c
 pend_all (t ∷ ts) l w s p q c =
-    let v : World = left_tid w s t in
+    let v : World = after_tid_left w s t in
     let k : Same w v = same_left_tid w s t in
     pend_all ts l v s (placed_left_tid l w s t p) (quiet_same s w v (λ t. session_same w v k s t) q) (pend_left l w s t ts p q c)
 
-pub covers_gone : (l : List ℕ) (w : World) (s : ℕ) → Placing l w → IsQuiet s w → IsOwned w → Full w → Full (gone w s).world
-unfolding gone
+pub covers_gone : (l : List ℕ) (w : World) (s : ℕ) → Placing l w → IsQuiet s w → IsOwned w → Full w → Full (leave_outcome w s).world
+unfolding leave_outcome
 covers_gone l w s p q o c =
-    let a : World = left_tids w s (upto 8) in
-    let b : World = off_lists a s all_classes in
+    let a : World = after_tids_left w s (upto 8) in
+    let b : World = without_listings a s all_classes in
     let v : World = with_station b s None in
     let first : Covers (Pend s (upto 8) w) w = covers_more (InHand w) (Pend s (upto 8) w) w (λ k i. elim i [
       | inl r ↦ inl r
@@ -351,8 +351,8 @@ covers_gone l w s p q o c =
 
 -- ---- a station joins
 
-pub covers_joined : (w : World) (s window start exponent weight : ℕ) → is_live w s ≡ false → Full w → Full (joined w s window start exponent weight).world
-unfolding joined
+pub covers_joined : (w : World) (s window start exponent weight : ℕ) → is_live w s ≡ false → Full w → Full (join_outcome w s window start exponent weight).world
+unfolding join_outcome
 covers_joined w s window start exponent weight dead c =
     covers_frames (InHand (with_station w s _)) w _ (untouched_with_station w s _).frames (covers_more (InHand w) (InHand (with_station w s _)) w (λ j i. elim i [
       | inl r ↦ inl (record { place = r.place; there = queues_with_station w s _ r.place j r.there })

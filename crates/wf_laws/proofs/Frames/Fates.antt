@@ -9,19 +9,19 @@ use Rattle.wf_rules.specs.CodelLoop.{giving, dropping_first}
 use Rattle.wf_rule_laws.proofs.Lemmas.Dequeues.{each_dequeue}
 use Rattle.wf_rules.specs.Rotation.{in_order, no_keys}
 use Rattle.wf_rules.specs.Receiver.{Receiver}
-use Rattle.wf_rules.specs.Session.{is_waiting, request_due, waiting_numbers, with_state, Session, Slot, State, is_settled, is_failed, missed_slot, slot, on_slot, give, missed, new_session, next_number, numbers_where, no_slot}
-use Rattle.wf_world.specs.World.{World, Station, Share, Queue, Exchange, Mpdu, Content, Frames, Request, new_tid, no_tid, rotation, session, tid_of, is_live, exchange, with_station, on_station, on_tid, on_session, on_receiver, with_queues, on_share, on_queue, with_fate, finish, finish_all, with_exchange, without_exchange, opening, inside, is_held, no_frame, Frame, frame, new_queue, queue, accepted, params}
+use Rattle.wf_rules.specs.Session.{is_waiting, request_due, waiting_numbers, with_state, Session, Slot, State, is_settled, is_failed, slot_after_miss, slot, on_slot, with_number_given, after_miss, new_session, next_number, numbers_where, no_slot}
+use Rattle.wf_world.specs.World.{World, Station, Share, Queue, Exchange, Mpdu, Content, Frames, Request, new_tid, no_tid, rotation, session, tid_of, is_live, exchange, with_station, on_station, on_tid, on_session, on_receiver, with_queues, on_share, on_queue, with_fate, with_frame_finished, with_frames_finished, with_exchange, without_exchange, opening, inside, is_held, no_frame, Frame, frame, new_queue, queue, accepted_count, codel_params}
 use Rattle.wf_frame.specs.Classes.{all_classes}
-use Rattle.wf_world.specs.FlowQueues.{without_head, within_limit, appended, put_in, pay_queues, dequeued, taken_from, take, purge_queue, purge_queues, len_given, picked_queue, queue_for, total_queued, longest, is_at_limit}
-use Rattle.wf_world.specs.CanSend.{is_ready, listed, can_give}
-use Rattle.wf_world.specs.Exchanges.{is_acked, station_need, most_frames, picked_station, after_arrival, exchange_of, sending_tid, heard_start, Prepared, mpdus_of, after_pick, after_turn, with_fresh, filled, with_number, numbers_fly, waiting_mpdus, longest_fitting, spent, prepared_frames, prepared, opening_exchange, charged, settled_slot, settled, all_settled, after_done, ids_of, Aggregate}
+use Rattle.wf_world.specs.FlowQueues.{without_head, after_limit, with_appended, after_put_in, with_queues_paid, taken_by_codel, taken_from_picked, taken_for_tid, after_queue_left, after_queues_left, len_given, picked_queue, queue_for, total_queued, longest_queue, is_at_limit}
+use Rattle.wf_world.specs.CanSend.{is_ready, with_listings_of, can_give}
+use Rattle.wf_world.specs.Exchanges.{is_acked, station_need, most_frames, picked_station, after_arrival, exchange_of, sending_tid, with_heard_start, Prepared, mpdus_of, after_pick, after_tid_turn, with_fresh, aggregate_of, with_number, with_flying, waiting_mpdus, longest_fitting, without_credit, prepared_data, prepared_exchange, with_exchange_opened, after_charge, with_failed_finished, with_settled, with_all_settled, after_done, ids_of, Aggregate}
 use Rattle.wf_frame.specs.declared.notes.Ask.TheVariants.{Join, Leave, Rate, Tick, Pull, Arrive, Answer, Done, Sleep, Wake, Poll, Rx, Reap}
 use Rattle.wf_frame.specs.declared.notes.Note.{Note}
 use Rattle.wf_frame.specs.declared.notes.Note.TheVariants.{Enqueue, Asked}
 use Rattle.wf_frame.specs.declared.notes.Refusal.{Refusal}
 use Rattle.wf_frame.specs.declared.notes.Refusal.TheVariants.{Idle}
 use Rattle.wf_world.specs.Refusals.{refusal, refusals}
-use Rattle.wf_world.specs.Step.{Outcome, joined, left_tid, left_tids, off_lists, gone, with_rate, ticked, with_frame, enqueued, sent, pulled_by, pulled, arrived, answered, ended, on_open, slept, woken, credited, received, reaped, done, refused, answer, step, held_slots, rising, concerned}
+use Rattle.wf_world.specs.Step.{Outcome, join_outcome, after_tid_left, after_tids_left, without_listings, leave_outcome, rate_outcome, tick_outcome, with_frame, enqueue_outcome, send_outcome, pull_outcome_for, pull_outcome, arrive_outcome, answer_outcome, done_outcome, outcome_where_open, sleep_outcome, wake_outcome, poll_outcome, rx_outcome, reap_outcome, outcome_of, after_refusal, judged_outcome, step, waiting_ids, in_rising_order, concerned_station}
 use Rattle.wf_world.specs.Run.{Entry, world_after}
 use Rattle.std.proofs.lemmas.List.{length-append}
 use Rattle.std.proofs.lemmas.List.Sums.{sum_by-append}
@@ -55,7 +55,7 @@ pub record Remains (w v : World) : Type 0 where
 -- and no frame is accepted or reaped: only held frames get a fate, and each goes on the finished list
 pub record Stays (w v : World) : Type 0 where
   pub stays : (k : ℕ) → IsHeld w k ⊎ ((frame v k).fate ≡ (frame w k).fate)
-  pub accepted : accepted v ≡ accepted w
+  pub accepted : accepted_count v ≡ accepted_count w
   pub inside : inside v ≡ inside w
 
 -- the frames that P names are held
@@ -68,7 +68,7 @@ inside_same w v u = omega (arith, ap (λ (fs : List Frame). count_by (λ f. is_h
 fate_same : (w v : World) → v.frames ≡ w.frames → (k : ℕ) → (frame v k).fate ≡ (frame w k).fate
 fate_same w v e k = ap (λ (fs : List Frame). (at no_frame fs k).fate) e
 
-old_same : (w v : World) (k : ℕ) → Untouched w v → k < accepted w → k < accepted v
+old_same : (w v : World) (k : ℕ) → Untouched w v → k < accepted_count w → k < accepted_count v
 old_same w v k u h = omega (arith, h, ap (length {A = Frame}) u.frames)
 
 stays_same : (w v : World) → Untouched w v → Stays w v
@@ -99,24 +99,24 @@ held_less P Q w f h = record { held = λ k q. h.held k (f k q) }
 abbrev as_one : Bool → ℕ
 as_one b = if b then 1 else 0
 
-inside_finish : (w : World) (fate : Fate) (id : ℕ) → id < accepted w → IsHeld w id → is_held fate ≡ false → inside (finish w fate id) ≡ inside w
-unfolding finish with_fate
+inside_finish : (w : World) (fate : Fate) (id : ℕ) → id < accepted_count w → IsHeld w id → is_held fate ≡ false → inside (with_frame_finished w fate id) ≡ inside w
+unfolding with_frame_finished with_fate
 inside_finish w fate id old h settles =
     let sums = sum_put_within (λ (f : Frame). if is_held f.fate then 1 else 0) no_frame w.frames id (record (frame w id) { fate = fate }) old in
     let was : as_one (is_held (frame w id).fate) ≡ 1 = ap (λ (z : Fate). as_one (is_held z)) h in
     let is : as_one (is_held fate) ≡ 0 = ap as_one settles in
     omega (arith, sums, was, is, length-append w.finished (id ∷ []))
 
-stays_finish : (w : World) (fate : Fate) (id : ℕ) → id < accepted w → IsHeld w id → is_held fate ≡ false → Stays w (finish w fate id)
-unfolding finish with_fate
+stays_finish : (w : World) (fate : Fate) (id : ℕ) → id < accepted_count w → IsHeld w id → is_held fate ≡ false → Stays w (with_frame_finished w fate id)
+unfolding with_frame_finished with_fate
 stays_finish w fate id old h settles = record {
   stays = λ k. each_put (λ j x. j ≡ k → IsHeld w k ⊎ (x.fate ≡ (frame w k).fate)) no_frame w.frames id _ (λ j e. inr (ap (λ (i : ℕ). (frame w i).fate) e)) (λ e. inl (subst (IsHeld w) e h)) k refl;
   accepted = length_put no_frame w.frames id _ old;
   inside = inside_finish w fate id old h settles;
 }
 
-held_finish : (P Q : ℕ → Type 0) (w : World) (fate : Fate) (id : ℕ) → HeldOn P w → ((k : ℕ) → Q k → P k × (k ≢ id)) → HeldOn Q (finish w fate id)
-unfolding finish with_fate
+held_finish : (P Q : ℕ → Type 0) (w : World) (fate : Fate) (id : ℕ) → HeldOn P w → ((k : ℕ) → Q k → P k × (k ≢ id)) → HeldOn Q (with_frame_finished w fate id)
+unfolding with_frame_finished with_fate
 held_finish P Q w fate id h f = record {
   held = λ k q. each_put (λ j x. j ≡ k → x.fate ≡ Held) no_frame w.frames id _ (λ j e. ap (λ (i : ℕ). (frame w i).fate) e ∙ h.held k (f k q).0) (λ e. absurd ((f k q).1 (sym e))) k refl;
 }
@@ -126,14 +126,14 @@ record Finished (Q : ℕ → Type 0) (w v : World) : Type 0 where
   held : HeldOn Q v
 
 -- different held frames get a fate
-finish_ids : (ids : List ℕ) (P Q : ℕ → Type 0) (w : World) (fate : Fate) → is_held fate ≡ false → HeldOn P w → IsOnce ids → ((k : ℕ) → has ids k ≡ true → P k × (k < accepted w)) → ((k : ℕ) → Q k → P k × (has ids k ≡ false)) → Finished Q w (finish_all w fate ids)
-unfolding finish_all
+finish_ids : (ids : List ℕ) (P Q : ℕ → Type 0) (w : World) (fate : Fate) → is_held fate ≡ false → HeldOn P w → IsOnce ids → ((k : ℕ) → has ids k ≡ true → P k × (k < accepted_count w)) → ((k : ℕ) → Q k → P k × (has ids k ≡ false)) → Finished Q w (with_frames_finished w fate ids)
+unfolding with_frames_finished
 finish_ids [] P Q w fate settles h once own apart = record { stays = stays_same w w (untouched w); held = held_less P Q w (λ k q. (apart k q).0) h }
 finish_ids (x ∷ xs) P Q w fate settles h once own apart =
     let first = own x (or_left (x == x) (has xs x) (yes_eq x x refl)) in
-    let one : Stays w (finish w fate x) = stays_finish w fate x first.1 (h.held x first.0) settles in
-    let rest : Finished Q (finish w fate x) (finish_all (finish w fate x) fate xs) =
-    finish_ids xs (λ k. P k × (k ≢ x)) Q (finish w fate x) fate settles
+    let one : Stays w (with_frame_finished w fate x) = stays_finish w fate x first.1 (h.held x first.0) settles in
+    let rest : Finished Q (with_frame_finished w fate x) (with_frames_finished (with_frame_finished w fate x) fate xs) =
+    finish_ids xs (λ k. P k × (k ≢ x)) Q (with_frame_finished w fate x) fate settles
     (held_finish P (λ k. P k × (k ≢ x)) w fate x h (λ k q. q)) once.1
     (λ k e. let o = own k (or_right (x == k) (has xs k) e) in ((o.0, (λ d. cc (e, once.0, ap (has xs) d))), omega (arith, o.1, one.accepted)))
     (λ k q.
@@ -228,14 +228,14 @@ unsettles_refl y = record { was = λ k n c. c }
 pub then_unsettles : (x y z : Session) → Unsettles x y → Unsettles y z → Unsettles x z
 then_unsettles x y z h k = record { was = λ i n c. h.was i n (k.was i n c) }
 
-pub unsettles_fly : (ms : List Mpdu) (y : Session) (e lo hi : ℕ) → y.first ≤ lo → Rises lo hi ms → AllIn y State.Waiting ms → Unsettles y (numbers_fly e ms y)
+pub unsettles_fly : (ms : List Mpdu) (y : Session) (e lo hi : ℕ) → y.first ≤ lo → Rises lo hi ms → AllIn y State.Waiting ms → Unsettles y (with_flying e ms y)
 unsettles_fly [] y e lo hi b r a = unsettles_refl y
 unsettles_fly (m ∷ ms) y e lo hi b r a =
     let f : Slot → Slot = λ x. record x { state = State.Flying e } in
     then_unsettles y (on_slot m.number f y) _ (unsettles_on_slot y m.number f (omega (arith, r.0)) (ap is_settled a.0) (λ x. refl))
     (unsettles_fly ms (on_slot m.number f y) e (suc m.number) hi (omega (arith, r.0)) r.2 (all_in_later y State.Waiting m.number hi f ms (omega (arith, r.0)) r.2 a.1))
 
-pub unsettles_heard : (b : Bool) (f : ℕ) (y : Session) → Unsettles y (heard_start b f y)
+pub unsettles_heard : (b : Bool) (f : ℕ) (y : Session) → Unsettles y (with_heard_start b f y)
 unsettles_heard true f y = record { was = λ k n c. record { from = c.from; below = c.below; unsettled = c.unsettled; id = c.id } }
 unsettles_heard false f y = unsettles_refl y
 
@@ -327,16 +327,16 @@ safe_here l w p h = record { placing = p; fresh = h; stays = stays_same w w (unt
 pub safe_calm : (l : List ℕ) (w v : World) → Less Any w v → Same w v → Untouched w v → Placing l w → Fresh w → Safe l w v
 safe_calm l w v h k e p f = record { placing = placed_less l w v h k.sides p; fresh = fresh_calm w v h (session_same w v k) e.frames f; stays = stays_same w v e }
 
-same_taken_from_some : (w : World) (q : ℕ) (d : Dequeued) → Same w (dequeued w q d).world
-unfolding dequeued
+same_taken_from_some : (w : World) (q : ℕ) (d : Dequeued) → Same w (taken_by_codel w q d).world
+unfolding taken_by_codel
 same_taken_from_some w q d = then_same _ _ _ (same_on_queue w q _) (same_finish_all _ _ _)
 
-safe_dequeued : (l : List ℕ) (w : World) (q : ℕ) (d : Dequeued) → Placing l w → IsDroppedRight (queue w q).items d → Less Any w (dequeued w q d).world → Same w (dequeued w q d).world → Fresh w → Finished (λ k. InHand (dequeued w q d).world k ⊎ IsGivenId d.given k) w (dequeued w q d).world
-unfolding dequeued
+safe_dequeued : (l : List ℕ) (w : World) (q : ℕ) (d : Dequeued) → Placing l w → IsDroppedRight (queue w q).items d → Less Any w (taken_by_codel w q d).world → Same w (taken_by_codel w q d).world → Fresh w → Finished (λ k. InHand (taken_by_codel w q d).world k ⊎ IsGivenId d.given k) w (taken_by_codel w q d).world
+unfolding taken_by_codel
 safe_dequeued l w q d p right h same_sides f =
     let g : Queue → Queue = λ y. record { items = d.rest; deficit = y.deficit -ℤ pos (len_given d.given); codel = d.state } in
     let u : World = on_queue w q g in
-    let v : World = finish_all u (Dropped By_codel) (map (λ x. x.id) d.dropped) in
+    let v : World = with_frames_finished u (Dropped By_codel) (map (λ x. x.id) d.dropped) in
     let items : (queue v q).items ≡ d.rest = ap (λ (qs : List Queue). (at new_queue qs q).items) (queues_dropped (map (λ x. x.id) d.dropped) u (Dropped By_codel)) ∙ ap (λ (y : Queue). y.items) (queue_on w q g) in
     let r : Finished (λ k. InHand v k ⊎ IsGivenId d.given k) u v =
     finish_ids (ids_in d.dropped) (InHand w) (λ k. InHand v k ⊎ IsGivenId d.given k) u (Dropped By_codel) refl (held_frames (InHand w) w u (untouched_on_queue w q g).frames f) right.once
@@ -348,23 +348,23 @@ safe_dequeued l w q d p right h same_sides f =
     in
     record { stays = then_stays w u v (stays_same w u (untouched_on_queue w q g)) r.stays; held = r.held }
 
-pub given_dequeued-is : (w : World) (q : ℕ) (d : Dequeued) → (dequeued w q d).item ≡ d.given
-unfolding dequeued
+pub given_dequeued-is : (w : World) (q : ℕ) (d : Dequeued) → (taken_by_codel w q d).item ≡ d.given
+unfolding taken_by_codel
 given_dequeued-is w q d = refl
 
-safe_taken_from : (o : Option ℕ) (l : List ℕ) (w : World) (s : ℕ) → Placing l w → Fresh w → Finished (λ k. InHand (taken_from w s o).world k ⊎ IsGivenId (taken_from w s o).item k) w (taken_from w s o).world
-unfolding taken_from
+safe_taken_from : (o : Option ℕ) (l : List ℕ) (w : World) (s : ℕ) → Placing l w → Fresh w → Finished (λ k. InHand (taken_from_picked w s o).world k ⊎ IsGivenId (taken_from_picked w s o).item k) w (taken_from_picked w s o).world
+unfolding taken_from_picked
 safe_taken_from None l w s p f = record { stays = stays_same w w (untouched w); held = record { held = λ k i. elim i [ inl a ↦ f.held k a | inr b ↦ absurd b ] } }
 safe_taken_from (Some q) l w s p f =
-    let d : Dequeued = dequeue (params w s) w.clock (queue w q).codel (queue w q).items in
-    subst (λ (o : Option Item). Finished (λ k. InHand (dequeued w q d).world k ⊎ IsGivenId o k) w (dequeued w q d).world) (sym (given_dequeued-is w q d))
-    (safe_dequeued l w q d p (dropped_dequeue (queue w q).items (params w s) w.clock (queue w q).codel 0 (p.ordered q)) (less_dequeued Any w q d (right_dequeue (queue w q).items (params w s) w.clock (queue w q).codel)) (same_taken_from_some w q d) f)
+    let d : Dequeued = dequeue (codel_params w s) w.clock (queue w q).codel (queue w q).items in
+    subst (λ (o : Option Item). Finished (λ k. InHand (taken_by_codel w q d).world k ⊎ IsGivenId o k) w (taken_by_codel w q d).world) (sym (given_dequeued-is w q d))
+    (safe_dequeued l w q d p (dropped_dequeue (queue w q).items (codel_params w s) w.clock (queue w q).codel 0 (p.ordered q)) (less_dequeued Any w q d (right_dequeue (queue w q).items (codel_params w s) w.clock (queue w q).codel)) (same_taken_from_some w q d) f)
 
-safe_take : (l : List ℕ) (w : World) (s t : ℕ) → Placing l w → Fresh w → Finished (λ k. InHand (take w s t).world k ⊎ IsGivenId (take w s t).item k) w (take w s t).world
-unfolding take
+safe_take : (l : List ℕ) (w : World) (s t : ℕ) → Placing l w → Fresh w → Finished (λ k. InHand (taken_for_tid w s t).world k ⊎ IsGivenId (taken_for_tid w s t).item k) w (taken_for_tid w s t).world
+unfolding taken_for_tid
 safe_take l w s t p f =
     let ks : List ℕ = in_order (tid_of w s t).queues in
-    let a : World = pay_queues w (picked_queue w s t).quanta ks in
+    let a : World = with_queues_paid w (picked_queue w s t).quanta ks in
     let u : World = with_queues a s t (picked_queue w s t).lists in
     let h : Less Any w u = then_less Any w a u (less_pay_queues Any ks w _) (less_with_queues Any a s t _) in
     let k : Same w u = then_same w a u (same_pay_queues ks w _) (same_with_queues a s t _) in
@@ -373,15 +373,15 @@ safe_take l w s t p f =
     let r = safe_taken_from (picked_queue w s t).winner l u s b.placing b.fresh in
     record { stays = then_stays w u _ b.stays r.stays; held = r.held }
 
-fresh_give : (w : World) (s t id : ℕ) → HeldOn (λ k. InHand w k ⊎ (k ≡ id)) w → Fresh (on_session w s t (λ y. give y id))
+fresh_give : (w : World) (s t id : ℕ) → HeldOn (λ k. InHand w k ⊎ (k ≡ id)) w → Fresh (on_session w s t (λ y. with_number_given y id))
 fresh_give w s t id h =
     let y : Session = session w s t in
-    held_frames (InHand (on_session w s t (λ y. give y id))) w _ (untouched_on_session w s t _).frames (held_less (λ k. InHand w k ⊎ (k ≡ id)) (InHand (on_session w s t (λ y. give y id))) w (λ k i. elim i [
+    held_frames (InHand (on_session w s t (λ y. with_number_given y id))) w _ (untouched_on_session w s t _).frames (held_less (λ k. InHand w k ⊎ (k ≡ id)) (InHand (on_session w s t (λ y. with_number_given y id))) w (λ k i. elim i [
       | inl q ↦ inl (inl (in_queue_less w _ k (less_on_session Any w s t _) q))
-      | inr a ↦ at_slot_on w s t (λ y. give y id) k (InHand w k ⊎ (k ≡ id)) (λ i j n c. inl (inr (record { station = i; tid = j; number = n; slot_of = c })))
+      | inr a ↦ at_slot_on w s t (λ y. with_number_given y id) k (InHand w k ⊎ (k ≡ id)) (λ i j n c. inl (inr (record { station = i; tid = j; number = n; slot_of = c })))
           (λ n c. on_bool (nat_lt n (next_number y))
           (λ b.
-          let d : slot (give y id) n ≡ slot y n = slot_give y id n c.from (lt_yes n (next_number y) b) in
+          let d : slot (with_number_given y id) n ≡ slot y n = slot_give y id n c.from (lt_yes n (next_number y) b) in
           inl (inr (record { station = s; tid = t; number = n; slot_of = record { from = c.from; below = lt_yes n (next_number y) b; unsettled = ap (λ (x : Slot). is_settled x.state) (sym d) ∙ c.unsettled; id = ap (λ (x : Slot). x.id) (sym d) ∙ c.id } })))
           (λ b. let here : n ≡ next_number y = omega (arith, next-give y id, c.below, lt_no n (next_number y) b) in inr (sym c.id ∙ slot_new_id y id n here))) a
     ]) h)
@@ -396,13 +396,13 @@ unfolding with_number
 stays_number None w s t = stays_same w w (untouched w)
 stays_number (Some x) w s t = stays_same w _ (untouched_on_session w s t _)
 
-pub safe_numbered : (l : List ℕ) (w : World) (s t : ℕ) → Placing l w → Fresh w → Safe l w (with_number (take w s t).world s t (take w s t).item)
+pub safe_numbered : (l : List ℕ) (w : World) (s t : ℕ) → Placing l w → Fresh w → Safe l w (with_number (taken_for_tid w s t).world s t (taken_for_tid w s t).item)
 safe_numbered l w s t p f =
     let r = safe_take l w s t p f in
     record {
-      placing = placed_number (take w s t).item l w (take w s t).world s t (same_take w s t) (less_take Any w s t) (given_take w s t) p;
-      fresh = fresh_number (take w s t).item (take w s t).world s t r.held;
-      stays = then_stays w _ _ r.stays (stays_number (take w s t).item (take w s t).world s t);
+      placing = placed_number (taken_for_tid w s t).item l w (taken_for_tid w s t).world s t (same_take w s t) (less_take Any w s t) (given_take w s t) p;
+      fresh = fresh_number (taken_for_tid w s t).item (taken_for_tid w s t).world s t r.held;
+      stays = then_stays w _ _ r.stays (stays_number (taken_for_tid w s t).item (taken_for_tid w s t).world s t);
     }
 
 safe_filled_if : (b : Bool) (l : List ℕ) (w : World) (x y : Aggregate) → Safe l w x.world → Safe l w y.world → Safe l w (if b then x else y).world
@@ -413,31 +413,31 @@ safe_fresh : (n : ℕ) (l : List ℕ) (w : World) (s t : ℕ) (ms : List Mpdu) �
 unfolding with_fresh
 safe_fresh zero l w s t ms p f = safe_here l w p f
 safe_fresh (suc n) l w s t ms p f =
-    let numbered : Safe l w (with_number (take w s t).world s t (take w s t).item) = safe_numbered l w s t p f in
+    let numbered : Safe l w (with_number (taken_for_tid w s t).world s t (taken_for_tid w s t).item) = safe_numbered l w s t p f in
     safe_filled_if (not (can_give w s t)) l w _ _ (safe_here l w p f)
     (safe_filled_if _ l w _ _ (then_safe l w _ _ numbered.stays (safe_fresh n l _ s t _ numbered.placing numbered.fresh)) numbered)
 
-safe_filled : (l : List ℕ) (w : World) (s t : ℕ) → Placing l w → Fresh w → Safe l w (filled w s t).world
-unfolding filled
+safe_filled : (l : List ℕ) (w : World) (s t : ℕ) → Placing l w → Fresh w → Safe l w (aggregate_of w s t).world
+unfolding aggregate_of
 safe_filled l w s t p f =
     let chosen : List Mpdu = longest_fitting w s (waiting_mpdus w s t) in
     safe_filled_if (length chosen == length (waiting_mpdus w s t)) l w (with_fresh (most_frames w s - length chosen) w s t chosen) (record { world = w; mpdus = chosen })
     (safe_fresh (most_frames w s - length chosen) l w s t chosen p f) (safe_here l w p f)
 
-frames_fresh : (s t : ℕ) (f : Aggregate) → Fresh (on_session f.world s t (numbers_fly f.world.exchanges f.mpdus)) → Fresh (prepared_frames s t f).world
-unfolding prepared_frames
+frames_fresh : (s t : ℕ) (f : Aggregate) → Fresh (on_session f.world s t (with_flying f.world.exchanges f.mpdus)) → Fresh (prepared_data s t f).world
+unfolding prepared_data
 frames_fresh s t f h = h
 
-frames_stays : (s t : ℕ) (f : Aggregate) → Stays f.world (prepared_frames s t f).world
-unfolding prepared_frames
+frames_stays : (s t : ℕ) (f : Aggregate) → Stays f.world (prepared_data s t f).world
+unfolding prepared_data
 frames_stays s t f = stays_same f.world _ (untouched_on_session f.world s t _)
 
-safe_frames : (l : List ℕ) (w : World) (s t : ℕ) (f : Aggregate) → IsReady s t f.world f.mpdus → Safe l w f.world → Safe l w (prepared_frames s t f).world
+safe_frames : (l : List ℕ) (w : World) (s t : ℕ) (f : Aggregate) → IsReady s t f.world f.mpdus → Safe l w f.world → Safe l w (prepared_data s t f).world
 safe_frames l w s t f r k =
     let y : Session = session f.world s t in
     record {
       placing = placed_frames l s t f r k.placing;
-      fresh = frames_fresh s t f (fresh_session f.world s t (numbers_fly f.world.exchanges f.mpdus) (unsettles_fly f.mpdus y f.world.exchanges y.first (next_number y) (omega arith) r.chosen.rising r.chosen.waiting) k.fresh);
+      fresh = frames_fresh s t f (fresh_session f.world s t (with_flying f.world.exchanges f.mpdus) (unsettles_fly f.mpdus y f.world.exchanges y.first (next_number y) (omega arith) r.chosen.rising r.chosen.waiting) k.fresh);
       stays = then_stays w f.world _ k.stays (frames_stays s t f);
     }
 
@@ -445,30 +445,30 @@ safe_prepared_if : (b : Bool) (l : List ℕ) (w : World) (x y : Prepared) → Sa
 safe_prepared_if true l w x y h k = h
 safe_prepared_if false l w x y h k = k refl
 
-safe_prepared : (l : List ℕ) (w : World) (s t : ℕ) → IsLawful w → is_live w s ≡ true → Placing l w → Fresh w → Safe l w (prepared w s t).world
-unfolding prepared
-safe_prepared l w s t i live p f = safe_prepared_if (request_due (session w s t)) l w _ _ (safe_here l w p f) (λ quiet. safe_frames l w s t (filled w s t) (ready_filled w s t i live quiet) (safe_filled l w s t p f))
+safe_prepared : (l : List ℕ) (w : World) (s t : ℕ) → IsLawful w → is_live w s ≡ true → Placing l w → Fresh w → Safe l w (prepared_exchange w s t).world
+unfolding prepared_exchange
+safe_prepared l w s t i live p f = safe_prepared_if (request_due (session w s t)) l w _ _ (safe_here l w p f) (λ quiet. safe_frames l w s t (aggregate_of w s t) (ready_filled w s t i live quiet) (safe_filled l w s t p f))
 
-safe_sent : (l : List ℕ) (w : World) (s t : ℕ) (c : Class) (q : Prepared) → Safe l w q.world → Safe l w (sent s t c q).world
-unfolding sent opening_exchange
+safe_sent : (l : List ℕ) (w : World) (s t : ℕ) (c : Class) (q : Prepared) → Safe l w q.world → Safe l w (send_outcome s t c q).world
+unfolding send_outcome with_exchange_opened
 safe_sent l w s t c q k =
     let x : Exchange = exchange_of s t c q in
     let u : World = record q.world { exchanges = q.world.exchanges + 1; opened = q.world.opened ++ x ∷ [] } in
     let a : Placing l u = placed_less l q.world u (less_plain Any q.world u refl refl) (λ i j. refl) k.placing in
     let b : Fresh u = fresh_calm q.world u (less_plain Any q.world u refl refl) (λ i j. refl) refl k.fresh in
-    then_safe l w u _ (then_stays w q.world u k.stays (stays_same q.world u (record { frames = refl; finished = refl }))) (safe_calm l u (spent u s) (less_spent Any u s) (same_spent u s) (untouched_spent u s) a b)
+    then_safe l w u _ (then_stays w q.world u k.stays (stays_same q.world u (record { frames = refl; finished = refl }))) (safe_calm l u (without_credit u s) (less_spent Any u s) (same_spent u s) (untouched_spent u s) a b)
 
-safe_pulled_by : (o : Option ℕ) (l : List ℕ) (w : World) (c : Class) → IfSome o (λ s. is_live w s ≡ true) → IsLawful w → Placing l w → Fresh w → Safe l w (pulled_by w c o).world
-unfolding pulled_by
+safe_pulled_by : (o : Option ℕ) (l : List ℕ) (w : World) (c : Class) → IfSome o (λ s. is_live w s ≡ true) → IsLawful w → Placing l w → Fresh w → Safe l w (pull_outcome_for w c o).world
+unfolding pull_outcome_for
 safe_pulled_by None l w c live i p f = safe_here l w p f
 safe_pulled_by (Some s) l w c live i p f =
-    let v : World = after_turn w s c (sending_tid w s c) in
+    let v : World = after_tid_turn w s c (sending_tid w s c) in
     let k : Same w v = same_after_turn w s c (sending_tid w s c) in
     let a : Safe l w v = safe_calm l w v (less_after_turn Any w s c _) k (untouched_after_turn w s c _) p f in
     safe_sent l w s _ c _ (then_safe l w v _ a.stays (safe_prepared l v s _ (lawful_same _ _ k i) (k.live s ∙ live) a.placing a.fresh))
 
-safe_pulled : (l : List ℕ) (w : World) (c : Class) → IsLawful w → Placing l w → Fresh w → Safe l w (pulled w c).world
-unfolding pulled
+safe_pulled : (l : List ℕ) (w : World) (c : Class) → IsLawful w → Placing l w → Fresh w → Safe l w (pull_outcome w c).world
+unfolding pull_outcome
 safe_pulled l w c i p f =
     let v : World = after_pick w c in
     let k : Same w v = same_after_pick w c in
@@ -494,9 +494,9 @@ settled_not_in_hand l w p s t n id from below e settled i =
     ]
 
 -- a number that was settled just now: its frame gets its fate
-safe_finish : (l : List ℕ) (w : World) (s t n id : ℕ) (fate : Fate) → is_held fate ≡ false → Placing l w → Fresh w → IsHeld w id → (session w s t).first ≤ n → n < next_number (session w s t) → (slot (session w s t) n).id ≡ id → is_settled (slot (session w s t) n).state ≡ true → Safe l w (finish w fate id)
+safe_finish : (l : List ℕ) (w : World) (s t n id : ℕ) (fate : Fate) → is_held fate ≡ false → Placing l w → Fresh w → IsHeld w id → (session w s t).first ≤ n → n < next_number (session w s t) → (slot (session w s t) n).id ≡ id → is_settled (slot (session w s t) n).state ≡ true → Safe l w (with_frame_finished w fate id)
 safe_finish l w s t n id fate settles p f held from below e settled =
-    let v : World = finish w fate id in
+    let v : World = with_frame_finished w fate id in
     let k : Same w v = same_finish w fate id in
     let h : Less Any w v = less_finish Any w fate id (λ _. tt) in
     record {
@@ -504,7 +504,7 @@ safe_finish l w s t n id fate settles p f held from below e settled =
       fresh = held_finish (InHand w) (InHand v) w fate id f (λ i c.
           let a : InHand w i = in_hand_less w v i h (session_same w v k) c in
           (a, (λ d. settled_not_in_hand l w p s t n id from below e settled (subst (InHand w) d a))));
-      stays = stays_finish w fate id (subst (λ (k : ℕ). k < accepted w) e (p.numbered s t n from below).old) held settles;
+      stays = stays_finish w fate id (subst (λ (k : ℕ). k < accepted_count w) e (p.numbered s t n from below).old) held settles;
     }
 
 safe_if : (b : Bool) (l : List ℕ) (w u v : World) → (b ≡ true → Safe l w u) → (b ≡ false → Safe l w v) → Safe l w (if b then u else v)
@@ -550,24 +550,24 @@ stopped l e s t acked w m ms f same_id n own p h =
       state = ap (λ (u : Session). (slot u m.number).state) d ∙ ap (λ (x : Slot). x.state) (slot_same y m.number f);
     }
 
-safe_settled : (b : Bool) (l : List ℕ) (e s t : ℕ) (acked : ℕ → Bool) (w : World) (m : Mpdu) (ms : List Mpdu) → IsEnding e s t acked w (m ∷ ms) → (slot (session w s t) m.number).id ≡ m.id → Placing l w → Fresh w → Safe l w (settled w s t b m)
-unfolding settled settled_slot
+safe_settled : (b : Bool) (l : List ℕ) (e s t : ℕ) (acked : ℕ → Bool) (w : World) (m : Mpdu) (ms : List Mpdu) → IsEnding e s t acked w (m ∷ ms) → (slot (session w s t) m.number).id ≡ m.id → Placing l w → Fresh w → Safe l w (with_settled w s t b m)
+unfolding with_settled with_failed_finished
 safe_settled true l e s t acked w m ms n own p h =
     let v : World = on_session w s t (with_state State.Acked m.number) in
     let k : IsStopped l w v s t m (λ x. record x { state = State.Acked }) = stopped l e s t acked w m ms (λ x. record x { state = State.Acked }) (λ x. refl) n own p h in
     then_safe l w v _ k.safe.stays (safe_finish l v s t m.number m.id _ refl k.safe.placing k.safe.fresh k.held k.from k.below k.id (ap is_settled k.state))
 safe_settled false l e s t acked w m ms n own p h =
-    let v : World = on_session w s t (missed w.config.attempts m.number) in
-    let k : IsStopped l w v s t m (missed_slot w.config.attempts) = stopped l e s t acked w m ms (missed_slot w.config.attempts) (λ x. refl) n own p h in
+    let v : World = on_session w s t (after_miss w.config.attempts m.number) in
+    let k : IsStopped l w v s t m (slot_after_miss w.config.attempts) = stopped l e s t acked w m ms (slot_after_miss w.config.attempts) (λ x. refl) n own p h in
     safe_if (is_failed (slot (session v s t) m.number).state) l w _ v
     (λ b. then_safe l w v _ k.safe.stays (safe_finish l v s t m.number m.id _ refl k.safe.placing k.safe.fresh k.held k.from k.below k.id (failed_settled _ b)))
     (λ _. k.safe)
 
-safe_all : (ms : List Mpdu) (l : List ℕ) (e s t : ℕ) (acked : ℕ → Bool) (w : World) → IsEnding e s t acked w ms → Labelled (session w s t) ms → Placing l w → Fresh w → Safe l w (all_settled w s t acked ms)
-unfolding all_settled
+safe_all : (ms : List Mpdu) (l : List ℕ) (e s t : ℕ) (acked : ℕ → Bool) (w : World) → IsEnding e s t acked w ms → Labelled (session w s t) ms → Placing l w → Fresh w → Safe l w (with_all_settled w s t acked ms)
+unfolding with_all_settled
 safe_all [] l e s t acked w n a p h = safe_here l w p h
 safe_all (m ∷ ms) l e s t acked w n a p h =
-    let v : World = settled w s t (acked m.number) m in
+    let v : World = with_settled w s t (acked m.number) m in
     let k : Safe l w v = safe_settled (acked m.number) l e s t acked w m ms n a.0 p h in
     let kept : Kept w v = keep_settled (acked m.number) w s t m in
     then_safe l w v _ k.stays (safe_all ms l e s t acked v (ending_settled (acked m.number) e s t acked w m ms refl n)
@@ -577,27 +577,27 @@ fresh_without : (w : World) (e : ℕ) → Fresh w → Fresh (without_exchange w 
 unfolding without_exchange
 fresh_without w e h = fresh_calm w _ (less_plain Any w _ refl refl) (λ s t. refl) refl h
 
-safe_after : (c : Content) (l : List ℕ) (w : World) (i : IsLawful w) (x : Exchange) (heard : Bool) → x.content ≡ c → IsFound w i x → Labelled (session w x.station x.tid) (mpdus_of c) → Placing l (charged (without_exchange w x.number) x) → Fresh (charged (without_exchange w x.number) x) → Safe l (charged (without_exchange w x.number) x) (after_done (charged (without_exchange w x.number) x) x heard c)
+safe_after : (c : Content) (l : List ℕ) (w : World) (i : IsLawful w) (x : Exchange) (heard : Bool) → x.content ≡ c → IsFound w i x → Labelled (session w x.station x.tid) (mpdus_of c) → Placing l (after_charge (without_exchange w x.number) x) → Fresh (after_charge (without_exchange w x.number) x) → Safe l (after_charge (without_exchange w x.number) x) (after_done (after_charge (without_exchange w x.number) x) x heard c)
 unfolding after_done
 safe_after (Frames ms) l w i x heard e f a p h =
-    let v : World = charged (without_exchange w x.number) x in
+    let v : World = after_charge (without_exchange w x.number) x in
     let d : session v x.station x.tid ≡ session w x.station x.tid = session_same _ _ (same_charged (without_exchange w x.number) x) x.station x.tid ∙ without_same w x.number x.station x.tid in
     safe_all ms l x.number x.station x.tid (is_acked heard x.answer) v (ending_of w i x ms heard e f) (subst (λ (y : Session). Labelled y ms) (sym d) a) p h
 safe_after (Request g) l w i x heard e f a p h =
-    let v : World = charged (without_exchange w x.number) x in
+    let v : World = after_charge (without_exchange w x.number) x in
     record {
-      placing = placed_session l v x.station x.tid (heard_start heard g) (kept_heard heard g _) (next-heard heard g _) p;
-      fresh = fresh_session v x.station x.tid (heard_start heard g) (unsettles_heard heard g (session v x.station x.tid)) h;
+      placing = placed_session l v x.station x.tid (with_heard_start heard g) (kept_heard heard g _) (next-heard heard g _) p;
+      fresh = fresh_session v x.station x.tid (with_heard_start heard g) (unsettles_heard heard g (session v x.station x.tid)) h;
       stays = stays_same v _ (untouched_on_session v x.station x.tid _);
     }
 
-safe_ended : (l : List ℕ) (w : World) (i : IsLawful w) (x : Exchange) (heard : Bool) → IsFound w i x → Labelled (session w x.station x.tid) (mpdus_of x.content) → Placing l w → Fresh w → Safe l w (ended w x heard).world
-unfolding ended
+safe_ended : (l : List ℕ) (w : World) (i : IsLawful w) (x : Exchange) (heard : Bool) → IsFound w i x → Labelled (session w x.station x.tid) (mpdus_of x.content) → Placing l w → Fresh w → Safe l w (done_outcome w x heard).world
+unfolding done_outcome
 safe_ended l w i x heard f a p h =
     let u : World = without_exchange w x.number in
     let pu : Placing l u = placed_without l w x.number p in
-    let k : Safe l u (charged u x) = safe_calm l u (charged u x) (less_charged Any u x) (same_charged u x) (untouched_charged u x) pu (fresh_without w x.number h) in
-    then_safe l w u _ (stays_same w u (untouched_without w x.number)) (then_safe l u (charged u x) _ k.stays (safe_after x.content l w i x heard refl f a k.placing k.fresh))
+    let k : Safe l u (after_charge u x) = safe_calm l u (after_charge u x) (less_charged Any u x) (same_charged u x) (untouched_charged u x) pu (fresh_without w x.number h) in
+    then_safe l w u _ (stays_same w u (untouched_without w x.number)) (then_safe l u (after_charge u x) _ k.stays (safe_after x.content l w i x heard refl f a k.placing k.fresh))
 
 -- ---- a frame is queued
 
@@ -620,45 +620,45 @@ fate_with_frame w note k = new_fate w.frames (record { note = note; fate = Held 
 abbrev OrNew : World → ℕ → ℕ → Type 0
 OrNew w c k = InHand w k ⊎ (k ≡ c)
 
-pub head_gone : (w : World) (q : ℕ) (rest : List Item) (fate : Fate) (id : ℕ) → (queue (finish (on_queue w q (λ y. record y { items = rest })) fate id) q).items ≡ rest
-unfolding finish with_fate
+pub head_gone : (w : World) (q : ℕ) (rest : List Item) (fate : Fate) (id : ℕ) → (queue (with_frame_finished (on_queue w q (λ y. record y { items = rest })) fate id) q).items ≡ rest
+unfolding with_frame_finished with_fate
 head_gone w q rest fate id = ap (λ (y : Queue). y.items) (queue_on w q (λ y. record y { items = rest }))
 
-limit_head : (items : List Item) (l : List ℕ) (w : World) (q : ℕ) → (queue w q).items ≡ items → Placing l w → Fresh w → Finished (OrNew (without_head w q items) (accepted w)) w (without_head w q items)
+limit_head : (items : List Item) (l : List ℕ) (w : World) (q : ℕ) → (queue w q).items ≡ items → Placing l w → Fresh w → Finished (OrNew (without_head w q items) (accepted_count w)) w (without_head w q items)
 unfolding without_head
 limit_head [] l w q e p h = record { stays = stays_same w w (untouched w); held = record { held = λ k i. elim i [ inl a ↦ h.held k a | inr b ↦ default_frame w.frames k (omega (arith, b)) ] } }
 limit_head (x ∷ rest) l w q e p h =
     let g : Queue → Queue = λ y. record y { items = rest } in
     let u : World = on_queue w q g in
-    let v : World = finish u (Dropped Overlimit) x.id in
+    let v : World = with_frame_finished u (Dropped Overlimit) x.id in
     let there : carries (queue w q).items x.id ≡ true = ap (λ (ys : List Item). carries ys x.id) e ∙ or_left (x.id == x.id) (carries rest x.id) (yes_eq x.id x.id refl) in
     let o : Ordered 0 (x ∷ rest) = subst (Ordered 0) e (p.ordered q) in
     let gone : carries (queue v q).items x.id ≡ false = ap (λ (ys : List Item). carries ys x.id) (head_gone w q rest (Dropped Overlimit) x.id) ∙ on_bool (carries rest x.id) (λ c. absurd (omega (arith, carries_from rest (suc x.id) x.id o.1 c))) (λ c. c) in
     let less_u : Less Any w v = then_less Any w u v (less_on_queue Any w q g (subst (λ (ys : List Item). Fewer ys rest) (sym e) (fewer_tail x rest))) (less_finish Any u (Dropped Overlimit) x.id (λ _. tt)) in
     let k : Same w v = then_same w u v (same_on_queue w q g) (same_finish u (Dropped Overlimit) x.id) in
     let calm : Untouched w u = untouched_on_queue w q g in
-    let held_u : HeldOn (OrNew w (accepted w)) u = held_frames (OrNew w (accepted w)) w u calm.frames (record { held = λ j i. elim i [ inl a ↦ h.held j a | inr b ↦ default_frame w.frames j (omega (arith, b)) ] }) in
+    let held_u : HeldOn (OrNew w (accepted_count w)) u = held_frames (OrNew w (accepted_count w)) w u calm.frames (record { held = λ j i. elim i [ inl a ↦ h.held j a | inr b ↦ default_frame w.frames j (omega (arith, b)) ] }) in
     let own : InHand w x.id = inl (record { place = q; there = there }) in
     record {
       stays = then_stays w u v (stays_same w u calm) (stays_finish u (Dropped Overlimit) x.id (old_same w u x.id calm (p.queued q x.id there).old) (held_u.held x.id (inl own)) refl);
-      held = held_finish (OrNew w (accepted w)) (OrNew v (accepted w)) u (Dropped Overlimit) x.id held_u (λ j i. elim i [
+      held = held_finish (OrNew w (accepted_count w)) (OrNew v (accepted_count w)) u (Dropped Overlimit) x.id held_u (λ j i. elim i [
         | inl a ↦ (inl (in_hand_less w v j less_u (session_same w v k) a), (λ d. in_place l w v p q x.id less_u (session_same w v k) there gone (subst (InHand v) d a)))
         | inr b ↦ (inr b, (λ d. omega (arith, b, d, (p.queued q x.id there).old)))
       ]);
     }
 
-limit_kept : (l : List ℕ) (w : World) → Placing l w → Fresh w → Finished (OrNew (within_limit w) (accepted w)) w (within_limit w)
-unfolding within_limit
+limit_kept : (l : List ℕ) (w : World) → Placing l w → Fresh w → Finished (OrNew (after_limit w) (accepted_count w)) w (after_limit w)
+unfolding after_limit
 limit_kept l w p h =
-    on_if (λ (v : World). Finished (OrNew v (accepted w)) w v) (is_at_limit w) (without_head w (longest w) (queue w (longest w)).items) w
-    (λ _. limit_head (queue w (longest w)).items l w (longest w) refl p h)
+    on_if (λ (v : World). Finished (OrNew v (accepted_count w)) w v) (is_at_limit w) (without_head w (longest_queue w) (queue w (longest_queue w)).items) w
+    (λ _. limit_head (queue w (longest_queue w)).items l w (longest_queue w) refl p h)
     (λ _. record { stays = stays_same w w (untouched w); held = record { held = λ k i. elim i [ inl a ↦ h.held k a | inr b ↦ default_frame w.frames k (omega (arith, b)) ] } })
 
 inside_with_frame : (w : World) (note : Note) → inside (with_frame w note) ≡ suc (inside w)
 unfolding with_frame
 inside_with_frame w note = omega (arith, sum_by-append (λ (f : Frame). if is_held f.fate then 1 else 0) w.frames (record { note = note; fate = Held } ∷ []))
 
-accepted_with_frame : (w : World) (note : Note) → accepted (with_frame w note) ≡ suc (accepted w)
+accepted_with_frame : (w : World) (note : Note) → accepted_count (with_frame w note) ≡ suc (accepted_count w)
 unfolding with_frame
 accepted_with_frame w note = omega (arith, length-append w.frames (record { note = note; fate = Held } ∷ []))
 
@@ -666,21 +666,21 @@ accepted_with_frame w note = omega (arith, length-append w.frames (record { note
 record Entered (w v : World) : Type 0 where
   held : Fresh v
   remains : Remains w v
-  accepted : accepted v ≡ suc (accepted w)
+  accepted : accepted_count v ≡ suc (accepted_count w)
   inside : inside v ≡ suc (inside w)
 
-enqueue_kept : (l : List ℕ) (w : World) (s t flow len : ℕ) → Placing l w → Fresh w → Entered w (enqueued w s t flow len).world
-unfolding enqueued
+enqueue_kept : (l : List ℕ) (w : World) (s t flow len : ℕ) → Placing l w → Fresh w → Entered w (enqueue_outcome w s t flow len).world
+unfolding enqueue_outcome
 enqueue_kept l w s t flow len p h =
-    let u : World = within_limit w in
+    let u : World = after_limit w in
     let q : ℕ = queue_for u s t flow in
-    let x : Item = record { id = accepted w; stamp = w.clock; len = len } in
-    let a : World = put_in u s t q x in
+    let x : Item = record { id = accepted_count w; stamp = w.clock; len = len } in
+    let a : World = after_put_in u s t q x in
     let note : Note = Enqueue s t flow len in
     let v : World = with_frame a note in
-    let k : Finished (OrNew u (accepted w)) w u = limit_kept l w p h in
+    let k : Finished (OrNew u (accepted_count w)) w u = limit_kept l w p h in
     let put : Stays u a = stays_same u a (untouched_put_in u s t q x) in
-    let more : Less Any (appended u q x) v = then_less Any _ a v (less_put_in u s t q x) (less_with_frame a note) in
+    let more : Less Any (with_appended u q x) v = then_less Any _ a v (less_put_in u s t q x) (less_with_frame a note) in
     let sides : (i j : ℕ) → session v i j ≡ session u i j = λ i j. ap (λ (b : Side). b.session) (side_with_frame a note i j ∙ (same_put_in u s t q x).sides i j) in
     record {
       remains = then_remains w u v (remains_of w u k.stays) (then_remains u a v (remains_of u a put) (record { remains = λ i. inr (fate_with_frame a note i) }));
@@ -704,9 +704,9 @@ if_ids : (b : Bool) (y : Session) (id n : ℕ) (ids ns : List ℕ) → id ≡ (s
 if_ids true y id n ids ns e d = ap (λ (k : ℕ). k ∷ ids) e ∙ ap (λ (ks : List ℕ). (slot y n).id ∷ ks) d
 if_ids false y id n ids ns e d = d
 
-pub held_ids : (xs : List Slot) (y : Session) (n : ℕ) → ((i : ℕ) → at no_slot y.slots (n + i - y.first) ≡ at no_slot xs i) → held_slots xs ≡ ids_of y (numbers_where is_waiting n xs)
+pub held_ids : (xs : List Slot) (y : Session) (n : ℕ) → ((i : ℕ) → at no_slot y.slots (n + i - y.first) ≡ at no_slot xs i) → waiting_ids xs ≡ ids_of y (numbers_where is_waiting n xs)
 held_ids [] y n h = refl
-held_ids (x ∷ xs) y n h = if_ids (is_waiting x.state) y x.id n (held_slots xs) (numbers_where is_waiting (suc n) xs)
+held_ids (x ∷ xs) y n h = if_ids (is_waiting x.state) y x.id n (waiting_ids xs) (numbers_where is_waiting (suc n) xs)
     (ap (λ (z : Slot). z.id) (sym (h 0)) ∙ ap (λ (k : ℕ). (at no_slot y.slots (k - y.first)).id) (add-zero n))
     (held_ids xs y (suc n) (λ i. ap (λ (k : ℕ). at no_slot y.slots (k - y.first)) (omega arith) ∙ h (suc i)))
 
@@ -765,12 +765,12 @@ fewer_tids : (s t : ℕ) (ts : List ℕ) (w : World) (k : ℕ) → Pend s ts w k
 fewer_tids s t ts w k p = elim p [ inl q ↦ inl q | inr a ↦ inr (record { spot = a.spot; other = elim a.other [ inl b ↦ inl b | inr b ↦ inr (or_right (t == a.spot.tid) _ b) ] }) ]
 
 left_slots : (l : List ℕ) (w : World) (s t : ℕ) (ts : List ℕ) → Placing l w → has ts t ≡ false → HeldOn (Pend s (t ∷ ts) w) w
-    → Finished (Pend s ts (finish_all w (Dropped Left) (held_slots (session w s t).slots))) w (finish_all w (Dropped Left) (held_slots (session w s t).slots))
+    → Finished (Pend s ts (with_frames_finished w (Dropped Left) (waiting_ids (session w s t).slots))) w (with_frames_finished w (Dropped Left) (waiting_ids (session w s t).slots))
 left_slots l w s t ts p apart h =
     let y : Session = session w s t in
     let ns : List ℕ = waiting_numbers y in
-    let ids : List ℕ = held_slots y.slots in
-    let v : World = finish_all w (Dropped Left) ids in
+    let ids : List ℕ = waiting_ids y.slots in
+    let v : World = with_frames_finished w (Dropped Left) ids in
     let k : Same w v = same_finish_all ids w (Dropped Left) in
     let less_v : Less Any w v = less_drop_all Any ids w (Dropped Left) (λ e. cc e) in
     let e : ids ≡ ids_of y ns = held_ids y.slots y y.first (λ i. ap (at no_slot y.slots) (omega arith)) in
@@ -782,7 +782,7 @@ left_slots l w s t ts p apart h =
     let o : IsIdOf y ns i = has_ids ns y i (ap (λ (xs : List ℕ). has xs i) (sym e) ∙ d) in
     let m = member o.number o.among in (
       inr (record { spot = record { station = s; tid = t; number = o.number; slot_of = record { from = m.from; below = m.below; unsettled = m.unsettled; id = o.id } }; other = inr (or_left (t == t) (has ts t) (yes_eq t t refl)) }),
-      subst (λ (k : ℕ). k < accepted w) o.id (p.numbered s t o.number m.from m.below).old,
+      subst (λ (k : ℕ). k < accepted_count w) o.id (p.numbered s t o.number m.from m.below).old,
     ))
     (λ i d.
     let b : Pend s ts w i = pend_less s ts w v i less_v (session_same w v k) d in (
@@ -809,13 +809,13 @@ ordered_once : (xs : List Item) (lo : ℕ) → Ordered lo xs → IsOnce (ids_in 
 ordered_once [] lo o = tt
 ordered_once (x ∷ xs) lo o = (ids_carried xs x.id ∙ on_bool (carries xs x.id) (λ e. absurd (omega (arith, carries_from xs (suc x.id) x.id o.1 e))) (λ e. e), ordered_once xs (suc x.id) o.1)
 
-left_queue : (l : List ℕ) (w : World) (s : ℕ) (ts : List ℕ) (q : ℕ) → Placing l w → HeldOn (Pend s ts w) w → Less Any w (purge_queue w q) → Same w (purge_queue w q) → Finished (Pend s ts (purge_queue w q)) w (purge_queue w q)
-unfolding purge_queue
+left_queue : (l : List ℕ) (w : World) (s : ℕ) (ts : List ℕ) (q : ℕ) → Placing l w → HeldOn (Pend s ts w) w → Less Any w (after_queue_left w q) → Same w (after_queue_left w q) → Finished (Pend s ts (after_queue_left w q)) w (after_queue_left w q)
+unfolding after_queue_left
 left_queue l w s ts q p h less_v k =
     let g : Queue → Queue = λ y. record y { items = []; codel = new_codel } in
     let u : World = on_queue w q g in
     let ids : List ℕ = ids_in (queue w q).items in
-    let v : World = finish_all u (Dropped Left) ids in
+    let v : World = with_frames_finished u (Dropped Left) ids in
     let items : (queue v q).items ≡ [] = ap (λ (qs : List Queue). (at new_queue qs q).items) (queues_dropped ids u (Dropped Left)) ∙ ap (λ (y : Queue). y.items) (queue_on w q g) in
     let r : Finished (Pend s ts v) u v =
     finish_ids ids (Pend s ts w) (Pend s ts v) u (Dropped Left) refl (held_frames (Pend s ts w) w u (untouched_on_queue w q g).frames h) (ordered_once (queue w q).items 0 (p.ordered q))
@@ -833,29 +833,29 @@ record Leaving (l : List ℕ) (s : ℕ) (ts : List ℕ) (w v : World) : Type 0 w
 then_leaving : (l : List ℕ) (s : ℕ) (ts : List ℕ) (u v w : World) → Stays u v → Leaving l s ts v w → Leaving l s ts u w
 then_leaving l s ts u v w h k = record { placing = k.placing; held = k.held; stays = then_stays u v w h k.stays }
 
-pub same_purge_queue : (w : World) (q : ℕ) → Same w (purge_queue w q)
-unfolding purge_queue
+pub same_purge_queue : (w : World) (q : ℕ) → Same w (after_queue_left w q)
+unfolding after_queue_left
 same_purge_queue w q = then_same _ _ _ (same_on_queue w q _) (same_finish_all _ _ _)
 
-pub less_purge_queue : (w : World) (q : ℕ) → Less Any w (purge_queue w q)
-unfolding purge_queues
+pub less_purge_queue : (w : World) (q : ℕ) → Less Any w (after_queue_left w q)
+unfolding after_queues_left
 less_purge_queue w q = less_purge_queues Any (q ∷ []) w
 
-left_queues : (qs : List ℕ) (l : List ℕ) (w : World) (s : ℕ) (ts : List ℕ) → Placing l w → HeldOn (Pend s ts w) w → Leaving l s ts w (purge_queues w qs)
-unfolding purge_queues
+left_queues : (qs : List ℕ) (l : List ℕ) (w : World) (s : ℕ) (ts : List ℕ) → Placing l w → HeldOn (Pend s ts w) w → Leaving l s ts w (after_queues_left w qs)
+unfolding after_queues_left
 left_queues [] l w s ts p h = record { placing = p; held = h; stays = stays_same w w (untouched w) }
 left_queues (q ∷ qs) l w s ts p h =
-    let v : World = purge_queue w q in
+    let v : World = after_queue_left w q in
     let r : Finished (Pend s ts v) w v = left_queue l w s ts q p h (less_purge_queue w q) (same_purge_queue w q) in
     then_leaving l s ts w v _ r.stays (left_queues qs l v s ts (placed_less l w v (less_purge_queue w q) (same_purge_queue w q).sides p) r.held)
 
-left_one : (l : List ℕ) (w : World) (s t : ℕ) (ts : List ℕ) → Placing l w → has ts t ≡ false → HeldOn (Pend s (t ∷ ts) w) w → Leaving l s ts w (left_tid w s t)
-unfolding left_tid
+left_one : (l : List ℕ) (w : World) (s t : ℕ) (ts : List ℕ) → Placing l w → has ts t ≡ false → HeldOn (Pend s (t ∷ ts) w) w → Leaving l s ts w (after_tid_left w s t)
+unfolding after_tid_left
 left_one l w s t ts p apart h =
-    let ids : List ℕ = held_slots (session w s t).slots in
-    let a : World = finish_all w (Dropped Left) ids in
-    let qs : List ℕ = rising (in_order (tid_of w s t).queues) in
-    let b : World = purge_queues a qs in
+    let ids : List ℕ = waiting_ids (session w s t).slots in
+    let a : World = with_frames_finished w (Dropped Left) ids in
+    let qs : List ℕ = in_rising_order (in_order (tid_of w s t).queues) in
+    let b : World = after_queues_left a qs in
     let v : World = with_queues b s t no_keys in
     let ka : Same w a = same_finish_all ids w (Dropped Left) in
     let ra : Finished (Pend s ts a) w a = left_slots l w s t ts p apart h in
@@ -869,12 +869,12 @@ left_one l w s t ts p apart h =
       stays = then_stays w a v ra.stays (then_stays a b v rb.stays (stays_same b v calm));
     }
 
-left_all : (ts : List ℕ) (l : List ℕ) (w : World) (s : ℕ) → IsOnce ts → Placing l w → HeldOn (Pend s ts w) w → Leaving l s [] w (left_tids w s ts)
-unfolding left_tids
+left_all : (ts : List ℕ) (l : List ℕ) (w : World) (s : ℕ) → IsOnce ts → Placing l w → HeldOn (Pend s ts w) w → Leaving l s [] w (after_tids_left w s ts)
+unfolding after_tids_left
 left_all [] l w s once p h = record { placing = p; held = h; stays = stays_same w w (untouched w) }
 left_all (t ∷ ts) l w s once p h =
-    let r : Leaving l s ts w (left_tid w s t) = left_one l w s t ts p once.0 h in
-    then_leaving l s [] w (left_tid w s t) _ r.stays (left_all ts l (left_tid w s t) s once.1 r.placing r.held)
+    let r : Leaving l s ts w (after_tid_left w s t) = left_one l w s t ts p once.0 h in
+    then_leaving l s [] w (after_tid_left w s t) _ r.stays (left_all ts l (after_tid_left w s t) s once.1 r.placing r.held)
 
 bare_carries : (y : Session) (k n : ℕ) → next_number y ≡ y.first → Carries y k n → ⊥
 bare_carries y k n e c = omega (arith, e, c.from, c.below)
@@ -897,11 +897,11 @@ station_gone w s k o bare i = elim i [
       }))
 ]
 
-gone_kept : (l : List ℕ) (w : World) (s : ℕ) → Placing l w → Fresh w → Finished (InHand (gone w s).world) w (gone w s).world
-unfolding gone
+gone_kept : (l : List ℕ) (w : World) (s : ℕ) → Placing l w → Fresh w → Finished (InHand (leave_outcome w s).world) w (leave_outcome w s).world
+unfolding leave_outcome
 gone_kept l w s p h =
-    let a : World = left_tids w s (upto 8) in
-    let b : World = off_lists a s all_classes in
+    let a : World = after_tids_left w s (upto 8) in
+    let b : World = without_listings a s all_classes in
     let v : World = with_station b s None in
     let r : Leaving l s [] w a = left_all (upto 8) l w s (climbs_once (upto 8) 0 (count_climbs 8 0)) p (held_less (InHand w) (Pend s (upto 8) w) w (λ k d. pend_hand s (upto 8) w k d) h) in
     let kb : Same a b = same_off_lists all_classes a s in
@@ -916,7 +916,7 @@ pub session_on_receiver : (w : World) (s t : ℕ) (g : Receiver → Receiver) (i
 unfolding on_receiver
 session_on_receiver w s t g = each_side_on (λ i j y. y.session ≡ session w i j) w s t (λ y. record y { receiver = g y.receiver }) (λ i j. refl) refl
 
-safe_gone : (l : List ℕ) (w : World) (s : ℕ) → Placing l w → Fresh w → Safe l w (gone w s).world
+safe_gone : (l : List ℕ) (w : World) (s : ℕ) → Placing l w → Fresh w → Safe l w (leave_outcome w s).world
 safe_gone l w s p h = record { placing = placed_gone l w s p; fresh = (gone_kept l w s p h).held; stays = (gone_kept l w s p h).stays }
 
 -- ---- the step
@@ -927,14 +927,14 @@ fresh_station w i o bare h = held_frames (InHand (with_station w i o)) w _ (unto
 bare_new : (first size : ℕ) → next_number (new_session first size) ≡ first
 bare_new first size = omega arith
 
-joined_kept : (w : World) (s window start exponent weight : ℕ) → Fresh w → Finished (InHand (joined w s window start exponent weight).world) w (joined w s window start exponent weight).world
-unfolding joined
+joined_kept : (w : World) (s window start exponent weight : ℕ) → Fresh w → Finished (InHand (join_outcome w s window start exponent weight).world) w (join_outcome w s window start exponent weight).world
+unfolding join_outcome
 joined_kept w s window start exponent weight h = record {
   stays = stays_same w _ (untouched_with_station w s _);
   held = fresh_station w s _ (eight (λ y. next_number y.session ≡ y.session.first) (new_tid start window) (bare_new start window) (bare_new 0 0)) h;
 }
 
-safe_joined : (l : List ℕ) (w : World) (s window start exponent weight : ℕ) → Placing l w → Fresh w → Safe l w (joined w s window start exponent weight).world
+safe_joined : (l : List ℕ) (w : World) (s window start exponent weight : ℕ) → Placing l w → Fresh w → Safe l w (join_outcome w s window start exponent weight).world
 safe_joined l w s window start exponent weight p h =
     let r = joined_kept w s window start exponent weight h in
     record { placing = placed_joined l w s window start exponent weight p; fresh = r.held; stays = r.stays }
@@ -943,7 +943,7 @@ safe_joined l w s window start exponent weight p h =
 record Kept_fates (n r : ℕ) (w v : World) : Type 0 where
   fresh : Fresh v
   remains : Remains w v
-  accepted : accepted v ≡ n + accepted w
+  accepted : accepted_count v ≡ n + accepted_count w
   inside : r + inside v ≡ n + inside w
 
 of_stays : (w v : World) → Fresh v → Stays w v → Kept_fates 0 0 w v
@@ -966,23 +966,23 @@ fates_station w s f g h =
     let u : Untouched w (on_station w s f) = untouched_on_station w s f in
     of_stays w _ (fresh_calm w _ (less_on_station Any w s f) (session_same w _ (same_on_station w s f g)) u.frames h) (stays_same w _ u)
 
-fates_answered : (w : World) (x : Exchange) → Fresh w → Kept_fates 0 0 w (answered w x).world
-unfolding answered with_exchange
+fates_answered : (w : World) (x : Exchange) → Fresh w → Kept_fates 0 0 w (answer_outcome w x).world
+unfolding answer_outcome with_exchange
 fates_answered w x h = fates_plain w _ refl (record { frames = refl; finished = refl }) (λ s t. refl) h
 
 queues_on_receiver : (w : World) (s t : ℕ) (g : Receiver → Receiver) → w.queues ≡ (on_receiver w s t g).queues
 unfolding on_receiver on_tid on_station with_station
 queues_on_receiver w s t g = refl
 
-fates_arrived : (w : World) (x : Exchange) (n : ℕ) → Fresh w → Kept_fates 0 0 w (arrived w x n).world
-unfolding arrived with_exchange
+fates_arrived : (w : World) (x : Exchange) (n : ℕ) → Fresh w → Kept_fates 0 0 w (arrive_outcome w x n).world
+unfolding arrive_outcome with_exchange
 fates_arrived w x n h =
     let u : Untouched w (on_receiver w x.station x.tid (after_arrival x.content n)) = untouched_on_receiver w x.station x.tid (after_arrival x.content n) in
     fates_plain w _ (queues_on_receiver w x.station x.tid _) (record { frames = u.frames; finished = u.finished }) (session_on_receiver w x.station x.tid (after_arrival x.content n)) h
 
 -- the first of the finished list is reaped
-fates_reaped : (ids : List ℕ) (w : World) → w.finished ≡ ids → (length ids == 0) ≡ false → Fresh w → Kept_fates 0 1 w (reaped w ids).world
-unfolding reaped
+fates_reaped : (ids : List ℕ) (w : World) → w.finished ≡ ids → (length ids == 0) ≡ false → Fresh w → Kept_fates 0 1 w (reap_outcome w ids).world
+unfolding reap_outcome
 fates_reaped [] w e some h = absurd (cc some)
 fates_reaped (id ∷ ids) w e some h = record {
   fresh = fresh_calm w _ (less_plain Any w _ refl refl) (λ s t. refl) refl h;
@@ -991,8 +991,8 @@ fates_reaped (id ∷ ids) w e some h = record {
   inside = omega (arith, ap (length {A = ℕ}) e);
 }
 
-fates_open : (P : Exchange → Type 0) (o : Option Exchange) (w : World) (f : Exchange → Outcome) → IfSome o P → Fresh w → ((x : Exchange) → P x → Kept_fates 0 0 w (f x).world) → Kept_fates 0 0 w (on_open w o f).world
-unfolding on_open
+fates_open : (P : Exchange → Type 0) (o : Option Exchange) (w : World) (f : Exchange → Outcome) → IfSome o P → Fresh w → ((x : Exchange) → P x → Kept_fates 0 0 w (f x).world) → Kept_fates 0 0 w (outcome_where_open w o f).world
+unfolding outcome_where_open
 fates_open P None w f k h g = fates_here w h
 fates_open P (Some x) w f k h g = g x k
 
@@ -1020,8 +1020,8 @@ abbrev pub fetched : Note → ℕ
 fetched (Asked Reap) = 1
 fetched _ = 0
 
-fates_done : (note : Note) (l : List ℕ) (w : World) (i : IsLawful w) → NoRow (refusals w note) → IsLabelled w → Placing l w → Fresh w → Kept_fates (brought note) (fetched note) w (done w note).world
-unfolding done ticked with_rate slept woken credited received
+fates_done : (note : Note) (l : List ℕ) (w : World) (i : IsLawful w) → NoRow (refusals w note) → IsLabelled w → Placing l w → Fresh w → Kept_fates (brought note) (fetched note) w (outcome_of w note).world
+unfolding outcome_of tick_outcome rate_outcome sleep_outcome wake_outcome poll_outcome rx_outcome
 fates_done (Enqueue s t flow len) l w i e a p h = of_entered w _ (enqueue_kept l w s t flow len p h)
 fates_done (Asked (Join s window start exponent weight)) l w i e a p h = of_safe l w _ (safe_joined l w s window start exponent weight p h)
 fates_done (Asked (Leave s)) l w i e a p h = of_safe l w _ (safe_gone l w s p h)
@@ -1037,8 +1037,8 @@ fates_done (Asked (Poll s)) l w i e a p h = fates_station w s _ (λ x t. refl) h
 fates_done (Asked (Rx s c air)) l w i e a p h = fates_share w s c _ h
 fates_done (Asked Reap) l w i e a p h = fates_reaped w.finished w refl e.0 h
 
-fates_refused : (note : Note) (r : Refusal) (w : World) → Fresh w → Kept_fates 0 0 w (refused w note r)
-unfolding refused
+fates_refused : (note : Note) (r : Refusal) (w : World) → Fresh w → Kept_fates 0 0 w (after_refusal w note r)
+unfolding after_refusal
 fates_refused (Asked (Pull c)) Idle w h =
     let u : Untouched w (after_pick w c) = untouched_after_pick w c in
     of_stays w _ (fresh_calm w _ (less_after_pick Any w c) (session_same w _ (same_after_pick w c)) u.frames h) (stays_same w _ u)
@@ -1055,12 +1055,12 @@ fates_listed n r w u v h same_sides calm k =
     }
 
 fates_answer : (r : Option Refusal) (l : List ℕ) (w : World) (i : IsLawful w) (note : Note) → refusal w note ≡ r → IsLabelled w → Placing l w → Fresh w
-    → Kept_fates (if is_none r then brought note else 0) (if is_none r then fetched note else 0) w (answer w note r).world
-unfolding answer
+    → Kept_fates (if is_none r then brought note else 0) (if is_none r then fetched note else 0) w (judged_outcome w note r).world
+unfolding judged_outcome
 fates_answer (Some r) l w i note e a p h = fates_refused note r w h
 fates_answer None l w i note e a p h =
-    let u : World = (done w note).world in
-    fates_listed (brought note) (fetched note) w u (listed u (concerned w note)) (less_listed Any (concerned w note) u) (same_listed (concerned w note) u) (untouched_listed (concerned w note) u) (fates_done note l w i (no_row (refusals w note) e) a p h)
+    let u : World = (outcome_of w note).world in
+    fates_listed (brought note) (fetched note) w u (with_listings_of u (concerned_station w note)) (less_listed Any (concerned_station w note) u) (same_listed (concerned_station w note) u) (untouched_listed (concerned_station w note) u) (fates_done note l w i (no_row (refusals w note) e) a p h)
 
 fates_step : (l : List ℕ) (w : World) (i : IsLawful w) (note : Note) → IsLabelled w → Placing l w → Fresh w
     → Kept_fates (if is_none (refusal w note) then brought note else 0) (if is_none (refusal w note) then fetched note else 0) w (step w note).world
@@ -1090,7 +1090,7 @@ steady_run (e ∷ es) l w k = steady_run es _ (step w e.1).world (steady_step l 
 
 -- how many frames are accepted and inside after a call
 pub counted_step : (l : List ℕ) (w : World) (note : Note) → Steady l w
-    → (accepted (step w note).world ≡ (if is_none (refusal w note) then brought note else 0) + accepted w)
+    → (accepted_count (step w note).world ≡ (if is_none (refusal w note) then brought note else 0) + accepted_count w)
     × ((if is_none (refusal w note) then fetched note else 0) + inside (step w note).world ≡ (if is_none (refusal w note) then brought note else 0) + inside w)
 counted_step l w note k = let f = fates_step l w k.lawful note k.labelled k.placing k.fresh in (f.accepted, f.inside)
 

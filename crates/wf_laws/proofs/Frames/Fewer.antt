@@ -9,10 +9,10 @@ use Rattle.wf_rule_laws.proofs.Lemmas.Dequeues.{each_dequeue}
 use Rattle.wf_rules.specs.Rotation.{Rotation}
 use Rattle.wf_rules.specs.Receiver.{Receiver}
 use Rattle.wf_rules.specs.Session.{Session}
-use Rattle.wf_world.specs.World.{World, Station, Share, Tid, Queue, Exchange, with_station, on_station, on_tid, on_session, on_receiver, with_queues, on_share, on_queue, with_rotation, with_fate, finish, finish_all, Frame, no_frame, frame, new_queue, queue, accepted, params}
-use Rattle.wf_world.specs.FlowQueues.{without_head, within_limit, listed_queue, pay_queues, dequeued, taken_from, take, purge_queue, purge_queues}
-use Rattle.wf_world.specs.CanSend.{listed_in, listed_in_all, listed}
-use Rattle.wf_world.specs.Exchanges.{pay_station, pay_stations, after_pick, after_turn, spent, charged}
+use Rattle.wf_world.specs.World.{World, Station, Share, Tid, Queue, Exchange, with_station, on_station, on_tid, on_session, on_receiver, with_queues, on_share, on_queue, with_rotation, with_fate, with_frame_finished, with_frames_finished, Frame, no_frame, frame, new_queue, queue, accepted_count, codel_params}
+use Rattle.wf_world.specs.FlowQueues.{without_head, after_limit, with_listed_queue, with_queues_paid, taken_by_codel, taken_from_picked, taken_for_tid, after_queue_left, after_queues_left}
+use Rattle.wf_world.specs.CanSend.{with_listing_in, with_listings_in, with_listings_of}
+use Rattle.wf_world.specs.Exchanges.{with_station_paid, with_stations_paid, after_pick, after_tid_turn, without_credit, after_charge}
 use Rattle.wf_laws.specs.Queues.{EachItem}
 use Rattle.wf_rule_laws.proofs.Lemmas.Tables.{each_put, at_put_same}
 use Rattle.wf_rule_laws.proofs.Lemmas.Numbers.{on_bool, eq_yes, yes_eq, either, or_left, or_right}
@@ -98,7 +98,7 @@ IsAcked w id = (frame w id).fate ≡ Acked
 -- P: the frames that may have been acknowledged
 pub record Less (P : ℕ → Type 0) (w v : World) : Type 0 where
   pub queues : (q : ℕ) → Fewer (queue w q).items (queue v q).items
-  pub accepted : accepted w ≤ accepted v
+  pub accepted : accepted_count w ≤ accepted_count v
   pub fates : (id : ℕ) → IsAcked v id → IsAcked w id ⊎ P id
 
 pub less : (P : ℕ → Type 0) (w : World) → Less P w w
@@ -163,31 +163,31 @@ length_put_frames [] k v = omega arith
 length_put_frames (x ∷ xs) zero v = omega arith
 length_put_frames (x ∷ xs) (suc k) v = omega (arith, length_put_frames xs k v)
 
-pub less_finish : (P : ℕ → Type 0) (w : World) (fate : Fate) (id : ℕ) → (fate ≡ Acked → P id) → Less P w (finish w fate id)
-unfolding finish with_fate
+pub less_finish : (P : ℕ → Type 0) (w : World) (fate : Fate) (id : ℕ) → (fate ≡ Acked → P id) → Less P w (with_frame_finished w fate id)
+unfolding with_frame_finished with_fate
 less_finish P w fate id h = record {
   queues = λ q. fewer (queue w q).items;
   accepted = length_put_frames w.frames id _;
   fates = λ i. each_put (λ j x. j ≡ i → x.fate ≡ Acked → IsAcked w i ⊎ P i) no_frame w.frames id _ (λ j e a. inl (subst (IsAcked w) e a)) (λ e a. inr (subst P e (h a))) i refl;
 }
 
-pub less_drop_all : (P : ℕ → Type 0) (ids : List ℕ) (w : World) (fate : Fate) → (fate ≡ Acked → ⊥) → Less P w (finish_all w fate ids)
-unfolding finish_all
+pub less_drop_all : (P : ℕ → Type 0) (ids : List ℕ) (w : World) (fate : Fate) → (fate ≡ Acked → ⊥) → Less P w (with_frames_finished w fate ids)
+unfolding with_frames_finished
 less_drop_all P [] w fate h = less P w
 less_drop_all P (id ∷ ids) w fate h = then_less P _ _ _ (less_finish P w fate id (λ e. absurd (h e))) (less_drop_all P ids _ fate h)
 
-pub less_listed_in_all : (P : ℕ → Type 0) (cs : List Class) (w : World) (s : ℕ) → Less P w (listed_in_all w s cs)
-unfolding listed_in_all listed_in
+pub less_listed_in_all : (P : ℕ → Type 0) (cs : List Class) (w : World) (s : ℕ) → Less P w (with_listings_in w s cs)
+unfolding with_listings_in with_listing_in
 less_listed_in_all P [] w s = less P w
 less_listed_in_all P (c ∷ cs) w s = then_less P _ _ _ (if_less P _ w _ _ (less_with_rotation P w c _) (less P w)) (less_listed_in_all P cs _ s)
 
-pub less_listed : (P : ℕ → Type 0) (o : Option ℕ) (w : World) → Less P w (listed w o)
-unfolding listed
+pub less_listed : (P : ℕ → Type 0) (o : Option ℕ) (w : World) → Less P w (with_listings_of w o)
+unfolding with_listings_of
 less_listed P None w = less P w
 less_listed P (Some s) w = less_listed_in_all P _ w s
 
-less_pay_stations : (P : ℕ → Type 0) (ss : List ℕ) (w : World) (c : Class) (quanta : ℕ → ℕ) → Less P w (pay_stations w c quanta ss)
-unfolding pay_stations pay_station
+less_pay_stations : (P : ℕ → Type 0) (ss : List ℕ) (w : World) (c : Class) (quanta : ℕ → ℕ) → Less P w (with_stations_paid w c quanta ss)
+unfolding with_stations_paid with_station_paid
 less_pay_stations P [] w c quanta = less P w
 less_pay_stations P (s ∷ ss) w c quanta = then_less P _ _ _ (less_on_share P w s c _) (less_pay_stations P ss _ c quanta)
 
@@ -195,12 +195,12 @@ pub less_after_pick : (P : ℕ → Type 0) (w : World) (c : Class) → Less P w 
 unfolding after_pick
 less_after_pick P w c = then_less P _ _ _ (less_pay_stations P _ w c _) (less_with_rotation P _ c _)
 
-pub less_after_turn : (P : ℕ → Type 0) (w : World) (s : ℕ) (c : Class) (t : ℕ) → Less P w (after_turn w s c t)
-unfolding after_turn
+pub less_after_turn : (P : ℕ → Type 0) (w : World) (s : ℕ) (c : Class) (t : ℕ) → Less P w (after_tid_turn w s c t)
+unfolding after_tid_turn
 less_after_turn P w s c t = less_on_share P w s c _
 
-pub less_spent : (P : ℕ → Type 0) (w : World) (s : ℕ) → Less P w (spent w s)
-unfolding spent
+pub less_spent : (P : ℕ → Type 0) (w : World) (s : ℕ) → Less P w (without_credit w s)
+unfolding without_credit
 less_spent P w s = less_on_station P w s _
 
 less_without_head : (P : ℕ → Type 0) (items : List Item) (w : World) (q : ℕ) → (queue w q).items ≡ items → Less P w (without_head w q items)
@@ -208,26 +208,26 @@ unfolding without_head
 less_without_head P [] w q e = less P w
 less_without_head P (x ∷ rest) w q e = then_less P _ _ _ (less_on_queue P w q _ (subst (λ (ys : List Item). Fewer ys rest) (sym e) (fewer_tail x rest))) (less_finish P _ _ _ (λ h. absurd (cc h)))
 
-pub less_within_limit : (P : ℕ → Type 0) (w : World) → Less P w (within_limit w)
-unfolding within_limit
+pub less_within_limit : (P : ℕ → Type 0) (w : World) → Less P w (after_limit w)
+unfolding after_limit
 less_within_limit P w = if_less P _ w _ _ (less_without_head P _ w _ refl) (less P w)
 
-pub less_listed_queue : (P : ℕ → Type 0) (w : World) (s t q : ℕ) → Less P w (listed_queue w s t q)
-unfolding listed_queue
+pub less_listed_queue : (P : ℕ → Type 0) (w : World) (s t q : ℕ) → Less P w (with_listed_queue w s t q)
+unfolding with_listed_queue
 less_listed_queue P w s t q = if_less P _ w _ _ (less P w) (then_less P _ _ _ (less_on_queue P w q _ (fewer _)) (less_with_queues P _ s t _))
 
-pub less_pay_queues : (P : ℕ → Type 0) (qs : List ℕ) (w : World) (quanta : ℕ → ℕ) → Less P w (pay_queues w quanta qs)
-unfolding pay_queues
+pub less_pay_queues : (P : ℕ → Type 0) (qs : List ℕ) (w : World) (quanta : ℕ → ℕ) → Less P w (with_queues_paid w quanta qs)
+unfolding with_queues_paid
 less_pay_queues P [] w quanta = less P w
 less_pay_queues P (q ∷ qs) w quanta = then_less P _ _ _ (less_on_queue P w q _ (fewer _)) (less_pay_queues P qs _ quanta)
 
-pub less_purge_queues : (P : ℕ → Type 0) (qs : List ℕ) (w : World) → Less P w (purge_queues w qs)
-unfolding purge_queues purge_queue
+pub less_purge_queues : (P : ℕ → Type 0) (qs : List ℕ) (w : World) → Less P w (after_queues_left w qs)
+unfolding after_queues_left after_queue_left
 less_purge_queues P [] w = less P w
 less_purge_queues P (q ∷ qs) w = then_less P _ _ _ (then_less P _ _ _ (less_on_queue P w q _ (fewer_none _)) (less_drop_all P _ _ _ (λ h. cc h))) (less_purge_queues P qs _)
 
-pub less_charged : (P : ℕ → Type 0) (w : World) (x : Exchange) → Less P w (charged w x)
-unfolding charged
+pub less_charged : (P : ℕ → Type 0) (w : World) (x : Exchange) → Less P w (after_charge w x)
+unfolding after_charge
 less_charged P w x = less_on_share P w _ _ _
 
 -- ---- a take
@@ -238,8 +238,8 @@ pub record IsTaken (w v : World) (x : Item) : Type 0 where
   pub there : carries (queue w place).items x.id ≡ true
   pub gone : ((q : ℕ) → Ordered 0 (queue w q).items) → carries (queue v place).items x.id ≡ false
 
-pub queues_dropped : (ids : List ℕ) (w : World) (fate : Fate) → (finish_all w fate ids).queues ≡ w.queues
-unfolding finish_all finish with_fate
+pub queues_dropped : (ids : List ℕ) (w : World) (fate : Fate) → (with_frames_finished w fate ids).queues ≡ w.queues
+unfolding with_frames_finished with_frame_finished with_fate
 queues_dropped [] w fate = refl
 queues_dropped (id ∷ ids) w fate = queues_dropped ids _ fate
 
@@ -251,26 +251,26 @@ taken_by : (o : Option Item) (w v : World) (q : ℕ) (xs : List Item) → (queue
 taken_by None w v q xs e h = tt
 taken_by (Some x) w v q xs e h = record { place = q; there = h.there; gone = λ o. ap (λ (ys : List Item). carries ys x.id) e ∙ h.gone 0 (o q) }
 
-pub less_dequeued : (P : ℕ → Type 0) (w : World) (q : ℕ) (d : Dequeued) → IsDequeued (queue w q).items d → Less P w (dequeued w q d).world
-unfolding dequeued
+pub less_dequeued : (P : ℕ → Type 0) (w : World) (q : ℕ) (d : Dequeued) → IsDequeued (queue w q).items d → Less P w (taken_by_codel w q d).world
+unfolding taken_by_codel
 less_dequeued P w q d h = then_less P _ _ _ (less_on_queue P w q _ h.rest) (less_drop_all P _ _ _ (λ e. cc e))
 
-given_dequeued : (w : World) (q : ℕ) (d : Dequeued) → IsDequeued (queue w q).items d → IfSome (dequeued w q d).item (IsTaken w (dequeued w q d).world)
-unfolding dequeued
+given_dequeued : (w : World) (q : ℕ) (d : Dequeued) → IsDequeued (queue w q).items d → IfSome (taken_by_codel w q d).item (IsTaken w (taken_by_codel w q d).world)
+unfolding taken_by_codel
 given_dequeued w q d h = taken_by d.given w _ q d.rest (ap (λ (qs : List Queue). (at new_queue qs q).items) (queues_dropped (map (λ x. x.id) d.dropped) _ _) ∙ ap (λ (y : Queue). y.items) (queue_on w q _)) h.given
 
-less_taken_from : (P : ℕ → Type 0) (o : Option ℕ) (w : World) (s : ℕ) → Less P w (taken_from w s o).world
-unfolding taken_from
+less_taken_from : (P : ℕ → Type 0) (o : Option ℕ) (w : World) (s : ℕ) → Less P w (taken_from_picked w s o).world
+unfolding taken_from_picked
 less_taken_from P None w s = less P w
-less_taken_from P (Some q) w s = less_dequeued P w q _ (right_dequeue (queue w q).items (params w s) w.clock (queue w q).codel)
+less_taken_from P (Some q) w s = less_dequeued P w q _ (right_dequeue (queue w q).items (codel_params w s) w.clock (queue w q).codel)
 
-given_taken_from : (o : Option ℕ) (w : World) (s : ℕ) → IfSome (taken_from w s o).item (IsTaken w (taken_from w s o).world)
-unfolding taken_from
+given_taken_from : (o : Option ℕ) (w : World) (s : ℕ) → IfSome (taken_from_picked w s o).item (IsTaken w (taken_from_picked w s o).world)
+unfolding taken_from_picked
 given_taken_from None w s = tt
-given_taken_from (Some q) w s = given_dequeued w q _ (right_dequeue (queue w q).items (params w s) w.clock (queue w q).codel)
+given_taken_from (Some q) w s = given_dequeued w q _ (right_dequeue (queue w q).items (codel_params w s) w.clock (queue w q).codel)
 
-pub less_take : (P : ℕ → Type 0) (w : World) (s t : ℕ) → Less P w (take w s t).world
-unfolding take
+pub less_take : (P : ℕ → Type 0) (w : World) (s t : ℕ) → Less P w (taken_for_tid w s t).world
+unfolding taken_for_tid
 less_take P w s t = then_less P _ _ _ (then_less P _ _ _ (less_pay_queues P _ w _) (less_with_queues P _ s t _)) (less_taken_from P _ _ s)
 
 -- before the take the same frames were there as after the queues were paid
@@ -278,6 +278,6 @@ taken_before : (o : Option Item) (w u v : World) → Less (λ _. ⊥) w u → If
 taken_before None w u v h k = tt
 taken_before (Some x) w u v h k = record { place = k.place; there = (h.queues k.place).has x.id k.there; gone = λ o. k.gone (λ q. (h.queues q).ordered 0 (o q)) }
 
-pub given_take : (w : World) (s t : ℕ) → IfSome (take w s t).item (IsTaken w (take w s t).world)
-unfolding take
+pub given_take : (w : World) (s t : ℕ) → IfSome (taken_for_tid w s t).item (IsTaken w (taken_for_tid w s t).world)
+unfolding taken_for_tid
 given_take w s t = taken_before _ w _ _ (then_less (λ _. ⊥) _ _ _ (less_pay_queues (λ _. ⊥) _ w _) (less_with_queues (λ _. ⊥) _ s t _)) (given_taken_from _ _ s)

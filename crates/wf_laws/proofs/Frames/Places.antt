@@ -14,13 +14,13 @@ use Rattle.wf_frame.specs.Classes.{all_classes}
 use Rattle.wf_rules.specs.Table.{at, has, upto}
 use Rattle.wf_rules.specs.Codel.{Item}
 use Rattle.wf_rules.specs.Session.{Session, State, slot, is_settled, next_number, new_session}
-use Rattle.wf_world.specs.World.{World, Queue, Station, Exchange, Frame, Share, new_queue, on_queue, on_receiver, on_tid, with_queues, with_rotation, rotation, no_frame, no_tid, new_tid, queue, session, frame, accepted, exchange, with_station, on_station, on_share, with_exchange, opening}
-use Rattle.wf_world.specs.FlowQueues.{is_at_limit, longest, without_head, within_limit, queue_for, put_in, purge_queue, purge_queues}
+use Rattle.wf_world.specs.World.{World, Queue, Station, Exchange, Frame, Share, new_queue, on_queue, on_receiver, on_tid, with_queues, with_rotation, rotation, no_frame, no_tid, new_tid, queue, session, frame, accepted_count, exchange, with_station, on_station, on_share, with_exchange, opening}
+use Rattle.wf_world.specs.FlowQueues.{is_at_limit, longest_queue, without_head, after_limit, queue_for, after_put_in, after_queue_left, after_queues_left}
 use Rattle.wf_world.specs.Exchanges.{after_arrival, after_pick}
 use Rattle.wf_rules.specs.Rotation.{in_order}
-use Rattle.wf_world.specs.CanSend.{listed_in, listed_in_all, listed}
+use Rattle.wf_world.specs.CanSend.{with_listing_in, with_listings_in, with_listings_of}
 use Rattle.wf_world.specs.Refusals.{refusals, refusal, open_of_station}
-use Rattle.wf_world.specs.Step.{Outcome, enqueued, joined, left_tid, left_tids, off_lists, gone, with_rate, ticked, slept, woken, credited, received, arrived, answered, reaped, on_open, concerned, done, refused, answer, step}
+use Rattle.wf_world.specs.Step.{Outcome, enqueue_outcome, join_outcome, after_tid_left, after_tids_left, without_listings, leave_outcome, rate_outcome, tick_outcome, sleep_outcome, wake_outcome, poll_outcome, rx_outcome, arrive_outcome, answer_outcome, reap_outcome, outcome_where_open, concerned_station, outcome_of, after_refusal, judged_outcome, step}
 use Rattle.wf_world.specs.Run.{Entry, world_after}
 use Rattle.wf_world.specs.Stretches.{world_at}
 use Rattle.wf_laws.specs.Windows.{SomeOpen, IsSending}
@@ -54,27 +54,27 @@ unfolding without_head
 notes_head [] w q k = refl
 notes_head (x ∷ rest) w q k = ap (λ (b : Shelves). b.notes k) (shelves_finish _ (Dropped Overlimit) x.id) ∙ ap (λ (fs : List Frame). (at no_frame fs k).note) (untouched_on_queue w q (λ y. record y { items = rest })).frames
 
-notes_limit : (w : World) (k : ℕ) → (frame (within_limit w) k).note ≡ (frame w k).note
-unfolding within_limit
-notes_limit w k = on_if (λ (v : World). (frame v k).note ≡ (frame w k).note) (is_at_limit w) (without_head w (longest w) (queue w (longest w)).items) w (λ _. notes_head (queue w (longest w)).items w (longest w) k) (λ _. refl)
+notes_limit : (w : World) (k : ℕ) → (frame (after_limit w) k).note ≡ (frame w k).note
+unfolding after_limit
+notes_limit w k = on_if (λ (v : World). (frame v k).note ≡ (frame w k).note) (is_at_limit w) (without_head w (longest_queue w) (queue w (longest_queue w)).items) w (λ _. notes_head (queue w (longest_queue w)).items w (longest_queue w) k) (λ _. refl)
 
-notes_enqueued : (l : List ℕ) (w : World) (s t flow len k : ℕ) → Placing l w → k < accepted w → (frame (enqueued w s t flow len).world k).note ≡ (frame w k).note
-unfolding enqueued
+notes_enqueued : (l : List ℕ) (w : World) (s t flow len k : ℕ) → Placing l w → k < accepted_count w → (frame (enqueue_outcome w s t flow len).world k).note ≡ (frame w k).note
+unfolding enqueue_outcome
 notes_enqueued l w s t flow len k p below =
-    let u : World = within_limit w in
+    let u : World = after_limit w in
     let q : ℕ = queue_for u s t flow in
-    let x : Item = record { id = accepted w; stamp = w.clock; len = len } in
-    let a : World = put_in u s t q x in
+    let x : Item = record { id = accepted_count w; stamp = w.clock; len = len } in
+    let a : World = after_put_in u s t q x in
     let note : Note = Enqueue s t flow len in
-    let same_id : accepted a ≡ accepted w = accepted_put u s t q x ∙ accepted_limit l w p in
-    ap (λ (b : Shelves). b.notes k) (shelves_with_frame a note) ∙ (upd_other (shelves a).notes (accepted a) k note (λ e. omega (arith, e, below, same_id))
+    let same_id : accepted_count a ≡ accepted_count w = accepted_put u s t q x ∙ accepted_limit l w p in
+    ap (λ (b : Shelves). b.notes k) (shelves_with_frame a note) ∙ (upd_other (shelves a).notes (accepted_count a) k note (λ e. omega (arith, e, below, same_id))
     ∙ (ap (λ (fs : List Frame). (at no_frame fs k).note) (untouched_put_in u s t q x).frames ∙ notes_limit w k))
 
-owned_enqueued : (l : List ℕ) (w : World) (s t flow len : ℕ) → Placing l w → IsOwned w → IsOwned (enqueued w s t flow len).world
+owned_enqueued : (l : List ℕ) (w : World) (s t flow len : ℕ) → Placing l w → IsOwned w → IsOwned (enqueue_outcome w s t flow len).world
 owned_enqueued l w s t flow len p o = record {
   mine = λ i j k n c.
-      let d : Carries (session w i j) k n = subst (λ (y : Session). Carries y k n) (session_same w (enqueued w s t flow len).world (same_enqueued w s t flow len) i j) c in
-      let old : k < accepted w = subst (λ (m : ℕ). m < accepted w) d.id (p.numbered i j n d.from d.below).old in
+      let d : Carries (session w i j) k n = subst (λ (y : Session). Carries y k n) (session_same w (enqueue_outcome w s t flow len).world (same_enqueued w s t flow len) i j) c in
+      let old : k < accepted_count w = subst (λ (m : ℕ). m < accepted_count w) d.id (p.numbered i j n d.from d.below).old in
       let m = o.mine i j k n d in
       (subst (IsFor i j) (sym (notes_enqueued l w s t flow len k p old)) m.0, m.1);
 }
@@ -96,26 +96,26 @@ bare_zero = omega arith
 bare_new : (first size : ℕ) → next_number (new_session first size) ≡ first
 bare_new first size = omega arith
 
-owned_joined : (w : World) (s window start exponent weight : ℕ) → IsOwned w → IsOwned (joined w s window start exponent weight).world
-unfolding joined
+owned_joined : (w : World) (s window start exponent weight : ℕ) → IsOwned w → IsOwned (join_outcome w s window start exponent weight).world
+unfolding join_outcome
 owned_joined w s window start exponent weight o =
     owned_along w (with_station w s _) (slots_station w s _ (eight (λ y. next_number y.session ≡ y.session.first) (new_tid start window) (bare_new start window) (bare_new 0 0))) (notes_frames w (with_station w s _) (untouched_with_station w s _).frames) o
 
-notes_purge : (qs : List ℕ) (w : World) (k : ℕ) → (frame (purge_queues w qs) k).note ≡ (frame w k).note
-unfolding purge_queues purge_queue on_queue
+notes_purge : (qs : List ℕ) (w : World) (k : ℕ) → (frame (after_queues_left w qs) k).note ≡ (frame w k).note
+unfolding after_queues_left after_queue_left on_queue
 notes_purge [] w k = refl
 notes_purge (q ∷ qs) w k = notes_purge qs _ k ∙ ap (λ (b : Shelves). b.notes k) (shelves_finish_all _ _ (Dropped Left))
 
-notes_left : (ts : List ℕ) (w : World) (s k : ℕ) → (frame (left_tids w s ts) k).note ≡ (frame w k).note
-unfolding left_tids left_tid with_queues on_tid on_station with_station
+notes_left : (ts : List ℕ) (w : World) (s k : ℕ) → (frame (after_tids_left w s ts) k).note ≡ (frame w k).note
+unfolding after_tids_left after_tid_left with_queues on_tid on_station with_station
 notes_left [] w s k = refl
 notes_left (t ∷ ts) w s k = notes_left ts _ s k ∙ (notes_purge _ _ k ∙ ap (λ (b : Shelves). b.notes k) (shelves_finish_all _ w (Dropped Left)))
 
-owned_gone : (w : World) (s : ℕ) → IsOwned w → IsOwned (gone w s).world
-unfolding gone
+owned_gone : (w : World) (s : ℕ) → IsOwned w → IsOwned (leave_outcome w s).world
+unfolding leave_outcome
 owned_gone w s o =
-    let a : World = left_tids w s (upto 8) in
-    let b : World = off_lists a s all_classes in
+    let a : World = after_tids_left w s (upto 8) in
+    let b : World = without_listings a s all_classes in
     let v : World = with_station b s None in
     owned_along w v
     (then_slots w b v (slots_same w b (session_same w b (then_same w a b (same_left_tids (upto 8) w s) (same_off_lists all_classes a s)))) (slots_station b s None (λ t. bare_zero)))
@@ -166,13 +166,13 @@ all_queues_after_pick : (w : World) (c : Class) → (after_pick w c).queues ≡ 
 unfolding after_pick with_rotation
 all_queues_after_pick w c = queues_pay_stations (in_order (rotation w c)) w c _
 
-queues_listed_in_all : (cs : List Class) (w : World) (s : ℕ) → (listed_in_all w s cs).queues ≡ w.queues
-unfolding listed_in_all listed_in with_rotation
+queues_listed_in_all : (cs : List Class) (w : World) (s : ℕ) → (with_listings_in w s cs).queues ≡ w.queues
+unfolding with_listings_in with_listing_in with_rotation
 queues_listed_in_all [] w s = refl
 queues_listed_in_all (c ∷ cs) w s = queues_listed_in_all cs _ s ∙ on_if (λ (v : World). v.queues ≡ w.queues) _ _ w (λ _. refl) (λ _. refl)
 
-queues_listed : (o : Option ℕ) (w : World) → (listed w o).queues ≡ w.queues
-unfolding listed
+queues_listed : (o : Option ℕ) (w : World) → (with_listings_of w o).queues ≡ w.queues
+unfolding with_listings_of
 queues_listed None w = refl
 queues_listed (Some s) w = queues_listed_in_all all_classes w s
 
@@ -180,8 +180,8 @@ queues_kept : (w : World) (x : Exchange) (n q k : ℕ) → carries (queue w q).i
 unfolding on_receiver on_tid on_station with_station
 queues_kept w x n q k h = h
 
-stood_arrived : (w : World) (x : Exchange) (n : ℕ) → Stood w → Stood (arrived w x n).world
-unfolding arrived with_exchange
+stood_arrived : (w : World) (x : Exchange) (n : ℕ) → Stood w → Stood (arrive_outcome w x n).world
+unfolding arrive_outcome with_exchange
 stood_arrived w x n i =
     let s : (a b : ℕ) → session (on_receiver w x.station x.tid (after_arrival x.content n)) a b ≡ session w a b = session_on_receiver w x.station x.tid (after_arrival x.content n) in
     let e : (on_receiver w x.station x.tid (after_arrival x.content n)).frames ≡ w.frames = (untouched_on_receiver w x.station x.tid (after_arrival x.content n)).frames in
@@ -190,22 +190,22 @@ stood_arrived w x n i =
       full = covers_calm w _ (λ q j h. queues_kept w x n q j h) s e i.full;
     }
 
-stood_answered : (w : World) (x : Exchange) → Stood w → Stood (answered w x).world
-unfolding answered with_exchange
+stood_answered : (w : World) (x : Exchange) → Stood w → Stood (answer_outcome w x).world
+unfolding answer_outcome with_exchange
 stood_answered w x i = stood_plain w _ refl refl refl i
 
-stood_reaped : (ids : List ℕ) (w : World) → Stood w → Stood (reaped w ids).world
-unfolding reaped
+stood_reaped : (ids : List ℕ) (w : World) → Stood w → Stood (reap_outcome w ids).world
+unfolding reap_outcome
 stood_reaped [] w i = i
 stood_reaped (id ∷ ids) w i = stood_plain w _ refl refl refl i
 
-stood_open : (P : Exchange → Type 0) (o : Option Exchange) (w : World) (f : Exchange → Outcome) → IfSome o P → Stood w → ((x : Exchange) → P x → Stood (f x).world) → Stood (on_open w o f).world
-unfolding on_open
+stood_open : (P : Exchange → Type 0) (o : Option Exchange) (w : World) (f : Exchange → Outcome) → IfSome o P → Stood w → ((x : Exchange) → P x → Stood (f x).world) → Stood (outcome_where_open w o f).world
+unfolding outcome_where_open
 stood_open P None w f k i g = i
 stood_open P (Some x) w f k i g = g x k
 
-stood_done : (note : Note) (l : List ℕ) (most : ℕ) (w : World) (k : Steady l w) → NoRow (refusals w note) → IsFlown_by w → IsShelved most (shelves w) → Stood w → Stood (done w note).world
-unfolding done ticked with_rate slept woken credited received
+stood_done : (note : Note) (l : List ℕ) (most : ℕ) (w : World) (k : Steady l w) → NoRow (refusals w note) → IsFlown_by w → IsShelved most (shelves w) → Stood w → Stood (outcome_of w note).world
+unfolding outcome_of tick_outcome rate_outcome sleep_outcome wake_outcome poll_outcome rx_outcome
 stood_done (Enqueue s t flow len) l most w k r f h i = record { owned = owned_enqueued l w s t flow len k.placing i.owned; full = covers_enqueued l w s t flow len k.placing i.full }
 stood_done (Asked (Join s window start exponent weight)) l most w k r f h i = record { owned = owned_joined w s window start exponent weight i.owned; full = covers_joined w s window start exponent weight r.1.1.1.1.1.0 i.full }
 stood_done (Asked (Leave s)) l most w k r f h i = record { owned = owned_gone w s i.owned; full = covers_gone l w s k.placing (quiet_of w s f r.1.1.0) i.owned i.full }
@@ -222,17 +222,17 @@ stood_done (Asked (Poll s)) l most w k r f h i = stood_station w s _ (λ x t. re
 stood_done (Asked (Rx s c air)) l most w k r f h i = stood_share w s c _ i
 stood_done (Asked Reap) l most w k r f h i = stood_reaped w.finished w i
 
-stood_refused : (note : Note) (r : Refusal) (w : World) → Stood w → Stood (refused w note r)
-unfolding refused
+stood_refused : (note : Note) (r : Refusal) (w : World) → Stood w → Stood (after_refusal w note r)
+unfolding after_refusal
 stood_refused (Asked (Pull c)) Idle w i = stood_calm w (after_pick w c) (same_after_pick w c) (untouched_after_pick w c).frames (all_queues_after_pick w c) i
 stood_refused _ _ w i = i
 
-stood_answer : (r : Option Refusal) (l : List ℕ) (most : ℕ) (w : World) (note : Note) (k : Steady l w) → refusal w note ≡ r → IsFlown_by w → IsShelved most (shelves w) → Stood w → Stood (answer w note r).world
-unfolding answer
+stood_answer : (r : Option Refusal) (l : List ℕ) (most : ℕ) (w : World) (note : Note) (k : Steady l w) → refusal w note ≡ r → IsFlown_by w → IsShelved most (shelves w) → Stood w → Stood (judged_outcome w note r).world
+unfolding judged_outcome
 stood_answer (Some r) l most w note k e f h i = stood_refused note r w i
 stood_answer None l most w note k e f h i =
-    let u : World = (done w note).world in
-    stood_calm u (listed u (concerned w note)) (same_listed (concerned w note) u) (untouched_listed (concerned w note) u).frames (queues_listed (concerned w note) u) (stood_done note l most w k (no_row (refusals w note) e) f h i)
+    let u : World = (outcome_of w note).world in
+    stood_calm u (with_listings_of u (concerned_station w note)) (same_listed (concerned_station w note) u) (untouched_listed (concerned_station w note) u).frames (queues_listed (concerned_station w note) u) (stood_done note l most w k (no_row (refusals w note) e) f h i)
 
 stood_step : (l : List ℕ) (most : ℕ) (w : World) (note : Note) (k : Steady l w) → IsFlown_by w → IsShelved most (shelves w) → Stood w → Stood (step w note).world
 unfolding step
@@ -329,13 +329,13 @@ stands_once l most w id k i = elim i [
         let en : n ≡ c.number = cc (a, b, ha, hb) in
         cc (es, et, en)
 
-only_held_at : (l : List ℕ) (most : ℕ) (w : World) (id : ℕ) (r : Place) → Standing l most w → StandsAt w id r → (id < accepted w) × IsHeld w id
+only_held_at : (l : List ℕ) (most : ℕ) (w : World) (id : ℕ) (r : Place) → Standing l most w → StandsAt w id r → (id < accepted_count w) × IsHeld w id
 only_held_at l most w id (Queued q) k h =
     let c : carries (queue w q).items id ≡ true = in_queue_of w q id h in
     ((k.steady.placing.queued q id c).old, k.steady.fresh.held id (inl (record { place = q; there = c })))
 only_held_at l most w id (Numbered s t n) k h =
     let d : Carries (session w s t) id n = numbered_of w id s t n h in
-    (subst (λ (i : ℕ). i < accepted w) d.id (k.steady.placing.numbered s t n d.from d.below).old, k.steady.fresh.held id (inr (record { station = s; tid = t; number = n; slot_of = d })))
+    (subst (λ (i : ℕ). i < accepted_count w) d.id (k.steady.placing.numbered s t n d.from d.below).old, k.steady.fresh.held id (inr (record { station = s; tid = t; number = n; slot_of = d })))
 
 keeps_places : (l : List ℕ) (most : ℕ) (w : World) → Standing l most w → KeepsPlaces w
 keeps_places l most w k = record {

@@ -6,7 +6,7 @@ use Rattle.wf_frame.specs.declared.notes.Ask.TheVariants.{Join, Leave, Rate, Tic
 use Rattle.wf_frame.specs.declared.notes.Note.{Note}
 use Rattle.wf_frame.specs.declared.notes.Note.TheVariants.{Enqueue, Asked}
 use Rattle.wf_frame.specs.declared.notes.Refusal.{Refusal}
-use Rattle.wf_world.specs.World.{World, accepted, inside, opening}
+use Rattle.wf_world.specs.World.{World, accepted_count, inside, opening}
 use Rattle.wf_world.specs.Refusals.{refusals, refusal}
 use Rattle.wf_world.specs.Step.{step}
 use Rattle.wf_world.specs.Run.{Entry, world_after}
@@ -22,7 +22,7 @@ use Rattle.wf_laws.proofs.Frames.Counted.{placed_at}
 -- r: how many frames were reaped
 record Fits (r : ℕ) (w : World) : Type 0 where
   within : inside w ≤ w.config.room
-  reaped : inside w + r ≡ accepted w
+  reaped : inside w + r ≡ accepted_count w
 
 -- a frame that is accepted finds room
 fits_note : (note : Note) (w : World) → NoRow (refusals w note) → inside w ≤ w.config.room → brought note + inside w ≤ w.config.room

@@ -7,10 +7,10 @@ use Rattle.wf_rules.specs.Rotation.{Rotation, in_order}
 use Rattle.wf_rules.specs.Receiver.{Receiver}
 use Rattle.wf_rules.specs.Session.{Session}
 use Rattle.wf_world.specs.World.{World, Station, Queue, Exchange, rotation, with_station, on_station, on_tid, on_session, on_receiver, with_queues, on_share, on_queue, with_rotation, without_exchange}
-use Rattle.wf_world.specs.FlowQueues.{listed_queue, appended, put_in, pay_queues}
-use Rattle.wf_world.specs.CanSend.{listed_in, listed_in_all, listed}
-use Rattle.wf_world.specs.Exchanges.{pay_station, pay_stations, after_pick, after_turn, spent, charged}
-use Rattle.wf_world.specs.Step.{off_lists}
+use Rattle.wf_world.specs.FlowQueues.{with_listed_queue, with_appended, after_put_in, with_queues_paid}
+use Rattle.wf_world.specs.CanSend.{with_listing_in, with_listings_in, with_listings_of}
+use Rattle.wf_world.specs.Exchanges.{with_station_paid, with_stations_paid, after_pick, after_tid_turn, without_credit, after_charge}
+use Rattle.wf_world.specs.Step.{without_listings}
 
 pub record Untouched (w v : World) : Type 0 where
   pub frames : v.frames ≡ w.frames
@@ -48,20 +48,20 @@ pub untouched_with_queues : (w : World) (s t : ℕ) (r : Rotation) → Untouched
 unfolding with_queues on_tid
 untouched_with_queues w s t r = untouched_on_station w s _
 
-pub untouched_spent : (w : World) (s : ℕ) → Untouched w (spent w s)
-unfolding spent
+pub untouched_spent : (w : World) (s : ℕ) → Untouched w (without_credit w s)
+unfolding without_credit
 untouched_spent w s = untouched_on_station w s _
 
-pub untouched_after_turn : (w : World) (s : ℕ) (c : Class) (t : ℕ) → Untouched w (after_turn w s c t)
-unfolding after_turn on_share
+pub untouched_after_turn : (w : World) (s : ℕ) (c : Class) (t : ℕ) → Untouched w (after_tid_turn w s c t)
+unfolding after_tid_turn on_share
 untouched_after_turn w s c t = untouched_on_station w s _
 
-pub untouched_charged : (w : World) (x : Exchange) → Untouched w (charged w x)
-unfolding charged on_share
+pub untouched_charged : (w : World) (x : Exchange) → Untouched w (after_charge w x)
+unfolding after_charge on_share
 untouched_charged w x = untouched_on_station w _ _
 
-untouched_pay_stations : (ss : List ℕ) (w : World) (c : Class) (quanta : ℕ → ℕ) → Untouched w (pay_stations w c quanta ss)
-unfolding pay_stations pay_station on_share
+untouched_pay_stations : (ss : List ℕ) (w : World) (c : Class) (quanta : ℕ → ℕ) → Untouched w (with_stations_paid w c quanta ss)
+unfolding with_stations_paid with_station_paid on_share
 untouched_pay_stations [] w c quanta = untouched w
 untouched_pay_stations (s ∷ ss) w c quanta = then_untouched w _ _ (untouched_on_station w s _) (untouched_pay_stations ss _ c quanta)
 
@@ -75,18 +75,18 @@ pub untouched_after_pick : (w : World) (c : Class) → Untouched w (after_pick w
 unfolding after_pick
 untouched_after_pick w c = then_untouched w _ _ (untouched_pay_stations (in_order (rotation w c)) w c _) (untouched_with_rotation _ c _)
 
-pub untouched_off_lists : (cs : List Class) (w : World) (s : ℕ) → Untouched w (off_lists w s cs)
-unfolding off_lists
+pub untouched_off_lists : (cs : List Class) (w : World) (s : ℕ) → Untouched w (without_listings w s cs)
+unfolding without_listings
 untouched_off_lists [] w s = untouched w
 untouched_off_lists (c ∷ cs) w s = then_untouched w _ _ (untouched_with_rotation w c _) (untouched_off_lists cs _ s)
 
-untouched_listed_in_all : (cs : List Class) (w : World) (s : ℕ) → Untouched w (listed_in_all w s cs)
-unfolding listed_in_all listed_in
+untouched_listed_in_all : (cs : List Class) (w : World) (s : ℕ) → Untouched w (with_listings_in w s cs)
+unfolding with_listings_in with_listing_in
 untouched_listed_in_all [] w s = untouched w
 untouched_listed_in_all (c ∷ cs) w s = then_untouched w _ _ (untouched_if _ w _ w (untouched_with_rotation w c _) (untouched w)) (untouched_listed_in_all cs _ s)
 
-pub untouched_listed : (o : Option ℕ) (w : World) → Untouched w (listed w o)
-unfolding listed
+pub untouched_listed : (o : Option ℕ) (w : World) → Untouched w (with_listings_of w o)
+unfolding with_listings_of
 untouched_listed None w = untouched w
 untouched_listed (Some s) w = untouched_listed_in_all all_classes w s
 
@@ -100,12 +100,12 @@ pub untouched_on_queue : (w : World) (q : ℕ) (f : Queue → Queue) → Untouch
 unfolding on_queue
 untouched_on_queue w q f = record { frames = refl; finished = refl }
 
-pub untouched_pay_queues : (qs : List ℕ) (w : World) (quanta : ℕ → ℕ) → Untouched w (pay_queues w quanta qs)
-unfolding pay_queues
+pub untouched_pay_queues : (qs : List ℕ) (w : World) (quanta : ℕ → ℕ) → Untouched w (with_queues_paid w quanta qs)
+unfolding with_queues_paid
 untouched_pay_queues [] w quanta = untouched w
 untouched_pay_queues (q ∷ qs) w quanta = then_untouched w _ _ (untouched_on_queue w q _) (untouched_pay_queues qs _ quanta)
 
-pub untouched_put_in : (u : World) (s t q : ℕ) (x : Item) → Untouched u (put_in u s t q x)
-unfolding put_in appended listed_queue
+pub untouched_put_in : (u : World) (s t q : ℕ) (x : Item) → Untouched u (after_put_in u s t q x)
+unfolding after_put_in with_appended with_listed_queue
 untouched_put_in u s t q x =
     then_untouched u _ _ (untouched_on_queue u q _) (untouched_if _ _ _ _ (untouched _) (then_untouched _ _ _ (untouched_on_queue _ q _) (untouched_with_queues _ s t _)))

@@ -1,17 +1,17 @@
 -- CoDel's counts stay right.
 use Rattle.std.proofs.Common.{◌≡◌, arith, ℕ, zero, suc, ◌-◌, ◌*◌, ◌≤◌, ◌&&◌, nat_lt, true, List}
-use Rattle.wf_rules.specs.Codel.{Item, Params, Codel, Look, new_codel, look, raised, first_count, begin_dropping, state_dropping, state_plain, drops, state_after, dequeue}
+use Rattle.wf_rules.specs.Codel.{Item, Params, Codel, Look, new_codel, look, raised_count, first_count, begin_dropping, state_dropping, state_plain, drops, state_after, dequeue}
 use Rattle.wf_laws.specs.Ranges.{CountsRight}
 use Rattle.wf_rule_laws.proofs.Lemmas.Numbers.{on_if, lt_yes, both}
 
 pub counts_new : CountsRight new_codel
 counts_new = record { some = λ e. absurd (cc e); count = omega arith; last = omega arith }
 
-raised_some : (i count : ℕ) → 1 ≤ count → 1 ≤ raised count i
+raised_some : (i count : ℕ) → 1 ≤ count → 1 ≤ raised_count count i
 raised_some zero count h = h
 raised_some (suc i) count h = omega (arith, h)
 
-raised_most : (i count : ℕ) → count ≤ 4294967295 → raised count i ≤ 4294967295
+raised_most : (i count : ℕ) → count ≤ 4294967295 → raised_count count i ≤ 4294967295
 raised_most zero count h = h
 raised_most (suc i) count h = omega arith
 

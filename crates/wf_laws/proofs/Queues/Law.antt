@@ -15,7 +15,7 @@ use Rattle.wf_rules.specs.Codel.{Item}
 use Rattle.wf_rules.specs.Rotation.{in_order}
 use Rattle.wf_world.specs.World.{World, tid_of, queue, exchange, opening}
 use Rattle.wf_world.specs.Refusals.{refusals, refusal}
-use Rattle.wf_world.specs.Step.{ticked, with_rate, slept, woken, credited, received, done, refused, answer, step, concerned}
+use Rattle.wf_world.specs.Step.{tick_outcome, rate_outcome, sleep_outcome, wake_outcome, poll_outcome, rx_outcome, outcome_of, after_refusal, judged_outcome, step, concerned_station}
 use Rattle.wf_world.specs.Run.{Entry, world_after}
 use Rattle.wf_world.specs.Stretches.{world_at}
 use Rattle.wf_rules.specs.Lists.{IsOnce, IsRising, on}
@@ -35,8 +35,8 @@ not_false : (b : Bool) → not b ≡ false → b ≡ true
 not_false true h = refl
 not_false false h = absurd (cc h)
 
-shelved_done : (note : Note) (l : List ℕ) (most : ℕ) (w : World) → NoRow (refusals w note) → IsAtMost most note → Placing l w → IsShelved most (shelves w) → IsShelved most (shelves (done w note).world)
-unfolding done ticked with_rate slept woken credited received
+shelved_done : (note : Note) (l : List ℕ) (most : ℕ) (w : World) → NoRow (refusals w note) → IsAtMost most note → Placing l w → IsShelved most (shelves w) → IsShelved most (shelves (outcome_of w note).world)
+unfolding outcome_of tick_outcome rate_outcome sleep_outcome wake_outcome poll_outcome rx_outcome
 shelved_done (Enqueue s t flow len) l most w r short p i = shelved_enqueued l most w s t flow len p (not_false _ r.1.1.0) (omega (arith, ltb-false 7 t r.1.0)) short i
 shelved_done (Asked (Join s window start exponent weight)) l most w r short p i = shelved_joined most w s window start exponent weight (leb-false _ _ r.0) r.1.1.1.1.1.0 i
 shelved_done (Asked (Leave s)) l most w r short p i = shelved_gone most w s (not_false _ r.1.0) i
@@ -52,15 +52,15 @@ shelved_done (Asked (Poll s)) l most w r short p i = subst (IsShelved most) (sym
 shelved_done (Asked (Rx s c air)) l most w r short p i = subst (IsShelved most) (sym (shelves_on_share w s c _)) i
 shelved_done (Asked Reap) l most w r short p i = subst (IsShelved most) (sym (shelves_reaped w.finished w)) i
 
-shelved_refused : (note : Note) (r : Refusal) (most : ℕ) (w : World) → IsShelved most (shelves w) → IsShelved most (shelves (refused w note r))
-unfolding refused
+shelved_refused : (note : Note) (r : Refusal) (most : ℕ) (w : World) → IsShelved most (shelves w) → IsShelved most (shelves (after_refusal w note r))
+unfolding after_refusal
 shelved_refused (Asked (Pull c)) Idle most w i = subst (IsShelved most) (sym (shelves_after_pick w c)) i
 shelved_refused _ _ most w i = i
 
-shelved_answer : (r : Option Refusal) (l : List ℕ) (most : ℕ) (w : World) (note : Note) → refusal w note ≡ r → IsAtMost most note → Placing l w → IsShelved most (shelves w) → IsShelved most (shelves (answer w note r).world)
-unfolding answer
+shelved_answer : (r : Option Refusal) (l : List ℕ) (most : ℕ) (w : World) (note : Note) → refusal w note ≡ r → IsAtMost most note → Placing l w → IsShelved most (shelves w) → IsShelved most (shelves (judged_outcome w note r).world)
+unfolding judged_outcome
 shelved_answer (Some r) l most w note e short p i = shelved_refused note r most w i
-shelved_answer None l most w note e short p i = subst (IsShelved most) (sym (shelves_listed (concerned w note) (done w note).world)) (shelved_done note l most w (no_row (refusals w note) e) short p i)
+shelved_answer None l most w note e short p i = subst (IsShelved most) (sym (shelves_listed (concerned_station w note) (outcome_of w note).world)) (shelved_done note l most w (no_row (refusals w note) e) short p i)
 
 pub shelved_step : (l : List ℕ) (most : ℕ) (w : World) (note : Note) → IsAtMost most note → Placing l w → IsShelved most (shelves w) → IsShelved most (shelves (step w note).world)
 unfolding step

@@ -12,11 +12,11 @@ use Rattle.wf_frame.specs.declared.notes.Note.TheVariants.{Enqueue, Asked}
 use Rattle.wf_frame.specs.declared.notes.Refusal.{Refusal}
 use Rattle.wf_frame.specs.declared.notes.Refusal.TheVariants.{Idle}
 use Rattle.wf_rules.specs.Codel.{Item, octets}
-use Rattle.wf_world.specs.World.{World, Queue, Exchange, new_queue, queue, accepted, exchange, on_queue, finish, with_fate, opening}
-use Rattle.wf_world.specs.FlowQueues.{is_at_limit, total_queued, longest, without_head, within_limit, queue_for, appended, put_in}
+use Rattle.wf_world.specs.World.{World, Queue, Exchange, new_queue, queue, accepted_count, exchange, on_queue, with_frame_finished, with_fate, opening}
+use Rattle.wf_world.specs.FlowQueues.{is_at_limit, total_queued, longest_queue, without_head, after_limit, queue_for, with_appended, after_put_in}
 use Rattle.wf_world.proofs.Longest.{octets_at, longest_first_most}
 use Rattle.wf_world.specs.Refusals.{refusal}
-use Rattle.wf_world.specs.Step.{Outcome, ticked, with_rate, slept, woken, credited, received, with_frame, enqueued, on_open, concerned, done, refused, answer, step}
+use Rattle.wf_world.specs.Step.{Outcome, tick_outcome, rate_outcome, sleep_outcome, wake_outcome, poll_outcome, rx_outcome, with_frame, enqueue_outcome, outcome_where_open, concerned_station, outcome_of, after_refusal, judged_outcome, step}
 use Rattle.wf_world.specs.Run.{Entry, world_after}
 use Rattle.wf_world.specs.Stretches.{world_at}
 use Rattle.wf_laws.specs.Queues.{EachItem, HasLength, HaveLengths}
@@ -38,11 +38,11 @@ each_octet [] h = omega arith
 each_octet (x ∷ xs) h = omega (arith, sum_by-cons (λ (y : Item). y.len) x xs, h.0, each_octet xs h.1)
 
 -- no queue has frames where the longest has none
-none_queued : (w : World) → ((q : ℕ) → EachItem HasOctets (queue w q).items) → (queue w (longest w)).items ≡ [] → total_queued w ≡ 0
+none_queued : (w : World) → ((q : ℕ) → EachItem HasOctets (queue w q).items) → (queue w (longest_queue w)).items ≡ [] → total_queued w ≡ 0
 unfolding octets_at
 none_queued w sized e =
-    let most : (k : ℕ) → octets_at w.queues k ≤ octets_at w.queues (longest w) = (longest_first_most w.queues).most in
-    let none : octets (queue w (longest w)).items ≡ 0 = ap octets e in
+    let most : (k : ℕ) → octets_at w.queues k ≤ octets_at w.queues (longest_queue w) = (longest_first_most w.queues).most in
+    let none : octets (queue w (longest_queue w)).items ≡ 0 = ap octets e in
     let empty : sum_by (λ (q : Queue). length q.items) w.queues ≤ 0 = sum_below (λ (q : Queue). length q.items) new_queue [] w.queues refl (λ k. omega (arith, each_octet (queue w k).items (sized k), most k, none)) in
     omega (arith, empty)
 
@@ -57,18 +57,18 @@ total_on_queue w q f = sum_put (λ (y : Queue). length y.items) new_queue w.queu
 
 -- one frame fewer
 total_head : (items : List Item) (w : World) (q : ℕ) → (queue w q).items ≡ items → 0 < length items → suc (total_queued (without_head w q items)) ≡ total_queued w
-unfolding without_head finish with_fate
+unfolding without_head with_frame_finished with_fate
 total_head [] w q e h = absurd (omega (arith, h))
 total_head (x ∷ rest) w q e h = omega (arith, total_on_queue w q (λ y. record y { items = rest }), ap (length {A = Item}) e)
 
-below_limit : (w : World) → 0 < w.config.limit → ((q : ℕ) → EachItem HasOctets (queue w q).items) → total_queued w ≤ w.config.limit → total_queued (within_limit w) < w.config.limit
-unfolding within_limit
+below_limit : (w : World) → 0 < w.config.limit → ((q : ℕ) → EachItem HasOctets (queue w q).items) → total_queued w ≤ w.config.limit → total_queued (after_limit w) < w.config.limit
+unfolding after_limit
 below_limit w some sized h =
-    let items : List Item = (queue w (longest w)).items in
-    on_if (λ (v : World). total_queued v < w.config.limit) (is_at_limit w) (without_head w (longest w) items) w
+    let items : List Item = (queue w (longest_queue w)).items in
+    on_if (λ (v : World). total_queued v < w.config.limit) (is_at_limit w) (without_head w (longest_queue w) items) w
     (λ e. on_length items refl
     (λ none. absurd (omega (arith, none_queued w sized none, le_yes w.config.limit (total_queued w) e, some)))
-    (λ l. omega (arith, total_head items w (longest w) refl l, le_yes w.config.limit (total_queued w) e)))
+    (λ l. omega (arith, total_head items w (longest_queue w) refl l, le_yes w.config.limit (total_queued w) e)))
     (λ e. omega (arith, h, le_no w.config.limit (total_queued w) e))
   where
     on_length : {P : Type 0} (xs : List Item) {ys : List Item} → ys ≡ xs → (ys ≡ [] → P) → (0 < length xs → P) → P
@@ -95,8 +95,8 @@ sized_on : (u : World) (q : ℕ) (x : Item) → HasOctets x → ((r : ℕ) → E
 unfolding on_queue
 sized_on u q x one sized = each_put (λ r y. EachItem HasOctets y.items) new_queue u.queues q _ sized (each_append HasOctets (queue u q).items x (sized q) one)
 
-small_appended : (n : ℕ) (u : World) (q : ℕ) (x : Item) → HasOctets x → total_queued u < n → ((r : ℕ) → EachItem HasOctets (queue u r).items) → IsSmall n (appended u q x)
-unfolding appended
+small_appended : (n : ℕ) (u : World) (q : ℕ) (x : Item) → HasOctets x → total_queued u < n → ((r : ℕ) → EachItem HasOctets (queue u r).items) → IsSmall n (with_appended u q x)
+unfolding with_appended
 small_appended n u q x one h sized = record {
   sized = sized_on u q x one sized;
   most = omega (arith, total_on_queue u q (λ y. record y { items = y.items ++ x ∷ [] }), length-append (queue u q).items (x ∷ []), h);
@@ -106,28 +106,28 @@ small_with_frame : (n : ℕ) (w : World) (note : Note) → IsSmall n w → IsSma
 unfolding with_frame
 small_with_frame n w note i = record { sized = i.sized; most = i.most }
 
-small_enqueued : (n : ℕ) (w : World) (s t flow len : ℕ) → 0 < n → 1 ≤ len → IsLimited n w → IsSmall n (enqueued w s t flow len).world
-unfolding enqueued
+small_enqueued : (n : ℕ) (w : World) (s t flow len : ℕ) → 0 < n → 1 ≤ len → IsLimited n w → IsSmall n (enqueue_outcome w s t flow len).world
+unfolding enqueue_outcome
 small_enqueued n w s t flow len some one i =
-    let u : World = within_limit w in
+    let u : World = after_limit w in
     let q : ℕ = queue_for u s t flow in
-    let x : Item = record { id = accepted w; stamp = w.clock; len = len } in
+    let x : Item = record { id = accepted_count w; stamp = w.clock; len = len } in
     let below : total_queued u < w.config.limit = below_limit w (omega (arith, some, i.limit)) i.sized (omega (arith, i.most, i.limit)) in
-    small_with_frame n (put_in u s t q x) (Enqueue s t flow len)
-    (small_less n Any (appended u q x) (put_in u s t q x) (less_put_in u s t q x)
+    small_with_frame n (after_put_in u s t q x) (Enqueue s t flow len)
+    (small_less n Any (with_appended u q x) (after_put_in u s t q x) (less_put_in u s t q x)
     (small_appended n u q x one (omega (arith, below, i.limit)) (λ r. ((less_within_limit Any w).queues r).sized (i.sized r))))
 
 less_any : (P : ℕ → Type 0) (w v : World) → Less P w v → Less Any w v
 less_any P w v h = record { queues = h.queues; accepted = h.accepted; fates = λ id a. inr tt }
 
-less_open : (o : Option Exchange) (w : World) (f : Exchange → Outcome) → ((x : Exchange) → Less Any w (f x).world) → Less Any w (on_open w o f).world
-unfolding on_open
+less_open : (o : Option Exchange) (w : World) (f : Exchange → Outcome) → ((x : Exchange) → Less Any w (f x).world) → Less Any w (outcome_where_open w o f).world
+unfolding outcome_where_open
 less_open None w f h = less Any w
 less_open (Some x) w f h = h x
 
 -- no call but Enqueue queues a frame
-less_asked : (ask : Ask) (w : World) → Less Any w (done w (Asked ask)).world
-unfolding done ticked with_rate slept woken credited received
+less_asked : (ask : Ask) (w : World) → Less Any w (outcome_of w (Asked ask)).world
+unfolding outcome_of tick_outcome rate_outcome sleep_outcome wake_outcome poll_outcome rx_outcome
 less_asked (Join s window start exponent weight) w = less_joined Any w s window start exponent weight
 less_asked (Leave s) w = less_gone Any w s
 less_asked (Rate s mcs mhz short) w = less_on_station Any w s _
@@ -142,20 +142,20 @@ less_asked (Poll s) w = less_on_station Any w s _
 less_asked (Rx s c air) w = less_on_share Any w s c _
 less_asked Reap w = less_reaped w.finished Any w
 
-small_done : (note : Note) (n : ℕ) (w : World) → 0 < n → HasLength note → IsLimited n w → IsSmall n (done w note).world
-unfolding done
+small_done : (note : Note) (n : ℕ) (w : World) → 0 < n → HasLength note → IsLimited n w → IsSmall n (outcome_of w note).world
+unfolding outcome_of
 small_done (Enqueue s t flow len) n w some one i = small_enqueued n w s t flow len some one i
 small_done (Asked ask) n w some one i = small_less n Any w _ (less_asked ask w) (record { sized = i.sized; most = i.most })
 
-small_refused : (note : Note) (r : Refusal) (n : ℕ) (w : World) → IsSmall n w → IsSmall n (refused w note r)
-unfolding refused
+small_refused : (note : Note) (r : Refusal) (n : ℕ) (w : World) → IsSmall n w → IsSmall n (after_refusal w note r)
+unfolding after_refusal
 small_refused (Asked (Pull c)) Idle n w i = small_less n Any w _ (less_after_pick Any w c) i
 small_refused _ _ n w i = i
 
-small_answer : (r : Option Refusal) (n : ℕ) (w : World) (note : Note) → 0 < n → HasLength note → IsLimited n w → IsSmall n (answer w note r).world
-unfolding answer
+small_answer : (r : Option Refusal) (n : ℕ) (w : World) (note : Note) → 0 < n → HasLength note → IsLimited n w → IsSmall n (judged_outcome w note r).world
+unfolding judged_outcome
 small_answer (Some r) n w note some one i = small_refused note r n w (record { sized = i.sized; most = i.most })
-small_answer None n w note some one i = small_less n Any (done w note).world _ (less_listed Any (concerned w note) (done w note).world) (small_done note n w some one i)
+small_answer None n w note some one i = small_less n Any (outcome_of w note).world _ (less_listed Any (concerned_station w note) (outcome_of w note).world) (small_done note n w some one i)
 
 limited_step : (n : ℕ) (w : World) (note : Note) → 0 < n → HasLength note → IsLimited n w → IsLimited n (step w note).world
 unfolding step

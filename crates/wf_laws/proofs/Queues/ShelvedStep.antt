@@ -3,22 +3,22 @@ use Rattle.wf_laws.proofs.Queues.Shelved.{part_none, restated, each_item, IsWith
 use Rattle.wf_laws.specs.Ranges.{CountsRight}
 use Rattle.wf_laws.proofs.Queues.Drops.{counts_new, counts_dequeue}
 use Rattle.wf_rule_laws.proofs.Lemmas.Sums.{length_put}
-use Rattle.wf_rules.specs.Rotation.{no_keys, Rotation, lists, in_order, add_new}
+use Rattle.wf_rules.specs.Rotation.{no_keys, Rotation, has_key, in_order, with_new_key}
 use Rattle.wf_rule_laws.proofs.Lemmas.Counts.{on-has, on-nil, on-cons_same, on-cons_other, on-append, on-filter, has-on}
 use Rattle.std.proofs.Common.{map, nat_lt, ◌-◌, ◌≡◌, refl, ap, sym, ◌∙◌, subst, arith, ℕ, zero, suc, ◌*◌, ◌%◌, ◌<◌, ◌≤◌, ℤ, pos, ◌+ℤ◌, ◌-ℤ◌, ◌≤ℤ◌, Bool, true, false, not, ◌&&◌, ◌||◌, ◌==◌, if◌then◌else◌, List, [], ◌∷◌, ◌++◌, length, Option, Some, None, IfSome, inl, inr, ◌⊎◌}
 use Rattle.wf_rules.specs.Codel.{new_codel, Item, Dequeued, dequeue}
 use Rattle.wf_laws.proofs.Windows.Sides.{Same, same_take, on_live, same_after_turn, same_after_pick, same_within_limit}
 use Rattle.wf_frame.specs.declared.classes.Cause.TheVariants.{Left, Overlimit}
-use Rattle.wf_world.specs.World.{on_session, finish_all, Mpdu, new_tid, session, rotation, World, Queue, no_frame, queue, tid_of, is_live, accepted, live_stations, params, on_queue, with_queues, finish, with_fate, on_tid, on_station, with_station}
-use Rattle.wf_world.specs.FlowQueues.{purge_queues, purge_queue, total_queued, longest, without_head, within_limit, is_listed_elsewhere, overflow_queue, queue_for, listed_queue, appended, put_in, queue_need, has_frames, pay_queues, len_given, dequeued, taken_from, picked_queue, take, is_at_limit}
+use Rattle.wf_world.specs.World.{on_session, with_frames_finished, Mpdu, new_tid, session, rotation, World, Queue, no_frame, queue, tid_of, is_live, accepted_count, live_stations, codel_params, on_queue, with_queues, with_frame_finished, with_fate, on_tid, on_station, with_station}
+use Rattle.wf_world.specs.FlowQueues.{after_queues_left, after_queue_left, total_queued, longest_queue, without_head, after_limit, is_listed_elsewhere, overflow_queue, queue_for, with_listed_queue, with_appended, after_put_in, queue_need, has_frames, with_queues_paid, len_given, taken_by_codel, taken_from_picked, picked_queue, taken_for_tid, is_at_limit}
 use Rattle.wf_laws.proofs.Queues.Shelves.{spot, shelves_with_station, shelves_on_session, shelves_sent, shelves_after_turn, shelves_after_pick, shelves_off_lists, Spot, Shelves, shelves, with_listed, with_queue, with_note, all_paid, shelves_with_queues, shelves_on_queue, shelves_finish, shelves_finish_all, shelves_pay_queues, shelves_with_frame}
 use Rattle.wf_rule_laws.proofs.Lemmas.Numbers.{on_bool, lt_yes, lt_no, has_with, has_old, on_if, yes_lt, yes_eq, or_left, or_right, either, eq_yes}
 use Rattle.wf_frame.specs.declared.classes.Class.{Class}
 use Rattle.wf_rules.specs.Session.{request_due}
 use Rattle.wf_frame.specs.Classes.{all_classes}
 use Rattle.wf_world.specs.CanSend.{is_ready}
-use Rattle.wf_world.specs.Exchanges.{Prepared, with_number, with_fresh, filled, longest_fitting, waiting_mpdus, most_frames, prepared_frames, prepared, sending_tid, after_turn, after_pick, picked_station, station_need, Aggregate}
-use Rattle.wf_world.specs.Step.{pulled_by, pulled, held_slots, rising, left_tid, left_tids, off_lists, gone, joined, enqueued}
+use Rattle.wf_world.specs.Exchanges.{Prepared, with_number, with_fresh, aggregate_of, longest_fitting, waiting_mpdus, most_frames, prepared_data, prepared_exchange, sending_tid, after_tid_turn, after_pick, picked_station, station_need, Aggregate}
+use Rattle.wf_world.specs.Step.{pull_outcome_for, pull_outcome, waiting_ids, in_rising_order, after_tid_left, after_tids_left, without_listings, leave_outcome, join_outcome, enqueue_outcome}
 use Rattle.wf_laws.proofs.Windows.Opened.{eight, some_along, left_true, pick_ready}
 use Rattle.wf_laws.proofs.Deficits.Books.{each_upd, upd, upd_same, upd_other}
 use Rattle.std.proofs.Math.Path.{fun_ext}
@@ -48,15 +48,15 @@ shelved_without_head (x ∷ rest) most w q e i =
     subst (IsShelved most) (sym (shelves_finish _ (Dropped Overlimit) x.id ∙ shelves_on_queue w q _))
     (keep_queue most (shelves w) q (record (queue w q) { items = rest }) (subst (λ (ys : List Item). IsPart ys rest) (sym e) (part_tail x rest)) (λ s t l. i.deficits s t q l) (i.counts q) i)
 
-shelved_within_limit : (most : ℕ) (w : World) → IsShelved most (shelves w) → IsShelved most (shelves (within_limit w))
-unfolding within_limit
+shelved_within_limit : (most : ℕ) (w : World) → IsShelved most (shelves w) → IsShelved most (shelves (after_limit w))
+unfolding after_limit
 shelved_within_limit most w i =
-    on_if (λ (v : World). IsShelved most (shelves v)) (is_at_limit w) (without_head w (longest w) (queue w (longest w)).items) w
-    (λ _. shelved_without_head (queue w (longest w)).items most w (longest w) refl i) (λ _. i)
+    on_if (λ (v : World). IsShelved most (shelves v)) (is_at_limit w) (without_head w (longest_queue w) (queue w (longest_queue w)).items) w
+    (λ _. shelved_without_head (queue w (longest_queue w)).items most w (longest_queue w) refl i) (λ _. i)
 
 -- ---- a frame is put in
 
-pub on_listed : (r : Rotation) (q : ℕ) → lists r q ≡ true → 0 < on (in_order r) q
+pub on_listed : (r : Rotation) (q : ℕ) → has_key r q ≡ true → 0 < on (in_order r) q
 on_listed r q e = elim (either (has r.new q) (has r.old q) e) [
   | inl h ↦ omega (arith, on-append r.old r.new q, has-on r.new q h)
   | inr h ↦ omega (arith, on-append r.old r.new q, has-on r.old q h)
@@ -75,13 +75,13 @@ fresh_within : (quantum most : ℕ) → 0 < quantum → IsWithin quantum most (p
 fresh_within quantum most h = record { highest = omega (arith, ints); lowest = omega (arith, ints, h) }
 
 -- the counts of a TID's queues with q added
-added_few : (r : Rotation) (q : ℕ) → ((p : ℕ) → on (in_order r) p ≤ 1) → on (in_order r) q ≡ 0 → (p : ℕ) → on (in_order (add_new r q)) p ≤ 1
+added_few : (r : Rotation) (q : ℕ) → ((p : ℕ) → on (in_order r) p ≤ 1) → on (in_order r) q ≡ 0 → (p : ℕ) → on (in_order (with_new_key r q)) p ≤ 1
 added_few r q h none p = elim (cases_eq q p) [
-  | inl e ↦ subst (λ (z : ℕ). on (in_order (add_new r q)) z ≤ 1) e (omega (arith, added-on r q q, none, on-cons_same q [], on-nil q))
+  | inl e ↦ subst (λ (z : ℕ). on (in_order (with_new_key r q)) z ≤ 1) e (omega (arith, added-on r q q, none, on-cons_same q [], on-nil q))
   | inr other ↦ omega (arith, added-on r q p, h p, on-cons_other q p [] other, on-nil p)
 ]
 
-added_from : (r : Rotation) (q p : ℕ) → 0 < on (in_order (add_new r q)) p → (0 < on (in_order r) p) ⊎ (q ≡ p)
+added_from : (r : Rotation) (q p : ℕ) → 0 < on (in_order (with_new_key r q)) p → (0 < on (in_order r) p) ⊎ (q ≡ p)
 added_from r q p l = elim (cases_eq q p) [
   | inl e ↦ inr e
   | inr other ↦ inl (omega (arith, l, added-on r q p, on-cons_other q p [] other, on-nil p))
@@ -95,13 +95,13 @@ record CanTake (b : Shelves) (s t q : ℕ) : Type 0 where
   apart : (i j : ℕ) → 0 < (b.spots i).listed j q → (i ≡ s) × (j ≡ t)
 
 -- the shelves with a frame put in a queue that TID t of s does not list yet
-put_new : (most : ℕ) (b : Shelves) (s t q : ℕ) (x : Item) (r : Rotation) → (b.spots s).listed t ≡ (λ p. on (in_order r) p) → lists r q ≡ false → CanTake b s t q → IsOf b.notes most s t x → x.stamp ≡ b.clock → IsShelved most b →
-    IsShelved most (with_listed (with_queue b q (record (b.queues q) { items = (b.queues q).items ++ x ∷ []; deficit = pos b.config.flow_quantum })) s t (λ p. on (in_order (add_new r q)) p))
+put_new : (most : ℕ) (b : Shelves) (s t q : ℕ) (x : Item) (r : Rotation) → (b.spots s).listed t ≡ (λ p. on (in_order r) p) → has_key r q ≡ false → CanTake b s t q → IsOf b.notes most s t x → x.stamp ≡ b.clock → IsShelved most b →
+    IsShelved most (with_listed (with_queue b q (record (b.queues q) { items = (b.queues q).items ++ x ∷ []; deficit = pos b.config.flow_quantum })) s t (λ p. on (in_order (with_new_key r q)) p))
 put_new most b s t q x r same unlisted c own now i =
     subst (λ (f : ℕ → Queue). IsShelved most (record (with_listed b s t g) { queues = f })) (upd_twice b.queues q y z) put
   where
     g : ℕ → ℕ
-    g = λ p. on (in_order (add_new r q)) p
+    g = λ p. on (in_order (with_new_key r q)) p
 
     y : Queue
     y = record (b.queues q) { deficit = pos b.config.flow_quantum }
@@ -182,10 +182,10 @@ alone most w s t flow i j k below h = go (is_listed_elsewhere w s t (flow % w.co
         let q : ℕ = flow % w.config.flows in
         let live : is_live w i ≡ true = k.live i j q l in
         let here : 0 < on (live_stations w) i = omega (arith, on-filter (is_live w) (upto w.config.stations) i live, on_upto w.config.stations i (k.range i live)) in
-        let none : list_any (λ m. not ((i == s) && (m == t)) && lists (tid_of w i m).queues q) (upto 8) ≡ false =
-        any_false (λ x. list_any (λ m. not ((x == s) && (m == t)) && lists (tid_of w x m).queues q) (upto 8)) (live_stations w) i e here in
-        let not_here : (not ((i == s) && (j == t)) && lists (tid_of w i j).queues q) ≡ false = any_false (λ m. not ((i == s) && (m == t)) && lists (tid_of w i m).queues q) (upto 8) j none (on_upto 8 j (k.below i j q l)) in
-        let d = same_pair (i == s) (j == t) (last_false (not ((i == s) && (j == t))) (lists (tid_of w i j).queues q) not_here (lists-on (tid_of w i j).queues q l)) in
+        let none : list_any (λ m. not ((i == s) && (m == t)) && has_key (tid_of w i m).queues q) (upto 8) ≡ false =
+        any_false (λ x. list_any (λ m. not ((x == s) && (m == t)) && has_key (tid_of w x m).queues q) (upto 8)) (live_stations w) i e here in
+        let not_here : (not ((i == s) && (j == t)) && has_key (tid_of w i j).queues q) ≡ false = any_false (λ m. not ((i == s) && (m == t)) && has_key (tid_of w i m).queues q) (upto 8) j none (on_upto 8 j (k.below i j q l)) in
+        let d = same_pair (i == s) (j == t) (last_false (not ((i == s) && (j == t))) (has_key (tid_of w i j).queues q) not_here (lists-on (tid_of w i j).queues q l)) in
         (eq_yes i s d.0, eq_yes j t d.1)
 
 owned_for : (w : World) (s t flow : ℕ) → 0 < w.config.flows → Owned w.config s t (queue_for w s t flow)
@@ -196,9 +196,9 @@ owned_for w s t flow some = go (is_listed_elsewhere w s t (flow % w.config.flows
     go false = inl (mod_below flow w.config.flows some)
 
 put_made : (w : World) (s t q : ℕ) (x : Item) (r : Rotation) → is_live w s ≡ true →
-    shelves (with_queues (on_queue (appended w q x) q (λ y. record y { deficit = pos w.config.flow_quantum })) s t r)
+    shelves (with_queues (on_queue (with_appended w q x) q (λ y. record y { deficit = pos w.config.flow_quantum })) s t r)
     ≡ with_listed (with_queue (shelves w) q (record (queue w q) { items = (queue w q).items ++ x ∷ []; deficit = pos w.config.flow_quantum })) s t (λ p. on (in_order r) p)
-unfolding appended on_queue
+unfolding with_appended on_queue
 put_made w s t q x r live =
     let f : Queue → Queue = λ y. record y { items = y.items ++ x ∷ [] } in
     let h : Queue → Queue = λ y. record y { deficit = pos w.config.flow_quantum } in
@@ -207,14 +207,14 @@ put_made w s t q x r live =
     (shelves_on_queue v q h ∙ (ap (λ (u : Shelves). with_queue u q (h (queue v q))) (shelves_on_queue w q f)
     ∙ (ap (λ (k : ℕ → Queue). record (shelves w) { queues = k }) (upd_twice (shelves w).queues q (f (queue w q)) (h (queue v q))) ∙ ap (λ (y : Queue). with_queue (shelves w) q (h y)) (queue_on w q f))))
 
-put_listed : (w : World) (q : ℕ) (x : Item) → shelves (appended w q x) ≡ with_queue (shelves w) q (record (queue w q) { items = (queue w q).items ++ x ∷ [] })
-unfolding appended
+put_listed : (w : World) (q : ℕ) (x : Item) → shelves (with_appended w q x) ≡ with_queue (shelves w) q (record (queue w q) { items = (queue w q).items ++ x ∷ [] })
+unfolding with_appended
 put_listed w q x = shelves_on_queue w q _
 
 -- the shelves of a world in which a frame was put in; its note joins first
-shelved_put : (b : Bool) (most : ℕ) (w : World) (s t q : ℕ) (x : Item) (note : Note) → lists (tid_of w s t).queues q ≡ b → is_live w s ≡ true → CanTake (shelves w) s t q → IsFor s t note → x.len ≤ most → x.stamp ≡ w.clock
+shelved_put : (b : Bool) (most : ℕ) (w : World) (s t q : ℕ) (x : Item) (note : Note) → has_key (tid_of w s t).queues q ≡ b → is_live w s ≡ true → CanTake (shelves w) s t q → IsFor s t note → x.len ≤ most → x.stamp ≡ w.clock
     → ((p : ℕ) → EachItem (λ y. y.id ≡ x.id → ⊥) (queue w p).items) → IsShelved most (shelves w)
-    → IsShelved most (with_note (shelves (if b then appended w q x else with_queues (on_queue (appended w q x) q (λ y. record y { deficit = pos w.config.flow_quantum })) s t (add_new (tid_of w s t).queues q))) x.id note)
+    → IsShelved most (with_note (shelves (if b then with_appended w q x else with_queues (on_queue (with_appended w q x) q (λ y. record y { deficit = pos w.config.flow_quantum })) s t (with_new_key (tid_of w s t).queues q))) x.id note)
 shelved_put true most w s t q x note listed live c for short now apart i =
     let b : Shelves = with_note (shelves w) x.id note in
     let own : IsOf b.notes most s t x = (subst (IsFor s t) (sym (upd_same (shelves w).notes x.id note)) for, short) in
@@ -223,23 +223,23 @@ shelved_put true most w s t q x note listed live c for short now apart i =
 shelved_put false most w s t q x note listed live c for short now apart i =
     let b : Shelves = with_note (shelves w) x.id note in
     let own : IsOf b.notes most s t x = (subst (IsFor s t) (sym (upd_same (shelves w).notes x.id note)) for, short) in
-    subst (λ (u : Shelves). IsShelved most (with_note u x.id note)) (sym (put_made w s t q x (add_new (tid_of w s t).queues q) live))
+    subst (λ (u : Shelves). IsShelved most (with_note u x.id note)) (sym (put_made w s t q x (with_new_key (tid_of w s t).queues q) live))
     (put_new most b s t q x (tid_of w s t).queues refl listed (record { live = c.live; below = c.below; owned = c.owned; apart = c.apart }) own now (noted most (shelves w) x.id note apart i))
 
-accepted_head : (items : List Item) (w : World) (q : ℕ) → ((k : ℕ) → carries items k ≡ true → k < accepted w) → accepted (without_head w q items) ≡ accepted w
-unfolding without_head finish with_fate on_queue
+accepted_head : (items : List Item) (w : World) (q : ℕ) → ((k : ℕ) → carries items k ≡ true → k < accepted_count w) → accepted_count (without_head w q items) ≡ accepted_count w
+unfolding without_head with_frame_finished with_fate on_queue
 accepted_head [] w q h = refl
 accepted_head (x ∷ rest) w q h = length_put no_frame w.frames x.id _ (h x.id (or_left (x.id == x.id) (carries rest x.id) (yes_eq x.id x.id refl)))
 
-pub accepted_limit : (l : List ℕ) (w : World) → Placing l w → accepted (within_limit w) ≡ accepted w
-unfolding within_limit
+pub accepted_limit : (l : List ℕ) (w : World) → Placing l w → accepted_count (after_limit w) ≡ accepted_count w
+unfolding after_limit
 accepted_limit l w p =
-    on_if (λ (v : World). accepted v ≡ accepted w) (is_at_limit w) (without_head w (longest w) (queue w (longest w)).items) w
-    (λ _. accepted_head (queue w (longest w)).items w (longest w) (λ k e. (p.queued (longest w) k e).old)) (λ _. refl)
+    on_if (λ (v : World). accepted_count v ≡ accepted_count w) (is_at_limit w) (without_head w (longest_queue w) (queue w (longest_queue w)).items) w
+    (λ _. accepted_head (queue w (longest_queue w)).items w (longest_queue w) (λ k e. (p.queued (longest_queue w) k e).old)) (λ _. refl)
 
-pub accepted_put : (w : World) (s t q : ℕ) (x : Item) → accepted (put_in w s t q x) ≡ accepted w
-unfolding put_in appended listed_queue on_queue with_queues on_tid on_station with_station
-accepted_put w s t q x = on_if (λ (v : World). accepted v ≡ accepted w) _ _ _ (λ _. refl) (λ _. refl)
+pub accepted_put : (w : World) (s t q : ℕ) (x : Item) → accepted_count (after_put_in w s t q x) ≡ accepted_count w
+unfolding after_put_in with_appended with_listed_queue on_queue with_queues on_tid on_station with_station
+accepted_put w s t q x = on_if (λ (v : World). accepted_count v ≡ accepted_count w) _ _ _ (λ _. refl) (λ _. refl)
 
 -- no queued frame has a new id
 none_new : (xs : List Item) (c : ℕ) → ((k : ℕ) → carries xs k ≡ true → k < c) → EachItem (λ y. y.id ≡ c → ⊥) xs
@@ -250,56 +250,56 @@ none_new (x ∷ xs) c h = (
 )
 
 clock_head : (items : List Item) (w : World) (q : ℕ) → (without_head w q items).clock ≡ w.clock
-unfolding without_head finish with_fate on_queue
+unfolding without_head with_frame_finished with_fate on_queue
 clock_head [] w q = refl
 clock_head (x ∷ rest) w q = refl
 
-clock_limit : (w : World) → (within_limit w).clock ≡ w.clock
-unfolding within_limit
-clock_limit w = on_if (λ (v : World). v.clock ≡ w.clock) (is_at_limit w) (without_head w (longest w) (queue w (longest w)).items) w (λ _. clock_head (queue w (longest w)).items w (longest w)) (λ _. refl)
+clock_limit : (w : World) → (after_limit w).clock ≡ w.clock
+unfolding after_limit
+clock_limit w = on_if (λ (v : World). v.clock ≡ w.clock) (is_at_limit w) (without_head w (longest_queue w) (queue w (longest_queue w)).items) w (λ _. clock_head (queue w (longest_queue w)).items w (longest_queue w)) (λ _. refl)
 
 shelved_put_in : (most : ℕ) (w : World) (s t q : ℕ) (x : Item) (note : Note) → is_live w s ≡ true → CanTake (shelves w) s t q → IsFor s t note → x.len ≤ most → x.stamp ≡ w.clock
-    → ((p : ℕ) → EachItem (λ y. y.id ≡ x.id → ⊥) (queue w p).items) → IsShelved most (shelves w) → IsShelved most (with_note (shelves (put_in w s t q x)) x.id note)
-unfolding put_in listed_queue appended on_queue
-shelved_put_in most w s t q x note live c for short now apart i = shelved_put (lists (tid_of w s t).queues q) most w s t q x note refl live c for short now apart i
+    → ((p : ℕ) → EachItem (λ y. y.id ≡ x.id → ⊥) (queue w p).items) → IsShelved most (shelves w) → IsShelved most (with_note (shelves (after_put_in w s t q x)) x.id note)
+unfolding after_put_in with_listed_queue with_appended on_queue
+shelved_put_in most w s t q x note live c for short now apart i = shelved_put (has_key (tid_of w s t).queues q) most w s t q x note refl live c for short now apart i
 
-pub shelved_enqueued : (l : List ℕ) (most : ℕ) (w : World) (s t flow len : ℕ) → Placing l w → is_live w s ≡ true → t < 8 → len ≤ most → IsShelved most (shelves w) → IsShelved most (shelves (enqueued w s t flow len).world)
-unfolding enqueued
+pub shelved_enqueued : (l : List ℕ) (most : ℕ) (w : World) (s t flow len : ℕ) → Placing l w → is_live w s ≡ true → t < 8 → len ≤ most → IsShelved most (shelves w) → IsShelved most (shelves (enqueue_outcome w s t flow len).world)
+unfolding enqueue_outcome
 shelved_enqueued l most w s t flow len p live below short i =
-    let u : World = within_limit w in
+    let u : World = after_limit w in
     let q : ℕ = queue_for u s t flow in
-    let x : Item = record { id = accepted w; stamp = w.clock; len = len } in
-    let a : World = put_in u s t q x in
+    let x : Item = record { id = accepted_count w; stamp = w.clock; len = len } in
+    let a : World = after_put_in u s t q x in
     let note : Note = Enqueue s t flow len in
     let k : IsShelved most (shelves u) = shelved_within_limit most w i in
     let live_u : is_live u s ≡ true = (same_within_limit w).live s ∙ live in
-    let same_id : accepted a ≡ accepted w = accepted_put u s t q x ∙ accepted_limit l w p in
+    let same_id : accepted_count a ≡ accepted_count w = accepted_put u s t q x ∙ accepted_limit l w p in
     subst (IsShelved most) (sym (shelves_with_frame a note ∙ ap (λ (n : ℕ). with_note (shelves a) n note) same_id))
     (shelved_put_in most u s t q x note live_u (record { live = live_u; below = below; owned = owned_for u s t flow k.flows; apart = λ i j h. alone most u s t flow i j k below h }) (refl, refl) short (sym (clock_limit w))
-    (λ r. none_new (queue u r).items (accepted w) (λ j e. (p.queued r j (((less_within_limit Any w).queues r).has j e)).old)) k)
+    (λ r. none_new (queue u r).items (accepted_count w) (λ j e. (p.queued r j (((less_within_limit Any w).queues r).has j e)).old)) k)
 
 -- ---- a frame is taken
 
-shelved_dequeued : (most : ℕ) (w : World) (q : ℕ) (d : Dequeued) → IsPart (queue w q).items d.rest → len_given d.given ≤ most → pos 1 ≤ℤ (queue w q).deficit → CountsRight d.state → IsShelved most (shelves w) → IsShelved most (shelves (dequeued w q d).world)
-unfolding dequeued
+shelved_dequeued : (most : ℕ) (w : World) (q : ℕ) (d : Dequeued) → IsPart (queue w q).items d.rest → len_given d.given ≤ most → pos 1 ≤ℤ (queue w q).deficit → CountsRight d.state → IsShelved most (shelves w) → IsShelved most (shelves (taken_by_codel w q d).world)
+unfolding taken_by_codel
 shelved_dequeued most w q d part short above right i =
     subst (IsShelved most) (sym (shelves_finish_all _ _ _ ∙ shelves_on_queue w q _))
     (keep_queue most (shelves w) q (record { items = d.rest; deficit = (queue w q).deficit -ℤ pos (len_given d.given); codel = d.state }) part
     (λ s t l. let k : IsWithin w.config.flow_quantum most (queue w q).deficit = i.deficits s t q l in record { highest = omega (arith, ints, k.highest); lowest = omega (arith, ints, short, above) }) right i)
 
-shelved_taken : (o : Option ℕ) (most : ℕ) (w : World) (s : ℕ) → IfSome o (λ q. pos 1 ≤ℤ (queue w q).deficit × EachItem (λ x. x.len ≤ most) (queue w q).items) → IsShelved most (shelves w) → IsShelved most (shelves (taken_from w s o).world)
-unfolding taken_from
+shelved_taken : (o : Option ℕ) (most : ℕ) (w : World) (s : ℕ) → IfSome o (λ q. pos 1 ≤ℤ (queue w q).deficit × EachItem (λ x. x.len ≤ most) (queue w q).items) → IsShelved most (shelves w) → IsShelved most (shelves (taken_from_picked w s o).world)
+unfolding taken_from_picked
 shelved_taken None most w s h i = i
 shelved_taken (Some q) most w s h i =
-    let d : Dequeued = dequeue (params w s) w.clock (queue w q).codel (queue w q).items in
-    let k : IsLeft (queue w q).items d = left_dequeue (queue w q).items (params w s) w.clock (queue w q).codel in
-    shelved_dequeued most w q d k.part (if_longer d.given most (k.given most h.1)) h.0 (counts_dequeue (params w s) w.clock (queue w q).codel (queue w q).items (i.counts q)) i
+    let d : Dequeued = dequeue (codel_params w s) w.clock (queue w q).codel (queue w q).items in
+    let k : IsLeft (queue w q).items d = left_dequeue (queue w q).items (codel_params w s) w.clock (queue w q).codel in
+    shelved_dequeued most w q d k.part (if_longer d.given most (k.given most h.1)) h.0 (counts_dequeue (codel_params w s) w.clock (queue w q).codel (queue w q).items (i.counts q)) i
 
 all_once : (m n k : ℕ) → m ≤ 1 → 0 < m → n ≡ k → m * n ≡ k
 all_once m n k h some e = let one : m ≡ 1 = omega (arith, h, some) in rw (one, e) (omega arith)
 
-pub shelved_take : (most : ℕ) (w : World) (s t : ℕ) → is_live w s ≡ true → IsShelved most (shelves w) → IsShelved most (shelves (take w s t).world)
-unfolding take
+pub shelved_take : (most : ℕ) (w : World) (s t : ℕ) → is_live w s ≡ true → IsShelved most (shelves w) → IsShelved most (shelves (taken_for_tid w s t).world)
+unfolding taken_for_tid
 shelved_take most w s t live i = go (picked_queue w s t).winner refl
   where
     r : Rotation
@@ -309,7 +309,7 @@ shelved_take most w s t live i = go (picked_queue w s t).winner refl
     quanta = (picked_queue w s t).quanta
 
     u : World
-    u = pay_queues w (picked_queue w s t).quanta (in_order (tid_of w s t).queues)
+    u = with_queues_paid w (picked_queue w s t).quanta (in_order (tid_of w s t).queues)
 
     paid_is : shelves u ≡ all_paid (shelves w) (picked_queue w s t).quanta (in_order (tid_of w s t).queues)
     paid_is = shelves_pay_queues (in_order (tid_of w s t).queues) w (picked_queue w s t).quanta
@@ -354,7 +354,7 @@ shelved_take most w s t live i = go (picked_queue w s t).winner refl
           (subst (λ (y : Queue). EachItem (λ x. x.len ≤ most) y.items) (sym same) (each_item (IsOf (shelves u).notes most s t) (λ x. x.len ≤ most) (λ x h. h.1) (queue u q).items (first.mine s t q l))),
         )
 
-    go : (o : Option ℕ) → (picked_queue w s t).winner ≡ o → IsShelved most (shelves (taken_from v s (picked_queue w s t).winner).world)
+    go : (o : Option ℕ) → (picked_queue w s t).winner ≡ o → IsShelved most (shelves (taken_from_picked v s (picked_queue w s t).winner).world)
     go o e = shelved_taken (picked_queue w s t).winner most v s (winners (picked_queue w s t).winner refl) second
       where
         winners : (o : Option ℕ) → (picked_queue w s t).winner ≡ o → IfSome o (λ q. pos 1 ≤ℤ (queue v q).deficit × EachItem (λ x. x.len ≤ most) (queue v q).items)
@@ -381,40 +381,40 @@ shelved_fresh : (n most : ℕ) (w : World) (s t : ℕ) (ms : List Mpdu) → is_l
 unfolding with_fresh
 shelved_fresh zero most w s t ms live i = i
 shelved_fresh (suc n) most w s t ms live i =
-    let v : World = (take w s t).world in
-    let u : World = with_number v s t (take w s t).item in
-    let k : IsShelved most (shelves u) = subst (IsShelved most) (sym (shelves_number (take w s t).item v s t)) (shelved_take most w s t live i) in
-    shelved_if _ most _ _ i (shelved_if _ most _ _ (shelved_fresh n most u s t _ (live_number (take w s t).item v s t ∙ ((same_take w s t).live s ∙ live)) k) k)
+    let v : World = (taken_for_tid w s t).world in
+    let u : World = with_number v s t (taken_for_tid w s t).item in
+    let k : IsShelved most (shelves u) = subst (IsShelved most) (sym (shelves_number (taken_for_tid w s t).item v s t)) (shelved_take most w s t live i) in
+    shelved_if _ most _ _ i (shelved_if _ most _ _ (shelved_fresh n most u s t _ (live_number (taken_for_tid w s t).item v s t ∙ ((same_take w s t).live s ∙ live)) k) k)
 
-shelved_filled : (most : ℕ) (w : World) (s t : ℕ) → is_live w s ≡ true → IsShelved most (shelves w) → IsShelved most (shelves (filled w s t).world)
-unfolding filled
+shelved_filled : (most : ℕ) (w : World) (s t : ℕ) → is_live w s ≡ true → IsShelved most (shelves w) → IsShelved most (shelves (aggregate_of w s t).world)
+unfolding aggregate_of
 shelved_filled most w s t live i =
     let chosen : List Mpdu = longest_fitting w s (waiting_mpdus w s t) in
     shelved_if (length chosen == length (waiting_mpdus w s t)) most (with_fresh (most_frames w s - length chosen) w s t chosen) (record { world = w; mpdus = chosen })
     (shelved_fresh (most_frames w s - length chosen) most w s t chosen live i) i
 
-shelved_frames : (most : ℕ) (s t : ℕ) (f : Aggregate) → IsShelved most (shelves f.world) → IsShelved most (shelves (prepared_frames s t f).world)
-unfolding prepared_frames
+shelved_frames : (most : ℕ) (s t : ℕ) (f : Aggregate) → IsShelved most (shelves f.world) → IsShelved most (shelves (prepared_data s t f).world)
+unfolding prepared_data
 shelved_frames most s t f i = subst (IsShelved most) (sym (shelves_on_session f.world s t _)) i
 
 shelved_prepared_if : (b : Bool) (most : ℕ) (x y : Prepared) → IsShelved most (shelves x.world) → IsShelved most (shelves y.world) → IsShelved most (shelves (if b then x else y).world)
 shelved_prepared_if true most x y h k = h
 shelved_prepared_if false most x y h k = k
 
-shelved_prepared : (most : ℕ) (w : World) (s t : ℕ) → is_live w s ≡ true → IsShelved most (shelves w) → IsShelved most (shelves (prepared w s t).world)
-unfolding prepared
-shelved_prepared most w s t live i = shelved_prepared_if (request_due (session w s t)) most _ _ i (shelved_frames most s t (filled w s t) (shelved_filled most w s t live i))
+shelved_prepared : (most : ℕ) (w : World) (s t : ℕ) → is_live w s ≡ true → IsShelved most (shelves w) → IsShelved most (shelves (prepared_exchange w s t).world)
+unfolding prepared_exchange
+shelved_prepared most w s t live i = shelved_prepared_if (request_due (session w s t)) most _ _ i (shelved_frames most s t (aggregate_of w s t) (shelved_filled most w s t live i))
 
-shelved_pulled_by : (o : Option ℕ) (most : ℕ) (w : World) (c : Class) → IfSome o (λ s. is_live w s ≡ true) → IsShelved most (shelves w) → IsShelved most (shelves (pulled_by w c o).world)
-unfolding pulled_by
+shelved_pulled_by : (o : Option ℕ) (most : ℕ) (w : World) (c : Class) → IfSome o (λ s. is_live w s ≡ true) → IsShelved most (shelves w) → IsShelved most (shelves (pull_outcome_for w c o).world)
+unfolding pull_outcome_for
 shelved_pulled_by None most w c live i = i
 shelved_pulled_by (Some s) most w c live i =
     let t : ℕ = sending_tid w s c in
     subst (IsShelved most) (sym (shelves_sent s t c _))
-    (shelved_prepared most (after_turn w s c t) s t ((same_after_turn w s c t).live s ∙ live) (subst (IsShelved most) (sym (shelves_after_turn w s c t)) i))
+    (shelved_prepared most (after_tid_turn w s c t) s t ((same_after_turn w s c t).live s ∙ live) (subst (IsShelved most) (sym (shelves_after_turn w s c t)) i))
 
-pub shelved_pulled : (most : ℕ) (w : World) (c : Class) → IsShelved most (shelves w) → IsShelved most (shelves (pulled w c).world)
-unfolding pulled
+pub shelved_pulled : (most : ℕ) (w : World) (c : Class) → IsShelved most (shelves w) → IsShelved most (shelves (pull_outcome w c).world)
+unfolding pull_outcome
 shelved_pulled most w c i =
     let k : Same w (after_pick w c) = same_after_pick w c in
     shelved_pulled_by (picked_station w c).winner most (after_pick w c) c
@@ -430,11 +430,11 @@ record Purged (most : ℕ) (qs : List ℕ) (w v : World) : Type 0 where
   fewer : (p : ℕ) → length (queue v p).items ≤ length (queue w p).items
   none : (p : ℕ) → has qs p ≡ true → length (queue v p).items ≡ 0
 
-purged_one : (most : ℕ) (w : World) (q : ℕ) → IsShelved most (shelves w) → Purged most (q ∷ []) w (purge_queue w q)
-unfolding purge_queue
+purged_one : (most : ℕ) (w : World) (q : ℕ) → IsShelved most (shelves w) → Purged most (q ∷ []) w (after_queue_left w q)
+unfolding after_queue_left
 purged_one most w q i =
     let y : Queue = record (queue w q) { items = []; codel = new_codel } in
-    let is : shelves (finish_all (on_queue w q (λ y. record y { items = []; codel = new_codel })) (Dropped Left) (map (λ x. x.id) (queue w q).items)) ≡ with_queue (shelves w) q y = shelves_finish_all _ _ _ ∙ shelves_on_queue w q _ in
+    let is : shelves (with_frames_finished (on_queue w q (λ y. record y { items = []; codel = new_codel })) (Dropped Left) (map (λ x. x.id) (queue w q).items)) ≡ with_queue (shelves w) q y = shelves_finish_all _ _ _ ∙ shelves_on_queue w q _ in
     record {
       shelved = subst (IsShelved most) (sym is) (keep_queue most (shelves w) q y (part_none (queue w q).items) (λ s t l. i.deficits s t q l) counts_new i);
       spots = ap (λ (b : Shelves). b.spots) is;
@@ -447,12 +447,12 @@ purged_one most w q i =
       ];
     }
 
-purged : (qs : List ℕ) (most : ℕ) (w : World) → IsShelved most (shelves w) → Purged most qs w (purge_queues w qs)
-unfolding purge_queues
+purged : (qs : List ℕ) (most : ℕ) (w : World) → IsShelved most (shelves w) → Purged most qs w (after_queues_left w qs)
+unfolding after_queues_left
 purged [] most w i = record { shelved = i; spots = refl; fewer = λ p. omega arith; none = λ p h. absurd (cc h) }
 purged (q ∷ qs) most w i =
-    let one : Purged most (q ∷ []) w (purge_queue w q) = purged_one most w q i in
-    let more : Purged most qs (purge_queue w q) (purge_queues (purge_queue w q) qs) = purged qs most (purge_queue w q) one.shelved in
+    let one : Purged most (q ∷ []) w (after_queue_left w q) = purged_one most w q i in
+    let more : Purged most qs (after_queue_left w q) (after_queues_left (after_queue_left w q) qs) = purged qs most (after_queue_left w q) one.shelved in
     record {
       shelved = more.shelved;
       spots = more.spots ∙ one.spots;
@@ -463,11 +463,11 @@ purged (q ∷ qs) most w i =
       ];
     }
 
-pub has_rising : (xs : List ℕ) (q : ℕ) → has xs q ≡ true → has (rising xs) q ≡ true
+pub has_rising : (xs : List ℕ) (q : ℕ) → has xs q ≡ true → has (in_rising_order xs) q ≡ true
 has_rising [] q h = absurd (cc h)
 has_rising (x ∷ xs) q h = elim (either (x == q) (has xs q) h) [
-  | inl e ↦ has_with (rising xs) x q ∙ or_left (x == q) (has (rising xs) q) e
-  | inr e ↦ has_old (rising xs) x q (has_rising xs q e)
+  | inl e ↦ has_with (in_rising_order xs) x q ∙ or_left (x == q) (has (in_rising_order xs) q) e
+  | inr e ↦ has_old (in_rising_order xs) x q (has_rising xs q e)
 ]
 
 -- the TID t of s lists nothing any more
@@ -477,12 +477,12 @@ record Cleared (most : ℕ) (s t : ℕ) (w v : World) : Type 0 where
   none : (q : ℕ) → on (in_order (tid_of v s t).queues) q ≡ 0
   less : (j q : ℕ) → on (in_order (tid_of w s j).queues) q ≡ 0 → on (in_order (tid_of v s j).queues) q ≡ 0
 
-cleared : (most : ℕ) (w : World) (s t : ℕ) → is_live w s ≡ true → IsShelved most (shelves w) → Cleared most s t w (left_tid w s t)
-unfolding left_tid
+cleared : (most : ℕ) (w : World) (s t : ℕ) → is_live w s ≡ true → IsShelved most (shelves w) → Cleared most s t w (after_tid_left w s t)
+unfolding after_tid_left
 cleared most w s t live i =
-    let a : World = finish_all w (Dropped Left) (held_slots (session w s t).slots) in
-    let qs : List ℕ = rising (in_order (tid_of w s t).queues) in
-    let b : World = purge_queues a qs in
+    let a : World = with_frames_finished w (Dropped Left) (waiting_ids (session w s t).slots) in
+    let qs : List ℕ = in_rising_order (in_order (tid_of w s t).queues) in
+    let b : World = after_queues_left a qs in
     let ka : IsShelved most (shelves a) = subst (IsShelved most) (sym (shelves_finish_all _ w _)) i in
     let p : Purged most qs a b = purged qs most a ka in
     let spots : (shelves b).spots ≡ (shelves w).spots = p.spots ∙ ap (λ (z : Shelves). z.spots) (shelves_finish_all _ w (Dropped Left)) in
@@ -509,16 +509,16 @@ record AllCleared (most : ℕ) (s : ℕ) (ts : List ℕ) (w v : World) : Type 0 
   none : (t q : ℕ) → has ts t ≡ true → on (in_order (tid_of v s t).queues) q ≡ 0
   less : (j q : ℕ) → on (in_order (tid_of w s j).queues) q ≡ 0 → on (in_order (tid_of v s j).queues) q ≡ 0
 
-all_cleared : (ts : List ℕ) (most : ℕ) (w : World) (s : ℕ) → is_live w s ≡ true → IsShelved most (shelves w) → AllCleared most s ts w (left_tids w s ts)
-unfolding left_tids
+all_cleared : (ts : List ℕ) (most : ℕ) (w : World) (s : ℕ) → is_live w s ≡ true → IsShelved most (shelves w) → AllCleared most s ts w (after_tids_left w s ts)
+unfolding after_tids_left
 all_cleared [] most w s live i = record { shelved = i; none = λ t q h. absurd (cc h); less = λ j q h. h }
 all_cleared (t ∷ ts) most w s live i =
-    let one : Cleared most s t w (left_tid w s t) = cleared most w s t live i in
-    let more : AllCleared most s ts (left_tid w s t) (left_tids (left_tid w s t) s ts) = all_cleared ts most (left_tid w s t) s one.live one.shelved in
+    let one : Cleared most s t w (after_tid_left w s t) = cleared most w s t live i in
+    let more : AllCleared most s ts (after_tid_left w s t) (after_tids_left (after_tid_left w s t) s ts) = all_cleared ts most (after_tid_left w s t) s one.live one.shelved in
     record {
       shelved = more.shelved;
       none = λ j q h. elim (either (t == j) (has ts j) h) [
-        | inl e ↦ more.less j q (subst (λ (n : ℕ). on (in_order (tid_of (left_tid w s t) s n).queues) q ≡ 0) (eq_yes t j e) (one.none q))
+        | inl e ↦ more.less j q (subst (λ (n : ℕ). on (in_order (tid_of (after_tid_left w s t) s n).queues) q ≡ 0) (eq_yes t j e) (one.none q))
         | inr e ↦ more.none j q e
       ];
       less = λ j q h. more.less j q (one.less j q h);
@@ -527,11 +527,11 @@ all_cleared (t ∷ ts) most w s live i =
 bare_none : (t q : ℕ) → (spot None).listed t q ≡ 0
 bare_none t q = on-nil q
 
-pub shelved_gone : (most : ℕ) (w : World) (s : ℕ) → is_live w s ≡ true → IsShelved most (shelves w) → IsShelved most (shelves (gone w s).world)
-unfolding gone
+pub shelved_gone : (most : ℕ) (w : World) (s : ℕ) → is_live w s ≡ true → IsShelved most (shelves w) → IsShelved most (shelves (leave_outcome w s).world)
+unfolding leave_outcome
 shelved_gone most w s live i =
-    let a : World = left_tids w s (upto 8) in
-    let b : World = off_lists a s all_classes in
+    let a : World = after_tids_left w s (upto 8) in
+    let b : World = without_listings a s all_classes in
     let k : AllCleared most s (upto 8) w a = all_cleared (upto 8) most w s live i in
     let same : shelves b ≡ shelves a = shelves_off_lists all_classes a s in
     let kb : IsShelved most (shelves b) = subst (IsShelved most) (sym same) k.shelved in
@@ -547,8 +547,8 @@ shelved_gone most w s live i =
 
 -- ---- a station joins
 
-pub shelved_joined : (most : ℕ) (w : World) (s window start exponent weight : ℕ) → s < w.config.stations → is_live w s ≡ false → IsShelved most (shelves w) → IsShelved most (shelves (joined w s window start exponent weight).world)
-unfolding joined
+pub shelved_joined : (most : ℕ) (w : World) (s window start exponent weight : ℕ) → s < w.config.stations → is_live w s ≡ false → IsShelved most (shelves w) → IsShelved most (shelves (join_outcome w s window start exponent weight).world)
+unfolding join_outcome
 shelved_joined most w s window start exponent weight low dead i =
     subst (IsShelved most) (sym (shelves_with_station w s _))
     (restated most (shelves w) s _

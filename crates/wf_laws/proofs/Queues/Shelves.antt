@@ -11,12 +11,12 @@ use Rattle.wf_rules.specs.Table.{at, put, change}
 use Rattle.wf_rules.specs.Rotation.{Rotation, in_order}
 use Rattle.wf_rules.specs.Session.{Session}
 use Rattle.wf_rules.specs.Receiver.{Receiver}
-use Rattle.wf_world.specs.World.{World, Station, Share, Tid, Queue, Exchange, Mpdu, Content, Frames, Request, Frame, no_frame, no_tid, no_station, new_queue, queue, is_live, accepted, with_station, on_station, on_tid, on_session, on_receiver, with_queues, on_share, on_queue, with_rotation, with_fate, finish, finish_all, with_exchange, without_exchange}
+use Rattle.wf_world.specs.World.{World, Station, Share, Tid, Queue, Exchange, Mpdu, Content, Frames, Request, Frame, no_frame, no_tid, no_station, new_queue, queue, is_live, accepted_count, with_station, on_station, on_tid, on_session, on_receiver, with_queues, on_share, on_queue, with_rotation, with_fate, with_frame_finished, with_frames_finished, with_exchange, without_exchange}
 use Rattle.wf_frame.specs.Classes.{all_classes}
-use Rattle.wf_world.specs.CanSend.{listed_in, listed_in_all, listed}
-use Rattle.wf_world.specs.FlowQueues.{pay_queues}
-use Rattle.wf_world.specs.Exchanges.{pay_station, pay_stations, after_pick, after_turn, spent, opening_exchange, charged, settled_slot, settled, all_settled, after_done, Prepared}
-use Rattle.wf_world.specs.Step.{Outcome, with_frame, sent, arrived, answered, ended, on_open, reaped, off_lists}
+use Rattle.wf_world.specs.CanSend.{with_listing_in, with_listings_in, with_listings_of}
+use Rattle.wf_world.specs.FlowQueues.{with_queues_paid}
+use Rattle.wf_world.specs.Exchanges.{with_station_paid, with_stations_paid, after_pick, after_tid_turn, without_credit, with_exchange_opened, after_charge, with_failed_finished, with_settled, with_all_settled, after_done, Prepared}
+use Rattle.wf_world.specs.Step.{Outcome, with_frame, send_outcome, arrive_outcome, answer_outcome, done_outcome, outcome_where_open, reap_outcome, without_listings}
 use Rattle.wf_rules.specs.Lists.{on}
 use Rattle.wf_rule_laws.proofs.Lemmas.Counts.{on-nil, on-cons_same, on-cons_other}
 use Rattle.wf_laws.proofs.Deficits.Books.{upd, upd_same, upd_other, upd_idle, put_upd}
@@ -107,13 +107,13 @@ pub shelves_on_queue : (w : World) (q : ℕ) (f : Queue → Queue) → shelves (
 unfolding on_queue
 shelves_on_queue w q f = ap (λ (g : ℕ → Queue). record (shelves w) { queues = g }) (put_upd (λ (y : Queue). y) new_queue w.queues q (f (queue w q)))
 
-pub shelves_finish : (w : World) (fate : Fate) (id : ℕ) → shelves (finish w fate id) ≡ shelves w
-unfolding finish with_fate
+pub shelves_finish : (w : World) (fate : Fate) (id : ℕ) → shelves (with_frame_finished w fate id) ≡ shelves w
+unfolding with_frame_finished with_fate
 shelves_finish w fate id =
     ap (λ (g : ℕ → Note). record (shelves w) { notes = g }) (put_upd (λ (x : Frame). x.note) no_frame w.frames id _ ∙ upd_idle (λ k. (at no_frame w.frames k).note) id _ refl)
 
-pub shelves_finish_all : (ids : List ℕ) (w : World) (fate : Fate) → shelves (finish_all w fate ids) ≡ shelves w
-unfolding finish_all
+pub shelves_finish_all : (ids : List ℕ) (w : World) (fate : Fate) → shelves (with_frames_finished w fate ids) ≡ shelves w
+unfolding with_frames_finished
 shelves_finish_all [] w fate = refl
 shelves_finish_all (id ∷ ids) w fate = shelves_finish_all ids _ fate ∙ shelves_finish w fate id
 
@@ -133,7 +133,7 @@ at_end fs x k = elim (cases_eq k (length fs)) [
   | inr other ↦ ap (λ (z : Frame). z.note) (end_other fs x k other) ∙ sym (upd_other (λ i. (at no_frame fs i).note) (length fs) k x.note other)
 ]
 
-pub shelves_with_frame : (w : World) (note : Note) → shelves (with_frame w note) ≡ with_note (shelves w) (accepted w) note
+pub shelves_with_frame : (w : World) (note : Note) → shelves (with_frame w note) ≡ with_note (shelves w) (accepted_count w) note
 unfolding with_frame
 shelves_with_frame w note = ap (λ (g : ℕ → Note). record (shelves w) { notes = g }) (fun_ext (at_end w.frames _))
 
@@ -156,8 +156,8 @@ paid_twice quantum m n k y e =
 one_more_times : (m n q : ℕ) → n ≡ 1 + m → q + m * q ≡ n * q
 one_more_times m n q e = rw e (omega arith)
 
-pub shelves_pay_queues : (qs : List ℕ) (w : World) (quanta : ℕ → ℕ) → shelves (pay_queues w quanta qs) ≡ all_paid (shelves w) quanta qs
-unfolding pay_queues
+pub shelves_pay_queues : (qs : List ℕ) (w : World) (quanta : ℕ → ℕ) → shelves (with_queues_paid w quanta qs) ≡ all_paid (shelves w) quanta qs
+unfolding with_queues_paid
 shelves_pay_queues [] w quanta =
     ap (λ (g : ℕ → Queue). record (shelves w) { queues = g }) (fun_ext (λ q. sym (paid_none w.config.flow_quantum _ (queue w q) (ap (λ (n : ℕ). n * quanta q) (on-nil q) ∙ omega arith))))
 shelves_pay_queues (p ∷ qs) w quanta =
@@ -179,8 +179,8 @@ shelves_if : (b : Bool) (x : Shelves) (w v : World) → shelves w ≡ x → shel
 shelves_if true x w v h k = h
 shelves_if false x w v h k = k
 
-shelves_pay_stations : (ss : List ℕ) (w : World) (c : Class) (quanta : ℕ → ℕ) → shelves (pay_stations w c quanta ss) ≡ shelves w
-unfolding pay_stations pay_station
+shelves_pay_stations : (ss : List ℕ) (w : World) (c : Class) (quanta : ℕ → ℕ) → shelves (with_stations_paid w c quanta ss) ≡ shelves w
+unfolding with_stations_paid with_station_paid
 shelves_pay_stations [] w c quanta = refl
 shelves_pay_stations (s ∷ ss) w c quanta = shelves_pay_stations ss _ c quanta ∙ shelves_on_share w s c _
 
@@ -188,22 +188,22 @@ pub shelves_after_pick : (w : World) (c : Class) → shelves (after_pick w c) �
 unfolding after_pick with_rotation
 shelves_after_pick w c = shelves_pay_stations _ w c _
 
-pub shelves_after_turn : (w : World) (s : ℕ) (c : Class) (t : ℕ) → shelves (after_turn w s c t) ≡ shelves w
-unfolding after_turn
+pub shelves_after_turn : (w : World) (s : ℕ) (c : Class) (t : ℕ) → shelves (after_tid_turn w s c t) ≡ shelves w
+unfolding after_tid_turn
 shelves_after_turn w s c t = shelves_on_share w s c _
 
-pub shelves_sent : (s t : ℕ) (c : Class) (p : Prepared) → shelves (sent s t c p).world ≡ shelves p.world
-unfolding sent spent opening_exchange
+pub shelves_sent : (s t : ℕ) (c : Class) (p : Prepared) → shelves (send_outcome s t c p).world ≡ shelves p.world
+unfolding send_outcome without_credit with_exchange_opened
 shelves_sent s t c p = shelves_hidden _ s _ (λ x. refl)
 
-shelves_settled : (w : World) (s t : ℕ) (acked : Bool) (m : Mpdu) → shelves (settled w s t acked m) ≡ shelves w
-unfolding settled settled_slot
+shelves_settled : (w : World) (s t : ℕ) (acked : Bool) (m : Mpdu) → shelves (with_settled w s t acked m) ≡ shelves w
+unfolding with_settled with_failed_finished
 shelves_settled w s t acked m =
     shelves_if acked (shelves w) _ _ (shelves_finish _ _ _ ∙ shelves_on_session w s t _)
     (let k = shelves_on_session w s t _ in shelves_if _ (shelves w) _ _ (shelves_finish _ _ _ ∙ k) k)
 
-shelves_all_settled : (ms : List Mpdu) (w : World) (s t : ℕ) (acked : ℕ → Bool) → shelves (all_settled w s t acked ms) ≡ shelves w
-unfolding all_settled
+shelves_all_settled : (ms : List Mpdu) (w : World) (s t : ℕ) (acked : ℕ → Bool) → shelves (with_all_settled w s t acked ms) ≡ shelves w
+unfolding with_all_settled
 shelves_all_settled [] w s t acked = refl
 shelves_all_settled (m ∷ ms) w s t acked = shelves_all_settled ms _ s t acked ∙ shelves_settled w s t _ m
 
@@ -212,39 +212,39 @@ unfolding after_done
 shelves_after_done (Frames mpdus) w x heard = shelves_all_settled mpdus w _ _ _
 shelves_after_done (Request start) w x heard = shelves_on_session w _ _ _
 
-pub shelves_ended : (w : World) (x : Exchange) (heard : Bool) → shelves (ended w x heard).world ≡ shelves w
-unfolding ended charged without_exchange
+pub shelves_ended : (w : World) (x : Exchange) (heard : Bool) → shelves (done_outcome w x heard).world ≡ shelves w
+unfolding done_outcome after_charge without_exchange
 shelves_ended w x heard = shelves_after_done x.content _ x heard ∙ shelves_on_share _ _ _ _
 
-pub shelves_arrived : (w : World) (x : Exchange) (n : ℕ) → shelves (arrived w x n).world ≡ shelves w
-unfolding arrived with_exchange
+pub shelves_arrived : (w : World) (x : Exchange) (n : ℕ) → shelves (arrive_outcome w x n).world ≡ shelves w
+unfolding arrive_outcome with_exchange
 shelves_arrived w x n = shelves_on_receiver w _ _ _
 
-pub shelves_answered : (w : World) (x : Exchange) → shelves (answered w x).world ≡ shelves w
-unfolding answered with_exchange
+pub shelves_answered : (w : World) (x : Exchange) → shelves (answer_outcome w x).world ≡ shelves w
+unfolding answer_outcome with_exchange
 shelves_answered w x = refl
 
-pub shelves_reaped : (ids : List ℕ) (w : World) → shelves (reaped w ids).world ≡ shelves w
-unfolding reaped
+pub shelves_reaped : (ids : List ℕ) (w : World) → shelves (reap_outcome w ids).world ≡ shelves w
+unfolding reap_outcome
 shelves_reaped [] w = refl
 shelves_reaped (id ∷ ids) w = refl
 
-pub shelves_off_lists : (cs : List Class) (w : World) (s : ℕ) → shelves (off_lists w s cs) ≡ shelves w
-unfolding off_lists with_rotation
+pub shelves_off_lists : (cs : List Class) (w : World) (s : ℕ) → shelves (without_listings w s cs) ≡ shelves w
+unfolding without_listings with_rotation
 shelves_off_lists [] w s = refl
 shelves_off_lists (c ∷ cs) w s = shelves_off_lists cs _ s
 
-shelves_listed_in_all : (cs : List Class) (w : World) (s : ℕ) → shelves (listed_in_all w s cs) ≡ shelves w
-unfolding listed_in_all listed_in with_rotation
+shelves_listed_in_all : (cs : List Class) (w : World) (s : ℕ) → shelves (with_listings_in w s cs) ≡ shelves w
+unfolding with_listings_in with_listing_in with_rotation
 shelves_listed_in_all [] w s = refl
 shelves_listed_in_all (c ∷ cs) w s = shelves_listed_in_all cs _ s ∙ shelves_if _ (shelves w) _ w refl refl
 
-pub shelves_listed : (o : Option ℕ) (w : World) → shelves (listed w o) ≡ shelves w
-unfolding listed
+pub shelves_listed : (o : Option ℕ) (w : World) → shelves (with_listings_of w o) ≡ shelves w
+unfolding with_listings_of
 shelves_listed None w = refl
 shelves_listed (Some s) w = shelves_listed_in_all all_classes w s
 
-pub shelves_open : (o : Option Exchange) (w : World) (f : Exchange → Outcome) → ((x : Exchange) → shelves (f x).world ≡ shelves w) → shelves (on_open w o f).world ≡ shelves w
-unfolding on_open
+pub shelves_open : (o : Option Exchange) (w : World) (f : Exchange → Outcome) → ((x : Exchange) → shelves (f x).world ≡ shelves w) → shelves (outcome_where_open w o f).world ≡ shelves w
+unfolding outcome_where_open
 shelves_open None w f h = refl
 shelves_open (Some x) w f h = h x

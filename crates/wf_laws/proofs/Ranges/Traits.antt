@@ -16,12 +16,12 @@ use Rattle.wf_rules.specs.Codel.{Item}
 use Rattle.wf_rules.specs.Rotation.{in_order}
 use Rattle.wf_rules.specs.Session.{Session, request_due}
 use Rattle.wf_rules.specs.Bounds.{greatest_exponent, greatest_weight, greatest_mcs}
-use Rattle.wf_world.specs.World.{World, Station, Share, Tid, Exchange, Mpdu, Content, Frames, Request, no_station, station, session, queue, rotation, exchange, with_station, on_station, on_tid, on_session, on_receiver, with_queues, on_share, on_queue, with_rotation, with_fate, finish, finish_all, with_exchange, without_exchange, opening}
-use Rattle.wf_world.specs.FlowQueues.{is_at_limit, without_head, within_limit, longest, listed_queue, appended, put_in, pay_queues, dequeued, taken_from, take, purge_queue, purge_queues}
-use Rattle.wf_world.specs.CanSend.{listed_in, listed_in_all, listed, can_give}
-use Rattle.wf_world.specs.Exchanges.{picked_station, most_frames, waiting_mpdus, longest_fitting, Aggregate, Prepared, pay_station, pay_stations, after_pick, after_turn, with_number, with_fresh, filled, prepared_frames, prepared, spent, opening_exchange, charged, settled_slot, settled, all_settled, after_done}
+use Rattle.wf_world.specs.World.{World, Station, Share, Tid, Exchange, Mpdu, Content, Frames, Request, no_station, station, session, queue, rotation, exchange, with_station, on_station, on_tid, on_session, on_receiver, with_queues, on_share, on_queue, with_rotation, with_fate, with_frame_finished, with_frames_finished, with_exchange, without_exchange, opening}
+use Rattle.wf_world.specs.FlowQueues.{is_at_limit, without_head, after_limit, longest_queue, with_listed_queue, with_appended, after_put_in, with_queues_paid, taken_by_codel, taken_from_picked, taken_for_tid, after_queue_left, after_queues_left}
+use Rattle.wf_world.specs.CanSend.{with_listing_in, with_listings_in, with_listings_of, can_give}
+use Rattle.wf_world.specs.Exchanges.{picked_station, most_frames, waiting_mpdus, longest_fitting, Aggregate, Prepared, with_station_paid, with_stations_paid, after_pick, after_tid_turn, with_number, with_fresh, aggregate_of, prepared_data, prepared_exchange, without_credit, with_exchange_opened, after_charge, with_failed_finished, with_settled, with_all_settled, after_done}
 use Rattle.wf_world.specs.Refusals.{refusals, refusal, is_within}
-use Rattle.wf_world.specs.Step.{Outcome, joined, left_tid, left_tids, off_lists, gone, with_rate, ticked, with_frame, enqueued, sent, pulled_by, pulled, arrived, answered, ended, on_open, slept, woken, credited, received, reaped, concerned, done, refused, answer, step}
+use Rattle.wf_world.specs.Step.{Outcome, join_outcome, after_tid_left, after_tids_left, without_listings, leave_outcome, rate_outcome, tick_outcome, with_frame, enqueue_outcome, send_outcome, pull_outcome_for, pull_outcome, arrive_outcome, answer_outcome, done_outcome, outcome_where_open, sleep_outcome, wake_outcome, poll_outcome, rx_outcome, reap_outcome, concerned_station, outcome_of, after_refusal, judged_outcome, step}
 use Rattle.wf_world.specs.Run.{Entry, world_after}
 use Rattle.wf_laws.specs.Ranges.{IsRate}
 use Rattle.wf_rule_laws.proofs.Lemmas.Numbers.{both, le_yes, lt_no, eq_yes, either}
@@ -81,51 +81,51 @@ kept_if false u v h k = k
 
 -- ---- frames and queues
 
-kept_finish_all : (ids : List ℕ) (w : World) (fate : Fate) → Traits w → Traits (finish_all w fate ids)
-unfolding finish_all finish with_fate
+kept_finish_all : (ids : List ℕ) (w : World) (fate : Fate) → Traits w → Traits (with_frames_finished w fate ids)
+unfolding with_frames_finished with_frame_finished with_fate
 kept_finish_all [] w fate h = h
 kept_finish_all (id ∷ ids) w fate h = kept_finish_all ids _ fate h
 
 kept_without_head : (items : List Item) (w : World) (q : ℕ) → Traits w → Traits (without_head w q items)
-unfolding without_head finish with_fate on_queue
+unfolding without_head with_frame_finished with_fate on_queue
 kept_without_head [] w q h = h
 kept_without_head (x ∷ rest) w q h = h
 
-kept_within_limit : (w : World) → Traits w → Traits (within_limit w)
-unfolding within_limit
-kept_within_limit w h = kept_if (is_at_limit w) (without_head w (longest w) (queue w (longest w)).items) w (kept_without_head (queue w (longest w)).items w (longest w) h) h
+kept_within_limit : (w : World) → Traits w → Traits (after_limit w)
+unfolding after_limit
+kept_within_limit w h = kept_if (is_at_limit w) (without_head w (longest_queue w) (queue w (longest_queue w)).items) w (kept_without_head (queue w (longest_queue w)).items w (longest_queue w) h) h
 
-kept_put_in : (w : World) (s t q : ℕ) (x : Item) → Traits w → Traits (put_in w s t q x)
-unfolding put_in appended listed_queue with_queues on_queue
+kept_put_in : (w : World) (s t q : ℕ) (x : Item) → Traits w → Traits (after_put_in w s t q x)
+unfolding after_put_in with_appended with_listed_queue with_queues on_queue
 kept_put_in w s t q x h = kept_if _ _ _ h (kept_tid _ s t _ h)
 
-kept_enqueued : (w : World) (s t flow len : ℕ) → Traits w → Traits (enqueued w s t flow len).world
-unfolding enqueued with_frame
-kept_enqueued w s t flow len h = kept_put_in (within_limit w) s t _ _ (kept_within_limit w h)
+kept_enqueued : (w : World) (s t flow len : ℕ) → Traits w → Traits (enqueue_outcome w s t flow len).world
+unfolding enqueue_outcome with_frame
+kept_enqueued w s t flow len h = kept_put_in (after_limit w) s t _ _ (kept_within_limit w h)
 
-kept_pay_queues : (qs : List ℕ) (w : World) (quanta : ℕ → ℕ) → Traits w → Traits (pay_queues w quanta qs)
-unfolding pay_queues on_queue
+kept_pay_queues : (qs : List ℕ) (w : World) (quanta : ℕ → ℕ) → Traits w → Traits (with_queues_paid w quanta qs)
+unfolding with_queues_paid on_queue
 kept_pay_queues [] w quanta h = h
 kept_pay_queues (q ∷ qs) w quanta h = kept_pay_queues qs _ quanta h
 
-kept_taken_from : (o : Option ℕ) (w : World) (s : ℕ) → Traits w → Traits (taken_from w s o).world
-unfolding taken_from dequeued on_queue
+kept_taken_from : (o : Option ℕ) (w : World) (s : ℕ) → Traits w → Traits (taken_from_picked w s o).world
+unfolding taken_from_picked taken_by_codel on_queue
 kept_taken_from None w s h = h
 kept_taken_from (Some q) w s h = kept_finish_all _ _ _ h
 
-kept_take : (w : World) (s t : ℕ) → Traits w → Traits (take w s t).world
-unfolding take with_queues
+kept_take : (w : World) (s t : ℕ) → Traits w → Traits (taken_for_tid w s t).world
+unfolding taken_for_tid with_queues
 kept_take w s t h = kept_taken_from _ _ s (kept_tid _ s t _ (kept_pay_queues _ w _ h))
 
-kept_purge_queues : (qs : List ℕ) (w : World) → Traits w → Traits (purge_queues w qs)
-unfolding purge_queues purge_queue on_queue
+kept_purge_queues : (qs : List ℕ) (w : World) → Traits w → Traits (after_queues_left w qs)
+unfolding after_queues_left after_queue_left on_queue
 kept_purge_queues [] w h = h
 kept_purge_queues (q ∷ qs) w h = kept_purge_queues qs _ (kept_finish_all _ _ _ h)
 
 -- ---- a pull
 
-kept_pay_stations : (ss : List ℕ) (w : World) (c : Class) (quanta : ℕ → ℕ) → Traits w → Traits (pay_stations w c quanta ss)
-unfolding pay_stations pay_station
+kept_pay_stations : (ss : List ℕ) (w : World) (c : Class) (quanta : ℕ → ℕ) → Traits w → Traits (with_stations_paid w c quanta ss)
+unfolding with_stations_paid with_station_paid
 kept_pay_stations [] w c quanta h = h
 kept_pay_stations (s ∷ ss) w c quanta h = kept_pay_stations ss _ c quanta (kept_share w s c _ h)
 
@@ -146,54 +146,54 @@ kept_fresh : (n : ℕ) (w : World) (s t : ℕ) (ms : List Mpdu) → Traits w →
 unfolding with_fresh
 kept_fresh zero w s t ms h = h
 kept_fresh (suc n) w s t ms h =
-    let numbered : Traits (with_number (take w s t).world s t (take w s t).item) = kept_number (take w s t).item (take w s t).world s t (kept_take w s t h) in
+    let numbered : Traits (with_number (taken_for_tid w s t).world s t (taken_for_tid w s t).item) = kept_number (taken_for_tid w s t).item (taken_for_tid w s t).world s t (kept_take w s t h) in
     filled_if (not (can_give w s t)) _ _ h (filled_if _ _ _ (kept_fresh n _ s t _ numbered) numbered)
 
-kept_filled : (w : World) (s t : ℕ) → Traits w → Traits (filled w s t).world
-unfolding filled
+kept_filled : (w : World) (s t : ℕ) → Traits w → Traits (aggregate_of w s t).world
+unfolding aggregate_of
 kept_filled w s t h =
     let chosen : List Mpdu = longest_fitting w s (waiting_mpdus w s t) in
     filled_if (length chosen == length (waiting_mpdus w s t)) (with_fresh (most_frames w s - length chosen) w s t chosen) (record { world = w; mpdus = chosen })
     (kept_fresh (most_frames w s - length chosen) w s t chosen h) h
 
-kept_prepared_frames : (s t : ℕ) (f : Aggregate) → Traits f.world → Traits (prepared_frames s t f).world
-unfolding prepared_frames
+kept_prepared_frames : (s t : ℕ) (f : Aggregate) → Traits f.world → Traits (prepared_data s t f).world
+unfolding prepared_data
 kept_prepared_frames s t f h = kept_session f.world s t _ h
 
 prepared_if : (b : Bool) (x y : Prepared) → Traits x.world → Traits y.world → Traits (if b then x else y).world
 prepared_if true x y h k = h
 prepared_if false x y h k = k
 
-kept_prepared : (w : World) (s t : ℕ) → Traits w → Traits (prepared w s t).world
-unfolding prepared
-kept_prepared w s t h = prepared_if (request_due (session w s t)) _ _ h (kept_prepared_frames s t (filled w s t) (kept_filled w s t h))
+kept_prepared : (w : World) (s t : ℕ) → Traits w → Traits (prepared_exchange w s t).world
+unfolding prepared_exchange
+kept_prepared w s t h = prepared_if (request_due (session w s t)) _ _ h (kept_prepared_frames s t (aggregate_of w s t) (kept_filled w s t h))
 
 -- a credit is spent
 no_credit : (z : Trait) → IsTrait z → IsTrait (record z { credit = None })
 no_credit z k = record { weight = k.weight; rate = k.rate; exponent = k.exponent; credit = tt }
 
-kept_sent : (s t : ℕ) (c : Class) (p : Prepared) → Traits p.world → Traits (sent s t c p).world
-unfolding sent spent opening_exchange
+kept_sent : (s t : ℕ) (c : Class) (p : Prepared) → Traits p.world → Traits (send_outcome s t c p).world
+unfolding send_outcome without_credit with_exchange_opened
 kept_sent s t c p h = set_station _ s _ (λ x e k. no_credit (trait x) k) h
 
-kept_pulled_by : (o : Option ℕ) (w : World) (c : Class) → Traits w → Traits (pulled_by w c o).world
-unfolding pulled_by after_turn
+kept_pulled_by : (o : Option ℕ) (w : World) (c : Class) → Traits w → Traits (pull_outcome_for w c o).world
+unfolding pull_outcome_for after_tid_turn
 kept_pulled_by None w c h = h
 kept_pulled_by (Some s) w c h = kept_sent s _ c _ (kept_prepared _ s _ (kept_share w s c _ h))
 
-kept_pulled : (w : World) (c : Class) → Traits w → Traits (pulled w c).world
-unfolding pulled
+kept_pulled : (w : World) (c : Class) → Traits w → Traits (pull_outcome w c).world
+unfolding pull_outcome
 kept_pulled w c h = kept_pulled_by (picked_station w c).winner (after_pick w c) c (kept_after_pick w c h)
 
 -- ---- exchanges
 
-kept_settled : (b : Bool) (w : World) (s t : ℕ) (m : Mpdu) → Traits w → Traits (settled w s t b m)
-unfolding settled settled_slot finish with_fate
+kept_settled : (b : Bool) (w : World) (s t : ℕ) (m : Mpdu) → Traits w → Traits (with_settled w s t b m)
+unfolding with_settled with_failed_finished with_frame_finished with_fate
 kept_settled true w s t m h = kept_session w s t _ h
 kept_settled false w s t m h = let k = kept_session w s t _ h in kept_if _ _ _ k k
 
-kept_all_settled : (ms : List Mpdu) (w : World) (s t : ℕ) (acked : ℕ → Bool) → Traits w → Traits (all_settled w s t acked ms)
-unfolding all_settled
+kept_all_settled : (ms : List Mpdu) (w : World) (s t : ℕ) (acked : ℕ → Bool) → Traits w → Traits (with_all_settled w s t acked ms)
+unfolding with_all_settled
 kept_all_settled [] w s t acked h = h
 kept_all_settled (m ∷ ms) w s t acked h = kept_all_settled ms _ s t acked (kept_settled (acked m.number) w s t m h)
 
@@ -202,46 +202,46 @@ unfolding after_done
 kept_after_done (Frames mpdus) w x heard h = kept_all_settled mpdus w _ _ _ h
 kept_after_done (Request start) w x heard h = kept_session w _ _ _ h
 
-kept_ended : (w : World) (x : Exchange) (heard : Bool) → Traits w → Traits (ended w x heard).world
-unfolding ended charged without_exchange
+kept_ended : (w : World) (x : Exchange) (heard : Bool) → Traits w → Traits (done_outcome w x heard).world
+unfolding done_outcome after_charge without_exchange
 kept_ended w x heard h = kept_after_done x.content _ x heard (kept_share _ x.station x.class _ h)
 
-kept_arrived : (w : World) (x : Exchange) (n : ℕ) → Traits w → Traits (arrived w x n).world
-unfolding arrived with_exchange on_receiver
+kept_arrived : (w : World) (x : Exchange) (n : ℕ) → Traits w → Traits (arrive_outcome w x n).world
+unfolding arrive_outcome with_exchange on_receiver
 kept_arrived w x n h = kept_tid w x.station x.tid _ h
 
-kept_answered : (w : World) (x : Exchange) → Traits w → Traits (answered w x).world
-unfolding answered with_exchange
+kept_answered : (w : World) (x : Exchange) → Traits w → Traits (answer_outcome w x).world
+unfolding answer_outcome with_exchange
 kept_answered w x h = h
 
-kept_open : (o : Option Exchange) (w : World) (f : Exchange → Outcome) → ((x : Exchange) → Traits (f x).world) → Traits w → Traits (on_open w o f).world
-unfolding on_open
+kept_open : (o : Option Exchange) (w : World) (f : Exchange → Outcome) → ((x : Exchange) → Traits (f x).world) → Traits w → Traits (outcome_where_open w o f).world
+unfolding outcome_where_open
 kept_open None w f k h = h
 kept_open (Some x) w f k h = k x
 
-kept_reaped : (ids : List ℕ) (w : World) → Traits w → Traits (reaped w ids).world
-unfolding reaped
+kept_reaped : (ids : List ℕ) (w : World) → Traits w → Traits (reap_outcome w ids).world
+unfolding reap_outcome
 kept_reaped [] w h = h
 kept_reaped (id ∷ ids) w h = h
 
 -- ---- stations that come and go
 
-kept_left_tids : (ts : List ℕ) (w : World) (s : ℕ) → Traits w → Traits (left_tids w s ts)
-unfolding left_tids left_tid with_queues
+kept_left_tids : (ts : List ℕ) (w : World) (s : ℕ) → Traits w → Traits (after_tids_left w s ts)
+unfolding after_tids_left after_tid_left with_queues
 kept_left_tids [] w s h = h
 kept_left_tids (t ∷ ts) w s h = kept_left_tids ts _ s (kept_tid _ s t _ (kept_purge_queues _ _ (kept_finish_all _ _ _ h)))
 
-kept_off_lists : (cs : List Class) (w : World) (s : ℕ) → Traits w → Traits (off_lists w s cs)
-unfolding off_lists with_rotation
+kept_off_lists : (cs : List Class) (w : World) (s : ℕ) → Traits w → Traits (without_listings w s cs)
+unfolding without_listings with_rotation
 kept_off_lists [] w s h = h
 kept_off_lists (c ∷ cs) w s h = kept_off_lists cs _ s h
 
-kept_gone : (w : World) (s : ℕ) → Traits w → Traits (gone w s).world
-unfolding gone
+kept_gone : (w : World) (s : ℕ) → Traits w → Traits (leave_outcome w s).world
+unfolding leave_outcome
 kept_gone w s h = put_station _ s None tt (kept_off_lists all_classes _ s (kept_left_tids (upto 8) w s h))
 
-kept_joined : (w : World) (s window start exponent weight : ℕ) → nat_lt greatest_exponent exponent ≡ false → not (is_within 1 greatest_weight weight) ≡ false → Traits w → Traits (joined w s window start exponent weight).world
-unfolding joined
+kept_joined : (w : World) (s window start exponent weight : ℕ) → nat_lt greatest_exponent exponent ≡ false → not (is_within 1 greatest_weight weight) ≡ false → Traits w → Traits (join_outcome w s window start exponent weight).world
+unfolding join_outcome
 kept_joined w s window start exponent weight short some h =
     let range = both (nat_le 1 weight) (nat_le weight 16) (not-false _ some) in
     put_station w s _ (record { weight = (le_yes 1 weight range.0, le_yes weight 16 range.1); rate = record { mcs = omega arith; mhz = inl refl }; exponent = lt_no 3 exponent short; credit = tt }) h
@@ -258,16 +258,16 @@ any_credit : (o : Option Class) → IfSome o (λ _. true ≡ true)
 any_credit None = tt
 any_credit (Some c) = refl
 
-kept_credited : (w : World) (s : ℕ) → not (station w s).asleep ≡ false → Traits w → Traits (credited w s).world
-unfolding credited
+kept_credited : (w : World) (s : ℕ) → not (station w s).asleep ≡ false → Traits w → Traits (poll_outcome w s).world
+unfolding poll_outcome
 kept_credited w s sleeps h = set_station w s _ (λ x e k.
     let asleep : x.asleep ≡ true = ap (λ (o : Option Station). (unwrap_or o no_station).asleep) (sym e) ∙ not-false _ sleeps in
     record { weight = k.weight; rate = k.rate; exponent = k.exponent; credit = asleep }) h
 
 -- ---- the step
 
-kept_done : (note : Note) (w : World) → NoRow (refusals w note) → Traits w → Traits (done w note).world
-unfolding done ticked with_rate slept woken received
+kept_done : (note : Note) (w : World) → NoRow (refusals w note) → Traits w → Traits (outcome_of w note).world
+unfolding outcome_of tick_outcome rate_outcome sleep_outcome wake_outcome rx_outcome
 kept_done (Enqueue s t flow len) w e h = kept_enqueued w s t flow len h
 kept_done (Asked (Join s window start exponent weight)) w e h = kept_joined w s window start exponent weight e.1.1.1.0 e.1.1.1.1.0 h
 kept_done (Asked (Leave s)) w e h = kept_gone w s h
@@ -283,25 +283,25 @@ kept_done (Asked (Poll s)) w e h = kept_credited w s e.1.1.0 h
 kept_done (Asked (Rx s c air)) w e h = kept_share w s c _ h
 kept_done (Asked Reap) w e h = kept_reaped w.finished w h
 
-kept_refused : (note : Note) (r : Refusal) (w : World) → Traits w → Traits (refused w note r)
-unfolding refused
+kept_refused : (note : Note) (r : Refusal) (w : World) → Traits w → Traits (after_refusal w note r)
+unfolding after_refusal
 kept_refused (Asked (Pull c)) Idle w h = kept_after_pick w c h
 kept_refused _ _ w h = h
 
-kept_listed_in_all : (cs : List Class) (w : World) (s : ℕ) → Traits w → Traits (listed_in_all w s cs)
-unfolding listed_in_all listed_in with_rotation
+kept_listed_in_all : (cs : List Class) (w : World) (s : ℕ) → Traits w → Traits (with_listings_in w s cs)
+unfolding with_listings_in with_listing_in with_rotation
 kept_listed_in_all [] w s h = h
 kept_listed_in_all (c ∷ cs) w s h = kept_listed_in_all cs _ s (kept_if _ _ w h h)
 
-kept_listed : (o : Option ℕ) (w : World) → Traits w → Traits (listed w o)
-unfolding listed
+kept_listed : (o : Option ℕ) (w : World) → Traits w → Traits (with_listings_of w o)
+unfolding with_listings_of
 kept_listed None w h = h
 kept_listed (Some s) w h = kept_listed_in_all all_classes w s h
 
-kept_answer : (r : Option Refusal) (w : World) (note : Note) → refusal w note ≡ r → Traits w → Traits (answer w note r).world
-unfolding answer
+kept_answer : (r : Option Refusal) (w : World) (note : Note) → refusal w note ≡ r → Traits w → Traits (judged_outcome w note r).world
+unfolding judged_outcome
 kept_answer (Some r) w note e h = kept_refused note r w h
-kept_answer None w note e h = kept_listed (concerned w note) (done w note).world (kept_done note w (no_row (refusals w note) e) h)
+kept_answer None w note e h = kept_listed (concerned_station w note) (outcome_of w note).world (kept_done note w (no_row (refusals w note) e) h)
 
 kept_step : (w : World) (note : Note) → Traits w → Traits (step w note).world
 unfolding step

@@ -1,5 +1,5 @@
 -- Of a session's arrived numbers exactly those below the release's start are named so far.
-use Rattle.wf_laws.specs.Releases.{PassesInOrder, joins, arrives, passed_by, passed_from, passed, named_by, named_from, numbers_passed, ReleaseLaw}
+use Rattle.wf_laws.specs.Releases.{PassesInOrder, is_join_of, is_arrival_for, passed_by, passed_from, passed, named_by, named_from, numbers_passed, ReleaseLaw}
 use Rattle.std.proofs.Common.{take, ◌≡◌, ap, sym, ◌∙◌, ℕ, ◌<◌, ◌≤◌, nat_lt, Bool, true, ◌==◌, inl, inr, List, [], ◌∷◌, ◌++◌, filter}
 use Rattle.wf_world.specs.World.{is_live, receiver, World, session, opening}
 use Rattle.wf_frame.specs.declared.settings.Config.{Config}
@@ -33,8 +33,8 @@ within_both l m n h = record { each = λ k e. has_append m n k ∙ elim (either 
 
 -- what a session passed up is named
 passed_named : (r : ReplyNote) (w : World) (s t : ℕ) (note : Note) (l m : List ℕ) → Within l m → Within (passed_by w s t note l r) (m ++ named_by r)
-passed_named Joined w s t note l m h = on_if (λ (k : List ℕ). Within k (m ++ [])) (joins s note) [] l (λ _. within_nothing _) (λ _. within_front l m [] h)
-passed_named (Released ids) w s t note l m h = on_if (λ (k : List ℕ). Within k (m ++ ids)) (arrives w s t note) (l ++ ids) l (λ _. within_both l m ids h) (λ _. within_front l m ids h)
+passed_named Joined w s t note l m h = on_if (λ (k : List ℕ). Within k (m ++ [])) (is_join_of s note) [] l (λ _. within_nothing _) (λ _. within_front l m [] h)
+passed_named (Released ids) w s t note l m h = on_if (λ (k : List ℕ). Within k (m ++ ids)) (is_arrival_for w s t note) (l ++ ids) l (λ _. within_both l m ids h) (λ _. within_front l m ids h)
 passed_named _ w s t note l m h = within_front l m [] h
 
 all_named : (h : List Entry) (w : World) (s t : ℕ) (l m : List ℕ) → Within l m → Within (passed_from w l h s t) (named_from w m h)

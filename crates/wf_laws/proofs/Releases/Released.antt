@@ -7,7 +7,7 @@ use Rattle.wf_rules.specs.Receiver.{Receiver, with_arrived, with_start, release_
 use Rattle.wf_rules.specs.Session.{Session, State, is_settled, slot, next_number}
 use Rattle.wf_world.specs.World.{receiver, World, Station, Exchange, Content, Frames, Request, new_tid, no_tid, session, is_live, exchange, with_station, on_station, on_receiver, with_exchange, opening, new_share}
 use Rattle.wf_frame.specs.Classes.{all_classes}
-use Rattle.wf_world.specs.CanSend.{listed}
+use Rattle.wf_world.specs.CanSend.{with_listings_of}
 use Rattle.wf_world.specs.Exchanges.{transmissions, no_mpdu, after_arrival, mpdus_of, ids_of}
 use Rattle.wf_frame.specs.declared.notes.Ask.TheVariants.{Join, Leave, Rate, Tick, Pull, Arrive, Answer, Done, Sleep, Wake, Poll, Rx, Reap}
 use Rattle.wf_frame.specs.declared.notes.Note.{Note}
@@ -15,7 +15,7 @@ use Rattle.wf_frame.specs.declared.notes.Note.TheVariants.{Enqueue, Asked}
 use Rattle.wf_frame.specs.declared.notes.Refusal.{Refusal}
 use Rattle.wf_frame.specs.declared.notes.Refusal.TheVariants.{Idle}
 use Rattle.wf_world.specs.Refusals.{refusals, refusal}
-use Rattle.wf_world.specs.Step.{Outcome, joined, left_tids, off_lists, gone, with_rate, ticked, enqueued, pulled, arrived, answered, ended, on_open, slept, woken, credited, received, reaped, done, refused, answer, step, concerned}
+use Rattle.wf_world.specs.Step.{Outcome, join_outcome, after_tids_left, without_listings, leave_outcome, rate_outcome, tick_outcome, enqueue_outcome, pull_outcome, arrive_outcome, answer_outcome, done_outcome, outcome_where_open, sleep_outcome, wake_outcome, poll_outcome, rx_outcome, reap_outcome, outcome_of, after_refusal, judged_outcome, step, concerned_station}
 use Rattle.wf_world.specs.Run.{Entry, world_after}
 use Rattle.wf_rule_laws.proofs.Lemmas.Tables.{at_put_same, at_put_other}
 use Rattle.wf_rule_laws.proofs.Lemmas.Numbers.{Climbs, on_bool, on_if, lt_yes, lt_no, eq_yes, eq_no, yes_eq, either, both, and_true, or_left, or_right, has_old, climbs_with, greatest_least, greatest_has, greatest_within}
@@ -25,7 +25,7 @@ use Rattle.wf_laws.proofs.Windows.Opened.{each_find, FlyIn, eight, NoRow, no_row
 use Rattle.wf_frame.specs.declared.notes.ReplyNote.{ReplyNote}
 use Rattle.wf_frame.specs.declared.notes.ReplyNote.TheVariants.{Joined, Released}
 use Rattle.wf_rules.specs.Lists.{IsRising}
-use Rattle.wf_laws.specs.Releases.{joins, is_at, arrives, passed_by, passed_from, passed, numbers_passed}
+use Rattle.wf_laws.specs.Releases.{is_join_of, is_at, is_arrival_for, passed_by, passed_from, passed, numbers_passed}
 use Rattle.wf_laws.proofs.Releases.Passing.{filter_split, filter_with, member_known, release_rises}
 use Rattle.wf_laws.proofs.Releases.Kept.{KeptSession, Kept, kept_same, keep_pulled, keep_ended, keep_answered, keep_plain, keep_enqueued, keep_reaped}
 use Rattle.wf_laws.proofs.Windows.Agreed.{IsLawful, IsOpenIn, all_at, rises_at, if_on, same_left_tids, same_off_lists, lawful_step, lawful, lawful_at_first}
@@ -130,19 +130,19 @@ passed_taken w x z g s t l live grows h =
     (λ other. passed_at w v s t l (live_taken w x z g s) (side_untaken w x z g s t (λ es et. cc (other, and_true (x.station == s) (x.tid == t) (yes_eq x.station s (sym es)) (yes_eq x.tid t (sym et))))) h)
 
 passed_arrived : (w : World) (i : IsLawful w) (x : Exchange) (n s t : ℕ) (l : List ℕ) → IsOpenIn w x → nat_le (transmissions x.content) n ≡ false → Passed w s t l
-    → Passed (arrived w x n).world s t (if is_at s t (Some x) then l ++ ids_of (session w x.station x.tid) (released_between (receiver w x.station x.tid) (after_arrival x.content n (receiver w x.station x.tid))) else l)
-unfolding arrived
+    → Passed (arrive_outcome w x n).world s t (if is_at s t (Some x) then l ++ ids_of (session w x.station x.tid) (released_between (receiver w x.station x.tid) (after_arrival x.content n (receiver w x.station x.tid))) else l)
+unfolding arrive_outcome
 passed_arrived w i x n s t l o few h = passed_taken w x (record x { arrived = with_member n x.arrived }) (after_arrival x.content n) s t l o.live (grown x.content w i x n refl o (not_le _ _ few)) h
   where
     not_le : (a b : ℕ) → nat_le a b ≡ false → b < a
     not_le a b e = grind arith
 
 passed_arrive : (o : Option Exchange) (w : World) (i : IsLawful w) (e n s t : ℕ) (l : List ℕ) → exchange w e ≡ o → IfSome o (IsOpenIn w) → IfSome o (λ x. nat_le (transmissions x.content) n ≡ false) → Passed w s t l
-    → Passed (on_open w o (λ x. arrived w x n)).world s t (passed_by w s t (Asked (Arrive e n)) l (on_open w o (λ x. arrived w x n)).reply)
-unfolding on_open arrived
+    → Passed (outcome_where_open w o (λ x. arrive_outcome w x n)).world s t (passed_by w s t (Asked (Arrive e n)) l (outcome_where_open w o (λ x. arrive_outcome w x n)).reply)
+unfolding outcome_where_open arrive_outcome
 passed_arrive None w i e n s t l d f few h = subst (λ (o : Option Exchange). Passed w s t (if is_at s t o then l ++ [] else l)) (sym d) h
 passed_arrive (Some x) w i e n s t l d f few h =
-    subst (λ (o : Option Exchange). Passed (arrived w x n).world s t (if is_at s t o then l ++ ids_of (session w x.station x.tid) (released_between (receiver w x.station x.tid) (after_arrival x.content n (receiver w x.station x.tid))) else l)) (sym d) (passed_arrived w i x n s t l f few h)
+    subst (λ (o : Option Exchange). Passed (arrive_outcome w x n).world s t (if is_at s t o then l ++ ids_of (session w x.station x.tid) (released_between (receiver w x.station x.tid) (after_arrival x.content n (receiver w x.station x.tid))) else l)) (sym d) (passed_arrived w i x n s t l f few h)
 
 -- ---- joining and leaving
 
@@ -166,8 +166,8 @@ live_own_station w i o = ap is_some (at_put_same None w.stations i o)
 abbrev Untouched : Side → Type 0
 Untouched a = ids_of a.session (numbers_passed a.receiver) ≡ []
 
-passed_joined : (w : World) (i window start exponent weight s t : ℕ) (l : List ℕ) → Passed w s t l → Passed (joined w i window start exponent weight).world s t (if i == s then [] else l)
-unfolding joined
+passed_joined : (w : World) (i window start exponent weight s t : ℕ) (l : List ℕ) → Passed w s t l → Passed (join_outcome w i window start exponent weight).world s t (if i == s then [] else l)
+unfolding join_outcome
 passed_joined w i window start exponent weight s t l h =
     let o : Option Station = Some (record {
       weight = weight;
@@ -183,10 +183,10 @@ passed_joined w i window start exponent weight s t l h =
     sym (ap (λ (a : Side). ids_of a.session (numbers_passed a.receiver)) (side_own_station w i t o) ∙ eight (λ y. Untouched (side_of y)) (new_tid start window) refl refl t)))
     (λ other. passed_at w (with_station w i o) s t l (live_with_station w i s o (eq_no i s other)) (side_with_station w i s t o (eq_no i s other)) h)
 
-passed_gone : (w : World) (i s t : ℕ) (l : List ℕ) → Passed w s t l → Passed (gone w i).world s t l
-unfolding gone
+passed_gone : (w : World) (i s t : ℕ) (l : List ℕ) → Passed w s t l → Passed (leave_outcome w i).world s t l
+unfolding leave_outcome
 passed_gone w i s t l h =
-    let u : World = off_lists (left_tids w i (upto 8)) i all_classes in
+    let u : World = without_listings (after_tids_left w i (upto 8)) i all_classes in
     let k : Same w u = then_same _ _ _ (same_left_tids (upto 8) w i) (same_off_lists all_classes _ i) in
     on_bool (i == s)
     (λ own live. absurd (cc (subst (λ (a : ℕ). is_live (with_station u i None) a ≡ false) (eq_yes i s own) (live_own_station u i None), live)))
@@ -194,84 +194,84 @@ passed_gone w i s t l h =
 
 -- ---- the step
 
-quiet_reply : (r : ReplyNote) (w : World) (s t : ℕ) (note : Note) (l : List ℕ) → joins s note ≡ false → arrives w s t note ≡ false → passed_by w s t note l r ≡ l
+quiet_reply : (r : ReplyNote) (w : World) (s t : ℕ) (note : Note) (l : List ℕ) → is_join_of s note ≡ false → is_arrival_for w s t note ≡ false → passed_by w s t note l r ≡ l
 quiet_reply Joined w s t note l h k = ap (λ (b : Bool). if b then [] else l) h
 quiet_reply (Released ids) w s t note l h k = ap (λ (b : Bool). if b then l ++ ids else l) k
 quiet_reply _ w s t note l h k = refl
 
 -- a call that neither joins nor arrives
-passed_quiet : (w : World) (note : Note) (o : Outcome) (s t : ℕ) (l : List ℕ) → joins s note ≡ false → arrives w s t note ≡ false → Passed o.world s t l → Passed o.world s t (passed_by w s t note l o.reply)
+passed_quiet : (w : World) (note : Note) (o : Outcome) (s t : ℕ) (l : List ℕ) → is_join_of s note ≡ false → is_arrival_for w s t note ≡ false → Passed o.world s t l → Passed o.world s t (passed_by w s t note l o.reply)
 passed_quiet w note o s t l h k p = subst (Passed o.world s t) (sym (quiet_reply o.reply w s t note l h k)) p
 
-pub keep_open : (o : Option Exchange) (w : World) (f : Exchange → Outcome) → ((x : Exchange) → Kept w (f x).world) → Kept w (on_open w o f).world
-unfolding on_open
+pub keep_open : (o : Option Exchange) (w : World) (f : Exchange → Outcome) → ((x : Exchange) → Kept w (f x).world) → Kept w (outcome_where_open w o f).world
+unfolding outcome_where_open
 keep_open None w f h = kept_same w w (same w)
 keep_open (Some x) w f h = h x
 
 keep_station : (w : World) (s : ℕ) (f : Station → Station) → ((x : Station) (t : ℕ) → side_of (at no_tid (f x).tids t) ≡ side_of (at no_tid x.tids t)) → Kept w (on_station w s f)
 keep_station w s f h = kept_same w _ (same_on_station w s f h)
 
-pub keep_rate : (w : World) (a mcs mhz : ℕ) (short : Bool) → Kept w (with_rate w a mcs mhz short).world
-unfolding with_rate
+pub keep_rate : (w : World) (a mcs mhz : ℕ) (short : Bool) → Kept w (rate_outcome w a mcs mhz short).world
+unfolding rate_outcome
 keep_rate w a mcs mhz short = keep_station w a _ (λ x t. refl)
 
-pub keep_tick : (w : World) (by : ℕ) → Kept w (ticked w by).world
-unfolding ticked
+pub keep_tick : (w : World) (by : ℕ) → Kept w (tick_outcome w by).world
+unfolding tick_outcome
 keep_tick w by = keep_plain w _ refl
 
-pub keep_slept : (w : World) (a : ℕ) → Kept w (slept w a).world
-unfolding slept
+pub keep_slept : (w : World) (a : ℕ) → Kept w (sleep_outcome w a).world
+unfolding sleep_outcome
 keep_slept w a = keep_station w a _ (λ x t. refl)
 
-pub keep_woken : (w : World) (a : ℕ) → Kept w (woken w a).world
-unfolding woken
+pub keep_woken : (w : World) (a : ℕ) → Kept w (wake_outcome w a).world
+unfolding wake_outcome
 keep_woken w a = keep_station w a _ (λ x t. refl)
 
-pub keep_credited : (w : World) (a : ℕ) → Kept w (credited w a).world
-unfolding credited
+pub keep_credited : (w : World) (a : ℕ) → Kept w (poll_outcome w a).world
+unfolding poll_outcome
 keep_credited w a = keep_station w a _ (λ x t. refl)
 
-pub keep_received : (w : World) (a : ℕ) (c : Class) (air : ℕ) → Kept w (received w a c air).world
-unfolding received
+pub keep_received : (w : World) (a : ℕ) (c : Class) (air : ℕ) → Kept w (rx_outcome w a c air).world
+unfolding rx_outcome
 keep_received w a c air = kept_same w _ (same_on_share w a c _)
 
 pub opened_in : (w : World) (i : IsLawful w) (e : ℕ) → IfSome (exchange w e) (IsOpenIn w)
 opened_in w i e = each_find (IsOpenIn w) (IsOpenIn w) (λ x. x.number == e) w.opened (λ x _ f. f) i.opened
 
-joins_by : (w : World) (a window start exponent weight s t : ℕ) (l : List ℕ) → Passed w s t l → Passed (joined w a window start exponent weight).world s t (passed_by w s t (Asked (Join a window start exponent weight)) l (joined w a window start exponent weight).reply)
-unfolding joined
+joins_by : (w : World) (a window start exponent weight s t : ℕ) (l : List ℕ) → Passed w s t l → Passed (join_outcome w a window start exponent weight).world s t (passed_by w s t (Asked (Join a window start exponent weight)) l (join_outcome w a window start exponent weight).reply)
+unfolding join_outcome
 joins_by w a window start exponent weight s t l h = passed_joined w a window start exponent weight s t l h
 
-passed_done : (note : Note) (w : World) (i : IsLawful w) (s t : ℕ) (l : List ℕ) → NoRow (refusals w note) → Passed w s t l → Passed (done w note).world s t (passed_by w s t note l (done w note).reply)
-unfolding done
-passed_done (Enqueue a b flow len) w i s t l e h = passed_quiet w (Enqueue a b flow len) (enqueued w a b flow len) s t l refl refl (passed_kept w _ s t l i (keep_enqueued w a b flow len) h)
+passed_done : (note : Note) (w : World) (i : IsLawful w) (s t : ℕ) (l : List ℕ) → NoRow (refusals w note) → Passed w s t l → Passed (outcome_of w note).world s t (passed_by w s t note l (outcome_of w note).reply)
+unfolding outcome_of
+passed_done (Enqueue a b flow len) w i s t l e h = passed_quiet w (Enqueue a b flow len) (enqueue_outcome w a b flow len) s t l refl refl (passed_kept w _ s t l i (keep_enqueued w a b flow len) h)
 passed_done (Asked (Join a window start exponent weight)) w i s t l e h = joins_by w a window start exponent weight s t l h
-passed_done (Asked (Leave a)) w i s t l e h = passed_quiet w (Asked (Leave a)) (gone w a) s t l refl refl (passed_gone w a s t l h)
-passed_done (Asked (Rate a mcs mhz short)) w i s t l e h = passed_quiet w (Asked (Rate a mcs mhz short)) (with_rate w a mcs mhz short) s t l refl refl (passed_kept w _ s t l i (keep_rate w a mcs mhz short) h)
-passed_done (Asked (Tick by)) w i s t l e h = passed_quiet w (Asked (Tick by)) (ticked w by) s t l refl refl (passed_kept w _ s t l i (keep_tick w by) h)
-passed_done (Asked (Pull c)) w i s t l e h = passed_quiet w (Asked (Pull c)) (pulled w c) s t l refl refl (passed_kept w _ s t l i (keep_pulled w c) h)
+passed_done (Asked (Leave a)) w i s t l e h = passed_quiet w (Asked (Leave a)) (leave_outcome w a) s t l refl refl (passed_gone w a s t l h)
+passed_done (Asked (Rate a mcs mhz short)) w i s t l e h = passed_quiet w (Asked (Rate a mcs mhz short)) (rate_outcome w a mcs mhz short) s t l refl refl (passed_kept w _ s t l i (keep_rate w a mcs mhz short) h)
+passed_done (Asked (Tick by)) w i s t l e h = passed_quiet w (Asked (Tick by)) (tick_outcome w by) s t l refl refl (passed_kept w _ s t l i (keep_tick w by) h)
+passed_done (Asked (Pull c)) w i s t l e h = passed_quiet w (Asked (Pull c)) (pull_outcome w c) s t l refl refl (passed_kept w _ s t l i (keep_pulled w c) h)
 passed_done (Asked (Arrive x n)) w i s t l r h = passed_arrive (exchange w x) w i x n s t l refl (opened_in w i x) (if_on (exchange w x) (λ y. nat_le (transmissions y.content) n) r.1.0) h
-passed_done (Asked (Answer x)) w i s t l e h = passed_quiet w (Asked (Answer x)) (on_open w (exchange w x) (λ y. answered w y)) s t l refl refl (passed_kept w _ s t l i (keep_open (exchange w x) w _ (keep_answered w)) h)
-passed_done (Asked (Done x heard)) w i s t l e h = passed_quiet w (Asked (Done x heard)) (on_open w (exchange w x) (λ y. ended w y heard)) s t l refl refl (passed_kept w _ s t l i (keep_open (exchange w x) w _ (λ y. keep_ended w y heard)) h)
-passed_done (Asked (Sleep a)) w i s t l e h = passed_quiet w (Asked (Sleep a)) (slept w a) s t l refl refl (passed_kept w _ s t l i (keep_slept w a) h)
-passed_done (Asked (Wake a)) w i s t l e h = passed_quiet w (Asked (Wake a)) (woken w a) s t l refl refl (passed_kept w _ s t l i (keep_woken w a) h)
-passed_done (Asked (Poll a)) w i s t l e h = passed_quiet w (Asked (Poll a)) (credited w a) s t l refl refl (passed_kept w _ s t l i (keep_credited w a) h)
-passed_done (Asked (Rx a c air)) w i s t l e h = passed_quiet w (Asked (Rx a c air)) (received w a c air) s t l refl refl (passed_kept w _ s t l i (keep_received w a c air) h)
-passed_done (Asked Reap) w i s t l e h = passed_quiet w (Asked Reap) (reaped w w.finished) s t l refl refl (passed_kept w _ s t l i (keep_reaped w.finished w) h)
+passed_done (Asked (Answer x)) w i s t l e h = passed_quiet w (Asked (Answer x)) (outcome_where_open w (exchange w x) (λ y. answer_outcome w y)) s t l refl refl (passed_kept w _ s t l i (keep_open (exchange w x) w _ (keep_answered w)) h)
+passed_done (Asked (Done x heard)) w i s t l e h = passed_quiet w (Asked (Done x heard)) (outcome_where_open w (exchange w x) (λ y. done_outcome w y heard)) s t l refl refl (passed_kept w _ s t l i (keep_open (exchange w x) w _ (λ y. keep_ended w y heard)) h)
+passed_done (Asked (Sleep a)) w i s t l e h = passed_quiet w (Asked (Sleep a)) (sleep_outcome w a) s t l refl refl (passed_kept w _ s t l i (keep_slept w a) h)
+passed_done (Asked (Wake a)) w i s t l e h = passed_quiet w (Asked (Wake a)) (wake_outcome w a) s t l refl refl (passed_kept w _ s t l i (keep_woken w a) h)
+passed_done (Asked (Poll a)) w i s t l e h = passed_quiet w (Asked (Poll a)) (poll_outcome w a) s t l refl refl (passed_kept w _ s t l i (keep_credited w a) h)
+passed_done (Asked (Rx a c air)) w i s t l e h = passed_quiet w (Asked (Rx a c air)) (rx_outcome w a c air) s t l refl refl (passed_kept w _ s t l i (keep_received w a c air) h)
+passed_done (Asked Reap) w i s t l e h = passed_quiet w (Asked Reap) (reap_outcome w w.finished) s t l refl refl (passed_kept w _ s t l i (keep_reaped w.finished w) h)
 
 -- ---- the run
 
-pub refused_kept : (note : Note) (r : Refusal) (w : World) → Kept w (refused w note r)
-unfolding refused
+pub refused_kept : (note : Note) (r : Refusal) (w : World) → Kept w (after_refusal w note r)
+unfolding after_refusal
 refused_kept (Asked (Pull c)) Idle w = kept_same w _ (same_after_pick w c)
 refused_kept _ _ w = kept_same w w (same w)
 
-passed_answer : (r : Option Refusal) (w : World) (i : IsLawful w) (note : Note) (s t : ℕ) (l : List ℕ) → refusal w note ≡ r → Passed w s t l → Passed (answer w note r).world s t (passed_by w s t note l (answer w note r).reply)
-unfolding answer
-passed_answer (Some r) w i note s t l e h = passed_kept w (refused w note r) s t l i (refused_kept note r w) h
+passed_answer : (r : Option Refusal) (w : World) (i : IsLawful w) (note : Note) (s t : ℕ) (l : List ℕ) → refusal w note ≡ r → Passed w s t l → Passed (judged_outcome w note r).world s t (passed_by w s t note l (judged_outcome w note r).reply)
+unfolding judged_outcome
+passed_answer (Some r) w i note s t l e h = passed_kept w (after_refusal w note r) s t l i (refused_kept note r w) h
 passed_answer None w i note s t l e h =
-    let k : Same (done w note).world (listed (done w note).world (concerned w note)) = same_listed (concerned w note) (done w note).world in
-    passed_at (done w note).world (listed (done w note).world (concerned w note)) s t _ (k.live s) (k.sides s t) (passed_done note w i s t l (no_row (refusals w note) e) h)
+    let k : Same (outcome_of w note).world (with_listings_of (outcome_of w note).world (concerned_station w note)) = same_listed (concerned_station w note) (outcome_of w note).world in
+    passed_at (outcome_of w note).world (with_listings_of (outcome_of w note).world (concerned_station w note)) s t _ (k.live s) (k.sides s t) (passed_done note w i s t l (no_row (refusals w note) e) h)
 
 passed_step : (w : World) (i : IsLawful w) (note : Note) (s t : ℕ) (l : List ℕ) → Passed w s t l → Passed (step w note).world s t (passed_by w s t note l (step w note).reply)
 unfolding step

@@ -2,9 +2,9 @@
 use Rattle.std.proofs.Common.{◌≡◌, ◌≢◌, refl, ap, sym, ◌∙◌, subst, arith, ℕ, suc, ◌+◌, ◌-◌, ◌<◌, ◌≤◌, Bool, true, false, if◌then◌else◌, List, [], ◌∷◌, ◌++◌, length, length-append, add-zero, map, take, drop}
 use Rattle.std.proofs.lemmas.List.{take-append-drop}
 use Rattle.wf_rules.specs.Table.{at, greatest_upto}
-use Rattle.wf_rules.specs.Session.{Session, Slot, State, no_slot, slot, on_slot, with_state, give, is_settled, is_waiting, next_number, numbers_where}
+use Rattle.wf_rules.specs.Session.{Session, Slot, State, no_slot, slot, on_slot, with_state, with_number_given, is_settled, is_waiting, next_number, numbers_where}
 use Rattle.wf_world.specs.World.{World, Mpdu, session}
-use Rattle.wf_world.specs.Exchanges.{numbers_fly, mpdu, waiting_mpdus, fits_in, longest_fitting}
+use Rattle.wf_world.specs.Exchanges.{with_flying, mpdu_of, waiting_mpdus, fits_in, longest_fitting}
 use Rattle.wf_laws.proofs.Sessions.Starts.{IsWithin, length-change, within_on_slot, keeps_change, keeps_append, at_append, at_change_other, at_change_same}
 
 -- each of the numbers is in this state
@@ -58,18 +58,18 @@ all_in_later y st n hi f (m ∷ ms) b r a =
 
 -- ---- a fresh number
 
-pub all_in_give : (y : Session) (id : ℕ) (st : State) (ms : List Mpdu) → st ≢ State.Acked → AllIn y st ms → AllIn (give y id) st ms
+pub all_in_give : (y : Session) (id : ℕ) (st : State) (ms : List Mpdu) → st ≢ State.Acked → AllIn y st ms → AllIn (with_number_given y id) st ms
 all_in_give y id st [] h a = tt
 all_in_give y id st (m ∷ ms) h a = (keeps_append y.slots _ st h (m.number - y.first) a.0, all_in_give y id st ms h a.1)
 
-pub fresh_waits : (y : Session) (id : ℕ) → (slot (give y id) (next_number y)).state ≡ State.Waiting
+pub fresh_waits : (y : Session) (id : ℕ) → (slot (with_number_given y id) (next_number y)).state ≡ State.Waiting
 fresh_waits y id =
     let e : next_number y - y.first ≡ length y.slots = omega arith in
-    ap (λ (k : ℕ). (at no_slot (give y id).slots k).state) e ∙ ap (λ (x : Slot). x.state) (at_append y.slots _)
+    ap (λ (k : ℕ). (at no_slot (with_number_given y id).slots k).state) e ∙ ap (λ (x : Slot). x.state) (at_append y.slots _)
 
 -- ---- the numbers fly
 
-pub fly_keeps : (ms : List Mpdu) (y : Session) (e n : ℕ) → (slot y n).state ≡ State.Flying e → (slot (numbers_fly e ms y) n).state ≡ State.Flying e
+pub fly_keeps : (ms : List Mpdu) (y : Session) (e n : ℕ) → (slot y n).state ≡ State.Flying e → (slot (with_flying e ms y) n).state ≡ State.Flying e
 fly_keeps [] y e n h = h
 fly_keeps (m ∷ ms) y e n h =
     fly_keeps ms (with_state (State.Flying e) m.number y) e n (keeps_change (λ s. s ≡ State.Flying e) (λ s. s ≡ State.Flying e) y.slots (m.number - y.first) (λ x. record x { state = State.Flying e }) (λ _. refl) (λ s k. k) (n - y.first) h)
@@ -82,12 +82,12 @@ pub record IsFlown (e : ℕ) (ms : List Mpdu) (y z : Session) : Type 0 where
   pub first : z.first ≡ y.first
   pub next : next_number z ≡ next_number y
 
-pub flown : (ms : List Mpdu) (y : Session) (e hi : ℕ) (lo : ℕ) → y.first ≤ lo → Rises lo hi ms → AllIn y State.Waiting ms → IsFlown e ms y (numbers_fly e ms y)
+pub flown : (ms : List Mpdu) (y : Session) (e hi : ℕ) (lo : ℕ) → y.first ≤ lo → Rises lo hi ms → AllIn y State.Waiting ms → IsFlown e ms y (with_flying e ms y)
 flown [] y e hi lo b r a = record { within = λ h. h; flying = tt; others = λ e' ls h. h; first = refl; next = refl }
 flown (m ∷ ms) y e hi lo b r a =
     let f : Slot → Slot = λ x. record x { state = State.Flying e } in
     let unsettled : is_settled (slot y m.number).state ≡ false = ap is_settled a.0 in
-    let rest : IsFlown e ms (on_slot m.number f y) (numbers_fly e ms (on_slot m.number f y)) =
+    let rest : IsFlown e ms (on_slot m.number f y) (with_flying e ms (on_slot m.number f y)) =
     flown ms (on_slot m.number f y) e hi (suc m.number) (omega (arith, r.0)) r.2 (all_in_later y State.Waiting m.number hi f ms (omega (arith, r.0)) r.2 a.1)
     in
     record {
@@ -130,19 +130,19 @@ rises_if : (b : Bool) (lo hi : ℕ) (m : Mpdu) (g : ℕ → Mpdu) (n : ℕ) (ns 
 rises_if true lo hi m g n ns e h k r = (omega (arith, ap (λ (x : Mpdu). x.number) e), omega (arith, ap (λ (x : Mpdu). x.number) e), rises_weaken (suc m.number) (suc (g n).number) hi hi (map g ns) (omega (arith, ap (λ (x : Mpdu). x.number) e)) (omega arith) r)
 rises_if false lo hi m g n ns e h k r = rises_weaken (suc m.number) lo hi hi (map g ns) (omega arith) (omega arith) r
 
-waiting_rises : (xs : List Slot) (w : World) (s t n hi : ℕ) → n + length xs ≤ hi → Rises n hi (map (mpdu w s t) (numbers_where is_waiting n xs))
+waiting_rises : (xs : List Slot) (w : World) (s t n hi : ℕ) → n + length xs ≤ hi → Rises n hi (map (mpdu_of w s t) (numbers_where is_waiting n xs))
 waiting_rises [] w s t n hi h = tt
 waiting_rises (x ∷ xs) w s t n hi h =
-    rises_if (is_waiting x.state) n hi (mpdu w s t n) (mpdu w s t) n (numbers_where is_waiting (suc n) xs) refl (omega arith) (omega (arith, h)) (waiting_rises xs w s t (suc n) hi (omega (arith, h)))
+    rises_if (is_waiting x.state) n hi (mpdu_of w s t n) (mpdu_of w s t) n (numbers_where is_waiting (suc n) xs) refl (omega arith) (omega (arith, h)) (waiting_rises xs w s t (suc n) hi (omega (arith, h)))
 
 waits_if : (b : Bool) (y : Session) (g : ℕ → Mpdu) (n : ℕ) (ns : List ℕ) → (b ≡ true → (slot y (g n).number).state ≡ State.Waiting) → AllIn y State.Waiting (map g ns) → AllIn y State.Waiting (map g (if b then n ∷ ns else ns))
 waits_if true y g n ns h a = (h refl, a)
 waits_if false y g n ns h a = a
 
-waiting_waits : (xs : List Slot) (w : World) (s t : ℕ) (y : Session) (n : ℕ) → ((i : ℕ) → at no_slot y.slots (n + i - y.first) ≡ at no_slot xs i) → AllIn y State.Waiting (map (mpdu w s t) (numbers_where is_waiting n xs))
+waiting_waits : (xs : List Slot) (w : World) (s t : ℕ) (y : Session) (n : ℕ) → ((i : ℕ) → at no_slot y.slots (n + i - y.first) ≡ at no_slot xs i) → AllIn y State.Waiting (map (mpdu_of w s t) (numbers_where is_waiting n xs))
 waiting_waits [] w s t y n h = tt
 waiting_waits (x ∷ xs) w s t y n h =
-    waits_if (is_waiting x.state) y (mpdu w s t) n (numbers_where is_waiting (suc n) xs)
+    waits_if (is_waiting x.state) y (mpdu_of w s t) n (numbers_where is_waiting (suc n) xs)
     (λ e. ap (λ (k : ℕ). (at no_slot y.slots (k - y.first)).state) (sym (add-zero n)) ∙ ap (λ (z : Slot). z.state) (h 0) ∙ is_waiting_state x.state e)
     (waiting_waits xs w s t y (suc n) (λ i. ap (λ (k : ℕ). at no_slot y.slots (k - y.first)) (omega arith) ∙ h (suc i)))
 
@@ -164,17 +164,17 @@ rises_append : (lo hi : ℕ) (xs : List Mpdu) (m : Mpdu) → Rises lo hi xs → 
 rises_append lo hi [] m r h e = (omega (arith, e), omega (arith, e), tt)
 rises_append lo hi (x ∷ xs) m r h e = (r.0, omega (arith, r.1), rises_append (suc x.number) hi xs m r.2 (omega (arith, r.1)) e)
 
-pub next-give : (y : Session) (id : ℕ) → next_number (give y id) ≡ suc (next_number y)
+pub next-give : (y : Session) (id : ℕ) → next_number (with_number_given y id) ≡ suc (next_number y)
 next-give y id = omega (arith, length-append y.slots (record { id = id; attempts = 0; state = State.Waiting } ∷ []))
 
-pub chosen_give : (y : Session) (id : ℕ) (ms : List Mpdu) → IsChosen y ms → IsChosen (give y id) ms
+pub chosen_give : (y : Session) (id : ℕ) (ms : List Mpdu) → IsChosen y ms → IsChosen (with_number_given y id) ms
 chosen_give y id ms c = record {
   waiting = all_in_give y id State.Waiting ms (λ e. cc e) c.waiting;
-  rising = rises_weaken y.first y.first (next_number y) (next_number (give y id)) ms (omega arith) (omega (arith, next-give y id)) c.rising;
+  rising = rises_weaken y.first y.first (next_number y) (next_number (with_number_given y id)) ms (omega arith) (omega (arith, next-give y id)) c.rising;
 }
 
-pub chosen_fresh : (y : Session) (id : ℕ) (m : Mpdu) (ms : List Mpdu) → m.number ≡ next_number y → IsChosen y ms → IsChosen (give y id) (ms ++ m ∷ [])
+pub chosen_fresh : (y : Session) (id : ℕ) (m : Mpdu) (ms : List Mpdu) → m.number ≡ next_number y → IsChosen y ms → IsChosen (with_number_given y id) (ms ++ m ∷ [])
 chosen_fresh y id m ms e c = record {
-  waiting = all_in_append (give y id) State.Waiting ms m (chosen_give y id ms c).waiting (ap (λ (n : ℕ). (slot (give y id) n).state) e ∙ fresh_waits y id);
+  waiting = all_in_append (with_number_given y id) State.Waiting ms m (chosen_give y id ms c).waiting (ap (λ (n : ℕ). (slot (with_number_given y id) n).state) e ∙ fresh_waits y id);
   rising = subst (λ (hi : ℕ). Rises y.first hi (ms ++ m ∷ [])) (sym (next-give y id)) (rises_append y.first (next_number y) ms m c.rising (omega arith) e);
 }

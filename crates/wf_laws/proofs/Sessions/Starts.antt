@@ -1,7 +1,7 @@
 -- A session's start, and its slots, under the changes that a step makes.
 use Rattle.std.proofs.Common.{◌≡◌, ◌≢◌, refl, ap, sym, arith, ℕ, zero, suc, ◌+◌, ◌-◌, ◌<◌, ◌≤◌, Bool, true, false, if◌then◌else◌, List, [], ◌∷◌, ◌++◌, length, length-append}
 use Rattle.wf_rules.specs.Table.{at, change}
-use Rattle.wf_rules.specs.Session.{Session, Slot, State, no_slot, slot, on_slot, give, is_settled, first_unsettled, start_of, next_number, has_room}
+use Rattle.wf_rules.specs.Session.{Session, Slot, State, no_slot, slot, on_slot, with_number_given, is_settled, first_unsettled, start_of, next_number, has_room}
 use Rattle.wf_rule_laws.proofs.Lemmas.Tables.{each_put}
 
 -- at most size numbers from the first unsettled one on
@@ -43,7 +43,7 @@ length-change (x ∷ xs) (suc k) f h = ap suc (length-change xs k f h)
 pub within_on_slot : (y : Session) (n : ℕ) (f : Slot → Slot) → is_settled (slot y n).state ≡ false → IsWithin y → IsWithin (on_slot n f y)
 within_on_slot y n f h i = record { within = omega (arith, i.within, length-change y.slots (n - y.first) f h, start_change y.slots y.first (n - y.first) f h) }
 
-pub within_give : (y : Session) (id : ℕ) → has_room y ≡ true → IsWithin (give y id)
+pub within_give : (y : Session) (id : ℕ) → has_room y ≡ true → IsWithin (with_number_given y id)
 within_give y id h =
     let room : next_number y < start_of y + y.size = grind arith in
     record { within = omega (arith, room, length-append y.slots (record { id = id; attempts = 0; state = State.Waiting } ∷ []), start_append y.slots y.first (record { id = id; attempts = 0; state = State.Waiting } ∷ [])) }

@@ -6,19 +6,19 @@ use Rattle.wf_rules.specs.Table.{at, has, with_member, put, change, upto}
 use Rattle.wf_rules.specs.Codel.{Item}
 use Rattle.wf_rules.specs.Rotation.{in_order}
 use Rattle.wf_rules.specs.Receiver.{Receiver, with_arrived, with_start, Score, score, shows}
-use Rattle.wf_rules.specs.Session.{request_due, waiting_numbers, Session, Slot, State, is_settled, is_failed, missed_slot, slot, on_slot, give, missed, next_number, has_room}
+use Rattle.wf_rules.specs.Session.{request_due, waiting_numbers, Session, Slot, State, is_settled, is_failed, slot_after_miss, slot, on_slot, with_number_given, after_miss, next_number, has_room}
 use Rattle.wf_world.specs.World.{quantum, new_queue, no_share, receiver, share, World, Station, Share, Tid, Queue, Exchange, Mpdu, Content, Frames, Request, new_tid, no_tid, no_station, rotation, session, tid_of, is_live, exchange, with_station, on_station, on_tid, on_session, on_receiver, on_share, with_rotation, with_exchange, without_exchange, opening}
 use Rattle.wf_frame.specs.Classes.{lower_tid, upper_tid, class_number, all_classes}
-use Rattle.wf_world.specs.FlowQueues.{take}
+use Rattle.wf_world.specs.FlowQueues.{taken_for_tid}
 use Rattle.wf_world.specs.CanSend.{is_request, request_open, can_send, can_send_in, is_ready, can_give}
-use Rattle.wf_world.specs.Exchanges.{is_acked, transmissions, no_mpdu, station_need, most_frames, picked_station, after_arrival, exchange_of, sending_tid, heard_start, Aggregate, Prepared, mpdus_of, pay_station, pay_stations, after_pick, after_turn, with_fresh, filled, with_number, fresh_mpdus, numbers_fly, waiting_mpdus, longest_fitting, prepared_frames, prepared, opening_exchange, charged, settled_slot, settled, all_settled, after_done}
+use Rattle.wf_world.specs.Exchanges.{is_acked, transmissions, no_mpdu, station_need, most_frames, picked_station, after_arrival, exchange_of, sending_tid, with_heard_start, Aggregate, Prepared, mpdus_of, with_station_paid, with_stations_paid, after_pick, after_tid_turn, with_fresh, aggregate_of, with_number, fresh_mpdus, with_flying, waiting_mpdus, longest_fitting, prepared_data, prepared_exchange, with_exchange_opened, after_charge, with_failed_finished, with_settled, with_all_settled, after_done}
 use Rattle.wf_frame.specs.declared.notes.Ask.TheVariants.{Join, Leave, Rate, Tick, Pull, Arrive, Answer, Done, Sleep, Wake, Poll, Rx, Reap}
 use Rattle.wf_frame.specs.declared.notes.Note.{Note}
 use Rattle.wf_frame.specs.declared.notes.Note.TheVariants.{Enqueue, Asked}
 use Rattle.wf_frame.specs.declared.notes.Refusal.{Refusal}
 use Rattle.wf_frame.specs.declared.notes.Refusal.TheVariants.{Idle}
-use Rattle.wf_world.specs.Refusals.{on_exchange, open_of_station, refusals, refusal}
-use Rattle.wf_world.specs.Step.{Outcome, joined, left_tid, left_tids, off_lists, gone, with_rate, ticked, with_frame, enqueued, sent, pulled_by, pulled, arrived, answered, ended, on_open, slept, woken, credited, received, reaped, done, refused, answer, step}
+use Rattle.wf_world.specs.Refusals.{exchange_has, open_of_station, refusals, refusal}
+use Rattle.wf_world.specs.Step.{Outcome, join_outcome, after_tid_left, after_tids_left, without_listings, leave_outcome, rate_outcome, tick_outcome, with_frame, enqueue_outcome, send_outcome, pull_outcome_for, pull_outcome, arrive_outcome, answer_outcome, done_outcome, outcome_where_open, sleep_outcome, wake_outcome, poll_outcome, rx_outcome, reap_outcome, outcome_of, after_refusal, judged_outcome, step}
 use Rattle.wf_world.specs.Run.{Entry, world_after}
 use Rattle.std.specs.List.{list_any}
 use Rattle.wf_rule_laws.proofs.Lemmas.Tables.{each_put, at_put_other}
@@ -135,20 +135,20 @@ ready_same w v s t ms h r = record {
   chosen = subst (λ (y : Session). IsChosen y ms) (sym (session_same w v h s t)) r.chosen;
 }
 
-pub lawful_give : (w : World) (s t id : ℕ) → has_room (session w s t) ≡ true → request_due (session w s t) ≡ false → IsLawful w → IsLawful (on_session w s t (λ y. give y id))
+pub lawful_give : (w : World) (s t id : ℕ) → has_room (session w s t) ≡ true → request_due (session w s t) ≡ false → IsLawful w → IsLawful (on_session w s t (λ y. with_number_given y id))
 lawful_give w s t id room quiet i =
-    lawful_on_session (λ _. Unit {0}) w s t (λ y. give y id) (any_exchange w.opened) (agreed_give (session w s t) (receiver w s t) id room quiet (i.agreed s t))
-    (λ x b n e d o. open_flies x (session w s t) (give (session w s t) id) (receiver w s t) quiet (λ f. fly_give (session w s t) id x.number _ f) o) i
+    lawful_on_session (λ _. Unit {0}) w s t (λ y. with_number_given y id) (any_exchange w.opened) (agreed_give (session w s t) (receiver w s t) id room quiet (i.agreed s t))
+    (λ x b n e d o. open_flies x (session w s t) (with_number_given (session w s t) id) (receiver w s t) quiet (λ f. fly_give (session w s t) id x.number _ f) o) i
 
-pub ready_give : (w : World) (s t id : ℕ) (ms : List Mpdu) → has_room (session w s t) ≡ true → IsReady s t w ms → IsReady s t (on_session w s t (λ y. give y id)) ms
+pub ready_give : (w : World) (s t id : ℕ) (ms : List Mpdu) → has_room (session w s t) ≡ true → IsReady s t w ms → IsReady s t (on_session w s t (λ y. with_number_given y id)) ms
 ready_give w s t id ms room r = record {
   lawful = lawful_give w s t id room r.quiet r.lawful;
   live = live_on_session w s t _ s ∙ r.live;
-  quiet = ap request_due (session_on_session w s t (λ y. give y id) r.live) ∙ not_due_give (session w s t) id r.quiet;
+  quiet = ap request_due (session_on_session w s t (λ y. with_number_given y id) r.live) ∙ not_due_give (session w s t) id r.quiet;
   chosen = subst (λ (y : Session). IsChosen y ms) (sym (session_on_session w s t _ r.live)) (chosen_give (session w s t) id ms r.chosen);
 }
 
-pub longer_give : (w : World) (s t id : ℕ) (m : Mpdu) (ms : List Mpdu) → m.number ≡ next_number (session w s t) → has_room (session w s t) ≡ true → IsReady s t w ms → IsReady s t (on_session w s t (λ y. give y id)) (ms ++ m ∷ [])
+pub longer_give : (w : World) (s t id : ℕ) (m : Mpdu) (ms : List Mpdu) → m.number ≡ next_number (session w s t) → has_room (session w s t) ≡ true → IsReady s t w ms → IsReady s t (on_session w s t (λ y. with_number_given y id)) (ms ++ m ∷ [])
 longer_give w s t id m ms e room r = record {
   lawful = (ready_give w s t id ms room r).lawful;
   live = (ready_give w s t id ms room r).live;
@@ -175,7 +175,7 @@ pub ready_fresh : (n : ℕ) (w : World) (s t : ℕ) (ms : List Mpdu) → IsReady
 unfolding with_fresh
 ready_fresh zero w s t ms r = r
 ready_fresh (suc n) w s t ms r =
-    let taken = take w s t in
+    let taken = taken_for_tid w s t in
     let kept : Same w taken.world = same_take w s t in
     let ready : IsReady s t taken.world ms = ready_same w taken.world s t ms kept r in
     if_ready (not (can_give w s t)) s t _ _ (λ _. r) (λ none.
@@ -187,8 +187,8 @@ ready_fresh (suc n) w s t ms r =
 pub ready_start : (w : World) (s t : ℕ) → IsLawful w → is_live w s ≡ true → request_due (session w s t) ≡ false → IsReady s t w (longest_fitting w s (waiting_mpdus w s t))
 ready_start w s t i live quiet = record { lawful = i; live = live; quiet = quiet; chosen = chosen_fitting (waiting_mpdus w s t) w s (session w s t) (chosen_waiting w s t) }
 
-pub ready_filled : (w : World) (s t : ℕ) → IsLawful w → is_live w s ≡ true → request_due (session w s t) ≡ false → IsReady s t (filled w s t).world (filled w s t).mpdus
-unfolding filled
+pub ready_filled : (w : World) (s t : ℕ) → IsLawful w → is_live w s ≡ true → request_due (session w s t) ≡ false → IsReady s t (aggregate_of w s t).world (aggregate_of w s t).mpdus
+unfolding aggregate_of
 ready_filled w s t i live quiet =
     let r : IsReady s t w (longest_fitting w s (waiting_mpdus w s t)) = ready_start w s t i live quiet in
     let chosen : List Mpdu = longest_fitting w s (waiting_mpdus w s t) in
@@ -204,23 +204,23 @@ pub record IsAloft (s t : ℕ) (p : Prepared) : Type 0 where
   pub asked : IfRequest p.content (λ f. IsAsked f (session p.world s t))
   pub alone : IfRequest p.content (λ f. request_open p.world s t ≡ false)
 
-pub aloft_frames : (s t : ℕ) (f : Aggregate) → IsReady s t f.world f.mpdus → IsAloft s t (prepared_frames s t f)
-unfolding prepared_frames
+pub aloft_frames : (s t : ℕ) (f : Aggregate) → IsReady s t f.world f.mpdus → IsAloft s t (prepared_data s t f)
+unfolding prepared_data
 aloft_frames s t f r =
     let e : ℕ = f.world.exchanges in
     let y : Session = session f.world s t in
-    let z : IsFlown e f.mpdus y (numbers_fly e f.mpdus y) = flown f.mpdus y e (next_number y) y.first (omega arith) r.chosen.rising r.chosen.waiting in
-    let fly : (n : ℕ) (ms : List Mpdu) → FlyIn n ms y → AllIn (numbers_fly e f.mpdus y) (State.Flying n) ms → FlyIn n ms (numbers_fly e f.mpdus y) =
-    λ n ms g a. record { rising = subst (λ (k : ℕ). Rises k (next_number (numbers_fly e f.mpdus y)) ms) (sym z.first) (subst (λ (k : ℕ). Rises y.first k ms) (sym z.next) g.rising); flying = a }
+    let z : IsFlown e f.mpdus y (with_flying e f.mpdus y) = flown f.mpdus y e (next_number y) y.first (omega arith) r.chosen.rising r.chosen.waiting in
+    let fly : (n : ℕ) (ms : List Mpdu) → FlyIn n ms y → AllIn (with_flying e f.mpdus y) (State.Flying n) ms → FlyIn n ms (with_flying e f.mpdus y) =
+    λ n ms g a. record { rising = subst (λ (k : ℕ). Rises k (next_number (with_flying e f.mpdus y)) ms) (sym z.first) (subst (λ (k : ℕ). Rises y.first k ms) (sym z.next) g.rising); flying = a }
     in
     record {
-      lawful = lawful_on_session (λ _. Unit {0}) f.world s t (numbers_fly e f.mpdus) (any_exchange f.world.opened)
+      lawful = lawful_on_session (λ _. Unit {0}) f.world s t (with_flying e f.mpdus) (any_exchange f.world.opened)
           (agreed_fly f.mpdus y (receiver f.world s t) e y.first (next_number y) (omega arith) r.chosen.rising r.chosen.waiting (r.lawful.agreed s t))
-          (λ x b n _ _ o. open_flies x y (numbers_fly e f.mpdus y) (receiver f.world s t) r.quiet (λ g. fly x.number _ g (z.others x.number _ g.flying)) o) r.lawful;
+          (λ x b n _ _ o. open_flies x y (with_flying e f.mpdus y) (receiver f.world s t) r.quiet (λ g. fly x.number _ g (z.others x.number _ g.flying)) o) r.lawful;
       live = live_on_session f.world s t _ s ∙ r.live;
-      flies = subst (λ (n : ℕ). FlyIn n f.mpdus (session (on_session f.world s t (numbers_fly e f.mpdus)) s t)) (sym (exchanges_on_session f.world s t _))
+      flies = subst (λ (n : ℕ). FlyIn n f.mpdus (session (on_session f.world s t (with_flying e f.mpdus)) s t)) (sym (exchanges_on_session f.world s t _))
           (subst (FlyIn e f.mpdus) (sym (session_on_session f.world s t _ r.live))
-          (record { rising = subst (λ (k : ℕ). Rises k (next_number (numbers_fly e f.mpdus y)) f.mpdus) (sym z.first) (subst (λ (k : ℕ). Rises y.first k f.mpdus) (sym z.next) r.chosen.rising); flying = z.flying }));
+          (record { rising = subst (λ (k : ℕ). Rises k (next_number (with_flying e f.mpdus y)) f.mpdus) (sym z.first) (subst (λ (k : ℕ). Rises y.first k f.mpdus) (sym z.next) r.chosen.rising); flying = z.flying }));
       asked = tt;
       alone = tt;
     }
@@ -229,8 +229,8 @@ pub if_aloft : (b : Bool) (s t : ℕ) (x y : Prepared) → (b ≡ true → IsAlo
 if_aloft true s t x y h k = h refl
 if_aloft false s t x y h k = k refl
 
-pub aloft : (w : World) (s t : ℕ) → IsLawful w → is_live w s ≡ true → (request_due (session w s t) ≡ true → request_open w s t ≡ false) → IsAloft s t (prepared w s t)
-unfolding prepared
+pub aloft : (w : World) (s t : ℕ) → IsLawful w → is_live w s ≡ true → (request_due (session w s t) ≡ true → request_open w s t ≡ false) → IsAloft s t (prepared_exchange w s t)
+unfolding prepared_exchange
 aloft w s t i live may = if_aloft (request_due (session w s t)) s t _ _
     (λ due. record {
       lawful = i;
@@ -270,8 +270,8 @@ sole_opened (Request f) w x s t e alone k = sole_append w.opened x s t k (λ h.
     let p = asks_is s t x h in
     subst (λ (i : ℕ). Each (λ y. asks i t y ≡ false) w.opened) p.0 (subst (λ (j : ℕ). Each (λ y. asks x.station j y ≡ false) w.opened) p.1 (none_asks x.station x.tid w.opened alone)))
 
-pub lawful_opening : (w : World) (x : Exchange) → x.number ≡ w.exchanges → IsLawful w → is_live w x.station ≡ true → IsOpen x (session w x.station x.tid) (receiver w x.station x.tid) → IfRequest x.content (λ f. request_open w x.station x.tid ≡ false) → IsLawful (opening_exchange w x)
-unfolding opening_exchange
+pub lawful_opening : (w : World) (x : Exchange) → x.number ≡ w.exchanges → IsLawful w → is_live w x.station ≡ true → IsOpen x (session w x.station x.tid) (receiver w x.station x.tid) → IfRequest x.content (λ f. request_open w x.station x.tid ≡ false) → IsLawful (with_exchange_opened w x)
+unfolding with_exchange_opened
 lawful_opening w x e i live o alone = record {
   agreed = i.agreed;
   opened = each_append (IsOpenIn (record w { exchanges = w.exchanges + 1; opened = w.opened ++ x ∷ [] })) w.opened x
@@ -280,8 +280,8 @@ lawful_opening w x e i live o alone = record {
   sole = λ s t. sole_opened x.content w x s t refl alone (i.sole s t);
 }
 
-pub lawful_sent : (s t : ℕ) (c : Class) (p : Prepared) → IsAloft s t p → IsLawful (sent s t c p).world
-unfolding sent
+pub lawful_sent : (s t : ℕ) (c : Class) (p : Prepared) → IsAloft s t p → IsLawful (send_outcome s t c p).world
+unfolding send_outcome
 lawful_sent s t c p a = lawful_same _ _ (same_spent _ s) (lawful_opening p.world (exchange_of s t c p) refl a.lawful a.live
     (record { flies = a.flies; kept = tt; asked = a.asked; told = request_map p.content (λ f. IsAsked f (session p.world s t)) (λ f. (length {A = ℕ} [] == 0) ≡ false → has (receiver p.world s t).starts f ≡ true) (λ f h none. absurd (cc none)) a.asked; marked = λ h. absurd (cc h) }) a.alone)
 
@@ -298,12 +298,12 @@ may_send w s t h due = go (request_due (session w s t)) (request_open w s t) _ h
     go true false c h e = refl
     go false b c h e = absurd (cc e)
 
-pub lawful_pulled_by : (o : Option ℕ) (w : World) (c : Class) → IfSome o (λ s. (is_live w s ≡ true) × (can_send_in w s c ≡ true)) → IsLawful w → IsLawful (pulled_by w c o).world
-unfolding pulled_by
+pub lawful_pulled_by : (o : Option ℕ) (w : World) (c : Class) → IfSome o (λ s. (is_live w s ≡ true) × (can_send_in w s c ≡ true)) → IsLawful w → IsLawful (pull_outcome_for w c o).world
+unfolding pull_outcome_for
 lawful_pulled_by None w c ready i = i
 lawful_pulled_by (Some s) w c ready i =
     let t : ℕ = sending_tid w s c in
-    let k : Same w (after_turn w s c t) = same_after_turn w s c t in
+    let k : Same w (after_tid_turn w s c t) = same_after_turn w s c t in
     let may : request_due (session w s t) ≡ true → request_open w s t ≡ false = may_send w s t (sends (can_send w s) (share w s c).upper (lower_tid c) (upper_tid c) ready.1) in
     lawful_sent s _ c _ (aloft _ s _ (lawful_same _ _ k i) (k.live s ∙ ready.0) (λ due. ap (λ (xs : List Exchange). list_any (λ x. (x.station == s) && ((x.tid == t) && is_request x.content)) xs) k.opened ∙ may (ap request_due (sym (session_same w _ k s t)) ∙ due)))
 
@@ -323,8 +323,8 @@ unmoved_on_share w s c f = record {
   queues = refl;
 }
 
-pub unmoved_pay : (ss : List ℕ) (w : World) (c : Class) (quanta : ℕ → ℕ) → Unmoved w (pay_stations w c quanta ss)
-unfolding pay_stations pay_station
+pub unmoved_pay : (ss : List ℕ) (w : World) (c : Class) (quanta : ℕ → ℕ) → Unmoved w (with_stations_paid w c quanta ss)
+unfolding with_stations_paid with_station_paid
 unmoved_pay [] w c quanta = record { tids = λ s t. refl; queues = refl }
 unmoved_pay (s ∷ ss) w c quanta =
     let a = unmoved_on_share w s c (λ x. record x { deficit = x.deficit +ℤ pos (quanta s * quantum w s); quanta = x.quanta + quanta s }) in
@@ -361,8 +361,8 @@ winner_ready w c =
           ∙ ap (λ (b : Bool). can_send w s (lower_tid c) || b) (can_send_same w (after_pick w c) s (upper_tid c) k u) ∙ q.0,
     )) (pick_ready (station_need w c) (is_ready w c) (rotation w c))
 
-pub lawful_pulled : (w : World) (c : Class) → IsLawful w → IsLawful (pulled w c).world
-unfolding pulled
+pub lawful_pulled : (w : World) (c : Class) → IsLawful w → IsLawful (pull_outcome w c).world
+unfolding pull_outcome
 lawful_pulled w c i = lawful_pulled_by (picked_station w c).winner (after_pick w c) c (winner_ready w c) (lawful_same _ _ (same_after_pick w c) i)
 
 -- ---- arrivals and answers
@@ -383,8 +383,8 @@ sole_replaced w i x z s t n a f = record {
       (λ h. n ∙ f.only s t (sym a ∙ h)) (λ y _ h. h) (i.sole s t).only;
 }
 
-pub lawful_answered : (w : World) (i : IsLawful w) (x : Exchange) → IsFound w i x → (length x.arrived == 0) ≡ false → IsLawful (answered w x).world
-unfolding answered with_exchange
+pub lawful_answered : (w : World) (i : IsLawful w) (x : Exchange) → IsFound w i x → (length x.arrived == 0) ≡ false → IsLawful (answer_outcome w x).world
+unfolding answer_outcome with_exchange
 lawful_answered w i x f some =
     let b : Score = score (receiver w x.station x.tid) in
     let z : Exchange = record x { answer = Some b } in
@@ -491,8 +491,8 @@ taken_by (Request g) w i x n e f none l =
     })
     (λ z other o. open_start z y r g o)
 
-pub lawful_arrived : (w : World) (i : IsLawful w) (x : Exchange) (n : ℕ) → IsFound w i x → is_some x.answer ≡ false → nat_le (transmissions x.content) n ≡ false → IsLawful (arrived w x n).world
-unfolding arrived
+pub lawful_arrived : (w : World) (i : IsLawful w) (x : Exchange) (n : ℕ) → IsFound w i x → is_some x.answer ≡ false → nat_le (transmissions x.content) n ≡ false → IsLawful (arrive_outcome w x n).world
+unfolding arrive_outcome
 lawful_arrived w i x n f none l = taken_by x.content w i x n refl f none (not_le _ _ l)
   where
     not_le : (a b : ℕ) → nat_le a b ≡ false → b < a
@@ -546,20 +546,20 @@ ending_slot e s t acked w m ms f k n =
       live = live_on_session w s t _ s ∙ n.live;
     }
 
-pub missed_not_acked : (limit : ℕ) (x : Slot) → (missed_slot limit x).state ≡ State.Acked → ⊥
+pub missed_not_acked : (limit : ℕ) (x : Slot) → (slot_after_miss limit x).state ≡ State.Acked → ⊥
 missed_not_acked limit x = on_if (λ st. st ≡ State.Acked → ⊥) (nat_le limit (x.attempts + 1)) State.Failed State.Waiting (λ _ h. cc h) (λ _ h. cc h)
 
-pub ending_settled : (b : Bool) (e s t : ℕ) (acked : ℕ → Bool) (w : World) (m : Mpdu) (ms : List Mpdu) → acked m.number ≡ b → IsEnding e s t acked w (m ∷ ms) → IsEnding e s t acked (settled w s t b m) ms
-unfolding settled settled_slot
+pub ending_settled : (b : Bool) (e s t : ℕ) (acked : ℕ → Bool) (w : World) (m : Mpdu) (ms : List Mpdu) → acked m.number ≡ b → IsEnding e s t acked w (m ∷ ms) → IsEnding e s t acked (with_settled w s t b m) ms
+unfolding with_settled with_failed_finished
 ending_settled true e s t acked w m ms h n =
     ending_same e s t acked _ _ ms (same_finish _ _ _) (ending_slot e s t acked w m ms (λ x. record x { state = State.Acked }) (λ _. h) n)
 ending_settled false e s t acked w m ms h n =
-    let v : World = on_session w s t (missed w.config.attempts m.number) in
-    let k : IsEnding e s t acked v ms = ending_slot e s t acked w m ms (missed_slot w.config.attempts) (λ h. absurd (missed_not_acked w.config.attempts (slot (session w s t) m.number) h)) n in
+    let v : World = on_session w s t (after_miss w.config.attempts m.number) in
+    let k : IsEnding e s t acked v ms = ending_slot e s t acked w m ms (slot_after_miss w.config.attempts) (λ h. absurd (missed_not_acked w.config.attempts (slot (session w s t) m.number) h)) n in
     if_ending (is_failed (slot (session v s t) m.number).state) e s t acked _ v ms (ending_same e s t acked _ _ ms (same_finish v _ _) k) k
 
-pub ending_all : (ms : List Mpdu) (e s t : ℕ) (w : World) (acked : ℕ → Bool) → IsEnding e s t acked w ms → IsLawful (all_settled w s t acked ms)
-unfolding all_settled
+pub ending_all : (ms : List Mpdu) (e s t : ℕ) (w : World) (acked : ℕ → Bool) → IsEnding e s t acked w ms → IsLawful (with_all_settled w s t acked ms)
+unfolding with_all_settled
 ending_all [] e s t w acked n = n.lawful
 ending_all (m ∷ ms) e s t w acked n = ending_all ms e s t _ acked (ending_settled (acked m.number) e s t acked w m ms refl n)
 
@@ -606,16 +606,16 @@ silent_of s t x e d h = go x.content (cc (h, ap (λ (b : Bool). b && ((x.tid == 
     go (Frames ms) h = tt
     go (Request f) h = cc h
 
-pub agreed_heard_start : (b : Bool) (y : Session) (r : Receiver) (f : ℕ) → (b ≡ true → has r.starts f ≡ true) → IsAgreed y r → IsAgreed (heard_start b f y) r
+pub agreed_heard_start : (b : Bool) (y : Session) (r : Receiver) (f : ℕ) → (b ≡ true → has r.starts f ≡ true) → IsAgreed y r → IsAgreed (with_heard_start b f y) r
 agreed_heard_start true y r f h a = agreed_heard y r f (h refl) a
 agreed_heard_start false y r f h a = a
 
-pub open_heard_start : (b : Bool) (x : Exchange) (y : Session) (r : Receiver) (f : ℕ) → IfRequest x.content (λ f. ⊥) → IsOpen x y r → IsOpen x (heard_start b f y) r
+pub open_heard_start : (b : Bool) (x : Exchange) (y : Session) (r : Receiver) (f : ℕ) → IfRequest x.content (λ f. ⊥) → IsOpen x y r → IsOpen x (with_heard_start b f y) r
 open_heard_start true x y r f h o = open_heard x y r (max y.heard f) h o
 open_heard_start false x y r f h o = o
 
 -- the world in which the exchange has ended, and its charge is made
-pub ending_of : (w : World) (i : IsLawful w) (x : Exchange) (ms : List Mpdu) (heard : Bool) → x.content ≡ Frames ms → IsFound w i x → IsEnding x.number x.station x.tid (is_acked heard x.answer) (charged (without_exchange w x.number) x) ms
+pub ending_of : (w : World) (i : IsLawful w) (x : Exchange) (ms : List Mpdu) (heard : Bool) → x.content ≡ Frames ms → IsFound w i x → IsEnding x.number x.station x.tid (is_acked heard x.answer) (after_charge (without_exchange w x.number) x) ms
 ending_of w i x ms heard e f =
     ending_same x.number x.station x.tid (is_acked heard x.answer) (without_exchange w x.number) _ ms (same_charged (without_exchange w x.number) x) (record {
       lawful = lawful_without w i x.number;
@@ -647,12 +647,12 @@ ended_by (Request g) w i x heard v e f told k =
     (subst (Each (λ y. asks x.station x.tid y ≡ true → y.number ≡ (i.sole x.station x.tid).who)) (sym k.opened) (sole_without w i x.number x.station x.tid))
     in
     let told_start : (length x.arrived == 0) ≡ false → has (receiver w x.station x.tid).starts g ≡ true = subst (λ (c : Content). IfRequest c (λ k. (length x.arrived == 0) ≡ false → has (receiver w x.station x.tid).starts k ≡ true)) e f.open_in.opened.told in
-    lawful_on_session (λ y. asks x.station x.tid y ≡ false) v x.station x.tid (heard_start heard g) apart
+    lawful_on_session (λ y. asks x.station x.tid y ≡ false) v x.station x.tid (with_heard_start heard g) apart
     (agreed_heard_start heard (session v x.station x.tid) (receiver v x.station x.tid) g (λ h. ap (λ (a : Side). has a.receiver.starts g) same_side ∙ told_start (f.open_in.opened.marked (told h))) (lawful.agreed x.station x.tid))
     (λ y b silent s t o. open_heard_start heard y (session v x.station x.tid) (receiver v x.station x.tid) g (silent_of x.station x.tid y s t silent) o) lawful
 
-pub lawful_ended : (w : World) (i : IsLawful w) (x : Exchange) (heard : Bool) → IsFound w i x → (heard ≡ true → is_some x.answer ≡ true) → IsLawful (ended w x heard).world
-unfolding ended
+pub lawful_ended : (w : World) (i : IsLawful w) (x : Exchange) (heard : Bool) → IsFound w i x → (heard ≡ true → is_some x.answer ≡ true) → IsLawful (done_outcome w x heard).world
+unfolding done_outcome
 lawful_ended w i x heard f told = ended_by x.content w i x heard _ refl f told (same_charged _ x)
 
 -- ---- joining and leaving
@@ -669,31 +669,31 @@ lawful_with_station w s o away new i = record {
   sole = i.sole;
 }
 
-pub lawful_joined : (w : World) (s window start exponent weight : ℕ) → is_live w s ≡ false → IsLawful w → IsLawful (joined w s window start exponent weight).world
-unfolding joined
+pub lawful_joined : (w : World) (s window start exponent weight : ℕ) → is_live w s ≡ false → IsLawful w → IsLawful (join_outcome w s window start exponent weight).world
+unfolding join_outcome
 lawful_joined w s window start exponent weight dead i =
     lawful_with_station w s _ (each_map (IsOpenIn w) (λ x. s ≢ x.station) w.opened (λ x f e. cc (ap (is_live w) e, f.live, dead)) i.opened)
     (eight (λ y. AgreedAt (side_of y)) (new_tid start window) (agreed_new start window) (agreed_new 0 0)) i
 
-pub same_left_tids : (ts : List ℕ) (w : World) (s : ℕ) → Same w (left_tids w s ts)
-unfolding left_tids left_tid
+pub same_left_tids : (ts : List ℕ) (w : World) (s : ℕ) → Same w (after_tids_left w s ts)
+unfolding after_tids_left after_tid_left
 same_left_tids [] w s = same w
 same_left_tids (t ∷ ts) w s = then_same _ _ _ (then_same _ _ _ (then_same _ _ _ (same_finish_all _ w _) (same_purge_queues _ _)) (same_with_queues _ s t _)) (same_left_tids ts _ s)
 
-pub same_off_lists : (cs : List Class) (w : World) (s : ℕ) → Same w (off_lists w s cs)
-unfolding off_lists
+pub same_off_lists : (cs : List Class) (w : World) (s : ℕ) → Same w (without_listings w s cs)
+unfolding without_listings
 same_off_lists [] w s = same w
 same_off_lists (c ∷ cs) w s = then_same _ _ _ (same_with_rotation w c _) (same_off_lists cs _ s)
 
-pub lawful_gone : (w : World) (s : ℕ) → nat_lt 0 (open_of_station w s) ≡ false → IsLawful w → IsLawful (gone w s).world
-unfolding gone
+pub lawful_gone : (w : World) (s : ℕ) → nat_lt 0 (open_of_station w s) ≡ false → IsLawful w → IsLawful (leave_outcome w s).world
+unfolding leave_outcome
 lawful_gone w s h i =
     let k = then_same _ _ _ (same_left_tids (upto 8) w s) (same_off_lists all_classes _ s) in
     lawful_with_station _ s None (subst (Each (λ x. s ≢ x.station)) (sym k.opened) (none_open w.opened s h)) (λ t. agreed_new 0 0) (lawful_same _ _ k i)
 
 -- ---- the step
 
-pub if_on : (o : Option Exchange) (p : Exchange → Bool) → on_exchange o p ≡ false → IfSome o (λ x. p x ≡ false)
+pub if_on : (o : Option Exchange) (p : Exchange → Bool) → exchange_has o p ≡ false → IfSome o (λ x. p x ≡ false)
 if_on None p h = tt
 if_on (Some x) p h = h
 
@@ -709,8 +709,8 @@ pub found : (w : World) (i : IsLawful w) (e : ℕ) → IfSome (exchange w e) (Is
 found w i e = some_found w i (exchange w e) (each_find (IsOpenIn w) (IsOpenIn w) (λ x. x.number == e) w.opened (λ x _ f. f) i.opened)
     (some_for_all (exchange w e) (λ s t x. asks s t x ≡ true → x.number ≡ (i.sole s t).who) (λ s t. each_find (λ x. asks s t x ≡ true → x.number ≡ (i.sole s t).who) (λ x. asks s t x ≡ true → x.number ≡ (i.sole s t).who) (λ x. x.number == e) w.opened (λ x _ f. f) (i.sole s t).only))
 
-pub lawful_on_open : (P Q : Exchange → Type 0) (o : Option Exchange) (w : World) (f : Exchange → Outcome) → IfSome o P → IfSome o Q → IsLawful w → ((x : Exchange) → P x → Q x → IsLawful (f x).world) → IsLawful (on_open w o f).world
-unfolding on_open
+pub lawful_on_open : (P Q : Exchange → Type 0) (o : Option Exchange) (w : World) (f : Exchange → Outcome) → IfSome o P → IfSome o Q → IsLawful w → ((x : Exchange) → P x → Q x → IsLawful (f x).world) → IsLawful (outcome_where_open w o f).world
+unfolding outcome_where_open
 lawful_on_open P Q None w f h j i k = i
 lawful_on_open P Q (Some x) w f h j i k = k x h j
 
@@ -718,7 +718,7 @@ pub both_some : (P Q : Exchange → Type 0) (o : Option Exchange) → IfSome o P
 both_some P Q None h k = tt
 both_some P Q (Some x) h k = (h, k)
 
-pub heard_told : (o : Option Exchange) (heard : Bool) → (heard && on_exchange o (λ x. is_none x.answer)) ≡ false → IfSome o (λ x. heard ≡ true → is_some x.answer ≡ true)
+pub heard_told : (o : Option Exchange) (heard : Bool) → (heard && exchange_has o (λ x. is_none x.answer)) ≡ false → IfSome o (λ x. heard ≡ true → is_some x.answer ≡ true)
 heard_told None heard h = tt
 heard_told (Some x) heard h = go heard x.answer h
   where
@@ -733,19 +733,19 @@ lawful_on_station w s f h i = lawful_same w _ (same_on_station w s f h) i
 pub lawful_plain : (w v : World) → w.stations ≡ v.stations → w.opened ≡ v.opened → w.exchanges ≡ v.exchanges → IsLawful w → IsLawful v
 lawful_plain w v a b c i = lawful_same w v (record { sides = λ s t. ap (λ (x : List (Option Station)). sides_of (at None x s) t) (sym a); live = λ s. ap (λ (x : List (Option Station)). is_some (at None x s)) (sym a); opened = sym b; exchanges = sym c }) i
 
-pub lawful_reaped : (ids : List ℕ) (w : World) → IsLawful w → IsLawful (reaped w ids).world
-unfolding reaped
+pub lawful_reaped : (ids : List ℕ) (w : World) → IsLawful w → IsLawful (reap_outcome w ids).world
+unfolding reap_outcome
 lawful_reaped [] w i = i
 lawful_reaped (id ∷ ids) w i = lawful_plain w _ refl refl refl i
 
-pub lawful_enqueued : (w : World) (s t flow len : ℕ) → IsLawful w → IsLawful (enqueued w s t flow len).world
-unfolding enqueued with_frame
+pub lawful_enqueued : (w : World) (s t flow len : ℕ) → IsLawful w → IsLawful (enqueue_outcome w s t flow len).world
+unfolding enqueue_outcome with_frame
 lawful_enqueued w s t flow len i =
     let v = then_same _ _ _ (same_within_limit w) (same_put_in _ s t _ _) in
     lawful_plain _ _ refl refl refl (lawful_same _ _ v i)
 
-pub lawful_done : (note : Note) (w : World) → NoRow (refusals w note) → IsLawful w → IsLawful (done w note).world
-unfolding done ticked with_rate slept woken credited received
+pub lawful_done : (note : Note) (w : World) → NoRow (refusals w note) → IsLawful w → IsLawful (outcome_of w note).world
+unfolding outcome_of tick_outcome rate_outcome sleep_outcome wake_outcome poll_outcome rx_outcome
 lawful_done (Enqueue s t flow len) w e i = lawful_enqueued w s t flow len i
 lawful_done (Asked (Join s window start exponent weight)) w e i = lawful_joined w s window start exponent weight e.1.1.1.1.1.0 i
 lawful_done (Asked (Leave s)) w e i = lawful_gone w s e.1.1.0 i
@@ -762,13 +762,13 @@ lawful_done (Asked (Poll s)) w e i = lawful_on_station w s _ (λ x t. refl) i
 lawful_done (Asked (Rx s c air)) w e i = lawful_same w _ (same_on_share w s c _) i
 lawful_done (Asked Reap) w e i = lawful_reaped w.finished w i
 
-pub lawful_refused : (note : Note) (r : Refusal) (w : World) → IsLawful w → IsLawful (refused w note r)
-unfolding refused
+pub lawful_refused : (note : Note) (r : Refusal) (w : World) → IsLawful w → IsLawful (after_refusal w note r)
+unfolding after_refusal
 lawful_refused (Asked (Pull c)) Idle w i = lawful_same w _ (same_after_pick w c) i
 lawful_refused _ _ w i = i
 
-pub lawful_answer : (r : Option Refusal) (w : World) (note : Note) → refusal w note ≡ r → IsLawful w → IsLawful (answer w note r).world
-unfolding answer
+pub lawful_answer : (r : Option Refusal) (w : World) (note : Note) → refusal w note ≡ r → IsLawful w → IsLawful (judged_outcome w note r).world
+unfolding judged_outcome
 lawful_answer (Some r) w note e i = lawful_refused note r w i
 lawful_answer None w note e i = lawful_same _ _ (same_listed _ _) (lawful_done note w (no_row (refusals w note) e) i)
 

@@ -2,10 +2,10 @@
 use Rattle.std.proofs.Common.{◌≡◌, ◌≢◌, refl, ap, sym, ◌∙◌, subst, arith, ℕ, zero, suc, ◌+◌, ◌-◌, ◌*◌, ◌<◌, ◌≤◌, ◌==◌, max, nat_lt, nat_le, Bool, true, false, if◌then◌else◌, ◌&&◌, ◌⊎◌, inl, inr, List, [], ◌∷◌, ◌++◌, length, Option, Some, None, IfSome, is_some}
 use Rattle.std.specs.List.{list_any}
 use Rattle.wf_rules.specs.Table.{at, has}
-use Rattle.wf_rules.specs.Session.{Session, Slot, State, no_slot, slot, on_slot, give, is_settled, is_failed, first_unsettled, start_of, next_number, has_room, request_due, numbers_where}
+use Rattle.wf_rules.specs.Session.{Session, Slot, State, no_slot, slot, on_slot, with_number_given, is_settled, is_failed, first_unsettled, start_of, next_number, has_room, request_due, numbers_where}
 use Rattle.wf_rules.specs.Receiver.{Receiver, with_arrived, with_start, greatest, release_start, score_start, Score, score, shows}
 use Rattle.wf_world.specs.World.{Mpdu, Content, Frames, Request, Exchange}
-use Rattle.wf_world.specs.Exchanges.{mpdus_of, numbers_fly}
+use Rattle.wf_world.specs.Exchanges.{mpdus_of, with_flying}
 use Rattle.wf_laws.proofs.Sessions.Starts.{IsWithin, start_ge, start_le, start_change, length-change, within_on_slot, within_give, at_change_other, at_change_same, at_append}
 use Rattle.wf_laws.proofs.Sessions.Flights.{AllIn, Rises, next-give, all_in_change, all_in_later}
 use Rattle.wf_laws.proofs.Windows.Opened.{FlyIn}
@@ -42,7 +42,7 @@ start_waiting : (xs : List Slot) (n : ℕ) (x : Slot) → is_settled x.state ≡
 start_waiting [] n x h = ap (λ (b : Bool). if b then suc n else n) h
 start_waiting (y ∷ xs) n x h = ap (λ (m : ℕ). if is_settled y.state then m else n) (start_waiting xs (suc n) x h)
 
-pub start-give : (y : Session) (id : ℕ) → start_of (give y id) ≡ start_of y
+pub start-give : (y : Session) (id : ℕ) → start_of (with_number_given y id) ≡ start_of y
 start-give y id = start_waiting y.slots y.first _ refl
 
 at_front : (xs : List Slot) (x : Slot) (k : ℕ) → k < length xs → at no_slot (xs ++ x ∷ []) k ≡ at no_slot xs k
@@ -50,13 +50,13 @@ at_front [] x k h = absurd (omega (arith, h))
 at_front (y ∷ xs) x zero h = refl
 at_front (y ∷ xs) x (suc k) h = at_front xs x k (omega (arith, h))
 
-pub slot_give : (y : Session) (id n : ℕ) → y.first ≤ n → n < next_number y → slot (give y id) n ≡ slot y n
+pub slot_give : (y : Session) (id n : ℕ) → y.first ≤ n → n < next_number y → slot (with_number_given y id) n ≡ slot y n
 slot_give y id n l h = at_front y.slots _ (n - y.first) (omega (arith, h))
 
-pub slot_new : (y : Session) (id n : ℕ) → n ≡ next_number y → (slot (give y id) n).state ≡ State.Waiting
+pub slot_new : (y : Session) (id n : ℕ) → n ≡ next_number y → (slot (with_number_given y id) n).state ≡ State.Waiting
 slot_new y id n e =
     let k : n - y.first ≡ length y.slots = omega (arith, e) in
-    ap (λ (i : ℕ). (at no_slot (give y id).slots i).state) k ∙ ap (λ (x : Slot). x.state) (at_append y.slots _)
+    ap (λ (i : ℕ). (at no_slot (with_number_given y id).slots i).state) k ∙ ap (λ (x : Slot). x.state) (at_append y.slots _)
 
 pub slot_other : (y : Session) (m n : ℕ) (f : Slot → Slot) → y.first ≤ m → y.first ≤ n → m ≢ n → slot (on_slot m f y) n ≡ slot y n
 slot_other y m n f l k h =
@@ -254,7 +254,7 @@ agreed_on_slot y r m f l h k a =
     }
 
 -- a frame gets a number while no request is due
-untold_give : (y : Session) (id n : ℕ) → IsUntold (give y id) n → IsUntold y n
+untold_give : (y : Session) (id n : ℕ) → IsUntold (with_number_given y id) n → IsUntold y n
 untold_give y id n u =
     let below : n < start_of y = omega (arith, u.below, start-give y id) in
     record {
@@ -264,12 +264,12 @@ untold_give y id n u =
       below = below;
     }
 
-pub not_due_give : (y : Session) (id : ℕ) → request_due y ≡ false → request_due (give y id) ≡ false
-not_due_give y id h = on_bool (request_due (give y id)) (λ d. let u = due_at (give y id) d in absurd (cc (at_due y u.0 (untold_give y id u.0 u.1), h))) (λ e. e)
+pub not_due_give : (y : Session) (id : ℕ) → request_due y ≡ false → request_due (with_number_given y id) ≡ false
+not_due_give y id h = on_bool (request_due (with_number_given y id)) (λ d. let u = due_at (with_number_given y id) d in absurd (cc (at_due y u.0 (untold_give y id u.0 u.1), h))) (λ e. e)
 
-pub agreed_give : (y : Session) (r : Receiver) (id : ℕ) → has_room y ≡ true → request_due y ≡ false → IsAgreed y r → IsAgreed (give y id) r
+pub agreed_give : (y : Session) (r : Receiver) (id : ℕ) → has_room y ≡ true → request_due y ≡ false → IsAgreed y r → IsAgreed (with_number_given y id) r
 agreed_give y r id room none a =
-    let next : next_number (give y id) ≡ suc (next_number y) = next-give y id in
+    let next : next_number (with_number_given y id) ≡ suc (next_number y) = next-give y id in
     record {
       first = a.first;
       size = a.size;
@@ -450,7 +450,7 @@ open_heard x y r h none o = record {
 }
 
 -- the numbers of an aggregate that wait fly
-pub agreed_fly : (ms : List Mpdu) (y : Session) (r : Receiver) (e lo hi : ℕ) → y.first ≤ lo → Rises lo hi ms → AllIn y State.Waiting ms → IsAgreed y r → IsAgreed (numbers_fly e ms y) r
+pub agreed_fly : (ms : List Mpdu) (y : Session) (r : Receiver) (e lo hi : ℕ) → y.first ≤ lo → Rises lo hi ms → AllIn y State.Waiting ms → IsAgreed y r → IsAgreed (with_flying e ms y) r
 agreed_fly [] y r e lo hi b c a k = k
 agreed_fly (m ∷ ms) y r e lo hi b c a k =
     let f : Slot → Slot = λ x. record x { state = State.Flying e } in

@@ -8,14 +8,14 @@ use Rattle.wf_rules.specs.Session.{next_number}
 use Rattle.wf_world.specs.World.{receiver, World, Station, Exchange, Mpdu, Content, no_tid, rotation, session, is_live, exchange, with_station, on_station, on_receiver, with_exchange, opening}
 use Rattle.wf_frame.specs.Classes.{all_classes}
 use Rattle.wf_world.specs.CanSend.{is_ready}
-use Rattle.wf_world.specs.Exchanges.{station_need, picked_station, after_arrival, exchange_of, sending_tid, Prepared, mpdus_of, after_pick, after_turn, opening_exchange}
+use Rattle.wf_world.specs.Exchanges.{station_need, picked_station, after_arrival, exchange_of, sending_tid, Prepared, mpdus_of, after_pick, after_tid_turn, with_exchange_opened}
 use Rattle.wf_frame.specs.declared.notes.Ask.TheVariants.{Join, Leave, Rate, Tick, Pull, Arrive, Answer, Done, Sleep, Wake, Poll, Rx, Reap}
 use Rattle.wf_frame.specs.declared.notes.Note.{Note}
 use Rattle.wf_frame.specs.declared.notes.Note.TheVariants.{Enqueue, Asked}
 use Rattle.wf_frame.specs.declared.notes.Refusal.{Refusal}
 use Rattle.wf_frame.specs.declared.notes.Refusal.TheVariants.{Idle}
 use Rattle.wf_world.specs.Refusals.{refusals, refusal}
-use Rattle.wf_world.specs.Step.{Outcome, joined, gone, with_rate, ticked, sent, pulled_by, pulled, arrived, answered, ended, on_open, slept, woken, credited, received, reaped, done, refused, answer, step, concerned}
+use Rattle.wf_world.specs.Step.{Outcome, join_outcome, leave_outcome, rate_outcome, tick_outcome, send_outcome, pull_outcome_for, pull_outcome, arrive_outcome, answer_outcome, done_outcome, outcome_where_open, sleep_outcome, wake_outcome, poll_outcome, rx_outcome, reap_outcome, outcome_of, after_refusal, judged_outcome, step, concerned_station}
 use Rattle.wf_world.specs.Run.{Entry, world_after, by}
 use Rattle.wf_rule_laws.proofs.Lemmas.Numbers.{eq_yes, eq_no}
 use Rattle.wf_laws.proofs.Windows.Sides.{side_of, Same, on_exchanges, then_same, same_on_station, same_on_share, same_listed, same_after_pick, same_after_turn, same_spent}
@@ -51,23 +51,23 @@ module _ (e : ℕ) (b : Score) (s t : ℕ) (c : Content) where
   standing_same : (w v : World) → Same w v → IsStanding e b s t c w → IsStanding e b s t c v
   standing_same w v k h = standing_plain w v k.opened k.exchanges h
 
-  standing_sent : (i j : ℕ) (d : Class) (w : World) (p : Prepared) → IsPrepared i j w p → IsStanding e b s t c w → IsStanding e b s t c (sent i j d p).world
-  unfolding sent opening_exchange
+  standing_sent : (i j : ℕ) (d : Class) (w : World) (p : Prepared) → IsPrepared i j w p → IsStanding e b s t c w → IsStanding e b s t c (send_outcome i j d p).world
+  unfolding send_outcome with_exchange_opened
   standing_sent i j d w p r h =
       let x : Exchange = exchange_of i j d p in
       let new : x.number ≢ e = λ same_number. omega (arith, same_number, r.exchanges, h.below) in
       standing_same _ _ (same_spent _ i) (record { below = omega (arith, h.below, r.exchanges); stands = each_append AsThen p.world.opened x (subst (Each AsThen) (sym r.opened) h.stands) (λ k. absurd (new k)) })
 
-  standing_pulled_by : (o : Option ℕ) (w : World) (d : Class) → IfSome o (λ i. is_live w i ≡ true) → IsLawful w → IsStanding e b s t c w → IsStanding e b s t c (pulled_by w d o).world
-  unfolding pulled_by
+  standing_pulled_by : (o : Option ℕ) (w : World) (d : Class) → IfSome o (λ i. is_live w i ≡ true) → IsLawful w → IsStanding e b s t c w → IsStanding e b s t c (pull_outcome_for w d o).world
+  unfolding pull_outcome_for
   standing_pulled_by None w d live i h = h
   standing_pulled_by (Some a) w d live i h =
-      let v : World = after_turn w a d (sending_tid w a d) in
+      let v : World = after_tid_turn w a d (sending_tid w a d) in
       let k : Same w v = same_after_turn w a d (sending_tid w a d) in
       standing_sent a _ d v _ (prepared_right v a _ (lawful_same _ _ k i) (k.live a ∙ live)) (standing_same w v k h)
 
-  standing_pulled : (w : World) (d : Class) → IsLawful w → IsStanding e b s t c w → IsStanding e b s t c (pulled w d).world
-  unfolding pulled
+  standing_pulled : (w : World) (d : Class) → IsLawful w → IsStanding e b s t c w → IsStanding e b s t c (pull_outcome w d).world
+  unfolding pull_outcome
   standing_pulled w d i h =
       let k : Same w (after_pick w d) = same_after_pick w d in
       standing_pulled_by (picked_station w d).winner (after_pick w d) d (some_along (λ a. is_ready w d a ≡ true) (λ a. is_live (after_pick w d) a ≡ true) (picked_station w d).winner (λ a g. k.live a ∙ left_true (is_live w a) _ g) (pick_ready (station_need w d) (is_ready w d) (rotation w d))) (lawful_same _ _ k i) (standing_same w _ k h)
@@ -79,49 +79,49 @@ module _ (e : ℕ) (b : Score) (s t : ℕ) (c : Content) where
   other_one : (x : Exchange) → AsThen x → is_some x.answer ≡ false → x.number ≢ e
   other_one x f none k = cc ((ap is_some (f k).answer), none)
 
-  standing_answered : (w : World) (x : Exchange) → AsThen x → is_some x.answer ≡ false → IsStanding e b s t c w → IsStanding e b s t c (answered w x).world
-  unfolding answered with_exchange
+  standing_answered : (w : World) (x : Exchange) → AsThen x → is_some x.answer ≡ false → IsStanding e b s t c w → IsStanding e b s t c (answer_outcome w x).world
+  unfolding answer_outcome with_exchange
   standing_answered w x f none h = standing_replaced w _ (record x { answer = Some (score (receiver w x.station x.tid)) }) refl refl (λ k. absurd (other_one x f none k)) h
 
-  standing_arrived : (w : World) (x : Exchange) (n : ℕ) → AsThen x → is_some x.answer ≡ false → IsStanding e b s t c w → IsStanding e b s t c (arrived w x n).world
-  unfolding arrived with_exchange
+  standing_arrived : (w : World) (x : Exchange) (n : ℕ) → AsThen x → is_some x.answer ≡ false → IsStanding e b s t c w → IsStanding e b s t c (arrive_outcome w x n).world
+  unfolding arrive_outcome with_exchange
   standing_arrived w x n f none h =
       let z : Exchange = record x { arrived = with_member n x.arrived } in
       standing_replaced w _ z (ap (map (λ y. if y.number == z.number then z else y)) (opened_on_receiver w x.station x.tid (after_arrival x.content n))) (exchanges_on_receiver w x.station x.tid (after_arrival x.content n)) (λ k. absurd (other_one x f none k)) h
 
-  standing_ended : (w : World) (x : Exchange) (heard : Bool) → IsStanding e b s t c w → IsStanding e b s t c (ended w x heard).world
+  standing_ended : (w : World) (x : Exchange) (heard : Bool) → IsStanding e b s t c w → IsStanding e b s t c (done_outcome w x heard).world
   standing_ended w x heard h = record { below = omega (arith, h.below, exchanges_ended w x heard); stands = subst (Each AsThen) (sym (opened_ended w x heard)) (filtered w x.number AsThen h.stands) }
 
   standing_with_station : (w : World) (i : ℕ) (o : Option Station) → IsStanding e b s t c w → IsStanding e b s t c (with_station w i o)
   unfolding with_station
   standing_with_station w i o h = record { below = h.below; stands = h.stands }
 
-  standing_joined : (w : World) (i window start exponent weight : ℕ) → IsStanding e b s t c w → IsStanding e b s t c (joined w i window start exponent weight).world
-  unfolding joined
+  standing_joined : (w : World) (i window start exponent weight : ℕ) → IsStanding e b s t c w → IsStanding e b s t c (join_outcome w i window start exponent weight).world
+  unfolding join_outcome
   standing_joined w i window start exponent weight h = standing_with_station w i _ h
 
-  standing_gone : (w : World) (i : ℕ) → IsStanding e b s t c w → IsStanding e b s t c (gone w i).world
-  unfolding gone
+  standing_gone : (w : World) (i : ℕ) → IsStanding e b s t c w → IsStanding e b s t c (leave_outcome w i).world
+  unfolding leave_outcome
   standing_gone w i h = standing_with_station _ i None (standing_same _ _ (then_same _ _ _ (same_left_tids (upto 8) w i) (same_off_lists all_classes _ i)) h)
 
-  standing_reaped : (ids : List ℕ) (w : World) → IsStanding e b s t c w → IsStanding e b s t c (reaped w ids).world
-  unfolding reaped
+  standing_reaped : (ids : List ℕ) (w : World) → IsStanding e b s t c w → IsStanding e b s t c (reap_outcome w ids).world
+  unfolding reap_outcome
   standing_reaped [] w h = h
   standing_reaped (id ∷ ids) w h = standing_plain w _ refl refl h
 
   standing_station : (w : World) (i : ℕ) (f : Station → Station) → ((x : Station) (t : ℕ) → side_of (at no_tid (f x).tids t) ≡ side_of (at no_tid x.tids t)) → IsStanding e b s t c w → IsStanding e b s t c (on_station w i f)
   standing_station w i f g h = standing_same w _ (same_on_station w i f g) h
 
-  standing_open : (P Q : Exchange → Type 0) (o : Option Exchange) (w : World) (f : Exchange → Outcome) → IfSome o P → IfSome o Q → IsStanding e b s t c w → ((x : Exchange) → P x → Q x → IsStanding e b s t c (f x).world) → IsStanding e b s t c (on_open w o f).world
-  unfolding on_open
+  standing_open : (P Q : Exchange → Type 0) (o : Option Exchange) (w : World) (f : Exchange → Outcome) → IfSome o P → IfSome o Q → IsStanding e b s t c w → ((x : Exchange) → P x → Q x → IsStanding e b s t c (f x).world) → IsStanding e b s t c (outcome_where_open w o f).world
+  unfolding outcome_where_open
   standing_open P Q None w f p q h k = h
   standing_open P Q (Some x) w f p q h k = k x p q
 
   found_then : (w : World) (n : ℕ) → IsStanding e b s t c w → IfSome (exchange w n) AsThen
   found_then w n h = each_find AsThen AsThen (λ x. x.number == n) w.opened (λ x _ f. f) h.stands
 
-  standing_done : (note : Note) (w : World) → IsLawful w → NoRow (refusals w note) → IsStanding e b s t c w → IsStanding e b s t c (done w note).world
-  unfolding done ticked with_rate slept woken credited received
+  standing_done : (note : Note) (w : World) → IsLawful w → NoRow (refusals w note) → IsStanding e b s t c w → IsStanding e b s t c (outcome_of w note).world
+  unfolding outcome_of tick_outcome rate_outcome sleep_outcome wake_outcome poll_outcome rx_outcome
   standing_done (Enqueue i j flow len) w l r h = standing_same w _ (same_enqueued w i j flow len) h
   standing_done (Asked (Join i window start exponent weight)) w l r h = standing_joined w i window start exponent weight h
   standing_done (Asked (Leave i)) w l r h = standing_gone w i h
@@ -137,15 +137,15 @@ module _ (e : ℕ) (b : Score) (s t : ℕ) (c : Content) where
   standing_done (Asked (Rx i d air)) w l r h = standing_same w _ (same_on_share w i d _) h
   standing_done (Asked Reap) w l r h = standing_reaped w.finished w h
 
-  standing_refused : (note : Note) (r : Refusal) (w : World) → IsStanding e b s t c w → IsStanding e b s t c (refused w note r)
-  unfolding refused
+  standing_refused : (note : Note) (r : Refusal) (w : World) → IsStanding e b s t c w → IsStanding e b s t c (after_refusal w note r)
+  unfolding after_refusal
   standing_refused (Asked (Pull d)) Idle w h = standing_same w _ (same_after_pick w d) h
   standing_refused _ _ w h = h
 
-  standing_answer : (r : Option Refusal) (w : World) (note : Note) → refusal w note ≡ r → IsLawful w → IsStanding e b s t c w → IsStanding e b s t c (answer w note r).world
-  unfolding answer
+  standing_answer : (r : Option Refusal) (w : World) (note : Note) → refusal w note ≡ r → IsLawful w → IsStanding e b s t c w → IsStanding e b s t c (judged_outcome w note r).world
+  unfolding judged_outcome
   standing_answer (Some r) w note d l h = standing_refused note r w h
-  standing_answer None w note d l h = standing_same _ _ (same_listed (concerned w note) (done w note).world) (standing_done note w l (no_row (refusals w note) d) h)
+  standing_answer None w note d l h = standing_same _ _ (same_listed (concerned_station w note) (outcome_of w note).world) (standing_done note w l (no_row (refusals w note) d) h)
 
   standing_step : (w : World) (note : Note) → IsLawful w → IsStanding e b s t c w → IsStanding e b s t c (step w note).world
   unfolding step
@@ -165,8 +165,8 @@ record IsAnswered (e : ℕ) (w v : World) : Type 0 where
   open_in : IsOpenIn w found
   standing : IsStanding e (score (receiver w found.station found.tid)) found.station found.tid found.content v
 
-start_standing : (w : World) (x : Exchange) (e : ℕ) → x.number ≡ e → IsOpenIn w x → IsLawful w → IsStanding e (score (receiver w x.station x.tid)) x.station x.tid x.content (answered w x).world
-unfolding answered with_exchange
+start_standing : (w : World) (x : Exchange) (e : ℕ) → x.number ≡ e → IsOpenIn w x → IsLawful w → IsStanding e (score (receiver w x.station x.tid)) x.station x.tid x.content (answer_outcome w x).world
+unfolding answer_outcome with_exchange
 start_standing w x e n o i =
     let z : Exchange = record x { answer = Some (score (receiver w x.station x.tid)) } in
     record {
@@ -183,16 +183,16 @@ record IsNumbered (w : World) (e : ℕ) (x : Exchange) : Type 0 where
 numbered : (w : World) (i : IsLawful w) (e : ℕ) → IfSome (exchange w e) (IsNumbered w e)
 numbered w i e = each_find (IsOpenIn w) (IsNumbered w e) (λ x. x.number == e) w.opened (λ x yes_number o. record { number = eq_yes x.number e yes_number; open_in = o }) i.opened
 
-answered_open : (o : Option Exchange) (w : World) (i : IsLawful w) (e : ℕ) → IfSome o (IsNumbered w e) → IsBa (on_open w o (λ x. answered w x)).reply → IsAnswered e w (on_open w o (λ x. answered w x)).world
-unfolding on_open
+answered_open : (o : Option Exchange) (w : World) (i : IsLawful w) (e : ℕ) → IfSome o (IsNumbered w e) → IsBa (outcome_where_open w o (λ x. answer_outcome w x)).reply → IsAnswered e w (outcome_where_open w o (λ x. answer_outcome w x)).world
+unfolding outcome_where_open
 answered_open None w i e f b = absurd b
 answered_open (Some x) w i e f b = record { found = x; same_number = f.number; open_in = f.open_in; standing = start_standing w x e f.number f.open_in i }
 
-answered_by : (r : Option Refusal) (w : World) (i : IsLawful w) (e : ℕ) → IsBa (answer w (Asked (Answer e)) r).reply → IsAnswered e w (answer w (Asked (Answer e)) r).world
-unfolding answer done
+answered_by : (r : Option Refusal) (w : World) (i : IsLawful w) (e : ℕ) → IsBa (judged_outcome w (Asked (Answer e)) r).reply → IsAnswered e w (judged_outcome w (Asked (Answer e)) r).world
+unfolding judged_outcome outcome_of
 answered_by (Some r) w i e b = absurd b
 answered_by None w i e b =
-    let a : IsAnswered e w (on_open w (exchange w e) (λ x. answered w x)).world = answered_open (exchange w e) w i e (numbered w i e) b in
+    let a : IsAnswered e w (outcome_where_open w (exchange w e) (λ x. answer_outcome w x)).world = answered_open (exchange w e) w i e (numbered w i e) b in
     record { found = a.found; same_number = a.same_number; open_in = a.open_in; standing = standing_same e (score (receiver w a.found.station a.found.tid)) a.found.station a.found.tid a.found.content _ _ (same_listed _ _) a.standing }
 
 answered_step : (w : World) (i : IsLawful w) (e : ℕ) → IsBa (step w (Asked (Answer e))).reply → IsAnswered e w (step w (Asked (Answer e))).world

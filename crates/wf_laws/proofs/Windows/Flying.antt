@@ -5,19 +5,19 @@ use Rattle.wf_frame.specs.declared.classes.Class.{Class}
 use Rattle.wf_rules.specs.Table.{at, has, with_member, upto}
 use Rattle.wf_rules.specs.Codel.{Item}
 use Rattle.wf_rules.specs.Receiver.{Receiver, score}
-use Rattle.wf_rules.specs.Session.{request_due, with_state, Session, Slot, State, is_failed, missed_slot, slot, on_slot, give, missed, new_session, next_number, no_slot}
+use Rattle.wf_rules.specs.Session.{request_due, with_state, Session, Slot, State, is_failed, slot_after_miss, slot, on_slot, with_number_given, after_miss, new_session, next_number, no_slot}
 use Rattle.wf_world.specs.World.{receiver, World, Station, Tid, Exchange, Mpdu, Content, Frames, Request, new_tid, no_tid, rotation, session, is_live, exchange, with_station, on_station, on_tid, on_session, on_receiver, with_exchange, without_exchange, opening}
 use Rattle.wf_frame.specs.Classes.{all_classes}
-use Rattle.wf_world.specs.FlowQueues.{take}
+use Rattle.wf_world.specs.FlowQueues.{taken_for_tid}
 use Rattle.wf_world.specs.CanSend.{is_ready, can_give}
-use Rattle.wf_world.specs.Exchanges.{is_acked, station_need, most_frames, picked_station, after_arrival, exchange_of, sending_tid, heard_start, Aggregate, Prepared, mpdus_of, after_pick, after_turn, with_fresh, filled, with_number, numbers_fly, waiting_mpdus, longest_fitting, prepared_frames, prepared, opening_exchange, charged, settled_slot, settled, all_settled, after_done}
+use Rattle.wf_world.specs.Exchanges.{is_acked, station_need, most_frames, picked_station, after_arrival, exchange_of, sending_tid, with_heard_start, Aggregate, Prepared, mpdus_of, after_pick, after_tid_turn, with_fresh, aggregate_of, with_number, with_flying, waiting_mpdus, longest_fitting, prepared_data, prepared_exchange, with_exchange_opened, after_charge, with_failed_finished, with_settled, with_all_settled, after_done}
 use Rattle.wf_frame.specs.declared.notes.Ask.TheVariants.{Join, Leave, Rate, Tick, Pull, Arrive, Answer, Done, Sleep, Wake, Poll, Rx, Reap}
 use Rattle.wf_frame.specs.declared.notes.Note.{Note}
 use Rattle.wf_frame.specs.declared.notes.Note.TheVariants.{Enqueue, Asked}
 use Rattle.wf_frame.specs.declared.notes.Refusal.{Refusal}
 use Rattle.wf_frame.specs.declared.notes.Refusal.TheVariants.{Idle}
 use Rattle.wf_world.specs.Refusals.{refusal}
-use Rattle.wf_world.specs.Step.{Outcome, joined, gone, with_rate, ticked, sent, pulled_by, pulled, arrived, answered, ended, on_open, slept, woken, credited, received, reaped, done, refused, answer, step}
+use Rattle.wf_world.specs.Step.{Outcome, join_outcome, leave_outcome, rate_outcome, tick_outcome, send_outcome, pull_outcome_for, pull_outcome, arrive_outcome, answer_outcome, done_outcome, outcome_where_open, sleep_outcome, wake_outcome, poll_outcome, rx_outcome, reap_outcome, outcome_of, after_refusal, judged_outcome, step}
 use Rattle.wf_world.specs.Run.{Entry, world_after}
 use Rattle.std.proofs.lemmas.List.Sums.{sum_by-cons}
 use Rattle.wf_rule_laws.proofs.Lemmas.Tables.{each_put}
@@ -52,16 +52,16 @@ lands_on_slot y m f h = record {
   flew = λ n e b. each_put (λ i x. x.state ≡ State.Flying e → (y.first ≤ n) × ((at no_slot y.slots i).state ≡ State.Flying e)) no_slot y.slots (m - y.first) (f (at no_slot y.slots (m - y.first))) (λ i k. (b, k)) (λ k. absurd (h _ e k)) (n - y.first);
 }
 
-lands_give : (y : Session) (id : ℕ) → Lands y (give y id)
+lands_give : (y : Session) (id : ℕ) → Lands y (with_number_given y id)
 lands_give y id = record {
   flew = λ n e b h.
-      let below : n < next_number (give y id) = below_next (give y id) n b (λ k. cc (h, k)) in
+      let below : n < next_number (with_number_given y id) = below_next (with_number_given y id) n b (λ k. cc (h, k)) in
       on_bool (nat_lt n (next_number y))
       (λ l. (b, ap (λ (x : Slot). x.state) (sym (slot_give y id n b (lt_yes n (next_number y) l))) ∙ h))
       (λ l. let here : n ≡ next_number y = omega (arith, next-give y id, below, lt_no n (next_number y) l) in absurd (cc (slot_new y id n here, h)));
 }
 
-lands_heard : (b : Bool) (f : ℕ) (y : Session) → Lands y (heard_start b f y)
+lands_heard : (b : Bool) (f : ℕ) (y : Session) → Lands y (with_heard_start b f y)
 lands_heard true f y = record { flew = λ n e b h. (b, h) }
 lands_heard false f y = lands_refl y
 
@@ -92,51 +92,51 @@ landing_filled_if false w x y h k = k
 landing_number : (o : Option Item) (w : World) (s t : ℕ) → Landing w (with_number w s t o)
 unfolding with_number
 landing_number None w s t = landing_here w
-landing_number (Some x) w s t = landing_on_session w s t (λ y. give y x.id) (lands_give (session w s t) x.id)
+landing_number (Some x) w s t = landing_on_session w s t (λ y. with_number_given y x.id) (lands_give (session w s t) x.id)
 
 landing_fresh : (n : ℕ) (w : World) (s t : ℕ) (ms : List Mpdu) → Landing w (with_fresh n w s t ms).world
 unfolding with_fresh
 landing_fresh zero w s t ms = landing_here w
 landing_fresh (suc n) w s t ms =
-    let taken = take w s t in
+    let taken = taken_for_tid w s t in
     let numbered : Landing w (with_number taken.world s t taken.item) = then_landing w taken.world _ (landing_same w taken.world (same_take w s t)) (landing_number taken.item taken.world s t) in
     landing_filled_if (not (can_give w s t)) w _ _ (landing_here w)
     (landing_filled_if _ w _ _ (then_landing w _ _ numbered (landing_fresh n _ s t _)) numbered)
 
-landing_filled : (w : World) (s t : ℕ) → Landing w (filled w s t).world
-unfolding filled
+landing_filled : (w : World) (s t : ℕ) → Landing w (aggregate_of w s t).world
+unfolding aggregate_of
 landing_filled w s t =
     let chosen : List Mpdu = longest_fitting w s (waiting_mpdus w s t) in
     landing_filled_if (length chosen == length (waiting_mpdus w s t)) w (with_fresh (most_frames w s - length chosen) w s t chosen) (record { world = w; mpdus = chosen })
     (landing_fresh (most_frames w s - length chosen) w s t chosen) (landing_here w)
 
-missed_lands : (limit : ℕ) (x : Slot) (e : ℕ) → (missed_slot limit x).state ≡ State.Flying e → ⊥
+missed_lands : (limit : ℕ) (x : Slot) (e : ℕ) → (slot_after_miss limit x).state ≡ State.Flying e → ⊥
 missed_lands limit x e = on_if (λ st. st ≡ State.Flying e → ⊥) (nat_le limit (x.attempts + 1)) State.Failed State.Waiting (λ _ h. cc h) (λ _ h. cc h)
 
-landing_settled : (b : Bool) (w : World) (s t : ℕ) (m : Mpdu) → Landing w (settled w s t b m)
-unfolding settled settled_slot
+landing_settled : (b : Bool) (w : World) (s t : ℕ) (m : Mpdu) → Landing w (with_settled w s t b m)
+unfolding with_settled with_failed_finished
 landing_settled true w s t m = then_landing w _ _ (landing_on_session w s t (with_state State.Acked m.number) (lands_on_slot (session w s t) m.number (λ x. record x { state = State.Acked }) (λ x e h. cc h))) (landing_same _ _ (same_finish _ _ _))
 landing_settled false w s t m =
-    let v : World = on_session w s t (missed w.config.attempts m.number) in
-    let k : Landing w v = landing_on_session w s t (missed w.config.attempts m.number) (lands_on_slot (session w s t) m.number (missed_slot w.config.attempts) (missed_lands w.config.attempts)) in
+    let v : World = on_session w s t (after_miss w.config.attempts m.number) in
+    let k : Landing w v = landing_on_session w s t (after_miss w.config.attempts m.number) (lands_on_slot (session w s t) m.number (slot_after_miss w.config.attempts) (missed_lands w.config.attempts)) in
     landing_if (is_failed (slot (session v s t) m.number).state) w _ v (then_landing w v _ k (landing_same v _ (same_finish v _ _))) k
 
-landing_all : (ms : List Mpdu) (w : World) (s t : ℕ) (acked : ℕ → Bool) → Landing w (all_settled w s t acked ms)
-unfolding all_settled
+landing_all : (ms : List Mpdu) (w : World) (s t : ℕ) (acked : ℕ → Bool) → Landing w (with_all_settled w s t acked ms)
+unfolding with_all_settled
 landing_all [] w s t acked = landing_here w
 landing_all (m ∷ ms) w s t acked = then_landing w _ _ (landing_settled (acked m.number) w s t m) (landing_all ms _ s t acked)
 
 landing_after : (c : Content) (w : World) (x : Exchange) (heard : Bool) → Landing w (after_done w x heard c)
 unfolding after_done
 landing_after (Frames ms) w x heard = landing_all ms w x.station x.tid _
-landing_after (Request f) w x heard = landing_on_session w x.station x.tid (heard_start heard f) (lands_heard heard f (session w x.station x.tid))
+landing_after (Request f) w x heard = landing_on_session w x.station x.tid (with_heard_start heard f) (lands_heard heard f (session w x.station x.tid))
 
 landing_without : (w : World) (e : ℕ) → Landing w (without_exchange w e)
 unfolding without_exchange
 landing_without w e = record { lands = λ s t. lands_refl (session w s t) }
 
-landing_ended : (w : World) (x : Exchange) (heard : Bool) → Landing w (ended w x heard).world
-unfolding ended
+landing_ended : (w : World) (x : Exchange) (heard : Bool) → Landing w (done_outcome w x heard).world
+unfolding done_outcome
 landing_ended w x heard = then_landing w _ _ (landing_without w x.number) (then_landing _ _ _ (landing_same _ _ (same_charged (without_exchange w x.number) x)) (landing_after x.content _ x heard))
 
 -- ---- some open exchange
@@ -221,7 +221,7 @@ flown_same w v h k = flown_landing w v (landing_same w v h) h.opened h.exchanges
 
 -- ---- pulls
 
-fly_or : (ms : List Mpdu) (y : Session) (e n f lo hi : ℕ) → y.first ≤ lo → Rises lo hi ms → y.first ≤ n → (slot (numbers_fly e ms y) n).state ≡ State.Flying f → ((slot y n).state ≡ State.Flying f) ⊎ ((f ≡ e) × (has (map (λ m. m.number) ms) n ≡ true))
+fly_or : (ms : List Mpdu) (y : Session) (e n f lo hi : ℕ) → y.first ≤ lo → Rises lo hi ms → y.first ≤ n → (slot (with_flying e ms y) n).state ≡ State.Flying f → ((slot y n).state ≡ State.Flying f) ⊎ ((f ≡ e) × (has (map (λ m. m.number) ms) n ≡ true))
 fly_or [] y e n f lo hi b r l h = inl h
 fly_or (m ∷ ms) y e n f lo hi b r l h =
     let g : Slot → Slot = λ x. record x { state = State.Flying e } in
@@ -239,13 +239,13 @@ record IsSent (s t : ℕ) (w : World) (p : Prepared) : Type 0 where
   flew : (i j n e : ℕ) → (session p.world i j).first ≤ n → (slot (session p.world i j) n).state ≡ State.Flying e
       → ((session w i j).first ≤ n) × ((slot (session w i j) n).state ≡ State.Flying e) ⊎ ((s ≡ i) × (t ≡ j) × (p.world.exchanges ≡ e) × (has (map (λ m. m.number) (mpdus_of p.content)) n ≡ true))
 
-sent_frames : (w : World) (s t : ℕ) (f : Aggregate) → IsReady s t f.world f.mpdus → Landing w f.world → IsSent s t w (prepared_frames s t f)
-unfolding prepared_frames on_session
+sent_frames : (w : World) (s t : ℕ) (f : Aggregate) → IsReady s t f.world f.mpdus → Landing w f.world → IsSent s t w (prepared_data s t f)
+unfolding prepared_data on_session
 sent_frames w s t f r h =
     let y : Session = session f.world s t in
     let c : ℕ = f.world.exchanges in
-    let g : Tid → Tid = λ z. record z { session = numbers_fly c f.mpdus z.session } in
-    let same_first : (numbers_fly c f.mpdus y).first ≡ y.first = (flown f.mpdus y c (next_number y) y.first (omega arith) r.chosen.rising r.chosen.waiting).first in
+    let g : Tid → Tid = λ z. record z { session = with_flying c f.mpdus z.session } in
+    let same_first : (with_flying c f.mpdus y).first ≡ y.first = (flown f.mpdus y c (next_number y) y.first (omega arith) r.chosen.rising r.chosen.waiting).first in
     record {
       flew = each_side_on (λ i j a. (n e : ℕ) → a.session.first ≤ n → (slot a.session n).state ≡ State.Flying e
           → ((session w i j).first ≤ n) × ((slot (session w i j) n).state ≡ State.Flying e) ⊎ ((s ≡ i) × (t ≡ j) × ((on_tid f.world s t g).exchanges ≡ e) × (has (map (λ m. m.number) f.mpdus) n ≡ true))) f.world s t g
@@ -260,12 +260,12 @@ if_sent : (b : Bool) (s t : ℕ) (w : World) (x y : Prepared) → IsSent s t w x
 if_sent true s t w x y h k = h
 if_sent false s t w x y h k = k refl
 
-sent_prepared : (w : World) (s t : ℕ) → IsLawful w → is_live w s ≡ true → IsSent s t w (prepared w s t)
-unfolding prepared
-sent_prepared w s t i live = if_sent (request_due (session w s t)) s t w _ _ (record { flew = λ i j n e b h. inl (b, h) }) (λ quiet. sent_frames w s t (filled w s t) (ready_filled w s t i live quiet) (landing_filled w s t))
+sent_prepared : (w : World) (s t : ℕ) → IsLawful w → is_live w s ≡ true → IsSent s t w (prepared_exchange w s t)
+unfolding prepared_exchange
+sent_prepared w s t i live = if_sent (request_due (session w s t)) s t w _ _ (record { flew = λ i j n e b h. inl (b, h) }) (λ quiet. sent_frames w s t (aggregate_of w s t) (ready_filled w s t i live quiet) (landing_filled w s t))
 
-flown_sent : (s t : ℕ) (d : Class) (w : World) (p : Prepared) → IsPrepared s t w p → IsSent s t w p → IsFlown_by w → IsFlown_by (sent s t d p).world
-unfolding sent opening_exchange
+flown_sent : (s t : ℕ) (d : Class) (w : World) (p : Prepared) → IsPrepared s t w p → IsSent s t w p → IsFlown_by w → IsFlown_by (send_outcome s t d p).world
+unfolding send_outcome with_exchange_opened
 flown_sent s t d w p r k h =
     let x : Exchange = exchange_of s t d p in
     flown_same _ _ (same_spent _ s) (record {
@@ -276,16 +276,16 @@ flown_sent s t d w p r k h =
       ];
     })
 
-flown_pulled_by : (o : Option ℕ) (w : World) (d : Class) → IfSome o (λ i. is_live w i ≡ true) → IsLawful w → IsFlown_by w → IsFlown_by (pulled_by w d o).world
-unfolding pulled_by
+flown_pulled_by : (o : Option ℕ) (w : World) (d : Class) → IfSome o (λ i. is_live w i ≡ true) → IsLawful w → IsFlown_by w → IsFlown_by (pull_outcome_for w d o).world
+unfolding pull_outcome_for
 flown_pulled_by None w d live i h = h
 flown_pulled_by (Some a) w d live i h =
-    let v : World = after_turn w a d (sending_tid w a d) in
+    let v : World = after_tid_turn w a d (sending_tid w a d) in
     let k : Same w v = same_after_turn w a d (sending_tid w a d) in
     flown_sent a _ d v _ (prepared_right v a _ (lawful_same _ _ k i) (k.live a ∙ live)) (sent_prepared v a _ (lawful_same _ _ k i) (k.live a ∙ live)) (flown_same w v k h)
 
-flown_pulled : (w : World) (d : Class) → IsLawful w → IsFlown_by w → IsFlown_by (pulled w d).world
-unfolding pulled
+flown_pulled : (w : World) (d : Class) → IsLawful w → IsFlown_by w → IsFlown_by (pull_outcome w d).world
+unfolding pull_outcome
 flown_pulled w d i h =
     let k : Same w (after_pick w d) = same_after_pick w d in
     flown_pulled_by (picked_station w d).winner (after_pick w d) d (some_along (λ a. is_ready w d a ≡ true) (λ a. is_live (after_pick w d) a ≡ true) (picked_station w d).winner (λ a g. k.live a ∙ left_true (is_live w a) _ g) (pick_ready (station_need w d) (is_ready w d) (rotation w d))) (lawful_same _ _ k i) (flown_same w _ k h)
@@ -320,16 +320,16 @@ flown_replaced w v x z u a b c d same_sessions o r k = record {
       (k.flown s t n e (omega (arith, from, ap (λ (y : Session). y.first) (same_sessions s t))) (ap (λ (y : Session). (slot y n).state) (sym (same_sessions s t)) ∙ f)));
 }
 
-flown_answered : (w : World) (x : Exchange) → IsOnly w x → IsFlown_by w → IsFlown_by (answered w x).world
-unfolding answered with_exchange
+flown_answered : (w : World) (x : Exchange) → IsOnly w x → IsFlown_by w → IsFlown_by (answer_outcome w x).world
+unfolding answer_outcome with_exchange
 flown_answered w x u k = flown_replaced w _ x (record x { answer = Some (score (receiver w x.station x.tid)) }) u refl refl refl refl (λ s t. refl) refl refl k
 
 session_on_receiver : (w : World) (s t : ℕ) (g : Receiver → Receiver) (i j : ℕ) → session (on_receiver w s t g) i j ≡ session w i j
 unfolding on_receiver
 session_on_receiver w s t g = each_side_on (λ i j y. y.session ≡ session w i j) w s t (λ y. record y { receiver = g y.receiver }) (λ i j. refl) refl
 
-flown_arrived : (w : World) (x : Exchange) (n : ℕ) → IsOnly w x → IsFlown_by w → IsFlown_by (arrived w x n).world
-unfolding arrived with_exchange
+flown_arrived : (w : World) (x : Exchange) (n : ℕ) → IsOnly w x → IsFlown_by w → IsFlown_by (arrive_outcome w x n).world
+unfolding arrive_outcome with_exchange
 flown_arrived w x n u k =
     let z : Exchange = record x { arrived = with_member n x.arrived } in
     let g : Receiver → Receiver = after_arrival x.content n in
@@ -339,19 +339,19 @@ among_each : (P : ℕ → Type 0) (ms : List Mpdu) (n : ℕ) → EachMpdu (λ m.
 among_each P [] n h k = absurd (cc k)
 among_each P (m ∷ ms) n h k = elim (either (m.number == n) (has (map (λ m. m.number) ms) n) k) [ inl d ↦ subst P (eq_yes m.number n d) h.0 | inr d ↦ among_each P ms n h.1 d ]
 
-landed_after : (c : Content) (w : World) (x : Exchange) (heard : Bool) → x.content ≡ c → IsOpenIn w x → EachMpdu (λ m. (e : ℕ) → (slot (session (after_done (charged (without_exchange w x.number) x) x heard c) x.station x.tid) m.number).state ≡ State.Flying e → ⊥) (mpdus_of c)
+landed_after : (c : Content) (w : World) (x : Exchange) (heard : Bool) → x.content ≡ c → IsOpenIn w x → EachMpdu (λ m. (e : ℕ) → (slot (session (after_done (after_charge (without_exchange w x.number) x) x heard c) x.station x.tid) m.number).state ≡ State.Flying e → ⊥) (mpdus_of c)
 unfolding after_done
 landed_after (Request f) w x heard e o = tt
 landed_after (Frames ms) w x heard e o =
-    let v : World = charged (without_exchange w x.number) x in
+    let v : World = after_charge (without_exchange w x.number) x in
     let k : Same (without_exchange w x.number) v = same_charged (without_exchange w x.number) x in
     let y : Session = session w x.station x.tid in
     let same_y : session v x.station x.tid ≡ y = session_same _ _ k x.station x.tid ∙ without_same w x.number x.station x.tid in
     let flies : FlyIn x.number ms y = subst (λ (c : Content). FlyIn x.number (mpdus_of c) y) e o.opened.flies in
     all_landed ms v x.station x.tid (is_acked heard x.answer) y.first (next_number y) (k.live x.station ∙ without_live w x.number x.station ∙ o.live) (omega (arith, ap (λ (z : Session). z.first) same_y)) flies.rising
 
-landed_ended : (w : World) (x : Exchange) (heard : Bool) → IsOpenIn w x → EachMpdu (λ m. (e : ℕ) → (slot (session (ended w x heard).world x.station x.tid) m.number).state ≡ State.Flying e → ⊥) (mpdus_of x.content)
-unfolding ended
+landed_ended : (w : World) (x : Exchange) (heard : Bool) → IsOpenIn w x → EachMpdu (λ m. (e : ℕ) → (slot (session (done_outcome w x heard).world x.station x.tid) m.number).state ≡ State.Flying e → ⊥) (mpdus_of x.content)
+unfolding done_outcome
 landed_ended w x heard o = landed_after x.content w x heard refl o
 
 -- a number of x does not fly after its end
@@ -369,9 +369,9 @@ rises_without : (w : World) (e : ℕ) → OpenRises 0 w.exchanges w.opened → O
 unfolding without_exchange
 rises_without w e r = rises_filter w.opened (λ y. not (y.number == e)) 0 w.exchanges r
 
-flown_ended : (w : World) (x : Exchange) (heard : Bool) → IsOnly w x → IsFlown_by w → IsFlown_by (ended w x heard).world
+flown_ended : (w : World) (x : Exchange) (heard : Bool) → IsOnly w x → IsFlown_by w → IsFlown_by (done_outcome w x heard).world
 flown_ended w x heard u k =
-    let v : World = (ended w x heard).world in
+    let v : World = (done_outcome w x heard).world in
     record {
       rising = subst (λ (c : ℕ). OpenRises 0 c v.opened) (sym (exchanges_ended w x heard)) (subst (OpenRises 0 w.exchanges) (sym (opened_ended w x heard)) (rises_without w x.number k.rising));
       flown = λ s t n e b f.
@@ -402,12 +402,12 @@ flown_with_station w i o bare k = flown_landing w _ (landing_with_station w i o 
 new_bare : (first size : ℕ) → next_number (new_session first size) ≡ first
 new_bare first size = omega arith
 
-flown_joined : (w : World) (s window start exponent weight : ℕ) → IsFlown_by w → IsFlown_by (joined w s window start exponent weight).world
-unfolding joined
+flown_joined : (w : World) (s window start exponent weight : ℕ) → IsFlown_by w → IsFlown_by (join_outcome w s window start exponent weight).world
+unfolding join_outcome
 flown_joined w s window start exponent weight k = flown_with_station w s _ (eight (λ y. next_number y.session ≡ y.session.first) (new_tid start window) (new_bare start window) (new_bare 0 0)) k
 
-flown_gone : (w : World) (s : ℕ) → IsFlown_by w → IsFlown_by (gone w s).world
-unfolding gone
+flown_gone : (w : World) (s : ℕ) → IsFlown_by w → IsFlown_by (leave_outcome w s).world
+unfolding leave_outcome
 flown_gone w s k = flown_with_station _ s None (λ t. new_bare 0 0) (flown_same _ _ (then_same _ _ _ (same_left_tids (upto 8) w s) (same_off_lists all_classes _ s)) k)
 
 -- ---- the step
@@ -418,18 +418,18 @@ flown_plain w v a b c k = flown_same w v (record { sides = λ s t. ap (λ (x : L
 flown_station : (w : World) (s : ℕ) (f : Station → Station) → ((x : Station) (t : ℕ) → side_of (at no_tid (f x).tids t) ≡ side_of (at no_tid x.tids t)) → IsFlown_by w → IsFlown_by (on_station w s f)
 flown_station w s f h k = flown_same w _ (same_on_station w s f h) k
 
-flown_reaped : (ids : List ℕ) (w : World) → IsFlown_by w → IsFlown_by (reaped w ids).world
-unfolding reaped
+flown_reaped : (ids : List ℕ) (w : World) → IsFlown_by w → IsFlown_by (reap_outcome w ids).world
+unfolding reap_outcome
 flown_reaped [] w k = k
 flown_reaped (id ∷ ids) w k = flown_plain w _ refl refl refl k
 
-flown_open : (P : Exchange → Type 0) (o : Option Exchange) (w : World) (f : Exchange → Outcome) → IfSome o P → IsFlown_by w → ((x : Exchange) → P x → IsFlown_by (f x).world) → IsFlown_by (on_open w o f).world
-unfolding on_open
+flown_open : (P : Exchange → Type 0) (o : Option Exchange) (w : World) (f : Exchange → Outcome) → IfSome o P → IsFlown_by w → ((x : Exchange) → P x → IsFlown_by (f x).world) → IsFlown_by (outcome_where_open w o f).world
+unfolding outcome_where_open
 flown_open P None w f h k g = k
 flown_open P (Some x) w f h k g = g x h
 
-flown_done : (note : Note) (w : World) → IsLawful w → IsFlown_by w → IsFlown_by (done w note).world
-unfolding done ticked with_rate slept woken credited received
+flown_done : (note : Note) (w : World) → IsLawful w → IsFlown_by w → IsFlown_by (outcome_of w note).world
+unfolding outcome_of tick_outcome rate_outcome sleep_outcome wake_outcome poll_outcome rx_outcome
 flown_done (Enqueue s t flow len) w i k = flown_same w _ (same_enqueued w s t flow len) k
 flown_done (Asked (Join s window start exponent weight)) w i k = flown_joined w s window start exponent weight k
 flown_done (Asked (Leave s)) w i k = flown_gone w s k
@@ -445,13 +445,13 @@ flown_done (Asked (Poll s)) w i k = flown_station w s _ (λ x t. refl) k
 flown_done (Asked (Rx s c air)) w i k = flown_same w _ (same_on_share w s c _) k
 flown_done (Asked Reap) w i k = flown_reaped w.finished w k
 
-flown_refused : (note : Note) (r : Refusal) (w : World) → IsFlown_by w → IsFlown_by (refused w note r)
-unfolding refused
+flown_refused : (note : Note) (r : Refusal) (w : World) → IsFlown_by w → IsFlown_by (after_refusal w note r)
+unfolding after_refusal
 flown_refused (Asked (Pull c)) Idle w k = flown_same w _ (same_after_pick w c) k
 flown_refused _ _ w k = k
 
-flown_answer : (r : Option Refusal) (w : World) (note : Note) → IsLawful w → IsFlown_by w → IsFlown_by (answer w note r).world
-unfolding answer
+flown_answer : (r : Option Refusal) (w : World) (note : Note) → IsLawful w → IsFlown_by w → IsFlown_by (judged_outcome w note r).world
+unfolding judged_outcome
 flown_answer (Some r) w note i k = flown_refused note r w k
 flown_answer None w note i k = flown_same _ _ (same_listed _ _) (flown_done note w i k)
 

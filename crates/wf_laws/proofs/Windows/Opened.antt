@@ -2,12 +2,12 @@
 use Rattle.std.proofs.Common.{◌≡◌, ◌≢◌, refl, subst, arith, ℕ, zero, suc, ◌+◌, nat_lt, zero-add, Bool, true, false, if◌then◌else◌, not, ◌&&◌, ◌==◌, List, [], ◌∷◌, ◌++◌, filter, find, count_by, nat_le, Option, Some, None, IfSome}
 use Rattle.wf_rules.specs.Table.{at}
 use Rattle.wf_rules.specs.Rotation.{Rotation, round, first_of_two, first_least, pick_later, pick_from, pick, in_order}
-use Rattle.wf_rules.specs.Session.{Session, State, give, next_number, has_room}
+use Rattle.wf_rules.specs.Session.{Session, State, with_number_given, next_number, has_room}
 use Rattle.wf_world.specs.World.{World, Tid, Exchange, Mpdu, no_tid, session}
-use Rattle.wf_world.specs.FlowQueues.{queued}
+use Rattle.wf_world.specs.FlowQueues.{frames_queued}
 use Rattle.wf_world.specs.CanSend.{can_give}
 use Rattle.wf_frame.specs.declared.notes.Refusal.{Refusal}
-use Rattle.wf_world.specs.Refusals.{first_of}
+use Rattle.wf_world.specs.Refusals.{first_refusal}
 use Rattle.std.proofs.lemmas.List.Sums.{sum_by-cons}
 use Rattle.wf_laws.proofs.Sessions.Flights.{AllIn, Rises, rises_weaken, next-give, all_in_give}
 
@@ -50,14 +50,14 @@ pub record FlyIn (e : ℕ) (ms : List Mpdu) (y : Session) : Type 0 where
   pub rising : Rises y.first (next_number y) ms
   pub flying : AllIn y (State.Flying e) ms
 
-pub fly_give : (y : Session) (id e : ℕ) (ms : List Mpdu) → FlyIn e ms y → FlyIn e ms (give y id)
+pub fly_give : (y : Session) (id e : ℕ) (ms : List Mpdu) → FlyIn e ms y → FlyIn e ms (with_number_given y id)
 fly_give y id e ms f = record {
-  rising = rises_weaken y.first y.first (next_number y) (next_number (give y id)) ms (omega arith) (omega (arith, next-give y id)) f.rising;
+  rising = rises_weaken y.first y.first (next_number y) (next_number (with_number_given y id)) ms (omega arith) (omega (arith, next-give y id)) f.rising;
   flying = all_in_give y id (State.Flying e) ms (λ h. cc h) f.flying;
 }
 
 pub can_give-room : (w : World) (s t : ℕ) → not (can_give w s t) ≡ false → has_room (session w s t) ≡ true
-can_give-room w s t h = right (nat_lt 0 (queued w s t)) (has_room (session w s t)) h
+can_give-room w s t h = right (nat_lt 0 (frames_queued w s t)) (has_room (session w s t)) h
   where
     right : (a b : Bool) → not (a && b) ≡ false → b ≡ true
     right true true h = refl
@@ -151,11 +151,11 @@ abbrev pub NoRow : List (Bool × Refusal) → Type 0
 NoRow [] = Unit {0}
 NoRow (row ∷ rows) = (row.0 ≡ false) × NoRow rows
 
-pub no_row : (rows : List (Bool × Refusal)) → first_of rows ≡ None → NoRow rows
-unfolding first_of
+pub no_row : (rows : List (Bool × Refusal)) → first_refusal rows ≡ None → NoRow rows
+unfolding first_refusal
 no_row [] h = tt
 no_row (row ∷ rows) h = go row.0 h (no_row rows)
   where
-    go : (b : Bool) → (if b then Some row.1 else first_of rows) ≡ None → (first_of rows ≡ None → NoRow rows) → (b ≡ false) × NoRow rows
+    go : (b : Bool) → (if b then Some row.1 else first_refusal rows) ≡ None → (first_refusal rows ≡ None → NoRow rows) → (b ≡ false) × NoRow rows
     go true k f = absurd (cc k)
     go false k f = (refl, f k)

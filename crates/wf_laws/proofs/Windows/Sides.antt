@@ -7,10 +7,10 @@ use Rattle.wf_rules.specs.Codel.{Item}
 use Rattle.wf_rules.specs.Rotation.{Rotation}
 use Rattle.wf_rules.specs.Receiver.{Receiver}
 use Rattle.wf_rules.specs.Session.{Session}
-use Rattle.wf_world.specs.World.{World, Station, Share, Tid, Queue, Exchange, no_tid, no_station, tid_of, is_live, with_station, on_station, on_tid, with_queues, on_share, on_queue, with_rotation, with_fate, finish, finish_all}
-use Rattle.wf_world.specs.FlowQueues.{without_head, within_limit, listed_queue, appended, put_in, pay_queues, dequeued, taken_from, take, purge_queue, purge_queues}
-use Rattle.wf_world.specs.CanSend.{listed_in, listed_in_all, listed}
-use Rattle.wf_world.specs.Exchanges.{pay_station, pay_stations, after_pick, after_turn, spent, charged}
+use Rattle.wf_world.specs.World.{World, Station, Share, Tid, Queue, Exchange, no_tid, no_station, tid_of, is_live, with_station, on_station, on_tid, with_queues, on_share, on_queue, with_rotation, with_fate, with_frame_finished, with_frames_finished}
+use Rattle.wf_world.specs.FlowQueues.{without_head, after_limit, with_listed_queue, with_appended, after_put_in, with_queues_paid, taken_by_codel, taken_from_picked, taken_for_tid, after_queue_left, after_queues_left}
+use Rattle.wf_world.specs.CanSend.{with_listing_in, with_listings_in, with_listings_of}
+use Rattle.wf_world.specs.Exchanges.{with_station_paid, with_stations_paid, after_pick, after_tid_turn, without_credit, after_charge}
 use Rattle.wf_rule_laws.proofs.Lemmas.Tables.{each_put, at_put_same}
 
 -- ---- reading a session after a change of one
@@ -128,27 +128,27 @@ pub same_with_rotation : (w : World) (c : Class) (r : Rotation) → Same w (with
 unfolding with_rotation
 same_with_rotation w c r = record { sides = λ s t. refl; live = λ s. refl; opened = refl; exchanges = refl }
 
-pub same_finish : (w : World) (fate : Fate) (id : ℕ) → Same w (finish w fate id)
-unfolding finish with_fate
+pub same_finish : (w : World) (fate : Fate) (id : ℕ) → Same w (with_frame_finished w fate id)
+unfolding with_frame_finished with_fate
 same_finish w fate id = record { sides = λ s t. refl; live = λ s. refl; opened = refl; exchanges = refl }
 
-pub same_finish_all : (ids : List ℕ) (w : World) (fate : Fate) → Same w (finish_all w fate ids)
-unfolding finish_all
+pub same_finish_all : (ids : List ℕ) (w : World) (fate : Fate) → Same w (with_frames_finished w fate ids)
+unfolding with_frames_finished
 same_finish_all [] w fate = same w
 same_finish_all (id ∷ ids) w fate = then_same _ _ _ (same_finish w fate id) (same_finish_all ids _ fate)
 
-pub same_listed_in_all : (cs : List Class) (w : World) (s : ℕ) → Same w (listed_in_all w s cs)
-unfolding listed_in_all listed_in
+pub same_listed_in_all : (cs : List Class) (w : World) (s : ℕ) → Same w (with_listings_in w s cs)
+unfolding with_listings_in with_listing_in
 same_listed_in_all [] w s = same w
 same_listed_in_all (c ∷ cs) w s = then_same _ _ _ (if_same _ w _ _ (same_with_rotation w c _) (same w)) (same_listed_in_all cs _ s)
 
-pub same_listed : (o : Option ℕ) (w : World) → Same w (listed w o)
-unfolding listed
+pub same_listed : (o : Option ℕ) (w : World) → Same w (with_listings_of w o)
+unfolding with_listings_of
 same_listed None w = same w
 same_listed (Some s) w = same_listed_in_all _ w s
 
-pub same_pay_stations : (ss : List ℕ) (w : World) (c : Class) (quanta : ℕ → ℕ) → Same w (pay_stations w c quanta ss)
-unfolding pay_stations pay_station
+pub same_pay_stations : (ss : List ℕ) (w : World) (c : Class) (quanta : ℕ → ℕ) → Same w (with_stations_paid w c quanta ss)
+unfolding with_stations_paid with_station_paid
 same_pay_stations [] w c quanta = same w
 same_pay_stations (s ∷ ss) w c quanta = then_same _ _ _ (same_on_share w s c _) (same_pay_stations ss _ c quanta)
 
@@ -156,12 +156,12 @@ pub same_after_pick : (w : World) (c : Class) → Same w (after_pick w c)
 unfolding after_pick
 same_after_pick w c = then_same _ _ _ (same_pay_stations _ w c _) (same_with_rotation _ c _)
 
-pub same_after_turn : (w : World) (s : ℕ) (c : Class) (t : ℕ) → Same w (after_turn w s c t)
-unfolding after_turn
+pub same_after_turn : (w : World) (s : ℕ) (c : Class) (t : ℕ) → Same w (after_tid_turn w s c t)
+unfolding after_tid_turn
 same_after_turn w s c t = same_on_share w s c _
 
-pub same_spent : (w : World) (s : ℕ) → Same w (spent w s)
-unfolding spent
+pub same_spent : (w : World) (s : ℕ) → Same w (without_credit w s)
+unfolding without_credit
 same_spent w s = same_on_station w s _ (λ x t. refl)
 
 pub same_without_head : (items : List Item) (w : World) (q : ℕ) → Same w (without_head w q items)
@@ -169,33 +169,33 @@ unfolding without_head
 same_without_head [] w q = same w
 same_without_head (x ∷ rest) w q = then_same _ _ _ (same_on_queue w q _) (same_finish _ _ _)
 
-pub same_within_limit : (w : World) → Same w (within_limit w)
-unfolding within_limit
+pub same_within_limit : (w : World) → Same w (after_limit w)
+unfolding after_limit
 same_within_limit w = if_same _ w _ _ (same_without_head _ w _) (same w)
 
-pub same_put_in : (w : World) (s t q : ℕ) (x : Item) → Same w (put_in w s t q x)
-unfolding put_in appended listed_queue
+pub same_put_in : (w : World) (s t q : ℕ) (x : Item) → Same w (after_put_in w s t q x)
+unfolding after_put_in with_appended with_listed_queue
 same_put_in w s t q x = then_same _ _ _ (same_on_queue w q _) (if_same _ _ _ _ (same _) (then_same _ _ _ (same_on_queue _ q _) (same_with_queues _ s t _)))
 
-pub same_pay_queues : (qs : List ℕ) (w : World) (quanta : ℕ → ℕ) → Same w (pay_queues w quanta qs)
-unfolding pay_queues
+pub same_pay_queues : (qs : List ℕ) (w : World) (quanta : ℕ → ℕ) → Same w (with_queues_paid w quanta qs)
+unfolding with_queues_paid
 same_pay_queues [] w quanta = same w
 same_pay_queues (q ∷ qs) w quanta = then_same _ _ _ (same_on_queue w q _) (same_pay_queues qs _ quanta)
 
-pub same_taken_from : (o : Option ℕ) (w : World) (s : ℕ) → Same w (taken_from w s o).world
-unfolding taken_from dequeued
+pub same_taken_from : (o : Option ℕ) (w : World) (s : ℕ) → Same w (taken_from_picked w s o).world
+unfolding taken_from_picked taken_by_codel
 same_taken_from None w s = same w
 same_taken_from (Some q) w s = then_same _ _ _ (same_on_queue w q _) (same_finish_all _ _ _)
 
-pub same_take : (w : World) (s t : ℕ) → Same w (take w s t).world
-unfolding take
+pub same_take : (w : World) (s t : ℕ) → Same w (taken_for_tid w s t).world
+unfolding taken_for_tid
 same_take w s t = then_same _ _ _ (then_same _ _ _ (same_pay_queues _ w _) (same_with_queues _ s t _)) (same_taken_from _ _ s)
 
-pub same_purge_queues : (qs : List ℕ) (w : World) → Same w (purge_queues w qs)
-unfolding purge_queues purge_queue
+pub same_purge_queues : (qs : List ℕ) (w : World) → Same w (after_queues_left w qs)
+unfolding after_queues_left after_queue_left
 same_purge_queues [] w = same w
 same_purge_queues (q ∷ qs) w = then_same _ _ _ (then_same _ _ _ (same_on_queue w q _) (same_finish_all _ _ _)) (same_purge_queues qs _)
 
-pub same_charged : (w : World) (x : Exchange) → Same w (charged w x)
-unfolding charged
+pub same_charged : (w : World) (x : Exchange) → Same w (after_charge w x)
+unfolding after_charge
 same_charged w x = same_on_share w _ _ _

@@ -14,7 +14,7 @@ use Rattle.wf_rules.specs.Bounds.{greatest_window}
 use Rattle.wf_world.specs.World.{with_exchange, on_receiver, World, Station, Exchange, Tid, no_tid, is_live, new_tid, session, exchange, with_station, opening}
 use Rattle.wf_world.specs.Exchanges.{after_arrival}
 use Rattle.wf_world.specs.Refusals.{refusals, refusal, is_within}
-use Rattle.wf_world.specs.Step.{Outcome, joined, gone, arrived, on_open, concerned, done, answer, step}
+use Rattle.wf_world.specs.Step.{Outcome, join_outcome, leave_outcome, arrive_outcome, outcome_where_open, concerned_station, outcome_of, judged_outcome, step}
 use Rattle.wf_world.specs.Run.{Entry, world_after}
 use Rattle.wf_rule_laws.proofs.Lemmas.Numbers.{on_bool, eq_yes, eq_no, both, le_yes}
 use Rattle.wf_laws.proofs.Windows.Sides.{each_side_on, on_live, Side, sides_of, same_listed}
@@ -72,32 +72,32 @@ each_eight P y h (suc (suc (suc (suc (suc (suc zero)))))) b = h
 each_eight P y h (suc (suc (suc (suc (suc (suc (suc zero))))))) b = h
 each_eight P y h (suc (suc (suc (suc (suc (suc (suc (suc j)))))))) b = absurd (omega (arith, b))
 
-sized_joined : (w : World) (s window start exponent weight : ℕ) → not (is_within 1 greatest_window window) ≡ false → IsSized w → IsSized (joined w s window start exponent weight).world
-unfolding joined
+sized_joined : (w : World) (s window start exponent weight : ℕ) → not (is_within 1 greatest_window window) ≡ false → IsSized w → IsSized (join_outcome w s window start exponent weight).world
+unfolding join_outcome
 sized_joined w s window start exponent weight h i =
     let range = both (nat_le 1 window) (nat_le window 256) (not-false _ h) in
     sized_station w s _ (eight (λ y. y.session.size ≤ 256) (new_tid start window) (le_yes window 256 range.1) (omega arith)) (λ _. each_eight (λ y. 1 ≤ y.session.size) (new_tid start window) (le_yes 1 window range.0)) i
 
-sized_gone : (w : World) (s : ℕ) → IsSized w → IsSized (gone w s).world
-unfolding gone
+sized_gone : (w : World) (s : ℕ) → IsSized w → IsSized (leave_outcome w s).world
+unfolding leave_outcome
 sized_gone w s i =
     sized_station _ s None (λ t. omega arith) (λ e. absurd (cc e)) (sized_kept w _ (then_keep w _ _ (kept_same w _ (same_left_tids (upto 8) w s)) (kept_same _ _ (same_off_lists all_classes _ s))) i)
 
-sized_open : (o : Option Exchange) (w : World) (f : Exchange → Outcome) → ((x : Exchange) → IsSized (f x).world) → IsSized w → IsSized (on_open w o f).world
-unfolding on_open
+sized_open : (o : Option Exchange) (w : World) (f : Exchange → Outcome) → ((x : Exchange) → IsSized (f x).world) → IsSized w → IsSized (outcome_where_open w o f).world
+unfolding outcome_where_open
 sized_open None w f k i = i
 sized_open (Some x) w f k i = k x
 
-sized_arrived : (w : World) (x : Exchange) (n : ℕ) → IsSized w → IsSized (arrived w x n).world
-unfolding arrived with_exchange on_receiver
+sized_arrived : (w : World) (x : Exchange) (n : ℕ) → IsSized w → IsSized (arrive_outcome w x n).world
+unfolding arrive_outcome with_exchange on_receiver
 sized_arrived w x n i = record {
   size = each_side_on (λ s t y. y.session.size ≤ 256) w x.station x.tid (λ y. record y { receiver = after_arrival x.content n y.receiver }) (λ s t. i.size s t) (i.size x.station x.tid);
   some = λ s t live below. each_side_on (λ s t y. is_live w s ≡ true → t < 8 → 1 ≤ y.session.size) w x.station x.tid (λ y. record y { receiver = after_arrival x.content n y.receiver }) (λ s t. i.some s t) (i.some x.station x.tid) s t
       (sym (on_live w x.station x.tid (λ y. record y { receiver = after_arrival x.content n y.receiver }) s) ∙ live) below;
 }
 
-sized_done : (note : Note) (w : World) → NoRow (refusals w note) → IsSized w → IsSized (done w note).world
-unfolding done
+sized_done : (note : Note) (w : World) → NoRow (refusals w note) → IsSized w → IsSized (outcome_of w note).world
+unfolding outcome_of
 sized_done (Enqueue s t flow len) w e i = sized_kept w _ (keep_enqueued w s t flow len) i
 sized_done (Asked (Join s window start exponent weight)) w e i = sized_joined w s window start exponent weight e.1.0 i
 sized_done (Asked (Leave s)) w e i = sized_gone w s i
@@ -113,10 +113,10 @@ sized_done (Asked (Poll s)) w e i = sized_kept w _ (keep_credited w s) i
 sized_done (Asked (Rx s c air)) w e i = sized_kept w _ (keep_received w s c air) i
 sized_done (Asked Reap) w e i = sized_kept w _ (keep_reaped w.finished w) i
 
-sized_answer : (r : Option Refusal) (w : World) (note : Note) → refusal w note ≡ r → IsSized w → IsSized (answer w note r).world
-unfolding answer
+sized_answer : (r : Option Refusal) (w : World) (note : Note) → refusal w note ≡ r → IsSized w → IsSized (judged_outcome w note r).world
+unfolding judged_outcome
 sized_answer (Some r) w note e i = sized_kept w _ (refused_kept note r w) i
-sized_answer None w note e i = sized_kept (done w note).world _ (kept_same _ _ (same_listed (concerned w note) (done w note).world)) (sized_done note w (no_row (refusals w note) e) i)
+sized_answer None w note e i = sized_kept (outcome_of w note).world _ (kept_same _ _ (same_listed (concerned_station w note) (outcome_of w note).world)) (sized_done note w (no_row (refusals w note) e) i)
 
 sized_step : (w : World) (note : Note) → IsSized w → IsSized (step w note).world
 unfolding step

@@ -2,17 +2,17 @@
 use Rattle.std.proofs.Common.{◌≡◌, refl, ap, ◌∙◌, ℕ, zero, suc, ◌-◌, Bool, true, false, if◌then◌else◌, not, ◌==◌, List, length, Option, Some, None, IfSome}
 use Rattle.wf_frame.specs.declared.classes.Class.{Class}
 use Rattle.wf_rules.specs.Codel.{Item}
-use Rattle.wf_rules.specs.Session.{request_due, Session, give, has_room}
+use Rattle.wf_rules.specs.Session.{request_due, Session, with_number_given, has_room}
 use Rattle.wf_world.specs.World.{World, Mpdu, rotation, session, is_live, on_session}
-use Rattle.wf_world.specs.FlowQueues.{take}
+use Rattle.wf_world.specs.FlowQueues.{taken_for_tid}
 use Rattle.wf_world.specs.CanSend.{is_ready, can_give}
-use Rattle.wf_world.specs.Exchanges.{station_need, most_frames, picked_station, sending_tid, Aggregate, Prepared, after_pick, after_turn, with_fresh, filled, with_number, numbers_fly, waiting_mpdus, longest_fitting, prepared_frames, prepared, opening_exchange}
+use Rattle.wf_world.specs.Exchanges.{station_need, most_frames, picked_station, sending_tid, Aggregate, Prepared, after_pick, after_tid_turn, with_fresh, aggregate_of, with_number, with_flying, waiting_mpdus, longest_fitting, prepared_data, prepared_exchange, with_exchange_opened}
 use Rattle.wf_frame.specs.declared.notes.Ask.TheVariants.{Pull}
 use Rattle.wf_frame.specs.declared.notes.Note.TheVariants.{Asked}
 use Rattle.wf_frame.specs.declared.notes.Refusal.{Refusal}
 use Rattle.wf_frame.specs.declared.notes.Refusal.TheVariants.{Idle}
 use Rattle.wf_world.specs.Refusals.{refusal}
-use Rattle.wf_world.specs.Step.{sent, pulled_by, pulled, done, refused, answer, step}
+use Rattle.wf_world.specs.Step.{send_outcome, pull_outcome_for, pull_outcome, outcome_of, after_refusal, judged_outcome, step}
 use Rattle.wf_laws.proofs.Windows.Sides.{Same, each_side_on, same, same_listed, same_after_pick, same_after_turn, same_spent, same_take}
 use Rattle.wf_laws.proofs.Windows.Opened.{some_along, pick_ready, left_true, can_give-room}
 use Rattle.wf_laws.proofs.Windows.Agreed.{IsLawful, IsReady, ready_start, ready_filled, ready_same, longer_number, session_same, lawful_same}
@@ -48,13 +48,13 @@ holds_on_session w s t f quiet = record {
 holds_number : (o : Option Item) (w : World) (s t : ℕ) → request_due (session w s t) ≡ false → Holds w (with_number w s t o)
 unfolding with_number
 holds_number None w s t quiet = holds_same w w (same w)
-holds_number (Some x) w s t quiet = holds_on_session w s t (λ y. give y x.id) quiet
+holds_number (Some x) w s t quiet = holds_on_session w s t (λ y. with_number_given y x.id) quiet
 
 holds_fresh : (n : ℕ) (w : World) (s t : ℕ) (ms : List Mpdu) → IsReady s t w ms → Holds w (with_fresh n w s t ms).world
 unfolding with_fresh
 holds_fresh zero w s t ms r = holds_same w w (same w)
 holds_fresh (suc n) w s t ms r =
-    let taken = take w s t in
+    let taken = taken_for_tid w s t in
     let kept : Same w taken.world = same_take w s t in
     let ready : IsReady s t taken.world ms = ready_same w taken.world s t ms kept r in
     if_filled (not (can_give w s t)) w _ _ (λ _. holds_same w w (same w)) (λ none.
@@ -64,47 +64,47 @@ holds_fresh (suc n) w s t ms r =
     (λ _. then_holds w _ _ numbered (holds_fresh n _ s t _ (longer_number taken.item w taken.world s t ms kept room ready)))
     (λ _. numbered))
 
-holds_filled : (w : World) (s t : ℕ) → IsReady s t w (longest_fitting w s (waiting_mpdus w s t)) → Holds w (filled w s t).world
-unfolding filled
+holds_filled : (w : World) (s t : ℕ) → IsReady s t w (longest_fitting w s (waiting_mpdus w s t)) → Holds w (aggregate_of w s t).world
+unfolding aggregate_of
 holds_filled w s t r =
     let chosen : List Mpdu = longest_fitting w s (waiting_mpdus w s t) in
     if_filled (length chosen == length (waiting_mpdus w s t)) w (with_fresh (most_frames w s - length chosen) w s t chosen) (record { world = w; mpdus = chosen })
     (λ _. holds_fresh (most_frames w s - length chosen) w s t chosen r) (λ _. holds_same w w (same w))
 
-holds_frames : (w : World) (s t : ℕ) (f : Aggregate) → Holds w f.world → request_due (session f.world s t) ≡ false → Holds w (prepared_frames s t f).world
-unfolding prepared_frames
-holds_frames w s t f h quiet = then_holds w f.world _ h (holds_on_session f.world s t (numbers_fly f.world.exchanges f.mpdus) quiet)
+holds_frames : (w : World) (s t : ℕ) (f : Aggregate) → Holds w f.world → request_due (session f.world s t) ≡ false → Holds w (prepared_data s t f).world
+unfolding prepared_data
+holds_frames w s t f h quiet = then_holds w f.world _ h (holds_on_session f.world s t (with_flying f.world.exchanges f.mpdus) quiet)
 
-holds_prepared : (w : World) (s t : ℕ) → IsLawful w → is_live w s ≡ true → Holds w (prepared w s t).world
-unfolding prepared
+holds_prepared : (w : World) (s t : ℕ) → IsLawful w → is_live w s ≡ true → Holds w (prepared_exchange w s t).world
+unfolding prepared_exchange
 holds_prepared w s t i live = if_prepared (request_due (session w s t)) w _ _ (λ _. holds_same w w (same w)) (λ quiet.
-    holds_frames w s t (filled w s t) (holds_filled w s t (ready_start w s t i live quiet)) (ready_filled w s t i live quiet).quiet)
+    holds_frames w s t (aggregate_of w s t) (holds_filled w s t (ready_start w s t i live quiet)) (ready_filled w s t i live quiet).quiet)
 
-holds_sent : (w : World) (s t : ℕ) (c : Class) (p : Prepared) → Holds w p.world → Holds w (sent s t c p).world
-unfolding sent opening_exchange
+holds_sent : (w : World) (s t : ℕ) (c : Class) (p : Prepared) → Holds w p.world → Holds w (send_outcome s t c p).world
+unfolding send_outcome with_exchange_opened
 holds_sent w s t c p h = then_holds w p.world _ h (then_holds p.world _ _ (record { held = λ i j _. refl }) (holds_same _ _ (same_spent _ s)))
 
-holds_pulled_by : (o : Option ℕ) (w : World) (c : Class) → IfSome o (λ s. is_live w s ≡ true) → IsLawful w → Holds w (pulled_by w c o).world
-unfolding pulled_by
+holds_pulled_by : (o : Option ℕ) (w : World) (c : Class) → IfSome o (λ s. is_live w s ≡ true) → IsLawful w → Holds w (pull_outcome_for w c o).world
+unfolding pull_outcome_for
 holds_pulled_by None w c live i = holds_same w w (same w)
 holds_pulled_by (Some s) w c live i =
-    let k : Same w (after_turn w s c (sending_tid w s c)) = same_after_turn w s c (sending_tid w s c) in
+    let k : Same w (after_tid_turn w s c (sending_tid w s c)) = same_after_turn w s c (sending_tid w s c) in
     holds_sent w s _ c _ (then_holds w _ _ (holds_same w _ k) (holds_prepared _ s _ (lawful_same _ _ k i) (k.live s ∙ live)))
 
-holds_pulled : (w : World) (c : Class) → IsLawful w → Holds w (pulled w c).world
-unfolding pulled
+holds_pulled : (w : World) (c : Class) → IsLawful w → Holds w (pull_outcome w c).world
+unfolding pull_outcome
 holds_pulled w c i =
     let k : Same w (after_pick w c) = same_after_pick w c in
     then_holds w (after_pick w c) _ (holds_same w _ k)
     (holds_pulled_by (picked_station w c).winner (after_pick w c) c (some_along (λ s. is_ready w c s ≡ true) (λ s. is_live (after_pick w c) s ≡ true) (picked_station w c).winner (λ s h. k.live s ∙ left_true (is_live w s) _ h) (pick_ready (station_need w c) (is_ready w c) (rotation w c))) (lawful_same _ _ k i))
 
-holds_refused : (r : Refusal) (w : World) (c : Class) → Holds w (refused w (Asked (Pull c)) r)
-unfolding refused
+holds_refused : (r : Refusal) (w : World) (c : Class) → Holds w (after_refusal w (Asked (Pull c)) r)
+unfolding after_refusal
 holds_refused Idle w c = holds_same w _ (same_after_pick w c)
 holds_refused _ w c = holds_same w w (same w)
 
-holds_answer : (o : Option Refusal) (w : World) (c : Class) → IsLawful w → Holds w (answer w (Asked (Pull c)) o).world
-unfolding answer done
+holds_answer : (o : Option Refusal) (w : World) (c : Class) → IsLawful w → Holds w (judged_outcome w (Asked (Pull c)) o).world
+unfolding judged_outcome outcome_of
 holds_answer (Some r) w c i = holds_refused r w c
 holds_answer None w c i = then_holds w _ _ (holds_pulled w c i) (holds_same _ _ (same_listed _ _))
 

@@ -11,7 +11,7 @@ use Rattle.wf_frame.specs.declared.notes.Refusal.TheVariants.{Room}
 use Rattle.wf_frame.specs.declared.notes.ReplyNote.TheVariants.{Refused}
 use Rattle.wf_rules.specs.Session.{State, slot, start_of, next_number}
 use Rattle.wf_rules.specs.Receiver.{release_start, score_start}
-use Rattle.wf_world.specs.World.{World, session, receiver, queue, accepted, inside, opening}
+use Rattle.wf_world.specs.World.{World, session, receiver, queue, accepted_count, inside, opening}
 use Rattle.wf_world.specs.FlowQueues.{total_queued}
 use Rattle.wf_world.specs.Text.{tally}
 use Rattle.wf_world.specs.Step.{step}
@@ -87,7 +87,7 @@ reaped_last : reaped_in (opening config) whole ≡ 1
 unfolding the_machine
 reaped_last = refl
 
-accepted_last : accepted last_world ≡ 7
+accepted_last : accepted_count last_world ≡ 7
 unfolding the_machine
 accepted_last = refl
 

@@ -3,7 +3,7 @@ use Rattle.std.proofs.Common.{◌≡◌, refl, ap, sym, ◌∙◌, arith, ℕ, �
 use Rattle.std.proofs.lemmas.Bool.{cases_Bool, cases_lt, ne_eqb, or_parts}
 use Rattle.wf_rules.specs.Table.{has}
 use Rattle.wf_rules.specs.Lists.{on}
-use Rattle.wf_rules.specs.Rotation.{Rotation, lists, in_order, before, from}
+use Rattle.wf_rules.specs.Rotation.{Rotation, has_key, in_order, keys_before, keys_from}
 
 -- on how many pairs of places j stands before i
 unfoldable pub ahead : ℕ → ℕ → List ℕ → ℕ
@@ -123,16 +123,16 @@ on-hasnot xs y h = elim (cases_Bool (has xs y)) [
 
 -- ---- the lists of a rotation
 
-pub listed-none : (r : Rotation) (k : ℕ) → on (in_order r) k ≡ 0 → lists r k ≡ false
+pub listed-none : (r : Rotation) (k : ℕ) → on (in_order r) k ≡ 0 → has_key r k ≡ false
 listed-none r k none = rw (on-hasnot r.new k (omega (arith, on-append r.old r.new k)), on-hasnot r.old k (omega (arith, on-append r.old r.new k))) refl
 
-pub listed-some : (r : Rotation) (k : ℕ) → 0 < on (in_order r) k → lists r k ≡ true
+pub listed-some : (r : Rotation) (k : ℕ) → 0 < on (in_order r) k → has_key r k ≡ true
 listed-some r k some = elim (cases_lt 0 (on r.new k)) [
   | inl new ↦ rw (on-has r.new k new) refl
   | inr none ↦ rw (on-hasnot r.new k (omega arith), on-has r.old k (omega (arith, on-append r.old r.new k))) refl
 ]
 
-pub on_order-none : (r : Rotation) (k : ℕ) → lists r k ≡ false → on (in_order r) k ≡ 0
+pub on_order-none : (r : Rotation) (k : ℕ) → has_key r k ≡ false → on (in_order r) k ≡ 0
 on_order-none r k none = elim (cases_lt 0 (on (in_order r) k)) [
   | inl some ↦ absurd (cc (none, listed-some r k some))
   | inr less ↦ omega arith
@@ -140,14 +140,14 @@ on_order-none r k none = elim (cases_lt 0 (on (in_order r) k)) [
 
 -- ---- a list that is cut at a key
 
-pub before_from : (v : ℕ) (xs : List ℕ) → before v xs ++ from v xs ≡ xs
+pub before_from : (v : ℕ) (xs : List ℕ) → keys_before v xs ++ keys_from v xs ≡ xs
 before_from v [] = refl
 before_from v (x ∷ xs) = elim (cases_Bool (x == v)) [
   | inl ht ↦ rw ht refl
   | inr hf ↦ rw hf (ap (λ (t : List ℕ). x ∷ t) (before_from v xs))
 ]
 
-pub on-before_self : (v : ℕ) (xs : List ℕ) → on (before v xs) v ≡ 0
+pub on-before_self : (v : ℕ) (xs : List ℕ) → on (keys_before v xs) v ≡ 0
 unfolding on
 on-before_self v [] = refl
 on-before_self v (x ∷ xs) = elim (cases_Bool (x == v)) [
@@ -155,5 +155,5 @@ on-before_self v (x ∷ xs) = elim (cases_Bool (x == v)) [
   | inr hf ↦ rw (hf, hf) (omega (arith, on-before_self v xs))
 ]
 
-pub on-split : (v : ℕ) (xs : List ℕ) (y : ℕ) → on (before v xs) y + on (from v xs) y ≡ on xs y
-on-split v xs y = sym (on-append (before v xs) (from v xs) y) ∙ ap (λ (t : List ℕ). on t y) (before_from v xs)
+pub on-split : (v : ℕ) (xs : List ℕ) (y : ℕ) → on (keys_before v xs) y + on (keys_from v xs) y ≡ on xs y
+on-split v xs y = sym (on-append (keys_before v xs) (keys_from v xs) y) ∙ ap (λ (t : List ℕ). on t y) (before_from v xs)

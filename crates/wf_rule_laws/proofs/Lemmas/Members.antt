@@ -3,7 +3,7 @@ use Rattle.std.proofs.Common.{◌≡◌, refl, ℕ, Bool, true, false, ◌||◌,
 use Rattle.std.specs.Prelude.{filter}
 use Rattle.wf_rules.specs.Table.{has}
 use Rattle.wf_rule_laws.proofs.Lemmas.Numbers.{or_left, or_right}
-use Rattle.wf_rules.specs.Rotation.{before, from, first_of_two, first_least}
+use Rattle.wf_rules.specs.Rotation.{keys_before, keys_from, first_of_two, first_least}
 
 pub has_head : (x : ℕ) (xs : List ℕ) → has (x ∷ xs) x ≡ true
 has_head x xs = or_left (eqb x x) (has xs x) (eq-eqb x x refl)
@@ -28,17 +28,17 @@ ahead : (b : Bool) (x k : ℕ) (zs xs : List ℕ) → (has zs k ≡ true → has
 ahead true x k zs xs f h = absurd (cc h)
 ahead false x k zs xs f h = more (eqb x k) (has zs k) (has xs k) f h
 
-pub has_before : (w : ℕ) (xs : List ℕ) (k : ℕ) → has (before w xs) k ≡ true → has xs k ≡ true
+pub has_before : (w : ℕ) (xs : List ℕ) (k : ℕ) → has (keys_before w xs) k ≡ true → has xs k ≡ true
 has_before w [] k h = h
-has_before w (x ∷ xs) k h = ahead (eqb x w) x k (before w xs) xs (has_before w xs k) h
+has_before w (x ∷ xs) k h = ahead (eqb x w) x k (keys_before w xs) xs (has_before w xs k) h
 
 onward : (b : Bool) (x k : ℕ) (zs xs : List ℕ) → (has zs k ≡ true → has xs k ≡ true) → has (cond b (x ∷ xs) zs) k ≡ true → has (x ∷ xs) k ≡ true
 onward true x k zs xs f h = h
 onward false x k zs xs f h = has_tail x xs k (f h)
 
-pub has_from : (w : ℕ) (xs : List ℕ) (k : ℕ) → has (from w xs) k ≡ true → has xs k ≡ true
+pub has_from : (w : ℕ) (xs : List ℕ) (k : ℕ) → has (keys_from w xs) k ≡ true → has xs k ≡ true
 has_from w [] k h = h
-has_from w (x ∷ xs) k h = onward (eqb x w) x k (from w xs) xs (has_from w xs k) h
+has_from w (x ∷ xs) k h = onward (eqb x w) x k (keys_from w xs) xs (has_from w xs k) h
 
 -- the first of the least is on the list
 least_of_two : (rounds : ℕ → ℕ) (x : ℕ) (xs : List ℕ) (o : Option ℕ) → ((z : ℕ) → o ≡ Some z → has xs z ≡ true) → (z : ℕ) → first_of_two rounds x o ≡ Some z → has (x ∷ xs) z ≡ true

@@ -2,7 +2,7 @@
 use Rattle.std.proofs.Common.{◌≡◌, refl, ap, sym, subst, ◌∙◌, ℕ, ◌+◌, ◌-◌, min, max, Bool, true, false, not, ◌||◌, ◌&&◌, cond, List, [], ◌∷◌, ◌++◌, map, Option, Some, None, eqb, nat_le, arith}
 use Rattle.std.specs.Prelude.{filter, find, option_map}
 use Rattle.wf_rules.specs.Table.{has}
-use Rattle.wf_rules.specs.Rotation.{Rotation, lists, in_order, before, from, round, first_of_two, first_least, none_ready, picked_now, old_visits, visits, is_out, picked_later, pick_later, pick_from, pick}
+use Rattle.wf_rules.specs.Rotation.{Rotation, has_key, in_order, keys_before, keys_from, round, first_of_two, first_least, none_ready, picked_now, old_visits, visits, is_out, picked_later, pick_later, pick_from, pick}
 use Rattle.wf_rule_laws.specs.Renamed.{renamed, KeepsApart, Agrees, IsRenamed, IsSame, IsIdle}
 use Rattle.wf_rule_laws.proofs.Lemmas.Numbers.{or_left, or_right}
 use Rattle.wf_rule_laws.proofs.Lemmas.Joined.{has_append, has_first, has_second}
@@ -14,14 +14,14 @@ or_swap true b h = or_right b true refl
 or_swap false true h = refl
 or_swap false false h = h
 
-pub listed_in : (r : Rotation) (k : ℕ) → has (in_order r) k ≡ true → lists r k ≡ true
+pub listed_in : (r : Rotation) (k : ℕ) → has (in_order r) k ≡ true → has_key r k ≡ true
 listed_in r k h = or_swap (has r.old k) (has r.new k) (sym (has_append r.old r.new k) ∙ h)
 
 by_bool : (P : Type 0) (b : Bool) → (b ≡ true → P) → (b ≡ false → P) → P
 by_bool P true h k = h refl
 by_bool P false h k = k refl
 
-pub in_listed : (r : Rotation) (k : ℕ) → lists r k ≡ true → has (in_order r) k ≡ true
+pub in_listed : (r : Rotation) (k : ℕ) → has_key r k ≡ true → has (in_order r) k ≡ true
 in_listed r k h = by_bool (has (in_order r) k ≡ true) (has r.new k) (λ new. has_second r.old r.new k new) (λ off. has_first r.old r.new k (subst (λ (b : Bool). (b || has r.old k) ≡ true) off h))
 
 true_eqb : (a b : ℕ) → eqb a b ≡ true → a ≡ b
@@ -37,72 +37,72 @@ module _ (f : ℕ → ℕ) (apart : KeepsApart f) (r : Rotation) (need other : �
   order_is : in_order (renamed f r) ≡ map f (in_order r)
   order_is = append_renamed f r.old r.new
 
-  listed_is : (y : ℕ) → lists (renamed f r) (f y) ≡ lists r y
+  listed_is : (y : ℕ) → has_key (renamed f r) (f y) ≡ has_key r y
   listed_is y = ap (λ (b : Bool). b || has (map f r.old) (f y)) (has_renamed f apart r.new y) ∙ ap (λ (b : Bool). has r.new y || b) (has_renamed f apart r.old y)
 
-  round_is : (y : ℕ) → lists r y ≡ true → round other (renamed f r) (f y) ≡ round need r y
+  round_is : (y : ℕ) → has_key r y ≡ true → round other (renamed f r) (f y) ≡ round need r y
   round_is y h = ap (λ (n : ℕ). cond (has (map f r.new) (f y)) n (1 + n)) (same.needs y h) ∙ ap (λ (b : Bool). cond b (need y) (1 + need y)) (has_renamed f apart r.new y)
 
   old_visits_is : (w round_won y : ℕ) → old_visits (renamed f r) (f w) round_won (f y) ≡ old_visits r w round_won y
   old_visits_is w round_won y = ap (λ (b : Bool). cond b round_won (round_won - 1))
-      (ap (λ (xs : List ℕ). has (before (f w) xs) (f y)) order_is ∙ ap (λ (xs : List ℕ). has xs (f y)) (before_renamed f apart w (in_order r)) ∙ has_renamed f apart (before w (in_order r)) y)
+      (ap (λ (xs : List ℕ). has (keys_before (f w) xs) (f y)) order_is ∙ ap (λ (xs : List ℕ). has xs (f y)) (before_renamed f apart w (in_order r)) ∙ has_renamed f apart (keys_before w (in_order r)) y)
 
   visits_is : (w round_won y : ℕ) → visits (renamed f r) (f w) round_won (f y) ≡ visits r w round_won y
   visits_is w round_won y = ap (λ (n : ℕ). n + cond (has (map f r.new) (f y)) 1 0) (old_visits_is w round_won y) ∙ ap (λ (b : Bool). old_visits r w round_won y + cond b 1 0) (has_renamed f apart r.new y)
 
-  out_is : (w round_won y : ℕ) → lists r y ≡ true → is_out other others (renamed f r) (f w) round_won (f y) ≡ is_out need ready r w round_won y
+  out_is : (w round_won y : ℕ) → has_key r y ≡ true → is_out other others (renamed f r) (f w) round_won (f y) ≡ is_out need ready r w round_won y
   out_is w round_won y h =
       ap (λ (b : Bool). not b && nat_le (max 1 (round other (renamed f r) (f y))) (old_visits (renamed f r) (f w) round_won (f y))) (same.readiness y h)
       ∙ ap (λ (n : ℕ). not (ready y) && nat_le (max 1 n) (old_visits (renamed f r) (f w) round_won (f y))) (round_is y h)
       ∙ ap (λ (n : ℕ). not (ready y) && nat_le (max 1 (round need r y)) n) (old_visits_is w round_won y)
 
   -- the winner's round and the others' visits
-  module _ (w round_won : ℕ) (stands : lists r w ≡ true) where
-    turned_is : from (f w) (in_order (renamed f r)) ++ before (f w) (in_order (renamed f r)) ≡ map f (from w (in_order r) ++ before w (in_order r))
+  module _ (w round_won : ℕ) (stands : has_key r w ≡ true) where
+    turned_is : keys_from (f w) (in_order (renamed f r)) ++ keys_before (f w) (in_order (renamed f r)) ≡ map f (keys_from w (in_order r) ++ keys_before w (in_order r))
     turned_is =
-        ap (λ (xs : List ℕ). from (f w) xs ++ before (f w) xs) order_is
-        ∙ ap (λ (zs : List ℕ). zs ++ before (f w) (map f (in_order r))) (from_renamed f apart w (in_order r))
-        ∙ ap (λ (zs : List ℕ). map f (from w (in_order r)) ++ zs) (before_renamed f apart w (in_order r))
-        ∙ append_renamed f (from w (in_order r)) (before w (in_order r))
+        ap (λ (xs : List ℕ). keys_from (f w) xs ++ keys_before (f w) xs) order_is
+        ∙ ap (λ (zs : List ℕ). zs ++ keys_before (f w) (map f (in_order r))) (from_renamed f apart w (in_order r))
+        ∙ ap (λ (zs : List ℕ). map f (keys_from w (in_order r)) ++ zs) (before_renamed f apart w (in_order r))
+        ∙ append_renamed f (keys_from w (in_order r)) (keys_before w (in_order r))
 
-    turned_listed : (k : ℕ) → has (from w (in_order r) ++ before w (in_order r)) k ≡ true → lists r k ≡ true
-    turned_listed k h = by_bool (lists r k ≡ true) (has (from w (in_order r)) k) (λ late. listed_in r k (has_from w (in_order r) k late))
-        (λ off. listed_in r k (has_before w (in_order r) k (subst (λ (b : Bool). (b || has (before w (in_order r)) k) ≡ true) off (sym (has_append (from w (in_order r)) (before w (in_order r)) k) ∙ h))))
+    turned_listed : (k : ℕ) → has (keys_from w (in_order r) ++ keys_before w (in_order r)) k ≡ true → has_key r k ≡ true
+    turned_listed k h = by_bool (has_key r k ≡ true) (has (keys_from w (in_order r)) k) (λ late. listed_in r k (has_from w (in_order r) k late))
+        (λ off. listed_in r k (has_before w (in_order r) k (subst (λ (b : Bool). (b || has (keys_before w (in_order r)) k) ≡ true) off (sym (has_append (keys_from w (in_order r)) (keys_before w (in_order r)) k) ∙ h))))
 
-    kept_is : filter (λ y. not (is_out other others (renamed f r) (f w) round_won y)) (from (f w) (in_order (renamed f r)) ++ before (f w) (in_order (renamed f r))) ≡ map f (filter (λ y. not (is_out need ready r w round_won y)) (from w (in_order r) ++ before w (in_order r)))
+    kept_is : filter (λ y. not (is_out other others (renamed f r) (f w) round_won y)) (keys_from (f w) (in_order (renamed f r)) ++ keys_before (f w) (in_order (renamed f r))) ≡ map f (filter (λ y. not (is_out need ready r w round_won y)) (keys_from w (in_order r) ++ keys_before w (in_order r)))
     kept_is = ap (filter (λ y. not (is_out other others (renamed f r) (f w) round_won y))) turned_is
-        ∙ filter_renamed f (λ y. not (is_out need ready r w round_won y)) (λ y. not (is_out other others (renamed f r) (f w) round_won y)) (from w (in_order r) ++ before w (in_order r)) (λ k h. ap not (out_is w round_won k (turned_listed k h)))
+        ∙ filter_renamed f (λ y. not (is_out need ready r w round_won y)) (λ y. not (is_out other others (renamed f r) (f w) round_won y)) (keys_from w (in_order r) ++ keys_before w (in_order r)) (λ k h. ap not (out_is w round_won k (turned_listed k h)))
 
-    gets : (y : ℕ) (b l : Bool) → eqb y w ≡ b → lists r y ≡ l → cond b (other (f y)) (cond l (min (visits r w round_won y) (other (f y))) 0) ≡ cond b (need y) (cond l (min (visits r w round_won y) (need y)) 0)
+    gets : (y : ℕ) (b l : Bool) → eqb y w ≡ b → has_key r y ≡ l → cond b (other (f y)) (cond l (min (visits r w round_won y) (other (f y))) 0) ≡ cond b (need y) (cond l (min (visits r w round_won y) (need y)) 0)
     gets y b true e s = ap (λ (n : ℕ). cond b n (min (visits r w round_won y) n)) (same.needs y s)
     gets y false false e s = refl
-    gets y true false e s = absurd (both (sym stands ∙ ap (lists r) (sym (true_eqb y w e)) ∙ s))
+    gets y true false e s = absurd (both (sym stands ∙ ap (has_key r) (sym (true_eqb y w e)) ∙ s))
 
     later_is : IsRenamed f (picked_later need ready r w round_won) (picked_later other others (renamed f r) (f w) round_won)
     later_is = record {
       winner = refl;
       lists = ap (rot []) kept_is;
       quanta = λ y.
-          ap (λ (b : Bool). cond b (other (f y)) (cond (lists (renamed f r) (f y)) (min (visits (renamed f r) (f w) round_won (f y)) (other (f y))) 0)) (equal_renamed f apart y w)
+          ap (λ (b : Bool). cond b (other (f y)) (cond (has_key (renamed f r) (f y)) (min (visits (renamed f r) (f w) round_won (f y)) (other (f y))) 0)) (equal_renamed f apart y w)
           ∙ ap (λ (b : Bool). cond (eqb y w) (other (f y)) (cond b (min (visits (renamed f r) (f w) round_won (f y)) (other (f y))) 0)) (listed_is y)
-          ∙ ap (λ (n : ℕ). cond (eqb y w) (other (f y)) (cond (lists r y) (min n (other (f y))) 0)) (visits_is w round_won y)
-          ∙ gets y (eqb y w) (lists r y) refl refl;
+          ∙ ap (λ (n : ℕ). cond (eqb y w) (other (f y)) (cond (has_key r y) (min n (other (f y))) 0)) (visits_is w round_won y)
+          ∙ gets y (eqb y w) (has_key r y) refl refl;
     }
 
   now_is : (w : ℕ) → IsRenamed f (picked_now need r w) (picked_now other (renamed f r) (f w))
   now_is w = record {
     winner = refl;
     lists =
-        ap (λ (xs : List ℕ). rot xs (map f r.old ++ before (f w) (map f r.new))) (from_renamed f apart w r.new)
-        ∙ ap (λ (zs : List ℕ). rot (map f (from w r.new)) (map f r.old ++ zs)) (before_renamed f apart w r.new)
-        ∙ ap (rot (map f (from w r.new))) (append_renamed f r.old (before w r.new));
+        ap (λ (xs : List ℕ). rot xs (map f r.old ++ keys_before (f w) (map f r.new))) (from_renamed f apart w r.new)
+        ∙ ap (λ (zs : List ℕ). rot (map f (keys_from w r.new)) (map f r.old ++ zs)) (before_renamed f apart w r.new)
+        ∙ ap (rot (map f (keys_from w r.new))) (append_renamed f r.old (keys_before w r.new));
     quanta = λ y.
         ap (λ (xs : List ℕ). cond (has xs (f y)) (min 1 (other (f y))) 0) (before_renamed f apart w r.new)
-        ∙ ap (λ (b : Bool). cond b (min 1 (other (f y))) 0) (has_renamed f apart (before w r.new) y)
-        ∙ passed y (has (before w r.new) y) refl;
+        ∙ ap (λ (b : Bool). cond b (min 1 (other (f y))) 0) (has_renamed f apart (keys_before w r.new) y)
+        ∙ passed y (has (keys_before w r.new) y) refl;
   }
     where
-      passed : (y : ℕ) (b : Bool) → has (before w r.new) y ≡ b → cond b (min 1 (other (f y))) 0 ≡ cond b (min 1 (need y)) 0
+      passed : (y : ℕ) (b : Bool) → has (keys_before w r.new) y ≡ b → cond b (min 1 (other (f y))) 0 ≡ cond b (min 1 (need y)) 0
       passed y true h = ap (min 1) (same.needs y (or_left (has r.new y) (has r.old y) (has_before w r.new y h)))
       passed y false h = refl
 
@@ -110,10 +110,10 @@ module _ (f : ℕ → ℕ) (apart : KeepsApart f) (r : Rotation) (need other : �
   none_is = record {
     winner = refl;
     lists = refl;
-    quanta = λ y. ap (λ (b : Bool). cond b (other (f y)) 0) (listed_is y) ∙ lifted y (lists r y) refl;
+    quanta = λ y. ap (λ (b : Bool). cond b (other (f y)) 0) (listed_is y) ∙ lifted y (has_key r y) refl;
   }
     where
-      lifted : (y : ℕ) (b : Bool) → lists r y ≡ b → cond b (other (f y)) 0 ≡ cond b (need y) 0
+      lifted : (y : ℕ) (b : Bool) → has_key r y ≡ b → cond b (other (f y)) 0 ≡ cond b (need y) 0
       lifted y true h = same.needs y h
       lifted y false h = refl
 
@@ -126,7 +126,7 @@ module _ (f : ℕ → ℕ) (apart : KeepsApart f) (r : Rotation) (need other : �
       ∙ ap (first_least (round other (renamed f r))) (filter_renamed f ready others (in_order r) (λ k h. same.readiness k (listed_in r k h)))
       ∙ least_renamed f (round need r) (round other (renamed f r)) (filter ready (in_order r)) (λ k h. round_is k (listed_in r k (has_filter ready (in_order r) k h)))
 
-  later_of : (o : Option ℕ) → ((w : ℕ) → o ≡ Some w → lists r w ≡ true) → IsRenamed f (pick_later need ready r o) (pick_later other others (renamed f r) (option_map f o))
+  later_of : (o : Option ℕ) → ((w : ℕ) → o ≡ Some w → has_key r w ≡ true) → IsRenamed f (pick_later need ready r o) (pick_later other others (renamed f r) (option_map f o))
   later_of None on = none_is
   later_of (Some w) on = subst (λ (round_won : ℕ). IsRenamed f (picked_later need ready r w (round need r w)) (picked_later other others (renamed f r) (f w) round_won)) (sym (round_is w (on w refl))) (later_is w (round need r w) (on w refl))
 

@@ -2,7 +2,7 @@
 use Rattle.std.proofs.Common.{◌≡◌, refl, ap, sym, ◌∙◌, subst, arith, ℕ, zero, suc, ◌+◌, ◌*◌, ◌<◌, ◌≤◌, min, max, Bool, true, false, if◌then◌else◌, cond, not, ◌&&◌, ◌||◌, ◌==◌, nat_le, List, [], ◌∷◌, ◌++◌, filter, eq-eqb, inl, inr, Option, Some, None, find}
 use Rattle.std.proofs.lemmas.Bool.{cases_Bool, cases_eq, eqb-true, eqb-false, ne_eqb, and_parts, leb-true, leb-false, not_from_true, not_from_false}
 use Rattle.wf_rules.specs.Table.{has}
-use Rattle.wf_rules.specs.Rotation.{Rotation, lists, in_order, round, first_of_two, first_least, before, from, old_visits, visits, is_out, Picked, none_ready, picked_now, picked_later, pick_from, pick}
+use Rattle.wf_rules.specs.Rotation.{Rotation, has_key, in_order, round, first_of_two, first_least, keys_before, keys_from, old_visits, visits, is_out, Picked, none_ready, picked_now, picked_later, pick_from, pick}
 use Rattle.wf_rules.specs.Lists.{on}
 use Rattle.wf_rule_laws.proofs.Lemmas.Counts.{ahead, on-nil, on-cons, on-cons_same, on-cons_other, on-append, ahead-append, ahead-none, on-filter, on-filter_out, on-filter_le, ahead-filter, has-on, hasnot-on, on-has, on-hasnot, before_from, on-before_self, on-split}
 
@@ -23,7 +23,7 @@ least-none f (x ∷ xs) e y = go (first_least f xs) e
 pub record IsLeast (f : ℕ → ℕ) (ready : ℕ → Bool) (xs : List ℕ) (v : ℕ) : Type 0 where
   pub stands : 0 < on xs v
   pub is_ready : ready v ≡ true
-  pub front : (y : ℕ) → 0 < on (before v xs) y → ready y ≡ true → f v < f y
+  pub front : (y : ℕ) → 0 < on (keys_before v xs) y → ready y ≡ true → f v < f y
   pub all : (y : ℕ) → 0 < on xs y → ready y ≡ true → f v ≤ f y
 
 -- x is the first, and none of the rest is less
@@ -38,7 +38,7 @@ least_here f ready xs x h rest = record {
   ];
 }
   where
-    nothing : (y : ℕ) → 0 < on (before x (x ∷ xs)) y → ⊥
+    nothing : (y : ℕ) → 0 < on (keys_before x (x ∷ xs)) y → ⊥
     nothing y h =
         let k : 0 < on [] y = rw (eq-eqb x x refl) at h in
         let e : on [] y ≡ 0 = on-nil y in omega arith
@@ -58,10 +58,10 @@ least_there f ready xs x v differs later i = record {
   ];
 }
   where
-    deeper : (y : ℕ) → (x ≡ y → ⊥) → 0 < on (before v (x ∷ xs)) y → 0 < on (before v xs) y
+    deeper : (y : ℕ) → (x ≡ y → ⊥) → 0 < on (keys_before v (x ∷ xs)) y → 0 < on (keys_before v xs) y
     deeper y other h =
-        let k : 0 < on (x ∷ before v xs) y = rw (ne_eqb x v differs) at h in
-        omega (arith, on-cons_other x y (before v xs) other)
+        let k : 0 < on (x ∷ keys_before v xs) y = rw (ne_eqb x v differs) at h in
+        omega (arith, on-cons_other x y (keys_before v xs) other)
 
 same_key : (a b : ℕ) → Some a ≡ Some b → a ≡ b
 same_key a b e = cc
@@ -134,24 +134,24 @@ once_old r y h k = omega (arith, on-append r.old r.new y)
 round_old : (need : ℕ → ℕ) (r : Rotation) (y : ℕ) → on r.new y ≡ 0 → round need r y ≡ 1 + need y
 round_old need r y h = rw (on-hasnot r.new y h) refl
 
-lists_old : (r : Rotation) (y : ℕ) → 0 < on r.old y → lists r y ≡ true
+lists_old : (r : Rotation) (y : ℕ) → 0 < on r.old y → has_key r y ≡ true
 lists_old r y h = go (has r.new y) (has r.old y) (on-has r.old y h)
   where
     go : (a b : Bool) → b ≡ true → a || b ≡ true
     go true b e = refl
     go false b e = e
 
-old_visits-bit : (r : Rotation) (v round_won y : ℕ) → 0 < round_won → on (before v (in_order r)) y ≤ 1 → old_visits r v round_won y + 1 ≡ round_won + on (before v (in_order r)) y
-old_visits-bit r v round_won y some most = elim (cases_Bool (has (before v (in_order r)) y)) [
-  | inl ht ↦ let o : 0 < on (before v (in_order r)) y = has-on _ _ ht in rw ht (omega arith)
-  | inr hf ↦ let o : on (before v (in_order r)) y ≡ 0 = hasnot-on _ _ hf in rw hf (omega arith)
+old_visits-bit : (r : Rotation) (v round_won y : ℕ) → 0 < round_won → on (keys_before v (in_order r)) y ≤ 1 → old_visits r v round_won y + 1 ≡ round_won + on (keys_before v (in_order r)) y
+old_visits-bit r v round_won y some most = elim (cases_Bool (has (keys_before v (in_order r)) y)) [
+  | inl ht ↦ let o : 0 < on (keys_before v (in_order r)) y = has-on _ _ ht in rw ht (omega arith)
+  | inr hf ↦ let o : on (keys_before v (in_order r)) y ≡ 0 = hasnot-on _ _ hf in rw hf (omega arith)
 ]
 
 -- what a key that is not out needs
 needed : (need : ℕ → ℕ) (ready : ℕ → Bool) (r : Rotation) (v y : ℕ) → IsLater need ready r v → 0 < on r.old y → is_out need ready r v (round need r v) y ≡ false → old_visits r v (round need r v) y ≤ need y
 needed need ready r v y i stands stays =
     elim (cases_Bool (ready y)) [
-      | inl ht ↦ elim (cases_eq (on (before v (in_order r)) y) 0) [
+      | inl ht ↦ elim (cases_eq (on (keys_before v (in_order r)) y) 0) [
         | inl none ↦
             let all : round need r v ≤ round need r y = i.least.all y listed ht in
             omega (arith, bit, is_old)
@@ -171,20 +171,20 @@ needed need ready r v y i stands stays =
     listed : 0 < on (in_order r) y
     listed = omega (arith, on-append r.old r.new y)
 
-    at_most : on (before v (in_order r)) y ≤ 1
+    at_most : on (keys_before v (in_order r)) y ≤ 1
     at_most = omega (arith, on-split v (in_order r) y, i.once y)
 
-    bit : old_visits r v (round need r v) y + 1 ≡ round need r v + on (before v (in_order r)) y
+    bit : old_visits r v (round need r v) y + 1 ≡ round need r v + on (keys_before v (in_order r)) y
     bit = old_visits-bit r v (round need r v) y i.positive at_most
 
     is_old : round need r y ≡ 1 + need y
     is_old = round_old need r y new
 
-quanta_stay : (need : ℕ → ℕ) (ready : ℕ → Bool) (r : Rotation) (v y : ℕ) → IsLater need ready r v → 0 < on r.old y → is_out need ready r v (round need r v) y ≡ false → (later need ready r v).quanta y + 1 ≡ round need r v + on (before v (in_order r)) y
+quanta_stay : (need : ℕ → ℕ) (ready : ℕ → Bool) (r : Rotation) (v y : ℕ) → IsLater need ready r v → 0 < on r.old y → is_out need ready r v (round need r v) y ≡ false → (later need ready r v).quanta y + 1 ≡ round need r v + on (keys_before v (in_order r)) y
 quanta_stay need ready r v y i stands stays = elim (cases_eq y v) [
   | inl e ↦
       let at_v : round need r y ≡ round need r v = ap (round need r) e in
-      let is_front : on (before v (in_order r)) y ≡ 0 = ap (on (before v (in_order r))) e ∙ on-before_self v (in_order r) in
+      let is_front : on (keys_before v (in_order r)) y ≡ 0 = ap (on (keys_before v (in_order r))) e ∙ on-before_self v (in_order r) in
       let given : (later need ready r v).quanta y ≡ need y = rw (eq-eqb y v e) refl in
       omega (arith, is_old)
   | inr other ↦
@@ -196,10 +196,10 @@ quanta_stay need ready r v y i stands stays = elim (cases_eq y v) [
     new : on r.new y ≡ 0
     new = once_old r y (i.once y) stands
 
-    at_most : on (before v (in_order r)) y ≤ 1
+    at_most : on (keys_before v (in_order r)) y ≤ 1
     at_most = omega (arith, on-split v (in_order r) y, i.once y)
 
-    bit : old_visits r v (round need r v) y + 1 ≡ round need r v + on (before v (in_order r)) y
+    bit : old_visits r v (round need r v) y + 1 ≡ round need r v + on (keys_before v (in_order r)) y
     bit = old_visits-bit r v (round need r v) y i.positive at_most
 
     is_old : round need r y ≡ 1 + need y
@@ -209,8 +209,8 @@ quanta_stay need ready r v y i stands stays = elim (cases_eq y v) [
 not_out : (need : ℕ → ℕ) (ready : ℕ → Bool) (r : Rotation) (v y : ℕ) → 0 < on (later need ready r v).lists.old y → is_out need ready r v (round need r v) y ≡ false
 not_out need ready r v y stands = elim (cases_Bool (is_out need ready r v (round need r v) y)) [
   | inl ht ↦ absurd (
-      let none : on (filter (λ z. not (is_out need ready r v (round need r v) z)) (from v (in_order r) ++ before v (in_order r))) y ≡ 0 =
-      on-filter_out (λ z. not (is_out need ready r v (round need r v) z)) (from v (in_order r) ++ before v (in_order r)) y (not_from_true _ ht) in omega arith)
+      let none : on (filter (λ z. not (is_out need ready r v (round need r v) z)) (keys_from v (in_order r) ++ keys_before v (in_order r))) y ≡ 0 =
+      on-filter_out (λ z. not (is_out need ready r v (round need r v) z)) (keys_from v (in_order r) ++ keys_before v (in_order r)) y (not_from_true _ ht) in omega arith)
   | inr hf ↦ hf
 ]
 
@@ -229,20 +229,20 @@ stay_later : (need : ℕ → ℕ) (ready : ℕ → Bool) (r : Rotation) (v i j :
 stay_later need ready r v i j l at_i at_j stays_i stays_j =
     let out_i = not_out need ready r v i stays_i in
     let out_j = not_out need ready r v j stays_j in
-    let got_i : (later need ready r v).quanta i + 1 ≡ round need r v + on (before v (in_order r)) i = quanta_stay need ready r v i l at_i out_i in
-    let got_j : (later need ready r v).quanta j + 1 ≡ round need r v + on (before v (in_order r)) j = quanta_stay need ready r v j l at_j out_j in
-    let kept : ahead j i (later need ready r v).lists.old ≡ ahead j i (from v (in_order r) ++ before v (in_order r)) =
-    ahead-filter (λ z. not (is_out need ready r v (round need r v) z)) j i (from v (in_order r) ++ before v (in_order r)) (not_from_false _ out_j) (not_from_false _ out_i) in
-    let turned : ahead j i (from v (in_order r) ++ before v (in_order r)) ≡ ahead j i (from v (in_order r)) + on (from v (in_order r)) j * on (before v (in_order r)) i + ahead j i (before v (in_order r)) =
+    let got_i : (later need ready r v).quanta i + 1 ≡ round need r v + on (keys_before v (in_order r)) i = quanta_stay need ready r v i l at_i out_i in
+    let got_j : (later need ready r v).quanta j + 1 ≡ round need r v + on (keys_before v (in_order r)) j = quanta_stay need ready r v j l at_j out_j in
+    let kept : ahead j i (later need ready r v).lists.old ≡ ahead j i (keys_from v (in_order r) ++ keys_before v (in_order r)) =
+    ahead-filter (λ z. not (is_out need ready r v (round need r v) z)) j i (keys_from v (in_order r) ++ keys_before v (in_order r)) (not_from_false _ out_j) (not_from_false _ out_i) in
+    let turned : ahead j i (keys_from v (in_order r) ++ keys_before v (in_order r)) ≡ ahead j i (keys_from v (in_order r)) + on (keys_from v (in_order r)) j * on (keys_before v (in_order r)) i + ahead j i (keys_before v (in_order r)) =
     ahead-append j i _ _ in
-    let whole : ahead j i (in_order r) ≡ ahead j i (before v (in_order r)) + on (before v (in_order r)) j * on (from v (in_order r)) i + ahead j i (from v (in_order r)) =
-    ap (ahead j i) (sym (before_from v (in_order r))) ∙ ahead-append j i (before v (in_order r)) (from v (in_order r)) in
+    let whole : ahead j i (in_order r) ≡ ahead j i (keys_before v (in_order r)) + on (keys_before v (in_order r)) j * on (keys_from v (in_order r)) i + ahead j i (keys_from v (in_order r)) =
+    ap (ahead j i) (sym (before_from v (in_order r))) ∙ ahead-append j i (keys_before v (in_order r)) (keys_from v (in_order r)) in
     let new_i : on r.new i ≡ 0 = once_old r i (l.once i) at_i in
     let olds : ahead j i (in_order r) ≡ ahead j i r.old + on r.old j * on r.new i + ahead j i r.new = ahead-append j i r.old r.new in
     let none : on r.old j * on r.new i ≡ 0 = ap (λ (n : ℕ). on r.old j * n) new_i ∙ omega arith in
     let rest : ahead j i r.new ≡ 0 = ahead-none j i r.new new_i in
-    let both : on (before v (in_order r)) i + (ahead j i (before v (in_order r)) + on (before v (in_order r)) j * on (from v (in_order r)) i + ahead j i (from v (in_order r)))
-    ≡ on (before v (in_order r)) j + (ahead j i (from v (in_order r)) + on (from v (in_order r)) j * on (before v (in_order r)) i + ahead j i (before v (in_order r))) =
+    let both : on (keys_before v (in_order r)) i + (ahead j i (keys_before v (in_order r)) + on (keys_before v (in_order r)) j * on (keys_from v (in_order r)) i + ahead j i (keys_from v (in_order r)))
+    ≡ on (keys_before v (in_order r)) j + (ahead j i (keys_from v (in_order r)) + on (keys_from v (in_order r)) j * on (keys_before v (in_order r)) i + ahead j i (keys_before v (in_order r))) =
     bits _ _ _ _ _ _ (omega (arith, on-split v (in_order r) i, on-append r.old r.new i, l.once i)) (omega (arith, on-split v (in_order r) j, on-append r.old r.new j, l.once j)) in
     omega arith
 
@@ -252,12 +252,12 @@ stay_now : (need : ℕ → ℕ) (r : Rotation) (v i j : ℕ) → ((y : ℕ) → 
 stay_now need r v i j once at_i at_j _ _ =
     let given_i : (picked_now need r v).quanta i ≡ 0 = rw (on-hasnot _ _ (off i at_i)) refl in
     let given_j : (picked_now need r v).quanta j ≡ 0 = rw (on-hasnot _ _ (off j at_j)) refl in
-    let more : ahead j i (r.old ++ before v r.new) ≡ ahead j i r.old + on r.old j * on (before v r.new) i + ahead j i (before v r.new) = ahead-append j i _ _ in
-    let none : on r.old j * on (before v r.new) i ≡ 0 = ap (λ (n : ℕ). on r.old j * n) (off i at_i) ∙ omega arith in
-    let rest : ahead j i (before v r.new) ≡ 0 = ahead-none j i _ (off i at_i) in
+    let more : ahead j i (r.old ++ keys_before v r.new) ≡ ahead j i r.old + on r.old j * on (keys_before v r.new) i + ahead j i (keys_before v r.new) = ahead-append j i _ _ in
+    let none : on r.old j * on (keys_before v r.new) i ≡ 0 = ap (λ (n : ℕ). on r.old j * n) (off i at_i) ∙ omega arith in
+    let rest : ahead j i (keys_before v r.new) ≡ 0 = ahead-none j i _ (off i at_i) in
     omega arith
   where
-    off : (y : ℕ) → 0 < on r.old y → on (before v r.new) y ≡ 0
+    off : (y : ℕ) → 0 < on r.old y → on (keys_before v r.new) y ≡ 0
     off y stands = omega (arith, on-split v r.new y, once_old r y (once y) stands)
 
 positive_round : (need : ℕ → ℕ) (ready : ℕ → Bool) (r : Rotation) (v : ℕ) → ready v ≡ true → ((y : ℕ) → 0 < on r.new y → (ready y && (need y == 0)) ≡ false) → 0 < round need r v
@@ -304,27 +304,27 @@ pick_is P need ready r none now late = go (find (λ y. ready y && (need y == 0))
     go None (Some v) e k = rw k (late v (least-some (round need r) ready (in_order r) v k))
 
 now-on : (need : ℕ → ℕ) (r : Rotation) (v y : ℕ) → on (in_order (picked_now need r v).lists) y ≡ on (in_order r) y
-now-on need r v y = omega (arith, on-append (r.old ++ before v r.new) (from v r.new) y, on-append r.old (before v r.new) y, on-append r.old r.new y, on-split v r.new y)
+now-on need r v y = omega (arith, on-append (r.old ++ keys_before v r.new) (keys_from v r.new) y, on-append r.old (keys_before v r.new) y, on-append r.old r.new y, on-split v r.new y)
 
-later-on : (need : ℕ → ℕ) (ready : ℕ → Bool) (r : Rotation) (v round_won y : ℕ) → on (in_order (picked_later need ready r v round_won).lists) y ≡ on (filter (λ z. not (is_out need ready r v round_won z)) (from v (in_order r) ++ before v (in_order r))) y
+later-on : (need : ℕ → ℕ) (ready : ℕ → Bool) (r : Rotation) (v round_won y : ℕ) → on (in_order (picked_later need ready r v round_won).lists) y ≡ on (filter (λ z. not (is_out need ready r v round_won z)) (keys_from v (in_order r) ++ keys_before v (in_order r))) y
 later-on need ready r v round_won y = on-append _ [] y ∙ omega (arith, on-nil y)
 
-turned-on : (r : Rotation) (v y : ℕ) → on (from v (in_order r) ++ before v (in_order r)) y ≡ on (in_order r) y
-turned-on r v y = omega (arith, on-append (from v (in_order r)) (before v (in_order r)) y, on-split v (in_order r) y)
+turned-on : (r : Rotation) (v y : ℕ) → on (keys_from v (in_order r) ++ keys_before v (in_order r)) y ≡ on (in_order r) y
+turned-on r v y = omega (arith, on-append (keys_from v (in_order r)) (keys_before v (in_order r)) y, on-split v (in_order r) y)
 
 -- no key comes to the lists
 pub pick_on : (need : ℕ → ℕ) (ready : ℕ → Bool) (r : Rotation) (y : ℕ) → on (in_order (pick need ready r).lists) y ≤ on (in_order r) y
 pick_on need ready r y = pick_is (λ p. on (in_order p.lists) y ≤ on (in_order r) y) need ready r
     (λ _. omega (arith, on-nil y))
     (λ v _ _ _. omega (arith, now-on need r v y))
-    (λ v _. omega (arith, later-on need ready r v (round need r v) y, turned-on r v y, on-filter_le (λ z. not (is_out need ready r v (round need r v) z)) (from v (in_order r) ++ before v (in_order r)) y))
+    (λ v _. omega (arith, later-on need ready r v (round need r v) y, turned-on r v y, on-filter_le (λ z. not (is_out need ready r v (round need r v) z)) (keys_from v (in_order r) ++ keys_before v (in_order r)) y))
 
 -- and no ready key leaves them
 pub pick_keeps : (need : ℕ → ℕ) (ready : ℕ → Bool) (r : Rotation) (y : ℕ) → ready y ≡ true → on (in_order (pick need ready r).lists) y ≡ on (in_order r) y
 pick_keeps need ready r y is = pick_is (λ p. on (in_order p.lists) y ≡ on (in_order r) y) need ready r
     (λ none. on-nil y ∙ sym (none y is))
     (λ v _ _ _. now-on need r v y)
-    (λ v _. later-on need ready r v (round need r v) y ∙ on-filter (λ z. not (is_out need ready r v (round need r v) z)) (from v (in_order r) ++ before v (in_order r)) y (rw is refl) ∙ turned-on r v y)
+    (λ v _. later-on need ready r v (round need r v) y ∙ on-filter (λ z. not (is_out need ready r v (round need r v) z)) (keys_from v (in_order r) ++ keys_before v (in_order r)) y (rw is refl) ∙ turned-on r v y)
 
 if_most : (b : Bool) (m n : ℕ) → m ≤ n → (if b then m else 0) ≤ n
 if_most true m n h = h
@@ -336,10 +336,10 @@ if_else_most false m k n h i = i
 
 pub pick_need : (need : ℕ → ℕ) (ready : ℕ → Bool) (r : Rotation) (y : ℕ) → (pick need ready r).quanta y ≤ need y
 pick_need need ready r y = pick_is (λ p. p.quanta y ≤ need y) need ready r
-    (λ _. if_most (lists r y) (need y) (need y) (omega arith))
-    (λ v _ _ _. if_most (has (before v r.new) y) (min 1 (need y)) (need y) (omega arith))
-    (λ v _. if_else_most (y == v) (need y) (if lists r y then min (visits r v (round need r v) y) (need y) else 0) (need y) (omega arith)
-    (if_most (lists r y) (min (visits r v (round need r v) y) (need y)) (need y) (omega arith)))
+    (λ _. if_most (has_key r y) (need y) (need y) (omega arith))
+    (λ v _ _ _. if_most (has (keys_before v r.new) y) (min 1 (need y)) (need y) (omega arith))
+    (λ v _. if_else_most (y == v) (need y) (if has_key r y then min (visits r v (round need r v) y) (need y) else 0) (need y) (omega arith)
+    (if_most (has_key r y) (min (visits r v (round need r v) y) (need y)) (need y) (omega arith)))
 
 pub record IsWinner (need : ℕ → ℕ) (ready : ℕ → Bool) (r : Rotation) (p : Picked) (v : ℕ) : Type 0 where
   pub listed : 0 < on (in_order r) v

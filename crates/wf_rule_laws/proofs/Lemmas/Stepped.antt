@@ -1,7 +1,7 @@
 -- The recursion over a queue is the closed form.
 use Rattle.std.proofs.Common.{◌≡◌, ℕ, ◌∙◌, refl, sym, ap, true, false, List, [], ◌∷◌, if◌then◌else◌}
 use Rattle.std.specs.Prelude.{nat_lt}
-use Rattle.wf_rules.specs.Codel.{Item, Params, Codel, look_at, law, rise, dequeue, drops_dropping, state_dropping, drops_plain, state_plain, drops, state_after, dequeued_after}
+use Rattle.wf_rules.specs.Codel.{Item, Params, Codel, look_at, control_law, rise, dequeue, drops_dropping, state_dropping, drops_plain, state_plain, drops, state_after, dequeued_after}
 use Rattle.wf_rules.specs.CodelLoop.{dropping_first, giving, dequeue_dropping, dequeue_plain, stepped}
 use Rattle.wf_rule_laws.proofs.Lemmas.Drops.{dropped_once, seen, drops-bad, drops-early, drops-more, state-more, state-bad, state-early, state-none, drops-none}
 
@@ -14,7 +14,7 @@ module _ (p : Params) (now : ℕ) (c : Codel) (due : ℕ) (x : Item) (rest : Lis
   unfolding dequeue_dropping
   dropping-early good early = rw (good, early) refl
 
-  pub dropping-more : (seen p now c due x rest).ok ≡ true → nat_lt now due ≡ false → dequeue_dropping p now c due (x ∷ rest) ≡ dropping_first x (dequeue_dropping p now (dropped_once p now c due (seen p now c due x rest).first_above) (law p due (rise c.count)) rest)
+  pub dropping-more : (seen p now c due x rest).ok ≡ true → nat_lt now due ≡ false → dequeue_dropping p now c due (x ∷ rest) ≡ dropping_first x (dequeue_dropping p now (dropped_once p now c due (seen p now c due x rest).first_above) (control_law p due (rise c.count)) rest)
   unfolding dequeue_dropping
   dropping-more good late = rw (good, late) refl
 
@@ -30,7 +30,7 @@ pub same_dropping : (items : List Item) (p : Params) (now : ℕ) (c : Codel) (du
 same_dropping [] p now c due on = dropping-none p now c due ∙ sym (rw (drops-none p now c due, state-none p now c due) refl)
 same_dropping (x ∷ rest) p now c due on =
     let c' : Codel = dropped_once p now c due (seen p now c due x rest).first_above in
-    let due' : ℕ = law p due (rise c.count) in
+    let due' : ℕ = control_law p due (rise c.count) in
     elim (seen p now c due x rest).ok as (λ b. (seen p now c due x rest).ok ≡ b → dequeue_dropping p now c due (x ∷ rest) ≡ dequeued_after (x ∷ rest) (drops_dropping p now c due (x ∷ rest)) (state_dropping p now c due (x ∷ rest) (drops_dropping p now c due (x ∷ rest)))) [
       | false ↦ λ bad. dropping-bad p now c due x rest bad ∙ sym (rw (drops-bad p now c due x rest bad, state-bad p now c due x rest bad) refl)
       | true ↦ λ good. elim (nat_lt now due) as (λ b. nat_lt now due ≡ b → dequeue_dropping p now c due (x ∷ rest) ≡ dequeued_after (x ∷ rest) (drops_dropping p now c due (x ∷ rest)) (state_dropping p now c due (x ∷ rest) (drops_dropping p now c due (x ∷ rest)))) [

@@ -4,7 +4,7 @@ use Rattle.std.proofs.lemmas.Int.{ints}
 use Rattle.std.proofs.Math.Nat.{div-eq_of_lt, add-div_right, div_self}
 use Rattle.wf_rules.specs.Rotation.{Rotation, need_of, pick, no_keys}
 use Rattle.wf_rules.specs.Lists.{IsOnce}
-use Rattle.wf_rules.specs.Loop.{Empty, Wins, Again, paid, turn_at, picked, Meets, TurnLaw}
+use Rattle.wf_rules.specs.Loop.{Empty, Wins, Again, with_quantum_paid, turn_at, pick_by_deficits, Meets, TurnLaw}
 use Rattle.wf_rule_laws.proofs.Lemmas.Numbers.{on_bool, lt_yes, lt_no, eq_yes, eq_no}
 use Rattle.wf_rule_laws.proofs.Order.{eq_self}
 use Rattle.wf_rule_laws.proofs.OneTurn.{Agrees, one_for, new_gets, new_idle, new_wins, turn_out, turn_back, old_wins}
@@ -83,12 +83,12 @@ module _ (quantum : ℕ → ℕ) (deficit : ℕ → ℤ) (ready : ℕ → Bool) 
   need y = need_of (quantum y) (deficit y)
 
   abbrev need' : ℕ → ℕ
-  need' y = need_of (quantum y) (paid quantum deficit key y)
+  need' y = need_of (quantum y) (with_quantum_paid quantum deficit key y)
 
-  paid_other : (y : ℕ) → (key == y) ≡ false → paid quantum deficit key y ≡ deficit y
+  paid_other : (y : ℕ) → (key == y) ≡ false → with_quantum_paid quantum deficit key y ≡ deficit y
   paid_other y e = ap (λ (b : Bool). if b then deficit y +ℤ pos (quantum y) else deficit y) e
 
-  paid_own : (y : ℕ) → (key == y) ≡ true → paid quantum deficit key y ≡ deficit y +ℤ pos (quantum y)
+  paid_own : (y : ℕ) → (key == y) ≡ true → with_quantum_paid quantum deficit key y ≡ deficit y +ℤ pos (quantum y)
   paid_own y e = ap (λ (b : Bool). if b then deficit y +ℤ pos (quantum y) else deficit y) e
 
   pub others : (y : ℕ) → (key == y) ≡ false → need' y ≡ need y
@@ -97,33 +97,33 @@ module _ (quantum : ℕ → ℕ) (deficit : ℕ → ℤ) (ready : ℕ → Bool) 
   pub gets : int_le (deficit key) (pos 0) ≡ true → need key ≡ 1 + need' key
   gets h = need_below (quantum key) (deficit key) (some key) h ∙ ap (λ (d : ℤ). 1 + need_of (quantum key) d) (sym (paid_own key (eq_self key)))
 
-  pub after_paid : (r s : Rotation) → Agrees (pick need ready r) (pick need' ready s) (one_for key) → Meets quantum deficit ready r (Again s (paid quantum deficit key))
+  pub after_paid : (r s : Rotation) → Agrees (pick need ready r) (pick need' ready s) (one_for key) → Meets quantum deficit ready r (Again s (with_quantum_paid quantum deficit key))
   after_paid r s a = record {
     winner = a.winner;
     lists = a.lists;
     deficits = λ y. on_bool (key == y)
         (λ e.
         let more : (pick need ready r).quanta y ≡ (pick need' ready s).quanta y + 1 = a.quanta y ∙ ap (λ (b : Bool). (pick need' ready s).quanta y + (if b then 1 else 0)) e in
-        sum_own (deficit y) (paid quantum deficit key y) _ _ (quantum y) more (paid_own y e))
+        sum_own (deficit y) (with_quantum_paid quantum deficit key y) _ _ (quantum y) more (paid_own y e))
         (λ e.
         let same : (pick need ready r).quanta y ≡ (pick need' ready s).quanta y + 0 = a.quanta y ∙ ap (λ (b : Bool). (pick need' ready s).quanta y + (if b then 1 else 0)) e in
-        sum_other (deficit y) (paid quantum deficit key y) _ _ (quantum y) same (paid_other y e));
+        sum_other (deficit y) (with_quantum_paid quantum deficit key y) _ _ (quantum y) same (paid_other y e));
   }
 
 -- ---- a turn that pays nothing
 
 after_none : (quantum : ℕ → ℕ) (deficit : ℕ → ℤ) (ready : ℕ → Bool) (r s : Rotation) (extra : ℕ → ℕ) → ((y : ℕ) → extra y ≡ 0) →
-    Agrees (picked quantum deficit ready r) (picked quantum deficit ready s) extra → Meets quantum deficit ready r (Again s deficit)
+    Agrees (pick_by_deficits quantum deficit ready r) (pick_by_deficits quantum deficit ready s) extra → Meets quantum deficit ready r (Again s deficit)
 after_none quantum deficit ready r s extra none a = record {
   winner = a.winner;
   lists = a.lists;
-  deficits = λ y. ap (λ (n : ℕ). deficit y +ℤ pos (n * quantum y)) (a.quanta y ∙ ap (λ (n : ℕ). (picked quantum deficit ready s).quanta y + n) (none y) ∙ plus_none _);
+  deficits = λ y. ap (λ (n : ℕ). deficit y +ℤ pos (n * quantum y)) (a.quanta y ∙ ap (λ (n : ℕ). (pick_by_deficits quantum deficit ready s).quanta y + n) (none y) ∙ plus_none _);
 }
 
 -- ---- a turn that ends the loop
 
 at_win : (quantum : ℕ → ℕ) (deficit : ℕ → ℤ) (ready : ℕ → Bool) (r : Rotation) (key : ℕ) →
-    Agrees (picked quantum deficit ready r) (record { winner = Some key; lists = r; quanta = λ y. 0 }) (λ y. 0) → Meets quantum deficit ready r (Wins key)
+    Agrees (pick_by_deficits quantum deficit ready r) (record { winner = Some key; lists = r; quanta = λ y. 0 }) (λ y. 0) → Meets quantum deficit ready r (Wins key)
 at_win quantum deficit ready r key a = record {
   winner = a.winner;
   lists = a.lists;
@@ -146,7 +146,7 @@ none_if false = refl
 new_turn : (b c : Bool) (quantum : ℕ → ℕ) (deficit : ℕ → ℤ) (ready : ℕ → Bool) (key : ℕ) (keys old : List ℕ) → ((y : ℕ) → 1 ≤ quantum y) → IsOnce (old ++ key ∷ keys) →
     int_le (deficit key) (pos 0) ≡ b → ready key ≡ c →
     Meets quantum deficit ready (record { new = key ∷ keys; old = old })
-    (if b then Again (record { new = keys; old = old ++ key ∷ [] }) (paid quantum deficit key) else (if c then Wins key else Again (record { new = keys; old = old ++ key ∷ [] }) deficit))
+    (if b then Again (record { new = keys; old = old ++ key ∷ [] }) (with_quantum_paid quantum deficit key) else (if c then Wins key else Again (record { new = keys; old = old ++ key ∷ [] }) deficit))
 new_turn true c quantum deficit ready key keys old some once low is =
     after_paid quantum deficit ready key some _ _ (new_gets _ _ ready key keys old once (others quantum deficit ready key some) (gets quantum deficit ready key some low))
 new_turn false true quantum deficit ready key keys old some once high is =
@@ -157,7 +157,7 @@ new_turn false false quantum deficit ready key keys old some once high is =
 old_turn : (b c : Bool) (quantum : ℕ → ℕ) (deficit : ℕ → ℤ) (ready : ℕ → Bool) (key : ℕ) (keys : List ℕ) → ((y : ℕ) → 1 ≤ quantum y) → IsOnce (key ∷ (keys ++ [])) →
     int_le (deficit key) (pos 0) ≡ b → ready key ≡ c →
     Meets quantum deficit ready (record { new = []; old = key ∷ keys })
-    (if b then Again (record { new = []; old = keys ++ key ∷ [] }) (paid quantum deficit key) else (if c then Wins key else Again (record { new = []; old = keys }) deficit))
+    (if b then Again (record { new = []; old = keys ++ key ∷ [] }) (with_quantum_paid quantum deficit key) else (if c then Wins key else Again (record { new = []; old = keys }) deficit))
 old_turn true c quantum deficit ready key keys some once low is =
     after_paid quantum deficit ready key some _ _ (turn_back _ _ ready key keys once (others quantum deficit ready key some) (gets quantum deficit ready key some low))
 old_turn false true quantum deficit ready key keys some once high is =

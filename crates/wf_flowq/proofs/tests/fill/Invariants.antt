@@ -1,6 +1,6 @@
 -- At most as many frames as turns came in.
 use Rattle.std.proofs.Common.{◌≡◌, ◌+◌, ◌≤◌}
-use Rattle.wf_backlog.specs.Backlog.{held}
+use Rattle.wf_codel_queues.specs.Backlog.{held}
 use Rattle.wf_flowq.proofs.tests.fill.Given as goal
 
 abbrev pub invariant-loop-i : goal.invariant-loop-i

@@ -1,13 +1,13 @@
 use Rattle.std.proofs.Common.{refl, ap, ◌∙◌, Some}
 use Rattle.wf_frame.specs.declared.settings.Config.{Config}
 use Rattle.wf_world.specs.World.{Station, with_station}
-use Rattle.wf_world.specs.Step.{joined}
+use Rattle.wf_world.specs.Step.{join_outcome}
 use Rattle.wf_plain_parts.specs.Stations.{joined_station}
 use Rattle.wf_plain.proofs.Outcomes.{outcome}
 use Rattle.wf_plain.proofs.calls.join.Goals as goal
 
 pub returns : goal.returns
-unfolding joined
+unfolding join_outcome
 returns c =
     outcome _ _ _ _
     (c.in_ok-put_station.ensures

@@ -1,10 +1,10 @@
 use Rattle.std.proofs.Common.{refl}
-use Rattle.wf_world.specs.Step.{slept}
+use Rattle.wf_world.specs.Step.{sleep_outcome}
 use Rattle.wf_plain_world.proofs.Changes.{station_done}
 use Rattle.wf_plain.proofs.Outcomes.{outcome}
 use Rattle.wf_plain.proofs.calls.sleep.Goals as goal
 
 pub returns : goal.returns
-unfolding slept
+unfolding sleep_outcome
 returns c =
     outcome _ _ _ _ (station_done _ _ _ _ _ _ _ c.in_ok-take_station.ensures.station c.in_ok-take_station.ensures.world c.in_ok-put_station.ensures c.asleep-changed.ensures) refl

@@ -1,6 +1,6 @@
 use Rattle.std.proofs.Common.{◌≡◌, ◌≤◌, ◌+◌, None}
 use Rattle.std.specs.Prelude.{IsSome, option_map}
-use Rattle.wf_trace.specs.Lines.{most}
+use Rattle.wf_trace.specs.Lines.{longest_trace}
 use Rattle.wf_trace.specs.Cutting.{room}
 use Rattle.wf_replay.proofs.Replays.{Replaying}
 use Rattle.wf_replay.proofs.runner.replay_on.Given as goal
@@ -11,7 +11,7 @@ invariant-items g l = Replaying l.reader (record { world = option_map g.M.Runs.w
     × (IsSome l.reader.place → IsSome l.machine)
     × (g.S.Source.faults l.fn.source ≤ g.S.Source.faults l.source)
     × (g.K.Sink.faults l.fn.sink ≤ g.K.Sink.faults l.sink)
-    × (l.calls + room l.reader.cut.cutter ≤ most + 1)
+    × (l.calls + room l.reader.cut.cutter ≤ longest_trace + 1)
     × (l.reader.place ≡ None → l.calls ≡ 0)
 
 abbrev pub decreases-items : goal.decreases-items

@@ -1,6 +1,6 @@
 use Rattle.std.proofs.Common.{◌∙◌, sym, subst, ap}
 use Rattle.wf_bits.specs.Offsets.{IsOffsets, moved_down}
-use Rattle.wf_score.specs.Board.{moved_on}
+use Rattle.wf_score.specs.Board.{with_start_moved}
 use Rattle.wf_score.proofs.Boards.{moved_least, within_moved, same_board}
 use Rattle.wf_score.proofs.Score.move_on.Goals as goal
 
@@ -12,4 +12,4 @@ pub returns : goal.returns
 returns c =
     same_board c.self.inside.size _ _ _ _ c.plus-self-inside.ensures.number
     (c.shift.ensures.moved ∙ ap (λ k. moved_down k c.self.inside.bits) c.min.ensures ∙ moved_least c.self.inside.size c.args.places c.self.inside.bits c.self.invariant.1 c.self.invariant.2)
-    ∙ ap (moved_on c.args.places) c.self.view_is
+    ∙ ap (with_start_moved c.args.places) c.self.view_is

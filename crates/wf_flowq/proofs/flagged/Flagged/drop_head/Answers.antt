@@ -1,5 +1,5 @@
 use Rattle.std.proofs.Common.{◌<◌, length, sym, ap, refl, drop, subst, ◌∙◌}
-use Rattle.wf_backlog.specs.Backlog.{BacklogValue, frames_at}
+use Rattle.wf_codel_queues.specs.Backlog.{BacklogValue, frames_at}
 use Rattle.wf_flowq.proofs.Flags.{flags_after, flag_counted, changed_at, head_gone}
 use Rattle.wf_flowq.proofs.flagged.Flagged.drop_head.Goals as goal
 

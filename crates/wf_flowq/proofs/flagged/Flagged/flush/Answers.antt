@@ -1,5 +1,5 @@
 use Rattle.std.proofs.Common.{[], false, ap, refl}
-use Rattle.wf_backlog.specs.Backlog.{BacklogValue}
+use Rattle.wf_codel_queues.specs.Backlog.{BacklogValue}
 use Rattle.wf_flowq.proofs.Flags.{flags_after}
 use Rattle.wf_flowq.proofs.flagged.Flagged.flush.Goals as goal
 

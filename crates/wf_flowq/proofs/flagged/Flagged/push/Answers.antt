@@ -1,5 +1,5 @@
 use Rattle.std.proofs.Common.{◌++◌, ◌∷◌, [], true, sym, ap}
-use Rattle.wf_backlog.specs.Backlog.{BacklogValue, frames_at}
+use Rattle.wf_codel_queues.specs.Backlog.{BacklogValue, frames_at}
 use Rattle.wf_flowq.proofs.Flags.{flags_after, flag_pushed}
 use Rattle.wf_flowq.proofs.flagged.Flagged.push.Goals as goal
 

@@ -1,5 +1,5 @@
 use Rattle.std.proofs.Common.{◌<◌, length, sym, ap, drop, suc, subst, ◌∙◌}
-use Rattle.wf_backlog.specs.Backlog.{BacklogValue, frames_at, drops_at}
+use Rattle.wf_codel_queues.specs.Backlog.{BacklogValue, frames_at, drops_at}
 use Rattle.wf_flowq.proofs.Flags.{flags_after, flag_counted, changed_at}
 use Rattle.wf_codel.specs.Params.{params_of}
 use Rattle.wf_flowq.proofs.flagged.Flagged.take.Goals as goal

@@ -1,5 +1,5 @@
 use Rattle.std.proofs.Common.{◌≡◌, ◌*◌, ◌∙◌, ap, ℕ, replicate}
-use Rattle.wf_backlog.specs.Backlog.{held}
+use Rattle.wf_codel_queues.specs.Backlog.{held}
 use Rattle.wf_flowq.proofs.Fresh.{kept_new, held_fresh}
 use Rattle.wf_flowq.proofs.flows.Flows.new.Goals as goal
 

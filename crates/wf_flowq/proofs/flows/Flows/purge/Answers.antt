@@ -1,5 +1,5 @@
 use Rattle.std.proofs.Common.{◌≡◌, ◌<◌, ◌∙◌, refl, ap, arith}
-use Rattle.wf_flowq.specs.Flows.{FlowsValue, tid_number, tids, queues, settings, purged}
+use Rattle.wf_flowq.specs.Flows.{FlowsValue, tid_number, tids, queues, settings, after_purge}
 use Rattle.wf_flowq.specs.Kept.{without_queue}
 use Rattle.wf_flowq.proofs.Purges.{purged-first, purged-next, purged_last, tids_below, queues_below, kept_apart, kept_low}
 use Rattle.wf_flowq.proofs.Settings.{settings_purged}
@@ -30,7 +30,7 @@ returns-clause-purged c =
     let list : c.number_of-list.result < tids c.args.self.now = omega (arith, c.number_of-list.ensures) in
     let end : c.loop-q.q ≡ queues c.args.self.now = omega (arith, ap (λ (w : FlowsValue). queues w) c.self.view_is) in
     c.loop-q.invariant.purged ∙ purged_last c.args.self.now c.number_of-list.result (kept_apart _ _ _ c.self.view_is c.self.invariant) (kept_low _ _ _ _ c.self.view_is c.self.invariant list) c.loop-q.q end
-    ∙ ap (purged c.args.self.now) c.number_of-list.ensures
+    ∙ ap (after_purge c.args.self.now) c.number_of-list.ensures
 
 pub returns-clause-settings : goal.returns-clause-settings
 returns-clause-settings c = ap settings (returns-clause-purged c) ∙ settings_purged c.args.self.now (tid_number c.args.station c.args.tid)

@@ -1,6 +1,6 @@
 -- The queues below q have left.
 use Rattle.std.proofs.Common.{◌≡◌}
-use Rattle.wf_backlog.specs.Backlog.{held}
+use Rattle.wf_codel_queues.specs.Backlog.{held}
 use Rattle.wf_flowq.specs.Kept.{purged_below}
 use Rattle.wf_flowq.proofs.flows.Flows.purge.Given as goal
 

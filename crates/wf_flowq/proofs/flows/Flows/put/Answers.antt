@@ -1,6 +1,6 @@
 use Rattle.std.proofs.Common.{◌≡◌, ◌∙◌, ap, arith}
 use Rattle.wf_frame.specs.Frames.{FrameValue}
-use Rattle.wf_flowq.specs.Flows.{tid_number, queue_for, put, settings}
+use Rattle.wf_flowq.specs.Flows.{tid_number, queue_for, after_put, settings}
 use Rattle.wf_flowq.proofs.Whole.{put_parts}
 use Rattle.wf_flowq.proofs.Settings.{settings_put}
 use Rattle.wf_flowq.proofs.flows.Flows.put.Goals as goal
@@ -13,7 +13,7 @@ returns-clause-put c =
     let number : c.number_of-list.result ≡ tid_number c.args.parcel.station c.args.parcel.tid = omega (arith, c.number_of-list.ensures, c.station.ensures, c.tid.ensures, station, tid) in
     let queue = c.queue_for-q.ensures.queue ∙ ap (queue_for c.make_room-dropped.new.self c.number_of-list.result) flow in
     put_parts c.args.self.now c.make_room-dropped.new.self c.list_queue.new.self c.append.new.self c.number_of-list.result c.queue_for-q.result c.args.parcel c.make_room-dropped.ensures.within queue c.list_queue.ensures.listed c.append.ensures.appended
-    ∙ ap (λ n. put c.args.self.now n c.args.parcel) number
+    ∙ ap (λ n. after_put c.args.self.now n c.args.parcel) number
 
 pub returns-clause-settings : goal.returns-clause-settings
 returns-clause-settings c = ap settings (returns-clause-put c) ∙ settings_put c.args.self.now (tid_number c.args.parcel.station c.args.parcel.tid) c.args.parcel

@@ -1,13 +1,13 @@
 use Rattle.std.proofs.Common.{◌∙◌, sym, ap}
 use Rattle.wf_codel.specs.Params.{params_of}
-use Rattle.wf_flowq.specs.Flows.{tid_number, settings, take}
+use Rattle.wf_flowq.specs.Flows.{tid_number, settings, taken_for_tid}
 use Rattle.wf_flowq.proofs.Whole.{take_parts, gives_as, gives_flows}
 use Rattle.wf_flowq.proofs.Settings.{settings_take}
 use Rattle.wf_flowq.proofs.flows.Flows.take.Goals as goal
 
 pub returns-clause-taken : goal.returns-clause-taken
 returns-clause-taken c =
-    let whole = take_parts c.args.self.now c.pick.new.self c.number_of-list.result c.in_ok-q.q c.args.now (params_of c.args.params) c.pick.ensures.picked (sym c.in_ok-q.was ∙ c.pick.ensures.winner) ∙ ap (λ n. take c.args.self.now n c.args.now (params_of c.args.params)) c.number_of-list.ensures in
+    let whole = take_parts c.args.self.now c.pick.new.self c.number_of-list.result c.in_ok-q.q c.args.now (params_of c.args.params) c.pick.ensures.picked (sym c.in_ok-q.was ∙ c.pick.ensures.winner) ∙ ap (λ n. taken_for_tid c.args.self.now n c.args.now (params_of c.args.params)) c.number_of-list.ensures in
     gives_as c.take_from.result c.take_from.new.self _ _ whole c.take_from.ensures.taken
 
 pub returns-clause-settings : goal.returns-clause-settings

@@ -1,5 +1,5 @@
 use Rattle.std.proofs.Common.{rules, ◌∙◌, ◌+◌, ◌-◌, ap, sym}
-use Rattle.wf_live.specs.Soak.{Soak, reaped, is_nothing}
+use Rattle.wf_live.specs.Soak.{Soak, after_reaps, is_nothing}
 use Rattle.wf_live.proofs.SoakLemmas.{reaps_on, reaps_end, reaps_over}
 use Rattle.wf_live.proofs.soaks.SoakRun.all_reaped.Goals as goal
 
@@ -12,7 +12,7 @@ loop-preserved c = (
   search rules,
   ap (λ (k : Soak). k.left) c.soak.view_is,
   (search rules, search rules),
-  ap (λ (k : Soak). reaped (c.args.self.left - (c.loop.counter + 1)) k) c.in_ok-next.ensures.made
+  ap (λ (k : Soak). after_reaps (c.args.self.left - (c.loop.counter + 1)) k) c.in_ok-next.ensures.made
       ∙ reaps_on c.loop.counter c.args.self.left c.loop.soak (search rules) (sym (ap is_nothing c.in_ok-next.ensures.reply) ∙ sym c.is_nothing.ensures ∙ c.if-is_nothing.false) ∙ c.loop.invariant.3,
 )
 

@@ -1,5 +1,5 @@
 use Rattle.std.proofs.Common.{rules, ◌∙◌, ℕ, ◌+◌, ◌-◌, ◌||◌, Bool, ap, sym}
-use Rattle.wf_live.specs.Soak.{Soak, all_sent, some_arrive, arrives}
+use Rattle.wf_live.specs.Soak.{Soak, all_sent, some_arrive, lets_arrive}
 use Rattle.wf_live.proofs.SoakLemmas.{sent_on, sent_over, arrive_on, arrive_over, or_either, or_false}
 use Rattle.wf_live.proofs.soaks.SoakRun.all_sent.Goals as goal
 
@@ -15,7 +15,7 @@ loop-index-preserved c =
       or_either c.loop-index.some c.in_ok-next.arrived (some_arrive e (i + 1) rest c.in_ok-next.next)
           ∙ ap (λ (b : Bool). c.loop-index.some || b)
           (ap (λ (b : Bool). others b c.in_ok-next.next) c.in_ok-next.ensures.arrived
-          ∙ ap (λ (k : Soak). others (arrives c.loop-index.soak) k) c.in_ok-next.ensures.made
+          ∙ ap (λ (k : Soak). others (lets_arrive c.loop-index.soak) k) c.in_ok-next.ensures.made
           ∙ arrive_on e i c.args.count c.loop-index.soak (search rules))
           ∙ c.loop-index.invariant.3,
     )

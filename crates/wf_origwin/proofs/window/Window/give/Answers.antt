@@ -1,5 +1,5 @@
 use Rattle.std.proofs.Common.{◌<◌, ap, sym, subst, arith, length}
-use Rattle.wf_rules.specs.Session.{give}
+use Rattle.wf_rules.specs.Session.{with_number_given}
 use Rattle.wf_origwin.specs.Ring.{RingValue}
 use Rattle.wf_origwin.specs.Window.{WindowValue, StandsFor}
 use Rattle.wf_origwin.proofs.Calls.{give_law, room_of}
@@ -14,7 +14,7 @@ returns-clause-given c s bodies stands same =
     let here : StandsFor (shown q.size q.start q.due q.ring) s bodies = subst P (sym c.self.view_is) stands in
     let room_is = room_of c.args.self.now (sym c.if-not-can_give.ensures.shown) in
     let room : length q.ring.items < q.size = omega (arith, room_is, ap (λ (w : WindowValue). length w.places) c.self.view_is, ap (λ (w : WindowValue). w.size) c.self.view_is) in
-    let Q : RingValue → Type 0 = λ r. StandsFor (shown q.size q.start q.due r) (give s c.args.parcel.id) bodies in (
+    let Q : RingValue → Type 0 = λ r. StandsFor (shown q.size q.start q.due r) (with_number_given s c.args.parcel.id) bodies in (
       omega (arith, c.plus-seq.ensures.number, c.len.ensures.number, here.start, places_length _ s bodies here),
       subst Q (sym c.push_back.ensures) (give_law (shown q.size q.start q.due q.ring) s bodies here c.args.parcel.id c.args.parcel same room),
     )

@@ -1,7 +1,7 @@
 use Rattle.std.proofs.Common.{◌≡◌, ◌∙◌, ap, subst, ℕ, set, get_or, pos}
 use Rattle.std.specs.Prelude.{◌-ℤ◌}
 use Rattle.wf_rota.specs.Rotas.{Rotas}
-use Rattle.wf_sched.specs.Turns.{SchedValue, with_deficit, deficit}
+use Rattle.wf_sched.specs.ClassRotas.{SchedValue, with_deficit, deficit}
 use Rattle.wf_sched.proofs.Views.{view_of, charged}
 use Rattle.wf_sched.proofs.sched.Sched.charge.Goals as goal
 

@@ -1,5 +1,5 @@
 use Rattle.std.proofs.Common.{subst}
-use Rattle.wf_sched.specs.Turns.{IsSized}
+use Rattle.wf_sched.specs.ClassRotas.{IsSized}
 use Rattle.wf_sched.proofs.Views.{sized}
 use Rattle.wf_sched.proofs.sched.Sched.deficit.Goals as goal
 

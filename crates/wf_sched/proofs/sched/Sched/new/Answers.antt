@@ -1,5 +1,5 @@
 use Rattle.std.proofs.Common.{refl, arith}
-use Rattle.wf_sched.specs.Turns.{IsOfStations}
+use Rattle.wf_sched.specs.ClassRotas.{IsOfStations}
 use Rattle.wf_sched.proofs.Views.{opened, four_of}
 use Rattle.wf_sched.proofs.sched.Sched.new.Goals as goal
 

@@ -1,0 +1,168 @@
+//! The flow queues of the code stand for those of the machine's world.
+//!
+//! The code (`wf_flowq`) has its queues, CoDel states, deficits and rotations as lists of a fixed length, with the frames
+//! themselves in the queues. The machine (`wf_world`) has tables that grow, by "Ending the Anomaly" (USENIX ATC 2017),
+//! section 3.1. Where the two stand for each other before a call, they do after it, and what the code answers is what the
+//! machine does. Each law here is a function without a body that names it in its contract.
+#![tactic(auto)]
+
+ghost use Rattle.std.specs.Prelude.{◌≡◌, ℕ, ◌+◌, ◌<◌, ◌≤◌, true, false, List, [], ◌∷◌, ◌++◌, Option, None, length, option_map};
+ghost use Rattle.wf_frame.specs.Settings.{IsInRange};
+ghost use Rattle.wf_frame.specs.Classes.{all_classes};
+ghost use Rattle.wf_frame.specs.Frames.{FrameValue};
+ghost use Rattle.wf_frame.specs.declared.settings.Config.{Config};
+ghost use Rattle.wf_frame.specs.declared.classes.Class.{Class};
+ghost use Rattle.wf_frame.specs.declared.classes.Cause.TheVariants.{Left};
+ghost use Rattle.wf_frame.specs.declared.classes.Fate.{Fate};
+ghost use Rattle.wf_frame.specs.declared.classes.Fate.TheVariants.{Dropped};
+ghost use Rattle.wf_frame.specs.declared.notes.ReplyNote.TheVariants.{Accepted as AcceptedReply, Reaped as ReapedReply};
+ghost use Rattle.wf_rules.specs.Codel.{Params};
+ghost use Rattle.wf_rules.specs.Rotation.{Rotation, no_keys, in_order};
+ghost use Rattle.wf_rules.specs.Session.{Session};
+ghost use Rattle.wf_rules.specs.Receiver.{Receiver};
+ghost use Rattle.wf_world.specs.World.{World, Station, Share, Exchange, opening, is_live, session, tid_of, accepted_count, codel_params as codel_params, with_station, on_station, on_session, on_receiver, on_share, with_queues, with_rotation, with_exchange, without_exchange, with_frame_finished, with_frames_finished};
+ghost use Rattle.wf_world.specs.FlowQueues.{total_queued, after_queues_left};
+ghost use Rattle.wf_world.specs.FlowQueues.{frames_queued as world_queued, longest_queue as world_longest, dropped_for_limit as world_dropped, is_listed_elsewhere as world_listed_elsewhere, queue_for as world_queue_for, taken_for_tid as world_take};
+ghost use Rattle.wf_world.specs.CanSend.{with_listings_of};
+ghost use Rattle.wf_world.specs.Exchanges.{after_pick, after_tid_turn};
+ghost use Rattle.wf_world.specs.Step.{waiting_ids, in_rising_order, join_outcome, after_tid_left, without_listings, enqueue_outcome, reap_outcome};
+ghost use Rattle.wf_rules.specs.Lists.{on};
+ghost use Rattle.wf_codel_queues.specs.Backlog.{in_queues, item_of};
+ghost use Rattle.wf_flowq.specs.Flows.{FlowsValue, empty_flows, tid_number, rotation, frames_queued, longest_queue, dropped_for_limit, is_listed_elsewhere, queue_for, after_put, taken_for_tid, after_purge};
+ghost use Rattle.wf_flowq_refines.specs.Standing.{part, ids_given, times_held, with_finished, StandsFor};
+ghost use Rattle.wf_flowq_refines.specs.Rest.{rest};
+
+/// At the start, with the same settings.
+pub fn the_flow_queues_open()
+    ensures { (c : Config) → IsInRange c → StandsFor (empty_flows c) (opening c) }
+{}
+
+/// What is read of the flow queues is what is read of the world: how many frames a TID has in queues and how many there
+/// are in all, the longest queue and whose head is dropped for the limit, who lists a queue, and which queue a frame of a
+/// flow goes to.
+pub fn the_readers_agree()
+    ensures queued { (v : FlowsValue) (w : World) (s t : ℕ) → StandsFor v w → s < v.stations → t < 8 → frames_queued v (tid_number s t) ≡ world_queued w s t }
+    ensures total { (v : FlowsValue) (w : World) → StandsFor v w → in_queues v.backlog ≡ total_queued w }
+    ensures longest { (v : FlowsValue) (w : World) → StandsFor v w → longest_queue v.backlog ≡ world_longest w }
+    ensures dropped { (v : FlowsValue) (w : World) → StandsFor v w → dropped_for_limit v ≡ world_dropped w }
+    ensures elsewhere { (v : FlowsValue) (w : World) (s t q : ℕ) → StandsFor v w → s < v.stations → t < 8 →
+        is_listed_elsewhere v (tid_number s t) q ≡ world_listed_elsewhere w s t q }
+    ensures queue_for { (v : FlowsValue) (w : World) (s t flow : ℕ) → StandsFor v w → s < v.stations → t < 8 →
+        queue_for v (tid_number s t) flow ≡ world_queue_for w s t flow }
+{}
+
+/// A frame with the next id, stamped by the clock, is put in where the machine accepts it, and the answer names the frame
+/// that the code drops for the limit.
+pub fn a_frame_is_put_in()
+    ensures stands { (v : FlowsValue) (w : World) (s t : ℕ) (f : FrameValue) → StandsFor v w → is_live w s ≡ true → s < w.config.stations → t < 8 →
+        f.id ≡ accepted_count w → f.stamp ≡ w.clock → StandsFor (after_put v (tid_number s t) f) (enqueue_outcome w s t f.flow (length f.body)).world }
+    ensures answer { (v : FlowsValue) (w : World) (s t : ℕ) (f : FrameValue) → StandsFor v w → f.id ≡ accepted_count w →
+        (enqueue_outcome w s t f.flow (length f.body)).reply ≡ AcceptedReply f.id (dropped_for_limit v) }
+{}
+
+/// A TID takes a frame out, by the world's clock and its station's CoDel parameters: the frame is the machine's item.
+pub fn a_frame_is_taken_out()
+    ensures stands { (v : FlowsValue) (w : World) (s t : ℕ) → StandsFor v w → is_live w s ≡ true → s < w.config.stations → t < 8 →
+        StandsFor (taken_for_tid v (tid_number s t) w.clock (codel_params w s)).flows (world_take w s t).world }
+    ensures frame { (v : FlowsValue) (w : World) (s t : ℕ) → StandsFor v w → is_live w s ≡ true → s < w.config.stations → t < 8 →
+        (world_take w s t).item ≡ option_map item_of (taken_for_tid v (tid_number s t) w.clock (codel_params w s)).frame }
+{}
+
+/// An accepted frame that is in no queue and not finished goes last on the finished list, with its fate. Many frames are
+/// finished one after another.
+pub fn a_frame_is_finished()
+    ensures stands { (v : FlowsValue) (w : World) (f : FrameValue) → StandsFor v w → f.id < accepted_count w → times_held v.backlog f.id ≡ 0 →
+        StandsFor (with_finished v (v.backlog.finished ++ f ∷ [])) (with_frame_finished w f.fate f.id) }
+    ensures one_more { (w : World) (fate : Fate) (ids : List ℕ) (id : ℕ) →
+        with_frames_finished w fate (ids ++ id ∷ []) ≡ with_frame_finished (with_frames_finished w fate ids) fate id }
+{}
+
+/// The first finished frame is reaped, with the fate that the machine answers. Neither has one where the other has none.
+pub fn a_frame_is_reaped()
+    ensures stands { (v : FlowsValue) (w : World) (f : FrameValue) (behind : List FrameValue) → StandsFor v w → v.backlog.finished ≡ f ∷ behind →
+        StandsFor (with_finished v behind) (reap_outcome w w.finished).world }
+    ensures answer { (v : FlowsValue) (w : World) (f : FrameValue) (behind : List FrameValue) → StandsFor v w → v.backlog.finished ≡ f ∷ behind →
+        (reap_outcome w w.finished).reply ≡ ReapedReply f.id f.fate }
+    ensures none { (v : FlowsValue) (w : World) → StandsFor v w → v.backlog.finished ≡ [] → w.finished ≡ [] }
+{}
+
+/// The queued frames of a TID are dropped as its station leaves, by queue number. With the frames of its numbers finished
+/// before, this is the machine's leave of the TID.
+pub fn a_tid_is_purged()
+    ensures stands { (v : FlowsValue) (w : World) (s t : ℕ) → StandsFor v w → is_live w s ≡ true → s < w.config.stations → t < 8 →
+        StandsFor (after_purge v (tid_number s t)) (with_queues (after_queues_left w (in_rising_order (in_order (tid_of w s t).queues))) s t no_keys) }
+    ensures left { (v : FlowsValue) (w : World) (s t : ℕ) → StandsFor v (with_frames_finished w (Dropped Left) (waiting_ids (session w s t).slots)) →
+        is_live w s ≡ true → s < w.config.stations → t < 8 → StandsFor (after_purge v (tid_number s t)) (after_tid_left w s t) }
+    ensures empty { (v : FlowsValue) (w : World) (s t : ℕ) → StandsFor v w → s < v.stations → t < 8 →
+        rotation (after_purge v (tid_number s t)) (tid_number s t) ≡ no_keys }
+    ensures others { (v : FlowsValue) (i j : ℕ) → (j ≡ i → ⊥) → rotation (after_purge v i) j ≡ rotation v j }
+{}
+
+/// Which frames are queued or finished. Each was accepted and is there once, and the next id is not there yet. A frame that
+/// is put in or finished is there once more, one that is given out once less, and all others are as before: a drop and a
+/// purge only move frames from the queues to the finished list.
+pub fn each_frame_is_held_once()
+    ensures once { (v : FlowsValue) (w : World) (id : ℕ) → StandsFor v w → times_held v.backlog id ≤ 1 }
+    ensures accepted { (v : FlowsValue) (w : World) (id : ℕ) → StandsFor v w → 0 < times_held v.backlog id → id < accepted_count w }
+    ensures next { (v : FlowsValue) (w : World) → StandsFor v w → times_held v.backlog (accepted_count w) ≡ 0 }
+    ensures put { (v : FlowsValue) (w : World) (id s t : ℕ) (f : FrameValue) → StandsFor v w → s < v.stations → t < 8 →
+        times_held (after_put v (tid_number s t) f).backlog id ≡ times_held v.backlog id + on (f.id ∷ []) id }
+    ensures take { (v : FlowsValue) (w : World) (id i now : ℕ) (params : Params) → StandsFor v w →
+        times_held (taken_for_tid v i now params).flows.backlog id + on (ids_given (taken_for_tid v i now params).frame) id ≡ times_held v.backlog id }
+    ensures finish { (v : FlowsValue) (id : ℕ) (f : FrameValue) →
+        times_held (with_finished v (v.backlog.finished ++ f ∷ [])).backlog id ≡ times_held v.backlog id + on (f.id ∷ []) id }
+    ensures reap { (v : FlowsValue) (id : ℕ) (f : FrameValue) (behind : List FrameValue) → v.backlog.finished ≡ f ∷ behind →
+        times_held (with_finished v behind).backlog id + on (f.id ∷ []) id ≡ times_held v.backlog id }
+    ensures purge { (v : FlowsValue) (w : World) (id i : ℕ) → StandsFor v w → times_held (after_purge v i).backlog id ≡ times_held v.backlog id }
+{}
+
+/// How many frames the world has accepted: one more where one is put in, and as many as before where one is taken out or
+/// finished, or a TID's are dropped.
+pub fn accepted_frames_stay()
+    ensures put { (v : FlowsValue) (w : World) (s t flow len : ℕ) → StandsFor v w → accepted_count (enqueue_outcome w s t flow len).world ≡ accepted_count w + 1 }
+    ensures take { (v : FlowsValue) (w : World) (s t : ℕ) → StandsFor v w → is_live w s ≡ true → s < w.config.stations → t < 8 →
+        accepted_count (world_take w s t).world ≡ accepted_count w }
+    ensures finish { (w : World) (fate : Fate) (id : ℕ) → id < accepted_count w → accepted_count (with_frame_finished w fate id) ≡ accepted_count w }
+    ensures left { (v : FlowsValue) (w : World) (s t : ℕ) → StandsFor v (with_frames_finished w (Dropped Left) (waiting_ids (session w s t).slots)) →
+        s < v.stations → t < 8 → accepted_count (after_tid_left w s t) ≡ accepted_count (with_frames_finished w (Dropped Left) (waiting_ids (session w s t).slots)) }
+{}
+
+/// A station that was not live joins, and one whose TIDs list no queue goes.
+pub fn stations_come_and_go()
+    ensures joins { (v : FlowsValue) (w : World) (s window start exponent weight : ℕ) → is_live w s ≡ false → StandsFor v w →
+        StandsFor v (join_outcome w s window start exponent weight).world }
+    ensures goes { (v : FlowsValue) (w : World) (s : ℕ) → StandsFor v w → ((t : ℕ) → t < 8 → rotation v (tid_number s t) ≡ no_keys) →
+        StandsFor v (with_station (without_listings w s all_classes) s None) }
+{}
+
+/// The flow queues stand for a part of the world, and for every world with the same part. No change of the clock, of a
+/// station's rate, sleep, credit or shares, of a session or a receiver, of the stations' rotations or of the open exchanges
+/// changes that part.
+pub fn the_rest_does_not_matter()
+    ensures same { (v : FlowsValue) (w x : World) → part x ≡ part w → StandsFor v w → StandsFor v x }
+    ensures clock { (w : World) (now : ℕ) → part (record w { clock = now }) ≡ part w }
+    ensures station { (w : World) (s : ℕ) (f : Station → Station) → ((x : Station) → (f x).tids ≡ x.tids) → part (on_station w s f) ≡ part w }
+    ensures share { (w : World) (s : ℕ) (c : Class) (f : Share → Share) → part (on_share w s c f) ≡ part w }
+    ensures session { (w : World) (s t : ℕ) (f : Session → Session) → part (on_session w s t f) ≡ part w }
+    ensures receiver { (w : World) (s t : ℕ) (f : Receiver → Receiver) → part (on_receiver w s t f) ≡ part w }
+    ensures rotation { (w : World) (c : Class) (r : Rotation) → part (with_rotation w c r) ≡ part w }
+    ensures exchange { (w : World) (x : Exchange) → part (with_exchange w x) ≡ part w }
+    ensures closed { (w : World) (e : ℕ) → part (without_exchange w e) ≡ part w }
+    ensures opened { (w : World) (count : ℕ) (opened : List Exchange) → part (record w { exchanges = count; opened = opened }) ≡ part w }
+    ensures pick { (w : World) (c : Class) → part (after_pick w c) ≡ part w }
+    ensures turn { (w : World) (s : ℕ) (c : Class) (t : ℕ) → part (after_tid_turn w s c t) ≡ part w }
+    ensures listed { (w : World) (o : Option ℕ) → part (with_listings_of w o) ≡ part w }
+{}
+
+/// The calls of the flow queues change nothing else of the world: neither its clock, nor the stations, nor their sessions,
+/// receivers and rotations, nor the open exchanges. So a station is live as before, with the same CoDel parameters.
+pub fn nothing_else_changes()
+    ensures put { (w : World) (s t flow len : ℕ) → rest (enqueue_outcome w s t flow len).world ≡ rest w }
+    ensures take { (w : World) (s t : ℕ) → rest (world_take w s t).world ≡ rest w }
+    ensures finish { (w : World) (fate : Fate) (id : ℕ) → rest (with_frame_finished w fate id) ≡ rest w }
+    ensures finish_all { (w : World) (fate : Fate) (ids : List ℕ) → rest (with_frames_finished w fate ids) ≡ rest w }
+    ensures reap { (w : World) → rest (reap_outcome w w.finished).world ≡ rest w }
+    ensures left { (w : World) (s t : ℕ) → rest (after_tid_left w s t) ≡ rest w }
+    ensures live { (w x : World) (s : ℕ) → rest x ≡ rest w → is_live x s ≡ is_live w s }
+    ensures params { (w x : World) (s : ℕ) → rest x ≡ rest w → codel_params x s ≡ codel_params w s }
+{}
