@@ -4,11 +4,10 @@
 mod commands;
 mod plain;
 mod runner;
-mod status;
 mod words;
 
 pub use commands::{replay, run, soaked};
-pub use status::Status;
+pub use wf_status::Status;
 pub use words::Command;
 
 #[cfg(test)]

@@ -43,6 +43,8 @@ pub enum Arg {
     Guard,
     /// `heard` or `lost`.
     Heard,
+    /// `a` or `b`: the ends of an agreement, the originator and the recipient.
+    End,
 }
 
 /// What the word of an argument says.

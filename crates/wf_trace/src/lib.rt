@@ -15,6 +15,8 @@ mod scanner;
 mod settings;
 mod words;
 
+pub use args::read_all;
+pub use call::{Arg, Vocabulary};
 pub use cut::{Cut, Piece};
 pub use fault::{Fault, FaultKind, first_of, print_fault};
 pub use print::print_note;
