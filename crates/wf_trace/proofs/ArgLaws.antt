@@ -12,7 +12,7 @@ use Rattle.wf_rules.specs.Lengths.{greatest_body}
 use Rattle.wf_trace.specs.Faults.{earlier_fault, first_fault}
 use Rattle.wf_trace.specs.Words.{number_of, in_range}
 use Rattle.wf_trace.specs.Grammar.{both, seen, read_args, args_of}
-use Rattle.wf_trace.specs.Notes.{short_in, short_at}
+use Rattle.wf_trace.specs.Notes.{short_in, short_at, long_in}
 
 -- what is read, behind values and faults
 abbrev pub behind : Option FaultKind → List Value → Result (List Value) FaultKind → Result (List Value) FaultKind
@@ -67,7 +67,8 @@ pub in_range_ok : (low high : ℕ) (read : Option ℕ) (value : ℕ) → in_rang
 in_range_ok low high None value is = absurd (cc)
 in_range_ok low high (Some n) value is = grind (arith, nat_tests)
 
-both_ok : (one : Result Value FaultKind) (others : Result (List Value) FaultKind) (values : List Value) → both one others ≡ Ok values →
+-- values that were read, one by one
+pub both_ok : (one : Result Value FaultKind) (others : Result (List Value) FaultKind) (values : List Value) → both one others ≡ Ok values →
     (value : Value) × (more : List Value) × (one ≡ Ok value) × (others ≡ Ok more) × (values ≡ value ∷ more)
 both_ok (Ok value) (Ok more) values is = (value, more, refl, refl, cc)
 both_ok (Ok value) (Err fault) values is = absurd (cc)
@@ -85,6 +86,17 @@ length_ok read v is = by_read (in_range 1 greatest_body read) refl is
     by_read (Ok n) was is =
         let same : v ≡ value.Short n = cc in
         rw same (in_range_ok 1 greatest_body read n was)
+    by_read (Err fault) was is = absurd (cc)
+
+-- a number that was read as an argument lies in its range
+pub number_ok : (low high : ℕ) (read : Option ℕ) (v : Value) → seen value.Long (in_range low high read) ≡ Ok v →
+    (low ≤ long_in (Some v)) × (long_in (Some v) ≤ high)
+number_ok low high read v is = by_read (in_range low high read) refl is
+  where
+    by_read : (r : Result ℕ FaultKind) → in_range low high read ≡ r → seen value.Long r ≡ Ok v → (low ≤ long_in (Some v)) × (long_in (Some v) ≤ high)
+    by_read (Ok n) was is =
+        let same : v ≡ value.Long n = cc in
+        rw same (in_range_ok low high read n was)
     by_read (Err fault) was is = absurd (cc)
 
 fourth_ok : (a b c d : Value) (values more_a bs cs ds : List Value) → values ≡ a ∷ more_a → more_a ≡ b ∷ bs → bs ≡ c ∷ cs → cs ≡ d ∷ ds →

@@ -6,7 +6,7 @@ use Rattle.wf_trace.specs.declared.fault.FaultKind.TheVariants as kind
 use Rattle.wf_trace.specs.declared.call.Call.{Call}
 use Rattle.wf_trace.specs.declared.call.Call.TheVariants.{Join, Leave, Rate, Tick, Enq, Pull, Arrive, Answer, Done, Sleep, Wake, Poll, Rx, Reap}
 use Rattle.wf_trace.specs.declared.call.Arg.{Arg}
-use Rattle.wf_trace.specs.declared.call.Arg.TheVariants.{Short, Octet, Long, Length, Weight, Class, Guard, Heard}
+use Rattle.wf_trace.specs.declared.call.Arg.TheVariants.{Short, Octet, Long, Length, Weight, Class, Guard, Heard, Number, End}
 use Rattle.wf_trace.specs.declared.call.Value.{Value}
 use Rattle.wf_rules.specs.Lengths.{greatest_body}
 use Rattle.wf_frame.specs.Classes.{class_named}
@@ -82,6 +82,10 @@ guard_word short = if short then codes "short" else codes "long"
 abbrev pub heard_word : Bool → List ℕ
 heard_word heard = if heard then codes "heard" else codes "lost"
 
+-- the word of an end of an agreement: `a` is the originator, and `b` the recipient
+abbrev pub end_word : Bool → List ℕ
+end_word recipient = if recipient then codes "b" else codes "a"
+
 -- the value that a word is, where the argument is one of some words
 abbrev pub known_value : Arg → List ℕ → Option Value
 known_value Class word = option_map value.Class (class_named word)
@@ -89,6 +93,9 @@ known_value Guard word =
     option_map value.Guard (find (λ short. bytes_eq (guard_word short) word) (false ∷ true ∷ []))
 known_value Heard word =
     option_map value.Heard (find (λ heard. bytes_eq (heard_word heard) word) (true ∷ false ∷ []))
+known_value End word =
+    option_map value.End (find (λ recipient. bytes_eq (end_word recipient) word) (false ∷ true ∷ []))
+known_value (Number low high) word = None
 known_value Short word = None
 known_value Octet word = None
 known_value Long word = None
@@ -115,6 +122,8 @@ read_arg Weight word = seen value.Octet (in_range 0 octet_most (number_of word))
 read_arg Class word = among (known_value Class word)
 read_arg Guard word = among (known_value Guard word)
 read_arg Heard word = among (known_value Heard word)
+read_arg (Number low high) word = seen value.Long (in_range low high (number_of word))
+read_arg End word = among (known_value End word)
 
 -- the value of an argument for which no word is left
 abbrev pub absent_arg : Arg → Result Value FaultKind
@@ -126,6 +135,8 @@ absent_arg Length = Err kind.Count
 absent_arg Class = Err kind.Count
 absent_arg Guard = Err kind.Count
 absent_arg Heard = Err kind.Count
+absent_arg (Number low high) = Err kind.Count
+absent_arg End = Err kind.Count
 
 -- a value and others, or the earliest of the faults
 abbrev pub both : Result Value FaultKind → Result (List Value) FaultKind → Result (List Value) FaultKind

@@ -23,6 +23,7 @@ short_in (Some (value.Long x)) = 0
 short_in (Some (value.Class x)) = 0
 short_in (Some (value.Guard x)) = 0
 short_in (Some (value.Heard x)) = 0
+short_in (Some (value.End x)) = 0
 short_in None = 0
 
 -- the same, of the value at a place
@@ -37,6 +38,7 @@ octet_in (Some (value.Long x)) = 0
 octet_in (Some (value.Class x)) = 0
 octet_in (Some (value.Guard x)) = 0
 octet_in (Some (value.Heard x)) = 0
+octet_in (Some (value.End x)) = 0
 octet_in None = 0
 
 -- the same, of the value at a place
@@ -51,6 +53,7 @@ long_in (Some (value.Octet x)) = 0
 long_in (Some (value.Class x)) = 0
 long_in (Some (value.Guard x)) = 0
 long_in (Some (value.Heard x)) = 0
+long_in (Some (value.End x)) = 0
 long_in None = 0
 
 -- the same, of the value at a place
@@ -65,6 +68,7 @@ class_in (Some (value.Octet x)) = Bk
 class_in (Some (value.Long x)) = Bk
 class_in (Some (value.Guard x)) = Bk
 class_in (Some (value.Heard x)) = Bk
+class_in (Some (value.End x)) = Bk
 class_in None = Bk
 
 -- the same, of the value at a place
@@ -79,6 +83,7 @@ guard_in (Some (value.Octet x)) = false
 guard_in (Some (value.Long x)) = false
 guard_in (Some (value.Class x)) = false
 guard_in (Some (value.Heard x)) = false
+guard_in (Some (value.End x)) = false
 guard_in None = false
 
 -- the same, of the value at a place
@@ -93,11 +98,27 @@ heard_in (Some (value.Octet x)) = false
 heard_in (Some (value.Long x)) = false
 heard_in (Some (value.Class x)) = false
 heard_in (Some (value.Guard x)) = false
+heard_in (Some (value.End x)) = false
 heard_in None = false
 
 -- the same, of the value at a place
 abbrev pub heard_at : List Value → ℕ → Bool
 heard_at values i = heard_in (slice_get values i)
+
+-- whether the end is the recipient, of a value
+abbrev pub end_in : Option Value → Bool
+end_in (Some (value.End e)) = e
+end_in (Some (value.Short x)) = false
+end_in (Some (value.Octet x)) = false
+end_in (Some (value.Long x)) = false
+end_in (Some (value.Class x)) = false
+end_in (Some (value.Guard x)) = false
+end_in (Some (value.Heard x)) = false
+end_in None = false
+
+-- the same, of the value at a place
+abbrev pub end_at : List Value → ℕ → Bool
+end_at values i = end_in (slice_get values i)
 
 -- the call with the values of its arguments
 abbrev pub note_of : Call → List Value → Note

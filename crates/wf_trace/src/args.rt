@@ -4,7 +4,7 @@ ghost use Rattle.std.specs.Prelude.{◌≡◌, ◌≤◌, ◌∷◌, List, lengt
 ghost use Rattle.wf_trace.specs.Words.{words, number_of, in_range};
 ghost use Rattle.wf_trace.specs.Faults.{first_fault};
 ghost use Rattle.wf_trace.specs.declared.call.Arg.{Arg as Kind};
-ghost use Rattle.wf_trace.specs.Grammar.{octet_most, long_most, known_value, read_arg, absent_arg, seen, both, read_args};
+ghost use Rattle.wf_trace.specs.Grammar.{octet_most, known_value, read_arg, absent_arg, seen, both, read_args};
 
 use crate::call::{Arg, Value};
 use crate::fault::{FaultKind, first_of};
@@ -40,11 +40,11 @@ fn octet(word: &[u8]) -> Result<Value, FaultKind>
     }
 }
 
-// A number of 32 bits.
-fn long(word: &[u8]) -> Result<Value, FaultKind>
-    ensures { result ≡ seen Value.Long (in_range 0 long_most (number_of word.now)) }
+// A number of 32 bits, from low to high.
+fn long(low: u32, high: u32, word: &[u8]) -> Result<Value, FaultKind>
+    ensures { result ≡ seen Value.Long (in_range low high (number_of word.now)) }
 {
-    match in_range(0, u32::MAX, word) {
+    match in_range(low, high, word) {
         Ok(number) => Ok(Value::Long(number)),
         Err(fault) => Err(fault),
     }
@@ -63,6 +63,8 @@ fn known(arg: Arg, word: &[u8]) -> Option<Value>
         (Arg::Guard, b"short") => Some(Value::Guard(true)),
         (Arg::Heard, b"heard") => Some(Value::Heard(true)),
         (Arg::Heard, b"lost") => Some(Value::Heard(false)),
+        (Arg::End, b"a") => Some(Value::End(false)),
+        (Arg::End, b"b") => Some(Value::End(true)),
         _ => None,
     }
 }
@@ -74,9 +76,10 @@ fn read_one(arg: Arg, word: &[u8]) -> Result<Value, FaultKind>
     match arg {
         Arg::Short => short(0, u16::MAX, word),
         Arg::Octet | Arg::Weight => octet(word),
-        Arg::Long => long(word),
+        Arg::Long => long(0, u32::MAX, word),
+        Arg::Number { low, high } => long(low, high, word),
         Arg::Length => short(1, GREATEST_BODY, word),
-        Arg::Class | Arg::Guard | Arg::Heard => known(arg, word).ok_or(FaultKind::Word),
+        Arg::Class | Arg::Guard | Arg::Heard | Arg::End => known(arg, word).ok_or(FaultKind::Word),
     }
 }
 

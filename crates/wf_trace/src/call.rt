@@ -43,7 +43,9 @@ pub enum Arg {
     Guard,
     /// `heard` or `lost`.
     Heard,
-    /// `a` or `b`: the ends of an agreement, the originator and the recipient.
+    /// A number from low to high.
+    Number { low: u32, high: u32 },
+    /// `a` or `b`: an end of an agreement, the originator or the recipient.
     End,
 }
 
@@ -58,6 +60,8 @@ pub enum Value {
     Guard(bool),
     /// The answer was heard.
     Heard(bool),
+    /// The end is the recipient.
+    End(bool),
 }
 
 impl Default for Value {

@@ -16,7 +16,7 @@ mod settings;
 mod words;
 
 pub use args::read_all;
-pub use call::{Arg, Vocabulary};
+pub use call::{Arg, Value};
 pub use cut::{Cut, Piece};
 pub use fault::{Fault, FaultKind, first_of, print_fault};
 pub use print::print_note;
