@@ -8,10 +8,9 @@ use Rattle.wf_trace.specs.declared.call.Call.TheVariants.{Join, Leave, Rate, Tic
 use Rattle.wf_trace.specs.declared.call.Arg.{Arg}
 use Rattle.wf_trace.specs.declared.call.Arg.TheVariants.{Short, Octet, Long, Length, Weight, Class, Guard, Heard, Number, End}
 use Rattle.wf_trace.specs.declared.call.Value.{Value}
+use Rattle.wf_trace.specs.declared.call.Value.TheVariants as value
 use Rattle.wf_rules.specs.Lengths.{greatest_body}
 use Rattle.wf_frame.specs.Classes.{class_named}
-use Rattle.wf_trace.specs.declared.call.Vocabulary.TheVariants.{End}
-use Rattle.wf_trace.specs.declared.call.Value.TheVariants as value
 use Rattle.wf_trace.specs.Faults.{earlier_fault}
 use Rattle.wf_trace.specs.Words.{number_of, in_range}
 
