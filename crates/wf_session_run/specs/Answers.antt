@@ -9,7 +9,7 @@ use Rattle.wf_session.specs.declared.offer.OfferFault.TheVariants as fault
 use Rattle.wf_session.specs.Ends.{ask_fault}
 use Rattle.wf_session.specs.Laws.{originators, recipients}
 use Rattle.wf_session.specs.World.{Parley, opening, after_event}
-use Rattle.wf_world.specs.Text.{line}
+use Rattle.wf_frame.specs.Words.{line}
 use Rattle.wf_script.specs.Texts.{Manner}
 use Rattle.wf_session_run.specs.declared.refusal.Refusal.{Refusal}
 use Rattle.wf_session_run.specs.declared.refusal.Refusal.TheVariants.{Spent, Open, NotAsked, NotOpen, NoMessage}

@@ -1,12 +1,14 @@
 -- The lines of a script of `session`: a word and arguments for each event.
-use Rattle.std.specs.Prelude.{ℕ, ◌≤◌, ◌==◌, List, [], ◌∷◌, codes, slice_index, find, Bool, if◌then◌else◌, Option, Some, None, Result, Err}
+use Rattle.std.specs.Prelude.{ℕ, ◌≤◌, List, [], ◌∷◌, codes, find, Bool, if◌then◌else◌, Option, Some, None, Result, Err}
 use Rattle.std.specs.Str.{bytes_eq}
 use Rattle.wf_trace.specs.declared.call.Arg.{Arg}
-use Rattle.wf_trace.specs.declared.call.Arg.TheVariants.{Number, Word}
-use Rattle.wf_trace.specs.declared.call.Vocabulary.TheVariants.{End}
+use Rattle.wf_trace.specs.declared.call.Arg.TheVariants.{Number, Long, End}
+use Rattle.wf_trace.specs.declared.call.Value.{Value}
 use Rattle.wf_trace.specs.declared.fault.FaultKind.{FaultKind}
 use Rattle.wf_trace.specs.declared.fault.FaultKind.TheVariants as kind
 use Rattle.wf_trace.specs.Grammar.{read_args, seen}
+use Rattle.wf_trace.specs.Notes.{long_at, end_at}
+use Rattle.wf_rules.specs.Bounds.{greatest_window, greatest_start}
 use Rattle.wf_session.specs.declared.event.Event.{Event}
 use Rattle.wf_session.specs.declared.event.Event.TheVariants as event
 use Rattle.wf_script.specs.Scripts.{Grammar, Script, script}
@@ -27,25 +29,33 @@ verbs = Ask ∷ Again ∷ To ∷ Close ∷ Restart ∷ []
 abbrev pub verb_named : List ℕ → Option Verb
 verb_named word = find (λ verb. bytes_eq (word_of verb) word) verbs
 
--- its arguments in order: a window and a start, a side and the number of a message, a side
+-- its arguments in order: a window and a start, an end and the number of a message, an end
 abbrev pub args_of : Verb → List Arg
-args_of Ask = Number 1 256 ∷ Number 0 4095 ∷ []
+args_of Ask = Number 1 greatest_window ∷ Number 0 greatest_start ∷ []
 args_of Again = []
-args_of To = Word End ∷ Number 0 4294967295 ∷ []
-args_of Close = Word End ∷ []
-args_of Restart = Word End ∷ []
+args_of To = End ∷ Long ∷ []
+args_of Close = End ∷ []
+args_of Restart = End ∷ []
 
 -- one event for the originator, `a`, and one for the recipient, `b`
-abbrev pub at_end : ℕ → Event → Event → Event
-at_end side originators recipients = if side == 0 then originators else recipients
+abbrev pub by_end : Bool → Event → Event → Event
+by_end recipient originators recipients = if recipient then recipients else originators
 
 -- the event with these arguments
-abbrev pub event_of : Verb → List ℕ → Event
-event_of Ask values = event.Ask (slice_index values 0) (slice_index values 1)
+abbrev pub event_of : Verb → List Value → Event
+event_of Ask values = event.Ask (long_at values 0) (long_at values 1)
 event_of Again values = event.Again
-event_of To values = at_end (slice_index values 0) (event.ToOriginator (slice_index values 1)) (event.ToRecipient (slice_index values 1))
-event_of Close values = at_end (slice_index values 0) event.CloseOriginator event.CloseRecipient
-event_of Restart values = at_end (slice_index values 0) event.RestartOriginator event.RestartRecipient
+event_of To values = by_end (end_at values 0) (event.ToOriginator (long_at values 1)) (event.ToRecipient (long_at values 1))
+event_of Close values = by_end (end_at values 0) event.CloseOriginator event.CloseRecipient
+event_of Restart values = by_end (end_at values 0) event.RestartOriginator event.RestartRecipient
+
+-- the window and the start of an ask lie in their ranges
+abbrev pub AreInRange : Verb → List Value → Type 0
+AreInRange Ask values = (1 ≤ long_at values 0) × (long_at values 0 ≤ greatest_window) × (long_at values 1 ≤ greatest_start)
+AreInRange Again values = Unit {0}
+AreInRange To values = Unit {0}
+AreInRange Close values = Unit {0}
+AreInRange Restart values = Unit {0}
 
 -- the event that the words of a line name
 abbrev pub named : Option Verb → List (List ℕ) → Result Event FaultKind
@@ -69,7 +79,7 @@ reading closed octets = script grammar closed octets
 
 -- an ask is for a window of 1 to 256 numbers
 abbrev pub IsValid : Event → Type 0
-IsValid (event.Ask window start) = (1 ≤ window) × (window ≤ 256)
+IsValid (event.Ask window start) = (1 ≤ window) × (window ≤ greatest_window)
 IsValid event.Again = Unit {0}
 IsValid (event.ToOriginator index) = Unit {0}
 IsValid (event.ToRecipient index) = Unit {0}

@@ -2,7 +2,7 @@
 
 ghost use Rattle.std.specs.Prelude.{◌≡◌, ◌+◌, ◌≤◌, ◌++◌, [], length};
 ghost use Rattle.wf_session_run.specs.Answers.{answer_of, ends_line, refusal_words, side_word, join_line, closing};
-ghost use Rattle.wf_world.specs.Text.{line};
+ghost use Rattle.wf_frame.specs.Words.{line};
 ghost use Rattle.std.specs.Prelude.{◌∷◌, codes};
 
 use crate::parley::Parley;

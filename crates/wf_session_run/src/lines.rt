@@ -1,52 +1,51 @@
 //! What a line of a script says.
 
-ghost use Rattle.std.specs.Prelude.{◌≡◌, ◌≤◌, length, slice_index, IfOk};
+ghost use Rattle.std.specs.Prelude.{◌≡◌, IfOk};
 ghost use Rattle.wf_trace.specs.Words.{words};
-ghost use Rattle.wf_trace.specs.Notes.{Within};
-ghost use Rattle.wf_session_run.specs.Lines.{IsValid, args_of, event_of, at_end, meant};
+ghost use Rattle.wf_session_run.specs.Lines.{AreInRange, IsValid, event_of, by_end, meant};
 
 use crate::verb::Verb;
-use arrayvec::ArrayVec;
 use wf_seq12::Seq12;
 use wf_session::Event;
-use wf_trace::{FaultKind, next_word, read_all};
-
-// A value, or 0 where there is none.
-fn value_at(values: &ArrayVec<u32, 5>, i: usize) -> u32
-    ensures { result ≡ slice_index values.now.items i }
-{
-    let values = values.as_slice();
-    if i < values.len() { values[i] } else { 0 }
-}
+use wf_trace::{FaultKind, Value, end_at, long_at, next_word, read_all};
 
 // One event for the originator, and one for the recipient.
-fn at_end(side: u32, originators: Event, recipients: Event) -> Event
-    ensures { result ≡ at_end side originators recipients }
+fn by_end(recipient: bool, originators: Event, recipients: Event) -> Event
+    ensures { result ≡ by_end recipient originators recipients }
 {
-    if side == 0 { originators } else { recipients }
+    if recipient { recipients } else { originators }
 }
 
 // The event with these arguments.
-fn made(verb: Verb, values: &ArrayVec<u32, 5>) -> Event
-    requires { Within (args_of verb) values.now.items }
-    ensures event { result ≡ event_of verb values.now.items }
+fn made(verb: Verb, values: &[Value]) -> Event
+    requires { AreInRange verb values.now }
+    ensures event { result ≡ event_of verb values.now }
     ensures valid { IsValid result }
 {
-    let first = value_at(values, 0);
-    let second = value_at(values, 1);
     match verb {
         Verb::Ask => Event::Ask {
-            window: first as u16,
-            start: Seq12::of(u64::from(second)),
+            window: long_at(values, 0) as u16,
+            start: Seq12::of(u64::from(long_at(values, 1))),
         },
         Verb::Again => Event::Again,
-        Verb::To => at_end(
-            first,
-            Event::ToOriginator(second),
-            Event::ToRecipient(second),
+        Verb::To => {
+            let index = long_at(values, 1);
+            by_end(
+                end_at(values, 0),
+                Event::ToOriginator(index),
+                Event::ToRecipient(index),
+            )
+        }
+        Verb::Close => by_end(
+            end_at(values, 0),
+            Event::CloseOriginator,
+            Event::CloseRecipient,
         ),
-        Verb::Close => at_end(first, Event::CloseOriginator, Event::CloseRecipient),
-        Verb::Restart => at_end(first, Event::RestartOriginator, Event::RestartRecipient),
+        Verb::Restart => by_end(
+            end_at(values, 0),
+            Event::RestartOriginator,
+            Event::RestartRecipient,
+        ),
     }
 }
 
@@ -64,7 +63,7 @@ pub fn event_from(line: &[u8]) -> Result<Event, FaultKind>
         return Err(FaultKind::Word);
     };
     match read_all(verb.args(), rest) {
-        Ok(values) => Ok(made(verb, &values)),
+        Ok(values) => Ok(made(verb, values.as_slice())),
         Err(kind) => Err(kind),
     }
 }

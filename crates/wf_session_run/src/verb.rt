@@ -3,7 +3,7 @@
 ghost use Rattle.std.specs.Prelude.{◌≡◌, ◌≤◌, length};
 ghost use Rattle.wf_session_run.specs.Lines.{word_of, verb_named, args_of};
 
-use wf_trace::{Arg, Vocabulary};
+use wf_trace::Arg;
 
 /// The words that name an event.
 #[derive(Clone, Copy, Debug, PartialEq, Eq)]
@@ -15,15 +15,20 @@ pub enum Verb {
     Restart,
 }
 
-const WINDOW: Arg = Arg::Number { low: 1, high: 256 };
+/// The greatest window that is asked for, in numbers.
+const GREATEST_WINDOW: u32 = 256;
 
-const START: Arg = Arg::Number { low: 0, high: 4095 };
+/// The greatest sequence number.
+const GREATEST_START: u32 = 4095;
 
-const END: Arg = Arg::Word(Vocabulary::End);
+const WINDOW: Arg = Arg::Number {
+    low: 1,
+    high: GREATEST_WINDOW,
+};
 
-const MESSAGE: Arg = Arg::Number {
+const START: Arg = Arg::Number {
     low: 0,
-    high: u32::MAX,
+    high: GREATEST_START,
 };
 
 const VERBS: [Verb; 5] = [Verb::Ask, Verb::Again, Verb::To, Verb::Close, Verb::Restart];
@@ -57,8 +62,8 @@ impl Verb {
         match self {
             Verb::Ask => &[WINDOW, START],
             Verb::Again => &[],
-            Verb::To => &[END, MESSAGE],
-            Verb::Close | Verb::Restart => &[END],
+            Verb::To => &[Arg::End, Arg::Long],
+            Verb::Close | Verb::Restart => &[Arg::End],
         }
     }
 }
