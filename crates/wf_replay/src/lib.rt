@@ -1,4 +1,4 @@
-//! The commands of the program: a replay of a trace, and a soak, over any source and sink.
+//! The commands of the program over any source and sink: a replay of a trace, a soak, and a session.
 #![tactic(auto)]
 
 mod commands;
