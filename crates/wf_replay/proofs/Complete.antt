@@ -4,8 +4,8 @@ use Rattle.std.specs.Prelude.{Option, Some, None}
 use Rattle.wf_trace.specs.declared.reader.Item.{Item}
 use Rattle.wf_trace.specs.declared.reader.Item.TheVariants.{Head, Entry, Finish, Bad}
 use Rattle.wf_trace.specs.Reading.{reading}
-use Rattle.wf_replay.specs.declared.status.Status.{Status}
-use Rattle.wf_replay.specs.declared.status.Status.TheVariants.{Done, Usage, BadTrace, ReadFault, WriteFault, NoMemory}
+use Rattle.wf_status.specs.declared.status.Status.{Status}
+use Rattle.wf_status.specs.declared.status.Status.TheVariants.{Done, Usage, BadTrace, ReadFault, WriteFault, NoMemory}
 use Rattle.wf_replay.specs.Outcome.{StatusSays, FitsEnding}
 
 without_memory : (ending : Option Item) → FitsEnding ending NoMemory

@@ -14,14 +14,15 @@ use Rattle.wf_trace.specs.Lines.{longest_trace}
 use Rattle.wf_trace.specs.Cutting.{Cutting, Fits, room, room_of}
 use Rattle.wf_trace.specs.Reading.{Reading, reading, with_item, reading_that_ends}
 use Rattle.wf_trace.specs.Reader.{Reader, Reads, Gives, IsHeld, rest}
-use Rattle.wf_replay.specs.declared.status.Status.{Status}
-use Rattle.wf_replay.specs.declared.status.Status.TheVariants.{Done, Usage, BadTrace, ReadFault, WriteFault, NoMemory}
+use Rattle.wf_status.specs.declared.status.Status.{Status}
+use Rattle.wf_status.specs.declared.status.Status.TheVariants.{Done, Usage, BadTrace, ReadFault, WriteFault, NoMemory}
 use Rattle.wf_world.specs.World.{World, opening}
 use Rattle.wf_trace.specs.Faults.{fault_line}
 use Rattle.wf_replay.specs.Texts.{history_among, text}
 use Rattle.wf_report.specs.Fronts.{HoldsFront}
 use Rattle.wf_replay.specs.Running.{Progress, behind_item, text_of_item, closing}
-use Rattle.wf_replay.specs.Outcome.{StatusSays, IsFrontOf, ReachesEnd}
+use Rattle.wf_status.specs.Fronts.{IsFrontOf}
+use Rattle.wf_replay.specs.Outcome.{StatusSays, ReachesEnd}
 use Rattle.wf_replay.proofs.Shapes.{answers_from, behind_items, told_text, answers_told, text_told}
 
 -- items in front

@@ -3,7 +3,7 @@ use Rattle.std.specs.Prelude.{ℕ, ◌^◌, ◌-◌, nat_le, ◌&&◌, List, [],
 use Rattle.std.specs.Str.{bytes_eq}
 use Rattle.wf_trace.specs.Words.{is_plain_number, value_from}
 use Rattle.wf_replay.specs.declared.words.Command.{Command}
-use Rattle.wf_replay.specs.declared.words.Command.TheVariants.{Replay, Soak}
+use Rattle.wf_replay.specs.declared.words.Command.TheVariants.{Replay, Soak, Session}
 
 -- the number that a word is, where it lies between two
 abbrev pub number_within : ℕ → ℕ → List ℕ → Option ℕ
@@ -15,10 +15,14 @@ soak_of (Some seed) (Some calls) = Some (Soak seed calls)
 soak_of (Some seed) None = None
 soak_of None calls = None
 
--- `replay`, and `soak SEED CALLS`
+-- a command of one word
+abbrev pub word_command : List ℕ → Option Command
+word_command word = if bytes_eq word (codes "replay") then Some Replay else (if bytes_eq word (codes "session") then Some Session else None)
+
+-- `replay`, `session`, and `soak SEED CALLS`
 abbrev pub command_of : List (List ℕ) → Option Command
 command_of [] = None
-command_of (word ∷ []) = if bytes_eq word (codes "replay") then Some Replay else None
+command_of (word ∷ []) = word_command word
 command_of (word ∷ seed ∷ []) = None
 command_of (word ∷ seed ∷ calls ∷ []) =
     if bytes_eq word (codes "soak") then soak_of (number_within 0 (2 ^ 64 - 1) seed) (number_within 1 1000000 calls) else None

@@ -3,4 +3,3 @@ pub mod Running
 pub mod Outcome
 pub mod Laws
 pub mod Commands
-pub mod Statuses

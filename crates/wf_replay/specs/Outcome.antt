@@ -9,16 +9,14 @@ use Rattle.wf_trace.specs.declared.fault.Fault.{Fault}
 use Rattle.wf_trace.specs.declared.reader.Item.{Item}
 use Rattle.wf_trace.specs.declared.reader.Item.TheVariants.{Head, Entry, Finish, Bad}
 use Rattle.wf_trace.specs.Reading.{reading}
-use Rattle.wf_replay.specs.declared.status.Status.{Status}
-use Rattle.wf_replay.specs.declared.status.Status.TheVariants.{Done, Usage, BadTrace, ReadFault, WriteFault, NoMemory}
+use Rattle.wf_status.specs.declared.status.Status.{Status}
+use Rattle.wf_status.specs.declared.status.Status.TheVariants.{Done, Usage, BadTrace, ReadFault, WriteFault, NoMemory}
+use Rattle.wf_status.specs.Fronts.{IsFrontOf}
 use Rattle.wf_replay.specs.Texts.{text, answers}
 
 -- what is written of a soak: the summary of its history
 unfoldable pub soak_text : ℕ → ℕ → List ℕ
 soak_text seed calls = summary (world_after (opening standard) (soak_history seed calls)) calls
-
-abbrev pub IsFrontOf : List ℕ → List ℕ → Type 0
-IsFrontOf front whole = (rest : List ℕ) × (whole ≡ front ++ rest)
 
 -- the `end` line lies within the octets taken with its octet 10, or the input ends there
 abbrev pub ReachesEnd : List ℕ → List ℕ → Type 0

@@ -10,10 +10,10 @@ ghost use Rattle.wf_laws.specs.Laws.{Laws};
 ghost use Rattle.wf_live.specs.Soak.{soak_history};
 ghost use Rattle.wf_replay.specs.Commands.{command_of};
 ghost use Rattle.wf_replay.specs.Laws.{HasLaws};
+ghost use Rattle.wf_session_run.specs.Outcome.{SessionOutcome, SessionAnswered, SessionLaw};
 
 use crate::plain::Plain;
 use crate::runner::replay_on;
-use crate::status::Status;
 use crate::words::{Command, command_from};
 use std::alloc::Global;
 use std::sync::Wait;
@@ -21,6 +21,8 @@ use std::thread::Threads;
 use wf_io::{Sink, Source};
 use wf_live::soak;
 use wf_report::{Unwritten, summary};
+use wf_session_run::session;
+use wf_status::Status;
 use wf_turnstile::Turnstile;
 
 /// Reads a trace from the source and writes the answer line of each call before it reads the next, and the summary after
@@ -55,7 +57,7 @@ pub fn soaked<K: Sink>(alloc: Global, seed: u64, calls: u32, sink: &mut K) -> St
     }
 }
 
-/// Runs the command that the words are, on this source and sink: `replay`, or `soak SEED CALLS`.
+/// Runs the command that the words are, on this source and sink: `replay`, `soak SEED CALLS` or `session`.
 pub fn run<R: Threads + Wait + Sync, S: Source, K: Sink, T: Turnstile + Sync>(
     rt: &R,
     alloc: Global,
@@ -83,7 +85,17 @@ pub fn run<R: Threads + Wait + Sync, S: Source, K: Sink, T: Turnstile + Sync>(
         × ((written : List ℕ) × (K.held sink.new ≡ append_known (K.held sink.old) written) × SoakStatusSays result seed calls written) }
     ensures soak_laws { (seed calls : ℕ) → Laws standard (soak_history seed calls) }
 
-    // on both
+    // on `session`
+    ensures session { command_of (map string_bytes words.now) ≡ Some Command.Session →
+        (taken written : List ℕ) × (S.left source.old ≡ prepend_known taken (S.left source.new))
+        × (K.held sink.new ≡ append_known (K.held sink.old) written)
+        × ((input : List ℕ) → S.left source.old ≡ Some input → SessionOutcome result input taken written) }
+    ensures session_complete { command_of (map string_bytes words.now) ≡ Some Command.Session →
+        (HasRisen (S.faults source.old) (S.faults source.new) → ⊥) → (HasRisen (K.faults sink.old) (K.faults sink.new) → ⊥) →
+        (input : List ℕ) → S.left source.old ≡ Some input → SessionAnswered input result }
+    ensures session_law { (input : List ℕ) → S.left source.old ≡ Some input → SessionLaw input }
+
+    // on all
     ensures read { result ≡ Status.ReadFault → HasRisen (S.faults source.old) (S.faults source.new) }
     ensures write { result ≡ Status.WriteFault → HasRisen (K.faults sink.old) (K.faults sink.new) }
 {
@@ -93,5 +105,6 @@ pub fn run<R: Threads + Wait + Sync, S: Source, K: Sink, T: Turnstile + Sync>(
         None => Status::Usage,
         Some(Command::Replay) => replay(alloc, source, sink),
         Some(Command::Soak { seed, calls }) => soaked(alloc, seed, calls, sink),
+        Some(Command::Session) => session(alloc, source, sink),
     }
 }

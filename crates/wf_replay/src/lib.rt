@@ -1,14 +1,13 @@
-//! The commands of the program: a replay of a trace, and a soak, over any source and sink.
+//! The commands of the program over any source and sink: a replay of a trace, a soak, and a session.
 #![tactic(auto)]
 
 mod commands;
 mod plain;
 mod runner;
-mod status;
 mod words;
 
 pub use commands::{replay, run, soaked};
-pub use status::Status;
+pub use wf_status::Status;
 pub use words::Command;
 
 #[cfg(test)]

@@ -8,11 +8,11 @@ ghost use Rattle.wf_report.specs.Fronts.{HoldsFront};
 ghost use Rattle.wf_replay.specs.Running.{text_of_item as answer_to, behind_item, closing};
 ghost use Rattle.wf_replay.specs.Outcome.{StatusSays};
 
-use crate::status::Status;
 use std::alloc::Global;
 use wf_frame::{Answer, Note};
 use wf_io::{Line, Sink, Source, write_all};
 use wf_report::{Runs, Stopped, Unwritten, print_reply, summary};
+use wf_status::Status;
 use wf_trace::{Item, TraceReader, print_fault};
 
 // Makes a call, and its answer line.

@@ -138,3 +138,18 @@ fn a_soak_writes_its_summary(rt: HostRuntime) -> Result<(), Fail> {
     assert!(rt; run(&rt, rt.alloc(), &words, &mut source, &mut sink, &Free) == Status::Usage);
     Ok(())
 }
+
+#[test]
+fn a_session_answers_its_script(rt: HostRuntime) -> Result<(), Fail> {
+    let octets = b"ask 1 1\nend\n".to_vec(rt.alloc())?;
+    let mut source = Given::new(octets, 16, Vec::new(rt.alloc()));
+    let mut sink = Kept::new(rt.alloc(), 65_536, 4096, Vec::new(rt.alloc()))?;
+    let mut words = Vec::new(rt.alloc());
+    words.push("session".to_string(rt.alloc())?)?;
+    assert!(rt; run(&rt, rt.alloc(), &words, &mut source, &mut sink, &Free) == Status::Done);
+    assert_eq!(rt;
+        sink.octets(),
+        b"a - b -\nsent 1 0\nno agreement\n".as_slice()
+    );
+    Ok(())
+}

@@ -14,6 +14,8 @@ pub enum Command {
     Replay,
     /// Play the soak of this seed, and of so many calls: 1 to 1,000,000.
     Soak { seed: u64, calls: u32 },
+    /// Play the script on standard input on two ends of an agreement.
+    Session,
 }
 
 /// The value of digits, unless it goes past 64 bits.
@@ -70,6 +72,7 @@ pub fn command_from(words: &[String]) -> Option<Command>
 {
     match words {
         [word] if word.as_str() == "replay" => Some(Command::Replay),
+        [word] if word.as_str() == "session" => Some(Command::Session),
         [word, seed, calls] if word.as_str() == "soak" => soak_of(
             number_within(0, u64::MAX, seed.as_bytes()),
             number_within(1, 1_000_000, calls.as_bytes()),

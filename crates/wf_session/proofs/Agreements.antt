@@ -2,7 +2,8 @@
 use Rattle.std.proofs.Common.{◌≡◌, ℕ, List, Some, sym, ◌∙◌, ap, subst}
 use Rattle.wf_session.specs.declared.agreement.Agreement.{Agreement}
 use Rattle.wf_session.specs.Ends.{granted}
-use Rattle.wf_session.specs.World.{Parley, Event, opening, after_events}
+use Rattle.wf_session.specs.declared.event.Event.{Event}
+use Rattle.wf_session.specs.World.{Parley, opening, after_events}
 use Rattle.wf_session.specs.Laws.{EndsAgree, RecipientOpened, AgreementLaw}
 use Rattle.wf_session.proofs.Sound.{Terms, OpenedFits, IsGood, opening_good, events_good}
 use Rattle.wf_session.proofs.Once.{originator_once, recipient_once}

@@ -9,7 +9,9 @@ use Rattle.wf_session.specs.declared.action.Action.TheVariants.{Request, Respons
 use Rattle.wf_session.specs.declared.agreement.Agreement.{Agreement}
 use Rattle.wf_session.specs.declared.offer.OfferFault.{OfferFault}
 use Rattle.wf_session.specs.Ends.{OfferValue, AcceptValue, granted, has_token, unless, ask_fault, next_wish, settled, with_response, offer_heard, with_request, accept_heard}
-use Rattle.wf_session.specs.World.{Parley, Event, Ask, Again, ToOriginator, ToRecipient, CloseOriginator, CloseRecipient, RestartOriginator, RestartRecipient, to_originator, to_recipient, after_event}
+use Rattle.wf_session.specs.declared.event.Event.{Event}
+use Rattle.wf_session.specs.declared.event.Event.TheVariants.{Ask, Again, ToOriginator, ToRecipient, CloseOriginator, CloseRecipient, RestartOriginator, RestartRecipient}
+use Rattle.wf_session.specs.World.{Parley, to_originator, to_recipient, after_event}
 use Rattle.wf_session.specs.Laws.{originators, recipients, opens, times_opened}
 use Rattle.wf_session.proofs.Sound.{Terms, AskedFits, IsGood, choose, event_good}
 

@@ -2,7 +2,9 @@
 use Rattle.std.proofs.Common.{◌≡◌, ℕ, List, [], ◌∷◌, length, Option, Some, None, refl}
 use Rattle.wf_session.specs.declared.agreement.Agreement.{Agreement}
 use Rattle.wf_session.specs.Laws.{originators, recipients}
-use Rattle.wf_session.specs.World.{Parley, Event, Ask, ToOriginator, ToRecipient, CloseOriginator, RestartRecipient, opening, after_event, after_events}
+use Rattle.wf_session.specs.declared.event.Event.{Event}
+use Rattle.wf_session.specs.declared.event.Event.TheVariants.{Ask, ToOriginator, ToRecipient, CloseOriginator, RestartRecipient}
+use Rattle.wf_session.specs.World.{Parley, opening, after_event, after_events}
 
 -- what is open at the originator and at the recipient after each event
 pub seen : Parley → List Event → List (Option Agreement × Option Agreement)

@@ -11,7 +11,9 @@ use Rattle.wf_session.specs.declared.agreement.Agreement.{Agreement}
 use Rattle.wf_session.specs.declared.offer.OfferFault.{OfferFault}
 use Rattle.wf_session.specs.declared.offer.OfferFault.TheVariants.{Spent, Open}
 use Rattle.wf_session.specs.Ends.{OfferValue, granted, has_token, unless, fault_or, next_wish, request_of, response_of, settled, with_response, offer_heard, with_request, response_to, accept_heard, accept_answer, teardown_of, asked_again}
-use Rattle.wf_session.specs.World.{Parley, Event, Ask, Again, ToOriginator, ToRecipient, CloseOriginator, CloseRecipient, RestartOriginator, RestartRecipient, opening, with_sent, request_in, to_originator, to_recipient, after_event, after_events}
+use Rattle.wf_session.specs.declared.event.Event.{Event}
+use Rattle.wf_session.specs.declared.event.Event.TheVariants.{Ask, Again, ToOriginator, ToRecipient, CloseOriginator, CloseRecipient, RestartOriginator, RestartRecipient}
+use Rattle.wf_session.specs.World.{Parley, opening, with_sent, request_in, to_originator, to_recipient, after_event, after_events}
 
 -- what every request with a token carries
 pub record Terms : Type 0 where

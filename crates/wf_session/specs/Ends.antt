@@ -5,6 +5,7 @@ use Rattle.std.specs.Option.{ForSome}
 use Rattle.wf_session.specs.declared.action.Action.{Action}
 use Rattle.wf_session.specs.declared.action.Action.TheVariants.{Request, Response, Teardown}
 use Rattle.wf_session.specs.declared.agreement.Agreement.{Agreement}
+use Rattle.wf_session.specs.declared.decoding.ActionFault.{ActionFault}
 use Rattle.wf_session.specs.declared.offer.OfferFault.{OfferFault}
 use Rattle.wf_session.specs.declared.offer.OfferFault.TheVariants.{Spent, Open}
 
@@ -83,6 +84,11 @@ offer_heard (Request token tid window start) e = e
 offer_heard (Response token status tid window) e = if tid == e.tid then with_response token status window e else e
 offer_heard (Teardown tid initiator reason) e = if (tid == e.tid) && not initiator then record e { opened = None } else e
 
+-- octets arrive: an action that they are read as is heard, and other octets change nothing
+abbrev pub offer_received : Result Action ActionFault → OfferValue → OfferValue
+offer_received (Ok message) e = offer_heard message e
+offer_received (Err fault) e = e
+
 -- ---- the recipient
 pub record AcceptValue : Type 0 where
   pub tid : ℕ
@@ -118,3 +124,12 @@ abbrev pub accept_answer : Action → AcceptValue → Option Action
 accept_answer (Request token tid window start) e = if tid == e.tid then response_to token (with_request token window start e) else None
 accept_answer (Response token status tid window) e = None
 accept_answer (Teardown tid initiator reason) e = None
+
+-- octets arrive, and what is answered to them
+abbrev pub accept_received : Result Action ActionFault → AcceptValue → AcceptValue
+accept_received (Ok message) e = accept_heard message e
+accept_received (Err fault) e = e
+
+abbrev pub accept_reply : Result Action ActionFault → AcceptValue → Option Action
+accept_reply (Ok message) e = accept_answer message e
+accept_reply (Err fault) e = None

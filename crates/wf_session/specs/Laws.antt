@@ -2,7 +2,8 @@
 use Rattle.std.specs.Prelude.{◌≡◌, ℕ, ◌+◌, ◌≤◌, ◌&&◌, not, Bool, List, [], ◌∷◌, Option, Some, if◌then◌else◌}
 use Rattle.wf_session.specs.declared.agreement.Agreement.{Agreement}
 use Rattle.wf_session.specs.Ends.{has_token}
-use Rattle.wf_session.specs.World.{Parley, Event, opening, after_event, after_events}
+use Rattle.wf_session.specs.declared.event.Event.{Event}
+use Rattle.wf_session.specs.World.{Parley, opening, after_event, after_events}
 
 abbrev pub originators : Parley → Option Agreement
 originators w = w.originator.opened

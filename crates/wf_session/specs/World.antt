@@ -2,6 +2,8 @@
 -- times or never: so messages are lost, repeated and put in another order.
 use Rattle.std.specs.Prelude.{ℕ, true, false, List, [], ◌∷◌, ◌++◌, Option, Some, None, Result, Ok, Err, option_to_list, slice_get}
 use Rattle.wf_session.specs.declared.action.Action.{Action}
+use Rattle.wf_session.specs.declared.event.Event.{Event}
+use Rattle.wf_session.specs.declared.event.Event.TheVariants.{Ask, Again, ToOriginator, ToRecipient, CloseOriginator, CloseRecipient, RestartOriginator, RestartRecipient}
 use Rattle.wf_session.specs.declared.offer.OfferFault.{OfferFault}
 use Rattle.wf_session.specs.Ends.{OfferValue, AcceptValue, new_offer, new_accept, ask_answer, after_ask, asked_again, offer_heard, accept_heard, accept_answer, teardown_of}
 
@@ -10,16 +12,6 @@ pub record Parley : Type 0 where
   pub recipient : AcceptValue
   pub asks : List Action  -- all that the originator ever sent
   pub answers : List Action  -- all that the recipient ever sent
-
-pub data Event : Type 0 where
-  Ask : (window : ℕ) → (start : ℕ) → Event
-  Again : Event
-  ToOriginator : (index : ℕ) → Event  -- the recipient's message with this number, counted from 0, arrives
-  ToRecipient : (index : ℕ) → Event
-  CloseOriginator : Event
-  CloseRecipient : Event
-  RestartOriginator : Event  -- the end is new, and keeps only its last token
-  RestartRecipient : Event
 
 -- two new ends of a TID, whose recipient has this limit, and no message
 abbrev pub opening : ℕ → ℕ → Parley

@@ -1,8 +1,9 @@
 ghost use Rattle.std.specs.Prelude.{◌≡◌, ◌≤◌, ◌<◌, false, None, IfSome};
 ghost use Rattle.wf_session.specs.Layout.{CanBeWritten};
-ghost use Rattle.wf_session.specs.Ends.{HasWindow, new_accept, accept_heard, accept_answer, with_request, response_to, granted, teardown_of};
+ghost use Rattle.wf_session.specs.Ends.{HasWindow, new_accept, accept_heard, accept_answer, accept_received, accept_reply, with_request, response_to, granted, teardown_of};
+ghost use Rattle.wf_session.specs.Faults.{decoded};
 
-use crate::{Action, Agreement};
+use crate::{Action, Agreement, decode_action};
 use std::marker::Model;
 use wf_seq12::Seq12;
 
@@ -70,6 +71,19 @@ impl Accept {
             }
             Action::Response { .. } => None,
         }
+    }
+
+    /// Octets from the originator arrive: what they are read as is heard, and octets that are no action frame
+    /// change nothing. Gives the response, where one is due.
+    pub fn receive(&mut self, octets: &[u8]) -> Option<Action>
+        ensures answer { result ≡ accept_reply (decoded octets.now) self.old }
+        ensures after { self.new ≡ accept_received (decoded octets.now) self.old }
+        ensures writable { self.old.tid < 8 → IfSome result (λ answer. CanBeWritten answer) }
+    {
+        let Ok(action) = decode_action(octets) else {
+            return None;
+        };
+        self.hear(&action)
     }
 
     /// Ends the agreement, and gives the message that tells the originator: none where none is open.

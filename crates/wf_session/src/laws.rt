@@ -2,8 +2,8 @@ ghost use Rattle.std.specs.Prelude.{◌≡◌, ℕ, ◌++◌, List, Ok};
 ghost use Rattle.wf_session.specs.Faults.{decoded};
 ghost use Rattle.wf_session.specs.Layout.{CanBeWritten, FitsFields, octets_of};
 ghost use Rattle.wf_session.specs.Laws.{AgreementLaw};
-ghost use Rattle.wf_session.specs.World.{Event};
 ghost use Rattle.wf_session.specs.declared.action.Action.{Action};
+ghost use Rattle.wf_session.specs.declared.event.Event.{Event};
 
 /// An action that is written is read back as itself, whatever octets follow.
 pub fn codec_law()

@@ -10,6 +10,7 @@ mod action;
 mod agreement;
 mod decoding;
 mod encoding;
+mod event;
 mod laws;
 mod offer;
 
@@ -18,6 +19,7 @@ pub use action::Action;
 pub use agreement::Agreement;
 pub use decoding::{ActionFault, decode_action};
 pub use encoding::encode_action;
+pub use event::Event;
 pub use laws::{agreement_law, codec_law};
 pub use offer::{Offer, OfferFault};
 

@@ -1,9 +1,10 @@
 ghost use Rattle.std.specs.Prelude.{◌≡◌, ◌≤◌, ◌<◌, true, None, IfOk, IfSome};
 ghost use Rattle.wf_session.specs.Layout.{CanBeWritten};
-ghost use Rattle.wf_session.specs.Ends.{HasWindow, new_offer, ask_answer, after_ask, asked_again, request_of, offer_heard, with_response, settled, teardown_of};
+ghost use Rattle.wf_session.specs.Ends.{HasWindow, new_offer, ask_answer, after_ask, asked_again, request_of, offer_heard, offer_received, with_response, settled, teardown_of};
+ghost use Rattle.wf_session.specs.Faults.{decoded};
 ghost use Rattle.wf_session.specs.declared.agreement.Agreement.{Agreement};
 
-use crate::{Action, Agreement};
+use crate::{Action, Agreement, decode_action};
 use std::marker::Model;
 use thiserror::Error;
 use wf_seq12::Seq12;
@@ -112,6 +113,16 @@ impl Offer {
                 }
             }
             Action::Request { .. } => {}
+        }
+    }
+
+    /// Octets from the recipient arrive: what they are read as is heard, and octets that are no action frame
+    /// change nothing.
+    pub fn receive(&mut self, octets: &[u8])
+        ensures { self.new ≡ offer_received (decoded octets.now) self.old }
+    {
+        if let Ok(action) = decode_action(octets) {
+            self.hear(&action);
         }
     }
 

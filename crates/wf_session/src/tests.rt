@@ -143,6 +143,21 @@ fn a_restart_forgets_and_a_replay_makes_nothing(rt: HostRuntime) {
 }
 
 #[test]
+fn octets_that_are_no_action_frame_change_nothing(rt: HostRuntime) {
+    let mut offer = Offer::new(0, 0);
+    let mut accept = Accept::new(0, 64, 0);
+    assert_eq!(rt; offer.ask(128, Seq12::of(500)), Ok(request()));
+    assert_eq!(rt; accept.receive(&REQUEST[..8]), None);
+    assert_eq!(rt; held(accept.state()), None);
+    assert_eq!(rt; accept.receive(&REQUEST), Some(response()));
+    assert_eq!(rt; held(accept.state()), Some((1, 64, 500)));
+    offer.receive(&RESPONSE[..8]);
+    assert_eq!(rt; held(offer.state()), None);
+    offer.receive(&RESPONSE);
+    assert_eq!(rt; held(offer.state()), Some((1, 64, 500)));
+}
+
+#[test]
 fn the_last_token_is_255(rt: HostRuntime) {
     let mut offer = Offer::new(0, 254);
     assert_eq!(rt; offer.ask(64, Seq12::of(0)).is_ok(), true);

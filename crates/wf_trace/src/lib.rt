@@ -13,6 +13,7 @@ mod print;
 mod reader;
 mod scanner;
 mod settings;
+mod values;
 mod words;
 
 pub use args::read_all;
@@ -21,6 +22,7 @@ pub use cut::{Cut, Piece};
 pub use fault::{Fault, FaultKind, first_of, print_fault};
 pub use print::print_note;
 pub use reader::{Item, TraceReader};
+pub use values::{end_at, long_at};
 pub use words::{in_range, is_plain_number, next_word, number};
 
 #[cfg(test)]

@@ -1,64 +1,11 @@
 //! Calls made of a word and the values of its arguments.
 
 ghost use Rattle.std.specs.Prelude.{◌≡◌};
-ghost use Rattle.wf_trace.specs.Notes.{note_of, short_at as short_among, octet_at as octet_among, long_at as long_among, class_at as class_among, guard_at as guard_among, heard_at as heard_among};
+ghost use Rattle.wf_trace.specs.Notes.{note_of};
 
 use crate::call::{Call, Value};
-use wf_frame::{Ask, Class, Note};
-
-fn short_at(values: &[Value], i: usize) -> u16
-    ensures { result ≡ short_among values.now i }
-{
-    match values.get(i) {
-        Some(Value::Short(number)) => *number,
-        _ => 0,
-    }
-}
-
-fn octet_at(values: &[Value], i: usize) -> u8
-    ensures { result ≡ octet_among values.now i }
-{
-    match values.get(i) {
-        Some(Value::Octet(number)) => *number,
-        _ => 0,
-    }
-}
-
-fn long_at(values: &[Value], i: usize) -> u32
-    ensures { result ≡ long_among values.now i }
-{
-    match values.get(i) {
-        Some(Value::Long(number)) => *number,
-        _ => 0,
-    }
-}
-
-fn class_at(values: &[Value], i: usize) -> Class
-    ensures { result ≡ class_among values.now i }
-{
-    match values.get(i) {
-        Some(Value::Class(class)) => *class,
-        _ => Class::Bk,
-    }
-}
-
-fn guard_at(values: &[Value], i: usize) -> bool
-    ensures { result ≡ guard_among values.now i }
-{
-    match values.get(i) {
-        Some(Value::Guard(short)) => *short,
-        _ => false,
-    }
-}
-
-fn heard_at(values: &[Value], i: usize) -> bool
-    ensures { result ≡ heard_among values.now i }
-{
-    match values.get(i) {
-        Some(Value::Heard(heard)) => *heard,
-        _ => false,
-    }
-}
+use crate::values::{class_at, guard_at, heard_at, long_at, octet_at, short_at};
+use wf_frame::{Ask, Note};
 
 /// The call with the values of its arguments in order.
 pub fn note_from(call: Call, values: &[Value]) -> Note

@@ -1,6 +1,6 @@
 use Rattle.std.proofs.Common.{◌≡◌, ◌∙◌, refl, arith}
 use Rattle.wf_trace.specs.declared.reader.Item.TheVariants.{Entry, Finish, Bad}
-use Rattle.wf_replay.specs.declared.status.Status.TheVariants.{Done, BadTrace, ReadFault, WriteFault, NoMemory}
+use Rattle.wf_status.specs.declared.status.Status.TheVariants.{Done, BadTrace, ReadFault, WriteFault, NoMemory}
 use Rattle.wf_replay.proofs.Replays.{said, turned, partly, room_most, replaying_none, with_head, with_entry, ended_at_once, ended_no_memory, ended_read, ended_write, ended_unwritten, ended_done, ended_bad}
 use Rattle.wf_replay.proofs.runner.replay_on.Goals as goal
 

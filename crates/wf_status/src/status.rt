@@ -1,7 +1,7 @@
-//! How a run ends.
+//! How a command ends.
 
 ghost use Rattle.std.specs.Prelude.{◌≡◌};
-ghost use Rattle.wf_replay.specs.Statuses.{status_code};
+ghost use Rattle.wf_status.specs.Statuses.{status_code};
 
 /// How a run ends.
 #[derive(Clone, Copy, Debug, PartialEq, Eq)]
@@ -10,7 +10,7 @@ pub enum Status {
     Done = 0,
     /// The words are no command.
     Usage = 1,
-    /// The trace has a fault; the text up to it was written.
+    /// The input has a fault; the text up to it was written, and its line.
     BadTrace = 2,
     /// The source failed.
     ReadFault = 3,

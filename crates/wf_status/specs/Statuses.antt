@@ -1,7 +1,7 @@
 -- The number that the program ends with.
 use Rattle.std.specs.Prelude.{ℕ}
-use Rattle.wf_replay.specs.declared.status.Status.{Status}
-use Rattle.wf_replay.specs.declared.status.Status.TheVariants.{Done, Usage, BadTrace, ReadFault, WriteFault, NoMemory}
+use Rattle.wf_status.specs.declared.status.Status.{Status}
+use Rattle.wf_status.specs.declared.status.Status.TheVariants.{Done, Usage, BadTrace, ReadFault, WriteFault, NoMemory}
 
 -- the exit status of a run that ends so
 abbrev pub status_code : Status → ℕ

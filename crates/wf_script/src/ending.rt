@@ -1,0 +1,12 @@
+//! How a script ends.
+
+use wf_trace::Fault;
+
+/// How a script ends.
+#[derive(Clone, Copy, Debug, PartialEq, Eq)]
+pub enum Ending {
+    /// With the line `end`.
+    Finish,
+    /// With the first fault.
+    Bad(Fault),
+}

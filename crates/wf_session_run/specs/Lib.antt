@@ -1,0 +1,5 @@
+pub mod Lines
+pub mod Answers
+pub mod Wires
+pub mod Laws
+pub mod Outcome
