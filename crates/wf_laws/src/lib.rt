@@ -19,6 +19,7 @@ ghost use Rattle.wf_laws.specs.Queues.{QueueDeficitLaw, QueueLaw};
 ghost use Rattle.wf_laws.specs.Ranges.{RangeLaw};
 ghost use Rattle.wf_laws.specs.Releases.{OnceLaw, ReleaseLaw};
 ghost use Rattle.wf_laws.specs.Room.{LimitLaw, RoomLaw};
+ghost use Rattle.wf_laws.specs.Sent.{SentLaw};
 ghost use Rattle.wf_laws.specs.Sums.{SumLaw};
 ghost use Rattle.wf_laws.specs.Tallies.{TallyLaw};
 ghost use Rattle.wf_laws.specs.TwelveBits.{TwelveBitLaw};
@@ -123,6 +124,11 @@ pub fn number_law()
 /// 5456 m and 65,535 m microseconds.
 pub fn sum_law()
     ensures { (config : Config) → (history : List Entry) → IsInRange config → SumLaw config history }
+{}
+
+/// After every entry, each open exchange has at most 256 transmissions, in strictly rising order of their numbers, and each has the id of its number's frame.
+pub fn sent_law()
+    ensures { (config : Config) → (history : List Entry) → SentLaw config history }
 {}
 
 /// All laws of a history.
