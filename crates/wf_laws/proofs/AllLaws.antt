@@ -21,6 +21,8 @@ use Rattle.wf_laws.proofs.Queues.Limit.{limit_law}
 use Rattle.wf_laws.proofs.Ranges.Law.{range_law}
 use Rattle.wf_laws.proofs.Deficits.Numbers.{number_law}
 use Rattle.wf_laws.proofs.Windows.TwelveBits.{twelve_bit_law}
+use Rattle.wf_laws.proofs.Sums.Law.{sum_law}
+use Rattle.wf_laws.proofs.Sent.Law.{sent_law}
 use Rattle.wf_laws.proofs.Queues.Law.{queue_law, queue_deficit_law}
 
 pub laws : (config : Config) (history : List Entry) → IsInRange config → Laws config history
@@ -44,4 +46,6 @@ laws config h range = record {
   queue_deficits = queue_deficit_law config h range;
   ranges = range_law config h range;
   numbers = number_law config h range;
+  sums = sum_law config h range;
+  sent = sent_law config h;
 }

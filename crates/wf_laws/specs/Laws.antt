@@ -16,6 +16,8 @@ use Rattle.wf_laws.specs.Queues.{QueueLaw, QueueDeficitLaw}
 use Rattle.wf_laws.specs.Deficits.{DeficitLaw, QuietLaw, FairnessLaw}
 use Rattle.wf_laws.specs.Ranges.{RangeLaw}
 use Rattle.wf_laws.specs.Numbers.{NumberLaw}
+use Rattle.wf_laws.specs.Sums.{SumLaw}
+use Rattle.wf_laws.specs.Sent.{SentLaw}
 
 pub record Laws (config : Config) (history : List Entry) : Type 0 where
   -- the window law, how far the two sides of an agreement lie apart; the answer that a Done uses; and what is released
@@ -46,3 +48,7 @@ pub record Laws (config : Config) (history : List Entry) : Type 0 where
   -- what code with numbers of so many bits goes by
   pub ranges : RangeLaw config history
   pub numbers : NumberLaw config history
+  -- the sums of airtime are those of the calls since the join, and no sum or count outgrows the entries
+  pub sums : SumLaw config history
+  -- what an open exchange sends
+  pub sent : SentLaw config history

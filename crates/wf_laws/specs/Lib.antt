@@ -12,3 +12,5 @@ pub mod Tallies
 pub mod Room
 pub mod Ranges
 pub mod Numbers
+pub mod Sums
+pub mod Sent

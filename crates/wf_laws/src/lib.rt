@@ -19,6 +19,8 @@ ghost use Rattle.wf_laws.specs.Queues.{QueueDeficitLaw, QueueLaw};
 ghost use Rattle.wf_laws.specs.Ranges.{RangeLaw};
 ghost use Rattle.wf_laws.specs.Releases.{OnceLaw, ReleaseLaw};
 ghost use Rattle.wf_laws.specs.Room.{LimitLaw, RoomLaw};
+ghost use Rattle.wf_laws.specs.Sent.{SentLaw};
+ghost use Rattle.wf_laws.specs.Sums.{SumLaw};
 ghost use Rattle.wf_laws.specs.Tallies.{TallyLaw};
 ghost use Rattle.wf_laws.specs.TwelveBits.{TwelveBitLaw};
 ghost use Rattle.wf_laws.specs.Windows.{WindowLaw};
@@ -115,6 +117,18 @@ pub fn queue_deficit_law()
 /// them, and the deficits of live stations lie between figures far within 32 bits; so do those of listed queues, where no frame is longer than the greatest body.
 pub fn number_law()
     ensures { (config : Config) → (history : List Entry) → IsInRange config → NumberLaw config history }
+{}
+
+/// A live station's charged airtime in a class is the sum of the charges of its Dones that were answered Ended since its join, and its received airtime that of its
+/// Rxs that were answered Charged. After m entries the clock is at most 10,000,000 m microseconds, accepted frames and exchanges are at most m, and the two sums at most
+/// 5456 m and 65,535 m microseconds.
+pub fn sum_law()
+    ensures { (config : Config) → (history : List Entry) → IsInRange config → SumLaw config history }
+{}
+
+/// After every entry, each open exchange has at most 256 transmissions, in strictly rising order of their numbers, and each has the id of its number's frame.
+pub fn sent_law()
+    ensures { (config : Config) → (history : List Entry) → SentLaw config history }
 {}
 
 /// All laws of a history.

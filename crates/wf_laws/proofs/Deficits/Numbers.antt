@@ -30,7 +30,7 @@ times a b m n h k = let left : a * b ≤ m * b = mul-le-mul_right b h in let rig
     le_trans x y z h k = omega (arith, h, k)
 
 -- what an open exchange is charged
-charged_within : (b : Books) (xs : List Exchange) → longest_exchange b.config ≤ greatest_charge → Every (IsOpen b) (map core xs) → EachOpen (λ x. (1 ≤ x.charge) × (x.charge ≤ greatest_charge)) xs
+pub charged_within : (b : Books) (xs : List Exchange) → longest_exchange b.config ≤ greatest_charge → Every (IsOpen b) (map core xs) → EachOpen (λ x. (1 ≤ x.charge) × (x.charge ≤ greatest_charge)) xs
 charged_within b [] h e = tt
 charged_within b (x ∷ xs) h e = ((e.0.some, omega (arith, e.0.charge, h)), charged_within b xs h e.1)
 

@@ -305,15 +305,15 @@ turn_ended w e x heard c i j k found =
 -- ---- the step
 
 -- what a call charges where it is not refused
-abbrev owing : World → ℕ → Class → Note → ℕ
+abbrev pub owing : World → ℕ → Class → Note → ℕ
 owing w s c (Asked (Done e heard)) = charge_to s c (exchange w e)
 owing w s c _ = 0
 
-owing_done : (note : Note) (w : World) (s : ℕ) (c : Class) → refusal w note ≡ None → charge_by w s c note ≡ owing w s c note
+pub owing_done : (note : Note) (w : World) (s : ℕ) (c : Class) → refusal w note ≡ None → charge_by w s c note ≡ owing w s c note
 owing_done (Asked (Done e heard)) w s c h = ap (λ (o : Option Refusal). if is_none o then charge_to s c (exchange w e) else 0) h
 owing_done _ w s c h = refl
 
-owing_refused : (note : Note) (r : Refusal) (w : World) (s : ℕ) (c : Class) → refusal w note ≡ Some r → charge_by w s c note ≡ 0
+pub owing_refused : (note : Note) (r : Refusal) (w : World) (s : ℕ) (c : Class) → refusal w note ≡ Some r → charge_by w s c note ≡ 0
 owing_refused (Asked (Done e heard)) r w s c h = ap (λ (o : Option Refusal). if is_none o then charge_to s c (exchange w e) else 0) h
 owing_refused _ r w s c h = refl
 

@@ -1,0 +1,2 @@
+-- The law of what an open exchange sends.
+pub mod Law

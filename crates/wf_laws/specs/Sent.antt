@@ -1,0 +1,26 @@
+-- What an open exchange sends (IEEE 802.11-2012, 9.21.7.7): numbers in rising order, within a window of each other.
+use Rattle.std.specs.Prelude.{◌≡◌, ℕ, suc, ◌≤◌, List, [], ◌∷◌, length}
+use Rattle.wf_frame.specs.declared.settings.Config.{Config}
+use Rattle.wf_rules.specs.Bounds.{greatest_window}
+use Rattle.wf_rules.specs.Session.{slot}
+use Rattle.wf_world.specs.World.{World, Exchange, Mpdu, session}
+use Rattle.wf_world.specs.Exchanges.{mpdus_of}
+use Rattle.wf_world.specs.Run.{Entry}
+use Rattle.wf_world.specs.Stretches.{world_at}
+use Rattle.wf_laws.specs.Windows.{EachMpdu, EachOpen}
+
+-- the numbers rise strictly, from lo on
+abbrev pub NumbersRise : ℕ → List Mpdu → Type 0
+NumbersRise lo [] = Unit {0}
+NumbersRise lo (m ∷ ms) = (lo ≤ m.number) × NumbersRise (suc m.number) ms
+
+-- an open exchange; for a request there is nothing to say
+pub record IsSent (w : World) (x : Exchange) : Type 0 where
+  pub most : length (mpdus_of x.content) ≤ greatest_window
+  pub rising : NumbersRise (session w x.station x.tid).first (mpdus_of x.content)
+  -- each transmission has the id of the frame that its number carries
+  pub ids : EachMpdu (λ m. (slot (session w x.station x.tid) m.number).id ≡ m.id) (mpdus_of x.content)
+
+-- after each entry of a history
+abbrev pub SentLaw : Config → List Entry → Type 0
+SentLaw config history = (m : ℕ) → EachOpen (IsSent (world_at config history m)) (world_at config history m).opened
