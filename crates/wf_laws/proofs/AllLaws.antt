@@ -15,6 +15,7 @@ use Rattle.wf_laws.proofs.Frames.Tallies.{tally_law}
 use Rattle.wf_laws.proofs.Deficits.Law.{deficits}
 use Rattle.wf_laws.proofs.Deficits.Quiet.{quiet}
 use Rattle.wf_laws.proofs.Fairness.Law.{fairness}
+use Rattle.wf_laws.proofs.Rotations.Law.{rotation_law}
 use Rattle.wf_laws.proofs.Frames.Places.{place_law}
 use Rattle.wf_laws.proofs.Frames.Rooms.{room_law}
 use Rattle.wf_laws.proofs.Queues.Limit.{limit_law}
@@ -39,6 +40,7 @@ laws config h range = record {
   quiet = quiet config h range;
   fairness = fairness config h range;
   turns = turn_law;
+  rotations = rotation_law config h range;
   twelve_bits = twelve_bit_law config h;
   queues = queue_law config h range;
   queue_deficits = queue_deficit_law config h range;

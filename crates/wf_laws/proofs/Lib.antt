@@ -9,6 +9,7 @@
 --   range_law                                   Ranges (Law)
 --   deficit_law, quiet_law, number_law          Deficits (Law, Quiet, Numbers)
 --   fairness_law                                Fairness (Law)
+--   rotation_law                                Rotations (Law)
 --
 -- Each law is an invariant of worlds or a relation between a world and a later one. A lemma for each part of a call, named after that part, keeps it; then the call by cases
 -- (.._done), the refusal (.._refused), the answer (.._answer), the step (.._step) and the run (.._run).
@@ -21,5 +22,6 @@ pub mod Queues
 pub mod Deficits
 pub mod Ranges
 pub mod Fairness
+pub mod Rotations
 pub mod Witnesses
 pub mod AllLaws

@@ -16,6 +16,7 @@ use Rattle.wf_laws.specs.Queues.{QueueLaw, QueueDeficitLaw}
 use Rattle.wf_laws.specs.Deficits.{DeficitLaw, QuietLaw, FairnessLaw}
 use Rattle.wf_laws.specs.Ranges.{RangeLaw}
 use Rattle.wf_laws.specs.Numbers.{NumberLaw}
+use Rattle.wf_laws.specs.Rotations.{RotationLaw}
 
 pub record Laws (config : Config) (history : List Entry) : Type 0 where
   -- the window law, how far the two sides of an agreement lie apart; the answer that a Done uses; and what is released
@@ -39,6 +40,8 @@ pub record Laws (config : Config) (history : List Entry) : Type 0 where
   pub fairness : FairnessLaw config history
   -- the pick in closed form is the paper's loop, turn by turn
   pub turns : TurnLaw
+  -- the lists of stations, where a Pull is Idle, and that each pick of the run is the loop's
+  pub rotations : RotationLaw config history
   -- what code with 12-bit numbers and with linked queues goes by
   pub twelve_bits : TwelveBitLaw config history
   pub queues : QueueLaw config history

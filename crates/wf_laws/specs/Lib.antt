@@ -12,3 +12,4 @@ pub mod Tallies
 pub mod Room
 pub mod Ranges
 pub mod Numbers
+pub mod Rotations

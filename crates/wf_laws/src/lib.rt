@@ -19,6 +19,7 @@ ghost use Rattle.wf_laws.specs.Queues.{QueueDeficitLaw, QueueLaw};
 ghost use Rattle.wf_laws.specs.Ranges.{RangeLaw};
 ghost use Rattle.wf_laws.specs.Releases.{OnceLaw, ReleaseLaw};
 ghost use Rattle.wf_laws.specs.Room.{LimitLaw, RoomLaw};
+ghost use Rattle.wf_laws.specs.Rotations.{RotationLaw};
 ghost use Rattle.wf_laws.specs.Tallies.{TallyLaw};
 ghost use Rattle.wf_laws.specs.TwelveBits.{TwelveBitLaw};
 ghost use Rattle.wf_laws.specs.Windows.{WindowLaw};
@@ -94,6 +95,11 @@ pub fn quiet_law()
 /// Two stations that stay on one class's old list, with no receive charge, are charged alike, each by its weight.
 pub fn fairness_law()
     ensures { (config : Config) → (history : List Entry) → IsInRange config → FairnessLaw config history }
+{}
+
+/// After every entry, each class lists live stations alone, each once; a Pull is Idle exactly where none is ready; and each pick of a station or a queue is the paper's loop.
+pub fn rotation_law()
+    ensures { (config : Config) → (history : List Entry) → IsInRange config → RotationLaw config history }
 {}
 
 /// All numbers of one agreement that are ever compared lie within 2047 of each other, so their low twelve bits compare as the whole numbers do.
