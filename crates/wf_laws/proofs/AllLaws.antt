@@ -11,6 +11,7 @@ use Rattle.wf_laws.proofs.Releases.Named.{release_law}
 use Rattle.wf_laws.proofs.Releases.Placed.{once_law}
 use Rattle.wf_laws.proofs.Frames.Delivered.{delivery_law}
 use Rattle.wf_laws.proofs.Frames.FateLaw.{fate_law}
+use Rattle.wf_laws.proofs.Frames.FinishedLaw.{finished_law}
 use Rattle.wf_laws.proofs.Frames.Tallies.{tally_law}
 use Rattle.wf_laws.proofs.Deficits.Law.{deficits}
 use Rattle.wf_laws.proofs.Deficits.Quiet.{quiet}
@@ -32,6 +33,7 @@ laws config h range = record {
   once = once_law config h;
   delivery = delivery_law config h;
   fates = fate_law config h;
+  finished = finished_law config h;
   tallies = tally_law config h;
   places = place_law config h range;
   room = room_law config h range;

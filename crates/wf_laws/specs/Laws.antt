@@ -8,6 +8,7 @@ use Rattle.wf_laws.specs.Answers.{AnswerLaw}
 use Rattle.wf_laws.specs.Releases.{ReleaseLaw, OnceLaw}
 use Rattle.wf_laws.specs.Delivery.{DeliveryLaw}
 use Rattle.wf_laws.specs.Fates.{FateLaw}
+use Rattle.wf_laws.specs.Finished.{FinishedLaw}
 use Rattle.wf_laws.specs.Tallies.{TallyLaw}
 use Rattle.wf_laws.specs.Places.{PlaceLaw}
 use Rattle.wf_laws.specs.Room.{RoomLaw, LimitLaw}
@@ -27,6 +28,8 @@ pub record Laws (config : Config) (history : List Entry) : Type 0 where
   pub once : OnceLaw config history
   pub delivery : DeliveryLaw config history
   pub fates : FateLaw config history
+  -- each frame with a fate is on the finished list once, until it is reaped, once
+  pub finished : FinishedLaw config history
   -- the counts of frames by fate add up to the accepted ones
   pub tallies : TallyLaw config history
   -- each held frame stands in one place

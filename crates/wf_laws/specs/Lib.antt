@@ -13,3 +13,4 @@ pub mod Room
 pub mod Ranges
 pub mod Numbers
 pub mod Rotations
+pub mod Finished

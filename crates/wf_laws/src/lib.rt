@@ -12,6 +12,7 @@ ghost use Rattle.wf_laws.specs.Answers.{AnswerLaw};
 ghost use Rattle.wf_laws.specs.Deficits.{DeficitLaw, FairnessLaw, QuietLaw};
 ghost use Rattle.wf_laws.specs.Delivery.{DeliveryLaw};
 ghost use Rattle.wf_laws.specs.Fates.{FateLaw};
+ghost use Rattle.wf_laws.specs.Finished.{FinishedLaw};
 ghost use Rattle.wf_laws.specs.Laws.{Laws};
 ghost use Rattle.wf_laws.specs.Numbers.{NumberLaw};
 ghost use Rattle.wf_laws.specs.Places.{PlaceLaw};
@@ -53,6 +54,11 @@ pub fn delivery_law()
 /// A fate other than Held never changes.
 pub fn fate_law()
     ensures { (config : Config) → (history : List Entry) → FateLaw config history }
+{}
+
+/// After every entry, the ids that were reaped and those on the finished list are exactly those of frames with a fate other than Held, each once.
+pub fn finished_law()
+    ensures { (config : Config) → (history : List Entry) → FinishedLaw config history }
 {}
 
 /// Each accepted frame has one fate: the counts by fate add up to the accepted frames.
