@@ -11,10 +11,12 @@ use Rattle.wf_laws.proofs.Releases.Named.{release_law}
 use Rattle.wf_laws.proofs.Releases.Placed.{once_law}
 use Rattle.wf_laws.proofs.Frames.Delivered.{delivery_law}
 use Rattle.wf_laws.proofs.Frames.FateLaw.{fate_law}
+use Rattle.wf_laws.proofs.Frames.FinishedLaw.{finished_law}
 use Rattle.wf_laws.proofs.Frames.Tallies.{tally_law}
 use Rattle.wf_laws.proofs.Deficits.Law.{deficits}
 use Rattle.wf_laws.proofs.Deficits.Quiet.{quiet}
 use Rattle.wf_laws.proofs.Fairness.Law.{fairness}
+use Rattle.wf_laws.proofs.Rotations.Law.{rotation_law}
 use Rattle.wf_laws.proofs.Frames.Places.{place_law}
 use Rattle.wf_laws.proofs.Frames.Rooms.{room_law}
 use Rattle.wf_laws.proofs.Queues.Limit.{limit_law}
@@ -33,6 +35,7 @@ laws config h range = record {
   once = once_law config h;
   delivery = delivery_law config h;
   fates = fate_law config h;
+  finished = finished_law config h;
   tallies = tally_law config h;
   places = place_law config h range;
   room = room_law config h range;
@@ -41,6 +44,7 @@ laws config h range = record {
   quiet = quiet config h range;
   fairness = fairness config h range;
   turns = turn_law;
+  rotations = rotation_law config h range;
   twelve_bits = twelve_bit_law config h;
   queues = queue_law config h range;
   queue_deficits = queue_deficit_law config h range;

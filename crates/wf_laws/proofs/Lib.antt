@@ -3,14 +3,15 @@
 --   law of lib.rt                               ends in
 --   window_law, answer_law, twelve_bit_law      Windows (Law, Answers, TwelveBits)
 --   release_law, once_law                       Releases (Named, Placed)
---   delivery_law, fate_law, place_law,          Frames (Delivered, FateLaw, Places, Rooms, Tallies)
---   room_law, tally_law
+--   delivery_law, fate_law, finished_law,       Frames (Delivered, FateLaw, FinishedLaw, Places, Rooms, Tallies)
+--   place_law, room_law, tally_law
 --   queue_law, queue_deficit_law, limit_law     Queues (Law, Limit)
 --   range_law                                   Ranges (Law)
 --   deficit_law, quiet_law, number_law          Deficits (Law, Quiet, Numbers)
 --   fairness_law                                Fairness (Law)
 --   sum_law                                     Sums (Law)
 --   sent_law                                    Sent (Law)
+--   rotation_law                                Rotations (Law)
 --
 -- Each law is an invariant of worlds or a relation between a world and a later one. A lemma for each part of a call, named after that part, keeps it; then the call by cases
 -- (.._done), the refusal (.._refused), the answer (.._answer), the step (.._step) and the run (.._run).
@@ -25,5 +26,6 @@ pub mod Ranges
 pub mod Fairness
 pub mod Sums
 pub mod Sent
+pub mod Rotations
 pub mod Witnesses
 pub mod AllLaws

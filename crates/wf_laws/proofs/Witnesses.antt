@@ -2,3 +2,4 @@
 pub mod Airtime
 pub mod Releases
 pub mod Places
+pub mod Rotations

@@ -8,6 +8,7 @@ use Rattle.wf_laws.specs.Answers.{AnswerLaw}
 use Rattle.wf_laws.specs.Releases.{ReleaseLaw, OnceLaw}
 use Rattle.wf_laws.specs.Delivery.{DeliveryLaw}
 use Rattle.wf_laws.specs.Fates.{FateLaw}
+use Rattle.wf_laws.specs.Finished.{FinishedLaw}
 use Rattle.wf_laws.specs.Tallies.{TallyLaw}
 use Rattle.wf_laws.specs.Places.{PlaceLaw}
 use Rattle.wf_laws.specs.Room.{RoomLaw, LimitLaw}
@@ -18,6 +19,7 @@ use Rattle.wf_laws.specs.Ranges.{RangeLaw}
 use Rattle.wf_laws.specs.Numbers.{NumberLaw}
 use Rattle.wf_laws.specs.Sums.{SumLaw}
 use Rattle.wf_laws.specs.Sent.{SentLaw}
+use Rattle.wf_laws.specs.Rotations.{RotationLaw}
 
 pub record Laws (config : Config) (history : List Entry) : Type 0 where
   -- the window law, how far the two sides of an agreement lie apart; the answer that a Done uses; and what is released
@@ -28,6 +30,8 @@ pub record Laws (config : Config) (history : List Entry) : Type 0 where
   pub once : OnceLaw config history
   pub delivery : DeliveryLaw config history
   pub fates : FateLaw config history
+  -- each frame with a fate is on the finished list once, until it is reaped, once
+  pub finished : FinishedLaw config history
   -- the counts of frames by fate add up to the accepted ones
   pub tallies : TallyLaw config history
   -- each held frame stands in one place
@@ -41,6 +45,8 @@ pub record Laws (config : Config) (history : List Entry) : Type 0 where
   pub fairness : FairnessLaw config history
   -- the pick in closed form is the paper's loop, turn by turn
   pub turns : TurnLaw
+  -- the lists of stations, where a Pull is Idle, and that each pick of the run is the loop's
+  pub rotations : RotationLaw config history
   -- what code with 12-bit numbers and with linked queues goes by
   pub twelve_bits : TwelveBitLaw config history
   pub queues : QueueLaw config history

@@ -14,3 +14,5 @@ pub mod Ranges
 pub mod Numbers
 pub mod Sums
 pub mod Sent
+pub mod Rotations
+pub mod Finished

@@ -12,6 +12,7 @@ ghost use Rattle.wf_laws.specs.Answers.{AnswerLaw};
 ghost use Rattle.wf_laws.specs.Deficits.{DeficitLaw, FairnessLaw, QuietLaw};
 ghost use Rattle.wf_laws.specs.Delivery.{DeliveryLaw};
 ghost use Rattle.wf_laws.specs.Fates.{FateLaw};
+ghost use Rattle.wf_laws.specs.Finished.{FinishedLaw};
 ghost use Rattle.wf_laws.specs.Laws.{Laws};
 ghost use Rattle.wf_laws.specs.Numbers.{NumberLaw};
 ghost use Rattle.wf_laws.specs.Places.{PlaceLaw};
@@ -21,6 +22,7 @@ ghost use Rattle.wf_laws.specs.Releases.{OnceLaw, ReleaseLaw};
 ghost use Rattle.wf_laws.specs.Room.{LimitLaw, RoomLaw};
 ghost use Rattle.wf_laws.specs.Sent.{SentLaw};
 ghost use Rattle.wf_laws.specs.Sums.{SumLaw};
+ghost use Rattle.wf_laws.specs.Rotations.{RotationLaw};
 ghost use Rattle.wf_laws.specs.Tallies.{TallyLaw};
 ghost use Rattle.wf_laws.specs.TwelveBits.{TwelveBitLaw};
 ghost use Rattle.wf_laws.specs.Windows.{WindowLaw};
@@ -54,6 +56,11 @@ pub fn delivery_law()
 /// A fate other than Held never changes.
 pub fn fate_law()
     ensures { (config : Config) → (history : List Entry) → FateLaw config history }
+{}
+
+/// After every entry, the ids that were reaped and those on the finished list are exactly those of frames with a fate other than Held, each once.
+pub fn finished_law()
+    ensures { (config : Config) → (history : List Entry) → FinishedLaw config history }
 {}
 
 /// Each accepted frame has one fate: the counts by fate add up to the accepted frames.
@@ -96,6 +103,11 @@ pub fn quiet_law()
 /// Two stations that stay on one class's old list, with no receive charge, are charged alike, each by its weight.
 pub fn fairness_law()
     ensures { (config : Config) → (history : List Entry) → IsInRange config → FairnessLaw config history }
+{}
+
+/// After every entry, each class lists live stations alone, each once; a Pull is Idle exactly where none is ready; and each pick of a station or a queue is the paper's loop.
+pub fn rotation_law()
+    ensures { (config : Config) → (history : List Entry) → IsInRange config → RotationLaw config history }
 {}
 
 /// All numbers of one agreement that are ever compared lie within 2047 of each other, so their low twelve bits compare as the whole numbers do.

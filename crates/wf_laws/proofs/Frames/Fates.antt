@@ -1,9 +1,9 @@
 -- What became of a frame stays so: only frames in queues and at numbers that are not settled get a fate, and those are held.
-use Rattle.std.proofs.Common.{◌≡◌, ◌≢◌, refl, ap, sym, ◌∙◌, subst, arith, ℕ, zero, suc, ◌+◌, ◌-◌, ◌<◌, ◌≤◌, nat_lt, pos, Bool, true, false, if◌then◌else◌, not, ◌==◌, ◌||◌, ◌⊎◌, inl, inr, List, [], ◌∷◌, ◌++◌, length, map, Option, Some, None, IfSome, is_none, count_by, add-zero, ◌-ℤ◌}
+use Rattle.std.proofs.Common.{◌≡◌, ◌≢◌, refl, ap, sym, ◌∙◌, subst, arith, ℕ, zero, suc, ◌+◌, ◌-◌, ◌<◌, ◌≤◌, nat_lt, pos, Bool, true, false, if◌then◌else◌, not, ◌==◌, ◌||◌, ◌⊎◌, inl, inr, List, [], ◌∷◌, ◌++◌, length, map, Option, Some, None, IfSome, is_none, count_by, add-zero, append_assoc, ◌-ℤ◌}
 use Rattle.wf_frame.specs.declared.settings.Config.{Config}
 use Rattle.wf_frame.specs.declared.classes.Class.{Class}
 use Rattle.wf_frame.specs.declared.classes.Fate.{Fate}
-use Rattle.wf_rules.specs.Table.{at, has, upto, count_from}
+use Rattle.wf_rules.specs.Table.{at, has, put, upto, count_from}
 use Rattle.wf_rules.specs.Codel.{Item, Params, Codel, new_codel, Dequeued, dequeue}
 use Rattle.wf_rules.specs.CodelLoop.{giving, dropping_first}
 use Rattle.wf_rule_laws.proofs.Lemmas.Dequeues.{each_dequeue}
@@ -28,7 +28,8 @@ use Rattle.std.proofs.lemmas.List.Sums.{sum_by-append}
 use Rattle.wf_laws.proofs.Windows.Opened.{NoRow, no_row, each_find, some_along, pick_ready, left_true, eight}
 use Rattle.wf_rule_laws.proofs.Lemmas.Sums.{sum_put_within, length_put}
 use Rattle.wf_laws.proofs.Frames.Untouched.{Untouched, untouched, then_untouched, untouched_on_session, untouched_on_queue, untouched_pay_queues, untouched_with_queues, untouched_spent, untouched_after_turn, untouched_after_pick, untouched_without, untouched_charged, untouched_put_in, untouched_off_lists, untouched_with_station, untouched_on_station, untouched_on_receiver, untouched_listed}
-use Rattle.wf_rule_laws.proofs.Lemmas.Tables.{each_put}
+use Rattle.wf_rule_laws.proofs.Lemmas.Tables.{each_put, at_put_same, at_put_other}
+use Rattle.wf_rule_laws.proofs.Lemmas.Joined.{once_append, has_either, has_first, has_second}
 use Rattle.wf_laws.proofs.Sessions.Flights.{AllIn, Rises, all_in_later, next-give}
 use Rattle.wf_rule_laws.proofs.Lemmas.Numbers.{Climbs, climbs_from, on_bool, on_if, lt_yes, lt_no, eq_yes, eq_no, yes_eq, not_eq, either, or_left, or_right, climbs_at}
 use Rattle.wf_laws.proofs.Windows.Sides.{Side, side_of, sides_of, Same, each_side_on, then_same, same_on_station, same_with_queues, same_on_queue, same_finish, same_finish_all, same_listed, same_after_pick, same_after_turn, same_spent, same_put_in, same_pay_queues, same_take, same_charged}
@@ -52,8 +53,19 @@ IsHeld w k = (frame w k).fate ≡ Held
 pub record Remains (w v : World) : Type 0 where
   pub remains : (k : ℕ) → IsHeld w k ⊎ ((frame v k).fate ≡ (frame w k).fate)
 
+-- ids: those that were reaped. With those on the finished list they are the accepted ones with a fate other than Held, each once.
+pub record IsFinishedRight (ids : List ℕ) (w : World) : Type 0 where
+  pub once : IsOnce (ids ++ w.finished)
+  pub settled : (k : ℕ) → has (ids ++ w.finished) k ≡ true → (k < accepted_count w) × (IsHeld w k → ⊥)
+  pub every : (k : ℕ) → k < accepted_count w → (IsHeld w k → ⊥) → has (ids ++ w.finished) k ≡ true
+
+-- the finished list stays right, with the same ids reaped
+abbrev pub KeepsRight : World → World → Type 0
+KeepsRight w v = (ids : List ℕ) → IsFinishedRight ids w → IsFinishedRight ids v
+
 -- and no frame is accepted or reaped: only held frames get a fate, and each goes on the finished list
 pub record Stays (w v : World) : Type 0 where
+  pub right : KeepsRight w v
   pub stays : (k : ℕ) → IsHeld w k ⊎ ((frame v k).fate ≡ (frame w k).fate)
   pub accepted : accepted_count v ≡ accepted_count w
   pub inside : inside v ≡ inside w
@@ -71,8 +83,15 @@ fate_same w v e k = ap (λ (fs : List Frame). (at no_frame fs k).fate) e
 old_same : (w v : World) (k : ℕ) → Untouched w v → k < accepted_count w → k < accepted_count v
 old_same w v k u h = omega (arith, h, ap (length {A = Frame}) u.frames)
 
+right_same : (w v : World) → Untouched w v → KeepsRight w v
+right_same w v u ids h = record {
+  once = subst (λ (fs : List ℕ). IsOnce (ids ++ fs)) (sym u.finished) h.once;
+  settled = λ k e. let m = h.settled k (ap (λ (fs : List ℕ). has (ids ++ fs) k) (sym u.finished) ∙ e) in (old_same w v k u m.0, (λ held. m.1 (sym (fate_same w v u.frames k) ∙ held)));
+  every = λ k old other. ap (λ (fs : List ℕ). has (ids ++ fs) k) u.finished ∙ h.every k (omega (arith, old, ap (length {A = Frame}) u.frames)) (λ held. other (fate_same w v u.frames k ∙ held));
+}
+
 stays_same : (w v : World) → Untouched w v → Stays w v
-stays_same w v u = record { stays = λ k. inr (fate_same w v u.frames k); accepted = ap (length {A = Frame}) u.frames; inside = inside_same w v u }
+stays_same w v u = record { right = right_same w v u; stays = λ k. inr (fate_same w v u.frames k); accepted = ap (length {A = Frame}) u.frames; inside = inside_same w v u }
 
 remains_same : (w v : World) → v.frames ≡ w.frames → Remains w v
 remains_same w v e = record { remains = λ k. inr (fate_same w v e k) }
@@ -85,6 +104,7 @@ then_remains u v w h k = record { remains = λ n. elim (h.remains n) [ inl a ↦
 
 then_stays : (u v w : World) → Stays u v → Stays v w → Stays u w
 then_stays u v w h k = record {
+  right = λ ids a. k.right ids (h.right ids a);
   stays = (then_remains u v w (remains_of u v h) (remains_of v w k)).remains;
   accepted = k.accepted ∙ h.accepted;
   inside = k.inside ∙ h.inside;
@@ -107,9 +127,38 @@ inside_finish w fate id old h settles =
     let is : as_one (is_held fate) ≡ 0 = ap as_one settles in
     omega (arith, sums, was, is, length-append w.finished (id ∷ []))
 
+right_finish : (w : World) (fate : Fate) (id : ℕ) → id < accepted_count w → IsHeld w id → is_held fate ≡ false → KeepsRight w (with_frame_finished w fate id)
+unfolding with_frame_finished with_fate
+right_finish w fate id old h settles ids a =
+    let listed : List ℕ = ids ++ w.finished in
+    let longer : ids ++ (w.finished ++ id ∷ []) ≡ listed ++ id ∷ [] = sym (append_assoc ids w.finished (id ∷ [])) in
+    let many : length (put no_frame w.frames id (record (frame w id) { fate = fate })) ≡ length w.frames = length_put no_frame w.frames id _ old in
+    record {
+      once = subst IsOnce (sym longer) (once_append listed (id ∷ []) a.once (refl, tt) (λ k e. on_bool (has listed k)
+          (λ there. absurd ((a.settled k there).1 (subst (IsHeld w) (own k e) h)))
+          (λ not_there. not_there)));
+      settled = λ k e. elim (has_either listed (id ∷ []) k (ap (λ (xs : List ℕ). has xs k) (sym longer) ∙ e)) [
+        | inl there ↦ (omega (arith, many, (a.settled k there).0), (λ held. (a.settled k there).1 (sym (other_fate k (λ same. (a.settled k there).1 (subst (IsHeld w) same h))) ∙ held)))
+        | inr new ↦ (omega (arith, many, old, own k new), (λ held. absurd (cc (settles, ap is_held (sym (own_fate k (own k new)) ∙ held)))))
+      ];
+      every = λ k below other. ap (λ (xs : List ℕ). has xs k) longer ∙ on_bool (id == k)
+          (λ same. has_second listed (id ∷ []) k (or_left (id == k) false same))
+          (λ differs. has_first listed (id ∷ []) k (a.every k (omega (arith, below, many)) (λ held. other (other_fate k (eq_no id k differs) ∙ held))));
+    }
+  where
+    own : (k : ℕ) → has (id ∷ []) k ≡ true → id ≡ k
+    own k e = elim (either (id == k) false e) [ inl same ↦ eq_yes id k same | inr none ↦ absurd (cc none) ]
+
+    other_fate : (k : ℕ) → id ≢ k → (at no_frame (put no_frame w.frames id (record (frame w id) { fate = fate })) k).fate ≡ (frame w k).fate
+    other_fate k ne = ap (λ (x : Frame). x.fate) (at_put_other no_frame w.frames id k _ ne)
+
+    own_fate : (k : ℕ) → id ≡ k → (at no_frame (put no_frame w.frames id (record (frame w id) { fate = fate })) k).fate ≡ fate
+    own_fate k e = ap (λ (j : ℕ). (at no_frame (put no_frame w.frames id (record (frame w id) { fate = fate })) j).fate) (sym e) ∙ ap (λ (x : Frame). x.fate) (at_put_same no_frame w.frames id _)
+
 stays_finish : (w : World) (fate : Fate) (id : ℕ) → id < accepted_count w → IsHeld w id → is_held fate ≡ false → Stays w (with_frame_finished w fate id)
 unfolding with_frame_finished with_fate
 stays_finish w fate id old h settles = record {
+  right = right_finish w fate id old h settles;
   stays = λ k. each_put (λ j x. j ≡ k → IsHeld w k ⊎ (x.fate ≡ (frame w k).fate)) no_frame w.frames id _ (λ j e. inr (ap (λ (i : ℕ). (frame w i).fate) e)) (λ e. inl (subst (IsHeld w) e h)) k refl;
   accepted = length_put no_frame w.frames id _ old;
   inside = inside_finish w fate id old h settles;
@@ -662,8 +711,22 @@ accepted_with_frame : (w : World) (note : Note) → accepted_count (with_frame w
 unfolding with_frame
 accepted_with_frame w note = omega (arith, length-append w.frames (record { note = note; fate = Held } ∷ []))
 
+finished_with_frame : (w : World) (note : Note) → (with_frame w note).finished ≡ w.finished
+unfolding with_frame
+finished_with_frame w note = refl
+
+right_with_frame : (w : World) (note : Note) → KeepsRight w (with_frame w note)
+right_with_frame w note ids a = record {
+  once = subst (λ (fs : List ℕ). IsOnce (ids ++ fs)) (sym (finished_with_frame w note)) a.once;
+  settled = λ k e. let m = a.settled k (ap (λ (fs : List ℕ). has (ids ++ fs) k) (sym (finished_with_frame w note)) ∙ e) in (omega (arith, m.0, accepted_with_frame w note), (λ held. m.1 (sym (fate_with_frame w note k) ∙ held)));
+  every = λ k below other. ap (λ (fs : List ℕ). has (ids ++ fs) k) (finished_with_frame w note) ∙ on_bool (nat_lt k (accepted_count w))
+      (λ was. a.every k (lt_yes k (accepted_count w) was) (λ held. other (fate_with_frame w note k ∙ held)))
+      (λ new. absurd (other (fate_with_frame w note k ∙ default_frame w.frames k (lt_no k (accepted_count w) new))));
+}
+
 -- a frame more is accepted, and is inside
 record Entered (w v : World) : Type 0 where
+  right : KeepsRight w v
   held : Fresh v
   remains : Remains w v
   accepted : accepted_count v ≡ suc (accepted_count w)
@@ -683,6 +746,7 @@ enqueue_kept l w s t flow len p h =
     let more : Less Any (with_appended u q x) v = then_less Any _ a v (less_put_in u s t q x) (less_with_frame a note) in
     let sides : (i j : ℕ) → session v i j ≡ session u i j = λ i j. ap (λ (b : Side). b.session) (side_with_frame a note i j ∙ (same_put_in u s t q x).sides i j) in
     record {
+      right = λ ids b. right_with_frame a note ids (put.right ids (k.stays.right ids b));
       remains = then_remains w u v (remains_of w u k.stays) (then_remains u a v (remains_of u a put) (record { remains = λ i. inr (fate_with_frame a note i) }));
       accepted = accepted_with_frame a note ∙ ap suc (put.accepted ∙ k.stays.accepted);
       inside = inside_with_frame a note ∙ ap suc (put.inside ∙ k.stays.inside);
@@ -941,19 +1005,20 @@ safe_joined l w s window start exponent weight p h =
 
 -- what is kept of held frames and fates, whatever was passed up: n frames are accepted, and r are reaped
 record Kept_fates (n r : ℕ) (w v : World) : Type 0 where
+  right : r ≡ 0 → KeepsRight w v
   fresh : Fresh v
   remains : Remains w v
   accepted : accepted_count v ≡ n + accepted_count w
   inside : r + inside v ≡ n + inside w
 
 of_stays : (w v : World) → Fresh v → Stays w v → Kept_fates 0 0 w v
-of_stays w v h k = record { fresh = h; remains = remains_of w v k; accepted = omega (arith, k.accepted); inside = omega (arith, k.inside) }
+of_stays w v h k = record { right = λ none. k.right; fresh = h; remains = remains_of w v k; accepted = omega (arith, k.accepted); inside = omega (arith, k.inside) }
 
 of_safe : (l : List ℕ) (w v : World) → Safe l w v → Kept_fates 0 0 w v
 of_safe l w v k = of_stays w v k.fresh k.stays
 
 of_entered : (w v : World) → Entered w v → Kept_fates 1 0 w v
-of_entered w v k = record { fresh = k.held; remains = k.remains; accepted = omega (arith, k.accepted); inside = omega (arith, k.inside) }
+of_entered w v k = record { right = λ none. k.right; fresh = k.held; remains = k.remains; accepted = omega (arith, k.accepted); inside = omega (arith, k.inside) }
 
 fates_here : (w : World) → Fresh w → Kept_fates 0 0 w w
 fates_here w h = of_stays w w h (stays_same w w (untouched w))
@@ -985,6 +1050,7 @@ fates_reaped : (ids : List ℕ) (w : World) → w.finished ≡ ids → (length i
 unfolding reap_outcome
 fates_reaped [] w e some h = absurd (cc some)
 fates_reaped (id ∷ ids) w e some h = record {
+  right = λ none. absurd (omega (arith, none));
   fresh = fresh_calm w _ (less_plain Any w _ refl refl) (λ s t. refl) refl h;
   remains = remains_same w _ refl;
   accepted = omega arith;
@@ -1048,6 +1114,7 @@ fates_listed : (n r : ℕ) (w u v : World) → Less Any u v → Same u v → Unt
 fates_listed n r w u v h same_sides calm k =
     let e : Stays u v = stays_same u v calm in
     record {
+      right = λ none ids a. e.right ids (k.right none ids a);
       fresh = fresh_calm u v h (session_same u v same_sides) calm.frames k.fresh;
       remains = then_remains w u v k.remains (remains_of u v e);
       accepted = e.accepted ∙ k.accepted;
@@ -1087,6 +1154,10 @@ pub steady_run : (h : List Entry) (l : List ℕ) (w : World) → Steady l w → 
 unfolding named_from world_after
 steady_run [] l w k = k
 steady_run (e ∷ es) l w k = steady_run es _ (step w e.1).world (steady_step l w e.1 k)
+
+-- ids: those that were reaped before a call that reaps none
+pub right_step : (l ids : List ℕ) (w : World) (note : Note) → Steady l w → (if is_none (refusal w note) then fetched note else 0) ≡ 0 → IsFinishedRight ids w → IsFinishedRight ids (step w note).world
+right_step l ids w note k none a = (fates_step l w k.lawful note k.labelled k.placing k.fresh).right none ids a
 
 -- how many frames are accepted and inside after a call
 pub counted_step : (l : List ℕ) (w : World) (note : Note) → Steady l w

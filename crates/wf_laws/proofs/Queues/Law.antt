@@ -125,7 +125,7 @@ at_most_taken zero h most a = tt
 at_most_taken (suc m) [] most a = tt
 at_most_taken (suc m) (e ∷ es) most a = (a.0, at_most_taken m es most a.1)
 
-once_list : (xs : List ℕ) → ((y : ℕ) → on xs y ≤ 1) → IsOnce xs
+pub once_list : (xs : List ℕ) → ((y : ℕ) → on xs y ≤ 1) → IsOnce xs
 once_list [] h = tt
 once_list (x ∷ xs) h = (
   on_bool (has xs x) (λ e. absurd (omega (arith, h x, on-cons_same x xs, has-on xs x e))) (λ e. e),

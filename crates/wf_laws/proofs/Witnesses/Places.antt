@@ -18,6 +18,7 @@ use Rattle.wf_world.specs.Step.{step}
 use Rattle.wf_world.specs.Run.{Entry, by, world_after}
 use Rattle.wf_world.specs.Computed.{the_machine}
 use Rattle.wf_laws.specs.Room.{in_windows, reaped_in}
+use Rattle.wf_laws.specs.Finished.{reaped_ids}
 
 abbrev config : Config
 config = record { stations = 16; flows = 1024; limit = 3; room = 6; flow_quantum = 300; quantum = 300; inflight = 2; attempts = 10; agg = 2; cap = 4000; sleeping = 64; calls = 1048576 }
@@ -86,6 +87,10 @@ inside_last = refl
 reaped_last : reaped_in (opening config) whole ≡ 1
 unfolding the_machine
 reaped_last = refl
+
+reaped_first : reaped_ids (opening config) whole ≡ 0 ∷ []
+unfolding the_machine
+reaped_first = refl
 
 accepted_last : accepted_count last_world ≡ 7
 unfolding the_machine

@@ -1,0 +1,2 @@
+-- The lists of stations. Law reads their law off the deficits' invariant, and answers.
+pub mod Law
