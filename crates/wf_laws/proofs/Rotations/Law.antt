@@ -67,7 +67,8 @@ refused_idle w c listed = (
   (λ e.
       let k = both_where_idle (open_of_class w c) (nat_le w.config.inflight (open_of_class w c)) (is_none (picked_station w c).winner) e in
       (below w.config.inflight (open_of_class w c) k.0, none_ready w c listed (is_none_of (picked_station w c).winner k.1))),
-  (λ h. idle_where_both (open_of_class w c) (nat_le w.config.inflight (open_of_class w c)) (is_none (picked_station w c).winner) (not_full w.config.inflight (open_of_class w c) h.0) (rw (ready_none w c h.1) refl)))
+  (λ h. idle_where_both (open_of_class w c) (nat_le w.config.inflight (open_of_class w c)) (is_none (picked_station w c).winner) (not_full w.config.inflight (open_of_class w c) h.0) (rw (ready_none w c h.1) refl)),
+)
   where
     below : (m n : ℕ) → nat_le m n ≡ false → n < m
     below m n e = grind arith
