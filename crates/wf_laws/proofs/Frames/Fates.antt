@@ -12,7 +12,7 @@ use Rattle.wf_rules.specs.Receiver.{Receiver}
 use Rattle.wf_rules.specs.Session.{is_waiting, request_due, waiting_numbers, with_state, Session, Slot, State, is_settled, is_failed, slot_after_miss, slot, on_slot, with_number_given, after_miss, new_session, next_number, numbers_where, no_slot}
 use Rattle.wf_world.specs.World.{World, Station, Share, Queue, Exchange, Mpdu, Content, Frames, Request, new_tid, no_tid, rotation, session, tid_of, is_live, exchange, with_station, on_station, on_tid, on_session, on_receiver, with_queues, on_share, on_queue, with_fate, with_frame_finished, with_frames_finished, with_exchange, without_exchange, opening, inside, is_held, no_frame, Frame, frame, new_queue, queue, accepted_count, codel_params}
 use Rattle.wf_frame.specs.Classes.{all_classes}
-use Rattle.wf_world.specs.FlowQueues.{without_head, after_limit, with_appended, after_put_in, with_queues_paid, taken_by_codel, taken_from_picked, taken_for_tid, after_queue_left, after_queues_left, len_given, picked_queue, queue_for, total_queued, longest_queue, is_at_limit}
+use Rattle.wf_world.specs.FlowQueues.{without_head, after_limit, with_appended, after_put_in, with_queues_paid, taken_by_codel, taken_from_picked, taken_for_tid, after_queue_left, after_queues_left, len_given, picked_queue, queue_for, longest_queue, is_at_limit}
 use Rattle.wf_world.specs.CanSend.{is_ready, with_listings_of, can_give}
 use Rattle.wf_world.specs.Exchanges.{is_acked, station_need, most_frames, picked_station, after_arrival, exchange_of, sending_tid, with_heard_start, Prepared, mpdus_of, after_pick, after_tid_turn, with_fresh, aggregate_of, with_number, with_flying, waiting_mpdus, longest_fitting, without_credit, prepared_data, prepared_exchange, with_exchange_opened, after_charge, with_failed_finished, with_settled, with_all_settled, after_done, ids_of, Aggregate}
 use Rattle.wf_frame.specs.declared.notes.Ask.TheVariants.{Join, Leave, Rate, Tick, Pull, Arrive, Answer, Done, Sleep, Wake, Poll, Rx, Reap}

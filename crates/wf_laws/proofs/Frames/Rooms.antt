@@ -12,7 +12,6 @@ use Rattle.wf_world.specs.Step.{step}
 use Rattle.wf_world.specs.Run.{Entry, world_after}
 use Rattle.wf_world.specs.Stretches.{world_at}
 use Rattle.wf_laws.specs.Room.{reaped_by, reaped_in, RoomLaw}
-use Rattle.wf_rule_laws.proofs.Lemmas.Numbers.{eq_no}
 use Rattle.wf_rule_laws.proofs.Lemmas.Numbers.{le_no}
 use Rattle.wf_laws.proofs.Windows.Opened.{NoRow, no_row}
 use Rattle.wf_laws.proofs.Deficits.Configs.{config_step, config_run}

@@ -21,7 +21,7 @@ use Rattle.wf_world.specs.Run.{Entry, world_after}
 use Rattle.wf_world.specs.Stretches.{world_at}
 use Rattle.wf_laws.specs.Queues.{EachItem, HasLength, HaveLengths}
 use Rattle.wf_laws.specs.Room.{LimitLaw}
-use Rattle.wf_rule_laws.proofs.Lemmas.Numbers.{on_if, lt_yes, lt_no, eq_yes, eq_no}
+use Rattle.wf_rule_laws.proofs.Lemmas.Numbers.{on_if}
 use Rattle.wf_rule_laws.proofs.Lemmas.Tables.{each_put}
 use Rattle.wf_rule_laws.proofs.Lemmas.Sums.{sum_put, sum_below}
 use Rattle.wf_rule_laws.proofs.Lemmas.Numbers.{le_yes, le_no}

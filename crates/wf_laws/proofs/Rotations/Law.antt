@@ -1,16 +1,13 @@
 -- The law of the lists of stations, in every world of a run, answered.
-use Rattle.std.proofs.Common.{◌≡◌, refl, sym, subst, arith, ℕ, ◌*◌, ◌<◌, ◌≤◌, nat_le, Bool, true, false, if◌then◌else◌, List, [], ◌∷◌, Option, Some, None, is_some, is_none, IfSome, unwrap_or, option_map, take, ◌↔◌}
+use Rattle.std.proofs.Common.{◌≡◌, refl, arith, ℕ, ◌*◌, ◌<◌, ◌≤◌, nat_le, Bool, true, false, if◌then◌else◌, List, [], ◌∷◌, Option, Some, None, is_some, is_none, IfSome, unwrap_or, option_map, take, ◌↔◌}
 use Rattle.wf_frame.specs.declared.settings.Config.{Config}
 use Rattle.wf_frame.specs.Settings.{IsInRange}
 use Rattle.wf_frame.specs.declared.classes.Class.{Class}
-use Rattle.wf_frame.specs.declared.notes.Ask.TheVariants.{Pull}
-use Rattle.wf_frame.specs.declared.notes.Note.TheVariants.{Asked}
 use Rattle.wf_frame.specs.declared.notes.Refusal.{Refusal}
 use Rattle.wf_frame.specs.declared.notes.Refusal.TheVariants.{Full, Idle}
 use Rattle.wf_rules.specs.Table.{at}
-use Rattle.wf_rules.specs.Lists.{IsOnce, on}
-use Rattle.wf_rules.specs.Rotation.{has_key, in_order}
-use Rattle.wf_world.specs.World.{World, Station, no_station, share, quantum, queue, rotation, tid_of, is_live, opening}
+use Rattle.wf_rules.specs.Rotation.{in_order}
+use Rattle.wf_world.specs.World.{World, Station, no_station, share, quantum, queue, rotation, tid_of, is_live}
 use Rattle.wf_world.specs.FlowQueues.{has_frames}
 use Rattle.wf_world.specs.CanSend.{is_ready}
 use Rattle.wf_world.specs.Exchanges.{station_need, picked_station}
@@ -22,7 +19,7 @@ use Rattle.wf_laws.specs.Queues.{KeepsQueues}
 use Rattle.wf_rule_laws.proofs.Lemmas.Numbers.{on_bool}
 use Rattle.wf_rule_laws.proofs.Lemmas.Rotations.{IsWinner, pick_winner, pick_none}
 use Rattle.wf_rule_laws.proofs.Lemmas.Turns.{turn_law}
-use Rattle.wf_laws.proofs.Deficits.Books.{Account, account, books}
+use Rattle.wf_laws.proofs.Deficits.Books.{account, books}
 use Rattle.wf_laws.proofs.Deficits.Kept.{IsGood, IsKept}
 use Rattle.wf_laws.proofs.Deficits.Ready.{IsOrderly, IsListed, on-lists, orderly}
 use Rattle.wf_laws.proofs.Queues.Law.{once_list, queue_law}

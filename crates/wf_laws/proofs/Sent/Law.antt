@@ -1,5 +1,5 @@
 -- The law of what an open exchange sends, in every world of a run, answered.
-use Rattle.std.proofs.Common.{◌≡◌, ap, arith, ℕ, suc, ◌+◌, ◌≤◌, false, List, [], ◌∷◌, length, take}
+use Rattle.std.proofs.Common.{◌≡◌, ap, arith, ℕ, suc, ◌+◌, ◌≤◌, List, [], ◌∷◌, length, take}
 use Rattle.wf_frame.specs.declared.settings.Config.{Config}
 use Rattle.wf_rules.specs.Bounds.{greatest_window}
 use Rattle.wf_rules.specs.Session.{Session, State, slot, start_of, next_number, is_settled}

@@ -9,21 +9,19 @@ use Rattle.wf_frame.specs.declared.notes.Note.TheVariants.{Enqueue, Asked}
 use Rattle.wf_frame.specs.declared.notes.Refusal.{Refusal}
 use Rattle.wf_frame.specs.declared.notes.Refusal.TheVariants.{Idle}
 use Rattle.wf_rules.specs.Table.{at}
-use Rattle.wf_rules.specs.Rotation.{in_order}
-use Rattle.wf_world.specs.World.{World, Station, Share, Exchange, no_share, no_station, share, rotation, is_live, exchange, opening}
+use Rattle.wf_world.specs.World.{World, Station, Share, Exchange, no_share, no_station, share, is_live, exchange, opening}
 use Rattle.wf_frame.specs.Classes.{class_number, same_class}
 use Rattle.wf_world.specs.Exchanges.{picked_station}
-use Rattle.wf_world.specs.Refusals.{refusals, refusal}
+use Rattle.wf_world.specs.Refusals.{refusal}
 use Rattle.wf_world.specs.Step.{Outcome, tick_outcome, done_outcome, rx_outcome, outcome_where_open, outcome_of, after_refusal, judged_outcome, step}
 use Rattle.wf_world.specs.Run.{Entry, world_after}
 use Rattle.wf_world.specs.Stretches.{charge_to, charge_by}
 use Rattle.wf_frame.specs.Settings.{IsInRange}
 use Rattle.wf_laws.specs.Sums.{since_join, air_by, charged_in, received_in}
-use Rattle.wf_rules.specs.Lists.{on}
 use Rattle.wf_laws.proofs.Deficits.Books.{Account, account, Books, books, with_account, on_part, upd_same, upd_other, each_upd, updc_same, updc_other, each_updc, cases_class}
 use Rattle.wf_laws.proofs.Deficits.BookSteps.{books_ended, books_gone, all_off, books_enqueued, receive_share, books_received, books_reaped, books_slept, books_woken, books_credited, rated, books_with_rate, fresh_account, books_joined, charge_share, pay_share, after, books_after_pick}
 use Rattle.wf_laws.proofs.Deficits.Kept.{IsKept, if_map}
-use Rattle.wf_laws.proofs.Deficits.KeptStep.{NoRow, no_row, IsFound, books_arrived, books_answered, kept_step, kept_opening}
+use Rattle.wf_laws.proofs.Deficits.KeptStep.{IsFound, books_arrived, books_answered, kept_step, kept_opening}
 use Rattle.wf_laws.proofs.Fairness.OldOrder.{IsCalm, calm_listed, calm_pulled, owing, owing_done, owing_refused}
 
 -- a share was charged p and sent q

@@ -16,9 +16,8 @@ use Rattle.wf_rules.specs.Bounds.{greatest_tick}
 use Rattle.wf_world.specs.FlowQueues.{is_at_limit, without_head, after_limit, longest_queue, with_listed_queue, with_appended, after_put_in, with_queues_paid, taken_by_codel, taken_from_picked, taken_for_tid, after_queue_left, after_queues_left}
 use Rattle.wf_world.specs.CanSend.{with_listing_in, with_listings_in, with_listings_of, can_give}
 use Rattle.wf_world.specs.Exchanges.{picked_station, most_frames, waiting_mpdus, longest_fitting, Aggregate, Prepared, with_station_paid, with_stations_paid, after_pick, after_tid_turn, with_number, with_fresh, aggregate_of, prepared_data, prepared_exchange, without_credit, with_exchange_opened, after_charge, with_failed_finished, with_settled, with_all_settled, after_done}
-use Rattle.wf_world.specs.Refusals.{refusals, refusal, is_within}
+use Rattle.wf_world.specs.Refusals.{refusals, refusal}
 use Rattle.wf_world.specs.Step.{Outcome, join_outcome, after_tid_left, after_tids_left, without_listings, leave_outcome, rate_outcome, tick_outcome, with_frame, enqueue_outcome, send_outcome, pull_outcome_for, pull_outcome, arrive_outcome, answer_outcome, done_outcome, outcome_where_open, sleep_outcome, wake_outcome, poll_outcome, rx_outcome, reap_outcome, concerned_station, outcome_of, after_refusal, judged_outcome, step}
-use Rattle.wf_world.specs.Run.{Entry, world_after}
 use Rattle.wf_world.specs.World.{World, Station, Share, Tid, Exchange, Mpdu, Content, Frames, Request, session, queue, rotation, exchange, with_station, on_station, on_tid, on_session, on_receiver, with_queues, on_share, on_queue, with_rotation, with_fate, with_frame_finished, with_frames_finished, with_exchange, without_exchange}
 use Rattle.wf_rule_laws.proofs.Lemmas.Numbers.{lt_no}
 use Rattle.wf_laws.proofs.Windows.Opened.{NoRow, no_row}

@@ -1,11 +1,11 @@
 -- The words of the law on the lists of stations, computed: a station stays listed where it is not ready any more, and a Pull is Idle.
-use Rattle.std.proofs.Common.{◌≡◌, refl, true, false, List, [], ◌∷◌, map, Some}
+use Rattle.std.proofs.Common.{◌≡◌, refl, false, List, [], ◌∷◌, map, Some}
 use Rattle.wf_frame.specs.declared.settings.Config.{Config}
 use Rattle.wf_frame.specs.declared.classes.Class.TheVariants.{Be}
 use Rattle.wf_frame.specs.declared.notes.Ask.TheVariants.{Join, Pull, Sleep}
 use Rattle.wf_frame.specs.declared.notes.Note.TheVariants.{Enqueue, Asked}
 use Rattle.wf_frame.specs.declared.notes.Refusal.TheVariants.{Idle}
-use Rattle.wf_rules.specs.Rotation.{has_key, in_order}
+use Rattle.wf_rules.specs.Rotation.{in_order}
 use Rattle.wf_world.specs.World.{World, rotation, opening}
 use Rattle.wf_world.specs.CanSend.{is_ready}
 use Rattle.wf_world.specs.Refusals.{refusal}
