@@ -6,3 +6,6 @@ mod opened;
 
 pub use numbers::Numbers;
 pub use opened::{MOST_OPEN, Open, Opened, Sending};
+
+#[cfg(test)]
+mod tests;
