@@ -9,7 +9,7 @@ use Rattle.wf_laws.proofs.Windows.Law.{window_law}
 use Rattle.wf_laws.proofs.Windows.Answers.{answer_law}
 use Rattle.wf_laws.proofs.Releases.Named.{release_law}
 use Rattle.wf_laws.proofs.Releases.Placed.{once_law}
-use Rattle.wf_laws.proofs.Frames.Delivered.{delivery_law}
+use Rattle.wf_laws.proofs.Frames.DeliveryLaw.{delivery_law}
 use Rattle.wf_laws.proofs.Frames.FateLaw.{fate_law}
 use Rattle.wf_laws.proofs.Frames.FinishedLaw.{finished_law}
 use Rattle.wf_laws.proofs.Frames.Tallies.{tally_law}
@@ -31,9 +31,9 @@ pub laws : (config : Config) (history : List Entry) → IsInRange config → Law
 laws config h range = record {
   windows = window_law config h;
   answers = answer_law config h;
-  releases = release_law config h;
+  releases = release_law config h range;
   once = once_law config h;
-  delivery = delivery_law config h;
+  delivery = delivery_law config h range;
   fates = fate_law config h;
   finished = finished_law config h;
   tallies = tally_law config h;

@@ -3,7 +3,7 @@
 --   law of lib.rt                               ends in
 --   window_law, answer_law, twelve_bit_law      Windows (Law, Answers, TwelveBits)
 --   release_law, once_law                       Releases (Named, Placed)
---   delivery_law, fate_law, finished_law,       Frames (Delivered, FateLaw, FinishedLaw, Places, Rooms, Tallies)
+--   delivery_law, fate_law, finished_law,       Frames (DeliveryLaw, FateLaw, FinishedLaw, Places, Rooms, Tallies)
 --   place_law, room_law, tally_law
 --   queue_law, queue_deficit_law, limit_law     Queues (Law, Limit)
 --   range_law                                   Ranges (Law)

@@ -26,7 +26,7 @@ pub record Laws (config : Config) (history : List Entry) : Type 0 where
   pub windows : WindowLaw config history
   pub answers : AnswerLaw config history
   pub releases : ReleaseLaw config history
-  -- no id is released twice, each acknowledged frame reached its receiver, and a fate stays
+  -- no id is released twice, each acknowledged frame reached its own receiver, and a fate stays
   pub once : OnceLaw config history
   pub delivery : DeliveryLaw config history
   pub fates : FateLaw config history

@@ -9,12 +9,13 @@ use Rattle.wf_frame.specs.declared.notes.ReplyNote.TheVariants.{Joined, Released
 use Rattle.wf_rules.specs.Table.{has}
 use Rattle.wf_rules.specs.Receiver.{Receiver, release_start}
 use Rattle.wf_rules.specs.Session.{slot}
-use Rattle.wf_world.specs.World.{World, Exchange, session, receiver, is_live, exchange, opening}
+use Rattle.wf_world.specs.World.{World, Exchange, session, receiver, is_live, frame, exchange, opening}
 use Rattle.wf_world.specs.Exchanges.{ids_of}
 use Rattle.wf_world.specs.Step.{Outcome, step}
 use Rattle.wf_world.specs.Run.{Entry}
 use Rattle.wf_world.specs.Stretches.{world_at}
 use Rattle.wf_rules.specs.Lists.{IsRising, IsOnce}
+use Rattle.wf_laws.specs.Queues.{IsFor}
 
 -- whether a call asks that station s joins
 abbrev pub is_join_of : ℕ → Note → Bool
@@ -65,9 +66,10 @@ abbrev pub OnceLaw : Config → List Entry → Type 0
 OnceLaw config history = IsOnce (named_from (opening config) [] history)
 
 -- What the replies of a session name, put one after the other, is the ids of its arrived numbers below the release's start, in strictly rising order of the numbers.
--- And of its arrived numbers exactly those below the release's start are named so far in the run.
+-- And of its arrived numbers exactly those below the release's start are named so far in the run, and each frame is one that was enqueued for this station and TID.
 pub record PassesInOrder (config : Config) (entries : List Entry) (w : World) (s t : ℕ) : Type 0 where
   pub rising : IsRising 0 (numbers_passed (receiver w s t))
+  pub own : (id : ℕ) → has (passed config entries s t) id ≡ true → IsFor s t (frame w id).note
   pub passed : passed config entries s t ≡ ids_of (session w s t) (numbers_passed (receiver w s t))
   pub exactly : (n : ℕ) → has (receiver w s t).arrived n ≡ true → (has (named_from (opening config) [] entries) (slot (session w s t) n).id ≡ true) ↔ (n < release_start (receiver w s t))
 

@@ -38,9 +38,10 @@ pub fn answer_law()
     ensures { (config : Config) → (history : List Entry) → AnswerLaw config history }
 {}
 
-/// What the replies of one session release is the ids of its arrived numbers below the release's start, in strictly rising order of the numbers.
+/// What the replies of one session release is the ids of its arrived numbers below the release's start, in strictly rising order of the numbers; and each of these frames
+/// was enqueued for that station and TID.
 pub fn release_law()
-    ensures { (config : Config) → (history : List Entry) → ReleaseLaw config history }
+    ensures { (config : Config) → (history : List Entry) → IsInRange config → ReleaseLaw config history }
 {}
 
 /// No id is released twice in a run.
@@ -48,9 +49,9 @@ pub fn once_law()
     ensures { (config : Config) → (history : List Entry) → OnceLaw config history }
 {}
 
-/// Each acknowledged frame reached its receiver.
+/// Each acknowledged frame was held until the heard Done of an exchange that sent it, and had then reached the receiver of the station and TID for which it was enqueued.
 pub fn delivery_law()
-    ensures { (config : Config) → (history : List Entry) → DeliveryLaw config history }
+    ensures { (config : Config) → (history : List Entry) → IsInRange config → DeliveryLaw config history }
 {}
 
 /// A fate other than Held never changes.

@@ -28,7 +28,7 @@ use Rattle.wf_laws.proofs.Releases.Kept.{Kept, keep_settled}
 use Rattle.wf_laws.proofs.Releases.Released.{side_with_station}
 use Rattle.wf_laws.proofs.Frames.Fewer.{carries, queue_on, less_charged, less_drop_all}
 use Rattle.wf_laws.proofs.Frames.Delivered.{Labelled, labelled_kept}
-use Rattle.wf_laws.proofs.Frames.Fates.{IsHeld, InHand, Carries, ids_in, ids_carried, session_on_queue, fate_with_frame, head_gone, held_ids, waiting_member, IsWaiting, Pend, same_purge_queue, less_purge_queue}
+use Rattle.wf_laws.proofs.Frames.Fates.{IsHeld, InHand, Carries, bears_carried, ids_in, ids_carried, session_on_queue, fate_with_frame, head_gone, held_ids, waiting_member, IsWaiting, Pend, same_purge_queue, less_purge_queue}
 use Rattle.wf_laws.proofs.Frames.Untouched.{untouched_on_queue, untouched_on_session, untouched_with_queues, untouched_without, untouched_charged, untouched_off_lists, untouched_with_station, untouched_put_in}
 use Rattle.wf_laws.proofs.Frames.Owners.{IsOwned}
 use Rattle.wf_laws.proofs.Deficits.MildStep.{on_upto}
@@ -332,7 +332,7 @@ covers_gone l w s p q o c =
     let v : World = with_station b s None in
     let first : Covers (Pend s (upto 8) w) w = covers_more (InHand w) (Pend s (upto 8) w) w (λ k i. elim i [
       | inl r ↦ inl r
-      | inr d ↦ inr (record { spot = d; other = inr (on-has (upto 8) d.tid (on_upto 8 d.tid (o.mine d.station d.tid k d.number d.slot_of).1)) })
+      | inr d ↦ inr (record { spot = d; other = inr (on-has (upto 8) d.tid (on_upto 8 d.tid (o.mine d.station d.tid k d.number (bears_carried _ _ _ d.slot_of)).1)) })
     ]) c in
     let k : Covers (Pend s [] a) a = pend_all (upto 8) l w s p q first in
     let frames : v.frames ≡ a.frames = (untouched_with_station b s None).frames ∙ (untouched_off_lists all_classes a s).frames in

@@ -1,5 +1,5 @@
--- Each acknowledged frame reached its receiver.
-use Rattle.std.proofs.Common.{◌≡◌, ◌≢◌, refl, ap, sym, ◌∙◌, subst, arith, ℕ, zero, suc, ◌+◌, ◌-◌, ◌≤◌, nat_lt, append-nil, Bool, true, false, if◌then◌else◌, not, ◌==◌, ◌⊎◌, inl, inr, List, [], ◌∷◌, ◌++◌, length, map, Option, Some, None, IfSome, is_some, ◌↔◌}
+-- Each frame that a call acknowledges has arrived at a receiver, and the call ends an exchange that sends it.
+use Rattle.std.proofs.Common.{◌≡◌, ◌≢◌, refl, ap, sym, ◌∙◌, subst, arith, ℕ, zero, suc, ◌+◌, ◌-◌, ◌<◌, ◌≤◌, nat_lt, append-nil, Bool, true, false, if◌then◌else◌, not, ◌==◌, ◌⊎◌, inl, inr, List, [], ◌∷◌, ◌++◌, length, map, Option, Some, None, IfSome, is_some, append_assoc, ◌↔◌}
 use Rattle.wf_frame.specs.declared.settings.Config.{Config}
 use Rattle.wf_frame.specs.declared.classes.Class.{Class}
 use Rattle.wf_rules.specs.Receiver.{Score, Receiver, score}
@@ -21,7 +21,7 @@ use Rattle.wf_world.specs.Step.{Outcome, join_outcome, after_tid_left, after_tid
 use Rattle.wf_world.specs.Run.{Entry, world_after}
 use Rattle.wf_rule_laws.proofs.Lemmas.Tables.{at_put_other}
 use Rattle.wf_laws.proofs.Sessions.Flights.{Rises}
-use Rattle.wf_rule_laws.proofs.Lemmas.Numbers.{on_if}
+use Rattle.wf_rule_laws.proofs.Lemmas.Numbers.{on_if, yes_eq, or_left, or_right}
 use Rattle.wf_laws.proofs.Windows.Sides.{Side, side_of, sides_of, Same, each_side_on, on_opened, then_same, same_on_station, same_on_share, same_finish, same_listed, same_after_pick, same_after_turn, same_spent, same_within_limit, same_put_in, same_take, same_charged}
 use Rattle.wf_laws.proofs.Windows.Opened.{Each, each_map, each_both, each_append, each_filter, each_find, FlyIn, some_along, pick_ready, left_true, can_give-room, none_open, NoRow, no_row}
 use Rattle.std.proofs.Common.{drop, take as take_front}
@@ -29,7 +29,7 @@ use Rattle.std.proofs.lemmas.List.{take-append-drop}
 use Rattle.wf_rules.specs.Table.{greatest_upto}
 use Rattle.wf_frame.specs.declared.classes.Fate.TheVariants.{Acked, Held}
 use Rattle.wf_laws.specs.Windows.{EachMpdu}
-use Rattle.wf_laws.specs.Delivery.{EndsHeard, HasReached, ReachedWithin, DeliveryLaw}
+use Rattle.wf_laws.specs.Delivery.{ids_sent, EndsHeard}
 use Rattle.wf_laws.proofs.Releases.Kept.{KeptSession, kept_give, kept_fly, Kept, kept_same, keep_ended, keep_prepared}
 use Rattle.wf_laws.proofs.Windows.Agreed.{IsLawful, IsOpenIn, IsReady, AllBacked, ready_start, ready_filled, ready_same, longer_number, lawful_same, lawful_step, lawful_at_first, lawful_done, backed_by, session_same, session_on_session, opened_on_session, exchanges_on_session, same_left_tids, same_off_lists, each_map_if}
 use Rattle.wf_laws.proofs.Frames.Fewer.{IsAcked, Less, less, then_less, if_less, less_plain, less_on_station, less_on_session, less_on_receiver, less_with_queues, less_on_share, less_with_rotation, less_finish, less_drop_all, less_listed, less_after_pick, less_after_turn, less_spent, less_within_limit, less_listed_queue, less_purge_queues, less_charged, less_take}
@@ -323,9 +323,21 @@ pub less_ended : (w : World) (x : Exchange) (heard : Bool) → Less (AckedAmong 
 unfolding done_outcome
 less_ended w x heard = then_less _ _ _ _ (less_without _ w x.number) (then_less _ _ _ _ (less_charged _ _ x) (less_after x.content _ x heard))
 
+-- a number of a live station carries the frame, is acknowledged, and is in its receiver's set
+pub record HasArrived (w : World) (id : ℕ) : Type 0 where
+  pub station : ℕ
+  pub tid : ℕ
+  pub number : ℕ
+  pub live : is_live w station ≡ true
+  pub from : (session w station tid).first ≤ number
+  pub below : number < next_number (session w station tid)
+  pub carries : (slot (session w station tid) number).id ≡ id
+  pub acked : (slot (session w station tid) number).state ≡ State.Acked
+  pub arrived : has (receiver w station tid).arrived number ≡ true
+
 -- a number of the exchange that ended, acknowledged, has reached its receiver
 reached_among : (ms : List Mpdu) (v : World) (y : Session) (r : Receiver) (s t id lo : ℕ) (acked : ℕ → Bool) → is_live v s ≡ true → KeptSession y (session v s t) → receiver v s t ≡ r → y.first ≤ lo → Rises lo (next_number y) ms → Labelled y ms → AllBacked acked r ms
-    → EachMpdu (λ m. ((slot (session v s t) m.number).state ≡ State.Acked) ↔ (acked m.number ≡ true)) ms → AckedAmong acked ms id → HasReached v id
+    → EachMpdu (λ m. ((slot (session v s t) m.number).state ≡ State.Acked) ↔ (acked m.number ≡ true)) ms → AckedAmong acked ms id → HasArrived v id
 reached_among [] v y r s t id lo acked live k e b rises labels backed states h = absurd h
 reached_among (m ∷ ms) v y r s t id lo acked live k e b rises labels backed states h = elim h [
   | inl own ↦ record {
@@ -357,14 +369,14 @@ states_ended : (w : World) (x : Exchange) (heard : Bool) → IsOpenIn w x → Ea
 unfolding done_outcome
 states_ended w x heard o = states_after x.content w x heard refl o
 
-reached_ended : (w : World) (x : Exchange) (heard : Bool) (id : ℕ) → IsOpenIn w x → Labelled (session w x.station x.tid) (mpdus_of x.content) → AckedAmong (is_acked heard x.answer) (mpdus_of x.content) id → HasReached (done_outcome w x heard).world id
+reached_ended : (w : World) (x : Exchange) (heard : Bool) (id : ℕ) → IsOpenIn w x → Labelled (session w x.station x.tid) (mpdus_of x.content) → AckedAmong (is_acked heard x.answer) (mpdus_of x.content) id → HasArrived (done_outcome w x heard).world id
 reached_ended w x heard id o l h =
     let k : Kept w (done_outcome w x heard).world = keep_ended w x heard in
     let y : Session = session w x.station x.tid in
     reached_among (mpdus_of x.content) (done_outcome w x heard).world y (receiver w x.station x.tid) x.station x.tid id y.first (is_acked heard x.answer) (k.live x.station ∙ o.live) (k.sessions x.station x.tid) (k.receivers x.station x.tid) (omega arith) o.opened.flies.rising l
     (backed_by (mpdus_of x.content) heard x.answer (receiver w x.station x.tid) o.opened.kept) (states_ended w x heard o) h
 
-reached_same : (w v : World) (id : ℕ) → Same w v → HasReached w id → HasReached v id
+reached_same : (w v : World) (id : ℕ) → Same w v → HasArrived w id → HasArrived v id
 reached_same w v id h r = record {
   station = r.station;
   tid = r.tid;
@@ -491,8 +503,8 @@ fates_enqueued w s t flow len id a = old_by w (after_limit w) (less_within_limit
 -- ---- the step
 
 -- the frames that are acknowledged after a call were so before, or have reached their receiver now
-abbrev Acks : Note → World → World → Type 0
-Acks note w v = (id : ℕ) → IsAcked v id → IsAcked w id ⊎ (EndsHeard note × HasReached v id)
+abbrev pub Acks : Note → World → World → Type 0
+Acks note w v = (id : ℕ) → IsAcked v id → IsAcked w id ⊎ (EndsHeard w note id × HasArrived v id)
 
 acks_old : (note : Note) (w v : World) → OldAcks w v → Acks note w v
 acks_old note w v h id a = inl (h id a)
@@ -501,9 +513,9 @@ acks_less : (note : Note) (w v : World) → Less None_of w v → Acks note w v
 acks_less note w v h = acks_old note w v (old_by w v h)
 
 -- what holds after a call: labels, and what was acknowledged
-record IsDelivered (note : Note) (w v : World) : Type 0 where
-  labelled : IsLabelled v
-  acks : Acks note w v
+pub record IsDelivered (note : Note) (w v : World) : Type 0 where
+  pub labelled : IsLabelled v
+  pub acks : Acks note w v
 
 delivered_open : (note : Note) (P : Exchange → Type 0) (o : Option Exchange) (w : World) (f : Exchange → Outcome) → IfSome o P → IsLabelled w → ((x : Exchange) → P x → IsDelivered note w (f x).world) → IsDelivered note w (outcome_where_open w o f).world
 unfolding outcome_where_open
@@ -516,6 +528,10 @@ record IsRead (w : World) (x : Exchange) : Type 0 where
 
 read : (w : World) (i : IsLawful w) (a : IsLabelled w) (e : ℕ) → IfSome (exchange w e) (IsRead w)
 read w i a e = each_find (IsRead w) (IsRead w) (λ x. x.number == e) w.opened (λ x _ f. f) (each_both (IsOpenIn w) (λ x. Labelled (session w x.station x.tid) (mpdus_of x.content)) (IsRead w) w.opened (λ x o l. record { open_in = o; labels = l }) i.opened a.labels)
+
+with_itself : (o : Option Exchange) (P : Exchange → Type 0) → IfSome o P → IfSome o (λ y. (o ≡ Some y) × P y)
+with_itself None P h = tt
+with_itself (Some x) P h = (refl, h)
 
 delivered_station : (note : Note) (w : World) (s : ℕ) (f : Station → Station) → ((x : Station) (t : ℕ) → side_of (at no_tid (f x).tids t) ≡ side_of (at no_tid x.tids t)) → IsLawful w → IsLabelled w → IsDelivered note w (on_station w s f)
 delivered_station note w s f h i a = record { labelled = labelled_same w _ i (same_on_station w s f h) a; acks = acks_less _ w _ (less_on_station None_of w s f) }
@@ -541,14 +557,21 @@ heard_among [] false o id h = absurd h
 heard_among (m ∷ ms) false None id h = elim h [ inl e ↦ absurd (cc e.1) | inr k ↦ heard_among ms false None id k ]
 heard_among (m ∷ ms) false (Some b) id h = elim h [ inl e ↦ absurd (cc e.1) | inr k ↦ heard_among ms false (Some b) id k ]
 
-ends_heard : (e : ℕ) (heard : Bool) → heard ≡ true → EndsHeard (Asked (Done e heard))
-ends_heard e true h = tt
-ends_heard e false h = absurd (cc h)
+sent_among : (ms : List Mpdu) (acked : ℕ → Bool) (id : ℕ) → AckedAmong acked ms id → has (map (λ m. m.id) ms) id ≡ true
+sent_among [] acked id h = absurd h
+sent_among (m ∷ ms) acked id h = elim h [
+  | inl own ↦ or_left (m.id == id) (has (map (λ m. m.id) ms) id) (yes_eq m.id id own.0)
+  | inr later ↦ or_right (m.id == id) (has (map (λ m. m.id) ms) id) (sent_among ms acked id later)
+]
 
-delivered_ended : (w : World) (x : Exchange) (e : ℕ) (heard : Bool) → IsRead w x → IsLawful w → IsLabelled w → IsDelivered (Asked (Done e heard)) w (done_outcome w x heard).world
-delivered_ended w x e heard r i a = record {
+ends_heard : (w : World) (e : ℕ) (heard : Bool) (id : ℕ) → heard ≡ true → has (ids_sent (exchange w e)) id ≡ true → EndsHeard w (Asked (Done e heard)) id
+ends_heard w e true id h sent = sent
+ends_heard w e false id h sent = absurd (cc h)
+
+delivered_ended : (w : World) (x : Exchange) (e : ℕ) (heard : Bool) → exchange w e ≡ Some x → IsRead w x → IsLawful w → IsLabelled w → IsDelivered (Asked (Done e heard)) w (done_outcome w x heard).world
+delivered_ended w x e heard at_number r i a = record {
   labelled = labelled_ended w x heard i a;
-  acks = λ id d. elim ((less_ended w x heard).fates id d) [ inl was ↦ inl was | inr now ↦ inr (ends_heard e heard (heard_among (mpdus_of x.content) heard x.answer id now), reached_ended w x heard id r.open_in r.labels now) ];
+  acks = λ id d. elim ((less_ended w x heard).fates id d) [ inl was ↦ inl was | inr now ↦ inr (ends_heard w e heard id (heard_among (mpdus_of x.content) heard x.answer id now) (ap (λ (o : Option Exchange). has (ids_sent o) id) at_number ∙ sent_among (mpdus_of x.content) (is_acked heard x.answer) id now), reached_ended w x heard id r.open_in r.labels now) ];
 }
 
 delivered_done : (note : Note) (w : World) → IsLawful w → IsLabelled w → NoRow (refusals w note) → IsDelivered note w (outcome_of w note).world
@@ -561,7 +584,7 @@ delivered_done (Asked (Tick by)) w i a e = delivered_plain _ w _ refl refl refl 
 delivered_done (Asked (Pull c)) w i a e = record { labelled = labelled_pulled w c i a; acks = acks_less (Asked (Pull c)) w _ (less_pulled None_of w c) }
 delivered_done (Asked (Arrive x n)) w i a e = delivered_open _ (IsRead w) (exchange w x) w _ (read w i a x) a (λ y r. record { labelled = labelled_arrived w y n r.labels a; acks = acks_less (Asked (Arrive x n)) w _ (less_arrived None_of w y n) })
 delivered_done (Asked (Answer x)) w i a e = delivered_open _ (IsRead w) (exchange w x) w _ (read w i a x) a (λ y r. record { labelled = labelled_answered w y r.labels a; acks = acks_less (Asked (Answer x)) w _ (less_answered None_of w y) })
-delivered_done (Asked (Done x heard)) w i a e = delivered_open _ (IsRead w) (exchange w x) w _ (read w i a x) a (λ y r. delivered_ended w y x heard r i a)
+delivered_done (Asked (Done x heard)) w i a e = delivered_open _ (λ y. (exchange w x ≡ Some y) × IsRead w y) (exchange w x) w _ (with_itself (exchange w x) (IsRead w) (read w i a x)) a (λ y r. delivered_ended w y x heard r.0 r.1 i a)
 delivered_done (Asked (Sleep s)) w i a e = delivered_station _ w s _ (λ x t. refl) i a
 delivered_done (Asked (Wake s)) w i a e = delivered_station _ w s _ (λ x t. refl) i a
 delivered_done (Asked (Poll s)) w i a e = delivered_station _ w s _ (λ x t. refl) i a
@@ -586,33 +609,9 @@ delivered_answer None w note e i a =
     let o : NoRow (refusals w note) = no_row (refusals w note) e in
     then_listed note w (outcome_of w note).world _ (same_listed (concerned_station w note) (outcome_of w note).world) (less_listed None_of (concerned_station w note) (outcome_of w note).world) (lawful_done note w o i) (delivered_done note w i a o)
 
-delivered_step : (w : World) (note : Note) → IsLawful w → IsLabelled w → IsDelivered note w (step w note).world
+pub delivered_step : (w : World) (note : Note) → IsLawful w → IsLabelled w → IsDelivered note w (step w note).world
 unfolding step
 delivered_step w note i a = delivered_answer (refusal w note) w note refl i a
 
 pub labelled_step : (w : World) (note : Note) → IsLawful w → IsLabelled w → IsLabelled (step w note).world
 labelled_step w note i a = (delivered_step w note i a).labelled
-
--- ---- the run
-
--- with one entry more in front
-further : (w : World) (e : Entry) (es : List Entry) (id : ℕ) → ReachedWithin (step w e.1).world es id → ReachedWithin w (e ∷ es) id
-unfolding world_after
-further w e es id r = record { before = e ∷ r.before; end = r.end; after = r.after; split = ap (λ (l : List Entry). e ∷ l) r.split; heard = r.heard; fate = r.fate; reached = r.reached }
-
-at_once : (w : World) (e : Entry) (es : List Entry) (id : ℕ) → EndsHeard e.1 → IsAcked (step w e.1).world id → HasReached (step w e.1).world id → ReachedWithin w (e ∷ es) id
-unfolding world_after
-at_once w e es id h f r = record { before = []; end = e; after = es; split = refl; heard = h; fate = f; reached = r }
-
-delivered_run : (h : List Entry) (w : World) → IsLawful w → IsLabelled w → (id : ℕ) → IsAcked (world_after w h) id → IsAcked w id ⊎ ReachedWithin w h id
-unfolding world_after
-delivered_run [] w i a id e = inl e
-delivered_run (x ∷ xs) w i a id e =
-    let d : IsDelivered x.1 w (step w x.1).world = delivered_step w x.1 i a in
-    elim (delivered_run xs (step w x.1).world (lawful_step w x.1 i) d.labelled id e) [
-      | inl was ↦ elim (d.acks id was) [ inl before ↦ inl before | inr now ↦ inr (at_once w x xs id now.0 was now.1) ]
-      | inr later ↦ inr (further w x xs id later)
-    ]
-
-pub delivery_law : (config : Config) (h : List Entry) → DeliveryLaw config h
-delivery_law config h id e = elim (delivered_run h (opening config) (lawful_at_first config) (record { labels = tt }) id e) [ inl none ↦ absurd (cc none) | inr r ↦ r ]

@@ -209,6 +209,15 @@ pub record Carries (y : Session) (k n : ℕ) : Type 0 where
   pub unsettled : is_settled (slot y n).state ≡ false
   pub id : (slot y n).id ≡ k
 
+-- the number n of a session, settled or not, was given to k
+pub record Bears (y : Session) (k n : ℕ) : Type 0 where
+  pub from : y.first ≤ n
+  pub below : n < next_number y
+  pub id : (slot y n).id ≡ k
+
+pub bears_carried : (y : Session) (k n : ℕ) → Carries y k n → Bears y k n
+bears_carried y k n c = record { from = c.from; below = c.below; id = c.id }
+
 pub record AtSlot (w : World) (k : ℕ) : Type 0 where
   pub station : ℕ
   pub tid : ℕ
@@ -1158,6 +1167,9 @@ steady_run (e ∷ es) l w k = steady_run es _ (step w e.1).world (steady_step l 
 -- ids: those that were reaped before a call that reaps none
 pub right_step : (l ids : List ℕ) (w : World) (note : Note) → Steady l w → (if is_none (refusal w note) then fetched note else 0) ≡ 0 → IsFinishedRight ids w → IsFinishedRight ids (step w note).world
 right_step l ids w note k none a = (fates_step l w k.lawful note k.labelled k.placing k.fresh).right none ids a
+
+pub remains_step : (l : List ℕ) (w : World) (note : Note) → Steady l w → Remains w (step w note).world
+remains_step l w note k = (fates_step l w k.lawful note k.labelled k.placing k.fresh).remains
 
 -- how many frames are accepted and inside after a call
 pub counted_step : (l : List ℕ) (w : World) (note : Note) → Steady l w

@@ -1,7 +1,7 @@
--- Each frame at a number that is not settled is one of the number's TID.
+-- Each frame at a number is one of the number's TID.
 use Rattle.wf_frame.specs.declared.classes.Class.{Class}
 use Rattle.wf_frame.specs.declared.classes.Fate.{Fate}
-use Rattle.std.proofs.Common.{nat_lt, ◌+◌, ◌++◌, ◌≡◌, refl, ap, sym, ◌∙◌, subst, arith, ℕ, zero, suc, ◌<◌, ◌-◌, Bool, true, false, if◌then◌else◌, ◌==◌, List, [], ◌∷◌, length, Option, Some, None, IfSome}
+use Rattle.std.proofs.Common.{nat_lt, ◌+◌, ◌++◌, ◌≡◌, refl, ap, sym, ◌∙◌, subst, arith, ℕ, zero, suc, ◌<◌, ◌≤◌, ◌-◌, Bool, true, false, if◌then◌else◌, ◌==◌, List, [], ◌∷◌, length, Option, Some, None, IfSome}
 use Rattle.wf_rules.specs.Table.{at}
 use Rattle.wf_rules.specs.Codel.{Params, Codel, Dequeued, dequeue, Item}
 use Rattle.wf_rules.specs.Rotation.{in_order}
@@ -15,37 +15,53 @@ use Rattle.wf_laws.specs.Queues.{EachItem, IsFor}
 use Rattle.wf_rule_laws.proofs.Lemmas.Numbers.{on_bool, lt_yes, lt_no}
 use Rattle.wf_rule_laws.proofs.Lemmas.Dequeues.{each_dequeue}
 use Rattle.wf_rule_laws.proofs.Lemmas.Rotations.{IsWinner, pick_winner}
-use Rattle.wf_laws.proofs.Sessions.Flights.{next-give}
-use Rattle.wf_laws.proofs.Windows.Agreement.{slot_give}
+use Rattle.wf_laws.proofs.Sessions.Flights.{flown, next-give}
+use Rattle.wf_laws.proofs.Windows.Agreement.{slot_give, next-on_slot}
 use Rattle.wf_laws.proofs.Windows.Sides.{Same, same_take, same_spent, same_after_turn, same_after_pick, same_finish, same_charged, each_side_on}
 use Rattle.wf_laws.proofs.Windows.Opened.{some_along, left_true, pick_ready}
 use Rattle.wf_laws.proofs.Windows.Agreed.{IsLawful, IsReady, IsEnding, IsFound, ready_filled, ending_settled, ending_of, lawful_same, session_same}
 use Rattle.wf_laws.proofs.Windows.Settling.{without_same}
-use Rattle.wf_laws.proofs.Releases.Placed.{slot_new_id}
-use Rattle.wf_laws.proofs.Frames.Fates.{unsettles_fly, unsettles_on_slot, unsettles_heard, Carries, Unsettles, unsettles_refl}
+use Rattle.wf_laws.proofs.Releases.Kept.{KeptSession, kept_fly, kept_on_slot, kept_heard}
+use Rattle.wf_laws.proofs.Releases.Placed.{slot_new_id, next-heard}
+use Rattle.wf_laws.proofs.Frames.Fates.{Bears}
 use Rattle.wf_laws.proofs.Frames.Untouched.{untouched_with_queues, untouched_pay_queues, untouched_on_session, untouched_spent, untouched_after_turn, untouched_after_pick}
 use Rattle.wf_laws.proofs.Queues.Shelves.{Shelves, shelves, shelves_pay_queues, shelves_finish_all, shelves_after_turn, shelves_after_pick, shelves_ended}
 use Rattle.wf_laws.proofs.Queues.Shelved.{IsOf, IsShelved, each_item}
 use Rattle.wf_laws.proofs.Queues.ShelvedStep.{shelves_number, live_number, shelved_take}
 use Rattle.wf_frame.specs.declared.notes.Note.{Note}
 
--- the numbers of v that are not settled were so in w, each with its id
+-- the numbers of z were so in y, each with its id
+pub record BearsFrom (y z : Session) : Type 0 where
+  pub was : (k n : ℕ) → Bears z k n → Bears y k n
+
+pub bears_refl : (y : Session) → BearsFrom y y
+bears_refl y = record { was = λ k n c. c }
+
+bears_kept : (y z : Session) → KeptSession y z → next_number z ≡ next_number y → BearsFrom y z
+bears_kept y z h e = record {
+  was = λ k n c.
+      let from : y.first ≤ n = omega (arith, c.from, h.first) in
+      let below : n < next_number y = omega (arith, c.below, e) in
+      record { from = from; below = below; id = sym (h.ids n from below) ∙ c.id };
+}
+
+-- the numbers of v were so in w, each with its id
 pub record SlotsFrom (w v : World) : Type 0 where
-  pub was : (s t : ℕ) → Unsettles (session w s t) (session v s t)
+  pub was : (s t : ℕ) → BearsFrom (session w s t) (session v s t)
 
 pub slots_same : (w v : World) → ((s t : ℕ) → session v s t ≡ session w s t) → SlotsFrom w v
-slots_same w v h = record { was = λ s t. subst (Unsettles (session w s t)) (sym (h s t)) (unsettles_refl (session w s t)) }
+slots_same w v h = record { was = λ s t. subst (BearsFrom (session w s t)) (sym (h s t)) (bears_refl (session w s t)) }
 
 pub then_slots : (u v w : World) → SlotsFrom u v → SlotsFrom v w → SlotsFrom u w
 then_slots u v w h k = record { was = λ s t. record { was = λ i n c. (h.was s t).was i n ((k.was s t).was i n c) } }
 
-pub slots_session : (w : World) (s t : ℕ) (f : Session → Session) → Unsettles (session w s t) (f (session w s t)) → SlotsFrom w (on_session w s t f)
+pub slots_session : (w : World) (s t : ℕ) (f : Session → Session) → BearsFrom (session w s t) (f (session w s t)) → SlotsFrom w (on_session w s t f)
 unfolding on_session
-slots_session w s t f u = record { was = each_side_on (λ i j a. Unsettles (session w i j) a.session) w s t (λ y. record y { session = f y.session }) (λ i j. unsettles_refl (session w i j)) u }
+slots_session w s t f u = record { was = each_side_on (λ i j a. BearsFrom (session w i j) a.session) w s t (λ y. record y { session = f y.session }) (λ i j. bears_refl (session w i j)) u }
 
--- the frames at unsettled numbers are of their TIDs
+-- the frames at numbers are of their TIDs
 pub record IsOwned (w : World) : Type 0 where
-  pub mine : (s t k n : ℕ) → Carries (session w s t) k n → IsFor s t (frame w k).note × (t < 8)
+  pub mine : (s t k n : ℕ) → Bears (session w s t) k n → IsFor s t (frame w k).note × (t < 8)
 
 pub record SameNotes (w v : World) : Type 0 where
   pub same : (k : ℕ) → (frame v k).note ≡ (frame w k).note
@@ -96,10 +112,10 @@ notes_take w s t =
     let v : World = with_queues u s t (picked_queue w s t).lists in
     record { same = λ k. (notes_taken (picked_queue w s t).winner v s).same k ∙ (notes_frames w v ((untouched_with_queues u s t _).frames ∙ (untouched_pay_queues _ w _).frames)).same k }
 
-given_by : (w : World) (s t id : ℕ) → ((a b k n : ℕ) → Carries (session w a b) k n → IsFor a b (frame w k).note × (b < 8)) → ((k n : ℕ) → Carries (with_number_given (session w s t) id) k n → IsFor s t (frame w k).note × (t < 8)) →
-    (a b k n : ℕ) → Carries (session (on_session w s t (λ y. with_number_given y id)) a b) k n → IsFor a b (frame w k).note × (b < 8)
+given_by : (w : World) (s t id : ℕ) → ((a b k n : ℕ) → Bears (session w a b) k n → IsFor a b (frame w k).note × (b < 8)) → ((k n : ℕ) → Bears (with_number_given (session w s t) id) k n → IsFor s t (frame w k).note × (t < 8)) →
+    (a b k n : ℕ) → Bears (session (on_session w s t (λ y. with_number_given y id)) a b) k n → IsFor a b (frame w k).note × (b < 8)
 unfolding on_session
-given_by w s t id old own = each_side_on (λ a b z. (k n : ℕ) → Carries z.session k n → IsFor a b (frame w k).note × (b < 8)) w s t (λ y. record y { session = with_number_given y.session id }) old own
+given_by w s t id old own = each_side_on (λ a b z. (k n : ℕ) → Bears z.session k n → IsFor a b (frame w k).note × (b < 8)) w s t (λ y. record y { session = with_number_given y.session id }) old own
 
 owned_give : (w : World) (s t id : ℕ) → IsFor s t (frame w id).note × (t < 8) → IsOwned w → IsOwned (on_session w s t (λ y. with_number_given y id))
 owned_give w s t id h i =
@@ -108,19 +124,19 @@ owned_give w s t id h i =
       mine = λ a b k n c. subst (λ (z : Note). IsFor a b z × (b < 8)) (sym ((notes_frames w (on_session w s t (λ y. with_number_given y id)) (untouched_on_session w s t (λ y. with_number_given y id)).frames).same k)) (given a b k n c);
     }
   where
-    at_own : (k n : ℕ) → Carries (with_number_given (session w s t) id) k n → IsFor s t (frame w k).note × (t < 8)
+    at_own : (k n : ℕ) → Bears (with_number_given (session w s t) id) k n → IsFor s t (frame w k).note × (t < 8)
     at_own k n c =
         let y : Session = session w s t in
         on_bool (nat_lt n (next_number y))
         (λ b.
         let d : slot (with_number_given y id) n ≡ slot y n = slot_give y id n c.from (lt_yes n (next_number y) b) in
-        i.mine s t k n (record { from = c.from; below = lt_yes n (next_number y) b; unsettled = ap (λ (x : Slot). is_settled x.state) (sym d) ∙ c.unsettled; id = ap (λ (x : Slot). x.id) (sym d) ∙ c.id }))
+        i.mine s t k n (record { from = c.from; below = lt_yes n (next_number y) b; id = ap (λ (x : Slot). x.id) (sym d) ∙ c.id }))
         (λ b.
         let here : n ≡ next_number y = omega (arith, next-give y id, c.below, lt_no n (next_number y) b) in
         let same : id ≡ k = sym (slot_new_id y id n here) ∙ c.id in
         subst (λ (j : ℕ). IsFor s t (frame w j).note × (t < 8)) same h)
 
-    given : (a b k n : ℕ) → Carries (session (on_session w s t (λ y. with_number_given y id)) a b) k n → IsFor a b (frame w k).note × (b < 8)
+    given : (a b k n : ℕ) → Bears (session (on_session w s t (λ y. with_number_given y id)) a b) k n → IsFor a b (frame w k).note × (b < 8)
     given = given_by w s t id i.mine at_own
 
 owned_number : (o : Option Item) (w : World) (s t : ℕ) → IfSome o (λ x. IsFor s t (frame w x.id).note × (t < 8)) → IsOwned w → IsOwned (with_number w s t o)
@@ -158,7 +174,7 @@ owned_frames : (s t : ℕ) (f : Aggregate) → IsReady s t f.world f.mpdus → I
 unfolding prepared_data
 owned_frames s t f r o =
     let y : Session = session f.world s t in
-    owned_along f.world _ (slots_session f.world s t (with_flying f.world.exchanges f.mpdus) (unsettles_fly f.mpdus y f.world.exchanges y.first (next_number y) (omega arith) r.chosen.rising r.chosen.waiting)) (notes_frames f.world _ (untouched_on_session f.world s t _).frames) o
+    owned_along f.world _ (slots_session f.world s t (with_flying f.world.exchanges f.mpdus) (bears_kept y _ (kept_fly f.mpdus y f.world.exchanges) (flown f.mpdus y f.world.exchanges (next_number y) y.first (omega arith) r.chosen.rising r.chosen.waiting).next)) (notes_frames f.world _ (untouched_on_session f.world s t _).frames) o
 
 owned_prepared_if : (b : Bool) (x y : Prepared) → IsOwned x.world → (b ≡ false → IsOwned y.world) → IsOwned (if b then x else y).world
 owned_prepared_if true x y h k = h
@@ -208,9 +224,9 @@ slots_finish w fate id = slots_same w _ (session_same w _ (same_finish w fate id
 slots_settled : (b : Bool) (e s t : ℕ) (acked : ℕ → Bool) (w : World) (m : Mpdu) (ms : List Mpdu) → IsEnding e s t acked w (m ∷ ms) → SlotsFrom w (with_settled w s t b m)
 unfolding with_settled with_failed_finished
 slots_settled true e s t acked w m ms n =
-    then_slots w _ _ (slots_session w s t (with_state State.Acked m.number) (unsettles_on_slot (session w s t) m.number (λ x. record x { state = State.Acked }) n.flies.rising.0 (ap is_settled n.flies.flying.0) (λ x. refl))) (slots_finish _ _ _)
+    then_slots w _ _ (slots_session w s t (with_state State.Acked m.number) (bears_kept (session w s t) _ (kept_on_slot (session w s t) m.number (λ x. record x { state = State.Acked }) (λ x. refl)) (next-on_slot (session w s t) m.number (λ x. record x { state = State.Acked }) (ap is_settled n.flies.flying.0)))) (slots_finish _ _ _)
 slots_settled false e s t acked w m ms n =
-    let k : SlotsFrom w (on_session w s t (after_miss w.config.attempts m.number)) = slots_session w s t (after_miss w.config.attempts m.number) (unsettles_on_slot (session w s t) m.number (slot_after_miss w.config.attempts) n.flies.rising.0 (ap is_settled n.flies.flying.0) (λ x. refl)) in
+    let k : SlotsFrom w (on_session w s t (after_miss w.config.attempts m.number)) = slots_session w s t (after_miss w.config.attempts m.number) (bears_kept (session w s t) _ (kept_on_slot (session w s t) m.number (slot_after_miss w.config.attempts) (λ x. refl)) (next-on_slot (session w s t) m.number (slot_after_miss w.config.attempts) (ap is_settled n.flies.flying.0))) in
     slots_if _ w _ _ (then_slots w _ _ k (slots_finish _ _ _)) k
 
 slots_all : (ms : List Mpdu) (e s t : ℕ) (acked : ℕ → Bool) (w : World) → IsEnding e s t acked w ms → SlotsFrom w (with_all_settled w s t acked ms)
@@ -221,7 +237,7 @@ slots_all (m ∷ ms) e s t acked w n = then_slots w _ _ (slots_settled (acked m.
 slots_after : (c : Content) (w : World) (i : IsLawful w) (x : Exchange) (heard : Bool) → x.content ≡ c → IsFound w i x → SlotsFrom (after_charge (without_exchange w x.number) x) (after_done (after_charge (without_exchange w x.number) x) x heard c)
 unfolding after_done
 slots_after (Frames ms) w i x heard e f = slots_all ms x.number x.station x.tid (is_acked heard x.answer) _ (ending_of w i x ms heard e f)
-slots_after (Request g) w i x heard e f = slots_session _ x.station x.tid (with_heard_start heard g) (unsettles_heard heard g _)
+slots_after (Request g) w i x heard e f = slots_session _ x.station x.tid (with_heard_start heard g) (bears_kept _ _ (kept_heard heard g _) (next-heard heard g _))
 
 slots_ended : (w : World) (i : IsLawful w) (x : Exchange) (heard : Bool) → IsFound w i x → SlotsFrom w (done_outcome w x heard).world
 unfolding done_outcome

@@ -1,5 +1,5 @@
 -- Each held frame stands in one place: the law, answered.
-use Rattle.std.proofs.Common.{◌≡◌, ◌≢◌, refl, ap, sym, ◌∙◌, subst, arith, ℕ, ◌<◌, nat_lt, true, false, ◌==◌, inl, inr, List, [], ◌∷◌, map, take, Option, Some, None, IfSome}
+use Rattle.std.proofs.Common.{◌++◌, ◌≡◌, ◌≢◌, refl, ap, sym, ◌∙◌, subst, arith, ℕ, ◌<◌, nat_lt, true, false, ◌==◌, inl, inr, List, [], ◌∷◌, map, take, Option, Some, None, IfSome}
 use Rattle.wf_frame.specs.declared.settings.Config.{Config}
 use Rattle.wf_frame.specs.Settings.{IsInRange}
 use Rattle.wf_frame.specs.declared.classes.Class.{Class}
@@ -24,8 +24,8 @@ use Rattle.wf_world.specs.Step.{Outcome, enqueue_outcome, join_outcome, after_ti
 use Rattle.wf_world.specs.Run.{Entry, world_after}
 use Rattle.wf_world.specs.Stretches.{world_at}
 use Rattle.wf_laws.specs.Windows.{SomeOpen, IsSending}
-use Rattle.wf_laws.specs.Releases.{named_from}
-use Rattle.wf_laws.specs.Queues.{EachItem, IsFor, AreAtMost}
+use Rattle.wf_laws.specs.Releases.{named_by, named_from}
+use Rattle.wf_laws.specs.Queues.{EachItem, IsFor, AreAtMost, IsAtMost}
 use Rattle.wf_laws.specs.Places.{Place, Queued, Numbered, IsNumbered, StandsAt, StandsOnce, KeepsPlaces, PlaceLaw}
 use Rattle.wf_rule_laws.proofs.Lemmas.Numbers.{on_bool, on_if, eq_yes, eq_no, either}
 use Rattle.wf_laws.proofs.Windows.Sides.{Side, side_of, sides_of, Same, then_same, same_on_station, same_listed, same_after_pick}
@@ -36,9 +36,9 @@ use Rattle.wf_laws.proofs.Releases.Released.{side_with_station, side_own_station
 use Rattle.wf_laws.proofs.Releases.Placed.{Placing}
 use Rattle.wf_laws.proofs.Frames.Fewer.{carries}
 use Rattle.wf_laws.proofs.Frames.Delivered.{same_enqueued}
-use Rattle.wf_laws.proofs.Frames.Fates.{IsHeld, InQueue, AtSlot, InHand, Carries, Unsettles, unsettles_refl, ids_carried, Steady, steady_step, steady_first, IsFoundNamed, found_named, session_on_receiver}
+use Rattle.wf_laws.proofs.Frames.Fates.{IsHeld, InQueue, AtSlot, InHand, Carries, Bears, bears_carried, ids_carried, Steady, steady_step, steady_first, IsFoundNamed, found_named, session_on_receiver}
 use Rattle.wf_laws.proofs.Frames.Untouched.{untouched_on_queue, untouched_put_in, untouched_with_station, untouched_off_lists, untouched_on_station, untouched_on_receiver, untouched_after_pick, untouched_listed}
-use Rattle.wf_laws.proofs.Frames.Owners.{SlotsFrom, slots_same, then_slots, IsOwned, notes_frames, owned_along, owned_calm, owned_pulled, owned_ended}
+use Rattle.wf_laws.proofs.Frames.Owners.{BearsFrom, bears_refl, SlotsFrom, slots_same, then_slots, IsOwned, notes_frames, owned_along, owned_calm, owned_pulled, owned_ended}
 use Rattle.wf_laws.proofs.Frames.Covered.{Full, covers_calm, covers_pulled, queues_pay_stations}
 use Rattle.wf_laws.proofs.Frames.CoveredStep.{IsQuiet, covers_enqueued, covers_ended, covers_gone, covers_joined}
 use Rattle.wf_laws.proofs.Deficits.Books.{upd_other}
@@ -73,7 +73,7 @@ notes_enqueued l w s t flow len k p below =
 owned_enqueued : (l : List ℕ) (w : World) (s t flow len : ℕ) → Placing l w → IsOwned w → IsOwned (enqueue_outcome w s t flow len).world
 owned_enqueued l w s t flow len p o = record {
   mine = λ i j k n c.
-      let d : Carries (session w i j) k n = subst (λ (y : Session). Carries y k n) (session_same w (enqueue_outcome w s t flow len).world (same_enqueued w s t flow len) i j) c in
+      let d : Bears (session w i j) k n = subst (λ (y : Session). Bears y k n) (session_same w (enqueue_outcome w s t flow len).world (same_enqueued w s t flow len) i j) c in
       let old : k < accepted_count w = subst (λ (m : ℕ). m < accepted_count w) d.id (p.numbered i j n d.from d.below).old in
       let m = o.mine i j k n d in
       (subst (IsFor i j) (sym (notes_enqueued l w s t flow len k p old)) m.0, m.1);
@@ -84,10 +84,10 @@ slots_station w s o bare = record {
   was = λ i t. on_bool (s == i)
       (λ own.
       let e : session (with_station w s o) i t ≡ (sides_of o t).session = ap (λ (j : ℕ). session (with_station w s o) j t) (sym (eq_yes s i own)) ∙ ap (λ (b : Side). b.session) (side_own_station w s t o) in
-      record { was = λ k n c. let d : Carries (sides_of o t).session k n = subst (λ (y : Session). Carries y k n) e c in absurd (omega (arith, bare t, d.from, d.below)) })
+      record { was = λ k n c. let d : Bears (sides_of o t).session k n = subst (λ (y : Session). Bears y k n) e c in absurd (omega (arith, bare t, d.from, d.below)) })
       (λ other.
       let e : session (with_station w s o) i t ≡ session w i t = ap (λ (b : Side). b.session) (side_with_station w s i t o (eq_no s i other)) in
-      subst (Unsettles (session w i t)) (sym e) (unsettles_refl (session w i t)));
+      subst (BearsFrom (session w i t)) (sym e) (bears_refl (session w i t)));
 }
 
 bare_zero : next_number (new_session 0 0) ≡ 0
@@ -139,8 +139,8 @@ quiet_of w s f none = record { waits = λ t n k c. go t n k c (slot (session w s
 -- ---- the calls
 
 -- all that a call keeps, for this law
-record Stood (w : World) : Type 0 where
-  owned : IsOwned w
+pub record Stood (w : World) : Type 0 where
+  pub owned : IsOwned w
   full : Full w
 
 stood_calm : (w v : World) → Same w v → v.frames ≡ w.frames → v.queues ≡ w.queues → Stood w → Stood v
@@ -240,33 +240,39 @@ stood_step l most w note k f h i = stood_answer (refusal w note) l most w note k
 
 -- ---- the run
 
-record Standing (l : List ℕ) (most : ℕ) (w : World) : Type 0 where
-  steady : Steady l w
+pub record Standing (l : List ℕ) (most : ℕ) (w : World) : Type 0 where
+  pub steady : Steady l w
   flown : IsFlown_by w
   shelved : IsShelved most (shelves w)
-  stood : Stood w
+  pub stood : Stood w
+
+pub standing_step : (l : List ℕ) (most : ℕ) (w : World) (note : Note) → IsAtMost most note → Standing l most w → Standing (l ++ named_by (step w note).reply) most (step w note).world
+standing_step l most w note short k = record {
+  steady = steady_step l w note k.steady;
+  flown = flown_step w note k.steady.lawful k.flown;
+  shelved = shelved_step l most w note short k.steady.placing k.shelved;
+  stood = stood_step l most w note k.steady k.flown k.shelved k.stood;
+}
 
 standing_run : (h : List Entry) (l : List ℕ) (most : ℕ) (w : World) → AreAtMost most h → Standing l most w → Standing (named_from w l h) most (world_after w h)
 unfolding world_after named_from
 standing_run [] l most w short k = k
-standing_run (e ∷ es) l most w short k = standing_run es _ most (step w e.1).world short.1 (record {
-  steady = steady_step l w e.1 k.steady;
-  flown = flown_step w e.1 k.steady.lawful k.flown;
-  shelved = shelved_step l most w e.1 short.0 k.steady.placing k.shelved;
-  stood = stood_step l most w e.1 k.steady k.flown k.shelved k.stood;
-})
+standing_run (e ∷ es) l most w short k = standing_run es _ most (step w e.1).world short.1 (standing_step l most w e.1 short.0 k)
 
-standing : (config : Config) (h : List Entry) → IsInRange config → Standing (named_from (opening config) [] h) (longest_in h) (world_after (opening config) h)
+pub standing_first : (config : Config) (most : ℕ) → IsInRange config → Standing [] most (opening config)
 unfolding world_after
-standing config h range = standing_run h [] (longest_in h) (opening config) (within h) (record {
+standing_first config most range = record {
   steady = steady_first config;
   flown = all_flown config [];
-  shelved = shelved_first config (longest_in h) range;
+  shelved = shelved_first config most range;
   stood = record {
     owned = record { mine = λ s t k n c. absurd (omega (arith, c.from, c.below)) };
     full = record { covers = λ k below e. absurd (omega (arith, below)) };
   };
-})
+}
+
+pub standing : (config : Config) (h : List Entry) → IsInRange config → Standing (named_from (opening config) [] h) (longest_in h) (world_after (opening config) h)
+standing config h range = standing_run h [] (longest_in h) (opening config) (within h) (standing_first config (longest_in h) range)
 
 -- ---- the law
 
@@ -295,7 +301,7 @@ stands_once l most w id k i = elim i [
     place = Numbered a.station a.tid a.number;
     stands = record { from = a.slot_of.from; below = a.slot_of.below; carries = a.slot_of.id; unsettled = a.slot_of.unsettled };
     only = λ p. only_numbered p a;
-    right = (k.stood.owned.mine a.station a.tid id a.number a.slot_of).0;
+    right = (k.stood.owned.mine a.station a.tid id a.number (bears_carried _ _ _ a.slot_of)).0;
   }
 ]
   where

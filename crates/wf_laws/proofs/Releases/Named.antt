@@ -16,7 +16,10 @@ use Rattle.wf_world.specs.Exchanges.{ids_of}
 use Rattle.wf_laws.proofs.Windows.Agreed.{lawful}
 use Rattle.wf_laws.proofs.Releases.Released.{passed_all, rising_passed}
 use Rattle.wf_rule_laws.proofs.Lemmas.Joined.{has_append}
-use Rattle.wf_laws.proofs.Releases.Placed.{Placing, placed}
+use Rattle.wf_laws.proofs.Releases.Placed.{Placing, placed, has_ids, IsIdOf}
+use Rattle.wf_frame.specs.Settings.{IsInRange}
+use Rattle.wf_laws.proofs.Frames.Owners.{IsOwned}
+use Rattle.wf_laws.proofs.Frames.Places.{standing}
 
 -- every number of l is in m
 record Within (l m : List ℕ) : Type 0 where
@@ -56,8 +59,14 @@ filter_keeps p (x ∷ xs) n h e = elim (either (x == n) (has xs n) h) [
   | inr d ↦ on_if (λ (ys : List ℕ). has ys n ≡ true) (p x) (x ∷ filter p xs) (filter p xs) (λ _. or_right (x == n) _ (filter_keeps p xs n d e)) (λ _. filter_keeps p xs n d e)
 ]
 
-in_order : (config : Config) (h : List Entry) (s t : ℕ) → is_live (world_after (opening config) h) s ≡ true → PassesInOrder config h (world_after (opening config) h) s t
-in_order config h s t live =
+filtered_has : (p : ℕ → Bool) (xs : List ℕ) (n : ℕ) → has (filter p xs) n ≡ true → has xs n ≡ true
+filtered_has p [] n h = h
+filtered_has p (x ∷ xs) n h = on_if (λ (ys : List ℕ). has ys n ≡ true → has (x ∷ xs) n ≡ true) (p x) (x ∷ filter p xs) (filter p xs)
+    (λ _ d. elim (either (x == n) (has (filter p xs) n) d) [ inl e ↦ or_left (x == n) (has xs n) e | inr e ↦ or_right (x == n) (has xs n) (filtered_has p xs n e) ])
+    (λ _ d. or_right (x == n) (has xs n) (filtered_has p xs n d)) h
+
+in_order : (config : Config) (h : List Entry) (s t : ℕ) → IsOwned (world_after (opening config) h) → is_live (world_after (opening config) h) s ≡ true → PassesInOrder config h (world_after (opening config) h) s t
+in_order config h s t owned live =
     let w : World = world_after (opening config) h in
     let y : Session = session w s t in
     let r : Receiver = receiver w s t in
@@ -73,7 +82,11 @@ in_order config h s t live =
             (λ d. (p.numbered s t n range.0 range.1).passed d),
             (λ d. inside.each (slot y n).id (ap (λ (k : List ℕ). has k (slot y n).id) all ∙ has_id (numbers_passed r) y n (filter_keeps (λ n. nat_lt n (release_start r)) r.arrived n e (yes_lt n (release_start r) d)))),
           );
+      own = λ id e.
+          let o : IsIdOf y (numbers_passed r) id = has_ids (numbers_passed r) y id (ap (λ (k : List ℕ). has k id) (sym all) ∙ e) in
+          let range : (y.first ≤ o.number) × (o.number < next_number y) = ((lawful config h).agreed s t).arrived o.number (filtered_has (λ n. nat_lt n (release_start r)) r.arrived o.number o.among) in
+          (owned.mine s t id o.number (record { from = range.0; below = range.1; id = o.id })).0;
     }
 
-pub release_law : (config : Config) (h : List Entry) → ReleaseLaw config h
-release_law config h m s t live = in_order config (take m h) s t live
+pub release_law : (config : Config) (h : List Entry) → IsInRange config → ReleaseLaw config h
+release_law config h range m s t live = in_order config (take m h) s t (standing config (take m h) range).stood.owned live

@@ -1,4 +1,4 @@
-use Rattle.wf_laws.proofs.Frames.Delivered.{delivery_law}
+use Rattle.wf_laws.proofs.Frames.DeliveryLaw.{delivery_law}
 use Rattle.wf_laws.proofs.delivery_law.Goals as goal
 
 pub returns : goal.returns
