@@ -229,3 +229,6 @@ impl Parley {
         self.recipient = Accept::new(self.tid, self.limit, self.recipient.last());
     }
 }
+
+#[cfg(test)]
+mod made_run;
