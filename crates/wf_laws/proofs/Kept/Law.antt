@@ -21,7 +21,7 @@ use Rattle.wf_laws.proofs.Common.Moments.{take_parts}
 use Rattle.wf_laws.proofs.Windows.Sides.{Side, Same, then_same, same_listed, same_after_pick, same_on_station, same_on_share}
 use Rattle.wf_laws.proofs.Windows.Opened.{NoRow, no_row}
 use Rattle.wf_laws.proofs.Windows.Agreed.{IsLawful, IsFound, found, same_left_tids, same_off_lists, lawful, lawful_step}
-use Rattle.wf_laws.proofs.Releases.Released.{side_with_station}
+use Rattle.wf_laws.proofs.Releases.Released.{side_with_station, live_with_station, live_own_station}
 use Rattle.wf_laws.proofs.Frames.Delivered.{same_enqueued}
 use Rattle.wf_laws.proofs.Kept.Lasting.{Lasts, lasts_refl, lasts_equal, then_lasts, Last, last_same, last_here, last_pulled, last_arrived, last_answered, last_ended}
 use Rattle.wf_laws.proofs.Frames.Fates.{world_after-append}
@@ -45,14 +45,6 @@ then_same_stays note w u v h k = record {
 
 -- ---- joining and leaving
 
-live_station : (w : World) (i s : ℕ) (o : Option Station) → i ≢ s → is_live (with_station w i o) s ≡ is_live w s
-unfolding with_station
-live_station w i s o ne = ap is_some (at_put_other None w.stations i s o ne)
-
-live_own : (w : World) (i : ℕ) (o : Option Station) → is_live (with_station w i o) i ≡ is_some o
-unfolding with_station
-live_own w i o = ap is_some (at_put_same None w.stations i o)
-
 lasts_station : (w : World) (i s t : ℕ) (o : Option Station) → i ≢ s → Lasts (session w s t) (session (with_station w i o) s t)
 lasts_station w i s t o ne = lasts_equal _ _ (ap (λ (a : Side). a.session) (side_with_station w i s t o ne))
 
@@ -60,16 +52,16 @@ lasts_station w i s t o ne = lasts_equal _ _ (ap (λ (a : Side). a.session) (sid
 stays_joined : (note : Note) (w : World) (i : ℕ) (x : Station) → is_live w i ≡ false → Stays note w (with_station w i (Some x))
 stays_joined note w i x dead = record {
   sessions = λ s t l m. on_bool (i == s) (λ own. absurd (cc (ap (is_live w) (eq_yes i s own), dead, l))) (λ other. lasts_station w i s t (Some x) (eq_no i s other));
-  live = λ s l n. on_bool (i == s) (λ own. absurd (cc (ap (is_live w) (eq_yes i s own), dead, l))) (λ other. live_station w i s (Some x) (eq_no i s other) ∙ l);
+  live = λ s l n. on_bool (i == s) (λ own. absurd (cc (ap (is_live w) (eq_yes i s own), dead, l))) (λ other. live_with_station w i s (Some x) (eq_no i s other) ∙ l);
 }
 
 -- a station leaves
 stays_gone : (w : World) (i : ℕ) → Stays (Asked (Leave i)) w (with_station w i None)
 stays_gone w i = record {
   sessions = λ s t l m. on_bool (i == s)
-      (λ own. absurd (cc (ap (is_live (with_station w i None)) (eq_yes i s own), live_own w i None, m)))
+      (λ own. absurd (cc (ap (is_live (with_station w i None)) (eq_yes i s own), live_own_station w i None, m)))
       (λ other. lasts_station w i s t None (eq_no i s other));
-  live = λ s l n. live_station w i s None (eq_no i s n) ∙ l;
+  live = λ s l n. live_with_station w i s None (eq_no i s n) ∙ l;
 }
 
 stays_after : (note : Note) (w u v : World) → Same w u → Stays note u v → Stays note w v
