@@ -16,3 +16,4 @@ pub mod Sums
 pub mod Sent
 pub mod Rotations
 pub mod Finished
+pub mod Kept

@@ -13,6 +13,7 @@ ghost use Rattle.wf_laws.specs.Deficits.{DeficitLaw, FairnessLaw, QuietLaw};
 ghost use Rattle.wf_laws.specs.Delivery.{DeliveryLaw};
 ghost use Rattle.wf_laws.specs.Fates.{FateLaw};
 ghost use Rattle.wf_laws.specs.Finished.{FinishedLaw};
+ghost use Rattle.wf_laws.specs.Kept.{KeptLaw};
 ghost use Rattle.wf_laws.specs.Laws.{Laws};
 ghost use Rattle.wf_laws.specs.Numbers.{NumberLaw};
 ghost use Rattle.wf_laws.specs.Places.{PlaceLaw};
@@ -142,6 +143,11 @@ pub fn sum_law()
 /// After every entry, each open exchange has at most 256 transmissions, in strictly rising order of their numbers, and each has the id of its number's frame.
 pub fn sent_law()
     ensures { (config : Config) → (history : List Entry) → SentLaw config history }
+{}
+
+/// As long as a station stays, each number that a session of it gave keeps its frame's id, and one that is acknowledged or has failed stays so.
+pub fn kept_law()
+    ensures { (config : Config) → (history : List Entry) → KeptLaw config history }
 {}
 
 /// All laws of a history.

@@ -1190,7 +1190,7 @@ steady_first config = record {
   fresh = record { held = λ k i. refl };
 }
 
-world_after-append : (h : List Entry) (w : World) (k : List Entry) → world_after w (h ++ k) ≡ world_after (world_after w h) k
+pub world_after-append : (h : List Entry) (w : World) (k : List Entry) → world_after w (h ++ k) ≡ world_after (world_after w h) k
 unfolding world_after
 world_after-append [] w k = refl
 world_after-append (e ∷ h) w k = world_after-append h (step w e.1).world k

@@ -154,11 +154,11 @@ pub side_own_station : (w : World) (i t : ℕ) (o : Option Station) → side (wi
 unfolding with_station
 side_own_station w i t o = ap (λ (p : Option Station). sides_of p t) (at_put_same None w.stations i o)
 
-live_with_station : (w : World) (i s : ℕ) (o : Option Station) → i ≢ s → is_live (with_station w i o) s ≡ is_live w s
+pub live_with_station : (w : World) (i s : ℕ) (o : Option Station) → i ≢ s → is_live (with_station w i o) s ≡ is_live w s
 unfolding with_station
 live_with_station w i s o ne = ap is_some (at_put_other None w.stations i s o ne)
 
-live_own_station : (w : World) (i : ℕ) (o : Option Station) → is_live (with_station w i o) i ≡ is_some o
+pub live_own_station : (w : World) (i : ℕ) (o : Option Station) → is_live (with_station w i o) i ≡ is_some o
 unfolding with_station
 live_own_station w i o = ap is_some (at_put_same None w.stations i o)
 

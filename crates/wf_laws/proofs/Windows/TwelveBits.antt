@@ -1,5 +1,5 @@
 -- All numbers of a TID that are compared lie close together.
-use Rattle.std.proofs.Common.{◌≡◌, sym, subst, arith, ℕ, ◌≤◌, ◌<◌, ◌+◌, ◌*◌, List, [], ◌∷◌, take}
+use Rattle.std.proofs.Common.{◌≡◌, sym, subst, arith, ℕ, ◌≤◌, ◌<◌, ◌+◌, ◌*◌, List, [], ◌∷◌, IfSome, take}
 use Rattle.wf_frame.specs.declared.settings.Config.{Config}
 use Rattle.wf_rules.specs.Session.{Session, next_number}
 use Rattle.wf_rules.specs.Receiver.{Receiver, release_start, score_start, greatest}
@@ -9,9 +9,11 @@ use Rattle.wf_world.specs.Stretches.{world_at}
 use Rattle.wf_laws.specs.Windows.{EachOpen, IfAsks, AreNear, IsPending, IsOpenRight, KeepsWindows}
 use Rattle.wf_laws.specs.TwelveBits.{IsInUse, ComparesRight, TwelveBitLaw}
 use Rattle.wf_rule_laws.proofs.Lemmas.Numbers.{missing_ge, score_within}
-use Rattle.wf_laws.proofs.Windows.Agreement.{IsAgreed, next_release, below_next}
+use Rattle.wf_laws.proofs.Windows.Opened.{Each}
+use Rattle.wf_laws.proofs.Windows.Agreement.{IsAgreed, next_release, below_next, option_along}
 use Rattle.wf_laws.proofs.Windows.Agreed.{IsLawful, lawful}
 use Rattle.wf_laws.proofs.Windows.Sizes.{IsSized, sized}
+use Rattle.wf_laws.proofs.Windows.Answered.{Marked, marked, StandsNear, answers_near}
 use Rattle.wf_laws.proofs.Windows.Law.{window_law}
 
 score_release : (y : Session) (r : Receiver) → IsAgreed y r → score_start r ≤ release_start r
@@ -37,8 +39,17 @@ asked_in w k i s t =
     (λ f p q. (omega (arith, q.2, i.size s t), omega (arith, p.start, p.start_next))) right.pending right.start)
     w.opened k.opened
 
-compares : (w : World) → KeepsWindows w → IsLawful w → IsSized w → (s t : ℕ) → ComparesRight w s t
-compares w k i z s t =
+answered_in : (w : World) → IsSized w → (s t : ℕ) → (xs : List Exchange) → Each (λ x. IfSome x.answer (StandsNear (session w x.station x.tid) (receiver w x.station x.tid))) xs
+    → EachOpen (λ x. x.station ≡ s → x.tid ≡ t → IfSome x.answer (λ b. IsInUse w s t b.start)) xs
+answered_in w i s t [] e = tt
+answered_in w i s t (x ∷ xs) e = (
+  (λ es et. subst (λ (j : ℕ). IfSome x.answer (λ b. IsInUse w s j b.start)) et (subst (λ (j : ℕ). IfSome x.answer (λ b. IsInUse w j x.tid b.start)) es
+      (option_along (StandsNear (session w x.station x.tid) (receiver w x.station x.tid)) (λ b. IsInUse w x.station x.tid b.start) x.answer (λ b n. (omega (arith, n.0, i.size x.station x.tid), n.1)) e.0))),
+  answered_in w i s t xs e.1,
+)
+
+compares : (w : World) → KeepsWindows w → IsLawful w → Marked w → IsSized w → (s t : ℕ) → ComparesRight w s t
+compares w k i m z s t =
     let y : Session = session w s t in
     let r : Receiver = receiver w s t in
     let near : AreNear y r = k.near s t in
@@ -54,8 +65,9 @@ compares w k i z s t =
           let d = (k.known s t).flying n e from f in
           (omega (arith, d.2), (let l : n < next_number y = below_next y n from (λ a. cc (sym f, a)) in omega (arith, l)));
       asked = asked_in w k z s t;
+      answered = answered_in w z s t w.opened (answers_near w i m);
       close = λ m n a b. omega (arith, a.1, b.0, near.next_score, small);
     }
 
 pub twelve_bit_law : (config : Config) (h : List Entry) → TwelveBitLaw config h
-twelve_bit_law config h m s t = compares (world_at config h m) (window_law config h m) (lawful config (take m h)) (sized config (take m h)) s t
+twelve_bit_law config h m s t = compares (world_at config h m) (window_law config h m) (lawful config (take m h)) (marked config (take m h)) (sized config (take m h)) s t
