@@ -25,6 +25,7 @@ use Rattle.wf_laws.proofs.Deficits.Numbers.{number_law}
 use Rattle.wf_laws.proofs.Windows.TwelveBits.{twelve_bit_law}
 use Rattle.wf_laws.proofs.Sums.Law.{sum_law}
 use Rattle.wf_laws.proofs.Sent.Law.{sent_law}
+use Rattle.wf_laws.proofs.Attempts.Law.{attempts_law}
 use Rattle.wf_laws.proofs.Queues.Law.{queue_law, queue_deficit_law}
 
 pub laws : (config : Config) (history : List Entry) → IsInRange config → Laws config history
@@ -52,4 +53,5 @@ laws config h range = record {
   numbers = number_law config h range;
   sums = sum_law config h range;
   sent = sent_law config h;
+  attempts = attempts_law config h range;
 }

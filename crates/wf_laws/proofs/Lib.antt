@@ -11,6 +11,7 @@
 --   fairness_law                                Fairness (Law)
 --   sum_law                                     Sums (Law)
 --   sent_law                                    Sent (Law)
+--   attempts_law                                Attempts (Law)
 --   rotation_law                                Rotations (Law)
 --
 -- Each law is an invariant of worlds or a relation between a world and a later one. A lemma for each part of a call, named after that part, keeps it; then the call by cases
@@ -26,6 +27,7 @@ pub mod Ranges
 pub mod Fairness
 pub mod Sums
 pub mod Sent
+pub mod Attempts
 pub mod Rotations
 pub mod Witnesses
 pub mod AllLaws

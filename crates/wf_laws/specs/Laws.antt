@@ -19,6 +19,7 @@ use Rattle.wf_laws.specs.Ranges.{RangeLaw}
 use Rattle.wf_laws.specs.Numbers.{NumberLaw}
 use Rattle.wf_laws.specs.Sums.{SumLaw}
 use Rattle.wf_laws.specs.Sent.{SentLaw}
+use Rattle.wf_laws.specs.Attempts.{AttemptsLaw}
 use Rattle.wf_laws.specs.Rotations.{RotationLaw}
 
 pub record Laws (config : Config) (history : List Entry) : Type 0 where
@@ -58,3 +59,5 @@ pub record Laws (config : Config) (history : List Entry) : Type 0 where
   pub sums : SumLaw config history
   -- what an open exchange sends
   pub sent : SentLaw config history
+  -- how often a number is sent in vain
+  pub attempts : AttemptsLaw config history
