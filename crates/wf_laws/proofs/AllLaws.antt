@@ -26,6 +26,7 @@ use Rattle.wf_laws.proofs.Windows.TwelveBits.{twelve_bit_law}
 use Rattle.wf_laws.proofs.Sums.Law.{sum_law}
 use Rattle.wf_laws.proofs.Sent.Law.{sent_law}
 use Rattle.wf_laws.proofs.Kept.Law.{kept_law}
+use Rattle.wf_laws.proofs.Attempts.Law.{attempts_law}
 use Rattle.wf_laws.proofs.Queues.Law.{queue_law, queue_deficit_law}
 
 pub laws : (config : Config) (history : List Entry) → IsInRange config → Laws config history
@@ -54,4 +55,5 @@ laws config h range = record {
   sums = sum_law config h range;
   sent = sent_law config h;
   kept = kept_law config h;
+  attempts = attempts_law config h range;
 }

@@ -12,6 +12,7 @@
 --   sum_law                                     Sums (Law)
 --   sent_law                                    Sent (Law)
 --   kept_law                                    Kept (Law)
+--   attempts_law                                Attempts (Law)
 --   rotation_law                                Rotations (Law)
 --
 -- Each law is an invariant of worlds or a relation between a world and a later one. A lemma for each part of a call, named after that part, keeps it; then the call by cases
@@ -28,6 +29,7 @@ pub mod Fairness
 pub mod Sums
 pub mod Sent
 pub mod Kept
+pub mod Attempts
 pub mod Rotations
 pub mod Witnesses
 pub mod AllLaws

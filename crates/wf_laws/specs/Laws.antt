@@ -20,6 +20,7 @@ use Rattle.wf_laws.specs.Numbers.{NumberLaw}
 use Rattle.wf_laws.specs.Sums.{SumLaw}
 use Rattle.wf_laws.specs.Sent.{SentLaw}
 use Rattle.wf_laws.specs.Kept.{KeptLaw}
+use Rattle.wf_laws.specs.Attempts.{AttemptsLaw}
 use Rattle.wf_laws.specs.Rotations.{RotationLaw}
 
 pub record Laws (config : Config) (history : List Entry) : Type 0 where
@@ -61,3 +62,5 @@ pub record Laws (config : Config) (history : List Entry) : Type 0 where
   pub sent : SentLaw config history
   -- a number keeps its frame, and what became of it stays
   pub kept : KeptLaw config history
+  -- how often a number is sent in vain
+  pub attempts : AttemptsLaw config history

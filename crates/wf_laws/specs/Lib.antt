@@ -13,7 +13,9 @@ pub mod Room
 pub mod Ranges
 pub mod Numbers
 pub mod Sums
+pub mod Lengths
 pub mod Sent
+pub mod Attempts
 pub mod Rotations
 pub mod Finished
 pub mod Kept

@@ -9,6 +9,7 @@ ghost use Rattle.wf_frame.specs.declared.settings.Config.{Config};
 ghost use Rattle.wf_frame.specs.Settings.{IsInRange};
 ghost use Rattle.wf_world.specs.Run.{Entry};
 ghost use Rattle.wf_laws.specs.Answers.{AnswerLaw};
+ghost use Rattle.wf_laws.specs.Attempts.{AttemptsLaw};
 ghost use Rattle.wf_laws.specs.Deficits.{DeficitLaw, FairnessLaw, QuietLaw};
 ghost use Rattle.wf_laws.specs.Delivery.{DeliveryLaw};
 ghost use Rattle.wf_laws.specs.Fates.{FateLaw};
@@ -148,6 +149,12 @@ pub fn sent_law()
 /// As long as a station stays, each number that a session of it gave keeps its frame's id, and one that is acknowledged or has failed stays so.
 pub fn kept_law()
     ensures { (config : Config) → (history : List Entry) → KeptLaw config history }
+{}
+
+/// After every entry, a number that waits, is in flight or was acknowledged was sent in vain less often than the setting `attempts` says, and one that failed exactly so
+/// often.
+pub fn attempts_law()
+    ensures { (config : Config) → (history : List Entry) → IsInRange config → AttemptsLaw config history }
 {}
 
 /// All laws of a history.

@@ -29,7 +29,8 @@ use Rattle.wf_trace.specs.Settings.{worse, placed, set_one, read_words, value_re
 use Rattle.wf_trace.specs.Meanings.{read_head, allowed, entry_of, against, caller_of, caller_first, headed, finished, named, meant}
 use Rattle.wf_trace.specs.Reading.{Reading, told, stopped, read_behind, place_behind, reading}
 use Rattle.wf_replay.specs.Texts.{settings_among, history_among}
-use Rattle.wf_replay.specs.Laws.{HasLengths, HasLaws}
+use Rattle.wf_laws.specs.Lengths.{HasLengths}
+use Rattle.wf_replay.specs.Laws.{HasLaws}
 use Rattle.wf_laws.specs.Queues.{HasLength, IsAtMost}
 use Rattle.wf_laws.proofs.AllLaws.{laws}
 use Rattle.wf_frame.specs.declared.notes.Note.{Note}

@@ -1,17 +1,10 @@
 -- The laws over the run of a trace.
 use Rattle.std.specs.Prelude.{◌≡◌, List, Some}
 use Rattle.wf_frame.specs.declared.settings.Config.{Config}
-use Rattle.wf_rules.specs.Lengths.{greatest_body}
-use Rattle.wf_world.specs.Run.{Entry}
-use Rattle.wf_rules.specs.Lengths.{greatest_body}
 use Rattle.wf_laws.specs.Laws.{Laws}
-use Rattle.wf_laws.specs.Queues.{HaveLengths, AreAtMost}
+use Rattle.wf_laws.specs.Lengths.{HasLengths}
 use Rattle.wf_trace.specs.Reading.{Reading}
 use Rattle.wf_replay.specs.Texts.{settings_among, history_among}
-
--- each frame has at least one octet, and at most those of the greatest body: the premise of the laws on the limit and on the deficits of queues
-abbrev pub HasLengths : List Entry → Type 0
-HasLengths history = HaveLengths history × AreAtMost greatest_body history
 
 -- Where a trace has a head, the laws hold of the run of its calls: the window law, the deficit law, the fairness
 -- law, and the others. And its frames have the lengths that some of these ask for.

@@ -1,0 +1,2 @@
+-- The law of how often a number is sent in vain.
+pub mod Law
