@@ -39,3 +39,12 @@ settled_as (Dropped Overlimit) c = record c { overlimit = c.overlimit + 1 }
 settled_as (Dropped Codel) c = record c { codel = c.codel + 1 }
 settled_as (Dropped Retries) c = record c { retries = c.retries + 1 }
 settled_as (Dropped Left) c = record c { left = c.left + 1 }
+
+-- so many frames more have this fate
+abbrev pub many_settled_as : Fate → ℕ → Counts → Counts
+many_settled_as Held n c = c
+many_settled_as Acked n c = record c { acked = c.acked + n }
+many_settled_as (Dropped Overlimit) n c = record c { overlimit = c.overlimit + n }
+many_settled_as (Dropped Codel) n c = record c { codel = c.codel + n }
+many_settled_as (Dropped Retries) n c = record c { retries = c.retries + n }
+many_settled_as (Dropped Left) n c = record c { left = c.left + n }

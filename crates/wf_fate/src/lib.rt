@@ -4,7 +4,11 @@
 ghost use Rattle.std.specs.Prelude.{◌≡◌, ◌≢◌, ◌+◌, ◌<◌, ◌≤◌, ◌^◌};
 ghost use Rattle.wf_frame.specs.declared.classes.Fate.TheVariants.{Held};
 
+mod laws;
+
 use wf_frame::{Cause, Fate};
+
+pub use laws::many_settle_one_by_one;
 
 /// Counts of frames. Every accepted frame is acknowledged, dropped for one cause, or still held.
 #[derive(Clone, Copy, Debug, PartialEq, Eq)]
@@ -25,7 +29,7 @@ pub struct Tally {
 }
 
 impl Tally {
-    ghost use Rattle.wf_fate.specs.Tally.{counts_of, held_in, no_counts, one_accepted, settled, settled_as};
+    ghost use Rattle.wf_fate.specs.Tally.{counts_of, held_in, many_settled_as, no_counts, one_accepted, settled, settled_as};
 
     /// No frames.
     pub fn new() -> Tally
@@ -64,6 +68,24 @@ impl Tally {
             Fate::Dropped(Cause::Codel) => self.codel += 1,
             Fate::Dropped(Cause::Retries) => self.retries += 1,
             Fate::Dropped(Cause::Left) => self.left += 1,
+        }
+    }
+
+    /// Counts so many held frames as ones that have this fate.
+    pub fn settle_all(&mut self, fate: Fate, count: u32)
+        requires settled { fate ≢ Held }
+        requires held { count ≤ held_in (counts_of self.old) }
+        ensures counted { counts_of self.new ≡ many_settled_as fate count (counts_of self.old) }
+        ensures held { held_in (counts_of self.new) + count ≡ held_in (counts_of self.old) }
+    {
+        let count = u64::from(count);
+        match fate {
+            Fate::Held => unreachable!(),
+            Fate::Acked => self.acked += count,
+            Fate::Dropped(Cause::Overlimit) => self.overlimit += count,
+            Fate::Dropped(Cause::Codel) => self.codel += count,
+            Fate::Dropped(Cause::Retries) => self.retries += count,
+            Fate::Dropped(Cause::Left) => self.left += count,
         }
     }
 
@@ -106,5 +128,22 @@ mod tests {
         assert_eq!(rt; tally.held(), 1);
         assert_eq!(rt; (tally.accepted, tally.acked, tally.overlimit), (7, 2, 1));
         assert_eq!(rt; (tally.codel, tally.retries, tally.left), (1, 1, 1));
+    }
+
+    #[test]
+    fn many_settle_at_once(rt: HostRuntime) {
+        let mut tally = Tally::new();
+        for _ in 0..7 {
+            if tally.accepted < 100 {
+                tally.add();
+            }
+        }
+        for (fate, count) in [(Fate::Dropped(Cause::Left), 4), (Fate::Dropped(Cause::Codel), 2)] {
+            if fate != Fate::Held && u64::from(count) <= tally.held() {
+                tally.settle_all(fate, count);
+            }
+        }
+        assert_eq!(rt; (tally.accepted, tally.left, tally.codel), (7, 4, 2));
+        assert_eq!(rt; tally.held(), 1);
     }
 }

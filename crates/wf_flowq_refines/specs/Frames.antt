@@ -1,0 +1,44 @@
+-- The frames that the flow queues hold, beside the accepted ones.
+use Rattle.std.specs.Prelude.{◌≡◌, ◌<◌, ℕ, ◌==◌, false, All, length, if◌then◌else◌}
+use Rattle.wf_frame.specs.Frames.{FrameValue}
+use Rattle.wf_frame.specs.declared.classes.Cause.{Cause}
+use Rattle.wf_frame.specs.declared.classes.Fate.TheVariants.{Held, Dropped}
+use Rattle.wf_frame.specs.declared.notes.Note.{Note}
+use Rattle.wf_frame.specs.declared.notes.Note.TheVariants.{Enqueue}
+use Rattle.wf_world.specs.World.{World, frame, accepted_count, is_held}
+use Rattle.wf_codel_queues.specs.Backlog.{BacklogValue, frames_at, frame_with_fate}
+
+-- each queued frame has P, and each finished one has R
+pub record HasEach (P R : FrameValue → Type 0) (b : BacklogValue) : Type 0 where
+  pub queued : (q : ℕ) → All P (frames_at b q)
+  pub finished : All R b.finished
+
+-- a frame that has P has R once it is dropped, for whatever cause
+abbrev pub DropsTo : (FrameValue → Type 0) → (FrameValue → Type 0) → Type 0
+DropsTo P R = (f : FrameValue) (cause : Cause) → P f → R (frame_with_fate (Dropped cause) f)
+
+-- f is the frame that a call brought, as it was accepted: with this id, and still held
+pub record IsAccepted (id : ℕ) (note : Note) (f : FrameValue) : Type 0 where
+  pub id : f.id ≡ id
+  pub fate : f.fate ≡ Held
+  pub note : note ≡ Enqueue f.station f.tid f.flow (length f.body)
+
+-- `bodies` has the frame of each id that the world accepted
+abbrev pub AreAccepted : World → (ℕ → FrameValue) → Type 0
+AreAccepted w bodies = (id : ℕ) → id < accepted_count w → IsAccepted id (frame w id).note (bodies id)
+
+-- the frames of the ids, with one more that is accepted
+abbrev pub with_body : (ℕ → FrameValue) → FrameValue → ℕ → FrameValue
+with_body bodies f id = if id == f.id then f else bodies id
+
+-- f is the accepted frame of its id
+abbrev pub IsBody : (ℕ → FrameValue) → FrameValue → Type 0
+IsBody bodies f = f ≡ bodies f.id
+
+-- f is the accepted frame of its id but for its fate, which is no longer Held
+abbrev pub IsBodySettled : (ℕ → FrameValue) → FrameValue → Type 0
+IsBodySettled bodies f = (record f { fate = Held } ≡ bodies f.id) × (is_held f.fate ≡ false)
+
+-- each queued frame is the accepted one; each finished one is it but for its fate, which is not Held
+abbrev pub HasFrames : BacklogValue → (ℕ → FrameValue) → Type 0
+HasFrames b bodies = HasEach (IsBody bodies) (IsBodySettled bodies) b
