@@ -1,7 +1,7 @@
 -- Words in a row.
 use Rattle.std.proofs.Common.{◌≡◌, ℕ, ◌+◌, ◌<◌, ◌≤◌, List, [], ◌∷◌, ◌++◌, length, take, drop, get_or, refl, sym, ◌∙◌, ap, append_assoc, append-nil, arith}
 use Rattle.std.specs.Prelude.{map, sum_by}
-use Rattle.std.proofs.lemmas.List.{take_more, drop_more, take-append-drop, map_more}
+use Rattle.std.proofs.lemmas.List.{take_more, take-append-drop, map_more}
 use Rattle.std.proofs.lemmas.List.Sums.{sum_by-append}
 use Rattle.std.specs.List.{join_with_byte}
 use Rattle.wf_io.specs.Words.{text_of, width_of, spaced}

@@ -1,6 +1,6 @@
 //! A source in memory.
 
-ghost use Rattle.std.specs.Prelude.{◌≡◌, ◌+◌, ◌-◌, ◌^◌, ◌<◌, ◌≤◌, ◌↔◌, min, length, take, Some, Contains, OnErr, OnOk, IfOk, IsErr};
+ghost use Rattle.std.specs.Prelude.{◌≡◌, ◌+◌, ◌-◌, ◌^◌, ◌<◌, ◌≤◌, ◌↔◌, min, length, take, Some, Contains, OnErr, IfOk, IsErr};
 ghost use Rattle.std.specs.Io.KnownBytes.{prepend_known, IsAtEnd};
 ghost use Rattle.wf_io.specs.Faults.{CountsFaults};
 
@@ -63,7 +63,6 @@ impl Source for Given {
         ensures fails { IsErr result ↔ Contains self.old.failing self.old.calls }
         ensures most { IfOk result (λ n. n ≡ min (min (length self.old.left) (length buffer.old)) self.old.piece) }
         ensures calls { self.new ≡ record self.old { left = self.new.left; calls = min (self.old.calls + 1) (2 ^ 64 - 1); faults = self.new.faults } }
-        ensures quiet { OnOk result (self.new.faults ≡ self.old.faults) }
     {
         let call = self.calls;
         self.calls = call.saturating_add(1);

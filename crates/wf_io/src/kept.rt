@@ -1,6 +1,6 @@
 //! A sink in memory.
 
-ghost use Rattle.std.specs.Prelude.{◌≡◌, ◌+◌, ◌-◌, ◌^◌, ◌<◌, ◌≤◌, ◌↔◌, ◌⊎◌, [], min, length, take, Some, Contains, OnErr, OnOk, IfOk, IsErr};
+ghost use Rattle.std.specs.Prelude.{◌≡◌, ◌+◌, ◌-◌, ◌^◌, ◌<◌, ◌≤◌, ◌↔◌, ◌⊎◌, [], min, length, take, Some, Contains, OnErr, IfOk, IsErr};
 ghost use Rattle.std.specs.Io.KnownBytes.{append_known};
 ghost use Rattle.wf_io.specs.Faults.{CountsFaults};
 
@@ -76,7 +76,6 @@ impl Sink for Kept {
         ensures fails { IsErr result ↔ (Contains self.old.failing self.old.calls ⊎ (self.old.room ≤ length self.old.held)) }
         ensures most { IfOk result (λ n. n ≡ min (min (length octets.now) (self.old.room - length self.old.held)) self.old.piece) }
         ensures calls { self.new ≡ record self.old { held = self.new.held; calls = min (self.old.calls + 1) (2 ^ 64 - 1); faults = self.new.faults } }
-        ensures quiet { OnOk result (self.new.faults ≡ self.old.faults) }
     {
         let call = self.calls;
         self.calls = call.saturating_add(1);

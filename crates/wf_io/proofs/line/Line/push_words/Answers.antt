@@ -1,4 +1,4 @@
-use Rattle.std.proofs.Common.{◌≡◌, ◌+◌, ◌<◌, ◌≤◌, ◌++◌, ◌∷◌, [], length, ap, arith, length-append}
+use Rattle.std.proofs.Common.{◌∷◌, [], length, ap, arith, length-append}
 use Rattle.wf_io.specs.declared.line.Word.TheVariants.{Text}
 use Rattle.wf_io.proofs.Spaces.{more_words, widths-more, widths-rest}
 use Rattle.wf_io.proofs.line.Line.push_words.Goals as goal

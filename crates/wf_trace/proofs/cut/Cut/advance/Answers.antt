@@ -1,4 +1,4 @@
-use Rattle.std.proofs.Common.{◌≡◌, true, false, sym, arith}
+use Rattle.std.proofs.Common.{◌≡◌, true, false, sym, ◌∙◌, arith}
 use Rattle.wf_trace.specs.Words.{words, skipped}
 use Rattle.wf_trace.proofs.CutLaws.{kept_skip, cuts_line, cuts_end, cuts_none}
 use Rattle.wf_trace.proofs.cut.Cut.advance.Goals as goal
@@ -35,5 +35,5 @@ lines-preserved g c =
       ended,
       (λ first. c.in-Ok-None.ensures.sticky (before first)),
       (let before = rw (← c.self.view_is) at c.lines.invariant.3 in omega (arith, before, c.in-Ok-None.ensures.grows)),
-      omega (arith, c.lines.invariant.4, c.in-Ok-None.ensures.cause.never_falls),
+      c.in-Ok-None.ensures.cause.quiet ∙ c.lines.invariant.4,
     )

@@ -9,7 +9,7 @@ invariant-lines g l = Kept l.fn.self l.self (g.S.Source.left l.fn.source) (g.S.S
     × (l.self.ended ≡ None)
     × (IsSome l.fn.self.cutter.ended → IsSome l.self.cutter.ended)
     × (room l.self.cutter ≤ room l.fn.self.cutter)
-    × (g.S.Source.faults l.fn.source ≤ g.S.Source.faults l.source)
+    × (g.S.Source.faults l.source ≡ g.S.Source.faults l.fn.source)
 
 abbrev pub decreases-lines : goal.decreases-lines
 decreases-lines g l = room l.self.cutter

@@ -1,4 +1,4 @@
-use Rattle.std.proofs.Common.{arith}
+use Rattle.std.proofs.Common.{◌∙◌, arith}
 use Rattle.wf_trace.proofs.Taking.{took_scan, took_refill}
 use Rattle.wf_trace.proofs.cutter.Cutter.advance.Goals as goal
 
@@ -11,5 +11,5 @@ lines-preserved g c =
       given,
       ended,
       (let before = rw (← c.self.view_is) at c.lines.invariant.3 in rw (c.in_ok-refill.ensures.same) (omega (arith, before, c.scan.ensures.grows))),
-      omega (arith, c.lines.invariant.4, c.in_ok-refill.ensures.cause.never_falls),
+      c.in_ok-refill.ensures.cause.quiet ∙ c.lines.invariant.4,
     )
