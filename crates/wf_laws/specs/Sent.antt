@@ -3,7 +3,7 @@ use Rattle.std.specs.Prelude.{◌≡◌, ℕ, suc, ◌≤◌, List, [], ◌∷�
 use Rattle.wf_frame.specs.declared.settings.Config.{Config}
 use Rattle.wf_rules.specs.Bounds.{greatest_window}
 use Rattle.wf_rules.specs.Session.{slot}
-use Rattle.wf_world.specs.World.{World, Exchange, Mpdu, session}
+use Rattle.wf_world.specs.World.{World, Exchange, Mpdu, len_of, session, frame}
 use Rattle.wf_world.specs.Exchanges.{mpdus_of}
 use Rattle.wf_world.specs.Run.{Entry}
 use Rattle.wf_world.specs.Stretches.{world_at}
@@ -20,6 +20,8 @@ pub record IsSent (w : World) (x : Exchange) : Type 0 where
   pub rising : NumbersRise (session w x.station x.tid).first (mpdus_of x.content)
   -- each transmission has the id of the frame that its number carries
   pub ids : EachMpdu (λ m. (slot (session w x.station x.tid) m.number).id ≡ m.id) (mpdus_of x.content)
+  -- and the length that the call which brought this frame gave it
+  pub lens : EachMpdu (λ m. len_of (frame w m.id).note ≡ m.len) (mpdus_of x.content)
 
 -- after each entry of a history
 abbrev pub SentLaw : Config → List Entry → Type 0

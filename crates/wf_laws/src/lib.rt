@@ -141,7 +141,8 @@ pub fn sum_law()
     ensures { (config : Config) → (history : List Entry) → IsInRange config → SumLaw config history }
 {}
 
-/// After every entry, each open exchange has at most 256 transmissions, in strictly rising order of their numbers, and each has the id of its number's frame.
+/// After every entry, each open exchange has at most 256 transmissions, in strictly rising order of their numbers, and each has the id of its number's frame and the length
+/// that the frame's call gave it.
 pub fn sent_law()
     ensures { (config : Config) → (history : List Entry) → SentLaw config history }
 {}

@@ -16,6 +16,8 @@ use Rattle.wf_laws.proofs.Windows.Agreed.{IsOpenIn, lawful}
 use Rattle.wf_laws.proofs.Windows.Law.{window_law}
 use Rattle.wf_laws.proofs.Windows.Sizes.{IsSized, sized}
 use Rattle.wf_laws.proofs.Frames.Delivered.{Labelled}
+use Rattle.wf_laws.proofs.Queues.Shelves.{shelves}
+use Rattle.wf_laws.proofs.Sent.Lengths.{AreMeasured, stocked}
 use Rattle.wf_laws.proofs.Frames.Fates.{steady_run, steady_first}
 
 numbers_rise : (lo hi : ℕ) (ms : List Mpdu) → Rises lo hi ms → NumbersRise lo ms
@@ -39,21 +41,23 @@ few_flying y e (m ∷ ms) near small r f =
     let few : suc m.number + length ms ≤ next_number y = few_between (suc m.number) (next_number y) ms (omega (arith, r.1)) r.2 in
     omega (arith, from_start, few, near, small)
 
-sent : (w : World) → KeepsWindows w → IsSized w → (xs : List Exchange) → Each (IsOpenIn w) xs → Each (λ x. Labelled (session w x.station x.tid) (mpdus_of x.content)) xs → EachOpen (IsSent w) xs
-sent w k z [] o l = tt
-sent w k z (x ∷ xs) o l =
+sent : (w : World) → KeepsWindows w → IsSized w → (xs : List Exchange) → Each (IsOpenIn w) xs → Each (λ x. Labelled (session w x.station x.tid) (mpdus_of x.content)) xs
+    → Each (λ x. AreMeasured (shelves w).notes (mpdus_of x.content)) xs → EachOpen (IsSent w) xs
+sent w k z [] o l a = tt
+sent w k z (x ∷ xs) o l a =
     let y : Session = session w x.station x.tid in
     let near : AreNear y (receiver w x.station x.tid) = k.near x.station x.tid in (
       record {
         most = few_flying y x.number (mpdus_of x.content) near.next_start (z.size x.station x.tid) o.0.opened.flies.rising o.0.opened.flies.flying;
         rising = numbers_rise y.first (next_number y) (mpdus_of x.content) o.0.opened.flies.rising;
         ids = labels_of y (mpdus_of x.content) l.0;
+        lens = a.0;
       },
-      sent w k z xs o.1 l.1,
+      sent w k z xs o.1 l.1 a.1,
     )
 
 pub sent_law : (config : Config) (h : List Entry) → SentLaw config h
 sent_law config h m =
     let w : World = world_at config h m in
     sent w (window_law config h m) (sized config (take m h)) w.opened (lawful config (take m h)).opened
-    (steady_run (take m h) [] (opening config) (steady_first config)).labelled.labels
+    (steady_run (take m h) [] (opening config) (steady_first config)).labelled.labels (stocked config (take m h)).lens
