@@ -4,6 +4,7 @@ pub mod Answers
 pub mod Releases
 pub mod Delivery
 pub mod Fates
+pub mod Kept
 pub mod Deficits
 pub mod Queues
 pub mod Laws
@@ -16,4 +17,3 @@ pub mod Sums
 pub mod Sent
 pub mod Rotations
 pub mod Finished
-pub mod Kept

@@ -60,6 +60,11 @@ pub fn fate_law()
     ensures { (config : Config) → (history : List Entry) → FateLaw config history }
 {}
 
+/// As long as a station stays, each number that a session of it gave keeps its frame's id, and one that is acknowledged or has failed stays so.
+pub fn kept_law()
+    ensures { (config : Config) → (history : List Entry) → KeptLaw config history }
+{}
+
 /// After every entry, the ids that were reaped and those on the finished list are exactly those of frames with a fate other than Held, each once.
 pub fn finished_law()
     ensures { (config : Config) → (history : List Entry) → FinishedLaw config history }
@@ -143,11 +148,6 @@ pub fn sum_law()
 /// After every entry, each open exchange has at most 256 transmissions, in strictly rising order of their numbers, and each has the id of its number's frame.
 pub fn sent_law()
     ensures { (config : Config) → (history : List Entry) → SentLaw config history }
-{}
-
-/// As long as a station stays, each number that a session of it gave keeps its frame's id, and one that is acknowledged or has failed stays so.
-pub fn kept_law()
-    ensures { (config : Config) → (history : List Entry) → KeptLaw config history }
 {}
 
 /// All laws of a history.
