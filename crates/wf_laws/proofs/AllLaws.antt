@@ -11,6 +11,7 @@ use Rattle.wf_laws.proofs.Releases.Named.{release_law}
 use Rattle.wf_laws.proofs.Releases.Placed.{once_law}
 use Rattle.wf_laws.proofs.Frames.DeliveryLaw.{delivery_law}
 use Rattle.wf_laws.proofs.Frames.FateLaw.{fate_law}
+use Rattle.wf_laws.proofs.Kept.Law.{kept_law}
 use Rattle.wf_laws.proofs.Frames.FinishedLaw.{finished_law}
 use Rattle.wf_laws.proofs.Frames.Tallies.{tally_law}
 use Rattle.wf_laws.proofs.Deficits.Law.{deficits}
@@ -25,7 +26,6 @@ use Rattle.wf_laws.proofs.Deficits.Numbers.{number_law}
 use Rattle.wf_laws.proofs.Windows.TwelveBits.{twelve_bit_law}
 use Rattle.wf_laws.proofs.Sums.Law.{sum_law}
 use Rattle.wf_laws.proofs.Sent.Law.{sent_law}
-use Rattle.wf_laws.proofs.Kept.Law.{kept_law}
 use Rattle.wf_laws.proofs.Attempts.Law.{attempts_law}
 use Rattle.wf_laws.proofs.Queues.Law.{queue_law, queue_deficit_law}
 
@@ -37,6 +37,7 @@ laws config h range = record {
   once = once_law config h;
   delivery = delivery_law config h range;
   fates = fate_law config h;
+  kept = kept_law config h;
   finished = finished_law config h;
   tallies = tally_law config h;
   places = place_law config h range;
@@ -54,6 +55,5 @@ laws config h range = record {
   numbers = number_law config h range;
   sums = sum_law config h range;
   sent = sent_law config h;
-  kept = kept_law config h;
   attempts = attempts_law config h range;
 }

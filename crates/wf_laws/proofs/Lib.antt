@@ -5,13 +5,13 @@
 --   release_law, once_law                       Releases (Named, Placed)
 --   delivery_law, fate_law, finished_law,       Frames (DeliveryLaw, FateLaw, FinishedLaw, Places, Rooms, Tallies)
 --   place_law, room_law, tally_law
+--   kept_law                                    Kept (Law)
 --   queue_law, queue_deficit_law, limit_law     Queues (Law, Limit)
 --   range_law                                   Ranges (Law)
 --   deficit_law, quiet_law, number_law          Deficits (Law, Quiet, Numbers)
 --   fairness_law                                Fairness (Law)
 --   sum_law                                     Sums (Law)
 --   sent_law                                    Sent (Law)
---   kept_law                                    Kept (Law)
 --   attempts_law                                Attempts (Law)
 --   rotation_law                                Rotations (Law)
 --
@@ -22,13 +22,13 @@ pub mod Sessions
 pub mod Windows
 pub mod Releases
 pub mod Frames
+pub mod Kept
 pub mod Queues
 pub mod Deficits
 pub mod Ranges
 pub mod Fairness
 pub mod Sums
 pub mod Sent
-pub mod Kept
 pub mod Attempts
 pub mod Rotations
 pub mod Witnesses

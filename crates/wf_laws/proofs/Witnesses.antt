@@ -3,3 +3,4 @@ pub mod Airtime
 pub mod Releases
 pub mod Places
 pub mod Rotations
+pub mod Kept

@@ -8,6 +8,7 @@ use Rattle.wf_laws.specs.Answers.{AnswerLaw}
 use Rattle.wf_laws.specs.Releases.{ReleaseLaw, OnceLaw}
 use Rattle.wf_laws.specs.Delivery.{DeliveryLaw}
 use Rattle.wf_laws.specs.Fates.{FateLaw}
+use Rattle.wf_laws.specs.Kept.{KeptLaw}
 use Rattle.wf_laws.specs.Finished.{FinishedLaw}
 use Rattle.wf_laws.specs.Tallies.{TallyLaw}
 use Rattle.wf_laws.specs.Places.{PlaceLaw}
@@ -19,7 +20,6 @@ use Rattle.wf_laws.specs.Ranges.{RangeLaw}
 use Rattle.wf_laws.specs.Numbers.{NumberLaw}
 use Rattle.wf_laws.specs.Sums.{SumLaw}
 use Rattle.wf_laws.specs.Sent.{SentLaw}
-use Rattle.wf_laws.specs.Kept.{KeptLaw}
 use Rattle.wf_laws.specs.Attempts.{AttemptsLaw}
 use Rattle.wf_laws.specs.Rotations.{RotationLaw}
 
@@ -32,6 +32,8 @@ pub record Laws (config : Config) (history : List Entry) : Type 0 where
   pub once : OnceLaw config history
   pub delivery : DeliveryLaw config history
   pub fates : FateLaw config history
+  -- a number keeps its frame, and what became of it stays
+  pub kept : KeptLaw config history
   -- each frame with a fate is on the finished list once, until it is reaped, once
   pub finished : FinishedLaw config history
   -- the counts of frames by fate add up to the accepted ones
@@ -60,7 +62,5 @@ pub record Laws (config : Config) (history : List Entry) : Type 0 where
   pub sums : SumLaw config history
   -- what an open exchange sends
   pub sent : SentLaw config history
-  -- a number keeps its frame, and what became of it stays
-  pub kept : KeptLaw config history
   -- how often a number is sent in vain
   pub attempts : AttemptsLaw config history

@@ -4,6 +4,7 @@ pub mod Answers
 pub mod Releases
 pub mod Delivery
 pub mod Fates
+pub mod Kept
 pub mod Deficits
 pub mod Queues
 pub mod Laws
@@ -18,4 +19,3 @@ pub mod Sent
 pub mod Attempts
 pub mod Rotations
 pub mod Finished
-pub mod Kept

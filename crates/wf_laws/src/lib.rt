@@ -61,6 +61,11 @@ pub fn fate_law()
     ensures { (config : Config) → (history : List Entry) → FateLaw config history }
 {}
 
+/// As long as a station stays, each number that a session of it gave keeps its frame's id, and one that is acknowledged or has failed stays so.
+pub fn kept_law()
+    ensures { (config : Config) → (history : List Entry) → KeptLaw config history }
+{}
+
 /// After every entry, the ids that were reaped and those on the finished list are exactly those of frames with a fate other than Held, each once.
 pub fn finished_law()
     ensures { (config : Config) → (history : List Entry) → FinishedLaw config history }
@@ -145,11 +150,6 @@ pub fn sum_law()
 /// that the frame's call gave it.
 pub fn sent_law()
     ensures { (config : Config) → (history : List Entry) → SentLaw config history }
-{}
-
-/// As long as a station stays, each number that a session of it gave keeps its frame's id, and one that is acknowledged or has failed stays so.
-pub fn kept_law()
-    ensures { (config : Config) → (history : List Entry) → KeptLaw config history }
 {}
 
 /// After every entry, a number that waits, is in flight or was acknowledged was sent in vain less often than the setting `attempts` says, and one that failed exactly so

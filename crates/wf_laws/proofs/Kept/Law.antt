@@ -1,5 +1,5 @@
 -- A number keeps its frame, and what became of it stays: the law, answered.
-use Rattle.std.proofs.Common.{◌≡◌, ◌≢◌, refl, ap, sym, ◌∙◌, subst, arith, ℕ, zero, suc, ◌+◌, ◌-◌, ◌≤◌, true, false, ◌==◌, List, [], ◌∷◌, Option, Some, None, IfSome, is_some, take, drop}
+use Rattle.std.proofs.Common.{◌≡◌, ◌≢◌, refl, ap, sym, ◌∙◌, subst, arith, ℕ, zero, suc, ◌+◌, ◌-◌, ◌≤◌, true, false, ◌==◌, List, [], ◌∷◌, Option, Some, None, IfSome, take, drop}
 use Rattle.wf_frame.specs.declared.settings.Config.{Config}
 use Rattle.wf_frame.specs.declared.notes.Ask.TheVariants.{Join, Leave, Rate, Tick, Pull, Arrive, Answer, Done, Sleep, Wake, Poll, Rx, Reap}
 use Rattle.wf_frame.specs.declared.notes.Note.{Note}
@@ -14,7 +14,6 @@ use Rattle.wf_world.specs.Refusals.{refusals, refusal}
 use Rattle.wf_world.specs.Step.{Outcome, join_outcome, after_tids_left, without_listings, leave_outcome, rate_outcome, tick_outcome, outcome_where_open, sleep_outcome, wake_outcome, poll_outcome, rx_outcome, reap_outcome, concerned_station, outcome_of, after_refusal, judged_outcome, step}
 use Rattle.wf_world.specs.Run.{Entry, world_after}
 use Rattle.wf_world.specs.Stretches.{world_at}
-use Rattle.wf_rule_laws.proofs.Lemmas.Tables.{at_put_same, at_put_other}
 use Rattle.wf_rule_laws.proofs.Lemmas.Numbers.{on_bool, eq_yes, eq_no}
 use Rattle.wf_laws.specs.Kept.{is_leave_of, KeepsNumbers, IsOneStay, KeepsByCall, KeptLaw}
 use Rattle.wf_laws.proofs.Common.Moments.{take_parts}

@@ -11,12 +11,12 @@ use Rattle.wf_frame.specs.declared.notes.Refusal.TheVariants.{Idle}
 use Rattle.wf_frame.specs.Classes.{all_classes}
 use Rattle.wf_rules.specs.Table.{at, has, with_member, upto}
 use Rattle.wf_rules.specs.Receiver.{Receiver, Score, greatest, score, score_start}
-use Rattle.wf_rules.specs.Session.{Session, State, slot, is_settled, start_of, next_number}
+use Rattle.wf_rules.specs.Session.{Session, State, is_settled, start_of, next_number}
 use Rattle.wf_world.specs.World.{World, Station, Exchange, Mpdu, Content, Frames, Request, rotation, session, receiver, is_live, exchange, with_station, on_receiver, with_exchange, opening}
 use Rattle.wf_world.specs.CanSend.{is_ready}
 use Rattle.wf_world.specs.Exchanges.{transmissions, no_mpdu, mpdus_of, station_need, picked_station, sending_tid, exchange_of, Prepared, after_pick, after_tid_turn, with_exchange_opened, after_arrival}
 use Rattle.wf_world.specs.Refusals.{open_of_station, refusals, refusal}
-use Rattle.wf_world.specs.Step.{Outcome, join_outcome, after_tids_left, without_listings, leave_outcome, rate_outcome, tick_outcome, send_outcome, pull_outcome_for, pull_outcome, arrive_outcome, answer_outcome, done_outcome, outcome_where_open, sleep_outcome, wake_outcome, poll_outcome, rx_outcome, reap_outcome, concerned_station, outcome_of, after_refusal, judged_outcome, step}
+use Rattle.wf_world.specs.Step.{Outcome, join_outcome, leave_outcome, rate_outcome, tick_outcome, send_outcome, pull_outcome_for, pull_outcome, arrive_outcome, answer_outcome, done_outcome, outcome_where_open, sleep_outcome, wake_outcome, poll_outcome, rx_outcome, reap_outcome, concerned_station, outcome_of, after_refusal, judged_outcome, step}
 use Rattle.wf_world.specs.Run.{Entry, world_after}
 use Rattle.wf_rule_laws.proofs.Lemmas.Numbers.{has_new, has_old, greatest_least, greatest_has, score_past, le_no}
 use Rattle.wf_laws.proofs.Sessions.Starts.{start_le}
