@@ -16,6 +16,7 @@ use Rattle.wf_laws.proofs.Windows.Agreed.{IsOpenIn, lawful}
 use Rattle.wf_laws.proofs.Windows.Law.{window_law}
 use Rattle.wf_laws.proofs.Windows.Sizes.{IsSized, sized}
 use Rattle.wf_laws.proofs.Frames.Delivered.{Labelled}
+use Rattle.wf_laws.proofs.Queues.Law.{longest_in, within}
 use Rattle.wf_laws.proofs.Queues.Shelves.{shelves}
 use Rattle.wf_laws.proofs.Sent.Lengths.{AreMeasured, stocked}
 use Rattle.wf_laws.proofs.Frames.Fates.{steady_run, steady_first}
@@ -60,4 +61,4 @@ pub sent_law : (config : Config) (h : List Entry) → SentLaw config h
 sent_law config h m =
     let w : World = world_at config h m in
     sent w (window_law config h m) (sized config (take m h)) w.opened (lawful config (take m h)).opened
-    (steady_run (take m h) [] (opening config) (steady_first config)).labelled.labels (stocked config (take m h)).lens
+    (steady_run (take m h) [] (opening config) (steady_first config)).labelled.labels (stocked (longest_in (take m h)) config (take m h) (within (take m h))).lens
