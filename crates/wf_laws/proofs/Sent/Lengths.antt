@@ -155,6 +155,9 @@ measured_numbers : (ns : List ℕ) (w : World) (s t : ℕ) → AreMeasured (shel
 measured_numbers [] w s t = tt
 measured_numbers (n ∷ ns) w s t = (refl, measured_numbers ns w s t)
 
+pub measured_waiting : (w : World) (s t : ℕ) → AreMeasured (shelves w).notes (waiting_mpdus w s t)
+measured_waiting w s t = measured_numbers (waiting_numbers (session w s t)) w s t
+
 measured_fitting : (notes : ℕ → Note) (ms : List Mpdu) (w : World) (s : ℕ) → AreMeasured notes ms → AreMeasured notes (longest_fitting w s ms)
 unfolding longest_fitting
 measured_fitting notes ms w s a =
@@ -192,7 +195,7 @@ filled : (w : World) (s t : ℕ) → is_live w s ≡ true → AllMeasured (shelv
 unfolding aggregate_of
 filled w s t live k =
     let chosen : List Mpdu = longest_fitting w s (waiting_mpdus w s t) in
-    let a : AreMeasured (shelves w).notes chosen = measured_fitting (shelves w).notes (waiting_mpdus w s t) w s (measured_numbers (waiting_numbers (session w s t)) w s t) in
+    let a : AreMeasured (shelves w).notes chosen = measured_fitting (shelves w).notes (waiting_mpdus w s t) w s (measured_waiting w s t) in
     filled_if (length chosen == length (waiting_mpdus w s t)) (shelves w) (with_fresh (most_frames w s - length chosen) w s t chosen) (record { world = w; mpdus = chosen })
     (filled_fresh (most_frames w s - length chosen) (shelves w) w s t chosen live k (sifted_here (shelves w)) a)
     (record { sifted = sifted_here (shelves w); lens = a })
