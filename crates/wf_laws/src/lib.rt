@@ -147,7 +147,7 @@ pub fn sum_law()
 {}
 
 /// After every entry, each open exchange has at most 256 transmissions, in strictly rising order of their numbers, and each has the id of its number's frame and the length
-/// that the frame's call gave it.
+/// that the frame's call gave it. Where no frame is longer than the greatest body, an exchange of data has at least one.
 pub fn sent_law()
     ensures { (config : Config) → (history : List Entry) → SentLaw config history }
 {}

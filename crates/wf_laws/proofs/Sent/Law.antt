@@ -8,7 +8,7 @@ use Rattle.wf_world.specs.Exchanges.{mpdus_of}
 use Rattle.wf_world.specs.Run.{Entry}
 use Rattle.wf_world.specs.Stretches.{world_at}
 use Rattle.wf_laws.specs.Windows.{AreNear, EachMpdu, EachOpen, KeepsWindows}
-use Rattle.wf_laws.specs.Sent.{NumbersRise, IsSent, SentLaw}
+use Rattle.wf_laws.specs.Sent.{NumbersRise, IsSent, HasSome, SentLaw}
 use Rattle.wf_laws.proofs.Sessions.Flights.{AllIn, Rises}
 use Rattle.wf_laws.proofs.Windows.Agreement.{unsettled_ge}
 use Rattle.wf_laws.proofs.Windows.Opened.{Each}
@@ -16,8 +16,11 @@ use Rattle.wf_laws.proofs.Windows.Agreed.{IsOpenIn, lawful}
 use Rattle.wf_laws.proofs.Windows.Law.{window_law}
 use Rattle.wf_laws.proofs.Windows.Sizes.{IsSized, sized}
 use Rattle.wf_laws.proofs.Frames.Delivered.{Labelled}
+use Rattle.wf_laws.proofs.Queues.Law.{longest_in, within, at_most_taken}
 use Rattle.wf_laws.proofs.Queues.Shelves.{shelves}
 use Rattle.wf_laws.proofs.Sent.Lengths.{AreMeasured, stocked}
+use Rattle.wf_laws.proofs.Sent.Some.{some_sent}
+use Rattle.wf_rules.specs.Lengths.{greatest_body}
 use Rattle.wf_laws.proofs.Frames.Fates.{steady_run, steady_first}
 
 numbers_rise : (lo hi : ℕ) (ms : List Mpdu) → Rises lo hi ms → NumbersRise lo ms
@@ -56,8 +59,15 @@ sent w k z (x ∷ xs) o l a =
       sent w k z xs o.1 l.1 a.1,
     )
 
+each_open : (P : Exchange → Type 0) (xs : List Exchange) → Each P xs → EachOpen P xs
+each_open P [] h = tt
+each_open P (x ∷ xs) h = (h.0, each_open P xs h.1)
+
 pub sent_law : (config : Config) (h : List Entry) → SentLaw config h
 sent_law config h m =
     let w : World = world_at config h m in
-    sent w (window_law config h m) (sized config (take m h)) w.opened (lawful config (take m h)).opened
-    (steady_run (take m h) [] (opening config) (steady_first config)).labelled.labels (stocked config (take m h)).lens
+    record {
+      opened = sent w (window_law config h m) (sized config (take m h)) w.opened (lawful config (take m h)).opened
+          (steady_run (take m h) [] (opening config) (steady_first config)).labelled.labels (stocked (longest_in (take m h)) config (take m h) (within (take m h))).lens;
+      some = λ range short. each_open HasSome w.opened (some_sent config (take m h) range (at_most_taken m h greatest_body short));
+    }

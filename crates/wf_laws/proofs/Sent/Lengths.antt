@@ -26,7 +26,7 @@ use Rattle.wf_world.specs.Refusals.{refusals, refusal}
 use Rattle.wf_world.specs.Step.{Outcome, tick_outcome, rate_outcome, sleep_outcome, wake_outcome, poll_outcome, rx_outcome, join_outcome, waiting_ids, in_rising_order, after_tid_left, after_tids_left, without_listings, leave_outcome, next_item, with_frame, enqueue_outcome, send_outcome, pull_outcome_for, pull_outcome, arrive_outcome, answer_outcome, done_outcome, outcome_where_open, reap_outcome, outcome_of, concerned_station, after_refusal, judged_outcome, step}
 use Rattle.wf_world.specs.Run.{Entry, world_after}
 use Rattle.wf_laws.specs.Windows.{EachMpdu}
-use Rattle.wf_laws.specs.Queues.{EachItem}
+use Rattle.wf_laws.specs.Queues.{EachItem, IsAtMost, AreAtMost}
 use Rattle.wf_rule_laws.proofs.Lemmas.Dequeues.{each_dequeue}
 use Rattle.wf_rule_laws.proofs.Lemmas.Numbers.{on_if, or_left, or_right, yes_eq}
 use Rattle.wf_rule_laws.proofs.Lemmas.Tables.{each_put}
@@ -155,6 +155,9 @@ measured_numbers : (ns : List ℕ) (w : World) (s t : ℕ) → AreMeasured (shel
 measured_numbers [] w s t = tt
 measured_numbers (n ∷ ns) w s t = (refl, measured_numbers ns w s t)
 
+pub measured_waiting : (w : World) (s t : ℕ) → AreMeasured (shelves w).notes (waiting_mpdus w s t)
+measured_waiting w s t = measured_numbers (waiting_numbers (session w s t)) w s t
+
 measured_fitting : (notes : ℕ → Note) (ms : List Mpdu) (w : World) (s : ℕ) → AreMeasured notes ms → AreMeasured notes (longest_fitting w s ms)
 unfolding longest_fitting
 measured_fitting notes ms w s a =
@@ -192,7 +195,7 @@ filled : (w : World) (s t : ℕ) → is_live w s ≡ true → AllMeasured (shelv
 unfolding aggregate_of
 filled w s t live k =
     let chosen : List Mpdu = longest_fitting w s (waiting_mpdus w s t) in
-    let a : AreMeasured (shelves w).notes chosen = measured_fitting (shelves w).notes (waiting_mpdus w s t) w s (measured_numbers (waiting_numbers (session w s t)) w s t) in
+    let a : AreMeasured (shelves w).notes chosen = measured_fitting (shelves w).notes (waiting_mpdus w s t) w s (measured_waiting w s t) in
     filled_if (length chosen == length (waiting_mpdus w s t)) (shelves w) (with_fresh (most_frames w s - length chosen) w s t chosen) (record { world = w; mpdus = chosen })
     (filled_fresh (most_frames w s - length chosen) (shelves w) w s t chosen live k (sifted_here (shelves w)) a)
     (record { sifted = sifted_here (shelves w); lens = a })
@@ -217,57 +220,59 @@ readied w s t live k =
 
 -- ---- worlds
 
--- queued frames, and those of open exchanges, have the lengths of their calls
-pub record IsStockedIn (b : Shelves) (xs : List Exchange) : Type 0 where
+-- queued frames, and those of open exchanges, have the lengths of their calls; none is longer than `most`
+pub record IsStockedIn (most : ℕ) (b : Shelves) (xs : List Exchange) : Type 0 where
+  pub short : (k : ℕ) → len_of (b.notes k) ≤ most
   pub measured : AllMeasured b.notes b
   pub lens : Each (λ x. AreMeasured b.notes (mpdus_of x.content)) xs
 
-abbrev pub IsStocked : World → Type 0
-IsStocked w = IsStockedIn (shelves w) w.opened
+abbrev pub IsStocked : ℕ → World → Type 0
+IsStocked most w = IsStockedIn most (shelves w) w.opened
 
-stocked_sifted : (a b : Shelves) (xs ys : List Exchange) → Sifted a b → ys ≡ xs → IsStockedIn a xs → IsStockedIn b ys
-stocked_sifted a b xs ys h e i = record {
+stocked_sifted : (most : ℕ) (a b : Shelves) (xs ys : List Exchange) → Sifted a b → ys ≡ xs → IsStockedIn most a xs → IsStockedIn most b ys
+stocked_sifted most a b xs ys h e i = record {
+  short = subst (λ (notes : ℕ → Note). (k : ℕ) → len_of (notes k) ≤ most) (sym h.notes) i.short;
   measured = subst (λ (notes : ℕ → Note). AllMeasured notes b) (sym h.notes) (measured_sifted a.notes a b h i.measured);
   lens = subst (λ (notes : ℕ → Note). Each (λ x. AreMeasured notes (mpdus_of x.content)) ys) (sym h.notes) (subst (Each (λ x. AreMeasured a.notes (mpdus_of x.content))) (sym e) i.lens);
 }
 
-stocked_same : (w v : World) → shelves v ≡ shelves w → v.opened ≡ w.opened → IsStocked w → IsStocked v
-stocked_same w v e o i = stocked_sifted (shelves w) (shelves v) w.opened v.opened (sifted_is _ _ e) o i
+stocked_same : (most : ℕ) (w v : World) → shelves v ≡ shelves w → v.opened ≡ w.opened → IsStocked most w → IsStocked most v
+stocked_same most w v e o i = stocked_sifted most (shelves w) (shelves v) w.opened v.opened (sifted_is _ _ e) o i
 
-opened_sent : (s t : ℕ) (c : Class) (p : Prepared) → (send_outcome s t c p).world.opened ≡ p.world.opened ++ exchange_of s t c p ∷ []
+pub opened_sent : (s t : ℕ) (c : Class) (p : Prepared) → (send_outcome s t c p).world.opened ≡ p.world.opened ++ exchange_of s t c p ∷ []
 unfolding send_outcome with_exchange_opened
 opened_sent s t c p = (same_spent _ s).opened
 
-stocked_sent : (s t : ℕ) (c : Class) (w : World) (p : Prepared) → p.world.opened ≡ w.opened → IsReadied (shelves w) p → IsStocked w → IsStocked (send_outcome s t c p).world
-stocked_sent s t c w p o r i =
+stocked_sent : (most : ℕ) (s t : ℕ) (c : Class) (w : World) (p : Prepared) → p.world.opened ≡ w.opened → IsReadied (shelves w) p → IsStocked most w → IsStocked most (send_outcome s t c p).world
+stocked_sent most s t c w p o r i =
     let x : Exchange = exchange_of s t c p in
-    stocked_sifted (shelves w) (shelves (send_outcome s t c p).world) (w.opened ++ x ∷ []) _ (then_sifted _ _ _ r.sifted (sifted_is _ _ (shelves_sent s t c p)))
+    stocked_sifted most (shelves w) (shelves (send_outcome s t c p).world) (w.opened ++ x ∷ []) _ (then_sifted _ _ _ r.sifted (sifted_is _ _ (shelves_sent s t c p)))
     (opened_sent s t c p ∙ ap (λ (xs : List Exchange). xs ++ x ∷ []) o)
-    (record { measured = i.measured; lens = each_append (λ y. AreMeasured (shelves w).notes (mpdus_of y.content)) w.opened x i.lens r.lens })
+    (record { short = i.short; measured = i.measured; lens = each_append (λ y. AreMeasured (shelves w).notes (mpdus_of y.content)) w.opened x i.lens r.lens })
 
-stocked_pulled_by : (o : Option ℕ) (w : World) (c : Class) → IfSome o (λ s. (is_live w s ≡ true) × (can_send_in w s c ≡ true)) → IsLawful w → IsStocked w → IsStocked (pull_outcome_for w c o).world
+stocked_pulled_by : (most : ℕ) (o : Option ℕ) (w : World) (c : Class) → IfSome o (λ s. (is_live w s ≡ true) × (can_send_in w s c ≡ true)) → IsLawful w → IsStocked most w → IsStocked most (pull_outcome_for w c o).world
 unfolding pull_outcome_for
-stocked_pulled_by None w c ready l i = i
-stocked_pulled_by (Some s) w c ready l i =
+stocked_pulled_by most None w c ready l i = i
+stocked_pulled_by most (Some s) w c ready l i =
     let t : ℕ = sending_tid w s c in
     let v : World = after_tid_turn w s c t in
     let k : Same w v = same_after_turn w s c t in
     let live : is_live v s ≡ true = k.live s ∙ ready.0 in
-    let stocked : IsStocked v = stocked_same w v (shelves_after_turn w s c t) k.opened i in
-    stocked_sent s t c v (prepared_exchange v s t) (prepared_right v s t (lawful_same w v k l) live).opened (readied v s t live stocked.measured) stocked
+    let stocked : IsStocked most v = stocked_same most w v (shelves_after_turn w s c t) k.opened i in
+    stocked_sent most s t c v (prepared_exchange v s t) (prepared_right v s t (lawful_same w v k l) live).opened (readied v s t live stocked.measured) stocked
 
-stocked_pulled : (w : World) (c : Class) → IsLawful w → IsStocked w → IsStocked (pull_outcome w c).world
+stocked_pulled : (most : ℕ) (w : World) (c : Class) → IsLawful w → IsStocked most w → IsStocked most (pull_outcome w c).world
 unfolding pull_outcome
-stocked_pulled w c l i =
+stocked_pulled most w c l i =
     let k : Same w (after_pick w c) = same_after_pick w c in
-    stocked_pulled_by (picked_station w c).winner (after_pick w c) c (winner_ready w c) (lawful_same w (after_pick w c) k l) (stocked_same w (after_pick w c) (shelves_after_pick w c) k.opened i)
+    stocked_pulled_by most (picked_station w c).winner (after_pick w c) c (winner_ready w c) (lawful_same w (after_pick w c) k l) (stocked_same most w (after_pick w c) (shelves_after_pick w c) k.opened i)
 
 -- ---- a station leaves
 
 sifted_station : (w : World) (s : ℕ) (o : Option Station) → Sifted (shelves w) (shelves (with_station w s o))
 sifted_station w s o = subst (Sifted (shelves w)) (sym (shelves_with_station w s o)) (record { notes = refl; queues = λ q. rest_all (queue w q).items })
 
-opened_station : (w : World) (s : ℕ) (o : Option Station) → (with_station w s o).opened ≡ w.opened
+pub opened_station : (w : World) (s : ℕ) (o : Option Station) → (with_station w s o).opened ≡ w.opened
 unfolding with_station
 opened_station w s o = refl
 
@@ -294,15 +299,15 @@ unfolding leave_outcome
 sifted_gone w s live =
     then_sifted _ _ _ (then_sifted _ _ _ (sifted_left_tids (upto 8) w s live) (sifted_is _ _ (shelves_off_lists all_classes _ s))) (sifted_station _ s None)
 
-opened_gone : (w : World) (s : ℕ) → (leave_outcome w s).world.opened ≡ w.opened
+pub opened_gone : (w : World) (s : ℕ) → (leave_outcome w s).world.opened ≡ w.opened
 unfolding leave_outcome
 opened_gone w s = opened_station _ s None ∙ (then_same _ _ _ (same_left_tids (upto 8) w s) (same_off_lists all_classes _ s)).opened
 
 -- ---- a station joins
 
-stocked_joined : (w : World) (s window start exponent weight : ℕ) → IsStocked w → IsStocked (join_outcome w s window start exponent weight).world
+stocked_joined : (most : ℕ) (w : World) (s window start exponent weight : ℕ) → IsStocked most w → IsStocked most (join_outcome w s window start exponent weight).world
 unfolding join_outcome
-stocked_joined w s window start exponent weight i = stocked_sifted (shelves w) _ w.opened _ (sifted_station w s _) (opened_station w s _) i
+stocked_joined most w s window start exponent weight i = stocked_sifted most (shelves w) _ w.opened _ (sifted_station w s _) (opened_station w s _) i
 
 -- ---- a frame is accepted
 
@@ -364,16 +369,18 @@ all_old l w k =
     (λ x o a. old_ids (mpdus_of x.content) (session w x.station x.tid) (accepted_count w) (session w x.station x.tid).first (λ n b e. (k.placing.numbered x.station x.tid n b e).old) (omega arith) o.opened.flies.rising a)
     k.lawful.opened k.labelled.labels
 
-stocked_noted : (w : World) (a : World) (note : Note) → accepted_count a ≡ accepted_count w → a.opened ≡ w.opened → (shelves a).notes ≡ (shelves w).notes → AllMeasured (upd (shelves w).notes (accepted_count w) note) (shelves a)
-    → Each (λ x. EachMpdu (λ m. m.id < accepted_count w) (mpdus_of x.content)) w.opened → Each (λ x. AreMeasured (shelves w).notes (mpdus_of x.content)) w.opened → IsStocked (with_frame a note)
+stocked_noted : (most : ℕ) (w : World) (a : World) (note : Note) → accepted_count a ≡ accepted_count w → a.opened ≡ w.opened → (shelves a).notes ≡ (shelves w).notes → AllMeasured (upd (shelves w).notes (accepted_count w) note) (shelves a)
+    → Each (λ x. EachMpdu (λ m. m.id < accepted_count w) (mpdus_of x.content)) w.opened → Each (λ x. AreMeasured (shelves w).notes (mpdus_of x.content)) w.opened → ((k : ℕ) → len_of ((shelves w).notes k) ≤ most)
+    → len_of note ≤ most → IsStocked most (with_frame a note)
 unfolding with_frame
-stocked_noted w a note count opened notes measured old lens =
+stocked_noted most w a note count opened notes measured old lens shorts short =
     let c : ℕ = accepted_count w in
     let new : ℕ → Note = upd (shelves w).notes c note in
     let is : shelves (with_frame a note) ≡ with_note (shelves a) c note = shelves_with_frame a note ∙ ap (λ (n : ℕ). with_note (shelves a) n note) count in
-    subst (λ (b : Shelves). IsStockedIn b a.opened) (sym is)
-    (subst (λ (f : ℕ → Note). IsStockedIn (record (shelves a) { notes = upd f c note }) a.opened) (sym notes)
+    subst (λ (b : Shelves). IsStockedIn most b a.opened) (sym is)
+    (subst (λ (f : ℕ → Note). IsStockedIn most (record (shelves a) { notes = upd f c note }) a.opened) (sym notes)
     (record {
+      short = each_upd (λ _ n. len_of n ≤ most) (shelves w).notes c note shorts short;
       measured = measured;
       lens = subst (Each (λ x. AreMeasured new (mpdus_of x.content))) (sym opened)
           (each_both (λ x. EachMpdu (λ m. m.id < c) (mpdus_of x.content)) (λ x. AreMeasured (shelves w).notes (mpdus_of x.content)) (λ x. AreMeasured new (mpdus_of x.content)) w.opened
@@ -386,9 +393,9 @@ opened_put w s t flow len = (then_same _ _ _ (same_within_limit w) (same_put_in 
 notes_of : List Frame → ℕ → Note
 notes_of frames k = (at no_frame frames k).note
 
-stocked_enqueued : (l : List ℕ) (w : World) (s t flow len : ℕ) → Steady l w → IsStocked w → IsStocked (enqueue_outcome w s t flow len).world
+stocked_enqueued : (most : ℕ) (l : List ℕ) (w : World) (s t flow len : ℕ) → len ≤ most → Steady l w → IsStocked most w → IsStocked most (enqueue_outcome w s t flow len).world
 unfolding enqueue_outcome notes_of
-stocked_enqueued l w s t flow len k i =
+stocked_enqueued most l w s t flow len short k i =
     let u : World = after_limit w in
     let q : ℕ = queue_for u s t flow in
     let x : Item = next_item w len in
@@ -398,97 +405,101 @@ stocked_enqueued l w s t flow len k i =
     let new : ℕ → Note = upd (shelves w).notes c note in
     let limited : AllMeasured (shelves w).notes (shelves u) = measured_sifted (shelves w).notes (shelves w) (shelves u) (sifted_limit w) i.measured in
     let noted : AllMeasured new (shelves u) = λ p. items_noted (queue u p).items (shelves w).notes c note (λ j e. (k.placing.queued p j (((less_within_limit Any w).queues p).has j e)).old) (limited p) in
-    stocked_noted w a note (accepted_put u s t q x ∙ accepted_limit l w k.placing) (opened_put w s t flow len)
+    stocked_noted most w a note (accepted_put u s t q x ∙ accepted_limit l w k.placing) (opened_put w s t flow len)
     (ap notes_of (untouched_put_in u s t q x).frames ∙ (sifted_limit w).notes)
-    (measured_put_in new u s t q x (ap len_of (upd_same (shelves w).notes c note)) noted) (all_old l w k) i.lens
+    (measured_put_in new u s t q x (ap len_of (upd_same (shelves w).notes c note)) noted) (all_old l w k) i.lens i.short short
 
 -- ---- exchanges change and end
 
 -- exchanges replaced by one with the same content
-stocked_with_exchange : (w v : World) (x z : Exchange) → shelves v ≡ shelves w → v.opened ≡ map (λ y. if y.number == z.number then z else y) w.opened → AreMeasured (shelves w).notes (mpdus_of z.content) → IsStocked w → IsStocked v
-stocked_with_exchange w v x z e o a i =
+stocked_with_exchange : (most : ℕ) (w v : World) (x z : Exchange) → shelves v ≡ shelves w → v.opened ≡ map (λ y. if y.number == z.number then z else y) w.opened → AreMeasured (shelves w).notes (mpdus_of z.content) → IsStocked most w → IsStocked most v
+stocked_with_exchange most w v x z e o a i =
     let P : Exchange → Type 0 = λ y. AreMeasured (shelves w).notes (mpdus_of y.content) in
-    stocked_sifted (shelves w) (shelves v) (map (λ y. if y.number == z.number then z else y) w.opened) v.opened (sifted_is _ _ e) o
-    (record { measured = i.measured; lens = each_map_if P P (λ y. y.number == z.number) z w.opened a (λ y _ h. h) i.lens })
+    stocked_sifted most (shelves w) (shelves v) (map (λ y. if y.number == z.number then z else y) w.opened) v.opened (sifted_is _ _ e) o
+    (record { short = i.short; measured = i.measured; lens = each_map_if P P (λ y. y.number == z.number) z w.opened a (λ y _ h. h) i.lens })
 
-stocked_answered : (w : World) (x : Exchange) → AreMeasured (shelves w).notes (mpdus_of x.content) → IsStocked w → IsStocked (answer_outcome w x).world
+stocked_answered : (most : ℕ) (w : World) (x : Exchange) → AreMeasured (shelves w).notes (mpdus_of x.content) → IsStocked most w → IsStocked most (answer_outcome w x).world
 unfolding answer_outcome with_exchange
-stocked_answered w x a i =
+stocked_answered most w x a i =
     let z : Exchange = record x { answer = Some (score (receiver w x.station x.tid)) } in
-    stocked_with_exchange w (record w { opened = map (λ y. if y.number == z.number then z else y) w.opened }) x z refl refl a i
+    stocked_with_exchange most w (record w { opened = map (λ y. if y.number == z.number then z else y) w.opened }) x z refl refl a i
 
-stocked_arrived : (w : World) (x : Exchange) (n : ℕ) → AreMeasured (shelves w).notes (mpdus_of x.content) → IsStocked w → IsStocked (arrive_outcome w x n).world
+stocked_arrived : (most : ℕ) (w : World) (x : Exchange) (n : ℕ) → AreMeasured (shelves w).notes (mpdus_of x.content) → IsStocked most w → IsStocked most (arrive_outcome w x n).world
 unfolding arrive_outcome with_exchange
-stocked_arrived w x n a i =
+stocked_arrived most w x n a i =
     let z : Exchange = record x { arrived = with_member n x.arrived } in
     let u : World = on_receiver w x.station x.tid (after_arrival x.content n) in
-    stocked_with_exchange w (record u { opened = map (λ y. if y.number == z.number then z else y) u.opened }) x z (shelves_on_receiver w x.station x.tid _) (ap (map (λ y. if y.number == z.number then z else y)) (opened_on_receiver w x.station x.tid (after_arrival x.content n))) a i
+    stocked_with_exchange most w (record u { opened = map (λ y. if y.number == z.number then z else y) u.opened }) x z (shelves_on_receiver w x.station x.tid _) (ap (map (λ y. if y.number == z.number then z else y)) (opened_on_receiver w x.station x.tid (after_arrival x.content n))) a i
 
-stocked_ended : (w : World) (x : Exchange) (heard : Bool) → IsStocked w → IsStocked (done_outcome w x heard).world
-stocked_ended w x heard i =
-    stocked_sifted (shelves w) (shelves (done_outcome w x heard).world) (without_exchange w x.number).opened _ (sifted_is _ _ (shelves_ended w x heard)) (opened_ended w x heard)
-    (record { measured = i.measured; lens = filtered w x.number (λ y. AreMeasured (shelves w).notes (mpdus_of y.content)) i.lens })
+stocked_ended : (most : ℕ) (w : World) (x : Exchange) (heard : Bool) → IsStocked most w → IsStocked most (done_outcome w x heard).world
+stocked_ended most w x heard i =
+    stocked_sifted most (shelves w) (shelves (done_outcome w x heard).world) (without_exchange w x.number).opened _ (sifted_is _ _ (shelves_ended w x heard)) (opened_ended w x heard)
+    (record { short = i.short; measured = i.measured; lens = filtered w x.number (λ y. AreMeasured (shelves w).notes (mpdus_of y.content)) i.lens })
 
-stocked_open : (P : Exchange → Type 0) (o : Option Exchange) (w : World) (f : Exchange → Outcome) → IfSome o P → ((x : Exchange) → P x → IsStocked (f x).world) → IsStocked w → IsStocked (outcome_where_open w o f).world
+stocked_open : (most : ℕ) (P : Exchange → Type 0) (o : Option Exchange) (w : World) (f : Exchange → Outcome) → IfSome o P → ((x : Exchange) → P x → IsStocked most (f x).world) → IsStocked most w → IsStocked most (outcome_where_open w o f).world
 unfolding outcome_where_open
-stocked_open P None w f p k i = i
-stocked_open P (Some x) w f p k i = k x p
+stocked_open most P None w f p k i = i
+stocked_open most P (Some x) w f p k i = k x p
 
-measured_open : (w : World) (e : ℕ) → IsStocked w → IfSome (exchange w e) (λ x. AreMeasured (shelves w).notes (mpdus_of x.content))
-measured_open w e i =
+measured_open : (most : ℕ) (w : World) (e : ℕ) → IsStocked most w → IfSome (exchange w e) (λ x. AreMeasured (shelves w).notes (mpdus_of x.content))
+measured_open most w e i =
     let P : Exchange → Type 0 = λ x. AreMeasured (shelves w).notes (mpdus_of x.content) in
     each_find P P (λ x. x.number == e) w.opened (λ x _ h. h) i.lens
 
 -- ---- the step
 
-stocked_reaped : (ids : List ℕ) (w : World) → IsStocked w → IsStocked (reap_outcome w ids).world
+stocked_reaped : (most : ℕ) (ids : List ℕ) (w : World) → IsStocked most w → IsStocked most (reap_outcome w ids).world
 unfolding reap_outcome
-stocked_reaped [] w i = i
-stocked_reaped (id ∷ ids) w i = record { measured = i.measured; lens = i.lens }
+stocked_reaped most [] w i = i
+stocked_reaped most (id ∷ ids) w i = record { short = i.short; measured = i.measured; lens = i.lens }
 
-stocked_on_station : (w : World) (s : ℕ) (f : Station → Station) → ((x : Station) → spot (Some (f x)) ≡ spot (Some x)) → ((x : Station) (t : ℕ) → side_of (at no_tid (f x).tids t) ≡ side_of (at no_tid x.tids t)) → IsStocked w → IsStocked (on_station w s f)
-stocked_on_station w s f h k i = stocked_same w (on_station w s f) (shelves_hidden w s f h) (same_on_station w s f k).opened i
+stocked_on_station : (most : ℕ) (w : World) (s : ℕ) (f : Station → Station) → ((x : Station) → spot (Some (f x)) ≡ spot (Some x)) → ((x : Station) (t : ℕ) → side_of (at no_tid (f x).tids t) ≡ side_of (at no_tid x.tids t)) → IsStocked most w → IsStocked most (on_station w s f)
+stocked_on_station most w s f h k i = stocked_same most w (on_station w s f) (shelves_hidden w s f h) (same_on_station w s f k).opened i
 
-stocked_on_share : (w : World) (s : ℕ) (c : Class) (f : Share → Share) → IsStocked w → IsStocked (on_share w s c f)
-stocked_on_share w s c f i = stocked_same w (on_share w s c f) (shelves_on_share w s c f) (same_on_share w s c f).opened i
+stocked_on_share : (most : ℕ) (w : World) (s : ℕ) (c : Class) (f : Share → Share) → IsStocked most w → IsStocked most (on_share w s c f)
+stocked_on_share most w s c f i = stocked_same most w (on_share w s c f) (shelves_on_share w s c f) (same_on_share w s c f).opened i
 
-stocked_done : (note : Note) (l : List ℕ) (w : World) → NoRow (refusals w note) → Steady l w → IsStocked w → IsStocked (outcome_of w note).world
+stocked_done : (most : ℕ) (note : Note) (l : List ℕ) (w : World) → NoRow (refusals w note) → IsAtMost most note → Steady l w → IsStocked most w → IsStocked most (outcome_of w note).world
 unfolding outcome_of tick_outcome rate_outcome sleep_outcome wake_outcome poll_outcome rx_outcome
-stocked_done (Enqueue s t flow len) l w e k i = stocked_enqueued l w s t flow len k i
-stocked_done (Asked (Join s window start exponent weight)) l w e k i = stocked_joined w s window start exponent weight i
-stocked_done (Asked (Leave s)) l w e k i = stocked_sifted (shelves w) _ w.opened _ (sifted_gone w s (not-false _ e.1.0)) (opened_gone w s) i
-stocked_done (Asked (Rate s mcs mhz short)) l w e k i = stocked_on_station w s _ (λ x. refl) (λ x t. refl) i
-stocked_done (Asked (Tick by)) l w e k i = record { measured = i.measured; lens = i.lens }
-stocked_done (Asked (Pull c)) l w e k i = stocked_pulled w c k.lawful i
-stocked_done (Asked (Arrive x n)) l w e k i = stocked_open (λ y. AreMeasured (shelves w).notes (mpdus_of y.content)) (exchange w x) w _ (measured_open w x i) (λ y a. stocked_arrived w y n a i) i
-stocked_done (Asked (Answer x)) l w e k i = stocked_open (λ y. AreMeasured (shelves w).notes (mpdus_of y.content)) (exchange w x) w _ (measured_open w x i) (λ y a. stocked_answered w y a i) i
-stocked_done (Asked (Done x heard)) l w e k i = stocked_open (λ y. AreMeasured (shelves w).notes (mpdus_of y.content)) (exchange w x) w _ (measured_open w x i) (λ y _. stocked_ended w y heard i) i
-stocked_done (Asked (Sleep s)) l w e k i = stocked_on_station w s _ (λ x. refl) (λ x t. refl) i
-stocked_done (Asked (Wake s)) l w e k i = stocked_on_station w s _ (λ x. refl) (λ x t. refl) i
-stocked_done (Asked (Poll s)) l w e k i = stocked_on_station w s _ (λ x. refl) (λ x t. refl) i
-stocked_done (Asked (Rx s c air)) l w e k i = stocked_on_share w s c _ i
-stocked_done (Asked Reap) l w e k i = stocked_reaped w.finished w i
+stocked_done most (Enqueue s t flow len) l w e a k i = stocked_enqueued most l w s t flow len a k i
+stocked_done most (Asked (Join s window start exponent weight)) l w e a k i = stocked_joined most w s window start exponent weight i
+stocked_done most (Asked (Leave s)) l w e a k i = stocked_sifted most (shelves w) _ w.opened _ (sifted_gone w s (not-false _ e.1.0)) (opened_gone w s) i
+stocked_done most (Asked (Rate s mcs mhz short)) l w e a k i = stocked_on_station most w s _ (λ x. refl) (λ x t. refl) i
+stocked_done most (Asked (Tick by)) l w e a k i = record { short = i.short; measured = i.measured; lens = i.lens }
+stocked_done most (Asked (Pull c)) l w e a k i = stocked_pulled most w c k.lawful i
+stocked_done most (Asked (Arrive x n)) l w e a k i = stocked_open most (λ y. AreMeasured (shelves w).notes (mpdus_of y.content)) (exchange w x) w _ (measured_open most w x i) (λ y b. stocked_arrived most w y n b i) i
+stocked_done most (Asked (Answer x)) l w e a k i = stocked_open most (λ y. AreMeasured (shelves w).notes (mpdus_of y.content)) (exchange w x) w _ (measured_open most w x i) (λ y b. stocked_answered most w y b i) i
+stocked_done most (Asked (Done x heard)) l w e a k i = stocked_open most (λ y. AreMeasured (shelves w).notes (mpdus_of y.content)) (exchange w x) w _ (measured_open most w x i) (λ y _. stocked_ended most w y heard i) i
+stocked_done most (Asked (Sleep s)) l w e a k i = stocked_on_station most w s _ (λ x. refl) (λ x t. refl) i
+stocked_done most (Asked (Wake s)) l w e a k i = stocked_on_station most w s _ (λ x. refl) (λ x t. refl) i
+stocked_done most (Asked (Poll s)) l w e a k i = stocked_on_station most w s _ (λ x. refl) (λ x t. refl) i
+stocked_done most (Asked (Rx s c air)) l w e a k i = stocked_on_share most w s c _ i
+stocked_done most (Asked Reap) l w e a k i = stocked_reaped most w.finished w i
 
-stocked_refused : (note : Note) (r : Refusal) (w : World) → IsStocked w → IsStocked (after_refusal w note r)
+stocked_refused : (most : ℕ) (note : Note) (r : Refusal) (w : World) → IsStocked most w → IsStocked most (after_refusal w note r)
 unfolding after_refusal
-stocked_refused (Asked (Pull c)) Idle w i = stocked_same w (after_pick w c) (shelves_after_pick w c) (same_after_pick w c).opened i
-stocked_refused _ _ w i = i
+stocked_refused most (Asked (Pull c)) Idle w i = stocked_same most w (after_pick w c) (shelves_after_pick w c) (same_after_pick w c).opened i
+stocked_refused most _ _ w i = i
 
-stocked_answer : (r : Option Refusal) (l : List ℕ) (w : World) (note : Note) → refusal w note ≡ r → Steady l w → IsStocked w → IsStocked (judged_outcome w note r).world
+stocked_answer : (most : ℕ) (r : Option Refusal) (l : List ℕ) (w : World) (note : Note) → refusal w note ≡ r → IsAtMost most note → Steady l w → IsStocked most w → IsStocked most (judged_outcome w note r).world
 unfolding judged_outcome
-stocked_answer (Some r) l w note e k i = stocked_refused note r w i
-stocked_answer None l w note e k i =
-    stocked_same (outcome_of w note).world (with_listings_of (outcome_of w note).world (concerned_station w note)) (shelves_listed (concerned_station w note) (outcome_of w note).world) (same_listed (concerned_station w note) (outcome_of w note).world).opened
-    (stocked_done note l w (no_row (refusals w note) e) k i)
+stocked_answer most (Some r) l w note e a k i = stocked_refused most note r w i
+stocked_answer most None l w note e a k i =
+    stocked_same most (outcome_of w note).world (with_listings_of (outcome_of w note).world (concerned_station w note)) (shelves_listed (concerned_station w note) (outcome_of w note).world) (same_listed (concerned_station w note) (outcome_of w note).world).opened
+    (stocked_done most note l w (no_row (refusals w note) e) a k i)
 
-stocked_step : (l : List ℕ) (w : World) (note : Note) → Steady l w → IsStocked w → IsStocked (step w note).world
+pub stocked_step : (most : ℕ) (l : List ℕ) (w : World) (note : Note) → IsAtMost most note → Steady l w → IsStocked most w → IsStocked most (step w note).world
 unfolding step
-stocked_step l w note k i = stocked_answer (refusal w note) l w note refl k i
+stocked_step most l w note a k i = stocked_answer most (refusal w note) l w note refl a k i
 
-stocked_run : (h : List Entry) (l : List ℕ) (w : World) → Steady l w → IsStocked w → IsStocked (world_after w h)
+stocked_run : (most : ℕ) (h : List Entry) (l : List ℕ) (w : World) → AreAtMost most h → Steady l w → IsStocked most w → IsStocked most (world_after w h)
 unfolding world_after
-stocked_run [] l w k i = i
-stocked_run (e ∷ es) l w k i = stocked_run es (l ++ named_by (step w e.1).reply) (step w e.1).world (steady_step l w e.1 k) (stocked_step l w e.1 k i)
+stocked_run most [] l w a k i = i
+stocked_run most (e ∷ es) l w a k i =
+    stocked_run most es (l ++ named_by (step w e.1).reply) (step w e.1).world a.1 (steady_step l w e.1 k) (stocked_step most l w e.1 a.0 k i)
 
-pub stocked : (config : Config) (h : List Entry) → IsStocked (world_after (opening config) h)
-stocked config h = stocked_run h [] (opening config) (steady_first config) (record { measured = λ q. tt; lens = tt })
+pub stocked_first : (most : ℕ) (config : Config) → IsStocked most (opening config)
+stocked_first most config = record { short = λ k. omega arith; measured = λ q. tt; lens = tt }
+
+pub stocked : (most : ℕ) (config : Config) (h : List Entry) → AreAtMost most h → IsStocked most (world_after (opening config) h)
+stocked most config h a = stocked_run most h [] (opening config) a (steady_first config) (stocked_first most config)
