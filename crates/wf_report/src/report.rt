@@ -1,6 +1,6 @@
 //! The summary of a machine.
 
-ghost use Rattle.std.specs.Prelude.{◌≡◌, ◌+◌, ◌<◌, ◌≤◌, ◌++◌, ◌∷◌, [], ℕ, List, length, map, filter, decimal, sum_by, codes, OnOk, Err, ◌*◌};
+ghost use Rattle.std.specs.Prelude.{◌≡◌, ◌≢◌, ◌+◌, ◌<◌, ◌≤◌, ◌++◌, ◌∷◌, [], ℕ, List, length, map, filter, decimal, sum_by, codes, OnOk, Err, ◌*◌};
 ghost use Rattle.std.specs.List.{concat};
 ghost use Rattle.std.specs.Io.KnownBytes.{append_known};
 ghost use Rattle.wf_io.specs.Faults.{HasRisen, CountsFaults};
@@ -186,6 +186,7 @@ pub fn summary<M: Runs, K: Sink>(machine: &M, calls: u64, sink: &mut K) -> Resul
     ensures front { HoldsFront (K.held sink.old) (K.held sink.new) (summary_of (M.world machine.now) calls) }
     ensures counted { K.faults sink.old ≤ K.faults sink.new }
     ensures cause { result ≡ Err Unwritten.Sink → HasRisen (K.faults sink.old) (K.faults sink.new) }
+    ensures quiet { result ≢ Err Unwritten.Sink → K.faults sink.new ≡ K.faults sink.old }
 {
     let mut counts = Line::new();
     let mut last = Line::new();
@@ -210,6 +211,7 @@ fn write_parts<M: Runs, K: Sink>(
     ensures front { HoldsFront (K.held sink.old) (K.held sink.new) (summary_of (M.world machine.now) calls) }
     ensures counted { K.faults sink.old ≤ K.faults sink.new }
     ensures cause { result ≡ Err Unwritten.Sink → HasRisen (K.faults sink.old) (K.faults sink.new) }
+    ensures quiet { result ≢ Err Unwritten.Sink → K.faults sink.new ≡ K.faults sink.old }
 {
     match write_line(sink, counts) {
         Ok(()) => {}

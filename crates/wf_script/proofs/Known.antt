@@ -27,29 +27,34 @@ texts_known [] = tt
 texts_known (line ∷ others) = before_known (flaw line.end line.octets) line.octets (texts_of true others) (texts_known others)
 
 -- so its pieces do, and with no line
-abbrev IsEnding : Option Piece → Type 0
-IsEnding None = ⊥
-IsEnding (Some (Text line)) = ⊥
-IsEnding (Some (Ended line)) = Unit {0}
-IsEnding (Some (Flawed fault)) = Unit {0}
+abbrev pub EndsInput : Option Piece → Type 0
+EndsInput None = ⊥
+EndsInput (Some (Text line)) = ⊥
+EndsInput (Some (Ended line)) = Unit {0}
+EndsInput (Some (Flawed fault)) = Unit {0}
 
-ending_known : (line : ℕ) (end : Option End) → Known end → IsEnding (ending_piece line end)
+ending_known : (line : ℕ) (end : Option End) → Known end → EndsInput (ending_piece line end)
 ending_known line None is = absurd is
 ending_known line (Some Over) is = tt
 ending_known line (Some (Flaw kind)) is = tt
 
-from_known : (line : ℕ) (texts : List (List ℕ)) (end : Option End) → Known end → IsEnding (pieces_from line texts end).ending
+from_known : (line : ℕ) (texts : List (List ℕ)) (end : Option End) → Known end → EndsInput (pieces_from line texts end).ending
 from_known line [] end is = ending_known line end is
 from_known line (text ∷ texts) end is =
     let others = from_known (line + 1) texts end is in
-    elim (skipped (words text)) as (λ b. let p : Pieces = cond b (pieces_from (line + 1) texts end) (with_line line text (pieces_from (line + 1) texts end)) in IsEnding p.ending) [ true ↦ others | false ↦ others ]
+    elim (skipped (words text)) as (λ b. let p : Pieces = cond b (pieces_from (line + 1) texts end) (with_line line text (pieces_from (line + 1) texts end)) in EndsInput p.ending) [ true ↦ others | false ↦ others ]
+
+pub pieces_known : (input : List ℕ) → EndsInput (pieces true input).ending
+pieces_known input =
+    let t : Texts = texts_of true (lines true 0 input) in
+    from_known 1 t.texts t.ending (texts_known (lines true 0 input))
 
 -- and so the script does
 told_known : {E : Type 0} (line : ℕ) (read : Result E FaultKind) (others : Script E) → Known others.ending → Known (told line read others).ending
 told_known line (Ok event) others is = is
 told_known line (Err kind) others is = tt
 
-lines_known : {E : Type 0} (g : Grammar E) (count : ℕ) (ls : List Numbered) (ending : Option Piece) → IsEnding ending → Known (read_lines g count ls ending).ending
+lines_known : {E : Type 0} (g : Grammar E) (count : ℕ) (ls : List Numbered) (ending : Option Piece) → EndsInput ending → Known (read_lines g count ls ending).ending
 lines_known g count [] None is = absurd is
 lines_known g count [] (Some (Text line)) is = absurd is
 lines_known g count [] (Some (Ended line)) is = tt
@@ -60,6 +65,5 @@ lines_known {E} g count (line ∷ ls) ending is =
 
 pub known : {E : Type 0} (g : Grammar E) (input : List ℕ) → Known (script g true input).ending
 known g input =
-    let t : Texts = texts_of true (lines true 0 input) in
     let p : Pieces = pieces true input in
-    lines_known g 0 p.lines p.ending (from_known 1 t.texts t.ending (texts_known (lines true 0 input)))
+    lines_known g 0 p.lines p.ending (pieces_known input)

@@ -1,6 +1,6 @@
 //! What a command over scripts is.
 
-ghost use Rattle.std.specs.Prelude.{◌≡◌, ℕ, ◌≤◌, List, Option, IfOk, OnOk, OnErr, Result, Err};
+ghost use Rattle.std.specs.Prelude.{◌≡◌, ◌≢◌, ℕ, ◌≤◌, List, Option, IfOk, OnOk, OnErr, Result, Err};
 ghost use Rattle.std.specs.Io.KnownBytes.{append_known};
 ghost use Rattle.wf_io.specs.Faults.{HasRisen};
 ghost use Rattle.wf_trace.specs.Words.{words};
@@ -50,14 +50,16 @@ pub trait Answers {
         ensures after { OnOk result (self.new ≡ manner.after self.old event) }
         ensures front { OnErr result (HoldsFront (K.held sink.old) (K.held sink.new) (manner.answer self.old event)) }
         ensures counted { K.faults sink.old ≤ K.faults sink.new }
-        ensures cause { result ≡ Err Unanswered.Sink → HasRisen (K.faults sink.old) (K.faults sink.new) };
+        ensures cause { result ≡ Err Unanswered.Sink → HasRisen (K.faults sink.old) (K.faults sink.new) }
+        ensures quiet { result ≢ Err Unanswered.Sink → K.faults sink.new ≡ K.faults sink.old };
 
     /// Writes the lines behind the line `end`. After an error some of them may stand written.
     fn close<K: Sink>(&self, sink: &mut K) -> Result<(), Unanswered>
         ensures written { OnOk result (K.held sink.new ≡ append_known (K.held sink.old) (manner.closing self.now)) }
         ensures front { OnErr result (HoldsFront (K.held sink.old) (K.held sink.new) (manner.closing self.now)) }
         ensures counted { K.faults sink.old ≤ K.faults sink.new }
-        ensures cause { result ≡ Err Unanswered.Sink → HasRisen (K.faults sink.old) (K.faults sink.new) };
+        ensures cause { result ≡ Err Unanswered.Sink → HasRisen (K.faults sink.old) (K.faults sink.new) }
+        ensures quiet { result ≢ Err Unanswered.Sink → K.faults sink.new ≡ K.faults sink.old };
 }
 
 /// Writes a line, or after an error some of it.
@@ -66,6 +68,7 @@ pub fn write_line<K: Sink>(sink: &mut K, line: &Line) -> Result<(), Unanswered>
     ensures front { HoldsFront (K.held sink.old) (K.held sink.new) line.now }
     ensures counted { K.faults sink.old ≤ K.faults sink.new }
     ensures cause { OnErr result (HasRisen (K.faults sink.old) (K.faults sink.new)) }
+    ensures quiet { result ≢ Err Unanswered.Sink → K.faults sink.new ≡ K.faults sink.old }
     ensures sink { OnErr result (result ≡ Err Unanswered.Sink) }
 {
     match write_all(sink, line.octets()) {

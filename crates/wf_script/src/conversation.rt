@@ -27,7 +27,9 @@ pub fn converse<C: Answers, S: Source, K: Sink>(
         × (K.held sink.new ≡ append_known (K.held sink.old) written)
         × ((input : List ℕ) → S.left source.old ≡ Some input → Outcome C.grammar C.manner command.old result input taken written) }
     ensures read { result ≡ Status.ReadFault → HasRisen (S.faults source.old) (S.faults source.new) }
+    ensures source_quiet { result ≢ Status.ReadFault → S.faults source.new ≡ S.faults source.old }
     ensures write { result ≡ Status.WriteFault → HasRisen (K.faults sink.old) (K.faults sink.new) }
+    ensures sink_quiet { result ≢ Status.WriteFault → K.faults sink.new ≡ K.faults sink.old }
     ensures command { result ≢ Status.Usage }
     ensures complete { (HasRisen (S.faults source.old) (S.faults source.new) → ⊥) → (HasRisen (K.faults sink.old) (K.faults sink.new) → ⊥) →
         (input : List ℕ) → S.left source.old ≡ Some input → Answered (script C.grammar true input).ending result }
@@ -46,7 +48,9 @@ fn answer_lines<C: Answers, S: Source, K: Sink>(
         × (K.held sink.new ≡ append_known (K.held sink.old) written)
         × ((input : List ℕ) → S.left source.old ≡ Some input → Outcome C.grammar C.manner command.old result input taken written) }
     ensures read { result ≡ Status.ReadFault → HasRisen (S.faults source.old) (S.faults source.new) }
+    ensures source_quiet { result ≢ Status.ReadFault → S.faults source.new ≡ S.faults source.old }
     ensures write { result ≡ Status.WriteFault → HasRisen (K.faults sink.old) (K.faults sink.new) }
+    ensures sink_quiet { result ≢ Status.WriteFault → K.faults sink.new ≡ K.faults sink.old }
     ensures command { result ≢ Status.Usage }
 {
     let Ok(mut cut) = Cut::new(alloc) else {

@@ -14,5 +14,5 @@ loop-station-preserved g c = (
       ∙ ap (λ h. append_known h (lines_of (g.M.Runs.world c.args.machine.now) c.loop-station.station)) c.loop-station.invariant.0
       ∙ append_known-append (g.K.Sink.held c.args.sink.now) (shares_below (g.M.Runs.world c.args.machine.now) c.loop-station.station) (lines_of (g.M.Runs.world c.args.machine.now) c.loop-station.station)
       ∙ ap (append_known (g.K.Sink.held c.args.sink.now)) (shares-more (g.M.Runs.world c.args.machine.now) c.loop-station.station),
-  omega (arith, c.loop-station.invariant.1, c.in-Ok.ensures.cause.never_falls),
+  c.in-Ok.ensures.cause.quiet ∙ c.loop-station.invariant.1,
 )

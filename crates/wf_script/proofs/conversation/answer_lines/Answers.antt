@@ -12,8 +12,8 @@ returns-in_default-clause-text g c = over_at_once g.C.Answers.grammar g.C.Answer
 pub lines-init : goal.lines-init
 lines-init g c = record {
   talk = conversing_none g.C.Answers.grammar g.C.Answers.manner c.args.command.now c.in-Ok.cut _ _ c.in-Ok.ensures.pieces;
-  reads = omega arith;
-  writes = omega arith;
+  reads = refl;
+  writes = refl;
   few = omega (arith, room_most c.in-Ok.cut.cutter);
 }
 
@@ -29,8 +29,8 @@ lines-preserved g c =
     record {
       talk = with_answer _ _ _ _ _ _ _ _ _ _ _ _ c.in-Ok-Event.event (turned _ _ _ _ _ _ _ _ _ _ _ _ _ reads.0 c.lines.invariant.talk reads.1 c.in-Ok-Event.ensures.sticky)
           c.in-Ok-answer.ensures.written c.in-Ok-answer.ensures.after;
-      reads = omega (arith, c.lines.invariant.reads, c.in-Ok-Event.ensures.cause.never_falls);
-      writes = omega (arith, c.lines.invariant.writes, c.in-Ok-answer.ensures.counted);
+      reads = c.in-Ok-Event.ensures.cause.quiet ∙ c.lines.invariant.reads;
+      writes = c.in-Ok-answer.ensures.quiet (λ is. absurd (cc)) ∙ c.lines.invariant.writes;
       few = omega (arith, c.lines.invariant.few, progress);
     }
 
