@@ -24,7 +24,7 @@ read_replicate {X} n k x = elim (cases_lt k n) [
 ]
 
 module _ (c : Config) where
-  no_frames : (q : ℕ) → frames_at (empty_flows c).backlog q ≡ []
+  pub no_frames : (q : ℕ) → frames_at (empty_flows c).backlog q ≡ []
   no_frames q = read_replicate {X = List FrameValue} (c.flows + 8 * c.stations) q []
 
   nothing_listed : (i : ℕ) → rotation (empty_flows c) i ≡ no_keys
