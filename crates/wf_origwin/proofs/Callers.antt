@@ -1,16 +1,17 @@
 -- What a caller needs of a window that stands for a session.
-use Rattle.std.proofs.Common.{◌≡◌, ℕ, zero, suc, ◌+◌, ◌-◌, ◌%◌, ◌<◌, ◌≤◌, Bool, true, false, if◌then◌else◌, is_some, List, [], ◌∷◌, ◌++◌, length, set, map, refl, ap, sym, ◌∙◌, arith, length-append, length-set}
+use Rattle.std.proofs.Common.{◌≡◌, ℕ, zero, suc, ◌+◌, ◌-◌, ◌%◌, ◌<◌, ◌≤◌, Bool, true, false, if◌then◌else◌, is_some, Option, List, [], ◌∷◌, ◌++◌, length, set, map, refl, ap, sym, ◌∙◌, subst, arith, length-append, length-set}
 use Rattle.std.proofs.lemmas.List.{nil_from_length}
 use Rattle.wf_frame.specs.Frames.{FrameValue}
 use Rattle.wf_rules.specs.Session.{Session, Slot, State, no_slot, slot, on_slot, with_number_given, start_of, next_number, request_due, is_settled}
 use Rattle.wf_rules.specs.Table.{at, change}
+use Rattle.wf_origwin.specs.declared.place.Place.{Place}
 use Rattle.wf_origwin.specs.Places.{state_of, place_of, slot_state, front, settled_first}
 use Rattle.wf_seq12.specs.Distance.{distance}
-use Rattle.wf_origwin.specs.Window.{WindowValue, StandsFor, IsNumber, slots_from_start, place_at, state_at, attempts_of, is_held}
+use Rattle.wf_origwin.specs.Window.{WindowValue, StandsFor, IsNumber, slots_from_start, place_at, state_at, attempts_of, is_held, HasFrame}
 use Rattle.wf_origwin.proofs.Fronts.{lengths, front_none, rest_unsettled, front_append, front_push}
 use Rattle.wf_origwin.proofs.Due.{request_due_is}
 use Rattle.wf_origwin.proofs.Laws.{start_of_is, next_is, places_length, ahead_number, place_is, state_place, slots_changed}
-use Rattle.wf_origwin.proofs.Finding.{attempts_held}
+use Rattle.wf_origwin.proofs.Finding.{attempts_held, holds_frame}
 
 -- a list of slots whose first is changed
 
@@ -48,6 +49,11 @@ module _ (w : WindowValue) (s : Session) (bodies : ℕ → FrameValue) (stands :
 
   pub attempts_is : is_held (slot s n).state ≡ true → attempts_of (place_at w seq) ≡ (slot s n).attempts
   attempts_is held = ap attempts_of (place_is w s bodies stands n seq number) ∙ attempts_held bodies (slot s n) held
+
+  pub frame_is : is_held (slot s n).state ≡ true → HasFrame (place_at w seq) (bodies (slot s n).id)
+  frame_is held =
+      let P : Option Place → Type 0 = λ p. HasFrame p (bodies (slot s n).id) in
+      subst P (sym (place_is w s bodies stands n seq number)) (holds_frame bodies (slot s n) held)
 
   pub slot_same : (f : Slot → Slot) → slot (on_slot n f s) n ≡ f (slot s n)
   slot_same f = at_change_same s.slots (n - s.first) f

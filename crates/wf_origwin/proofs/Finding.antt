@@ -71,6 +71,14 @@ attempts_held bodies x h = elim x.state as (λ st. is_held st ≡ true → attem
   | State.Failed ↦ λ h. absurd (cc h)
 ] h
 
+pub holds_frame : (bodies : ℕ → FrameValue) (x : Slot) → is_held (slot_state x) ≡ true → HasFrame (place_of bodies x) (bodies x.id)
+holds_frame bodies x h = elim x.state as (λ st. is_held st ≡ true → HasFrame (place_as st (bodies x.id) x.attempts) (bodies x.id)) [
+  | State.Waiting ↦ λ h. refl
+  | State.Flying exchange ↦ λ h. refl
+  | State.Acked ↦ λ h. absurd (cc h)
+  | State.Failed ↦ λ h. absurd (cc h)
+] h
+
 pub frame_held : (bodies : ℕ → FrameValue) (x : Slot) (f : FrameValue) → HasFrame (place_of bodies x) f → f ≡ bodies x.id
 frame_held bodies x f h = elim x.state as (λ st. HasFrame (place_as st (bodies x.id) x.attempts) f → f ≡ bodies x.id) [
   | State.Waiting ↦ λ h. h

@@ -7,3 +7,6 @@ pub mod Steps
 pub mod Finding
 pub mod Callers
 pub mod Numbers
+pub mod Counting
+pub mod Listing
+pub mod Expelling

@@ -53,7 +53,7 @@ find_is n (x ∷ xs) m r h = elim (is_waiting x.state) as (λ b. is_waiting x.st
     pick true t w next h = found_here n x xs m r (grind (arith, nat_tests, t)) (cc h) w
     pick false t w next h = next h
 
-waiting_is : (st : State) → is_waiting st ≡ true → st ≡ State.Waiting
+pub waiting_is : (st : State) → is_waiting st ≡ true → st ≡ State.Waiting
 waiting_is State.Waiting h = refl
 waiting_is (State.Flying e) h = absurd (cc h)
 waiting_is State.Acked h = absurd (cc h)

@@ -8,7 +8,7 @@ use Rattle.wf_origwin.specs.declared.place.Place.TheVariants.{Waiting as Waits, 
 use Rattle.wf_origwin.specs.Ring.{RingValue}
 use Rattle.wf_origwin.specs.Places.{state_of, front, rest, settled_first, since_failed, at_most}
 use Rattle.wf_seq12.specs.Distance.{distance}
-use Rattle.wf_origwin.specs.Window.{WindowValue, StandsFor, IsNumber, IsInOrder, moved_on, settled, is_flying}
+use Rattle.wf_origwin.specs.Window.{WindowValue, StandsFor, IsNumber, IsInOrder, moved_on, settled, is_flying, state_at}
 use Rattle.wf_origwin.specs.Answers.{answer_of, with_fate}
 use Rattle.wf_origwin.specs.declared.window.Settled.TheVariants.{Acked as Is_answer_acked, Waiting as Is_answer_waiting, Failed as Is_answer_failed}
 use Rattle.wf_frame.specs.declared.classes.Fate.TheVariants.{Acked as Is_acked, Dropped}
@@ -18,6 +18,7 @@ use Rattle.std.proofs.lemmas.Bool.Decides.{nat_tests}
 use Rattle.wf_origwin.proofs.Fronts.{lengths, rest_unsettled}
 use Rattle.wf_origwin.proofs.Calls.{IsFlyingSlot, found_slot, waiting_slot, settled_set, fly_law, heard_law, acked_law, failed_law, missed_law}
 use Rattle.wf_origwin.proofs.Moving.{since_bound}
+use Rattle.wf_origwin.proofs.Numbers.{waiting_is}
 use Rattle.wf_origwin.proofs.Laws.{slot_changed, place_is, ahead_number, places_length}
 
 -- a window by its parts
@@ -162,3 +163,15 @@ first_waits (p ∷ ps) some h k = elim (state_of p) as (λ st. is_settled st ≡
   | State.Acked ↦ λ h k. absurd (cc h)
   | State.Failed ↦ λ h k. absurd (cc h)
 ] h k
+
+-- a waiting place is found, at this number on the air
+
+module _ (w : WindowValue) (from seq i : ℕ) (on_air : seq ≡ (w.start + i) % 4096) (above : distance from w.start ≤ i) (inside : i < length w.places) (small : length w.places ≤ 256) where
+  found_at : distance seq w.start ≡ i
+  found_at = omega arith
+
+  pub waits_there : is_waiting (state_of (get_or w.places i None)) ≡ true → state_at w seq ≡ State.Waiting
+  waits_there waits = waiting_is (state_at w seq) (ap (λ (k : ℕ). is_waiting (state_of (get_or w.places k None))) found_at ∙ waits)
+
+  pub within_places : (distance from w.start ≤ distance seq w.start) × (distance seq w.start < length w.places)
+  within_places = (omega (arith, found_at, above), omega (arith, found_at, inside))

@@ -3,6 +3,7 @@
 
 mod place;
 mod ring;
+pub mod sessions;
 mod window;
 
 pub use window::{Settled, Window};

@@ -1,5 +1,8 @@
 //! What a number carries.
 
+ghost use Rattle.std.specs.Prelude.{◌≡◌};
+ghost use Rattle.wf_origwin.specs.Window.{waits};
+
 use wf_chain::Parcel;
 
 /// What a number carries that was not acknowledged. `attempts` counts its transmissions that were not acknowledged.
@@ -15,4 +18,10 @@ pub(crate) enum Place {
         exchange: u64,
     },
     Failed,
+}
+
+pub(crate) fn is_waiting(place: &Option<Place>) -> bool
+    ensures { result ≡ waits place.now }
+{
+    matches!(place, Some(Place::Waiting { .. }))
 }

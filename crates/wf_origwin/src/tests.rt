@@ -30,3 +30,21 @@ fn numbers_are_given_up_to_the_size(rt: HostRuntime) -> Result<(), Fail> {
     assert_eq!(rt; window.next().raw(), 1);
     Ok(())
 }
+
+#[test]
+fn a_number_waits_until_it_flies(rt: HostRuntime) -> Result<(), Fail> {
+    let mut window = Window::new(rt.alloc(), 16)?;
+    assert!(rt; !window.has_waiting());
+    let given = window.give(sample(rt.alloc(), 5)?).ok().ok_or("refused")?;
+    assert!(rt; window.has_waiting());
+    let Some(seq) = window.waiting(window.start()) else {
+        return Err("none waits".into());
+    };
+    assert_eq!(rt; seq.raw(), given.raw());
+    assert_eq!(rt; window.frame(seq).id(), 5);
+    assert_eq!(rt; window.attempts(seq), 0);
+    window.fly(seq, 0);
+    assert!(rt; !window.has_waiting());
+    assert!(rt; window.waiting(window.start()).is_none());
+    Ok(())
+}

@@ -3,17 +3,18 @@
 //! In the clauses F is the first number that is not settled, N the next fresh number, w the size and R the greatest
 //! start of a request that ended as heard: those of each session that the window stands for.
 
-ghost use Rattle.std.specs.Prelude.{◌≡◌, ℕ, ◌+◌, ◌%◌, ◌<◌, ◌≤◌, true, false, [], ◌∷◌, length, max, is_ok, is_some, unwrap_or, option_map, slice_index_or, slice_set, IfOk, IfErr, IfSome, IfNone};
+ghost use Rattle.std.specs.Prelude.{◌≡◌, ℕ, ◌+◌, ◌%◌, ◌<◌, ◌≤◌, true, false, [], ◌∷◌, length, max, is_ok, is_some, unwrap_or, option_map, slice_index_or, slice_set, nat_lt, IfOk, IfErr, IfSome, IfNone};
+ghost use Rattle.std.specs.List.{list_any};
 ghost use Rattle.wf_frame.specs.Frames.{FrameValue};
 ghost use Rattle.wf_frame.specs.declared.classes.Fate.TheVariants.{Dropped};
 ghost use Rattle.wf_frame.specs.declared.classes.Cause.TheVariants.{Left};
-ghost use Rattle.wf_rules.specs.Session.{Session, State, slot, new_session, with_number_given, with_state, start_of, next_number, request_due, is_settled};
+ghost use Rattle.wf_rules.specs.Session.{Session, State, slot, new_session, with_number_given, with_state, start_of, next_number, request_due, is_settled, waiting_numbers};
 ghost use Rattle.wf_seq12.specs.Distance.{distance};
 ghost use Rattle.wf_origwin.specs.Places.{state_of, front, rest, next_since, since_failed};
 ghost use Rattle.wf_origwin.specs.Window.{StandsFor, IsNumber, may_give, waiting_from, on_air, settled, place_at, state_at, attempts_of, is_flying, is_held, HasFrame, waits, some_fly, can_take};
 ghost use Rattle.wf_origwin.specs.Answers.{answer_of, with_fate};
 
-use crate::place::Place;
+use crate::place::{Place, is_waiting};
 use crate::ring::Ring;
 use std::alloc::{AllocError, Global};
 use std::marker::Model;
@@ -92,12 +93,6 @@ fn advance(ring: &mut Ring, due: Option<u16>) -> (u16, Option<u16>)
         moved += 1;
     }
     (moved, distance)
-}
-
-fn is_waiting(place: &Option<Place>) -> bool
-    ensures { result ≡ waits place.now }
-{
-    matches!(place, Some(Place::Waiting { .. }))
 }
 
 fn frame_in(place: &Option<Place>) -> &Frame
@@ -339,10 +334,22 @@ impl Window {
         Settled::Failed(finished(parcel, Fate::Dropped(Cause::Retries)))
     }
 
+    /// Whether some number waits.
+    pub fn has_waiting(&self) -> bool
+        ensures shown { result ≡ list_any waits self.now.places }
+        ensures waiting { (s : Session) (bodies : ℕ → FrameValue) → StandsFor self.now s bodies →
+            result ≡ nat_lt 0 (length (waiting_numbers s)) }
+    {
+        self.ring.has_waiting()
+    }
+
     /// The first waiting number at or past `from`, which lies in F to N; None exactly where there is none.
     pub fn waiting(&self, from: Seq12) -> Option<Seq12>
         requires { distance from self.now.start ≤ length self.now.places }
-        ensures { (s : Session) (bodies : ℕ → FrameValue) (n : ℕ) → StandsFor self.now s bodies →
+        ensures waits { IfSome result (λ seq. state_at self.now seq ≡ State.Waiting) }
+        ensures within { IfSome result (λ seq. (distance from self.now.start ≤ distance seq self.now.start) ×
+            (distance seq self.now.start < length self.now.places)) }
+        ensures number { (s : Session) (bodies : ℕ → FrameValue) (n : ℕ) → StandsFor self.now s bodies →
             from ≡ n % 4096 → start_of s ≤ n → n ≤ next_number s →
             result ≡ option_map on_air (waiting_from s n) }
     {
@@ -380,6 +387,8 @@ impl Window {
             (start_of s < next_number s) ×
             (p ≡ with_fate (Dropped Left) (bodies (slot s (start_of s)).id)) ×
             StandsFor self.new (with_state State.Acked (start_of s) s) bodies) }
+        ensures fewer { IfSome result (λ _. length self.new.places < length self.old.places) }
+        ensures still { some_fly self.new ≡ false }
         ensures capacity { self.new.capacity ≡ self.old.capacity }
     {
         if self.ring.len() == 0 {

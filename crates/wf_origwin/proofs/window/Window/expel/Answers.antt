@@ -1,10 +1,15 @@
-use Rattle.std.proofs.Common.{None, length, ap, ◌∙◌, arith}
+use Rattle.std.proofs.Common.{◌≡◌, Option, None, List, length, set, ap, ◌∙◌, arith}
+use Rattle.std.specs.List.{list_any}
 use Rattle.wf_frame.specs.declared.classes.Fate.TheVariants.{Dropped}
 use Rattle.wf_frame.specs.declared.classes.Cause.TheVariants.{Left}
-use Rattle.wf_origwin.specs.Window.{WindowValue}
+use Rattle.wf_origwin.specs.declared.place.Place.{Place}
+use Rattle.wf_origwin.specs.Places.{state_of, rest}
+use Rattle.wf_origwin.specs.Ring.{RingValue}
+use Rattle.wf_origwin.specs.Window.{WindowValue, is_flying, some_fly}
 use Rattle.wf_origwin.specs.Answers.{with_fate}
 use Rattle.wf_origwin.proofs.Laws.{places_length}
-use Rattle.wf_origwin.proofs.Steps.{order_moved, expel_step}
+use Rattle.wf_origwin.proofs.Counting.{one_fewer, none_flies_still}
+use Rattle.wf_origwin.proofs.Steps.{with_items, order_moved, expel_step}
 use Rattle.wf_origwin.proofs.window.Window.expel.Goals as goal
 
 pub returns-then-len-eq0-clause-none : goal.returns-then-len-eq0-clause-none
@@ -24,3 +29,21 @@ returns-clause-some c s bodies stands =
     let a = c.advance-moved in
     let step = expel_step q.size q.start c.plus-self-inside.result a.result.0 q.due a.result.1 q.ring t.new.ring a.new.ring c.args.self.now t.result.0 t.result.1 c.self.view_is t.ensures.found t.ensures.changed a.ensures.items a.ensures.moved a.ensures.due c.plus-self-inside.ensures.number s bodies stands in
     (step.0, c.finished.ensures ∙ ap (with_fate (Dropped Left)) step.1, step.2)
+
+-- the ring that is left
+left_items : (r r1 r2 : RingValue) → r1 ≡ with_items r (set r.items 0 None) → r2 ≡ with_items r1 (rest state_of r1.items) → r2.items ≡ rest state_of (set r.items 0 None)
+left_items r r1 r2 a b = ap (λ (v : RingValue). v.items) b ∙ ap (λ (v : RingValue). rest state_of v.items) a
+
+pub returns-clause-fewer : goal.returns-clause-fewer
+returns-clause-fewer c =
+    let q = c.self.inside in
+    let left = left_items q.ring c.take_waiting-parcel.new.ring c.advance-moved.new.ring c.take_waiting-parcel.ensures.changed c.advance-moved.ensures.items in
+    let same = ap (λ (w : WindowValue). length w.places) c.self.view_is in
+    omega (arith, ap length left, one_fewer q.ring.items (omega (arith, c.len.ensures.number, c.if-len-eq0.false)), same)
+
+pub returns-clause-still : goal.returns-clause-still
+returns-clause-still c =
+    let q = c.self.inside in
+    let left = left_items q.ring c.take_waiting-parcel.new.ring c.advance-moved.new.ring c.take_waiting-parcel.ensures.changed c.advance-moved.ensures.items in
+    ap (λ (ps : List (Option Place)). list_any (λ p. is_flying (state_of p)) ps) left
+    ∙ none_flies_still q.ring.items (ap (λ (w : WindowValue). some_fly w) c.self.view_is ∙ c.requires)
