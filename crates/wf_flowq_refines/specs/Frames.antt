@@ -18,10 +18,10 @@ abbrev pub DropsTo : (FrameValue → Type 0) → (FrameValue → Type 0) → Typ
 DropsTo P R = (f : FrameValue) (cause : Cause) → P f → R (frame_with_fate (Dropped cause) f)
 
 -- f is the frame that a call brought, as it was accepted: with this id, and still held
-pub record IsAccepted (id : ℕ) (note : Note) (f : FrameValue) : Type 0 where
-  pub id : f.id ≡ id
+pub record IsAccepted (k : ℕ) (call : Note) (f : FrameValue) : Type 0 where
+  pub id : f.id ≡ k
   pub fate : f.fate ≡ Held
-  pub note : note ≡ Enqueue f.station f.tid f.flow (length f.body)
+  pub note : call ≡ Enqueue f.station f.tid f.flow (length f.body)
 
 -- `bodies` has the frame of each id that the world accepted
 abbrev pub AreAccepted : World → (ℕ → FrameValue) → Type 0
