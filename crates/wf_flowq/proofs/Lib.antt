@@ -13,3 +13,4 @@ pub mod Leaves
 pub mod Whole
 pub mod Settings
 pub mod Fresh
+pub mod Next

@@ -1,10 +1,9 @@
 -- The settings stay, whatever goes in and out.
 use Rattle.std.proofs.Common.{◌≡◌, ℕ, List, [], ◌∷◌, Option, Some, None, refl, ap, ◌∙◌}
-use Rattle.std.specs.Prelude.{◌==◌}
 use Rattle.std.proofs.lemmas.Bool.{cond_both}
 use Rattle.wf_frame.specs.Frames.{FrameValue}
 use Rattle.wf_rules.specs.Codel.{Params}
-use Rattle.wf_codel_queues.specs.Backlog.{BacklogValue, in_queues, after_flush}
+use Rattle.wf_codel_queues.specs.Backlog.{BacklogValue, after_flush}
 use Rattle.wf_flowq.specs.Flows.{is_at_limit, FlowsValue, SettingsValue, settings, is_listed, after_limit, queue_for, with_listed_queue, after_put, pick_of_tid, after_pick, taken_from_picked, taken_for_tid, queues_of, all_flushed, after_purge}
 
 settings_within : (v : FlowsValue) → settings (after_limit v) ≡ settings v

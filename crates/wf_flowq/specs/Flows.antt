@@ -102,6 +102,10 @@ after_limit v = if is_at_limit v then record v { backlog = after_head_drop v.bac
 unfoldable pub dropped_for_limit : FlowsValue → Option ℕ
 dropped_for_limit v = if is_at_limit v then first_id (frames_at v.backlog (longest_queue v.backlog)) else None
 
+-- the next frame that is put in drops a frame of TID t of station s: the queues are at their limit, and the TID lists the longest
+abbrev pub loses_next : FlowsValue → ℕ → ℕ → Bool
+loses_next v s t = is_at_limit v && is_listed v (tid_number s t) (longest_queue v.backlog)
+
 -- ---- putting a frame in
 
 -- whether a TID other than i lists q

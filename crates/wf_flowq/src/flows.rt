@@ -1,12 +1,12 @@
 //! Putting frames into the flow queues, and taking them out.
 
-ghost use Rattle.std.specs.Prelude.{◌≡◌, ℕ, ◌+◌, ◌*◌, ◌<◌, ◌≤◌, ◌^◌, ◌↔◌, true, [], ◌∷◌, ◌++◌, length, pos, ◌<ℤ◌, IfOk, IfSome, IfNone, OnSome, IsSome, MatchOption, Some, None};
+ghost use Rattle.std.specs.Prelude.{◌≡◌, ℕ, ◌+◌, ◌*◌, ◌<◌, ◌≤◌, ◌^◌, ◌↔◌, true, [], ◌∷◌, ◌++◌, length, pos, ◌<ℤ◌, IfOk, IfSome, IfNone, OnSome, IsSome, IsNone, MatchOption, Some, None};
 ghost use Rattle.wf_frame.specs.Settings.{first_out_of_range};
 ghost use Rattle.wf_codel.specs.Params.{params_of};
 ghost use Rattle.wf_rota.specs.Rotas.{deficit_at};
 ghost use Rattle.wf_store.specs.Store.{IsLongest};
 ghost use Rattle.wf_codel_queues.specs.Backlog.{as_store, frames_at, in_queues, held, first_id, after_head_drop};
-ghost use Rattle.wf_flowq.specs.Flows.{settings, tid_number, tids, queues, rotation, is_listed, frames_queued, longest_queue, after_limit, dropped_for_limit, is_listed_elsewhere, queue_for, with_listed_queue, with_appended, after_put, pick_of_tid, after_pick, taken_from_picked, taken_for_tid, after_purge, empty_flows, AreListedOnce, TakeGives};
+ghost use Rattle.wf_flowq.specs.Flows.{settings, tid_number, tids, queues, rotation, is_listed, frames_queued, longest_queue, loses_next, after_limit, dropped_for_limit, is_listed_elsewhere, queue_for, with_listed_queue, with_appended, after_put, pick_of_tid, after_pick, taken_from_picked, taken_for_tid, after_purge, empty_flows, AreListedOnce, TakeGives};
 ghost use Rattle.wf_flowq.specs.Kept.{CanList, without_queue, IsPicked};
 
 use crate::flagged::Flagged;
@@ -112,6 +112,23 @@ impl Flows {
         ensures listed { AreListedOnce self.now }
     {
         self.waiting.total()
+    }
+
+    /// The station and the TID whose frame the next `put` drops for the limit: those that list the longest queue, where the
+    /// queues hold `limit` frames or more; else None.
+    pub fn next_drop(&self) -> Option<(u16, u8)>
+        ensures none { IsNone result ↔ (in_queues self.now.backlog < self.now.limit) }
+        ensures station { IfSome result (λ x. x.0 < self.now.stations) }
+        ensures tid { IfSome result (λ x. x.1 < 8) }
+        ensures loses { IfSome result (λ x. loses_next self.now x.0 x.1 ≡ true) }
+        ensures only { (s t : ℕ) → t < 8 → loses_next self.now s t ≡ true → result ≡ Some (s, t) }
+    {
+        if self.waiting.total() < self.limit {
+            return None;
+        }
+        let longest = self.waiting.longest()?;
+        let (list, _) = self.rota.where_is(longest)?;
+        Some(((list / 8) as u16, (list % 8) as u8))
     }
 
     /// Puts a frame into a queue of its station and TID, and gives the id of the frame that is dropped for the limit, if any:

@@ -116,6 +116,19 @@ fn limit_drops_longest_head(rt: HostRuntime) -> Result<(), Fail> {
 }
 
 #[test]
+fn next_drop_is_of_longest_queue(rt: HostRuntime) -> Result<(), Fail> {
+    let alloc = rt.alloc();
+    let mut flows = queues(alloc, 1024, 2)?;
+    assert_eq!(rt; put(&mut flows, alloc, 0, 0, 0, 1, 100)?, None);
+    assert_eq!(rt; flows.next_drop(), None);
+    assert_eq!(rt; put(&mut flows, alloc, 1, 0, 3, 2, 200)?, None);
+    assert_eq!(rt; flows.next_drop(), Some((0, 3)));
+    assert_eq!(rt; put(&mut flows, alloc, 2, 0, 0, 3, 300)?, Some(1));
+    assert_eq!(rt; flows.next_drop(), Some((0, 0)));
+    Ok(())
+}
+
+#[test]
 fn limit_counts_overflow_queues(rt: HostRuntime) -> Result<(), Fail> {
     let alloc = rt.alloc();
     let mut flows = queues(alloc, 1, 2)?;

@@ -1,19 +1,20 @@
 -- The calls of the flow queues change nothing else of a world.
-use Rattle.std.proofs.Common.{◌≡◌, refl, ap, sym, ◌∙◌, ℕ, ◌==◌, Bool, true, false, if◌then◌else◌, List, [], ◌∷◌, Option, Some, None}
+use Rattle.std.proofs.Common.{◌≡◌, refl, ap, sym, ◌∙◌, ℕ, if◌then◌else◌, List, [], ◌∷◌, Option, Some, None}
 use Rattle.std.specs.Prelude.{option_map, unwrap_or, is_some}
 use Rattle.wf_frame.specs.declared.classes.Fate.{Fate}
 use Rattle.wf_frame.specs.declared.notes.Note.{Note}
 use Rattle.wf_rules.specs.Table.{at, change}
 use Rattle.wf_rules.specs.Airtime.{Rate, is_slow}
-use Rattle.wf_rules.specs.Codel.{Item, Params, Dequeued}
-use Rattle.wf_rules.specs.Rotation.{Rotation, no_keys, has_key, in_order}
+use Rattle.wf_rules.specs.Codel.{Params}
+use Rattle.wf_rules.specs.Rotation.{Rotation}
 use Rattle.wf_rules.specs.Session.{Session}
 use Rattle.wf_rules.specs.Receiver.{Receiver}
-use Rattle.wf_world.specs.World.{World, Station, Tid, Queue, no_station, no_tid, is_live, queue, tid_of, codel_params, with_station, on_station, on_tid, with_queues, on_queue, with_fate, with_frame_finished, with_frames_finished}
-use Rattle.wf_world.specs.FlowQueues.{is_at_limit, total_queued, longest_queue, without_head, after_limit, with_listed_queue, with_appended, after_put_in, with_queues_paid, picked_queue, taken_by_codel, taken_from_picked, taken_for_tid, after_queue_left, after_queues_left}
+use Rattle.wf_world.specs.World.{World, Station, Tid, Queue, no_station, no_tid, is_live, codel_params, with_station, on_station, on_tid, with_queues, on_queue, with_fate, with_frame_finished, with_frames_finished}
+use Rattle.wf_world.specs.FlowQueues.{after_limit, taken_for_tid}
 use Rattle.wf_world.specs.Step.{with_frame, enqueue_outcome, reap_outcome, after_tid_left}
 use Rattle.wf_laws.proofs.Deficits.Books.{upd_idle, put_upd}
 use Rattle.wf_flowq_refines.specs.Rest.{Rest, rest, bare, session_in, receiver_in}
+use Rattle.wf_flowq_refines.proofs.Through.{through_finish_all, through_limit, through_put_in, through_take, through_left}
 
 -- ---- the parts
 
@@ -24,11 +25,6 @@ rest_on_queue w q f = refl
 pub rest_finish : (w : World) (fate : Fate) (id : ℕ) → rest (with_frame_finished w fate id) ≡ rest w
 unfolding with_frame_finished with_fate
 rest_finish w fate id = refl
-
-pub rest_finish_all : (ids : List ℕ) (w : World) (fate : Fate) → rest (with_frames_finished w fate ids) ≡ rest w
-unfolding with_frames_finished
-rest_finish_all [] w fate = refl
-rest_finish_all (id ∷ ids) w fate = rest_finish_all ids (with_frame_finished w fate id) fate ∙ rest_finish w fate id
 
 rest_with_station : (w : World) (s : ℕ) (o : Option Station) → option_map bare o ≡ option_map bare (at None w.stations s) → session_in o ≡ session_in (at None w.stations s) → receiver_in o ≡ receiver_in (at None w.stations s) → rest (with_station w s o) ≡ rest w
 unfolding with_station
@@ -57,28 +53,10 @@ rest_with_queues w s t r = rest_with_station w s _ (same (at None w.stations s))
     receivers None = refl
     receivers (Some x) = put_upd (λ (z : Tid). z.receiver) no_tid x.tids t _ ∙ upd_idle (receiver_in (Some x)) t _ refl
 
-rest_if : (b : Bool) (z : Rest) (w x : World) → rest w ≡ z → rest x ≡ z → rest (if b then w else x) ≡ z
-rest_if true z w x h k = h
-rest_if false z w x h k = k
+pub rest_finish_all : (ids : List ℕ) (w : World) (fate : Fate) → rest (with_frames_finished w fate ids) ≡ rest w
+rest_finish_all = through_finish_all rest rest_on_queue rest_finish rest_with_queues
 
--- ---- put
-
-rest_head : (items : List Item) (w : World) (q : ℕ) → rest (without_head w q items) ≡ rest w
-unfolding without_head
-rest_head [] w q = refl
-rest_head (x ∷ left) w q = rest_finish _ _ x.id ∙ rest_on_queue w q _
-
-rest_limit : (w : World) → rest (after_limit w) ≡ rest w
-unfolding after_limit
-rest_limit w = rest_if (is_at_limit w) (rest w) _ w (rest_head (queue w (longest_queue w)).items w (longest_queue w)) refl
-
-rest_listed : (w : World) (s t q : ℕ) → rest (with_listed_queue w s t q) ≡ rest w
-unfolding with_listed_queue
-rest_listed w s t q = rest_if (has_key (tid_of w s t).queues q) (rest w) w _ refl (rest_with_queues _ s t _ ∙ rest_on_queue w q _)
-
-rest_put_in : (w : World) (s t q : ℕ) (x : Item) → rest (after_put_in w s t q x) ≡ rest w
-unfolding after_put_in with_appended
-rest_put_in w s t q x = rest_listed _ s t q ∙ rest_on_queue w q _
+-- ---- put, take and purge
 
 rest_with_frame : (w : World) (note : Note) → rest (with_frame w note) ≡ rest w
 unfolding with_frame
@@ -86,42 +64,15 @@ rest_with_frame w note = refl
 
 pub rest_enqueued : (w : World) (s t flow len : ℕ) → rest (enqueue_outcome w s t flow len).world ≡ rest w
 unfolding enqueue_outcome
-rest_enqueued w s t flow len = rest_with_frame _ _ ∙ rest_put_in (after_limit w) s t _ _ ∙ rest_limit w
-
--- ---- take
-
-rest_paid : (qs : List ℕ) (w : World) (quanta : ℕ → ℕ) → rest (with_queues_paid w quanta qs) ≡ rest w
-unfolding with_queues_paid
-rest_paid [] w quanta = refl
-rest_paid (q ∷ qs) w quanta = rest_paid qs _ quanta ∙ rest_on_queue w q _
-
-rest_dequeued : (w : World) (q : ℕ) (d : Dequeued) → rest (taken_by_codel w q d).world ≡ rest w
-unfolding taken_by_codel
-rest_dequeued w q d = rest_finish_all _ _ _ ∙ rest_on_queue w q _
-
-rest_taken_from : (w : World) (s : ℕ) (o : Option ℕ) → rest (taken_from_picked w s o).world ≡ rest w
-unfolding taken_from_picked
-rest_taken_from w s None = refl
-rest_taken_from w s (Some q) = rest_dequeued w q _
+rest_enqueued w s t flow len = rest_with_frame _ _ ∙ through_put_in rest rest_on_queue rest_finish rest_with_queues (after_limit w) s t _ _ ∙ through_limit rest rest_on_queue rest_finish rest_with_queues w
 
 pub rest_take : (w : World) (s t : ℕ) → rest (taken_for_tid w s t).world ≡ rest w
-unfolding taken_for_tid
-rest_take w s t = rest_taken_from _ s (picked_queue w s t).winner ∙ rest_with_queues _ s t _ ∙ rest_paid (in_order (tid_of w s t).queues) w (picked_queue w s t).quanta
-
--- ---- purge and reap
-
-rest_purge_queue : (w : World) (q : ℕ) → rest (after_queue_left w q) ≡ rest w
-unfolding after_queue_left
-rest_purge_queue w q = rest_finish_all _ _ _ ∙ rest_on_queue w q _
-
-rest_purge_queues : (qs : List ℕ) (w : World) → rest (after_queues_left w qs) ≡ rest w
-unfolding after_queues_left
-rest_purge_queues [] w = refl
-rest_purge_queues (q ∷ qs) w = rest_purge_queues qs (after_queue_left w q) ∙ rest_purge_queue w q
+rest_take = through_take rest rest_on_queue rest_finish rest_with_queues
 
 pub rest_left : (w : World) (s t : ℕ) → rest (after_tid_left w s t) ≡ rest w
-unfolding after_tid_left
-rest_left w s t = rest_with_queues _ s t no_keys ∙ rest_purge_queues _ _ ∙ rest_finish_all _ w _
+rest_left = through_left rest rest_on_queue rest_finish rest_with_queues
+
+-- ---- reap
 
 pub rest_reaped : (w : World) (ids : List ℕ) → rest (reap_outcome w ids).world ≡ rest w
 unfolding reap_outcome

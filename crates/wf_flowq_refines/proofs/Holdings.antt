@@ -1,5 +1,5 @@
 -- Which frames are queued or finished: a call changes this by the frame that it takes in or gives out, and by no other.
-use Rattle.std.proofs.Common.{◌≡◌, refl, ap, ◌∙◌, arith, ℕ, zero, suc, ◌+◌, ◌<◌, ◌==◌, true, List, [], ◌∷◌, ◌++◌, map, length, set, take, drop, length-set, Option, Some, None}
+use Rattle.std.proofs.Common.{◌≡◌, refl, ap, ◌∙◌, arith, ℕ, zero, suc, ◌+◌, ◌<◌, true, List, [], ◌∷◌, ◌++◌, map, length, set, take, drop, length-set, Option, Some, None}
 use Rattle.std.specs.Prelude.{slice_get}
 use Rattle.std.proofs.lemmas.Bool.{cond_both}
 use Rattle.wf_frame.specs.declared.classes.Cause.TheVariants.{Overlimit, Codel as By_codel, Left}
@@ -12,7 +12,7 @@ use Rattle.wf_rules.specs.Lists.{on}
 use Rattle.wf_rota.specs.Rotas.{need_at}
 use Rattle.wf_rule_laws.proofs.Lemmas.Counts.{on-nil, on-first}
 use Rattle.wf_rule_laws.proofs.Lemmas.Members.{has_filter, has_head, has_tail}
-use Rattle.wf_codel_queues.specs.Backlog.{BacklogValue, frames_at, in_queues, frame_with_fate, after_head_drop, after_flush, drops_at}
+use Rattle.wf_codel_queues.specs.Backlog.{BacklogValue, frames_at, frame_with_fate, after_head_drop, after_flush, drops_at}
 use Rattle.wf_flowq.specs.Flows.{FlowsValue, tid_number, queues as queue_count, rotation, is_listed, has_frames, longest_queue, after_limit, queue_for, with_listed_queue, with_appended, after_put, pick_of_tid, after_pick, taken_from_picked, queues_of, all_flushed, after_purge, taken_for_tid as take_out, is_at_limit}
 use Rattle.wf_flowq.proofs.Flags.{nothing_dropped}
 use Rattle.wf_flowq_refines.specs.Standing.{Part, ids, ids_given, times_held, with_finished, Stands}

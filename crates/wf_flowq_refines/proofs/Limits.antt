@@ -1,5 +1,5 @@
 -- The head of the longest queue is dropped for the limit, on both sides.
-use Rattle.std.proofs.Common.{◌≡◌, refl, ap, ap₂, sym, ◌∙◌, subst, arith, ℕ, ◌<◌, ◌==◌, Bool, true, false, if◌then◌else◌, List, [], ◌∷◌, ◌++◌, map, length, set, take, drop, inl, inr}
+use Rattle.std.proofs.Common.{◌≡◌, refl, ap, ap₂, sym, ◌∙◌, subst, arith, ℕ, ◌<◌, Bool, true, false, if◌then◌else◌, List, [], ◌∷◌, ◌++◌, map, length, set, take, drop, inl, inr}
 use Rattle.std.specs.Prelude.{nat_le, ℤ, pos}
 use Rattle.std.proofs.lemmas.List.{set-get_or, get_or_past}
 use Rattle.std.proofs.lemmas.Bool.{cases_lt}
@@ -11,8 +11,8 @@ use Rattle.wf_rules.specs.Codel.{Item, Codel, new_codel}
 use Rattle.wf_rules.specs.Lists.{on}
 use Rattle.wf_rota.specs.Rotas.{deficit_at}
 use Rattle.wf_world.specs.World.{World, Queue, is_live, queue, accepted_count, on_queue, with_frame_finished, with_frames_finished, with_fate}
-use Rattle.wf_world.specs.FlowQueues.{total_queued, without_head, longest_queue as world_longest, after_limit as world_within_limit, is_at_limit as world_at_limit}
-use Rattle.wf_codel_queues.specs.Backlog.{BacklogValue, frames_at, codel_at, in_queues, item_of, frame_with_fate, after_head_drop}
+use Rattle.wf_world.specs.FlowQueues.{without_head, longest_queue as world_longest, after_limit as world_within_limit, is_at_limit as world_at_limit}
+use Rattle.wf_codel_queues.specs.Backlog.{BacklogValue, frames_at, codel_at, item_of, frame_with_fate, after_head_drop}
 use Rattle.wf_flowq.specs.Flows.{is_at_limit, FlowsValue, queues as queue_count, longest_queue, after_limit}
 use Rattle.wf_flowq.proofs.Flags.{nothing_dropped}
 use Rattle.wf_flowq_refines.specs.Standing.{Part, part, with_finished, Stands, StandsFor}

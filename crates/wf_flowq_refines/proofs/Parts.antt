@@ -75,11 +75,11 @@ part_finish w fate id low =
 
 -- ---- an accepted frame
 
-end_is : (fs : List Frame) (x : Frame) → at no_frame (fs ++ x ∷ []) (length fs) ≡ x
+pub end_is : (fs : List Frame) (x : Frame) → at no_frame (fs ++ x ∷ []) (length fs) ≡ x
 end_is [] x = refl
 end_is (y ∷ fs) x = end_is fs x
 
-end_other : (fs : List Frame) (x : Frame) (k : ℕ) → (k ≡ length fs → ⊥) → at no_frame (fs ++ x ∷ []) k ≡ at no_frame fs k
+pub end_other : (fs : List Frame) (x : Frame) (k : ℕ) → (k ≡ length fs → ⊥) → at no_frame (fs ++ x ∷ []) k ≡ at no_frame fs k
 end_other [] x zero h = absurd (h refl)
 end_other [] x (suc k) h = refl
 end_other (y ∷ fs) x zero h = refl

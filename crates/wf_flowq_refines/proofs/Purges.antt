@@ -26,7 +26,7 @@ use Rattle.wf_flowq_refines.proofs.Rising.{rising_listed}
 
 -- ---- one queue
 
-item_ids : (frames : List FrameValue) → map (λ (x : Item). x.id) (map item_of frames) ≡ ids frames
+pub item_ids : (frames : List FrameValue) → map (λ (x : Item). x.id) (map item_of frames) ≡ ids frames
 item_ids [] = refl
 item_ids (f ∷ fs) = ap (λ (l : List ℕ). f.id ∷ l) (item_ids fs)
 

@@ -1,11 +1,11 @@
 -- What is read of the flow queues is what is read of the world.
-use Rattle.std.proofs.Common.{◌≡◌, refl, ap, ap₂, sym, ◌∙◌, arith, ℕ, zero, suc, ◌+◌, ◌*◌, ◌/◌, ◌%◌, ◌<◌, ◌≤◌, ◌==◌, max, Bool, true, false, not, ◌&&◌, ◌||◌, if◌then◌else◌, List, [], ◌∷◌, map, filter, length, get_or, Option, Some, None, is_some, unwrap_or, eq-eqb, inl, inr}
-use Rattle.std.specs.Prelude.{nat_le, nat_lt, sum_by}
+use Rattle.std.proofs.Common.{◌≡◌, refl, ap, ap₂, sym, ◌∙◌, arith, ℕ, zero, suc, ◌+◌, ◌*◌, ◌/◌, ◌%◌, ◌<◌, ◌≤◌, ◌==◌, Bool, true, false, not, ◌&&◌, ◌||◌, if◌then◌else◌, List, [], ◌∷◌, map, filter, length, get_or, Option, Some, None, is_some, unwrap_or, eq-eqb, inl, inr}
+use Rattle.std.specs.Prelude.{nat_le, sum_by}
 use Rattle.std.specs.List.{list_any}
 use Rattle.std.proofs.Math.Path.{fun_ext}
 use Rattle.std.proofs.lemmas.List.{length-map}
 use Rattle.std.proofs.lemmas.List.Sums.{sum_by-cons}
-use Rattle.std.proofs.lemmas.Bool.{cases_Bool, cases_eq, ne_eqb, not_from_false, not_from_true, and_from, and_parts, or_left, or_right, le-ltb}
+use Rattle.std.proofs.lemmas.Bool.{cases_Bool, cases_eq, ne_eqb, not_from_false, not_from_true, and_from, and_parts, or_left, or_right}
 use Rattle.wf_frame.specs.Frames.{FrameValue}
 use Rattle.wf_rules.specs.Table.{at, has, upto, count_from}
 use Rattle.wf_rules.specs.Codel.{Item, octets}
@@ -14,7 +14,7 @@ use Rattle.wf_world.specs.World.{World, Station, Queue, new_queue, no_tid, no_st
 use Rattle.wf_world.specs.FlowQueues.{total_queued, head_id, frames_queued as world_queued, longest_queue as world_longest, is_listed_elsewhere as world_listed_elsewhere, queue_for as world_queue_for, dropped_for_limit as world_dropped, is_at_limit as world_at_limit}
 use Rattle.wf_world.proofs.Longest.{octets_at, longest_same}
 use Rattle.wf_codel_queues.specs.Backlog.{frames_at, in_queues, item_of, first_id}
-use Rattle.wf_flowq.specs.Flows.{FlowsValue, SettingsValue, tid_number, tids, rotation, is_listed, frames_queued, as_queue, longest_queue, dropped_for_limit, is_listed_elsewhere, queue_for, is_at_limit}
+use Rattle.wf_flowq.specs.Flows.{FlowsValue, SettingsValue, tid_number, tids, rotation, is_listed, frames_queued, as_queue, longest_queue, dropped_for_limit, is_listed_elsewhere, queue_for}
 use Rattle.wf_rule_laws.proofs.Lemmas.Numbers.{same_bool, either, eq_yes}
 use Rattle.wf_rule_laws.proofs.Lemmas.Members.{has_filter}
 use Rattle.wf_flowq_refines.specs.Standing.{StandsFor}

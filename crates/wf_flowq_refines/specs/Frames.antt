@@ -1,11 +1,13 @@
--- The frames that the flow queues hold, beside the accepted ones.
-use Rattle.std.specs.Prelude.{◌≡◌, ◌<◌, ℕ, ◌==◌, false, All, length, if◌then◌else◌}
+-- The frames that the flow queues hold, beside the accepted ones, and whose frame the limit drops.
+use Rattle.std.specs.Prelude.{◌≡◌, ◌<◌, ℕ, ◌==◌, Bool, true, false, ◌&&◌, All, length, if◌then◌else◌}
 use Rattle.wf_frame.specs.Frames.{FrameValue}
 use Rattle.wf_frame.specs.declared.classes.Cause.{Cause}
 use Rattle.wf_frame.specs.declared.classes.Fate.TheVariants.{Held, Dropped}
 use Rattle.wf_frame.specs.declared.notes.Note.{Note}
 use Rattle.wf_frame.specs.declared.notes.Note.TheVariants.{Enqueue}
-use Rattle.wf_world.specs.World.{World, frame, accepted_count, is_held}
+use Rattle.wf_rules.specs.Rotation.{has_key}
+use Rattle.wf_world.specs.World.{World, tid_of, frame, accepted_count, is_held}
+use Rattle.wf_world.specs.FlowQueues.{is_at_limit, longest_queue}
 use Rattle.wf_codel_queues.specs.Backlog.{BacklogValue, frames_at, frame_with_fate}
 
 -- each queued frame has P, and each finished one has R
@@ -13,19 +15,27 @@ pub record HasEach (P R : FrameValue → Type 0) (b : BacklogValue) : Type 0 whe
   pub queued : (q : ℕ) → All P (frames_at b q)
   pub finished : All R b.finished
 
+-- the frames that pass a test
+abbrev pub Passes : (FrameValue → Bool) → FrameValue → Type 0
+Passes test f = test f ≡ true
+
 -- a frame that has P has R once it is dropped, for whatever cause
 abbrev pub DropsTo : (FrameValue → Type 0) → (FrameValue → Type 0) → Type 0
 DropsTo P R = (f : FrameValue) (cause : Cause) → P f → R (frame_with_fate (Dropped cause) f)
 
+-- the call that brought each accepted frame, by its id
+abbrev pub notes : World → ℕ → Note
+notes w id = (frame w id).note
+
 -- f is the frame that a call brought, as it was accepted: with this id, and still held
-pub record IsAccepted (k : ℕ) (call : Note) (f : FrameValue) : Type 0 where
-  pub id : f.id ≡ k
+pub record IsAccepted (given : ℕ) (brought : Note) (f : FrameValue) : Type 0 where
+  pub id : f.id ≡ given
   pub fate : f.fate ≡ Held
-  pub note : call ≡ Enqueue f.station f.tid f.flow (length f.body)
+  pub note : brought ≡ Enqueue f.station f.tid f.flow (length f.body)
 
 -- `bodies` has the frame of each id that the world accepted
 abbrev pub AreAccepted : World → (ℕ → FrameValue) → Type 0
-AreAccepted w bodies = (id : ℕ) → id < accepted_count w → IsAccepted id (frame w id).note (bodies id)
+AreAccepted w bodies = (id : ℕ) → id < accepted_count w → IsAccepted id (notes w id) (bodies id)
 
 -- the frames of the ids, with one more that is accepted
 abbrev pub with_body : (ℕ → FrameValue) → FrameValue → ℕ → FrameValue
@@ -42,3 +52,7 @@ IsBodySettled bodies f = (record f { fate = Held } ≡ bodies f.id) × (is_held 
 -- each queued frame is the accepted one; each finished one is it but for its fate, which is not Held
 abbrev pub HasFrames : BacklogValue → (ℕ → FrameValue) → Type 0
 HasFrames b bodies = HasEach (IsBody bodies) (IsBodySettled bodies) b
+
+-- the next enqueue drops a frame of TID t of station s: the queues are at their limit, and the TID lists the longest
+abbrev pub loses_next_in : World → ℕ → ℕ → Bool
+loses_next_in w s t = is_at_limit w && has_key (tid_of w s t).queues (longest_queue w)

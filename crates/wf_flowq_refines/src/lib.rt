@@ -6,7 +6,7 @@
 //! machine does. Each law here is a function without a body that names it in its contract.
 #![tactic(auto)]
 
-ghost use Rattle.std.specs.Prelude.{◌≡◌, ℕ, ◌+◌, ◌<◌, ◌≤◌, true, false, List, [], ◌∷◌, ◌++◌, Option, None, length, option_map};
+ghost use Rattle.std.specs.Prelude.{◌≡◌, ℕ, ◌+◌, ◌<◌, ◌≤◌, Bool, true, false, List, [], ◌∷◌, ◌++◌, Option, None, IfSome, length, option_map};
 ghost use Rattle.wf_frame.specs.Settings.{IsInRange};
 ghost use Rattle.wf_frame.specs.Classes.{all_classes};
 ghost use Rattle.wf_frame.specs.Frames.{FrameValue};
@@ -14,23 +14,25 @@ ghost use Rattle.wf_frame.specs.declared.settings.Config.{Config};
 ghost use Rattle.wf_frame.specs.declared.classes.Class.{Class};
 ghost use Rattle.wf_frame.specs.declared.classes.Cause.TheVariants.{Left};
 ghost use Rattle.wf_frame.specs.declared.classes.Fate.{Fate};
-ghost use Rattle.wf_frame.specs.declared.classes.Fate.TheVariants.{Dropped};
+ghost use Rattle.wf_frame.specs.declared.classes.Fate.TheVariants.{Held, Dropped};
 ghost use Rattle.wf_frame.specs.declared.notes.ReplyNote.TheVariants.{Accepted as AcceptedReply, Reaped as ReapedReply};
 ghost use Rattle.wf_rules.specs.Codel.{Params};
 ghost use Rattle.wf_rules.specs.Rotation.{Rotation, no_keys, in_order};
 ghost use Rattle.wf_rules.specs.Session.{Session};
 ghost use Rattle.wf_rules.specs.Receiver.{Receiver};
-ghost use Rattle.wf_world.specs.World.{World, Station, Share, Exchange, opening, is_live, session, tid_of, accepted_count, codel_params as codel_params, with_station, on_station, on_session, on_receiver, on_share, with_queues, with_rotation, with_exchange, without_exchange, with_frame_finished, with_frames_finished};
+ghost use Rattle.wf_world.specs.World.{World, Station, Share, Exchange, opening, is_live, session, tid_of, frame, accepted_count, codel_params as codel_params, with_station, on_station, on_session, on_receiver, on_share, with_queues, with_rotation, with_exchange, without_exchange, with_frame_finished, with_frames_finished};
 ghost use Rattle.wf_world.specs.FlowQueues.{total_queued, after_queues_left};
-ghost use Rattle.wf_world.specs.FlowQueues.{frames_queued as world_queued, longest_queue as world_longest, dropped_for_limit as world_dropped, is_listed_elsewhere as world_listed_elsewhere, queue_for as world_queue_for, taken_for_tid as world_take};
+ghost use Rattle.wf_world.specs.FlowQueues.{frames_queued as world_queued, longest_queue as world_longest, dropped_for_limit as world_dropped, is_listed_elsewhere as world_listed_elsewhere, queue_for as world_queue_for, after_limit as world_after_limit, taken_for_tid as world_take};
 ghost use Rattle.wf_world.specs.CanSend.{with_listings_of};
 ghost use Rattle.wf_world.specs.Exchanges.{after_pick, after_tid_turn};
 ghost use Rattle.wf_world.specs.Step.{waiting_ids, in_rising_order, join_outcome, after_tid_left, without_listings, enqueue_outcome, reap_outcome};
 ghost use Rattle.wf_rules.specs.Lists.{on};
-ghost use Rattle.wf_codel_queues.specs.Backlog.{in_queues, item_of};
-ghost use Rattle.wf_flowq.specs.Flows.{FlowsValue, empty_flows, tid_number, rotation, frames_queued, longest_queue, dropped_for_limit, is_listed_elsewhere, queue_for, after_put, taken_for_tid, after_purge};
-ghost use Rattle.wf_flowq_refines.specs.Standing.{part, ids_given, times_held, with_finished, StandsFor};
+ghost use Rattle.wf_laws.specs.Places.{KeepsPlaces};
+ghost use Rattle.wf_codel_queues.specs.Backlog.{frames_at, in_queues, item_of};
+ghost use Rattle.wf_flowq.specs.Flows.{FlowsValue, empty_flows, tid_number, rotation, frames_queued, longest_queue, dropped_for_limit, is_listed_elsewhere, queue_for, loses_next, after_limit, after_put, taken_for_tid, after_purge};
+ghost use Rattle.wf_flowq_refines.specs.Standing.{part, ids, ids_given, times_held, with_finished, StandsFor};
 ghost use Rattle.wf_flowq_refines.specs.Rest.{rest};
+ghost use Rattle.wf_flowq_refines.specs.Frames.{HasEach, Passes, DropsTo, AreAccepted, IsBody, IsBodySettled, HasFrames, notes, with_body, loses_next_in};
 
 /// At the start, with the same settings.
 pub fn the_flow_queues_open()
@@ -165,4 +167,70 @@ pub fn nothing_else_changes()
     ensures left { (w : World) (s t : ℕ) → rest (after_tid_left w s t) ≡ rest w }
     ensures live { (w x : World) (s : ℕ) → rest x ≡ rest w → is_live x s ≡ is_live w s }
     ensures params { (w x : World) (s : ℕ) → rest x ≡ rest w → codel_params x s ≡ codel_params w s }
+{}
+
+/// What each frame has: where each queued frame passes one test and each finished one another, and what passes the first
+/// passes the second once it is dropped, for whatever cause, this stays so through each call. A frame that is put in must pass
+/// the first, and one that is finished the second; one that is taken out passes the first, and one that is reaped the second.
+pub fn each_frame_keeps_what_it_has()
+    ensures put { (p r : FrameValue → Bool) (v : FlowsValue) (i : ℕ) (f : FrameValue) → DropsTo (Passes p) (Passes r) → HasEach (Passes p) (Passes r) v.backlog → p f ≡ true → HasEach (Passes p) (Passes r) (after_put v i f).backlog }
+    ensures take { (p r : FrameValue → Bool) (v : FlowsValue) (i now : ℕ) (params : Params) → DropsTo (Passes p) (Passes r) → HasEach (Passes p) (Passes r) v.backlog →
+        HasEach (Passes p) (Passes r) (taken_for_tid v i now params).flows.backlog }
+    ensures given { (p r : FrameValue → Bool) (v : FlowsValue) (i now : ℕ) (params : Params) → DropsTo (Passes p) (Passes r) → HasEach (Passes p) (Passes r) v.backlog →
+        IfSome (taken_for_tid v i now params).frame (Passes p) }
+    ensures purge { (p r : FrameValue → Bool) (v : FlowsValue) (i : ℕ) → DropsTo (Passes p) (Passes r) → HasEach (Passes p) (Passes r) v.backlog → HasEach (Passes p) (Passes r) (after_purge v i).backlog }
+    ensures finish { (p r : FrameValue → Bool) (v : FlowsValue) (f : FrameValue) → HasEach (Passes p) (Passes r) v.backlog → r f ≡ true → HasEach (Passes p) (Passes r) (with_finished v (v.backlog.finished ++ f ∷ [])).backlog }
+    ensures reap { (p r : FrameValue → Bool) (v : FlowsValue) (f : FrameValue) (behind : List FrameValue) → HasEach (Passes p) (Passes r) v.backlog → v.backlog.finished ≡ f ∷ behind → HasEach (Passes p) (Passes r) (with_finished v behind).backlog }
+    ensures reaped { (p r : FrameValue → Bool) (v : FlowsValue) (f : FrameValue) (behind : List FrameValue) → HasEach (Passes p) (Passes r) v.backlog → v.backlog.finished ≡ f ∷ behind → r f ≡ true }
+{}
+
+/// The queued frames are the accepted ones, as they were, and the finished ones are they but for their fates: this stays so
+/// through each call, and of other frames that are the same of each accepted id.
+pub fn the_frames_are_the_accepted_ones()
+    ensures open { (c : Config) (bodies : ℕ → FrameValue) → HasFrames (empty_flows c).backlog bodies }
+    ensures same { (v : FlowsValue) (w : World) (bodies others : ℕ → FrameValue) → StandsFor v w → ((id : ℕ) → id < accepted_count w → others id ≡ bodies id) → HasFrames v.backlog bodies → HasFrames v.backlog others }
+    ensures put { (v : FlowsValue) (w : World) (bodies : ℕ → FrameValue) (i : ℕ) (f : FrameValue) → StandsFor v w → AreAccepted w bodies → HasFrames v.backlog bodies →
+        f.id ≡ accepted_count w → f.fate ≡ Held → HasFrames (after_put v i f).backlog (with_body bodies f) }
+    ensures take { (v : FlowsValue) (w : World) (bodies : ℕ → FrameValue) (i now : ℕ) (params : Params) → StandsFor v w → AreAccepted w bodies → HasFrames v.backlog bodies →
+        HasFrames (taken_for_tid v i now params).flows.backlog bodies }
+    ensures given { (v : FlowsValue) (w : World) (bodies : ℕ → FrameValue) (i now : ℕ) (params : Params) → StandsFor v w → AreAccepted w bodies → HasFrames v.backlog bodies →
+        IfSome (taken_for_tid v i now params).frame (IsBody bodies) }
+    ensures purge { (v : FlowsValue) (w : World) (bodies : ℕ → FrameValue) (i : ℕ) → StandsFor v w → AreAccepted w bodies → HasFrames v.backlog bodies → HasFrames (after_purge v i).backlog bodies }
+    ensures finish { (v : FlowsValue) (bodies : ℕ → FrameValue) (f : FrameValue) → HasFrames v.backlog bodies → IsBodySettled bodies f → HasFrames (with_finished v (v.backlog.finished ++ f ∷ [])).backlog bodies }
+    ensures reap { (v : FlowsValue) (bodies : ℕ → FrameValue) (f : FrameValue) (behind : List FrameValue) → HasFrames v.backlog bodies → v.backlog.finished ≡ f ∷ behind → HasFrames (with_finished v behind).backlog bodies }
+    ensures reaped { (v : FlowsValue) (bodies : ℕ → FrameValue) (f : FrameValue) (behind : List FrameValue) → HasFrames v.backlog bodies → v.backlog.finished ≡ f ∷ behind → IsBodySettled bodies f }
+{}
+
+/// Which frames the world accepted, and by which calls. A call of the flow queues changes neither but where a frame is put in,
+/// which is then accepted: so the accepted frames stay what they were.
+pub fn the_accepted_frames_are_kept()
+    ensures same { (w x : World) (bodies : ℕ → FrameValue) → accepted_count x ≡ accepted_count w → notes x ≡ notes w → AreAccepted w bodies → AreAccepted x bodies }
+    ensures put { (v : FlowsValue) (w : World) (bodies : ℕ → FrameValue) (f : FrameValue) → StandsFor v w → f.id ≡ accepted_count w → f.fate ≡ Held → AreAccepted w bodies →
+        AreAccepted (enqueue_outcome w f.station f.tid f.flow (length f.body)).world (with_body bodies f) }
+    ensures take { (w : World) (s t : ℕ) → notes (world_take w s t).world ≡ notes w }
+    ensures finish { (w : World) (fate : Fate) (id : ℕ) → notes (with_frame_finished w fate id) ≡ notes w }
+    ensures finish_all { (w : World) (fate : Fate) (ids : List ℕ) → notes (with_frames_finished w fate ids) ≡ notes w }
+    ensures left { (w : World) (s t : ℕ) → notes (after_tid_left w s t) ≡ notes w }
+    ensures reap { (w : World) → notes (reap_outcome w w.finished).world ≡ notes w }
+{}
+
+/// Where frames stand in one place each, as in the world of each run, a queued frame has the fate Held.
+pub fn a_queued_frame_is_held()
+    ensures { (v : FlowsValue) (w : World) (id q : ℕ) → StandsFor v w → KeepsPlaces w → 0 < on (ids (frames_at v.backlog q)) id → (frame w id).fate ≡ Held }
+{}
+
+/// How many frames a take drops, by which the finished list grows: those of the TID queued before, less the one that is given,
+/// less those queued after.
+pub fn a_take_drops_what_it_does_not_give()
+    ensures { (v : FlowsValue) (w : World) (s t now : ℕ) (params : Params) → StandsFor v w → s < v.stations → t < 8 →
+        let i : ℕ = tid_number s t in
+        IfSome (taken_for_tid v i now params).frame (λ f. length (taken_for_tid v i now params).flows.backlog.finished + frames_queued (taken_for_tid v i now params).flows i + 1 ≡ length v.backlog.finished + frames_queued v i) }
+{}
+
+/// Whose frame the limit drops: that of the TID that lists the longest queue, in the code as in the world. All other TIDs have
+/// as many frames queued as before.
+pub fn the_limit_drops_a_frame_of_one_tid()
+    ensures loses { (v : FlowsValue) (w : World) (s t : ℕ) → StandsFor v w → s < v.stations → t < 8 → loses_next v s t ≡ loses_next_in w s t }
+    ensures others { (v : FlowsValue) (s t : ℕ) → loses_next v s t ≡ false → frames_queued (after_limit v) (tid_number s t) ≡ frames_queued v (tid_number s t) }
+    ensures others_in { (v : FlowsValue) (w : World) (s t : ℕ) → StandsFor v w → s < v.stations → t < 8 → loses_next_in w s t ≡ false → world_queued (world_after_limit w) s t ≡ world_queued w s t }
 {}

@@ -1,0 +1,8 @@
+use Rattle.std.proofs.Common.{arith}
+use Rattle.wf_flowq.specs.Flows.{tid_number}
+use Rattle.wf_flowq_refines.specs.Standing.{part}
+use Rattle.wf_flowq_refines.proofs.Heads.{drops_counted}
+use Rattle.wf_flowq_refines.proofs.a_take_drops_what_it_does_not_give.Goals as goal
+
+pub returns : goal.returns
+returns c = λ v w s t now params st low_s low_t. drops_counted v (part w) st (tid_number s t) (omega (arith, low_s, low_t, st.sized.lists)) now params
