@@ -1,5 +1,5 @@
 -- The window of one TID as its callers see it, and the sessions that it stands for.
-use Rattle.std.specs.Prelude.{◌≡◌, ℕ, ◌+◌, ◌-◌, ◌%◌, ◌<◌, ◌≤◌, nat_lt, nat_le, Bool, true, false, not, ◌&&◌, List, Option, Some, None, is_none, unwrap_or, length, map, find, slice_index_or}
+use Rattle.std.specs.Prelude.{◌≡◌, ℕ, ◌+◌, ◌-◌, ◌%◌, ◌<◌, ◌≤◌, nat_lt, nat_le, Bool, true, false, not, ◌&&◌, List, [], Option, Some, None, is_none, unwrap_or, length, map, find, slice_index_or}
 use Rattle.std.specs.List.{list_any}
 use Rattle.wf_frame.specs.Frames.{FrameValue}
 use Rattle.wf_origwin.specs.declared.place.Place.{Place}
@@ -15,6 +15,10 @@ pub record WindowValue : Type 0 where
   pub start : ℕ  -- F, modulo 4096
   pub places : List (Option Place)  -- of the numbers from F on
   pub due : Option ℕ  -- how far F is past the last failed number, where a request is due
+
+-- a window of no number: its capacity, its size and the first number
+abbrev pub fresh_window : ℕ → ℕ → ℕ → WindowValue
+fresh_window capacity size start = record { capacity = capacity; size = size; start = start; places = []; due = None }
 
 -- the session
 

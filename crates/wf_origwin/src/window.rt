@@ -11,7 +11,7 @@ ghost use Rattle.wf_frame.specs.declared.classes.Cause.TheVariants.{Left};
 ghost use Rattle.wf_rules.specs.Session.{Session, State, slot, new_session, with_number_given, with_state, start_of, next_number, request_due, is_settled, waiting_numbers};
 ghost use Rattle.wf_seq12.specs.Distance.{distance};
 ghost use Rattle.wf_origwin.specs.Places.{state_of, front, rest, next_since, since_failed};
-ghost use Rattle.wf_origwin.specs.Window.{StandsFor, IsNumber, may_give, waiting_from, on_air, settled, place_at, state_at, attempts_of, is_flying, is_held, HasFrame, waits, some_fly, can_take};
+ghost use Rattle.wf_origwin.specs.Window.{fresh_window, StandsFor, IsNumber, may_give, waiting_from, on_air, settled, place_at, state_at, attempts_of, is_flying, is_held, HasFrame, waits, some_fly, can_take};
 ghost use Rattle.wf_origwin.specs.Answers.{answer_of, with_fate};
 
 use crate::place::{Place, is_waiting};
@@ -162,6 +162,7 @@ impl Window {
         requires { (1 ≤ capacity) × (capacity ≤ 256) }
         ensures stands { IfOk result (λ w. (bodies : ℕ → FrameValue) (n : ℕ) → n % 4096 ≡ 0 →
             StandsFor w (new_session n capacity) bodies) }
+        ensures fresh { IfOk result (λ w. w ≡ fresh_window capacity capacity 0) }
         ensures empty { IfOk result (λ w. w.places ≡ []) }
         ensures capacity { IfOk result (λ w. w.capacity ≡ capacity) }
     {
@@ -181,6 +182,7 @@ impl Window {
         requires in_range { (1 ≤ size) × (size ≤ self.old.capacity) }
         ensures stands { (bodies : ℕ → FrameValue) (n : ℕ) → start ≡ n % 4096 →
             StandsFor self.new (new_session n size) bodies }
+        ensures fresh { self.new ≡ fresh_window self.old.capacity size start }
         ensures capacity { self.new.capacity ≡ self.old.capacity }
     {
         self.start = start;
