@@ -17,7 +17,7 @@ use Rattle.wf_rule_laws.proofs.Lemmas.Counts.{on-nil}
 use Rattle.wf_flowq_refines.specs.Standing.{ids, times_held, StandsFor}
 
 -- all entries are the one that stands past the end too
-read_replicate : {X : Type 0} (n k : ℕ) (x : X) → get_or (replicate n x) k x ≡ x
+pub read_replicate : {X : Type 0} (n k : ℕ) (x : X) → get_or (replicate n x) k x ≡ x
 read_replicate {X} n k x = elim (cases_lt k n) [
   | inl low ↦ get_or-replicate n k x x low
   | inr past ↦ get_or_past (replicate n x) k x (omega (arith, past, length-replicate n x))

@@ -1,0 +1,12 @@
+pub mod Views
+pub mod Stands
+pub mod Opening
+pub mod Readers
+pub mod Reached
+pub mod Stations
+pub mod Calls
+pub mod Joins
+pub mod Listings
+pub mod Meets
+pub mod Unheard
+pub mod Whole

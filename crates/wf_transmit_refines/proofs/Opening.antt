@@ -1,0 +1,53 @@
+-- A new half stands for the opening world.
+use Rattle.std.proofs.Common.{refl, sym, subst, arith, ℕ, List, [], Option, None, replicate}
+use Rattle.std.proofs.lemmas.List.{length-replicate}
+use Rattle.std.proofs.lemmas.List.Elements.{All-nil, All-same}
+use Rattle.wf_frame.specs.declared.settings.Config.{Config}
+use Rattle.wf_frame.specs.Frames.{FrameValue}
+use Rattle.wf_frame.specs.Settings.{IsInRange}
+use Rattle.wf_world.specs.World.{opening}
+use Rattle.wf_world.specs.Run.{world_after}
+use Rattle.wf_codel_queues.specs.Backlog.{frames_at}
+use Rattle.wf_flowq.specs.Flows.{empty_flows}
+use Rattle.wf_flowq_refines.specs.Frames.{IsBody, IsBodySettled}
+use Rattle.wf_flowq_refines.proofs.Opening.{read_replicate, no_frames, stands_opening}
+use Rattle.wf_sched_refines.proofs.Readings.{opening_stands}
+use Rattle.wf_origwin.specs.Window.{WindowValue}
+use Rattle.wf_members.specs.declared.members.Member.{Member}
+use Rattle.wf_members.specs.Members.{member}
+use Rattle.wf_powersave.specs.Sleepers.{awake}
+use Rattle.wf_transmit_refines.specs.Half.{opening_half}
+use Rattle.wf_transmit_refines.specs.Standing.{StandsFor, HasWindows, AreBoth, IsMember}
+
+nobody : (n s : ℕ) → AreBoth IsMember (member (replicate n None) s) None
+nobody n s = subst (λ (m : Option Member). AreBoth IsMember m None) (sym (read_replicate {X = Option Member} n s None)) tt
+
+pub new_stands : (c : Config) (windows : List WindowValue) (bodies : ℕ → FrameValue) → IsInRange c → HasWindows windows (opening c) bodies → StandsFor (opening_half c windows) (opening c) bodies
+unfolding world_after
+new_stands c windows bodies range h = record {
+  parts = record {
+    windows = h;
+    others = record {
+      config = refl;
+      clock = refl;
+      exchanges = refl;
+      opened = refl;
+      flows = stands_opening c range;
+      turns = opening_stands c;
+      stations = record {
+        sized = (length-replicate {A = Option Member} c.stations None, length-replicate c.stations awake);
+        live = nobody c.stations;
+        asleep = λ s is. absurd (cc is);
+        credit = λ s is. absurd (cc is);
+      };
+      inside = refl;
+      tally = refl;
+      frames = record {
+        queued = λ q. All-same (IsBody bodies) (frames_at (empty_flows c).backlog q) [] (no_frames c q) (All-nil (IsBody bodies));
+        finished = All-nil (IsBodySettled bodies);
+      };
+      notes = λ id low. absurd (omega arith);
+    };
+  };
+  reached = record { in_range = range; history = []; lengths = (tt, tt); after = refl };
+}

@@ -1,0 +1,4 @@
+pub mod Half
+pub mod Standing
+pub mod Views
+pub mod Changes
