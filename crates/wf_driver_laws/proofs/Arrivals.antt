@@ -16,8 +16,7 @@ use Rattle.wf_laws.proofs.Windows.Opened.{Each}
 use Rattle.wf_laws.proofs.Frames.Fates.{world_after-append}
 use Rattle.wf_laws.proofs.Windows.Agreed.{each_map_if, with_member_some}
 use Rattle.wf_driver_laws.specs.Told.{arrivals, answer_to, AreAnswered}
-use Rattle.wf_driver_laws.specs.Transmit.{unmarked}
-use Rattle.wf_driver_laws.specs.Unheard.{IsUnmarked}
+use Rattle.wf_driver_laws.specs.Unheard.{unmarked, IsUnmarked}
 use Rattle.wf_driver_laws.proofs.Opened.{found_replaced, found_number, none_refuses, step_done, with_replaced}
 
 -- n is the number of transmission i

@@ -20,8 +20,7 @@ use Rattle.wf_laws.proofs.Windows.Agreement.{below_next}
 use Rattle.wf_laws.proofs.Windows.Opened.{Each, each_map}
 use Rattle.wf_laws.proofs.Frames.Fates.{world_after-append}
 use Rattle.wf_driver_laws.specs.Told.{arrivals, answer_to, indices_told, told, tells, AreAnswered, KeepsAnswer, IsTold, ToldLaw}
-use Rattle.wf_driver_laws.specs.Transmit.{unmarked}
-use Rattle.wf_driver_laws.specs.Unheard.{IsUnmarked, HasAcked, IsUnheard}
+use Rattle.wf_driver_laws.specs.Unheard.{unmarked, IsUnmarked, HasAcked, IsUnheard}
 use Rattle.wf_driver_laws.proofs.Opened.{to_each, of_each, found_each, found_number, some_at}
 use Rattle.wf_driver_laws.proofs.Arrivals.{IsAmong, AreIndices, IsOther, IsAfter, AllTold, all_told}
 use Rattle.wf_driver_laws.proofs.Indices.{both_mpdu, each_mpdu, told_rise, told_shown, shown_told, among_each}

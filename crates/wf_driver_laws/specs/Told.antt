@@ -10,9 +10,9 @@ use Rattle.wf_world.specs.Exchanges.{mpdus_of}
 use Rattle.wf_world.specs.Refusals.{refusal}
 use Rattle.wf_world.specs.Step.{step}
 use Rattle.wf_world.specs.Run.{Entry, by, world_after}
+use Rattle.wf_laws.specs.Queues.{HaveLengths, AreAtMost}
 use Rattle.wf_laws.specs.Windows.{EachMpdu}
-use Rattle.wf_driver_laws.specs.Transmit.{unmarked}
-use Rattle.wf_driver_laws.specs.Unheard.{IsUnheard}
+use Rattle.wf_driver_laws.specs.Unheard.{unmarked, IsUnheard}
 
 -- the indices of the numbers that are shown: i is the index of the first
 abbrev pub shown_indices : (ℕ → Bool) → ℕ → List Mpdu → List ℕ
@@ -70,3 +70,14 @@ abbrev pub ToldLaw : Config → List Entry → Type 0
 ToldLaw config history =
     (caller e : ℕ) (shown : ℕ → Bool) (x : Exchange) → IsUnheard (world_after (opening config) history) →
     exchange (world_after (opening config) history) e ≡ Some x → IsTold (world_after (opening config) history) caller e shown x
+
+-- Calls go on a history: the world after them is the one after both, and where each frame of the history has an octet or more, or at most so many, so has
+-- each of both.
+pub record GoesOn (config : Config) (history entries : List Entry) : Type 0 where
+  pub world : world_after (opening config) (history ++ entries) ≡ world_after (world_after (opening config) history) entries
+  pub lengths : HaveLengths history → HaveLengths (history ++ entries)
+  pub most : (octets : ℕ) → AreAtMost octets history → AreAtMost octets (history ++ entries)
+
+-- the calls that a BlockAck tells of do, since they bring no frame
+abbrev pub RunLaw : Config → List Entry → Type 0
+RunLaw config history = (caller e : ℕ) (shown : ℕ → Bool) (content : Content) → GoesOn config history (told caller e shown content)

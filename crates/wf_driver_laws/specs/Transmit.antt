@@ -1,11 +1,14 @@
--- What a transmit path keeps of a world: all but what the receivers have, and what arrived and was answered of the open exchanges.
-use Rattle.std.specs.Prelude.{◌≡◌, ℕ, List, [], Option, None, option_map, map}
+-- What a transmit path keeps of a world: all but what the receivers have, and the marks of the open exchanges.
+use Rattle.std.specs.Prelude.{◌≡◌, ℕ, Bool, List, [], Option, None, option_map, map}
+use Rattle.wf_frame.specs.declared.settings.Config.{Config}
+use Rattle.wf_frame.specs.declared.notes.Ask.TheVariants.{Arrive, Answer}
+use Rattle.wf_frame.specs.declared.notes.Note.TheVariants.{Asked}
 use Rattle.wf_rules.specs.Table.{at}
-use Rattle.wf_world.specs.World.{World, Station, Exchange, session, tid_of}
-
--- an exchange without its marks
-abbrev pub unmarked : Exchange → Exchange
-unmarked x = record x { arrived = []; answer = None }
+use Rattle.wf_world.specs.World.{World, Station, Content, session, tid_of, opening}
+use Rattle.wf_world.specs.Step.{step}
+use Rattle.wf_world.specs.Run.{Entry, world_after}
+use Rattle.wf_driver_laws.specs.Told.{told}
+use Rattle.wf_driver_laws.specs.Unheard.{unmarked}
 
 -- a station without its TIDs
 abbrev pub without_tids : Station → Station
@@ -24,3 +27,9 @@ pub record HasSameTransmit (w u : World) : Type 0 where
   pub opened : map unmarked u.opened ≡ map unmarked w.opened
   pub frames : u.frames ≡ w.frames
   pub finished : u.finished ≡ w.finished
+
+-- in a world of a run, of the calls by which receivers are heard of before a Done, one by one and together
+pub record TransmitLaw (config : Config) (history : List Entry) : Type 0 where
+  pub arrive : (e i : ℕ) → HasSameTransmit (world_after (opening config) history) (step (world_after (opening config) history) (Asked (Arrive e i))).world
+  pub answer : (e : ℕ) → HasSameTransmit (world_after (opening config) history) (step (world_after (opening config) history) (Asked (Answer e))).world
+  pub told : (caller e : ℕ) (shown : ℕ → Bool) (content : Content) → HasSameTransmit (world_after (opening config) history) (world_after (world_after (opening config) history) (told caller e shown content))

@@ -12,6 +12,10 @@ use Rattle.wf_world.specs.Step.{step}
 use Rattle.wf_world.specs.Run.{Entry, world_after}
 use Rattle.wf_laws.specs.Windows.{EachOpen}
 
+-- an exchange without its marks: what arrived of it, and the answer
+abbrev pub unmarked : Exchange → Exchange
+unmarked x = record x { arrived = []; answer = None }
+
 -- of this exchange nothing has arrived, and no answer is kept
 pub record IsUnmarked (x : Exchange) : Type 0 where
   pub arrived : x.arrived ≡ []

@@ -7,9 +7,11 @@
 
 ghost use Rattle.std.specs.Prelude.{List};
 ghost use Rattle.wf_frame.specs.declared.settings.Config.{Config};
+ghost use Rattle.wf_frame.specs.Settings.{IsInRange};
 ghost use Rattle.wf_world.specs.Run.{Entry};
 ghost use Rattle.wf_world.specs.World.{opening};
-ghost use Rattle.wf_driver_laws.specs.Told.{ToldLaw};
+ghost use Rattle.wf_driver_laws.specs.Told.{RunLaw, ToldLaw};
+ghost use Rattle.wf_driver_laws.specs.Transmit.{TransmitLaw};
 ghost use Rattle.wf_driver_laws.specs.Unheard.{IsUnheard, SilentLaw};
 
 /// In an unheard world of a run, a BlockAck that shows any of an open exchange's numbers tells of calls that are all answered;
@@ -27,4 +29,14 @@ pub fn opening_law()
 /// that is heard.
 pub fn silent_law()
     ensures silent { (config : Config) (history : List Entry) → SilentLaw config history }
+{}
+
+/// The calls that a BlockAck tells of go on the run, and bring no frame.
+pub fn run_law()
+    ensures run { (config : Config) (history : List Entry) → RunLaw config history }
+{}
+
+/// An Arrive and an Answer, and so all calls that a BlockAck tells of, change nothing that a transmit path keeps.
+pub fn transmit_law()
+    ensures transmit { (config : Config) (history : List Entry) → IsInRange config → TransmitLaw config history }
 {}
