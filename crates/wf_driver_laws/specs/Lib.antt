@@ -1,0 +1,3 @@
+pub mod Unheard
+pub mod Told
+pub mod Transmit

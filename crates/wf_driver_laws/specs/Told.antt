@@ -1,0 +1,83 @@
+-- What a BlockAck that a driver hands in tells of an exchange, as calls of the machine: just before the exchange's Done each of its numbers that the BlockAck
+-- shows arrived, no other did, and the receiver answered (IEEE 802.11-2012, 9.21.7.7).
+use Rattle.std.specs.Prelude.{◌≡◌, ℕ, suc, nat_lt, Bool, true, List, [], ◌∷◌, ◌++◌, Option, None, Some, if◌then◌else◌, length, map}
+use Rattle.wf_frame.specs.declared.settings.Config.{Config}
+use Rattle.wf_frame.specs.declared.notes.Ask.TheVariants.{Arrive, Answer, Done}
+use Rattle.wf_frame.specs.declared.notes.Note.TheVariants.{Asked}
+use Rattle.wf_rules.specs.Receiver.{Score, shows}
+use Rattle.wf_world.specs.World.{World, Exchange, Mpdu, Content, Frames, Request, exchange, opening}
+use Rattle.wf_world.specs.Exchanges.{mpdus_of}
+use Rattle.wf_world.specs.Refusals.{refusal}
+use Rattle.wf_world.specs.Step.{step}
+use Rattle.wf_world.specs.Run.{Entry, by, world_after}
+use Rattle.wf_laws.specs.Queues.{HaveLengths, AreAtMost}
+use Rattle.wf_laws.specs.Windows.{EachMpdu}
+use Rattle.wf_driver_laws.specs.Unheard.{unmarked, IsUnheard}
+
+-- the indices of the numbers that are shown: i is the index of the first
+abbrev pub shown_indices : (ℕ → Bool) → ℕ → List Mpdu → List ℕ
+shown_indices shown i [] = []
+shown_indices shown i (m ∷ ms) =
+    if shown m.number then i ∷ shown_indices shown (suc i) ms else shown_indices shown (suc i) ms
+
+-- the transmissions of an exchange that a BlockAck tells of: those whose numbers it shows; the one of a request
+abbrev pub indices_told : (ℕ → Bool) → Content → List ℕ
+indices_told shown (Frames mpdus) = shown_indices shown 0 mpdus
+indices_told shown (Request start) = 0 ∷ []
+
+-- these transmissions of exchange e arrive, in order
+abbrev pub arrivals : ℕ → ℕ → List ℕ → List Entry
+arrivals caller e indices = map (λ i. by caller (Asked (Arrive e i))) indices
+
+-- the answer to them, where there are any
+abbrev pub answer_to : ℕ → ℕ → List ℕ → List Entry
+answer_to caller e [] = []
+answer_to caller e (i ∷ indices) = by caller (Asked (Answer e)) ∷ []
+
+-- The calls that a BlockAck for exchange e tells of. One that shows none of an aggregate's numbers tells of nothing.
+abbrev pub told : ℕ → ℕ → (ℕ → Bool) → Content → List Entry
+told caller e shown content =
+    let indices : List ℕ = indices_told shown content in arrivals caller e indices ++ answer_to caller e indices
+
+-- whether a BlockAck tells of anything: else its exchange ends as if it had not been heard
+abbrev pub tells : (ℕ → Bool) → Content → Bool
+tells shown content = nat_lt 0 (length (indices_told shown content))
+
+-- none of these calls is refused
+abbrev pub AreAnswered : World → List Entry → Type 0
+AreAnswered w [] = Unit {0}
+AreAnswered w (e ∷ es) = (refusal w e.1 ≡ None) × AreAnswered (step w e.1).world es
+
+-- Exchange e is open; it is x but for its marks, and keeps an answer that shows exactly these of its numbers.
+pub record KeepsAnswer (w : World) (e : ℕ) (shown : ℕ → Bool) (x : Exchange) : Type 0 where
+  pub marked : Exchange
+  pub answer : Score
+  pub open_now : exchange w e ≡ Some marked
+  pub same : unmarked marked ≡ unmarked x
+  pub kept : marked.answer ≡ Some answer
+  pub shows : EachMpdu (λ m. shows answer m.number ≡ shown m.number) (mpdus_of x.content)
+
+-- What a BlockAck tells of x, an open exchange e of w: each of the calls is answered, the answer that is then kept shows what the BlockAck does, and after the
+-- exchange's Done no receiver has anything of which its sender does not know.
+pub record IsTold (w : World) (caller e : ℕ) (shown : ℕ → Bool) (x : Exchange) : Type 0 where
+  pub answered : AreAnswered w (told caller e shown x.content)
+  pub keeps : tells shown x.content ≡ true → KeepsAnswer (world_after w (told caller e shown x.content)) e shown x
+  pub ends : refusal (world_after w (told caller e shown x.content)) (Asked (Done e (tells shown x.content))) ≡ None
+  pub unheard : IsUnheard (step (world_after w (told caller e shown x.content)) (Asked (Done e (tells shown x.content)))).world
+
+-- in each unheard world of a run, of each exchange that is open there
+abbrev pub ToldLaw : Config → List Entry → Type 0
+ToldLaw config history =
+    (caller e : ℕ) (shown : ℕ → Bool) (x : Exchange) → IsUnheard (world_after (opening config) history) →
+    exchange (world_after (opening config) history) e ≡ Some x → IsTold (world_after (opening config) history) caller e shown x
+
+-- Calls go on a history: the world after them is the one after both, and where each frame of the history has an octet or more, or at most so many, so has
+-- each of both.
+pub record GoesOn (config : Config) (history entries : List Entry) : Type 0 where
+  pub world : world_after (opening config) (history ++ entries) ≡ world_after (world_after (opening config) history) entries
+  pub lengths : HaveLengths history → HaveLengths (history ++ entries)
+  pub most : (octets : ℕ) → AreAtMost octets history → AreAtMost octets (history ++ entries)
+
+-- the calls that a BlockAck tells of do, since they bring no frame
+abbrev pub RunLaw : Config → List Entry → Type 0
+RunLaw config history = (caller e : ℕ) (shown : ℕ → Bool) (content : Content) → GoesOn config history (told caller e shown content)

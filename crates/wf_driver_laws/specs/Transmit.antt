@@ -1,0 +1,35 @@
+-- What a transmit path keeps of a world: all but what the receivers have, and the marks of the open exchanges.
+use Rattle.std.specs.Prelude.{◌≡◌, ℕ, Bool, List, [], Option, None, option_map, map}
+use Rattle.wf_frame.specs.declared.settings.Config.{Config}
+use Rattle.wf_frame.specs.declared.notes.Ask.TheVariants.{Arrive, Answer}
+use Rattle.wf_frame.specs.declared.notes.Note.TheVariants.{Asked}
+use Rattle.wf_rules.specs.Table.{at}
+use Rattle.wf_world.specs.World.{World, Station, Content, session, tid_of, opening}
+use Rattle.wf_world.specs.Step.{step}
+use Rattle.wf_world.specs.Run.{Entry, world_after}
+use Rattle.wf_driver_laws.specs.Told.{told}
+use Rattle.wf_driver_laws.specs.Unheard.{unmarked}
+
+-- a station without its TIDs
+abbrev pub without_tids : Station → Station
+without_tids x = record x { tids = [] }
+
+-- two worlds that a transmit path does not tell apart
+pub record HasSameTransmit (w u : World) : Type 0 where
+  pub config : u.config ≡ w.config
+  pub clock : u.clock ≡ w.clock
+  pub exchanges : u.exchanges ≡ w.exchanges
+  pub stations : (s : ℕ) → option_map without_tids (at None u.stations s) ≡ option_map without_tids (at None w.stations s)
+  pub sessions : (s t : ℕ) → session u s t ≡ session w s t
+  pub lists : (s t : ℕ) → (tid_of u s t).queues ≡ (tid_of w s t).queues
+  pub queues : u.queues ≡ w.queues
+  pub rotations : u.rotations ≡ w.rotations
+  pub opened : map unmarked u.opened ≡ map unmarked w.opened
+  pub frames : u.frames ≡ w.frames
+  pub finished : u.finished ≡ w.finished
+
+-- in a world of a run, of the calls by which receivers are heard of before a Done, one by one and together
+pub record TransmitLaw (config : Config) (history : List Entry) : Type 0 where
+  pub arrive : (e i : ℕ) → HasSameTransmit (world_after (opening config) history) (step (world_after (opening config) history) (Asked (Arrive e i))).world
+  pub answer : (e : ℕ) → HasSameTransmit (world_after (opening config) history) (step (world_after (opening config) history) (Asked (Answer e))).world
+  pub told : (caller e : ℕ) (shown : ℕ → Bool) (content : Content) → HasSameTransmit (world_after (opening config) history) (world_after (world_after (opening config) history) (told caller e shown content))

@@ -1,0 +1,42 @@
+//! Whatever bits a driver hands in when an exchange ends, some run of the machine has them.
+//!
+//! A transmit path has no receivers: a driver tells it of them, by the start and the bitmap of a BlockAck. Its world is that of
+//! the run in which exactly the numbers that were shown arrived, just before their Done. Such worlds are *unheard*: no receiver
+//! has anything of which its sender does not know. Each law here is a function without a body that names it in its contract.
+#![tactic(auto)]
+
+ghost use Rattle.std.specs.Prelude.{List};
+ghost use Rattle.wf_frame.specs.declared.settings.Config.{Config};
+ghost use Rattle.wf_frame.specs.Settings.{IsInRange};
+ghost use Rattle.wf_world.specs.Run.{Entry};
+ghost use Rattle.wf_world.specs.World.{opening};
+ghost use Rattle.wf_driver_laws.specs.Told.{RunLaw, ToldLaw};
+ghost use Rattle.wf_driver_laws.specs.Transmit.{TransmitLaw};
+ghost use Rattle.wf_driver_laws.specs.Unheard.{IsUnheard, SilentLaw};
+
+/// In an unheard world of a run, a BlockAck that shows any of an open exchange's numbers tells of calls that are all answered;
+/// then the exchange keeps an answer that shows exactly those, and its Done leaves the world unheard.
+pub fn told_law()
+    ensures told { (config : Config) (history : List Entry) → ToldLaw config history }
+{}
+
+/// The world before the first call is unheard.
+pub fn opening_law()
+    ensures unheard { (config : Config) → IsUnheard (opening config) }
+{}
+
+/// Each call that tells of no receiver leaves an unheard world of a run unheard: every call but an Arrive, an Answer and a Done
+/// that is heard.
+pub fn silent_law()
+    ensures silent { (config : Config) (history : List Entry) → SilentLaw config history }
+{}
+
+/// The calls that a BlockAck tells of go on the run, and bring no frame.
+pub fn run_law()
+    ensures run { (config : Config) (history : List Entry) → RunLaw config history }
+{}
+
+/// An Arrive and an Answer, and so all calls that a BlockAck tells of, change nothing that a transmit path keeps.
+pub fn transmit_law()
+    ensures transmit { (config : Config) (history : List Entry) → IsInRange config → TransmitLaw config history }
+{}
