@@ -7,17 +7,17 @@ use Rattle.wf_frame.specs.declared.notes.Note.{Note}
 use Rattle.wf_frame.specs.declared.notes.Note.TheVariants.{Enqueue, Asked}
 use Rattle.wf_frame.specs.declared.notes.Refusal.{Refusal}
 use Rattle.wf_frame.specs.declared.notes.Refusal.TheVariants.{Idle}
-use Rattle.wf_frame.specs.Classes.{all_classes, lower_tid, upper_tid}
+use Rattle.wf_frame.specs.Classes.{all_classes}
 use Rattle.wf_frame.specs.Settings.{IsInRange}
 use Rattle.wf_rules.specs.Table.{at, upto}
 use Rattle.wf_rules.specs.Codel.{Item}
 use Rattle.wf_rules.specs.Session.{Session, Slot, State, no_slot, slot, on_slot, with_state, with_number_given, after_miss, slot_after_miss, is_failed, request_due}
-use Rattle.wf_world.specs.World.{World, Station, Exchange, Mpdu, Content, Frames, Request, no_tid, new_tid, session, is_live, share, exchange, with_station, on_station, on_tid, on_session, on_receiver, on_share, with_exchange, without_exchange, with_fate, with_frame_finished, opening}
+use Rattle.wf_world.specs.World.{World, Station, Exchange, Mpdu, Content, Frames, Request, new_tid, session, is_live, exchange, with_station, on_station, on_tid, on_session, on_receiver, on_share, with_exchange, without_exchange, with_fate, with_frame_finished, opening}
 use Rattle.wf_world.specs.FlowQueues.{taken_for_tid}
-use Rattle.wf_world.specs.CanSend.{can_send, can_send_in, can_give}
-use Rattle.wf_world.specs.Exchanges.{Aggregate, Prepared, most_frames, is_acked, picked_station, sending_tid, waiting_mpdus, longest_fitting, fresh_mpdus, with_number, with_fresh, aggregate_of, with_flying, prepared_data, prepared_exchange, exchange_of, without_credit, with_exchange_opened, after_pick, after_tid_turn, after_arrival, after_charge, with_failed_finished, with_settled, with_all_settled, with_heard_start, after_done}
-use Rattle.wf_world.specs.Refusals.{refusals, refusal}
-use Rattle.wf_world.specs.Step.{Outcome, tick_outcome, rate_outcome, sleep_outcome, wake_outcome, poll_outcome, rx_outcome, join_outcome, after_tids_left, without_listings, leave_outcome, enqueue_outcome, send_outcome, pull_outcome_for, pull_outcome, arrive_outcome, answer_outcome, done_outcome, outcome_where_open, reap_outcome, outcome_of, concerned_station, after_refusal, judged_outcome, step}
+use Rattle.wf_world.specs.CanSend.{can_send_in, can_give}
+use Rattle.wf_world.specs.Exchanges.{Aggregate, Prepared, most_frames, is_acked, picked_station, sending_tid, waiting_mpdus, longest_fitting, with_number, with_fresh, aggregate_of, with_flying, prepared_data, prepared_exchange, with_exchange_opened, after_pick, after_tid_turn, after_arrival, after_charge, with_failed_finished, with_settled, with_all_settled, with_heard_start, after_done}
+use Rattle.wf_world.specs.Refusals.{refusal}
+use Rattle.wf_world.specs.Step.{Outcome, tick_outcome, rate_outcome, sleep_outcome, wake_outcome, poll_outcome, rx_outcome, join_outcome, leave_outcome, send_outcome, pull_outcome_for, pull_outcome, arrive_outcome, answer_outcome, done_outcome, outcome_where_open, reap_outcome, outcome_of, concerned_station, after_refusal, judged_outcome, step}
 use Rattle.wf_world.specs.Run.{Entry, world_after}
 use Rattle.wf_world.specs.Stretches.{world_at}
 use Rattle.wf_laws.specs.Attempts.{IsTried, AttemptsLaw}
@@ -25,7 +25,7 @@ use Rattle.wf_rule_laws.proofs.Lemmas.Numbers.{on_if, le_yes, le_no}
 use Rattle.wf_rule_laws.proofs.Lemmas.Tables.{each_put}
 use Rattle.wf_laws.proofs.Sessions.Flights.{AllIn, Rises, all_in_later}
 use Rattle.wf_laws.proofs.Deficits.Configs.{config_step}
-use Rattle.wf_laws.proofs.Windows.Opened.{NoRow, no_row, eight}
+use Rattle.wf_laws.proofs.Windows.Opened.{eight}
 use Rattle.wf_laws.proofs.Windows.Sides.{Same, sides_of, then_same, each_side_on, same_on_station, same_on_share, same_finish, same_listed, same_after_pick, same_after_turn, same_spent, same_take, same_charged}
 use Rattle.wf_laws.proofs.Windows.Agreed.{IsLawful, IsReady, IsEnding, IsFound, found, ready_filled, ending_settled, ending_of, lawful_same, lawful_step, lawful_at_first, session_same, winner_ready, same_left_tids, same_off_lists}
 use Rattle.wf_laws.proofs.Frames.Delivered.{same_enqueued}

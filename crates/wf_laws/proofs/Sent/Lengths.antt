@@ -18,12 +18,12 @@ use Rattle.wf_rules.specs.CodelLoop.{dropping_first}
 use Rattle.wf_rules.specs.Rotation.{Rotation, has_key, with_new_key, in_order, no_keys}
 use Rattle.wf_rules.specs.Receiver.{score}
 use Rattle.wf_rules.specs.Session.{Session, slot, waiting_numbers, next_number, request_due}
-use Rattle.wf_world.specs.World.{World, Station, Share, Queue, Exchange, Mpdu, Content, Frames, Request, new_queue, no_tid, no_frame, Frame, len_of, session, tid_of, queue, frame, is_live, accepted_count, exchange, codel_params, with_station, on_station, on_tid, on_receiver, on_share, on_queue, with_queues, with_frame_finished, with_frames_finished, with_exchange, without_exchange, receiver, opening}
+use Rattle.wf_world.specs.World.{World, Station, Share, Queue, Exchange, Mpdu, new_queue, no_tid, no_frame, Frame, len_of, session, tid_of, queue, is_live, accepted_count, exchange, codel_params, with_station, on_station, on_tid, on_receiver, on_share, on_queue, with_queues, with_frames_finished, with_exchange, without_exchange, receiver, opening}
 use Rattle.wf_world.specs.FlowQueues.{Taken, after_limit, is_at_limit, longest_queue, without_head, queue_for, with_appended, with_listed_queue, after_put_in, with_queues_paid, after_dequeue, taken_by_codel, taken_from_picked, taken_for_tid, picked_queue, after_queue_left, after_queues_left}
 use Rattle.wf_world.specs.CanSend.{can_give, can_send_in, with_listings_of}
-use Rattle.wf_world.specs.Exchanges.{Aggregate, Prepared, most_frames, mpdus_of, mpdu_of, fits_in, picked_station, sending_tid, waiting_mpdus, longest_fitting, fresh_mpdus, with_number, with_fresh, aggregate_of, prepared_data, prepared_exchange, exchange_of, after_pick, after_tid_turn, with_exchange_opened, without_credit, after_arrival}
+use Rattle.wf_world.specs.Exchanges.{Aggregate, Prepared, most_frames, mpdus_of, mpdu_of, fits_in, picked_station, sending_tid, waiting_mpdus, longest_fitting, fresh_mpdus, with_number, with_fresh, aggregate_of, prepared_data, prepared_exchange, exchange_of, after_pick, after_tid_turn, with_exchange_opened, after_arrival}
 use Rattle.wf_world.specs.Refusals.{refusals, refusal}
-use Rattle.wf_world.specs.Step.{Outcome, tick_outcome, rate_outcome, sleep_outcome, wake_outcome, poll_outcome, rx_outcome, join_outcome, waiting_ids, in_rising_order, after_tid_left, after_tids_left, without_listings, leave_outcome, next_item, with_frame, enqueue_outcome, send_outcome, pull_outcome_for, pull_outcome, arrive_outcome, answer_outcome, done_outcome, outcome_where_open, reap_outcome, outcome_of, concerned_station, after_refusal, judged_outcome, step}
+use Rattle.wf_world.specs.Step.{Outcome, tick_outcome, rate_outcome, sleep_outcome, wake_outcome, poll_outcome, rx_outcome, join_outcome, waiting_ids, in_rising_order, after_tid_left, after_tids_left, leave_outcome, next_item, with_frame, enqueue_outcome, send_outcome, pull_outcome_for, pull_outcome, arrive_outcome, answer_outcome, done_outcome, outcome_where_open, reap_outcome, outcome_of, concerned_station, after_refusal, judged_outcome, step}
 use Rattle.wf_world.specs.Run.{Entry, world_after}
 use Rattle.wf_laws.specs.Windows.{EachMpdu}
 use Rattle.wf_laws.specs.Queues.{EachItem, IsAtMost, AreAtMost}
@@ -31,15 +31,15 @@ use Rattle.wf_rule_laws.proofs.Lemmas.Dequeues.{each_dequeue}
 use Rattle.wf_rule_laws.proofs.Lemmas.Numbers.{on_if, or_left, or_right, yes_eq}
 use Rattle.wf_rule_laws.proofs.Lemmas.Tables.{each_put}
 use Rattle.wf_laws.proofs.Deficits.Books.{upd, upd_same, upd_other, each_upd}
-use Rattle.wf_laws.proofs.Frames.Delivered.{Labelled, IsLabelled, IsPrepared, prepared_right, opened_on_receiver, opened_ended, filtered, same_enqueued}
+use Rattle.wf_laws.proofs.Frames.Delivered.{Labelled, prepared_right, opened_on_receiver, opened_ended, filtered}
 use Rattle.wf_laws.specs.Releases.{named_by}
 use Rattle.wf_laws.proofs.Frames.Fates.{Steady, steady_step, steady_first}
 use Rattle.wf_laws.proofs.Frames.Fewer.{carries, less_within_limit}
 use Rattle.wf_laws.proofs.Frames.Untouched.{untouched_put_in}
 use Rattle.wf_laws.proofs.Queues.Shelved.{each_append as items_append}
 use Rattle.wf_laws.proofs.Queues.ShelvedStep.{live_number, shelves_number, accepted_limit, accepted_put}
-use Rattle.wf_laws.proofs.Queues.Shelves.{Shelves, spot, with_note, shelves, shelves_with_station, shelves_hidden, shelves_on_session, shelves_on_receiver, shelves_on_share, shelves_with_queues, shelves_on_queue, shelves_finish, shelves_finish_all, shelves_with_frame, shelves_pay_queues, shelves_after_pick, shelves_after_turn, shelves_sent, shelves_ended, shelves_arrived, shelves_answered, shelves_reaped, shelves_off_lists, shelves_listed}
-use Rattle.wf_laws.proofs.Releases.Placed.{Any, Placing}
+use Rattle.wf_laws.proofs.Queues.Shelves.{Shelves, spot, with_note, shelves, shelves_with_station, shelves_hidden, shelves_on_session, shelves_on_receiver, shelves_on_share, shelves_with_queues, shelves_on_queue, shelves_finish, shelves_finish_all, shelves_with_frame, shelves_pay_queues, shelves_after_pick, shelves_after_turn, shelves_sent, shelves_ended, shelves_off_lists, shelves_listed}
+use Rattle.wf_laws.proofs.Releases.Placed.{Any}
 use Rattle.wf_laws.proofs.Sessions.Flights.{Rises}
 use Rattle.wf_laws.proofs.Windows.Agreed.{IsLawful, IsOpenIn, each_map_if, lawful_same, winner_ready, same_left_tids, same_off_lists}
 use Rattle.wf_laws.proofs.Windows.Opened.{Each, each_both, each_append, each_find, NoRow, no_row}

@@ -1,5 +1,5 @@
 -- Where no frame is longer than the greatest body, each open exchange of data sends a frame, in every world of a run.
-use Rattle.std.proofs.Common.{◌≡◌, refl, ap, sym, ◌∙◌, subst, arith, ℕ, zero, suc, ◌+◌, ◌-◌, ◌<◌, ◌≤◌, nat_lt, Bool, true, false, if◌then◌else◌, not, ◌&&◌, ◌||◌, ◌==◌, List, [], ◌∷◌, ◌++◌, length, map, take, Option, Some, None, IfSome, is_some, unwrap_or, option_map}
+use Rattle.std.proofs.Common.{◌≡◌, refl, ap, sym, ◌∙◌, subst, arith, ℕ, zero, suc, ◌-◌, ◌<◌, ◌≤◌, nat_lt, Bool, true, false, if◌then◌else◌, not, ◌&&◌, ◌||◌, ◌==◌, List, [], ◌∷◌, ◌++◌, length, map, take, Option, Some, None, IfSome, is_some, unwrap_or, option_map}
 use Rattle.std.proofs.lemmas.List.{length-append}
 use Rattle.wf_frame.specs.declared.settings.Config.{Config}
 use Rattle.wf_frame.specs.declared.classes.Class.{Class}
@@ -17,18 +17,17 @@ use Rattle.wf_rules.specs.Lengths.{greatest_body}
 use Rattle.wf_rules.specs.Receiver.{score}
 use Rattle.wf_rules.specs.Rotation.{Rotation, in_order}
 use Rattle.wf_rules.specs.Session.{request_due, waiting_numbers, next_number, has_room}
-use Rattle.wf_world.specs.World.{World, Station, Share, Exchange, Mpdu, Content, Frames, Request, no_station, no_share, len_of, station, session, receiver, share, rotation, is_live, exchange, with_station, on_station, on_share, on_receiver, with_rotation, with_exchange, without_exchange, opening}
+use Rattle.wf_world.specs.World.{World, Station, Share, Exchange, Mpdu, no_station, no_share, len_of, station, session, receiver, share, rotation, is_live, exchange, with_station, on_station, on_share, with_rotation, with_exchange, opening}
 use Rattle.wf_world.specs.FlowQueues.{Taken, frames_queued, taken_for_tid}
 use Rattle.wf_world.specs.CanSend.{is_request, request_open, has_waiting, can_give, can_send, can_send_in, with_listings_of}
 use Rattle.wf_world.specs.Exchanges.{Aggregate, Prepared, mpdus_of, mpdu_of, most_frames, fits_in, picked_station, sending_tid, waiting_mpdus, longest_fitting, fresh_mpdus, with_number, with_fresh, aggregate_of, prepared_data, prepared_exchange, exchange_of, with_station_paid, with_stations_paid, after_pick, after_tid_turn, after_arrival}
-use Rattle.wf_world.specs.Refusals.{refusals, refusal}
-use Rattle.wf_world.specs.Step.{Outcome, tick_outcome, rate_outcome, sleep_outcome, wake_outcome, poll_outcome, rx_outcome, join_outcome, leave_outcome, enqueue_outcome, send_outcome, pull_outcome_for, pull_outcome, arrive_outcome, answer_outcome, done_outcome, outcome_where_open, reap_outcome, outcome_of, concerned_station, after_refusal, judged_outcome, step}
+use Rattle.wf_world.specs.Refusals.{refusal}
+use Rattle.wf_world.specs.Step.{Outcome, tick_outcome, rate_outcome, sleep_outcome, wake_outcome, poll_outcome, rx_outcome, join_outcome, leave_outcome, enqueue_outcome, pull_outcome_for, pull_outcome, arrive_outcome, answer_outcome, done_outcome, outcome_where_open, reap_outcome, outcome_of, concerned_station, after_refusal, judged_outcome, step}
 use Rattle.wf_world.specs.Run.{Entry, world_after}
 use Rattle.wf_laws.specs.Queues.{AreAtMost}
 use Rattle.wf_laws.specs.Releases.{named_by}
 use Rattle.wf_laws.specs.Sent.{HasSome}
-use Rattle.wf_laws.specs.Windows.{EachMpdu}
-use Rattle.wf_rule_laws.proofs.Lemmas.Numbers.{on_bool, lt_yes, both}
+use Rattle.wf_rule_laws.proofs.Lemmas.Numbers.{lt_yes, both}
 use Rattle.wf_rule_laws.proofs.Lemmas.Tables.{each_put}
 use Rattle.wf_laws.proofs.Deficits.Books.{Books, account, books}
 use Rattle.wf_laws.proofs.Deficits.BookSteps.{books_after_pick, books_after_turn}
