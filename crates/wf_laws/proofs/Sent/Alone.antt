@@ -55,7 +55,8 @@ short_time r octets h k =
 some_octets : (exponent : ℕ) → subframe_octets greatest_body ≤ most_octets exponent
 some_octets exponent = let least : 2 ^ 13 ≤ 2 ^ (13 + exponent) = pow-le-pow_right {n = 2} (omega arith) {i = 13} {j = 13 + exponent} (omega arith) in omega arith
 
-pub fits_alone : (w : World) (s : ℕ) (m : Mpdu) → 1 ≤ w.config.agg → 3000 ≤ w.config.cap → (station w s).rate.mcs ≤ greatest_mcs → m.len ≤ greatest_body → fits_in w s (m ∷ []) ≡ true
+pub fits_alone : (w : World) (s : ℕ) (m : Mpdu) → 1 ≤ w.config.agg → 3000 ≤ w.config.cap → (station w s).rate.mcs ≤ greatest_mcs
+    → m.len ≤ greatest_body → fits_in w s (m ∷ []) ≡ true
 fits_alone w s m agg cap mcs short =
     let r : Rate = (station w s).rate in
     let octets : ℕ = subframe_octets m.len in

@@ -79,7 +79,8 @@ none_queued w (q ∷ qs) h =
     omega (arith, none, sum_by-cons (λ (q : ℕ). length (queue w q).items) q qs, none_queued w qs (λ p is. omega (arith, h p is, on-cons q p qs)))
 
 -- after the queues are paid each has the frames that it had
-items_turned : (w : World) (s t : ℕ) (quanta : ℕ → ℕ) (r : Rotation) (q : ℕ) → is_live w s ≡ true → (queue (with_queues (with_queues_paid w quanta (in_order (tid_of w s t).queues)) s t r) q).items ≡ (queue w q).items
+items_turned : (w : World) (s t : ℕ) (quanta : ℕ → ℕ) (r : Rotation) (q : ℕ) → is_live w s ≡ true
+    → (queue (with_queues (with_queues_paid w quanta (in_order (tid_of w s t).queues)) s t r) q).items ≡ (queue w q).items
 items_turned w s t quanta r q live =
     let u : World = with_queues_paid w quanta (in_order (tid_of w s t).queues) in
     ap (λ (b : Shelves). (b.queues q).items) (shelves_with_queues u s t r ((same_pay_queues (in_order (tid_of w s t).queues) w quanta).live s ∙ live))
