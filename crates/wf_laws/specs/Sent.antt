@@ -34,7 +34,8 @@ HasSome x = is_request x.content ≡ false → 1 ≤ length (mpdus_of x.content)
 -- in one world of a history
 pub record KeepsSent (config : Config) (history : List Entry) (w : World) : Type 0 where
   pub opened : EachOpen (IsSent w) w.opened
-  -- where the settings are in their ranges, and no frame is longer than the greatest body: even at the lowest rate one takes 2920 microseconds, so it fits by itself
+  -- where the settings are in their ranges and no frame is longer than the greatest body, for each frame fits by itself: even at the lowest rate it takes at most
+  -- 2920 microseconds
   pub some : IsInRange config → AreAtMost greatest_body history → EachOpen HasSome w.opened
 
 -- after each entry of a history

@@ -146,14 +146,14 @@ pub fn sum_law()
     ensures { (config : Config) → (history : List Entry) → IsInRange config → SumLaw config history }
 {}
 
-/// After every entry, each open exchange has at most 256 transmissions, in strictly rising order of their numbers, and each has the id of its number's frame and the length
-/// that the frame's call gave it. Where no frame is longer than the greatest body, an exchange of data has at least one.
+/// After every entry, each open exchange has at most 256 transmissions, in strictly rising order of their numbers, and each has the id of its number's frame and
+/// the length that the frame's call gave it. Where no frame is longer than the greatest body, an exchange of data has at least one.
 pub fn sent_law()
     ensures { (config : Config) → (history : List Entry) → SentLaw config history }
 {}
 
-/// After every entry, a number that waits, is in flight or was acknowledged was sent in vain less often than the setting `attempts` says, and one that failed exactly so
-/// often.
+/// After every entry, a number that waits, is in flight or was acknowledged was sent in vain less often than the setting `attempts` says, and one that failed
+/// exactly so often.
 pub fn attempts_law()
     ensures { (config : Config) → (history : List Entry) → IsInRange config → AttemptsLaw config history }
 {}

@@ -7,17 +7,17 @@ use Rattle.wf_frame.specs.declared.notes.Note.{Note}
 use Rattle.wf_frame.specs.declared.notes.Note.TheVariants.{Enqueue, Asked}
 use Rattle.wf_frame.specs.declared.notes.Refusal.{Refusal}
 use Rattle.wf_frame.specs.declared.notes.Refusal.TheVariants.{Idle}
-use Rattle.wf_frame.specs.Classes.{all_classes, lower_tid, upper_tid}
+use Rattle.wf_frame.specs.Classes.{all_classes}
 use Rattle.wf_frame.specs.Settings.{IsInRange}
 use Rattle.wf_rules.specs.Table.{at, upto}
 use Rattle.wf_rules.specs.Codel.{Item}
 use Rattle.wf_rules.specs.Session.{Session, Slot, State, no_slot, slot, on_slot, with_state, with_number_given, after_miss, slot_after_miss, is_failed, request_due}
-use Rattle.wf_world.specs.World.{World, Station, Exchange, Mpdu, Content, Frames, Request, no_tid, new_tid, session, is_live, share, exchange, with_station, on_station, on_tid, on_session, on_receiver, on_share, with_exchange, without_exchange, with_fate, with_frame_finished, opening}
+use Rattle.wf_world.specs.World.{World, Station, Exchange, Mpdu, Content, Frames, Request, new_tid, session, is_live, exchange, with_station, on_station, on_tid, on_session, on_receiver, on_share, with_exchange, without_exchange, with_fate, with_frame_finished, opening}
 use Rattle.wf_world.specs.FlowQueues.{taken_for_tid}
-use Rattle.wf_world.specs.CanSend.{can_send, can_send_in, can_give}
-use Rattle.wf_world.specs.Exchanges.{Aggregate, Prepared, most_frames, is_acked, picked_station, sending_tid, waiting_mpdus, longest_fitting, fresh_mpdus, with_number, with_fresh, aggregate_of, with_flying, prepared_data, prepared_exchange, exchange_of, without_credit, with_exchange_opened, after_pick, after_tid_turn, after_arrival, after_charge, with_failed_finished, with_settled, with_all_settled, with_heard_start, after_done}
-use Rattle.wf_world.specs.Refusals.{refusals, refusal}
-use Rattle.wf_world.specs.Step.{Outcome, tick_outcome, rate_outcome, sleep_outcome, wake_outcome, poll_outcome, rx_outcome, join_outcome, after_tids_left, without_listings, leave_outcome, enqueue_outcome, send_outcome, pull_outcome_for, pull_outcome, arrive_outcome, answer_outcome, done_outcome, outcome_where_open, reap_outcome, outcome_of, concerned_station, after_refusal, judged_outcome, step}
+use Rattle.wf_world.specs.CanSend.{can_send_in, can_give}
+use Rattle.wf_world.specs.Exchanges.{Aggregate, Prepared, most_frames, is_acked, picked_station, sending_tid, waiting_mpdus, longest_fitting, with_number, with_fresh, aggregate_of, with_flying, prepared_data, prepared_exchange, with_exchange_opened, after_pick, after_tid_turn, after_arrival, after_charge, with_failed_finished, with_settled, with_all_settled, with_heard_start, after_done}
+use Rattle.wf_world.specs.Refusals.{refusal}
+use Rattle.wf_world.specs.Step.{Outcome, tick_outcome, rate_outcome, sleep_outcome, wake_outcome, poll_outcome, rx_outcome, join_outcome, leave_outcome, send_outcome, pull_outcome_for, pull_outcome, arrive_outcome, answer_outcome, done_outcome, outcome_where_open, reap_outcome, outcome_of, concerned_station, after_refusal, judged_outcome, step}
 use Rattle.wf_world.specs.Run.{Entry, world_after}
 use Rattle.wf_world.specs.Stretches.{world_at}
 use Rattle.wf_laws.specs.Attempts.{IsTried, AttemptsLaw}
@@ -25,7 +25,7 @@ use Rattle.wf_rule_laws.proofs.Lemmas.Numbers.{on_if, le_yes, le_no}
 use Rattle.wf_rule_laws.proofs.Lemmas.Tables.{each_put}
 use Rattle.wf_laws.proofs.Sessions.Flights.{AllIn, Rises, all_in_later}
 use Rattle.wf_laws.proofs.Deficits.Configs.{config_step}
-use Rattle.wf_laws.proofs.Windows.Opened.{NoRow, no_row, eight}
+use Rattle.wf_laws.proofs.Windows.Opened.{eight}
 use Rattle.wf_laws.proofs.Windows.Sides.{Same, sides_of, then_same, each_side_on, same_on_station, same_on_share, same_finish, same_listed, same_after_pick, same_after_turn, same_spent, same_take, same_charged}
 use Rattle.wf_laws.proofs.Windows.Agreed.{IsLawful, IsReady, IsEnding, IsFound, found, ready_filled, ending_settled, ending_of, lawful_same, lawful_step, lawful_at_first, session_same, winner_ready, same_left_tids, same_off_lists}
 use Rattle.wf_laws.proofs.Frames.Delivered.{same_enqueued}
@@ -46,7 +46,8 @@ none_given limit some = record { fewer = λ _. omega (arith, some); failed = λ 
 tried_put : (limit : ℕ) (y : Session) (n : ℕ) (f : Slot → Slot) → IsTried limit (f (slot y n)) → AllTried limit y → AllTried limit (on_slot n f y)
 tried_put limit y n f k h = each_put (λ i x. IsTried limit x) no_slot y.slots (n - y.first) (f (slot y n)) h k
 
-tried_append : (limit : ℕ) (xs : List Slot) (x : Slot) → IsTried limit x → ((i : ℕ) → IsTried limit (at no_slot xs i)) → (i : ℕ) → IsTried limit (at no_slot (xs ++ x ∷ []) i)
+tried_append : (limit : ℕ) (xs : List Slot) (x : Slot) → IsTried limit x → ((i : ℕ) → IsTried limit (at no_slot xs i)) → (i : ℕ)
+    → IsTried limit (at no_slot (xs ++ x ∷ []) i)
 tried_append limit [] x k h zero = k
 tried_append limit [] x k h (suc i) = h i
 tried_append limit (y ∷ xs) x k h zero = h zero
@@ -56,7 +57,8 @@ tried_give : (limit : ℕ) (y : Session) (id : ℕ) → 1 ≤ limit → AllTried
 tried_give limit y id some h = tried_append limit y.slots _ (record { fewer = λ _. omega (arith, some); failed = λ e. absurd (cc e) }) h
 
 -- numbers that wait fly
-tried_fly : (ms : List Mpdu) (limit : ℕ) (y : Session) (e lo hi : ℕ) → y.first ≤ lo → Rises lo hi ms → AllIn y State.Waiting ms → AllTried limit y → AllTried limit (with_flying e ms y)
+tried_fly : (ms : List Mpdu) (limit : ℕ) (y : Session) (e lo hi : ℕ) → y.first ≤ lo → Rises lo hi ms → AllIn y State.Waiting ms
+    → AllTried limit y → AllTried limit (with_flying e ms y)
 tried_fly [] limit y e lo hi b r a h = h
 tried_fly (m ∷ ms) limit y e lo hi b r a h =
     let f : Slot → Slot = λ x. record x { state = State.Flying e } in
@@ -77,11 +79,13 @@ tried_miss limit x few = go (nat_le limit (x.attempts + 1)) (λ e. omega (arith,
 tried_same : (limit : ℕ) (w v : World) → Same w v → Tried limit w → Tried limit v
 tried_same limit w v h k s t = subst (AllTried limit) (sym (session_same w v h s t)) (k s t)
 
-tried_on_session : (limit : ℕ) (w : World) (s t : ℕ) (f : Session → Session) → AllTried limit (f (session w s t)) → Tried limit w → Tried limit (on_session w s t f)
+tried_on_session : (limit : ℕ) (w : World) (s t : ℕ) (f : Session → Session) → AllTried limit (f (session w s t)) → Tried limit w
+    → Tried limit (on_session w s t f)
 unfolding on_session
 tried_on_session limit w s t f k h = each_side_on (λ _ _ z. AllTried limit z.session) w s t (λ y. record y { session = f y.session }) h k
 
-tried_with_station : (limit : ℕ) (w : World) (s : ℕ) (o : Option Station) → ((t : ℕ) → AllTried limit (sides_of o t).session) → Tried limit w → Tried limit (with_station w s o)
+tried_with_station : (limit : ℕ) (w : World) (s : ℕ) (o : Option Station) → ((t : ℕ) → AllTried limit (sides_of o t).session)
+    → Tried limit w → Tried limit (with_station w s o)
 unfolding with_station
 tried_with_station limit w s o k h = each_put (λ _ z. (t : ℕ) → AllTried limit (sides_of z t).session) None w.stations s o h k
 
@@ -130,7 +134,8 @@ tried_sent : (limit s t : ℕ) (c : Class) (p : Prepared) → Tried limit p.worl
 unfolding send_outcome with_exchange_opened
 tried_sent limit s t c p h = tried_same limit _ _ (same_spent _ s) h
 
-tried_pulled_by : (o : Option ℕ) (limit : ℕ) (w : World) (c : Class) → IfSome o (λ s. (is_live w s ≡ true) × (can_send_in w s c ≡ true)) → 1 ≤ limit → IsLawful w → Tried limit w → Tried limit (pull_outcome_for w c o).world
+tried_pulled_by : (o : Option ℕ) (limit : ℕ) (w : World) (c : Class) → IfSome o (λ s. (is_live w s ≡ true) × (can_send_in w s c ≡ true))
+    → 1 ≤ limit → IsLawful w → Tried limit w → Tried limit (pull_outcome_for w c o).world
 unfolding pull_outcome_for
 tried_pulled_by None limit w c ready some i h = h
 tried_pulled_by (Some s) limit w c ready some i h =
@@ -151,7 +156,8 @@ config_settled true w s t m = refl
 config_settled false w s t m = on_if (λ (v : World). v.config ≡ w.config) _ _ _ (λ _. refl) (λ _. refl)
 
 -- a number that flies stops flying
-tried_settled : (b : Bool) (limit e : ℕ) (w : World) (s t : ℕ) (m : Mpdu) → w.config.attempts ≡ limit → (slot (session w s t) m.number).state ≡ State.Flying e → Tried limit w → Tried limit (with_settled w s t b m)
+tried_settled : (b : Bool) (limit e : ℕ) (w : World) (s t : ℕ) (m : Mpdu) → w.config.attempts ≡ limit
+    → (slot (session w s t) m.number).state ≡ State.Flying e → Tried limit w → Tried limit (with_settled w s t b m)
 unfolding with_settled with_failed_finished
 tried_settled true limit e w s t m same_limit flies h =
     let y : Session = session w s t in
@@ -165,7 +171,8 @@ tried_settled false limit e w s t m same_limit flies h =
     let k : Tried limit v = tried_on_session limit w s t (after_miss w.config.attempts m.number) missed h in
     on_if (Tried limit) (is_failed (slot (session v s t) m.number).state) _ v (λ _. tried_same limit v _ (same_finish v _ _) k) (λ _. k)
 
-tried_all : (ms : List Mpdu) (limit e s t : ℕ) (w : World) (acked : ℕ → Bool) → w.config.attempts ≡ limit → IsEnding e s t acked w ms → Tried limit w → Tried limit (with_all_settled w s t acked ms)
+tried_all : (ms : List Mpdu) (limit e s t : ℕ) (w : World) (acked : ℕ → Bool) → w.config.attempts ≡ limit → IsEnding e s t acked w ms
+    → Tried limit w → Tried limit (with_all_settled w s t acked ms)
 unfolding with_all_settled
 tried_all [] limit e s t w acked same_limit n h = h
 tried_all (m ∷ ms) limit e s t w acked same_limit n h =
@@ -176,7 +183,9 @@ tried_heard : (b : Bool) (limit f : ℕ) (y : Session) → AllTried limit y → 
 tried_heard true limit f y h = h
 tried_heard false limit f y h = h
 
-tried_after : (c : Content) (limit : ℕ) (w : World) (i : IsLawful w) (x : Exchange) (heard : Bool) (v : World) → x.content ≡ c → v ≡ after_charge (without_exchange w x.number) x → v.config.attempts ≡ limit → IsFound w i x → Tried limit v → Tried limit (after_done v x heard c)
+tried_after : (c : Content) (limit : ℕ) (w : World) (i : IsLawful w) (x : Exchange) (heard : Bool) (v : World) → x.content ≡ c
+    → v ≡ after_charge (without_exchange w x.number) x → v.config.attempts ≡ limit → IsFound w i x → Tried limit v
+    → Tried limit (after_done v x heard c)
 unfolding after_done
 tried_after (Frames ms) limit w i x heard v e is same_limit f h =
     tried_all ms limit x.number x.station x.tid v (is_acked heard x.answer) same_limit (subst (λ (u : World). IsEnding x.number x.station x.tid (is_acked heard x.answer) u ms) (sym is) (ending_of w i x ms heard e f)) h
@@ -190,7 +199,8 @@ tried_without : (limit : ℕ) (w : World) (e : ℕ) → Tried limit w → Tried 
 unfolding without_exchange
 tried_without limit w e h = h
 
-tried_ended : (limit : ℕ) (w : World) (i : IsLawful w) (x : Exchange) (heard : Bool) → w.config.attempts ≡ limit → IsFound w i x → Tried limit w → Tried limit (done_outcome w x heard).world
+tried_ended : (limit : ℕ) (w : World) (i : IsLawful w) (x : Exchange) (heard : Bool) → w.config.attempts ≡ limit → IsFound w i x
+    → Tried limit w → Tried limit (done_outcome w x heard).world
 unfolding done_outcome
 tried_ended limit w i x heard same_limit f h =
     tried_after x.content limit w i x heard _ refl refl (ap (λ (c : Config). c.attempts) (config_charged w x) ∙ same_limit) f (tried_same limit _ _ (same_charged (without_exchange w x.number) x) (tried_without limit w x.number h))
@@ -205,7 +215,8 @@ tried_answered : (limit : ℕ) (w : World) (x : Exchange) → Tried limit w → 
 unfolding answer_outcome with_exchange
 tried_answered limit w x h = h
 
-tried_joined : (limit : ℕ) (w : World) (s window start exponent weight : ℕ) → 1 ≤ limit → Tried limit w → Tried limit (join_outcome w s window start exponent weight).world
+tried_joined : (limit : ℕ) (w : World) (s window start exponent weight : ℕ) → 1 ≤ limit → Tried limit w
+    → Tried limit (join_outcome w s window start exponent weight).world
 unfolding join_outcome
 tried_joined limit w s window start exponent weight some h =
     tried_with_station limit w s _ (eight (λ y. AllTried limit y.session) (new_tid start window) (λ _. none_given limit some) (λ _. none_given limit some)) h
@@ -220,7 +231,8 @@ unfolding reap_outcome
 tried_reaped [] limit w h = h
 tried_reaped (id ∷ ids) limit w h = h
 
-tried_open : (P : Exchange → Type 0) (o : Option Exchange) (limit : ℕ) (w : World) (f : Exchange → Outcome) → IfSome o P → ((x : Exchange) → P x → Tried limit (f x).world) → Tried limit w → Tried limit (outcome_where_open w o f).world
+tried_open : (P : Exchange → Type 0) (o : Option Exchange) (limit : ℕ) (w : World) (f : Exchange → Outcome) → IfSome o P
+    → ((x : Exchange) → P x → Tried limit (f x).world) → Tried limit w → Tried limit (outcome_where_open w o f).world
 unfolding outcome_where_open
 tried_open P None limit w f p k h = h
 tried_open P (Some x) limit w f p k h = k x p
@@ -249,7 +261,8 @@ unfolding after_refusal
 tried_refused (Asked (Pull c)) Idle limit w h = tried_same limit w _ (same_after_pick w c) h
 tried_refused _ _ limit w h = h
 
-tried_answer : (r : Option Refusal) (limit : ℕ) (w : World) (note : Note) → 1 ≤ limit → w.config.attempts ≡ limit → IsLawful w → Tried limit w → Tried limit (judged_outcome w note r).world
+tried_answer : (r : Option Refusal) (limit : ℕ) (w : World) (note : Note) → 1 ≤ limit → w.config.attempts ≡ limit → IsLawful w
+    → Tried limit w → Tried limit (judged_outcome w note r).world
 unfolding judged_outcome
 tried_answer (Some r) limit w note some same_limit i h = tried_refused note r limit w h
 tried_answer None limit w note some same_limit i h = tried_same limit (outcome_of w note).world _ (same_listed (concerned_station w note) (outcome_of w note).world) (tried_done note limit w some same_limit i h)

@@ -1,13 +1,13 @@
 -- Each frame fits an aggregate by itself: even at the lowest rate the greatest body takes 2920 microseconds.
-use Rattle.std.proofs.Common.{◌≡◌, refl, sym, subst, arith, ℕ, zero, suc, ◌+◌, ◌-◌, ◌*◌, ◌/◌, ◌%◌, ◌^◌, ◌<◌, ◌≤◌, nat_le, ◌==◌, Bool, true, false, if◌then◌else◌, List, [], ◌∷◌, length, slice_index}
+use Rattle.std.proofs.Common.{◌≡◌, arith, ℕ, zero, suc, ◌+◌, ◌-◌, ◌*◌, ◌/◌, ◌%◌, ◌^◌, ◌<◌, ◌≤◌, nat_le, ◌==◌, Bool, true, false, if◌then◌else◌, List, [], ◌∷◌, length, slice_index}
 use Rattle.std.proofs.lemmas.Bool.{and_from, le-leb}
 use Rattle.std.proofs.lemmas.Nat.{div_below, mod_below}
 use Rattle.std.proofs.Math.Nat.{pow-le-pow_right}
 use Rattle.wf_rules.specs.Table.{ceil_div}
 use Rattle.wf_rules.specs.Lengths.{greatest_body}
-use Rattle.wf_rules.specs.Airtime.{Rate, streams, bits_20, bits_40, bits, symbols, data_time}
+use Rattle.wf_rules.specs.Airtime.{Rate, bits_20, bits_40, bits, symbols, data_time}
 use Rattle.wf_rules.specs.Bounds.{greatest_mcs}
-use Rattle.wf_rules.specs.Fit.{subframe_octets, octets_of, most_octets, fits}
+use Rattle.wf_rules.specs.Fit.{subframe_octets, most_octets}
 use Rattle.wf_world.specs.World.{World, Mpdu, station}
 use Rattle.wf_world.specs.Exchanges.{most_frames, fits_in}
 use Rattle.wf_rule_laws.proofs.Lemmas.Numbers.{on_if}
@@ -55,7 +55,8 @@ short_time r octets h k =
 some_octets : (exponent : ℕ) → subframe_octets greatest_body ≤ most_octets exponent
 some_octets exponent = let least : 2 ^ 13 ≤ 2 ^ (13 + exponent) = pow-le-pow_right {n = 2} (omega arith) {i = 13} {j = 13 + exponent} (omega arith) in omega arith
 
-pub fits_alone : (w : World) (s : ℕ) (m : Mpdu) → 1 ≤ w.config.agg → 3000 ≤ w.config.cap → (station w s).rate.mcs ≤ greatest_mcs → m.len ≤ greatest_body → fits_in w s (m ∷ []) ≡ true
+pub fits_alone : (w : World) (s : ℕ) (m : Mpdu) → 1 ≤ w.config.agg → 3000 ≤ w.config.cap → (station w s).rate.mcs ≤ greatest_mcs
+    → m.len ≤ greatest_body → fits_in w s (m ∷ []) ≡ true
 fits_alone w s m agg cap mcs short =
     let r : Rate = (station w s).rate in
     let octets : ℕ = subframe_octets m.len in

@@ -1,18 +1,18 @@
 -- A take of a TID for which a frame is queued gives one: CoDel never drops the last frame of a queue.
-use Rattle.std.proofs.Common.{◌≡◌, refl, ap, sym, ◌∙◌, subst, arith, ℕ, zero, suc, ◌-◌, ◌<◌, ◌≤◌, Bool, true, false, if◌then◌else◌, not, ◌&&◌, ◌||◌, nat_lt, nat_le, ◌==◌, ◌+◌, List, [], ◌∷◌, length, drop, sum_by, Option, Some, None, is_some, slice_get}
+use Rattle.std.proofs.Common.{◌≡◌, refl, ap, sym, ◌∙◌, subst, arith, ℕ, zero, suc, ◌-◌, ◌<◌, ◌≤◌, Bool, true, false, if◌then◌else◌, not, ◌||◌, nat_lt, nat_le, ◌==◌, ◌+◌, List, [], ◌∷◌, length, drop, sum_by, Option, Some, None, is_some, slice_get}
 use Rattle.std.proofs.lemmas.List.{length-drop}
 use Rattle.std.proofs.lemmas.List.Sums.{sum_by-cons}
-use Rattle.wf_rules.specs.Codel.{Item, Codel, Params, Dequeued, Look, look_at, look, least, ends_drops, drops_dropping, drops_plain, drops, next_due, octets, max_packet, dequeue}
+use Rattle.wf_rules.specs.Codel.{Item, Codel, Params, Look, look_at, look, least, ends_drops, drops_dropping, drops_plain, drops, next_due, octets, max_packet, dequeue}
 use Rattle.wf_rules.specs.Lists.{on}
 use Rattle.wf_rules.specs.Rotation.{Rotation, in_order}
 use Rattle.wf_world.specs.World.{World, tid_of, queue, is_live, codel_params, with_queues}
-use Rattle.wf_world.specs.FlowQueues.{frames_queued, has_frames, queue_need, picked_queue, with_queues_paid, taken_by_codel, taken_from_picked, taken_for_tid}
+use Rattle.wf_world.specs.FlowQueues.{frames_queued, has_frames, queue_need, picked_queue, with_queues_paid, taken_from_picked, taken_for_tid}
 use Rattle.wf_rule_laws.proofs.Lemmas.Counts.{on-cons, on-cons_same}
 use Rattle.wf_rule_laws.proofs.Lemmas.Drops.{least-below}
 use Rattle.wf_rule_laws.proofs.Lemmas.Numbers.{on_bool, on_if, lt_yes, lt_no}
 use Rattle.wf_rule_laws.proofs.Lemmas.Rotations.{IsWinner, pick_winner, pick_none}
 use Rattle.wf_laws.proofs.Frames.Fates.{given_dequeued-is}
-use Rattle.wf_laws.proofs.Queues.Shelves.{Shelves, shelves, shelves_with_queues, shelves_pay_queues}
+use Rattle.wf_laws.proofs.Queues.Shelves.{Shelves, shelves_with_queues, shelves_pay_queues}
 use Rattle.wf_laws.proofs.Windows.Sides.{same_pay_queues}
 
 -- ---- CoDel
@@ -79,7 +79,8 @@ none_queued w (q ∷ qs) h =
     omega (arith, none, sum_by-cons (λ (q : ℕ). length (queue w q).items) q qs, none_queued w qs (λ p is. omega (arith, h p is, on-cons q p qs)))
 
 -- after the queues are paid each has the frames that it had
-items_turned : (w : World) (s t : ℕ) (quanta : ℕ → ℕ) (r : Rotation) (q : ℕ) → is_live w s ≡ true → (queue (with_queues (with_queues_paid w quanta (in_order (tid_of w s t).queues)) s t r) q).items ≡ (queue w q).items
+items_turned : (w : World) (s t : ℕ) (quanta : ℕ → ℕ) (r : Rotation) (q : ℕ) → is_live w s ≡ true
+    → (queue (with_queues (with_queues_paid w quanta (in_order (tid_of w s t).queues)) s t r) q).items ≡ (queue w q).items
 items_turned w s t quanta r q live =
     let u : World = with_queues_paid w quanta (in_order (tid_of w s t).queues) in
     ap (λ (b : Shelves). (b.queues q).items) (shelves_with_queues u s t r ((same_pay_queues (in_order (tid_of w s t).queues) w quanta).live s ∙ live))

@@ -18,12 +18,12 @@ use Rattle.wf_rules.specs.CodelLoop.{dropping_first}
 use Rattle.wf_rules.specs.Rotation.{Rotation, has_key, with_new_key, in_order, no_keys}
 use Rattle.wf_rules.specs.Receiver.{score}
 use Rattle.wf_rules.specs.Session.{Session, slot, waiting_numbers, next_number, request_due}
-use Rattle.wf_world.specs.World.{World, Station, Share, Queue, Exchange, Mpdu, Content, Frames, Request, new_queue, no_tid, no_frame, Frame, len_of, session, tid_of, queue, frame, is_live, accepted_count, exchange, codel_params, with_station, on_station, on_tid, on_receiver, on_share, on_queue, with_queues, with_frame_finished, with_frames_finished, with_exchange, without_exchange, receiver, opening}
+use Rattle.wf_world.specs.World.{World, Station, Share, Queue, Exchange, Mpdu, new_queue, no_tid, no_frame, Frame, len_of, session, tid_of, queue, is_live, accepted_count, exchange, codel_params, with_station, on_station, on_tid, on_receiver, on_share, on_queue, with_queues, with_frames_finished, with_exchange, without_exchange, receiver, opening}
 use Rattle.wf_world.specs.FlowQueues.{Taken, after_limit, is_at_limit, longest_queue, without_head, queue_for, with_appended, with_listed_queue, after_put_in, with_queues_paid, after_dequeue, taken_by_codel, taken_from_picked, taken_for_tid, picked_queue, after_queue_left, after_queues_left}
 use Rattle.wf_world.specs.CanSend.{can_give, can_send_in, with_listings_of}
-use Rattle.wf_world.specs.Exchanges.{Aggregate, Prepared, most_frames, mpdus_of, mpdu_of, fits_in, picked_station, sending_tid, waiting_mpdus, longest_fitting, fresh_mpdus, with_number, with_fresh, aggregate_of, prepared_data, prepared_exchange, exchange_of, after_pick, after_tid_turn, with_exchange_opened, without_credit, after_arrival}
+use Rattle.wf_world.specs.Exchanges.{Aggregate, Prepared, most_frames, mpdus_of, mpdu_of, fits_in, picked_station, sending_tid, waiting_mpdus, longest_fitting, fresh_mpdus, with_number, with_fresh, aggregate_of, prepared_data, prepared_exchange, exchange_of, after_pick, after_tid_turn, with_exchange_opened, after_arrival}
 use Rattle.wf_world.specs.Refusals.{refusals, refusal}
-use Rattle.wf_world.specs.Step.{Outcome, tick_outcome, rate_outcome, sleep_outcome, wake_outcome, poll_outcome, rx_outcome, join_outcome, waiting_ids, in_rising_order, after_tid_left, after_tids_left, without_listings, leave_outcome, next_item, with_frame, enqueue_outcome, send_outcome, pull_outcome_for, pull_outcome, arrive_outcome, answer_outcome, done_outcome, outcome_where_open, reap_outcome, outcome_of, concerned_station, after_refusal, judged_outcome, step}
+use Rattle.wf_world.specs.Step.{Outcome, tick_outcome, rate_outcome, sleep_outcome, wake_outcome, poll_outcome, rx_outcome, join_outcome, waiting_ids, in_rising_order, after_tid_left, after_tids_left, leave_outcome, next_item, with_frame, enqueue_outcome, send_outcome, pull_outcome_for, pull_outcome, arrive_outcome, answer_outcome, done_outcome, outcome_where_open, reap_outcome, outcome_of, concerned_station, after_refusal, judged_outcome, step}
 use Rattle.wf_world.specs.Run.{Entry, world_after}
 use Rattle.wf_laws.specs.Windows.{EachMpdu}
 use Rattle.wf_laws.specs.Queues.{EachItem, IsAtMost, AreAtMost}
@@ -31,15 +31,15 @@ use Rattle.wf_rule_laws.proofs.Lemmas.Dequeues.{each_dequeue}
 use Rattle.wf_rule_laws.proofs.Lemmas.Numbers.{on_if, or_left, or_right, yes_eq}
 use Rattle.wf_rule_laws.proofs.Lemmas.Tables.{each_put}
 use Rattle.wf_laws.proofs.Deficits.Books.{upd, upd_same, upd_other, each_upd}
-use Rattle.wf_laws.proofs.Frames.Delivered.{Labelled, IsLabelled, IsPrepared, prepared_right, opened_on_receiver, opened_ended, filtered, same_enqueued}
+use Rattle.wf_laws.proofs.Frames.Delivered.{Labelled, prepared_right, opened_on_receiver, opened_ended, filtered}
 use Rattle.wf_laws.specs.Releases.{named_by}
 use Rattle.wf_laws.proofs.Frames.Fates.{Steady, steady_step, steady_first}
 use Rattle.wf_laws.proofs.Frames.Fewer.{carries, less_within_limit}
 use Rattle.wf_laws.proofs.Frames.Untouched.{untouched_put_in}
 use Rattle.wf_laws.proofs.Queues.Shelved.{each_append as items_append}
 use Rattle.wf_laws.proofs.Queues.ShelvedStep.{live_number, shelves_number, accepted_limit, accepted_put}
-use Rattle.wf_laws.proofs.Queues.Shelves.{Shelves, spot, with_note, shelves, shelves_with_station, shelves_hidden, shelves_on_session, shelves_on_receiver, shelves_on_share, shelves_with_queues, shelves_on_queue, shelves_finish, shelves_finish_all, shelves_with_frame, shelves_pay_queues, shelves_after_pick, shelves_after_turn, shelves_sent, shelves_ended, shelves_arrived, shelves_answered, shelves_reaped, shelves_off_lists, shelves_listed}
-use Rattle.wf_laws.proofs.Releases.Placed.{Any, Placing}
+use Rattle.wf_laws.proofs.Queues.Shelves.{Shelves, spot, with_note, shelves, shelves_with_station, shelves_hidden, shelves_on_session, shelves_on_receiver, shelves_on_share, shelves_with_queues, shelves_on_queue, shelves_finish, shelves_finish_all, shelves_with_frame, shelves_pay_queues, shelves_after_pick, shelves_after_turn, shelves_sent, shelves_ended, shelves_off_lists, shelves_listed}
+use Rattle.wf_laws.proofs.Releases.Placed.{Any}
 use Rattle.wf_laws.proofs.Sessions.Flights.{Rises}
 use Rattle.wf_laws.proofs.Windows.Agreed.{IsLawful, IsOpenIn, each_map_if, lawful_same, winner_ready, same_left_tids, same_off_lists}
 use Rattle.wf_laws.proofs.Windows.Opened.{Each, each_both, each_append, each_find, NoRow, no_row}
@@ -118,17 +118,20 @@ unfolding taken_from_picked
 sifted_taken_from None w s = sifted_here (shelves w)
 sifted_taken_from (Some q) w s = sifted_dequeued w q _ (left w s q).rest
 
-given_dequeued : (notes : ℕ → Note) (w : World) (q : ℕ) (d : Dequeued) → IsLeft (queue w q).items d → AllMeasured notes (shelves w) → IfSome (taken_by_codel w q d).item (IsMeasured notes)
+given_dequeued : (notes : ℕ → Note) (w : World) (q : ℕ) (d : Dequeued) → IsLeft (queue w q).items d → AllMeasured notes (shelves w)
+    → IfSome (taken_by_codel w q d).item (IsMeasured notes)
 unfolding taken_by_codel
 given_dequeued notes w q d h k = h.given notes (k q)
 
-given_taken_from : (o : Option ℕ) (notes : ℕ → Note) (w : World) (s : ℕ) → AllMeasured notes (shelves w) → IfSome (taken_from_picked w s o).item (IsMeasured notes)
+given_taken_from : (o : Option ℕ) (notes : ℕ → Note) (w : World) (s : ℕ) → AllMeasured notes (shelves w)
+    → IfSome (taken_from_picked w s o).item (IsMeasured notes)
 unfolding taken_from_picked
 given_taken_from None notes w s k = tt
 given_taken_from (Some q) notes w s k = given_dequeued notes w q _ (left w s q) k
 
 -- the queues of a TID are paid, and its lists are new
-sifted_turned : (w : World) (s t : ℕ) (quanta : ℕ → ℕ) (r : Rotation) → is_live w s ≡ true → Sifted (shelves w) (shelves (with_queues (with_queues_paid w quanta (in_order (tid_of w s t).queues)) s t r))
+sifted_turned : (w : World) (s t : ℕ) (quanta : ℕ → ℕ) (r : Rotation) → is_live w s ≡ true
+    → Sifted (shelves w) (shelves (with_queues (with_queues_paid w quanta (in_order (tid_of w s t).queues)) s t r))
 sifted_turned w s t quanta r live =
     then_sifted _ _ _ (sifted_paid (in_order (tid_of w s t).queues) w quanta) (sifted_relisted _ s t r ((same_pay_queues (in_order (tid_of w s t).queues) w quanta).live s ∙ live))
 
@@ -136,7 +139,8 @@ sifted_take : (w : World) (s t : ℕ) → is_live w s ≡ true → Sifted (shelv
 unfolding taken_for_tid
 sifted_take w s t live = then_sifted _ _ _ (sifted_turned w s t (picked_queue w s t).quanta (picked_queue w s t).lists live) (sifted_taken_from (picked_queue w s t).winner _ s)
 
-pub given_take : (notes : ℕ → Note) (w : World) (s t : ℕ) → is_live w s ≡ true → AllMeasured notes (shelves w) → IfSome (taken_for_tid w s t).item (IsMeasured notes)
+pub given_take : (notes : ℕ → Note) (w : World) (s t : ℕ) → is_live w s ≡ true → AllMeasured notes (shelves w)
+    → IfSome (taken_for_tid w s t).item (IsMeasured notes)
 unfolding taken_for_tid
 given_take notes w s t live k =
     given_taken_from (picked_queue w s t).winner notes _ s (measured_sifted notes _ _ (sifted_turned w s t (picked_queue w s t).quanta (picked_queue w s t).lists live) k)
@@ -164,7 +168,8 @@ measured_fitting notes ms w s a =
     let n : ℕ = greatest_upto (λ k. fits_in w s (take k ms)) (length ms) in
     mpdus_front (λ m. len_of (notes m.id) ≡ m.len) (take n ms) (drop n ms) (subst (AreMeasured notes) (sym (take-append-drop n ms)) a)
 
-measured_longer : (o : Option Item) (notes : ℕ → Note) (u : World) (s t : ℕ) (ms : List Mpdu) → IfSome o (IsMeasured notes) → AreMeasured notes ms → AreMeasured notes (ms ++ fresh_mpdus u s t o)
+measured_longer : (o : Option Item) (notes : ℕ → Note) (u : World) (s t : ℕ) (ms : List Mpdu) → IfSome o (IsMeasured notes)
+    → AreMeasured notes ms → AreMeasured notes (ms ++ fresh_mpdus u s t o)
 measured_longer None notes u s t ms h a = subst (AreMeasured notes) (sym (append-nil ms)) a
 measured_longer (Some x) notes u s t ms h a = mpdus_append (λ m. len_of (notes m.id) ≡ m.len) ms (record { number = next_number (session u s t); id = x.id; len = x.len }) a h
 
@@ -177,7 +182,8 @@ filled_if : (c : Bool) (b : Shelves) (x y : Aggregate) → IsFilled b x → IsFi
 filled_if true b x y h k = h
 filled_if false b x y h k = k
 
-filled_fresh : (n : ℕ) (b : Shelves) (w : World) (s t : ℕ) (ms : List Mpdu) → is_live w s ≡ true → AllMeasured b.notes (shelves w) → Sifted b (shelves w) → AreMeasured b.notes ms → IsFilled b (with_fresh n w s t ms)
+filled_fresh : (n : ℕ) (b : Shelves) (w : World) (s t : ℕ) (ms : List Mpdu) → is_live w s ≡ true → AllMeasured b.notes (shelves w)
+    → Sifted b (shelves w) → AreMeasured b.notes ms → IsFilled b (with_fresh n w s t ms)
 unfolding with_fresh
 filled_fresh zero b w s t ms live k h a = record { sifted = h; lens = a }
 filled_fresh (suc n) b w s t ms live k h a =
@@ -243,14 +249,16 @@ pub opened_sent : (s t : ℕ) (c : Class) (p : Prepared) → (send_outcome s t c
 unfolding send_outcome with_exchange_opened
 opened_sent s t c p = (same_spent _ s).opened
 
-stocked_sent : (most : ℕ) (s t : ℕ) (c : Class) (w : World) (p : Prepared) → p.world.opened ≡ w.opened → IsReadied (shelves w) p → IsStocked most w → IsStocked most (send_outcome s t c p).world
+stocked_sent : (most : ℕ) (s t : ℕ) (c : Class) (w : World) (p : Prepared) → p.world.opened ≡ w.opened → IsReadied (shelves w) p
+    → IsStocked most w → IsStocked most (send_outcome s t c p).world
 stocked_sent most s t c w p o r i =
     let x : Exchange = exchange_of s t c p in
     stocked_sifted most (shelves w) (shelves (send_outcome s t c p).world) (w.opened ++ x ∷ []) _ (then_sifted _ _ _ r.sifted (sifted_is _ _ (shelves_sent s t c p)))
     (opened_sent s t c p ∙ ap (λ (xs : List Exchange). xs ++ x ∷ []) o)
     (record { short = i.short; measured = i.measured; lens = each_append (λ y. AreMeasured (shelves w).notes (mpdus_of y.content)) w.opened x i.lens r.lens })
 
-stocked_pulled_by : (most : ℕ) (o : Option ℕ) (w : World) (c : Class) → IfSome o (λ s. (is_live w s ≡ true) × (can_send_in w s c ≡ true)) → IsLawful w → IsStocked most w → IsStocked most (pull_outcome_for w c o).world
+stocked_pulled_by : (most : ℕ) (o : Option ℕ) (w : World) (c : Class) → IfSome o (λ s. (is_live w s ≡ true) × (can_send_in w s c ≡ true))
+    → IsLawful w → IsStocked most w → IsStocked most (pull_outcome_for w c o).world
 unfolding pull_outcome_for
 stocked_pulled_by most None w c ready l i = i
 stocked_pulled_by most (Some s) w c ready l i =
@@ -305,7 +313,8 @@ opened_gone w s = opened_station _ s None ∙ (then_same _ _ _ (same_left_tids (
 
 -- ---- a station joins
 
-stocked_joined : (most : ℕ) (w : World) (s window start exponent weight : ℕ) → IsStocked most w → IsStocked most (join_outcome w s window start exponent weight).world
+stocked_joined : (most : ℕ) (w : World) (s window start exponent weight : ℕ) → IsStocked most w
+    → IsStocked most (join_outcome w s window start exponent weight).world
 unfolding join_outcome
 stocked_joined most w s window start exponent weight i = stocked_sifted most (shelves w) _ w.opened _ (sifted_station w s _) (opened_station w s _) i
 
@@ -324,7 +333,8 @@ sifted_limit w =
     (λ _. sifted_head (queue w (longest_queue w)).items w (longest_queue w) refl) (λ _. sifted_here (shelves w))
 
 -- the frame joins a queue
-measured_append : (notes : ℕ → Note) (w : World) (q : ℕ) (x : Item) → IsMeasured notes x → AllMeasured notes (shelves w) → AllMeasured notes (shelves (with_appended w q x))
+measured_append : (notes : ℕ → Note) (w : World) (q : ℕ) (x : Item) → IsMeasured notes x → AllMeasured notes (shelves w)
+    → AllMeasured notes (shelves (with_appended w q x))
 unfolding with_appended on_queue
 measured_append notes w q x h k =
     each_put (λ _ y. EachItem (IsMeasured notes) y.items) new_queue w.queues q (record (queue w q) { items = (queue w q).items ++ x ∷ [] }) k (items_append (IsMeasured notes) (queue w q).items x (k q) h)
@@ -340,12 +350,14 @@ measured_listed notes w s t q k = go (has_key (tid_of w s t).queues q)
     go true = k
     go false = each_put (λ _ y. EachItem (IsMeasured notes) y.items) new_queue w.queues q (record (queue w q) { deficit = pos w.config.flow_quantum }) k (k q)
 
-measured_put_in : (notes : ℕ → Note) (w : World) (s t q : ℕ) (x : Item) → IsMeasured notes x → AllMeasured notes (shelves w) → AllMeasured notes (shelves (after_put_in w s t q x))
+measured_put_in : (notes : ℕ → Note) (w : World) (s t q : ℕ) (x : Item) → IsMeasured notes x → AllMeasured notes (shelves w)
+    → AllMeasured notes (shelves (after_put_in w s t q x))
 unfolding after_put_in
 measured_put_in notes w s t q x h k = measured_listed notes (with_appended w q x) s t q (measured_append notes w q x h k)
 
 -- the next id is that of no queued frame
-items_noted : (xs : List Item) (notes : ℕ → Note) (c : ℕ) (note : Note) → ((k : ℕ) → carries xs k ≡ true → k < c) → EachItem (IsMeasured notes) xs → EachItem (IsMeasured (upd notes c note)) xs
+items_noted : (xs : List Item) (notes : ℕ → Note) (c : ℕ) (note : Note) → ((k : ℕ) → carries xs k ≡ true → k < c)
+    → EachItem (IsMeasured notes) xs → EachItem (IsMeasured (upd notes c note)) xs
 items_noted [] notes c note old h = tt
 items_noted (x ∷ xs) notes c note old h =
     let below : x.id < c = old x.id (or_left (x.id == x.id) (carries xs x.id) (yes_eq x.id x.id refl)) in (
@@ -358,7 +370,8 @@ mpdus_noted : (ms : List Mpdu) (notes : ℕ → Note) (c : ℕ) (note : Note) �
 mpdus_noted [] notes c note old h = tt
 mpdus_noted (m ∷ ms) notes c note old h = (ap len_of (upd_other notes c m.id note (λ e. absurd (omega (arith, e, old.0)))) ∙ h.0, mpdus_noted ms notes c note old.1 h.1)
 
-old_ids : (ms : List Mpdu) (y : Session) (c lo : ℕ) → ((n : ℕ) → y.first ≤ n → n < next_number y → (slot y n).id < c) → y.first ≤ lo → Rises lo (next_number y) ms → Labelled y ms → EachMpdu (λ m. m.id < c) ms
+old_ids : (ms : List Mpdu) (y : Session) (c lo : ℕ) → ((n : ℕ) → y.first ≤ n → n < next_number y → (slot y n).id < c) → y.first ≤ lo
+    → Rises lo (next_number y) ms → Labelled y ms → EachMpdu (λ m. m.id < c) ms
 old_ids [] y c lo h b r a = tt
 old_ids (m ∷ ms) y c lo h b r a =
     (subst (λ (k : ℕ). k < c) a.0 (h m.number (omega (arith, b, r.0)) r.1), old_ids ms y c (suc m.number) h (omega (arith, b, r.0)) r.2 a.1)
@@ -369,7 +382,8 @@ all_old l w k =
     (λ x o a. old_ids (mpdus_of x.content) (session w x.station x.tid) (accepted_count w) (session w x.station x.tid).first (λ n b e. (k.placing.numbered x.station x.tid n b e).old) (omega arith) o.opened.flies.rising a)
     k.lawful.opened k.labelled.labels
 
-stocked_noted : (most : ℕ) (w : World) (a : World) (note : Note) → accepted_count a ≡ accepted_count w → a.opened ≡ w.opened → (shelves a).notes ≡ (shelves w).notes → AllMeasured (upd (shelves w).notes (accepted_count w) note) (shelves a)
+stocked_noted : (most : ℕ) (w : World) (a : World) (note : Note) → accepted_count a ≡ accepted_count w → a.opened ≡ w.opened
+    → (shelves a).notes ≡ (shelves w).notes → AllMeasured (upd (shelves w).notes (accepted_count w) note) (shelves a)
     → Each (λ x. EachMpdu (λ m. m.id < accepted_count w) (mpdus_of x.content)) w.opened → Each (λ x. AreMeasured (shelves w).notes (mpdus_of x.content)) w.opened → ((k : ℕ) → len_of ((shelves w).notes k) ≤ most)
     → len_of note ≤ most → IsStocked most (with_frame a note)
 unfolding with_frame
@@ -393,7 +407,8 @@ opened_put w s t flow len = (then_same _ _ _ (same_within_limit w) (same_put_in 
 notes_of : List Frame → ℕ → Note
 notes_of frames k = (at no_frame frames k).note
 
-stocked_enqueued : (most : ℕ) (l : List ℕ) (w : World) (s t flow len : ℕ) → len ≤ most → Steady l w → IsStocked most w → IsStocked most (enqueue_outcome w s t flow len).world
+stocked_enqueued : (most : ℕ) (l : List ℕ) (w : World) (s t flow len : ℕ) → len ≤ most → Steady l w → IsStocked most w
+    → IsStocked most (enqueue_outcome w s t flow len).world
 unfolding enqueue_outcome notes_of
 stocked_enqueued most l w s t flow len short k i =
     let u : World = after_limit w in
@@ -412,19 +427,23 @@ stocked_enqueued most l w s t flow len short k i =
 -- ---- exchanges change and end
 
 -- exchanges replaced by one with the same content
-stocked_with_exchange : (most : ℕ) (w v : World) (x z : Exchange) → shelves v ≡ shelves w → v.opened ≡ map (λ y. if y.number == z.number then z else y) w.opened → AreMeasured (shelves w).notes (mpdus_of z.content) → IsStocked most w → IsStocked most v
+stocked_with_exchange : (most : ℕ) (w v : World) (x z : Exchange) → shelves v ≡ shelves w
+    → v.opened ≡ map (λ y. if y.number == z.number then z else y) w.opened → AreMeasured (shelves w).notes (mpdus_of z.content)
+    → IsStocked most w → IsStocked most v
 stocked_with_exchange most w v x z e o a i =
     let P : Exchange → Type 0 = λ y. AreMeasured (shelves w).notes (mpdus_of y.content) in
     stocked_sifted most (shelves w) (shelves v) (map (λ y. if y.number == z.number then z else y) w.opened) v.opened (sifted_is _ _ e) o
     (record { short = i.short; measured = i.measured; lens = each_map_if P P (λ y. y.number == z.number) z w.opened a (λ y _ h. h) i.lens })
 
-stocked_answered : (most : ℕ) (w : World) (x : Exchange) → AreMeasured (shelves w).notes (mpdus_of x.content) → IsStocked most w → IsStocked most (answer_outcome w x).world
+stocked_answered : (most : ℕ) (w : World) (x : Exchange) → AreMeasured (shelves w).notes (mpdus_of x.content) → IsStocked most w
+    → IsStocked most (answer_outcome w x).world
 unfolding answer_outcome with_exchange
 stocked_answered most w x a i =
     let z : Exchange = record x { answer = Some (score (receiver w x.station x.tid)) } in
     stocked_with_exchange most w (record w { opened = map (λ y. if y.number == z.number then z else y) w.opened }) x z refl refl a i
 
-stocked_arrived : (most : ℕ) (w : World) (x : Exchange) (n : ℕ) → AreMeasured (shelves w).notes (mpdus_of x.content) → IsStocked most w → IsStocked most (arrive_outcome w x n).world
+stocked_arrived : (most : ℕ) (w : World) (x : Exchange) (n : ℕ) → AreMeasured (shelves w).notes (mpdus_of x.content) → IsStocked most w
+    → IsStocked most (arrive_outcome w x n).world
 unfolding arrive_outcome with_exchange
 stocked_arrived most w x n a i =
     let z : Exchange = record x { arrived = with_member n x.arrived } in
@@ -436,7 +455,8 @@ stocked_ended most w x heard i =
     stocked_sifted most (shelves w) (shelves (done_outcome w x heard).world) (without_exchange w x.number).opened _ (sifted_is _ _ (shelves_ended w x heard)) (opened_ended w x heard)
     (record { short = i.short; measured = i.measured; lens = filtered w x.number (λ y. AreMeasured (shelves w).notes (mpdus_of y.content)) i.lens })
 
-stocked_open : (most : ℕ) (P : Exchange → Type 0) (o : Option Exchange) (w : World) (f : Exchange → Outcome) → IfSome o P → ((x : Exchange) → P x → IsStocked most (f x).world) → IsStocked most w → IsStocked most (outcome_where_open w o f).world
+stocked_open : (most : ℕ) (P : Exchange → Type 0) (o : Option Exchange) (w : World) (f : Exchange → Outcome) → IfSome o P
+    → ((x : Exchange) → P x → IsStocked most (f x).world) → IsStocked most w → IsStocked most (outcome_where_open w o f).world
 unfolding outcome_where_open
 stocked_open most P None w f p k i = i
 stocked_open most P (Some x) w f p k i = k x p
@@ -453,13 +473,16 @@ unfolding reap_outcome
 stocked_reaped most [] w i = i
 stocked_reaped most (id ∷ ids) w i = record { short = i.short; measured = i.measured; lens = i.lens }
 
-stocked_on_station : (most : ℕ) (w : World) (s : ℕ) (f : Station → Station) → ((x : Station) → spot (Some (f x)) ≡ spot (Some x)) → ((x : Station) (t : ℕ) → side_of (at no_tid (f x).tids t) ≡ side_of (at no_tid x.tids t)) → IsStocked most w → IsStocked most (on_station w s f)
+stocked_on_station : (most : ℕ) (w : World) (s : ℕ) (f : Station → Station) → ((x : Station) → spot (Some (f x)) ≡ spot (Some x))
+    → ((x : Station) (t : ℕ) → side_of (at no_tid (f x).tids t) ≡ side_of (at no_tid x.tids t)) → IsStocked most w
+    → IsStocked most (on_station w s f)
 stocked_on_station most w s f h k i = stocked_same most w (on_station w s f) (shelves_hidden w s f h) (same_on_station w s f k).opened i
 
 stocked_on_share : (most : ℕ) (w : World) (s : ℕ) (c : Class) (f : Share → Share) → IsStocked most w → IsStocked most (on_share w s c f)
 stocked_on_share most w s c f i = stocked_same most w (on_share w s c f) (shelves_on_share w s c f) (same_on_share w s c f).opened i
 
-stocked_done : (most : ℕ) (note : Note) (l : List ℕ) (w : World) → NoRow (refusals w note) → IsAtMost most note → Steady l w → IsStocked most w → IsStocked most (outcome_of w note).world
+stocked_done : (most : ℕ) (note : Note) (l : List ℕ) (w : World) → NoRow (refusals w note) → IsAtMost most note → Steady l w
+    → IsStocked most w → IsStocked most (outcome_of w note).world
 unfolding outcome_of tick_outcome rate_outcome sleep_outcome wake_outcome poll_outcome rx_outcome
 stocked_done most (Enqueue s t flow len) l w e a k i = stocked_enqueued most l w s t flow len a k i
 stocked_done most (Asked (Join s window start exponent weight)) l w e a k i = stocked_joined most w s window start exponent weight i
@@ -481,7 +504,8 @@ unfolding after_refusal
 stocked_refused most (Asked (Pull c)) Idle w i = stocked_same most w (after_pick w c) (shelves_after_pick w c) (same_after_pick w c).opened i
 stocked_refused most _ _ w i = i
 
-stocked_answer : (most : ℕ) (r : Option Refusal) (l : List ℕ) (w : World) (note : Note) → refusal w note ≡ r → IsAtMost most note → Steady l w → IsStocked most w → IsStocked most (judged_outcome w note r).world
+stocked_answer : (most : ℕ) (r : Option Refusal) (l : List ℕ) (w : World) (note : Note) → refusal w note ≡ r → IsAtMost most note
+    → Steady l w → IsStocked most w → IsStocked most (judged_outcome w note r).world
 unfolding judged_outcome
 stocked_answer most (Some r) l w note e a k i = stocked_refused most note r w i
 stocked_answer most None l w note e a k i =

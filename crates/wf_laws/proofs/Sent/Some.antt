@@ -1,5 +1,5 @@
 -- Where no frame is longer than the greatest body, each open exchange of data sends a frame, in every world of a run.
-use Rattle.std.proofs.Common.{◌≡◌, refl, ap, sym, ◌∙◌, subst, arith, ℕ, zero, suc, ◌+◌, ◌-◌, ◌<◌, ◌≤◌, nat_lt, Bool, true, false, if◌then◌else◌, not, ◌&&◌, ◌||◌, ◌==◌, List, [], ◌∷◌, ◌++◌, length, map, take, Option, Some, None, IfSome, is_some, unwrap_or, option_map}
+use Rattle.std.proofs.Common.{◌≡◌, refl, ap, sym, ◌∙◌, subst, arith, ℕ, zero, suc, ◌-◌, ◌<◌, ◌≤◌, nat_lt, Bool, true, false, if◌then◌else◌, not, ◌&&◌, ◌||◌, ◌==◌, List, [], ◌∷◌, ◌++◌, length, map, take, Option, Some, None, IfSome, is_some, unwrap_or, option_map}
 use Rattle.std.proofs.lemmas.List.{length-append}
 use Rattle.wf_frame.specs.declared.settings.Config.{Config}
 use Rattle.wf_frame.specs.declared.classes.Class.{Class}
@@ -17,18 +17,17 @@ use Rattle.wf_rules.specs.Lengths.{greatest_body}
 use Rattle.wf_rules.specs.Receiver.{score}
 use Rattle.wf_rules.specs.Rotation.{Rotation, in_order}
 use Rattle.wf_rules.specs.Session.{request_due, waiting_numbers, next_number, has_room}
-use Rattle.wf_world.specs.World.{World, Station, Share, Exchange, Mpdu, Content, Frames, Request, no_station, no_share, len_of, station, session, receiver, share, rotation, is_live, exchange, with_station, on_station, on_share, on_receiver, with_rotation, with_exchange, without_exchange, opening}
+use Rattle.wf_world.specs.World.{World, Station, Share, Exchange, Mpdu, no_station, no_share, len_of, station, session, receiver, share, rotation, is_live, exchange, with_station, on_station, on_share, with_rotation, with_exchange, opening}
 use Rattle.wf_world.specs.FlowQueues.{Taken, frames_queued, taken_for_tid}
 use Rattle.wf_world.specs.CanSend.{is_request, request_open, has_waiting, can_give, can_send, can_send_in, with_listings_of}
 use Rattle.wf_world.specs.Exchanges.{Aggregate, Prepared, mpdus_of, mpdu_of, most_frames, fits_in, picked_station, sending_tid, waiting_mpdus, longest_fitting, fresh_mpdus, with_number, with_fresh, aggregate_of, prepared_data, prepared_exchange, exchange_of, with_station_paid, with_stations_paid, after_pick, after_tid_turn, after_arrival}
-use Rattle.wf_world.specs.Refusals.{refusals, refusal}
-use Rattle.wf_world.specs.Step.{Outcome, tick_outcome, rate_outcome, sleep_outcome, wake_outcome, poll_outcome, rx_outcome, join_outcome, leave_outcome, enqueue_outcome, send_outcome, pull_outcome_for, pull_outcome, arrive_outcome, answer_outcome, done_outcome, outcome_where_open, reap_outcome, outcome_of, concerned_station, after_refusal, judged_outcome, step}
+use Rattle.wf_world.specs.Refusals.{refusal}
+use Rattle.wf_world.specs.Step.{Outcome, tick_outcome, rate_outcome, sleep_outcome, wake_outcome, poll_outcome, rx_outcome, join_outcome, leave_outcome, enqueue_outcome, pull_outcome_for, pull_outcome, arrive_outcome, answer_outcome, done_outcome, outcome_where_open, reap_outcome, outcome_of, concerned_station, after_refusal, judged_outcome, step}
 use Rattle.wf_world.specs.Run.{Entry, world_after}
 use Rattle.wf_laws.specs.Queues.{AreAtMost}
 use Rattle.wf_laws.specs.Releases.{named_by}
 use Rattle.wf_laws.specs.Sent.{HasSome}
-use Rattle.wf_laws.specs.Windows.{EachMpdu}
-use Rattle.wf_rule_laws.proofs.Lemmas.Numbers.{on_bool, lt_yes, both}
+use Rattle.wf_rule_laws.proofs.Lemmas.Numbers.{lt_yes, both}
 use Rattle.wf_rule_laws.proofs.Lemmas.Tables.{each_put}
 use Rattle.wf_laws.proofs.Deficits.Books.{Books, account, books}
 use Rattle.wf_laws.proofs.Deficits.BookSteps.{books_after_pick, books_after_turn}
@@ -121,7 +120,8 @@ some_longer (suc n) w s t ms h =
     (λ _. some_if _ _ _ (λ _. some_longer n (with_number taken.world s t taken.item) s t (ms ++ fresh_mpdus w s t taken.item) (omega (arith, length-append ms (fresh_mpdus w s t taken.item), h))) (λ _. h))
 
 -- the first fresh frame fits by itself
-fits_given : (o : Option Item) (w : World) (s t : ℕ) → IsApt w → is_some o ≡ true → IfSome o (IsMeasured (shelves w).notes) → (fits_in w s (fresh_mpdus w s t o) ≡ true) × (1 ≤ length (fresh_mpdus w s t o))
+fits_given : (o : Option Item) (w : World) (s t : ℕ) → IsApt w → is_some o ≡ true → IfSome o (IsMeasured (shelves w).notes)
+    → (fits_in w s (fresh_mpdus w s t o) ≡ true) × (1 ≤ length (fresh_mpdus w s t o))
 fits_given None w s t a some h = absurd (cc (some))
 fits_given (Some x) w s t a some h =
     (fits_alone w s (record { number = next_number (session w s t); id = x.id; len = x.len }) a.agg a.cap (a.rates s) (omega (arith, h, a.short x.id)), omega arith)
@@ -209,7 +209,8 @@ some_filled w s t live may a = go (waiting_mpdus w s t) refl (measured_waiting w
 
 -- ---- a pull
 
-prepared_if : (b : Bool) (x y : Prepared) → (b ≡ true → is_request x.content ≡ true) → (b ≡ false → 1 ≤ length (mpdus_of y.content)) → is_request (if b then x else y).content ≡ false → 1 ≤ length (mpdus_of (if b then x else y).content)
+prepared_if : (b : Bool) (x y : Prepared) → (b ≡ true → is_request x.content ≡ true) → (b ≡ false → 1 ≤ length (mpdus_of y.content))
+    → is_request (if b then x else y).content ≡ false → 1 ≤ length (mpdus_of (if b then x else y).content)
 prepared_if true x y h k data_is = absurd (cc (h refl, data_is))
 prepared_if false x y h k data_is = k refl
 
@@ -217,7 +218,8 @@ some_data : (s t : ℕ) (f : Aggregate) → IsSome f → 1 ≤ length (mpdus_of 
 unfolding prepared_data
 some_data s t f h = h
 
-some_prepared : (w : World) (s t : ℕ) → is_live w s ≡ true → can_send w s t ≡ true → IsApt w → is_request (prepared_exchange w s t).content ≡ false → 1 ≤ length (mpdus_of (prepared_exchange w s t).content)
+some_prepared : (w : World) (s t : ℕ) → is_live w s ≡ true → can_send w s t ≡ true → IsApt w
+    → is_request (prepared_exchange w s t).content ≡ false → 1 ≤ length (mpdus_of (prepared_exchange w s t).content)
 unfolding prepared_exchange
 some_prepared w s t live may a =
     prepared_if (request_due (session w s t)) _ _ (λ _. refl) (λ quiet. some_data s t (aggregate_of w s t) (some_filled w s t live (sends_data (request_due (session w s t)) (not (request_open w s t)) (has_waiting w s t || can_give w s t) may quiet) a))
@@ -236,7 +238,8 @@ AllSome w = Each HasSome w.opened
 some_opened : (w v : World) → v.opened ≡ w.opened → AllSome w → AllSome v
 some_opened w v e h = subst (Each HasSome) (sym e) h
 
-some_pulled_by : (o : Option ℕ) (w : World) (c : Class) → IfSome o (λ s. (is_live w s ≡ true) × (can_send_in w s c ≡ true)) → IsLawful w → IsApt w → AllSome w → AllSome (pull_outcome_for w c o).world
+some_pulled_by : (o : Option ℕ) (w : World) (c : Class) → IfSome o (λ s. (is_live w s ≡ true) × (can_send_in w s c ≡ true)) → IsLawful w
+    → IsApt w → AllSome w → AllSome (pull_outcome_for w c o).world
 unfolding pull_outcome_for
 some_pulled_by None w c ready l a h = h
 some_pulled_by (Some s) w c ready l a h =
@@ -258,7 +261,8 @@ some_pulled w c l a h =
 -- ---- the other calls
 
 -- exchanges replaced by one with the same content
-some_replaced : (w : World) (z : Exchange) (xs : List Exchange) → xs ≡ w.opened → HasSome z → AllSome w → Each HasSome (map (λ y. if y.number == z.number then z else y) xs)
+some_replaced : (w : World) (z : Exchange) (xs : List Exchange) → xs ≡ w.opened → HasSome z → AllSome w
+    → Each HasSome (map (λ y. if y.number == z.number then z else y) xs)
 some_replaced w z xs e a h = subst (λ (ys : List Exchange). Each HasSome (map (λ y. if y.number == z.number then z else y) ys)) (sym e) (each_map_if HasSome HasSome (λ y. y.number == z.number) z w.opened a (λ y _ k. k) h)
 
 some_answered : (w : World) (x : Exchange) → HasSome x → AllSome w → AllSome (answer_outcome w x).world
@@ -272,7 +276,8 @@ some_arrived w x n a h = some_replaced w (record x { arrived = with_member n x.a
 some_ended : (w : World) (x : Exchange) (heard : Bool) → AllSome w → AllSome (done_outcome w x heard).world
 some_ended w x heard h = subst (Each HasSome) (sym (opened_ended w x heard)) (filtered w x.number HasSome h)
 
-some_open : (o : Option Exchange) (w : World) (f : Exchange → Outcome) → IfSome o HasSome → ((x : Exchange) → HasSome x → AllSome (f x).world) → AllSome w → AllSome (outcome_where_open w o f).world
+some_open : (o : Option Exchange) (w : World) (f : Exchange → Outcome) → IfSome o HasSome
+    → ((x : Exchange) → HasSome x → AllSome (f x).world) → AllSome w → AllSome (outcome_where_open w o f).world
 unfolding outcome_where_open
 some_open None w f p k h = h
 some_open (Some x) w f p k h = k x p
@@ -335,7 +340,8 @@ apt w k i = record { agg = omega (arith, k.range.agg.0); cap = omega (arith, k.r
         go None h = omega arith
         go (Some x) h = h.mcs
 
-some_run : (h : List Entry) (l : List ℕ) (w : World) → AreAtMost greatest_body h → IsKept (books w) → Steady l w → IsStocked greatest_body w → AllSome w → AllSome (world_after w h)
+some_run : (h : List Entry) (l : List ℕ) (w : World) → AreAtMost greatest_body h → IsKept (books w) → Steady l w → IsStocked greatest_body w
+    → AllSome w → AllSome (world_after w h)
 unfolding world_after
 some_run [] l w short k y i a = a
 some_run (e ∷ es) l w short k y i a =
