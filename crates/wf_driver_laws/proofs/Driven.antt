@@ -2,7 +2,6 @@
 use Rattle.std.proofs.Common.{◌≡◌, refl, ap, sym, ◌∙◌, subst, ℕ, Bool, true, List, [], ◌∷◌, ◌++◌, Option, Some, None, is_none}
 use Rattle.wf_frame.specs.declared.settings.Config.{Config}
 use Rattle.wf_frame.specs.declared.notes.Ask.TheVariants.{Done}
-use Rattle.wf_frame.specs.declared.notes.Note.{Note}
 use Rattle.wf_frame.specs.declared.notes.Note.TheVariants.{Asked}
 use Rattle.wf_frame.specs.declared.notes.Refusal.{Refusal}
 use Rattle.wf_frame.specs.declared.notes.Refusal.TheVariants.{NoExchange}
@@ -13,7 +12,7 @@ use Rattle.wf_world.specs.Run.{Entry, by, world_after}
 use Rattle.wf_laws.proofs.Frames.Fates.{world_after-append}
 use Rattle.wf_driver_laws.specs.Driven.{Deed, Call, Heard, ending, entries_of, history_of, AreSilent, IsSilentDeed, DrivenLaw}
 use Rattle.wf_driver_laws.specs.Told.{told, tells}
-use Rattle.wf_driver_laws.specs.Unheard.{IsSilent, IsUnheard}
+use Rattle.wf_driver_laws.specs.Unheard.{IsUnheard}
 use Rattle.wf_driver_laws.proofs.Opened.{first_refuses, one_entry}
 use Rattle.wf_driver_laws.proofs.Silent.{silent_law, opening_unheard}
 use Rattle.wf_driver_laws.proofs.Told.{told_law}
