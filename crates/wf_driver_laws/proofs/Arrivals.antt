@@ -1,5 +1,5 @@
 -- Transmissions of one exchange arrive, one after another.
-use Rattle.std.proofs.Common.{◌≡◌, ◌≢◌, refl, ap, sym, ◌∙◌, subst, arith, ℕ, suc, ◌+◌, ◌<◌, ◌≤◌, ◌==◌, nat_le, Bool, true, false, if◌then◌else◌, ◌⊎◌, inl, inr, List, [], ◌∷◌, ◌++◌, length, find, Option, Some, None, is_some, is_none}
+use Rattle.std.proofs.Common.{◌≡◌, ◌≢◌, refl, ap, sym, ◌∙◌, subst, arith, ℕ, suc, ◌<◌, ◌≤◌, ◌==◌, nat_le, true, false, ◌⊎◌, inl, inr, List, [], ◌∷◌, ◌++◌, length, find, Option, Some, None, is_some, is_none}
 use Rattle.wf_frame.specs.declared.notes.Ask.TheVariants.{Arrive, Answer}
 use Rattle.wf_frame.specs.declared.notes.Note.TheVariants.{Asked}
 use Rattle.wf_rules.specs.Table.{at, has, with_member}
@@ -11,13 +11,13 @@ use Rattle.wf_world.specs.Exchanges.{transmissions, no_mpdu, after_arrival}
 use Rattle.wf_world.specs.Refusals.{refusal, exchange_has}
 use Rattle.wf_world.specs.Step.{arrive_outcome, answer_outcome, outcome_where_open, outcome_of, station_of, step}
 use Rattle.wf_world.specs.Run.{Entry, by, world_after}
-use Rattle.wf_laws.proofs.Windows.Sides.{Side, Same, side, side_of, each_side_on, side_on, on_live, on_opened, same_listed}
+use Rattle.wf_laws.proofs.Windows.Sides.{Side, Same, each_side_on, side_on, on_live, on_opened, same_listed}
 use Rattle.wf_laws.proofs.Windows.Opened.{Each}
 use Rattle.wf_laws.proofs.Frames.Fates.{world_after-append}
 use Rattle.wf_laws.proofs.Windows.Agreed.{each_map_if, with_member_some}
 use Rattle.wf_driver_laws.specs.Told.{arrivals, answer_to, AreAnswered}
 use Rattle.wf_driver_laws.specs.Unheard.{unmarked, IsUnmarked}
-use Rattle.wf_driver_laws.proofs.Opened.{found_replaced, found_number, none_refuses, step_done, with_replaced}
+use Rattle.wf_driver_laws.proofs.Opened.{found_replaced, found_number, none_refuses, step_done, one_entry, with_replaced}
 
 -- n is the number of transmission i
 abbrev pub IsNumber : Content → ℕ → ℕ → Type 0
@@ -100,10 +100,18 @@ after_same e x z G v u t h a = record {
 -- may arrive: there is no answer, and it has not arrived
 not_refused : (v : World) (e : ℕ) (x : Exchange) (k : ℕ) → exchange v e ≡ Some x → x.answer ≡ None → has x.arrived k ≡ false → k < transmissions x.content → refusal v (Asked (Arrive e k)) ≡ None
 not_refused v e x k found open_still fresh within = none_refuses _ (
-  ap is_none found, (
-    ap (λ (o : Option Exchange). exchange_has o (λ y. nat_le (transmissions y.content) k)) found ∙ not_le (transmissions x.content) k within, (
-      ap (λ (o : Option Exchange). exchange_has o (λ y. is_some y.answer)) found ∙ ap is_some open_still, (
-        ap (λ (o : Option Exchange). exchange_has o (λ y. has y.arrived k)) found ∙ fresh, tt))))
+  ap is_none found,
+  (
+    ap (λ (o : Option Exchange). exchange_has o (λ y. nat_le (transmissions y.content) k)) found ∙ not_le (transmissions x.content) k within,
+    (
+      ap (λ (o : Option Exchange). exchange_has o (λ y. is_some y.answer)) found ∙ ap is_some open_still,
+      (
+        ap (λ (o : Option Exchange). exchange_has o (λ y. has y.arrived k)) found ∙ fresh,
+        tt,
+      ),
+    ),
+  ),
+)
   where
     not_le : (a b : ℕ) → b < a → nat_le a b ≡ false
     not_le a b h = grind arith
@@ -217,9 +225,15 @@ answered_world v e x found =
 
 pub may_answer : (v : World) (e : ℕ) (x : Exchange) → exchange v e ≡ Some x → x.answer ≡ None → (length x.arrived == 0) ≡ false → refusal v (Asked (Answer e)) ≡ None
 may_answer v e x found none marked = none_refuses _ (
-  ap is_none found, (
-    ap (λ (o : Option Exchange). exchange_has o (λ y. is_some y.answer)) found ∙ ap is_some none, (
-      ap (λ (o : Option Exchange). exchange_has o (λ y. length y.arrived == 0)) found ∙ marked, tt)))
+  ap is_none found,
+  (
+    ap (λ (o : Option Exchange). exchange_has o (λ y. is_some y.answer)) found ∙ ap is_some none,
+    (
+      ap (λ (o : Option Exchange). exchange_has o (λ y. length y.arrived == 0)) found ∙ marked,
+      tt,
+    ),
+  ),
+)
 
 pub answered_step : (v : World) (e : ℕ) (x : Exchange) → exchange v e ≡ Some x → refusal v (Asked (Answer e)) ≡ None → IsAfter e x (record x { answer = Some (score (receiver v x.station x.tid)) }) (λ n. ⊥) v (step v (Asked (Answer e))).world
 unfolding outcome_of outcome_where_open
@@ -243,10 +257,6 @@ pub record AllTold (caller e : ℕ) (x : Exchange) (is : List ℕ) (w : World) :
   pub answered : AreAnswered w (arrivals caller e is ++ answer_to caller e is)
   pub after : IsAfter e x last (IsAmong x.content is) w (world_after w (arrivals caller e is ++ answer_to caller e is))
   pub kept : last.answer ≡ Some answer
-
-one_entry : (w : World) (entry : Entry) → world_after w (entry ∷ []) ≡ (step w entry.1).world
-unfolding world_after
-one_entry w entry = refl
 
 pub all_told : (i : ℕ) (is : List ℕ) (caller e : ℕ) (w : World) (x : Exchange) → exchange w e ≡ Some x → IsUnmarked x → AreIndices 0 (transmissions x.content) (i ∷ is) → AllTold caller e x (i ∷ is) w
 all_told i is caller e w x found un r =

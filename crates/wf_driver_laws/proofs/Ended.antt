@@ -1,14 +1,14 @@
 -- Worlds of runs, and what the end of an exchange leaves of receivers and sessions.
-use Rattle.std.proofs.Common.{◌≡◌, ◌≢◌, refl, ap, sym, ◌∙◌, subst, arith, ℕ, ◌<◌, ◌≤◌, ◌==◌, Bool, true, false, not, ◌&&◌, List, [], ◌∷◌, length, take, Option, Some, None, IfSome, is_some, is_none}
+use Rattle.std.proofs.Common.{◌≡◌, refl, ap, sym, ◌∙◌, subst, arith, ℕ, ◌<◌, ◌≤◌, ◌==◌, Bool, true, false, not, List, length, Option, Some, None, is_some, is_none}
 use Rattle.std.proofs.Math.Seq.{take-length}
 use Rattle.wf_frame.specs.declared.settings.Config.{Config}
 use Rattle.wf_frame.specs.declared.notes.Ask.TheVariants.{Done}
 use Rattle.wf_frame.specs.declared.notes.Note.{Note}
 use Rattle.wf_frame.specs.declared.notes.Note.TheVariants.{Asked}
 use Rattle.wf_rules.specs.Table.{at, has}
-use Rattle.wf_rules.specs.Receiver.{Score, Receiver}
-use Rattle.wf_rules.specs.Session.{Session, Slot, State, slot, next_number}
-use Rattle.wf_world.specs.World.{World, Station, Exchange, no_tid, no_station, session, receiver, is_live, exchange, without_exchange, opening}
+use Rattle.wf_rules.specs.Receiver.{Score}
+use Rattle.wf_rules.specs.Session.{Session, State, slot, next_number}
+use Rattle.wf_world.specs.World.{World, Station, Exchange, session, receiver, is_live, exchange, without_exchange, opening}
 use Rattle.wf_world.specs.CanSend.{with_listings_of}
 use Rattle.wf_world.specs.Refusals.{refusal, exchange_has}
 use Rattle.wf_world.specs.Step.{done_outcome, outcome_where_open, outcome_of, station_of, step}

@@ -1,5 +1,5 @@
 -- The indices of the numbers that a BlockAck shows.
-use Rattle.std.proofs.Common.{◌≡◌, refl, ap, subst, sym, ◌∙◌, arith, ℕ, zero, suc, ◌+◌, ◌<◌, ◌≤◌, Bool, true, false, inl, inr, List, [], ◌∷◌, length}
+use Rattle.std.proofs.Common.{◌≡◌, ap, subst, sym, ◌∙◌, arith, ℕ, zero, suc, ◌+◌, ◌<◌, ◌≤◌, Bool, true, inl, inr, List, [], ◌∷◌, length}
 use Rattle.wf_rules.specs.Table.{at}
 use Rattle.wf_rule_laws.proofs.Lemmas.Numbers.{on_if}
 use Rattle.wf_world.specs.World.{Mpdu, Content, Frames, Request}

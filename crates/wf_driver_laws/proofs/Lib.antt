@@ -1,6 +1,6 @@
--- The proofs of the laws. Opened: open exchanges, and calls that are not refused. Arrivals: what the calls that a BlockAck tells of leave. Indices: which transmissions
+-- The proofs of the laws. Opened: open exchanges, and single calls. Arrivals: what the calls that a BlockAck tells of leave. Indices: which transmissions
 -- those are. Ended: what the end of an exchange leaves. Told: the law of what is told. Silent: calls that tell of no receiver. Transmit: what a transmit path keeps.
--- Runs: the calls that are told go on a history.
+-- Runs: the calls that are told go on a history. Driven: whole runs of a driver; Witnesses: one of them, computed.
 pub mod Opened
 pub mod Arrivals
 pub mod Indices
@@ -9,3 +9,5 @@ pub mod Told
 pub mod Silent
 pub mod Transmit
 pub mod Runs
+pub mod Driven
+pub mod Witnesses

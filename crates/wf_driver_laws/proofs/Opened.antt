@@ -1,12 +1,13 @@
--- Lists of open exchanges, and calls that are not refused.
-use Rattle.std.proofs.Common.{◌≡◌, ◌≢◌, refl, ap, sym, ◌∙◌, subst, arith, ℕ, ◌==◌, Bool, true, false, if◌then◌else◌, List, [], ◌∷◌, map, find, Option, Some, None, IfSome}
+-- Lists of open exchanges, and single calls.
+use Rattle.std.proofs.Common.{◌≡◌, refl, ap, sym, ◌∙◌, subst, ℕ, ◌==◌, Bool, true, if◌then◌else◌, List, [], ◌∷◌, map, find, Option, Some, None, IfSome}
 use Rattle.wf_frame.specs.declared.notes.Note.{Note}
 use Rattle.wf_frame.specs.declared.notes.Refusal.{Refusal}
 use Rattle.wf_rule_laws.proofs.Lemmas.Numbers.{on_bool, eq_yes, yes_eq}
 use Rattle.wf_world.specs.World.{World, Exchange, exchange}
 use Rattle.wf_world.specs.CanSend.{with_listings_of}
-use Rattle.wf_world.specs.Refusals.{refusal, refusals, first_refusal}
+use Rattle.wf_world.specs.Refusals.{refusal, first_refusal}
 use Rattle.wf_world.specs.Step.{outcome_of, concerned_station, judged_outcome, step}
+use Rattle.wf_world.specs.Run.{Entry, world_after}
 use Rattle.wf_laws.specs.Windows.{EachOpen}
 use Rattle.wf_laws.proofs.Windows.Opened.{Each, each_find, NoRow}
 
@@ -49,13 +50,21 @@ of_each P (x ∷ xs) h = (h.0, of_each P xs h.1)
 pub found_each : (P : Exchange → Type 0) (w : World) (e : ℕ) (x : Exchange) → exchange w e ≡ Some x → EachOpen P w.opened → P x
 found_each P w e x h all = some_at P (exchange w e) x h (each_find P P (λ y. y.number == e) w.opened (λ y _ p. p) (to_each P w.opened all))
 
--- ---- a call that is not refused
+-- ---- calls, and whether they are refused
 
 pub none_refuses : (rows : List (Bool × Refusal)) → NoRow rows → first_refusal rows ≡ None
 unfolding first_refusal
 none_refuses [] h = refl
 none_refuses (row ∷ rows) h = ap (λ (b : Bool). if b then Some row.1 else first_refusal rows) h.0 ∙ none_refuses rows h.1
 
+pub first_refuses : (row : Bool × Refusal) (rows : List (Bool × Refusal)) → row.0 ≡ true → first_refusal (row ∷ rows) ≡ Some row.1
+unfolding first_refusal
+first_refuses row rows h = ap (λ (b : Bool). if b then Some row.1 else first_refusal rows) h
+
 pub step_done : (w : World) (note : Note) → refusal w note ≡ None → (step w note).world ≡ with_listings_of (outcome_of w note).world (concerned_station w note)
 unfolding step judged_outcome
 step_done w note h = ap (λ (r : Option Refusal). (judged_outcome w note r).world) h
+
+pub one_entry : (w : World) (entry : Entry) → world_after w (entry ∷ []) ≡ (step w entry.1).world
+unfolding world_after
+one_entry w entry = refl

@@ -1,8 +1,11 @@
 -- The calls that are told go on a history.
-use Rattle.std.proofs.Common.{◌≡◌, ℕ, Bool, List, [], ◌∷◌, ◌++◌}
+use Rattle.std.proofs.Common.{ℕ, Bool, List, [], ◌∷◌, ◌++◌}
 use Rattle.wf_frame.specs.declared.settings.Config.{Config}
-use Rattle.wf_world.specs.World.{opening}
-use Rattle.wf_world.specs.Run.{Entry}
+use Rattle.wf_frame.specs.declared.notes.Ask.TheVariants.{Arrive, Answer}
+use Rattle.wf_frame.specs.declared.notes.Note.TheVariants.{Asked}
+use Rattle.wf_world.specs.World.{World, Content, opening}
+use Rattle.wf_world.specs.Step.{step}
+use Rattle.wf_world.specs.Run.{Entry, world_after}
 use Rattle.wf_laws.specs.Queues.{HaveLengths, AreAtMost}
 use Rattle.wf_laws.proofs.Frames.Fates.{world_after-append}
 use Rattle.wf_driver_laws.specs.Told.{arrivals, answer_to, indices_told, told, RunLaw}
@@ -33,3 +36,14 @@ run_law config h caller e shown content =
       lengths = λ a. lengths_append h (told caller e shown content) a (told_lengths is is caller e);
       most = λ n a. most_append n h (told caller e shown content) a (told_most n is is caller e);
     }
+
+-- What an Arrive keeps, and an Answer, all calls that are told keep. For crates above.
+module _ (P : World → Type 0) (arrive : (w : World) (e i : ℕ) → P w → P (step w (Asked (Arrive e i))).world) (answer : (w : World) (e : ℕ) → P w → P (step w (Asked (Answer e))).world) where
+  all_kept : (is js : List ℕ) (caller e : ℕ) (w : World) → P w → P (world_after w (arrivals caller e is ++ answer_to caller e js))
+  unfolding world_after
+  all_kept [] [] caller e w h = h
+  all_kept [] (j ∷ js) caller e w h = answer w e h
+  all_kept (i ∷ is) js caller e w h = all_kept is js caller e (step w (Asked (Arrive e i))).world (arrive w e i h)
+
+  pub told_keeps : (w : World) (caller e : ℕ) (shown : ℕ → Bool) (content : Content) → P w → P (world_after w (told caller e shown content))
+  told_keeps w caller e shown content h = all_kept (indices_told shown content) (indices_told shown content) caller e w h

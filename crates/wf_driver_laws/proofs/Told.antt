@@ -1,12 +1,12 @@
 -- The law of what a BlockAck tells, answered.
-use Rattle.std.proofs.Common.{◌≡◌, ◌≢◌, refl, ap, sym, ◌∙◌, subst, arith, ℕ, suc, ◌+◌, ◌*◌, ◌<◌, ◌≤◌, nat_lt, Bool, true, false, ◌⊎◌, ◌↔◌, inl, inr, List, [], ◌∷◌, ◌++◌, length, Option, Some, None, IfSome}
+use Rattle.std.proofs.Common.{◌≡◌, refl, ap, sym, ◌∙◌, subst, arith, ℕ, suc, ◌+◌, ◌*◌, ◌<◌, ◌≤◌, nat_lt, Bool, true, false, ◌⊎◌, ◌↔◌, inl, inr, List, [], ◌∷◌, ◌++◌, length, Option, Some, None, IfSome}
 use Rattle.wf_frame.specs.declared.settings.Config.{Config}
 use Rattle.wf_frame.specs.declared.notes.Ask.TheVariants.{Done}
 use Rattle.wf_frame.specs.declared.notes.Note.{Note}
 use Rattle.wf_frame.specs.declared.notes.Note.TheVariants.{Asked}
 use Rattle.wf_rules.specs.Table.{has}
 use Rattle.wf_rules.specs.Receiver.{Score, shows}
-use Rattle.wf_rules.specs.Session.{Session, State, slot, next_number}
+use Rattle.wf_rules.specs.Session.{Session, State, slot}
 use Rattle.wf_rule_laws.proofs.Lemmas.Numbers.{same_bool, yes_lt}
 use Rattle.wf_world.specs.World.{World, Exchange, Mpdu, session, receiver, is_live, exchange, opening}
 use Rattle.wf_world.specs.Exchanges.{transmissions, mpdus_of}
@@ -20,7 +20,7 @@ use Rattle.wf_laws.proofs.Windows.Agreement.{below_next}
 use Rattle.wf_laws.proofs.Windows.Opened.{Each, each_map}
 use Rattle.wf_laws.proofs.Frames.Fates.{world_after-append}
 use Rattle.wf_driver_laws.specs.Told.{arrivals, answer_to, indices_told, told, tells, AreAnswered, KeepsAnswer, IsTold, ToldLaw}
-use Rattle.wf_driver_laws.specs.Unheard.{unmarked, IsUnmarked, HasAcked, IsUnheard}
+use Rattle.wf_driver_laws.specs.Unheard.{IsUnmarked, HasAcked, IsUnheard}
 use Rattle.wf_driver_laws.proofs.Opened.{to_each, of_each, found_each, found_number, some_at}
 use Rattle.wf_driver_laws.proofs.Arrivals.{IsAmong, AreIndices, IsOther, IsAfter, AllTold, all_told}
 use Rattle.wf_driver_laws.proofs.Indices.{both_mpdu, each_mpdu, told_rise, told_shown, shown_told, among_each}

@@ -1,5 +1,5 @@
 -- What a transmit path keeps stays while it is told of a receiver.
-use Rattle.std.proofs.Common.{◌≡◌, ◌≢◌, refl, ap, ap₂, sym, ◌∙◌, subst, arith, ℕ, suc, ◌<◌, ◌≤◌, ◌==◌, nat_lt, Bool, true, false, not, ◌&&◌, ◌||◌, if◌then◌else◌, List, [], ◌∷◌, ◌++◌, length, map, find, sum_by, Option, Some, None, is_some, unwrap_or, option_map}
+use Rattle.std.proofs.Common.{◌≡◌, refl, ap, ap₂, sym, ◌∙◌, subst, arith, ℕ, suc, ◌<◌, ◌==◌, nat_lt, Bool, true, false, not, ◌&&◌, ◌||◌, if◌then◌else◌, List, [], ◌∷◌, ◌++◌, length, map, find, sum_by, Option, Some, None, is_some, unwrap_or, option_map}
 use Rattle.std.specs.List.{list_any}
 use Rattle.std.proofs.Math.Seq.{take-length}
 use Rattle.wf_frame.specs.declared.settings.Config.{Config}
@@ -11,17 +11,17 @@ use Rattle.wf_frame.specs.declared.notes.Refusal.{Refusal}
 use Rattle.wf_frame.specs.Classes.{all_classes, lower_tid, upper_tid, class_number}
 use Rattle.wf_frame.specs.Settings.{IsInRange}
 use Rattle.wf_rules.specs.Table.{at, with_member}
-use Rattle.wf_rules.specs.Receiver.{Score, score}
+use Rattle.wf_rules.specs.Receiver.{score}
 use Rattle.wf_rules.specs.Rotation.{Rotation, has_key, in_order, no_keys, with_new_key}
 use Rattle.wf_rules.specs.Session.{Session, request_due, has_room, waiting_numbers}
 use Rattle.wf_rule_laws.proofs.Lemmas.Numbers.{on_bool, both, not_eq, eq_yes}
 use Rattle.wf_rule_laws.proofs.Lemmas.Tables.{each_put}
-use Rattle.wf_world.specs.World.{World, Station, Tid, Queue, Exchange, Content, no_tid, no_station, new_queue, session, receiver, tid_of, station, rotation, is_live, exchange, with_station, on_station, on_tid, on_receiver, with_rotation, with_exchange, opening}
+use Rattle.wf_world.specs.World.{World, Station, Tid, Queue, Exchange, no_tid, no_station, new_queue, session, receiver, tid_of, station, rotation, is_live, exchange, with_station, on_station, on_tid, on_receiver, with_rotation, with_exchange, opening}
 use Rattle.wf_world.specs.CanSend.{is_request, request_open, can_send, can_send_in, has_credit, may_receive, is_ready, with_listing_in, with_listings_in, with_listings_of}
 use Rattle.wf_world.specs.Exchanges.{after_arrival}
 use Rattle.wf_world.specs.Refusals.{refusal}
 use Rattle.wf_world.specs.Step.{Outcome, arrive_outcome, answer_outcome, outcome_where_open, outcome_of, station_of, after_refusal, judged_outcome, step}
-use Rattle.wf_world.specs.Run.{Entry, by, world_after}
+use Rattle.wf_world.specs.Run.{Entry, world_after}
 use Rattle.wf_laws.specs.Windows.{OpenRises}
 use Rattle.wf_laws.proofs.Deficits.Law.{deficits}
 use Rattle.wf_laws.proofs.Frames.Fates.{world_after-append}

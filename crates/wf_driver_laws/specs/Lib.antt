@@ -1,3 +1,4 @@
 pub mod Unheard
 pub mod Told
 pub mod Transmit
+pub mod Driven

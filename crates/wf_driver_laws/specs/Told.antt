@@ -1,6 +1,6 @@
 -- What a BlockAck that a driver hands in tells of an exchange, as calls of the machine: just before the exchange's Done each of its numbers that the BlockAck
 -- shows arrived, no other did, and the receiver answered (IEEE 802.11-2012, 9.21.7.7).
-use Rattle.std.specs.Prelude.{◌≡◌, ℕ, suc, nat_lt, Bool, true, List, [], ◌∷◌, ◌++◌, Option, None, Some, if◌then◌else◌, length, map}
+use Rattle.std.specs.Prelude.{◌≡◌, ℕ, suc, nat_lt, Bool, true, List, [], ◌∷◌, ◌++◌, None, Some, if◌then◌else◌, length, map}
 use Rattle.wf_frame.specs.declared.settings.Config.{Config}
 use Rattle.wf_frame.specs.declared.notes.Ask.TheVariants.{Arrive, Answer, Done}
 use Rattle.wf_frame.specs.declared.notes.Note.TheVariants.{Asked}

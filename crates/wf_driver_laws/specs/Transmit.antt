@@ -1,5 +1,5 @@
 -- What a transmit path keeps of a world: all but what the receivers have, and the marks of the open exchanges.
-use Rattle.std.specs.Prelude.{◌≡◌, ℕ, Bool, List, [], Option, None, option_map, map}
+use Rattle.std.specs.Prelude.{◌≡◌, ℕ, Bool, List, [], None, option_map, map}
 use Rattle.wf_frame.specs.declared.settings.Config.{Config}
 use Rattle.wf_frame.specs.declared.notes.Ask.TheVariants.{Arrive, Answer}
 use Rattle.wf_frame.specs.declared.notes.Note.TheVariants.{Asked}

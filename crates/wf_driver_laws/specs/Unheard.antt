@@ -1,6 +1,6 @@
 -- Worlds in which no receiver has anything of which its sender does not know. A driver that tells of a receiver by the bits of a BlockAck alone, when an
 -- exchange ends, leaves the machine in such worlds.
-use Rattle.std.specs.Prelude.{◌≡◌, ℕ, ◌<◌, ◌≤◌, true, List, [], Option, None}
+use Rattle.std.specs.Prelude.{◌≡◌, ℕ, ◌<◌, ◌≤◌, true, List, [], None}
 use Rattle.wf_frame.specs.declared.settings.Config.{Config}
 use Rattle.wf_frame.specs.declared.notes.Ask.TheVariants.{Arrive, Answer, Done}
 use Rattle.wf_frame.specs.declared.notes.Note.{Note}

@@ -5,11 +5,12 @@
 //! has anything of which its sender does not know. Each law here is a function without a body that names it in its contract.
 #![tactic(auto)]
 
-ghost use Rattle.std.specs.Prelude.{List};
+ghost use Rattle.std.specs.Prelude.{ℕ, List};
 ghost use Rattle.wf_frame.specs.declared.settings.Config.{Config};
 ghost use Rattle.wf_frame.specs.Settings.{IsInRange};
 ghost use Rattle.wf_world.specs.Run.{Entry};
 ghost use Rattle.wf_world.specs.World.{opening};
+ghost use Rattle.wf_driver_laws.specs.Driven.{Deed, DrivenLaw};
 ghost use Rattle.wf_driver_laws.specs.Told.{RunLaw, ToldLaw};
 ghost use Rattle.wf_driver_laws.specs.Transmit.{TransmitLaw};
 ghost use Rattle.wf_driver_laws.specs.Unheard.{IsUnheard, SilentLaw};
@@ -39,4 +40,10 @@ pub fn run_law()
 /// An Arrive and an Answer, and so all calls that a BlockAck tells of, change nothing that a transmit path keeps.
 pub fn transmit_law()
     ensures transmit { (config : Config) (history : List Entry) → IsInRange config → TransmitLaw config history }
+{}
+
+/// Whatever a driver does, in whatever order, some history of the machine has its calls, and just before each Done the arrivals
+/// and the answer that its BlockAck tells of; and that history leaves the machine in an unheard world.
+pub fn driven_law()
+    ensures driven { (config : Config) (deeds : List (ℕ × Deed)) → DrivenLaw config deeds }
 {}
