@@ -1,0 +1,6 @@
+pub mod Octets
+pub mod Lines
+pub mod Answers
+pub mod Pieces
+pub mod Laws
+pub mod Outcome
