@@ -79,11 +79,11 @@ module _ (ws vs : List WindowValue) (live_before live_after : ℕ → Bool) (bef
   stands_other x y other live low =
       let P : WindowValue → Type 0 = λ u. StandsFor u (after x y) bodies in
       let Q : Session → Type 0 = λ z. StandsFor (window_of ws x y) z bodies in
-      subst P (sym (others.windows x y other low)) (subst Q (sym (others.sessions x y other)) (all.stands x y (sym (others.live x other) ∙ live) low))
+      subst P (sym (others.windows_same x y other low)) (subst Q (sym (others.sessions x y other)) (all.stands x y (sym (others.live x other) ∙ live) low))
 
   empty_other : (x y : ℕ) → x ≢ s → live_after x ≡ false → y < 8 → (window_of vs x y).places ≡ []
   empty_other x y other dead low =
-      ap (λ (u : WindowValue). u.places) (others.windows x y other low) ∙ all.empty x y (sym (others.live x other) ∙ dead) low
+      ap (λ (u : WindowValue). u.places) (others.windows_same x y other low) ∙ all.empty x y (sym (others.live x other) ∙ dead) low
 
   pub station_joins : live_after s ≡ true → ((t : ℕ) → t < 8 → StandsFor (window_of vs s t) (after s t) bodies) → AllStand vs live_after after bodies
   station_joins live stands =

@@ -8,12 +8,12 @@ use Rattle.wf_rule_laws.proofs.Lemmas.Tables.{at_put_other}
 use Rattle.wf_origwin.specs.Window.{WindowValue, StandsFor, IsNumber, settled, is_flying, is_held}
 use Rattle.wf_origwin.proofs.Numbers.{open_number}
 use Rattle.wf_origwin.proofs.Callers.{state_is, attempts_is}
-use Rattle.wf_windows.specs.Ending.{IsFlyingIn, AreFlying, all_settled, HasLeft, IsSettledNext}
+use Rattle.wf_windows.specs.Ending.{Ending, IsFlyingIn, AreFlying, all_settled, HasLeft, IsSettledNext}
 
 -- the first number, and those behind it
 
-first_flies : (s : Session) (exchange limit n : ℕ) (ns : List ℕ) → AreFlying s exchange limit (n ∷ ns) → IsFlyingIn s exchange limit n
-first_flies s exchange limit n ns flying =
+first_flies : (s : Session) (ending : Ending) (n : ℕ) (ns : List ℕ) → AreFlying s ending (n ∷ ns) → IsFlyingIn s ending n
+first_flies s ending n ns flying =
     let same : (n == n) ≡ true = grind (arith, nat_tests) in
     flying.each n (ap (λ (b : Bool). b || has ns n) same)
 
@@ -28,12 +28,12 @@ slot_other s n m f a b other = at_put_other no_slot s.slots (n - s.first) (m - s
 
 -- a number is settled, and those behind it still fly
 
-others_fly : (s : Session) (exchange limit n : ℕ) (ns : List ℕ) (f : Slot → Slot) → AreFlying s exchange limit (n ∷ ns) → AreFlying (on_slot n f s) exchange limit ns
-others_fly s exchange limit n ns f flying =
+others_fly : (s : Session) (ending : Ending) (n : ℕ) (ns : List ℕ) (f : Slot → Slot) → AreFlying s ending (n ∷ ns) → AreFlying (on_slot n f s) ending ns
+others_fly s ending n ns f flying =
     record {
       each = λ m h.
           let there = flying.each m (is_behind n m ns h) in
-          let same : slot (on_slot n f s) m ≡ slot s m = slot_other s n m f (first_flies s exchange limit n ns flying).from_first there.from_first (is_other n m ns flying.once.0 h) in
+          let same : slot (on_slot n f s) m ≡ slot s m = slot_other s n m f (first_flies s ending n ns flying).from_first there.from_first (is_other n m ns flying.once.0 h) in
           record {
             from_first = there.from_first;
             flies = ap (λ (x : Slot). x.state) same ∙ there.flies;
@@ -42,38 +42,38 @@ others_fly s exchange limit n ns f flying =
       once = flying.once.1;
     }
 
-still_fly : (acked : Bool) (s : Session) (exchange limit n : ℕ) (ns : List ℕ) → AreFlying s exchange limit (n ∷ ns) → AreFlying (settled acked limit n s) exchange limit ns
-still_fly true s exchange limit n ns flying = others_fly s exchange limit n ns (λ x. record x { state = State.Acked }) flying
-still_fly false s exchange limit n ns flying = others_fly s exchange limit n ns (slot_after_miss limit) flying
+still_fly : (acked : Bool) (s : Session) (ending : Ending) (n : ℕ) (ns : List ℕ) → AreFlying s ending (n ∷ ns) → AreFlying (settled acked ending.limit n s) ending ns
+still_fly true s ending n ns flying = others_fly s ending n ns (λ x. record x { state = State.Acked }) flying
+still_fly false s ending n ns flying = others_fly s ending n ns (slot_after_miss ending.limit) flying
 
 -- the loop
 
-pub ending_begins : (w : WindowValue) (s : Session) (bodies : ℕ → FrameValue) (exchange limit : ℕ) (acked : ℕ → Bool) (numbers : List ℕ) → StandsFor w s bodies → AreFlying s exchange limit numbers → HasLeft w bodies exchange limit acked numbers (all_settled acked limit numbers s)
-ending_begins w s bodies exchange limit acked numbers stands flying = record { now = s; stands = stands; flying = flying; leads = refl }
+pub ending_begins : (w : WindowValue) (s : Session) (bodies : ℕ → FrameValue) (ending : Ending) (numbers : List ℕ) → StandsFor w s bodies → AreFlying s ending numbers → HasLeft w bodies ending numbers (all_settled ending numbers s)
+ending_begins w s bodies ending numbers stands flying = record { now = s; stands = stands; flying = flying; leads = refl }
 
-module _ (w : WindowValue) (bodies : ℕ → FrameValue) (exchange limit : ℕ) (acked : ℕ → Bool) (n : ℕ) (ns : List ℕ) (after : Session) (left : HasLeft w bodies exchange limit acked (n ∷ ns) after) where
+module _ (w : WindowValue) (bodies : ℕ → FrameValue) (ending : Ending) (n : ℕ) (ns : List ℕ) (after : Session) (left : HasLeft w bodies ending (n ∷ ns) after) where
   pub ending_number : (seq : ℕ) → seq ≡ n % 4096 → IsNumber left.now n seq
   ending_number seq on_air =
-      let f = first_flies left.now exchange limit n ns left.flying in
+      let f = first_flies left.now ending n ns left.flying in
       open_number left.now n seq f.from_first (ap is_settled f.flies) on_air
 
-  pub ending_flies : (seq : ℕ) → seq ≡ n % 4096 → IsSettledNext w seq limit
+  pub ending_flies : (seq : ℕ) → seq ≡ n % 4096 → IsSettledNext w seq ending.limit
   ending_flies seq on_air =
-      let f = first_flies left.now exchange limit n ns left.flying in
+      let f = first_flies left.now ending n ns left.flying in
       let number = ending_number seq on_air in
       record {
         flies = ap is_flying (state_is w left.now bodies left.stands n seq number ∙ f.flies);
         below = omega (arith, attempts_is w left.now bodies left.stands n seq number (ap is_held f.flies), f.below);
       }
 
-  pub ending_next : (v : WindowValue) → StandsFor v (settled (acked n) limit n left.now) bodies → HasLeft v bodies exchange limit acked ns after
+  pub ending_next : (v : WindowValue) → StandsFor v (settled (ending.acked n) ending.limit n left.now) bodies → HasLeft v bodies ending ns after
   ending_next v stands =
       record {
-        now = settled (acked n) limit n left.now;
+        now = settled (ending.acked n) ending.limit n left.now;
         stands = stands;
-        flying = still_fly (acked n) left.now exchange limit n ns left.flying;
+        flying = still_fly (ending.acked n) left.now ending n ns left.flying;
         leads = left.leads;
       }
 
-pub ending_ends : (w : WindowValue) (bodies : ℕ → FrameValue) (exchange limit : ℕ) (acked : ℕ → Bool) (after : Session) → HasLeft w bodies exchange limit acked [] after → StandsFor w after bodies
-ending_ends w bodies exchange limit acked after left = let P : Session → Type 0 = λ z. StandsFor w z bodies in subst P left.leads left.stands
+pub ending_ends : (w : WindowValue) (bodies : ℕ → FrameValue) (ending : Ending) (after : Session) → HasLeft w bodies ending [] after → StandsFor w after bodies
+ending_ends w bodies ending after left = let P : Session → Type 0 = λ z. StandsFor w z bodies in subst P left.leads left.stands

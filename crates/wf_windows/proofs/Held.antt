@@ -1,7 +1,7 @@
 -- Only the frames of ids that a session holds matter.
-use Rattle.std.proofs.Common.{◌≡◌, ℕ, suc, ◌+◌, ◌-◌, ◌<◌, ◌≤◌, Bool, true, Option, Some, List, [], ◌∷◌, length, get_or, map, refl, ap, sym, ◌∙◌, arith}
+use Rattle.std.proofs.Common.{◌≡◌, ℕ, suc, ◌+◌, ◌-◌, ◌<◌, Bool, true, Option, Some, List, [], ◌∷◌, length, get_or, map, refl, ap, sym, ◌∙◌, arith}
 use Rattle.wf_frame.specs.Frames.{FrameValue}
-use Rattle.wf_rules.specs.Session.{Session, Slot, State, no_slot, slot, start_of, next_number}
+use Rattle.wf_rules.specs.Session.{Session, Slot, State, no_slot, slot, start_of}
 use Rattle.wf_origwin.specs.declared.place.Place.{Place}
 use Rattle.wf_origwin.specs.declared.place.Place.TheVariants.{Waiting as Waits, Flying as Flies}
 use Rattle.wf_origwin.specs.Places.{place_of, place_as, slot_state, front}
@@ -10,7 +10,7 @@ use Rattle.wf_origwin.proofs.Fronts.{at_is, at_rest}
 use Rattle.wf_origwin.proofs.Laws.{start_of_is, next_is}
 use Rattle.wf_origwin.proofs.Callers.{other_bodies}
 use Rattle.wf_windows.specs.Windows.{window_of}
-use Rattle.wf_windows.specs.Many.{AllStand}
+use Rattle.wf_windows.specs.Many.{AllStand, HasSameFrames}
 
 module _ (bodies others : ℕ → FrameValue) where
   same_place : (x : Slot) → (is_held x.state ≡ true → others x.id ≡ bodies x.id) → place_of bodies x ≡ place_of others x
@@ -27,20 +27,17 @@ module _ (bodies others : ℕ → FrameValue) where
       ap (λ (p : Option Place). p ∷ map (place_of bodies) xs) (same_place x (h 0 (omega arith)))
       ∙ ap (λ (ps : List (Option Place)). place_of others x ∷ ps) (same_places xs (λ k below. h (suc k) (omega (arith, below))))
 
-  pub held_stand : (w : WindowValue) (s : Session) → StandsFor w s bodies → ((n : ℕ) → start_of s ≤ n → n < next_number s → is_held (slot s n).state ≡ true → others (slot s n).id ≡ bodies (slot s n).id) → StandsFor w s others
-  held_stand w s stands h =
+  pub held_stand : (w : WindowValue) (s : Session) → StandsFor w s bodies → HasSameFrames s bodies others → StandsFor w s others
+  held_stand w s stands frames =
       other_bodies w s bodies stands others
       (same_places (slots_from_start s) (λ k below held.
       let i : ℕ = (start_of s + k) - s.first in
       let in_front : length (front slot_state s.slots) + k ≡ i = omega (arith, start_of_is s) in
       let same : slot s (start_of s + k) ≡ get_or (slots_from_start s) k no_slot = at_rest s.slots i k in_front ∙ at_is no_slot (slots_from_start s) k in
       ap (λ (x : Slot). others x.id) (sym same)
-      ∙ h (start_of s + k) (omega arith) (omega (arith, next_is s, below)) (ap (λ (x : Slot). is_held x.state) same ∙ held)
+      ∙ frames.same (start_of s + k) (omega arith) (omega (arith, next_is s, below)) (ap (λ (x : Slot). is_held x.state) same ∙ held)
       ∙ ap (λ (x : Slot). bodies x.id) same))
 
-  pub all_held_stand : (windows : List WindowValue) (is_live : ℕ → Bool) (sessions : ℕ → ℕ → Session) → AllStand windows is_live sessions bodies → ((s t n : ℕ) → is_live s ≡ true → t < 8 → start_of (sessions s t) ≤ n → n < next_number (sessions s t) → is_held (slot (sessions s t) n).state ≡ true → others (slot (sessions s t) n).id ≡ bodies (slot (sessions s t) n).id) → AllStand windows is_live sessions others
-  all_held_stand windows is_live sessions all h =
-      record {
-        stands = λ s t live low. held_stand (window_of windows s t) (sessions s t) (all.stands s t live low) (λ n. h s t n live low);
-        empty = all.empty;
-      }
+  pub all_held_stand : (windows : List WindowValue) (is_live : ℕ → Bool) (sessions : ℕ → ℕ → Session) → AllStand windows is_live sessions bodies → ((s t : ℕ) → is_live s ≡ true → t < 8 → HasSameFrames (sessions s t) bodies others) → AllStand windows is_live sessions others
+  all_held_stand windows is_live sessions all frames =
+      record { stands = λ s t live low. held_stand (window_of windows s t) (sessions s t) (all.stands s t live low) (frames s t live low); empty = all.empty }

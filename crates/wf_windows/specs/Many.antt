@@ -1,8 +1,8 @@
 -- The windows of all TIDs, and the sessions that they stand for.
-use Rattle.std.specs.Prelude.{◌≡◌, ◌≢◌, ℕ, ◌<◌, Bool, true, false, List, []}
+use Rattle.std.specs.Prelude.{◌≡◌, ◌≢◌, ℕ, ◌<◌, ◌≤◌, Bool, true, false, List, []}
 use Rattle.wf_frame.specs.Frames.{FrameValue}
-use Rattle.wf_rules.specs.Session.{Session}
-use Rattle.wf_origwin.specs.Window.{WindowValue, StandsFor}
+use Rattle.wf_rules.specs.Session.{Session, slot, start_of, next_number}
+use Rattle.wf_origwin.specs.Window.{WindowValue, StandsFor, is_held}
 use Rattle.wf_windows.specs.Windows.{window_of}
 
 -- The eight windows of each live station stand for the sessions of its TIDs, where `bodies` has the frame of each id. Those
@@ -16,7 +16,11 @@ pub record IsSameElsewhere (before after : ℕ → ℕ → Session) (s t : ℕ) 
   pub same : (x y : ℕ) → (x ≡ s → y ≡ t → ⊥) → after x y ≡ before x y
 
 -- the windows and the sessions of all other stations are the same, and are live or not as before
-pub record IsSameAtOthers (windows_before windows_after : List WindowValue) (live_before live_after : ℕ → Bool) (before after : ℕ → ℕ → Session) (s : ℕ) : Type 0 where
-  pub windows : (x y : ℕ) → x ≢ s → y < 8 → window_of windows_after x y ≡ window_of windows_before x y
-  pub live : (x : ℕ) → x ≢ s → live_after x ≡ live_before x
+pub record IsSameAtOthers (windows others : List WindowValue) (was_live is_live : ℕ → Bool) (before after : ℕ → ℕ → Session) (s : ℕ) : Type 0 where
+  pub windows_same : (x y : ℕ) → x ≢ s → y < 8 → window_of others x y ≡ window_of windows x y
+  pub live : (x : ℕ) → x ≢ s → is_live x ≡ was_live x
   pub sessions : (x y : ℕ) → x ≢ s → after x y ≡ before x y
+
+-- the ids of the numbers that wait or fly have the same frames in both
+pub record HasSameFrames (s : Session) (bodies others : ℕ → FrameValue) : Type 0 where
+  pub same : (n : ℕ) → start_of s ≤ n → n < next_number s → is_held (slot s n).state ≡ true → others (slot s n).id ≡ bodies (slot s n).id

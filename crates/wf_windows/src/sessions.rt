@@ -3,13 +3,13 @@
 
 ghost use Rattle.std.specs.Prelude.{◌≡◌, ◌≢◌, ℕ, ◌+◌, ◌%◌, ◌<◌, ◌≤◌, Bool, true, false, is_some, List, [], ◌∷◌, length};
 ghost use Rattle.wf_frame.specs.Frames.{FrameValue};
-ghost use Rattle.wf_rules.specs.Session.{Session, slot, new_session, start_of, next_number, request_due};
+ghost use Rattle.wf_rules.specs.Session.{Session, new_session, start_of, next_number, request_due};
 ghost use Rattle.wf_seq12.specs.Distance.{distance};
-ghost use Rattle.wf_origwin.specs.Window.{WindowValue, fresh_window, StandsFor, IsNumber, settled, may_give, can_take, is_held};
+ghost use Rattle.wf_origwin.specs.Window.{WindowValue, fresh_window, StandsFor, IsNumber, settled, may_give, can_take};
 ghost use Rattle.wf_flowq.specs.Flows.{tid_number};
 ghost use Rattle.wf_windows.specs.Windows.{window_of, with_window};
-ghost use Rattle.wf_windows.specs.Many.{AllStand, IsSameElsewhere, IsSameAtOthers};
-ghost use Rattle.wf_windows.specs.Ending.{AreFlying, all_settled, HasLeft, IsSettledNext};
+ghost use Rattle.wf_windows.specs.Many.{AllStand, IsSameElsewhere, IsSameAtOthers, HasSameFrames};
+ghost use Rattle.wf_windows.specs.Ending.{Ending, AreFlying, all_settled, HasLeft, IsSettledNext};
 
 /// The window of one TID changes, and its session: the others stay, and all stand for their sessions as before.
 pub fn one_window_changes()
@@ -18,19 +18,19 @@ pub fn one_window_changes()
         window_of (with_window windows s t w) s t ≡ w }
     ensures others { (windows : List WindowValue) (s t : ℕ) (w : WindowValue) (x y : ℕ) → t < 8 → y < 8 → (x ≡ s → y ≡ t → ⊥) →
         window_of (with_window windows s t w) x y ≡ window_of windows x y }
-    ensures stands { (windows : List WindowValue) (s t : ℕ) (w : WindowValue) (is_live : ℕ → Bool) (before after : ℕ → ℕ → Session) (bodies : ℕ → FrameValue) →
-        AllStand windows is_live before bodies → is_live s ≡ true → t < 8 → tid_number s t < length windows →
+    ensures stands { (windows : List WindowValue) (s t : ℕ) (w : WindowValue) (is_live : ℕ → Bool) (before after : ℕ → ℕ → Session) →
+        (bodies : ℕ → FrameValue) → AllStand windows is_live before bodies → is_live s ≡ true → t < 8 → tid_number s t < length windows →
         IsSameElsewhere before after s t → StandsFor w (after s t) bodies → AllStand (with_window windows s t w) is_live after bodies }
 {}
 
 /// A station joins, and its windows stand for its new sessions; or it goes, and its windows hold nothing. All else is as
 /// before.
 pub fn a_station_comes_or_goes()
-    ensures joins { (windows others : List WindowValue) (was_live is_live : ℕ → Bool) (before after : ℕ → ℕ → Session) (bodies : ℕ → FrameValue) (s : ℕ) →
-        AllStand windows was_live before bodies → IsSameAtOthers windows others was_live is_live before after s → is_live s ≡ true →
+    ensures joins { (windows others : List WindowValue) (was_live is_live : ℕ → Bool) (before after : ℕ → ℕ → Session) →
+        (bodies : ℕ → FrameValue) (s : ℕ) → AllStand windows was_live before bodies → IsSameAtOthers windows others was_live is_live before after s → is_live s ≡ true →
         ((t : ℕ) → t < 8 → StandsFor (window_of others s t) (after s t) bodies) → AllStand others is_live after bodies }
-    ensures goes { (windows others : List WindowValue) (was_live is_live : ℕ → Bool) (before after : ℕ → ℕ → Session) (bodies : ℕ → FrameValue) (s : ℕ) →
-        AllStand windows was_live before bodies → IsSameAtOthers windows others was_live is_live before after s → is_live s ≡ false →
+    ensures goes { (windows others : List WindowValue) (was_live is_live : ℕ → Bool) (before after : ℕ → ℕ → Session) →
+        (bodies : ℕ → FrameValue) (s : ℕ) → AllStand windows was_live before bodies → IsSameAtOthers windows others was_live is_live before after s → is_live s ≡ false →
         ((t : ℕ) → t < 8 → (window_of others s t).places ≡ []) → AllStand others is_live after bodies }
 {}
 
@@ -51,28 +51,25 @@ pub fn a_window_tells_of_its_session()
 /// Windows stand for their sessions whatever frames are given to other ids than those that the sessions hold: so they do
 /// after a frame is accepted, which gets a new id.
 pub fn only_held_frames_matter()
-    ensures one { (bodies others : ℕ → FrameValue) (w : WindowValue) (s : Session) → StandsFor w s bodies →
-        ((n : ℕ) → start_of s ≤ n → n < next_number s → is_held (slot s n).state ≡ true → others (slot s n).id ≡ bodies (slot s n).id) →
-        StandsFor w s others }
-    ensures all { (bodies others : ℕ → FrameValue) (windows : List WindowValue) (is_live : ℕ → Bool) (sessions : ℕ → ℕ → Session) →
+    ensures one { (w : WindowValue) (s : Session) (bodies others : ℕ → FrameValue) → StandsFor w s bodies →
+        HasSameFrames s bodies others → StandsFor w s others }
+    ensures all { (windows : List WindowValue) (is_live : ℕ → Bool) (sessions : ℕ → ℕ → Session) (bodies others : ℕ → FrameValue) →
         AllStand windows is_live sessions bodies →
-        ((s t n : ℕ) → is_live s ≡ true → t < 8 → start_of (sessions s t) ≤ n → n < next_number (sessions s t) →
-        is_held (slot (sessions s t) n).state ≡ true → others (slot (sessions s t) n).id ≡ bodies (slot (sessions s t) n).id) →
-        AllStand windows is_live sessions others }
+        ((s t : ℕ) → is_live s ≡ true → t < 8 → HasSameFrames (sessions s t) bodies others) → AllStand windows is_live sessions others }
 {}
 
 /// The numbers of an exchange are settled one after the other. Each of them still flies when its turn comes, with fewer
 /// attempts than the limit, and at the end the window stands for the session after all of them.
 pub fn numbers_are_settled_in_order()
-    ensures begins { (w : WindowValue) (s : Session) (bodies : ℕ → FrameValue) (exchange limit : ℕ) (acked : ℕ → Bool) (numbers : List ℕ) →
-        StandsFor w s bodies → AreFlying s exchange limit numbers →
-        HasLeft w bodies exchange limit acked numbers (all_settled acked limit numbers s) }
-    ensures number { (w : WindowValue) (bodies : ℕ → FrameValue) (exchange limit : ℕ) (acked : ℕ → Bool) (n : ℕ) (ns : List ℕ) (after : Session) (seq : ℕ) (left : HasLeft w bodies exchange limit acked (n ∷ ns) after) →
-        seq ≡ n % 4096 → IsNumber left.now n seq }
-    ensures flies { (w : WindowValue) (bodies : ℕ → FrameValue) (exchange limit : ℕ) (acked : ℕ → Bool) (n : ℕ) (ns : List ℕ) (after : Session) (seq : ℕ) →
-        HasLeft w bodies exchange limit acked (n ∷ ns) after → seq ≡ n % 4096 → IsSettledNext w seq limit }
-    ensures next { (w v : WindowValue) (bodies : ℕ → FrameValue) (exchange limit : ℕ) (acked : ℕ → Bool) (n : ℕ) (ns : List ℕ) (after : Session) (left : HasLeft w bodies exchange limit acked (n ∷ ns) after) →
-        StandsFor v (settled (acked n) limit n left.now) bodies → HasLeft v bodies exchange limit acked ns after }
-    ensures ends { (w : WindowValue) (bodies : ℕ → FrameValue) (exchange limit : ℕ) (acked : ℕ → Bool) (after : Session) →
-        HasLeft w bodies exchange limit acked [] after → StandsFor w after bodies }
+    ensures begins { (w : WindowValue) (s : Session) (bodies : ℕ → FrameValue) (ending : Ending) (numbers : List ℕ) →
+        StandsFor w s bodies → AreFlying s ending numbers → HasLeft w bodies ending numbers (all_settled ending numbers s) }
+    ensures number { (w : WindowValue) (bodies : ℕ → FrameValue) (ending : Ending) (n : ℕ) (ns : List ℕ) (after : Session) (seq : ℕ) →
+        (left : HasLeft w bodies ending (n ∷ ns) after) → seq ≡ n % 4096 → IsNumber left.now n seq }
+    ensures flies { (w : WindowValue) (bodies : ℕ → FrameValue) (ending : Ending) (n : ℕ) (ns : List ℕ) (after : Session) (seq : ℕ) →
+        HasLeft w bodies ending (n ∷ ns) after → seq ≡ n % 4096 → IsSettledNext w seq ending.limit }
+    ensures next { (w v : WindowValue) (bodies : ℕ → FrameValue) (ending : Ending) (n : ℕ) (ns : List ℕ) (after : Session) →
+        (left : HasLeft w bodies ending (n ∷ ns) after) → StandsFor v (settled (ending.acked n) ending.limit n left.now) bodies →
+        HasLeft v bodies ending ns after }
+    ensures ends { (w : WindowValue) (bodies : ℕ → FrameValue) (ending : Ending) (after : Session) → HasLeft w bodies ending [] after →
+        StandsFor w after bodies }
 {}

@@ -55,3 +55,21 @@ fn a_waiting_number_flies(rt: HostRuntime) -> Result<(), Fail> {
     assert!(rt; !windows.at(0, 3).has_waiting());
     Ok(())
 }
+
+#[test]
+fn a_station_begins_anew(rt: HostRuntime) -> Result<(), Fail> {
+    let mut windows = Windows::new(rt.alloc(), 2)?;
+    windows.reset_all(1, Seq12::of(4000), 64);
+    assert_eq!(rt; windows.at(1, 0).start().raw(), 4000);
+    assert_eq!(rt; windows.at(1, 7).next().raw(), 4000);
+    assert_eq!(rt; windows.at(1, 7).size(), 64);
+    assert_eq!(rt; windows.at(0, 7).size(), 256);
+    Ok(())
+}
+
+#[test]
+fn a_new_window_holds_nothing(rt: HostRuntime) -> Result<(), Fail> {
+    let mut windows = Windows::new(rt.alloc(), 1)?;
+    assert!(rt; windows.expel(0, 3).is_none());
+    Ok(())
+}

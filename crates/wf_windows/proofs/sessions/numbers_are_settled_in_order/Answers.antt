@@ -5,13 +5,13 @@ pub returns-clause-begins : goal.returns-clause-begins
 returns-clause-begins c = ending_begins
 
 pub returns-clause-number : goal.returns-clause-number
-returns-clause-number c w bodies exchange limit acked n ns after seq left on_air = ending_number w bodies exchange limit acked n ns after left seq on_air
+returns-clause-number c w bodies ending n ns after seq left on_air = ending_number w bodies ending n ns after left seq on_air
 
 pub returns-clause-flies : goal.returns-clause-flies
-returns-clause-flies c w bodies exchange limit acked n ns after seq left on_air = ending_flies w bodies exchange limit acked n ns after left seq on_air
+returns-clause-flies c w bodies ending n ns after seq left on_air = ending_flies w bodies ending n ns after left seq on_air
 
 pub returns-clause-next : goal.returns-clause-next
-returns-clause-next c w v bodies exchange limit acked n ns after left stands = ending_next w bodies exchange limit acked n ns after left v stands
+returns-clause-next c w v bodies ending n ns after left stands = ending_next w bodies ending n ns after left v stands
 
 pub returns-clause-ends : goal.returns-clause-ends
 returns-clause-ends c = ending_ends
