@@ -24,4 +24,5 @@ pub mod Each
 pub mod Bodies
 pub mod Notes
 pub mod Heads
+pub mod Held
 pub mod Fates
