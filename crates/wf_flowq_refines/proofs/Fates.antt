@@ -55,7 +55,7 @@ settled_all (id ∷ l) w fate h x =
     } in
     omega (arith, settled_one w fate id low (h.held id here) x, settled_all l u fate rest x)
 
-finished_all : (l : List ℕ) (w : World) (fate : Fate) → length (with_frames_finished w fate l).finished ≡ length w.finished + length l
+pub finished_all : (l : List ℕ) (w : World) (fate : Fate) → length (with_frames_finished w fate l).finished ≡ length w.finished + length l
 unfolding with_frames_finished with_frame_finished with_fate
 finished_all [] w fate = omega arith
 finished_all (id ∷ l) w fate = omega (arith, finished_all l (with_frame_finished w fate id) fate, length-append w.finished (id ∷ []))
@@ -77,23 +77,23 @@ settled_limit v w n st h = cond_both (is_at_limit w) _ w (λ (u : World). n + le
     (λ e. settled_head v w (longest_queue w) n (queue w (longest_queue w)).items st h refl)
     (λ e count x. (let none : n ≡ 0 = omega (arith, count) in rw none (omega arith)))
 
-frames_queue : (w : World) (q : ℕ) (f : Queue → Queue) → (on_queue w q f).frames ≡ w.frames
+pub frames_queue : (w : World) (q : ℕ) (f : Queue → Queue) → (on_queue w q f).frames ≡ w.frames
 unfolding on_queue
 frames_queue w q f = refl
 
-finished_queue : (w : World) (q : ℕ) (f : Queue → Queue) → (on_queue w q f).finished ≡ w.finished
+pub finished_queue : (w : World) (q : ℕ) (f : Queue → Queue) → (on_queue w q f).finished ≡ w.finished
 unfolding on_queue
 finished_queue w q f = refl
 
-frames_lists : (w : World) (s t : ℕ) (r : Rotation) → (with_queues w s t r).frames ≡ w.frames
+pub frames_lists : (w : World) (s t : ℕ) (r : Rotation) → (with_queues w s t r).frames ≡ w.frames
 unfolding with_queues on_tid on_station with_station
 frames_lists w s t r = refl
 
-finished_lists : (w : World) (s t : ℕ) (r : Rotation) → (with_queues w s t r).finished ≡ w.finished
+pub finished_lists : (w : World) (s t : ℕ) (r : Rotation) → (with_queues w s t r).finished ≡ w.finished
 unfolding with_queues on_tid on_station with_station
 finished_lists w s t r = refl
 
-tally_same : (w u : World) (x : Fate) → u.frames ≡ w.frames → tally u x ≡ tally w x
+pub tally_same : (w u : World) (x : Fate) → u.frames ≡ w.frames → tally u x ≡ tally w x
 tally_same w u x e = ap (λ (fs : List Frame). tally (record w { frames = fs }) x) e
 
 pub counted_put : (w : World) (s t flow len : ℕ) (x : Fate) → tally (enqueue_outcome w s t flow len).world x ≡ tally (after_limit w) x + counts_as Held x
@@ -118,7 +118,7 @@ settled_dequeued u s n (Some q) held count x =
     rw many (settled_all out after (Dropped By_codel) (record { accepted = (held q refl).accepted; held = (held q refl).held; once = (held q refl).once }) x)
 
 -- the first frames of a queue
-first_held : (v : FlowsValue) (w : World) (q n : ℕ) → StandsFor v w → QueuedAreHeld v w → AreHeld w (ids (take n (frames_at v.backlog q)))
+pub first_held : (v : FlowsValue) (w : World) (q n : ℕ) → StandsFor v w → QueuedAreHeld v w → AreHeld w (ids (take n (frames_at v.backlog q)))
 first_held v w q n st h = record {
   accepted = λ id some. queued_known v w q id st (omega (arith, some, fewer id));
   held = λ id some. h q id (omega (arith, some, fewer id));
@@ -134,7 +134,7 @@ first_held v w q n st h = record {
       | inr none ↦ omega (arith, none)
     ]
 
-held_same : (w u : World) (l : List ℕ) → u.frames ≡ w.frames → AreHeld w l → AreHeld u l
+pub held_same : (w u : World) (l : List ℕ) → u.frames ≡ w.frames → AreHeld w l → AreHeld u l
 held_same w u l e h = record {
   accepted = λ id some. omega (arith, h.accepted id some, ap (length {A = Frame}) e);
   held = λ id some. ap (λ (fs : List Frame). (at no_frame fs id).fate) e ∙ h.held id some;

@@ -13,7 +13,7 @@ use Rattle.wf_rules.specs.Lists.{on}
 use Rattle.wf_rules.specs.Rotation.{Rotation}
 use Rattle.wf_rule_laws.proofs.Lemmas.Counts.{on-nil, on-append, on-cons_same, on-cons_other}
 use Rattle.wf_world.specs.World.{World, Queue, Frame, no_frame, is_live, session, frame, accepted_count, codel_params, on_queue, with_queues, with_station, on_station, on_tid, with_fate, with_frame_finished, with_frames_finished}
-use Rattle.wf_world.specs.FlowQueues.{after_limit as world_after_limit, queue_for as world_queue_for, after_put_in as world_put_in, taken_for_tid as world_take}
+use Rattle.wf_world.specs.FlowQueues.{after_limit as world_after_limit, queue_for as world_queue_for, after_put_in as world_put_in, taken_for_tid as world_take, after_queue_left}
 use Rattle.wf_world.specs.Step.{with_frame, next_item, enqueue_outcome, reap_outcome, waiting_ids, after_tid_left}
 use Rattle.wf_laws.proofs.Deficits.Books.{put_upd, upd_other}
 use Rattle.wf_laws.proofs.Queues.ShelvedStep.{accepted_put}
@@ -29,7 +29,7 @@ use Rattle.wf_flowq_refines.proofs.Limits.{beside_limit}
 use Rattle.wf_flowq_refines.proofs.Puts.{stands_put}
 use Rattle.wf_flowq_refines.proofs.Takes.{stands_take}
 use Rattle.wf_flowq_refines.proofs.Purges.{stands_left}
-use Rattle.wf_flowq_refines.proofs.Through.{through_put_in, through_limit, through_take, through_purge}
+use Rattle.wf_flowq_refines.proofs.Through.{through_put_in, through_limit, through_take, through_purge_queue, through_purge}
 
 -- ---- what a call finishes
 
@@ -91,10 +91,13 @@ fewer_take : (v : FlowsValue) (i now : ℕ) (params : Params) → HasFewer v.bac
 unfolding taken_for_tid after_pick
 fewer_take v i now params = fewer_taken (after_pick v i) (pick_of_tid v i).winner now params
 
+fewer_flush : (b : BacklogValue) (k : ℕ) → HasFewer b (after_flush b k)
+fewer_flush b k q id = fewer_set b.queues k [] id (omega (arith, on-nil id)) q
+
 fewer_flushed : (qs : List ℕ) (b : BacklogValue) → HasFewer b (all_flushed b qs)
 unfolding all_flushed
 fewer_flushed [] b = λ q id. omega arith
-fewer_flushed (k ∷ qs) b = λ q id. omega (arith, fewer_flushed qs (after_flush b k) q id, fewer_set b.queues k [] id (omega (arith, on-nil id)) q)
+fewer_flushed (k ∷ qs) b = λ q id. omega (arith, fewer_flushed qs (after_flush b k) q id, fewer_flush b k q id)
 
 fewer_purge : (v : FlowsValue) (i : ℕ) → HasFewer v.backlog (after_purge v i).backlog
 unfolding after_purge
@@ -172,3 +175,7 @@ held_put v w s t f st h live high low next now q id some =
           let none : on b.finished id ≡ 0 = queued_only (after_put v (tid_number s t) f) (enqueue_outcome w s t f.flow (length f.body)).world q id (stands_put v w s t f st live high low next now) some in
           ap (λ (z : Frame). z.fate) (end_other b.frames x id (λ e. other (e ∙ as_many))) ∙ fin.fates id none ∙ h q id (omega (arith, some, fewer_put v (tid_number s t) f q id (λ e. other (sym e))))
     ]
+
+-- one queue of a TID that is purged
+pub held_flush : (v : FlowsValue) (w : World) (q : ℕ) → StandsFor (record v { backlog = after_flush v.backlog q }) (after_queue_left w q) → QueuedAreHeld v w → QueuedAreHeld (record v { backlog = after_flush v.backlog q }) (after_queue_left w q)
+held_flush v w q st h = still_held v (record v { backlog = after_flush v.backlog q }) w (after_queue_left w q) st h (through_purge_queue Finishes nothing both at_queue at_lists at_finish w q) (fewer_flush v.backlog q)

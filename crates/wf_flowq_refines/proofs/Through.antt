@@ -57,7 +57,7 @@ module _ (R : World → World → Type 0) (same : (w : World) → R w w) (join :
 
       -- ---- purge
 
-      through_purge_queue : (w : World) (q : ℕ) → R w (after_queue_left w q)
+      pub through_purge_queue : (w : World) (q : ℕ) → R w (after_queue_left w q)
       unfolding after_queue_left
       through_purge_queue w q = join _ _ _ (queues w q _) (through_finish_all _ _ _)
 

@@ -259,4 +259,8 @@ pub fn the_fates_are_counted()
     ensures put { (w : World) (s t flow len : ℕ) (x : Fate) → tally (enqueue_outcome w s t flow len).world x ≡ tally (world_after_limit w) x + counts_as Held x }
     ensures take { (v : FlowsValue) (w : World) (s t n : ℕ) → StandsFor v w → QueuedAreHeld v w → is_live w s ≡ true → s < w.config.stations → t < 8 →
         n + length w.finished ≡ length (world_take w s t).world.finished → HaveSettled w (world_take w s t).world (Dropped By_codel) n }
+    ensures left { (v : FlowsValue) (w : World) (s t n : ℕ) → StandsFor v (with_frames_finished w (Dropped Left) (waiting_ids (session w s t).slots)) →
+        QueuedAreHeld v (with_frames_finished w (Dropped Left) (waiting_ids (session w s t).slots)) → s < v.stations → t < 8 →
+        n + length (with_frames_finished w (Dropped Left) (waiting_ids (session w s t).slots)).finished ≡ length (after_tid_left w s t).finished →
+        HaveSettled (with_frames_finished w (Dropped Left) (waiting_ids (session w s t).slots)) (after_tid_left w s t) (Dropped Left) n }
 {}
