@@ -1,38 +1,34 @@
 -- How the frames are counted by their fates, through the calls of the flow queues.
-use Rattle.std.proofs.Common.{◌≡◌, refl, ap, sym, ◌∙◌, subst, arith, ℕ, ◌+◌, ◌<◌, ◌≤◌, true, if◌then◌else◌, List, [], ◌∷◌, map, take, length, length-append, Option, Some, None}
-use Rattle.std.proofs.lemmas.Bool.{cond_both}
+use Rattle.std.proofs.Common.{◌≡◌, refl, ap, sym, ◌∙◌, subst, arith, ℕ, ◌+◌, ◌<◌, ◌≤◌, true, if◌then◌else◌, List, [], ◌∷◌, map, take, length, length-append, Option, Some, None, inl, inr}
+use Rattle.std.proofs.lemmas.Bool.{cases_lt, cond_both}
 use Rattle.std.proofs.lemmas.List.Sums.{sum_by-append}
 use Rattle.wf_frame.specs.declared.classes.Cause.TheVariants.{Overlimit, Codel as By_codel}
 use Rattle.wf_frame.specs.declared.classes.Fate.{Fate}
 use Rattle.wf_frame.specs.declared.classes.Fate.TheVariants.{Held, Dropped}
 use Rattle.wf_frame.specs.declared.notes.Note.TheVariants.{Enqueue}
-use Rattle.wf_rules.specs.Table.{at, has}
+use Rattle.wf_rules.specs.Table.{at}
 use Rattle.wf_rules.specs.Codel.{Item, Dequeued, dequeue}
 use Rattle.wf_rules.specs.Lists.{on}
 use Rattle.wf_rules.specs.Rotation.{Rotation, in_order}
-use Rattle.wf_rota.specs.Rotas.{need_at}
 use Rattle.wf_rule_laws.proofs.Lemmas.Counts.{on-first, on-cons_same}
-use Rattle.wf_rule_laws.proofs.Lemmas.Members.{has_head}
 use Rattle.wf_rule_laws.proofs.Lemmas.Sums.{sum_put_within}
-use Rattle.wf_rule_laws.specs.Renamed.{IsSame}
 use Rattle.wf_world.specs.World.{World, Queue, Frame, no_frame, is_live, queue, tid_of, frame, accepted_count, codel_params, on_queue, with_queues, with_station, on_station, on_tid, with_fate, with_frame_finished, with_frames_finished}
 use Rattle.wf_world.specs.FlowQueues.{is_at_limit, longest_queue, without_head, after_limit, queue_for, after_put_in, with_queues_paid, picked_queue, after_dequeue, taken_by_codel, taken_from_picked, taken_for_tid}
 use Rattle.wf_world.specs.Step.{with_frame, next_item, enqueue_outcome}
 use Rattle.wf_world.specs.Text.{same_fate, tally}
-use Rattle.wf_laws.specs.Places.{Queued, KeepsPlaces}
 use Rattle.wf_laws.proofs.Deficits.Books.{upd_other}
 use Rattle.wf_codel_queues.specs.Backlog.{frames_at, item_of}
-use Rattle.wf_flowq.specs.Flows.{FlowsValue, SettingsValue, tid_number, rotation, has_frames, pick_of_tid, after_pick}
+use Rattle.wf_flowq.specs.Flows.{FlowsValue, SettingsValue, tid_number, after_pick}
 use Rattle.wf_flowq_refines.specs.Standing.{Part, part, ids, StandsFor}
-use Rattle.wf_flowq_refines.specs.Frames.{counts_as, HaveSettled, AreHeld}
+use Rattle.wf_flowq_refines.specs.Frames.{counts_as, HaveSettled, AreHeld, QueuedAreHeld}
 use Rattle.wf_flowq_refines.proofs.Parts.{part_finish}
 use Rattle.wf_flowq_refines.proofs.Changes.{times_at}
 use Rattle.wf_flowq_refines.proofs.Ends.{accepted_finish}
-use Rattle.wf_flowq_refines.proofs.Heads.{queued_is_held}
+use Rattle.wf_flowq_refines.proofs.Held.{queued_low, queued_known}
+use Rattle.wf_flowq_refines.proofs.Purges.{item_ids}
 use Rattle.wf_flowq_refines.proofs.Holdings.{split_at}
-use Rattle.wf_flowq_refines.proofs.Picking.{winner_listed, same_picked}
 use Rattle.wf_flowq_refines.proofs.Takes.{after_world, stands_after, IsCut, cut_dequeue}
-use Rattle.wf_flowq_refines.proofs.Through.{through_paid, through_put_in}
+use Rattle.wf_flowq_refines.proofs.Through.{stays_paid, stays_put_in}
 
 -- ---- finishing
 
@@ -59,44 +55,45 @@ settled_all (id ∷ l) w fate h x =
     } in
     omega (arith, settled_one w fate id low (h.held id here) x, settled_all l u fate rest x)
 
-finished_all : (l : List ℕ) (w : World) (fate : Fate) → length (with_frames_finished w fate l).finished ≡ length w.finished + length l
+pub finished_all : (l : List ℕ) (w : World) (fate : Fate) → length (with_frames_finished w fate l).finished ≡ length w.finished + length l
 unfolding with_frames_finished with_frame_finished with_fate
 finished_all [] w fate = omega arith
 finished_all (id ∷ l) w fate = omega (arith, finished_all l (with_frame_finished w fate id) fate, length-append w.finished (id ∷ []))
 
 -- ---- put
 
-settled_head : (w : World) (q n : ℕ) (items : List Item) → KeepsPlaces w → (queue w q).items ≡ items → n + length w.finished ≡ length (without_head w q items).finished → HaveSettled w (without_head w q items) (Dropped Overlimit) n
+settled_head : (v : FlowsValue) (w : World) (q n : ℕ) (items : List Item) → StandsFor v w → QueuedAreHeld v w → (queue w q).items ≡ items → n + length w.finished ≡ length (without_head w q items).finished → HaveSettled w (without_head w q items) (Dropped Overlimit) n
 unfolding without_head on_queue with_frame_finished with_fate
-settled_head w q n [] k is count x = let none : n ≡ 0 = omega (arith, count) in rw none (omega arith)
-settled_head w q n (y ∷ left) k is count x =
-    let at = k.only_held y.id (Queued q) (ap (λ (l : List Item). has (map (λ z. z.id) l) y.id) is ∙ has_head y.id (map (λ z. z.id) left)) in
+settled_head v w q n [] st h is count x = let none : n ≡ 0 = omega (arith, count) in rw none (omega arith)
+settled_head v w q n (y ∷ left) st h is count x =
+    let queued : ids (frames_at v.backlog q) ≡ map (λ (z : Item). z.id) (y ∷ left) = sym (ap (map (λ (z : Item). z.id)) (st.items q) ∙ item_ids (frames_at v.backlog q)) ∙ ap (map (λ (z : Item). z.id)) is in
+    let some : 0 < on (ids (frames_at v.backlog q)) y.id = omega (arith, ap (λ (l : List ℕ). on l y.id) queued, on-cons_same y.id (map (λ (z : Item). z.id) left)) in
     let one : n ≡ 1 = omega (arith, count, length-append w.finished (y.id ∷ [])) in
-    rw one (settled_one (on_queue w q (λ z. record z { items = left })) (Dropped Overlimit) y.id at.0 at.1 x)
+    rw one (settled_one (on_queue w q (λ z. record z { items = left })) (Dropped Overlimit) y.id (queued_known v w q y.id st some) (h q y.id some) x)
 
-pub settled_limit : (w : World) (n : ℕ) → KeepsPlaces w → n + length w.finished ≡ length (after_limit w).finished → HaveSettled w (after_limit w) (Dropped Overlimit) n
+pub settled_limit : (v : FlowsValue) (w : World) (n : ℕ) → StandsFor v w → QueuedAreHeld v w → n + length w.finished ≡ length (after_limit w).finished → HaveSettled w (after_limit w) (Dropped Overlimit) n
 unfolding after_limit
-settled_limit w n k = cond_both (is_at_limit w) _ w (λ (u : World). n + length w.finished ≡ length u.finished → HaveSettled w u (Dropped Overlimit) n)
-    (λ e. settled_head w (longest_queue w) n (queue w (longest_queue w)).items k refl)
+settled_limit v w n st h = cond_both (is_at_limit w) _ w (λ (u : World). n + length w.finished ≡ length u.finished → HaveSettled w u (Dropped Overlimit) n)
+    (λ e. settled_head v w (longest_queue w) n (queue w (longest_queue w)).items st h refl)
     (λ e count x. (let none : n ≡ 0 = omega (arith, count) in rw none (omega arith)))
 
-frames_queue : (w : World) (q : ℕ) (f : Queue → Queue) → (on_queue w q f).frames ≡ w.frames
+pub frames_queue : (w : World) (q : ℕ) (f : Queue → Queue) → (on_queue w q f).frames ≡ w.frames
 unfolding on_queue
 frames_queue w q f = refl
 
-finished_queue : (w : World) (q : ℕ) (f : Queue → Queue) → (on_queue w q f).finished ≡ w.finished
+pub finished_queue : (w : World) (q : ℕ) (f : Queue → Queue) → (on_queue w q f).finished ≡ w.finished
 unfolding on_queue
 finished_queue w q f = refl
 
-frames_lists : (w : World) (s t : ℕ) (r : Rotation) → (with_queues w s t r).frames ≡ w.frames
+pub frames_lists : (w : World) (s t : ℕ) (r : Rotation) → (with_queues w s t r).frames ≡ w.frames
 unfolding with_queues on_tid on_station with_station
 frames_lists w s t r = refl
 
-finished_lists : (w : World) (s t : ℕ) (r : Rotation) → (with_queues w s t r).finished ≡ w.finished
+pub finished_lists : (w : World) (s t : ℕ) (r : Rotation) → (with_queues w s t r).finished ≡ w.finished
 unfolding with_queues on_tid on_station with_station
 finished_lists w s t r = refl
 
-tally_same : (w u : World) (x : Fate) → u.frames ≡ w.frames → tally u x ≡ tally w x
+pub tally_same : (w u : World) (x : Fate) → u.frames ≡ w.frames → tally u x ≡ tally w x
 tally_same w u x e = ap (λ (fs : List Frame). tally (record w { frames = fs }) x) e
 
 pub counted_put : (w : World) (s t flow len : ℕ) (x : Fate) → tally (enqueue_outcome w s t flow len).world x ≡ tally (after_limit w) x + counts_as Held x
@@ -104,7 +101,7 @@ unfolding enqueue_outcome with_frame
 counted_put w s t flow len x =
     let u : World = after_limit w in
     let b : World = after_put_in u s t (queue_for u s t flow) (next_item w len) in
-    let same : tally b x ≡ tally u x = tally_same u b x (through_put_in (λ (z : World). z.frames) frames_queue frames_lists u s t (queue_for u s t flow) (next_item w len)) in
+    let same : tally b x ≡ tally u x = tally_same u b x (stays_put_in (λ (z : World). z.frames) frames_queue frames_lists u s t (queue_for u s t flow) (next_item w len)) in
     omega (arith, same, sum_by-append (λ (f : Frame). if same_fate f.fate x then 1 else 0) b.frames (record { note = Enqueue s t flow len; fate = Held } ∷ []))
 
 -- ---- take
@@ -121,41 +118,45 @@ settled_dequeued u s n (Some q) held count x =
     rw many (settled_all out after (Dropped By_codel) (record { accepted = (held q refl).accepted; held = (held q refl).held; once = (held q refl).once }) x)
 
 -- the first frames of a queue
-first_held : (v : FlowsValue) (w : World) (q n : ℕ) → StandsFor v w → KeepsPlaces w → q < length v.backlog.queues → AreHeld w (ids (take n (frames_at v.backlog q)))
-first_held v w q n st k low = record {
-  accepted = λ id some. st.accepted id (omega (arith, some, fewer id, times_at v.backlog q id low));
-  held = λ id some. queued_is_held v w id q st k (omega (arith, some, fewer id));
-  once = λ id. omega (arith, fewer id, times_at v.backlog q id low, st.held_once id);
+pub first_held : (v : FlowsValue) (w : World) (q n : ℕ) → StandsFor v w → QueuedAreHeld v w → AreHeld w (ids (take n (frames_at v.backlog q)))
+first_held v w q n st h = record {
+  accepted = λ id some. queued_known v w q id st (omega (arith, some, fewer id));
+  held = λ id some. h q id (omega (arith, some, fewer id));
+  once = once_at;
 }
   where
     fewer : (id : ℕ) → on (ids (take n (frames_at v.backlog q))) id ≤ on (ids (frames_at v.backlog q)) id
     fewer id = omega (arith, split_at n (frames_at v.backlog q) id)
 
-held_same : (w u : World) (l : List ℕ) → u.frames ≡ w.frames → AreHeld w l → AreHeld u l
+    once_at : (id : ℕ) → on (ids (take n (frames_at v.backlog q))) id ≤ 1
+    once_at id = elim (cases_lt 0 (on (ids (take n (frames_at v.backlog q))) id)) [
+      | inl some ↦ omega (arith, fewer id, times_at v.backlog q id (queued_low v q id (omega (arith, some, fewer id))), st.held_once id)
+      | inr none ↦ omega (arith, none)
+    ]
+
+pub held_same : (w u : World) (l : List ℕ) → u.frames ≡ w.frames → AreHeld w l → AreHeld u l
 held_same w u l e h = record {
   accepted = λ id some. omega (arith, h.accepted id some, ap (length {A = Frame}) e);
   held = λ id some. ap (λ (fs : List Frame). (at no_frame fs id).fate) e ∙ h.held id some;
   once = h.once;
 }
 
-pub settled_take : (v : FlowsValue) (w : World) (s t n : ℕ) → StandsFor v w → KeepsPlaces w → is_live w s ≡ true → s < w.config.stations → t < 8
+pub settled_take : (v : FlowsValue) (w : World) (s t n : ℕ) → StandsFor v w → QueuedAreHeld v w → is_live w s ≡ true → s < w.config.stations → t < 8
     → n + length w.finished ≡ length (taken_for_tid w s t).world.finished → HaveSettled w (taken_for_tid w s t).world (Dropped By_codel) n
 unfolding taken_for_tid after_pick
-settled_take v w s t n st k live high low_t count x =
+settled_take v w s t n st h live high low_t count x =
     let low_s : s < v.stations = omega (arith, high, ap (λ (c : SettingsValue). c.stations) st.settings) in
     let i : ℕ = tid_number s t in
     let qs : List ℕ = in_order (tid_of w s t).queues in
     let quanta : ℕ → ℕ = (picked_queue w s t).quanta in
     let u : World = after_world w s t in
-    let frames : u.frames ≡ w.frames = frames_lists (with_queues_paid w quanta qs) s t (picked_queue w s t).lists ∙ through_paid (λ (z : World). z.frames) frames_queue qs w quanta in
-    let finished : u.finished ≡ w.finished = finished_lists (with_queues_paid w quanta qs) s t (picked_queue w s t).lists ∙ through_paid (λ (z : World). z.finished) finished_queue qs w quanta in
+    let frames : u.frames ≡ w.frames = frames_lists (with_queues_paid w quanta qs) s t (picked_queue w s t).lists ∙ stays_paid (λ (z : World). z.frames) frames_queue qs w quanta in
+    let finished : u.finished ≡ w.finished = finished_lists (with_queues_paid w quanta qs) s t (picked_queue w s t).lists ∙ stays_paid (λ (z : World). z.finished) finished_queue qs w quanta in
     let after : StandsFor (after_pick v i) u = stands_after v w st s t live low_s low_t in
-    let same : IsSame (pick_of_tid v i) (picked_queue w s t) = same_picked v w st s t low_s low_t in
     let held : (q : ℕ) → (picked_queue w s t).winner ≡ Some q → AreHeld u (map (λ y. y.id) (dequeue (codel_params u s) u.clock (queue u q).codel (queue u q).items).dropped) = λ q e.
-    (let low : q < length v.backlog.queues = omega (arith, st.below i q (winner_listed (need_at v.rotas) (has_frames v.backlog) (rotation v i) q (sym same.winner ∙ e)), st.sized.queues) in
-    let d : Dequeued = dequeue (codel_params u s) u.clock (queue u q).codel (map item_of (frames_at v.backlog q)) in
+    (let d : Dequeued = dequeue (codel_params u s) u.clock (queue u q).codel (map item_of (frames_at v.backlog q)) in
     let cut : IsCut (frames_at v.backlog q) d = cut_dequeue (codel_params u s) u.clock (queue u q).codel (frames_at v.backlog q) in
     subst (AreHeld u) (sym (ap (λ (l : List Item). map (λ y. y.id) (dequeue (codel_params u s) u.clock (queue u q).codel l).dropped) (after.items q) ∙ cut.dropped))
-    (held_same w u (ids (take (length d.dropped) (frames_at v.backlog q))) frames (first_held v w q (length d.dropped) st k low)))
+    (held_same w u (ids (take (length d.dropped) (frames_at v.backlog q))) frames (first_held v w q (length d.dropped) st h)))
     in
     omega (arith, settled_dequeued u s n (picked_queue w s t).winner held (omega (arith, count, ap (length {A = ℕ}) finished)) x, tally_same w u x frames)

@@ -5,7 +5,7 @@ use Rattle.std.proofs.lemmas.List.{get_or-set_same, length-map, length-take, set
 use Rattle.std.proofs.lemmas.Option.{slice_get_within}
 use Rattle.std.proofs.lemmas.Bool.{cases_lt, lt-ltb, cond_both}
 use Rattle.wf_frame.specs.declared.classes.Cause.TheVariants.{Codel as By_codel}
-use Rattle.wf_frame.specs.declared.classes.Fate.TheVariants.{Held, Dropped}
+use Rattle.wf_frame.specs.declared.classes.Fate.TheVariants.{Dropped}
 use Rattle.wf_frame.specs.Frames.{FrameValue}
 use Rattle.wf_rules.specs.Table.{has}
 use Rattle.wf_rules.specs.Codel.{Item, Params}
@@ -13,7 +13,7 @@ use Rattle.wf_rules.specs.Lists.{on}
 use Rattle.wf_rules.specs.Rotation.{Rotation, no_keys, has_key, in_order, Picked}
 use Rattle.wf_rota.specs.Rotas.{need_at}
 use Rattle.wf_rule_laws.proofs.Lemmas.Counts.{on-has, on_order-none}
-use Rattle.wf_world.specs.World.{World, is_live, queue, frame, codel_params}
+use Rattle.wf_world.specs.World.{World, is_live, queue, codel_params}
 use Rattle.wf_world.specs.FlowQueues.{frames_queued as world_queued, is_at_limit as world_at_limit, after_limit as world_after_limit, taken_for_tid as world_take}
 use Rattle.wf_laws.specs.Places.{Queued, KeepsPlaces}
 use Rattle.wf_codel_queues.specs.Backlog.{frames_at, item_of, frame_with_fate, drops_at}
@@ -22,7 +22,7 @@ use Rattle.wf_flowq.proofs.Owners.{on-listed}
 use Rattle.wf_flowq.proofs.Picks.{on-picked}
 use Rattle.wf_flowq.proofs.Waiting.{waiting-set, waiting_same}
 use Rattle.wf_flowq_refines.specs.Standing.{Part, part, ids, Stands, StandsFor}
-use Rattle.wf_flowq_refines.specs.Frames.{loses_next_in}
+use Rattle.wf_flowq_refines.specs.Frames.{loses_next_in, QueuedAreHeld}
 use Rattle.wf_flowq_refines.specs.Rest.{Rest}
 use Rattle.wf_flowq_refines.proofs.Elsewhere.{rest_take}
 use Rattle.wf_flowq_refines.proofs.Limits.{beside_limit}
@@ -33,8 +33,8 @@ use Rattle.wf_flowq_refines.proofs.Readers.{same_queued, same_total, same_limit,
 
 -- ---- a queued frame
 
-pub queued_is_held : (v : FlowsValue) (w : World) (id q : ℕ) → StandsFor v w → KeepsPlaces w → 0 < on (ids (frames_at v.backlog q)) id → (frame w id).fate ≡ Held
-queued_is_held v w id q st k some =
+pub queued_is_held : (v : FlowsValue) (w : World) → StandsFor v w → KeepsPlaces w → QueuedAreHeld v w
+queued_is_held v w st k q id some =
     let same : map (λ (x : Item). x.id) (queue w q).items ≡ ids (frames_at v.backlog q) = ap (map (λ (x : Item). x.id)) (st.items q) ∙ item_ids (frames_at v.backlog q) in
     (k.only_held id (Queued q) (ap (λ (l : List ℕ). has l id) same ∙ on-has (ids (frames_at v.backlog q)) id some)).1
 

@@ -3,8 +3,8 @@
 -- Parts: what each change of a world does to the part that the flow queues stand for. Ends: frames are finished and reaped. Changes: one queue changes, or the
 -- lists of one TID, on both sides; all other calls are made of these and of Ends. Readers: what is read is the same. Limits and Puts: a frame is put in. Picking and
 -- Takes: one is taken out. Rising and Purges: a TID's frames are dropped. Leaves: what does not matter. Holdings: which frames are held.
--- Through and Elsewhere: what the calls leave of a world. Each, Bodies and Notes: the frames are the accepted ones. Heads: whose frames are dropped, and how many. Fates: how the
--- frames are counted by their fates.
+-- Through and Elsewhere: what the calls leave of a world. Each, Bodies and Notes: the frames are the accepted ones. Heads: whose frames are dropped, and how many.
+-- Held, Fates and Lefts: queued frames are held, and the frames are counted by their fates.
 pub mod Parts
 pub mod Ends
 pub mod Changes
@@ -24,4 +24,6 @@ pub mod Each
 pub mod Bodies
 pub mod Notes
 pub mod Heads
+pub mod Held
 pub mod Fates
+pub mod Lefts

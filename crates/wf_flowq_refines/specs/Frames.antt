@@ -12,6 +12,8 @@ use Rattle.wf_world.specs.World.{World, tid_of, frame, accepted_count, is_held}
 use Rattle.wf_world.specs.FlowQueues.{is_at_limit, longest_queue}
 use Rattle.wf_world.specs.Text.{same_fate, tally}
 use Rattle.wf_codel_queues.specs.Backlog.{BacklogValue, frames_at, frame_with_fate}
+use Rattle.wf_flowq.specs.Flows.{FlowsValue}
+use Rattle.wf_flowq_refines.specs.Standing.{ids}
 
 -- each queued frame has P, and each finished one has R
 pub record HasEach (P R : FrameValue → Type 0) (b : BacklogValue) : Type 0 where
@@ -75,3 +77,7 @@ pub record AreHeld (w : World) (ids : List ℕ) : Type 0 where
   pub accepted : (id : ℕ) → 0 < on ids id → id < accepted_count w
   pub held : (id : ℕ) → 0 < on ids id → (frame w id).fate ≡ Held
   pub once : (id : ℕ) → on ids id ≤ 1
+
+-- each frame in the queues is held in the world
+abbrev pub QueuedAreHeld : FlowsValue → World → Type 0
+QueuedAreHeld v w = (q id : ℕ) → 0 < on (ids (frames_at v.backlog q)) id → (frame w id).fate ≡ Held

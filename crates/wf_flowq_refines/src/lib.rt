@@ -33,7 +33,7 @@ ghost use Rattle.wf_codel_queues.specs.Backlog.{frames_at, in_queues, item_of};
 ghost use Rattle.wf_flowq.specs.Flows.{FlowsValue, empty_flows, tid_number, rotation, frames_queued, longest_queue, dropped_for_limit, is_listed_elsewhere, queue_for, loses_next, after_limit, after_put, taken_for_tid, after_purge};
 ghost use Rattle.wf_flowq_refines.specs.Standing.{part, ids, ids_given, times_held, with_finished, StandsFor};
 ghost use Rattle.wf_flowq_refines.specs.Rest.{rest};
-ghost use Rattle.wf_flowq_refines.specs.Frames.{HasEach, Passes, DropsTo, AreAccepted, IsBody, IsBodySettled, HasFrames, notes, with_body, loses_next_in, counts_as, HaveSettled, AreHeld};
+ghost use Rattle.wf_flowq_refines.specs.Frames.{HasEach, Passes, DropsTo, AreAccepted, IsBody, IsBodySettled, HasFrames, notes, with_body, loses_next_in, counts_as, HaveSettled, AreHeld, QueuedAreHeld};
 
 /// At the start, with the same settings.
 pub fn the_flow_queues_open()
@@ -215,9 +215,20 @@ pub fn the_accepted_frames_are_kept()
     ensures reap { (w : World) → notes (reap_outcome w w.finished).world ≡ notes w }
 {}
 
-/// Where frames stand in one place each, as in the world of each run, a queued frame has the fate Held.
-pub fn a_queued_frame_is_held()
-    ensures { (v : FlowsValue) (w : World) (id q : ℕ) → StandsFor v w → KeepsPlaces w → 0 < on (ids (frames_at v.backlog q)) id → (frame w id).fate ≡ Held }
+/// Each frame in the queues has the fate Held in the world: so where frames stand in one place each, as in the world of each
+/// run, and so it stays through each call, also where that world is one in the midst of a step.
+pub fn queued_frames_are_held()
+    ensures places { (v : FlowsValue) (w : World) → StandsFor v w → KeepsPlaces w → QueuedAreHeld v w }
+    ensures put { (v : FlowsValue) (w : World) (s t : ℕ) (f : FrameValue) → StandsFor v w → QueuedAreHeld v w → is_live w s ≡ true → s < w.config.stations → t < 8 →
+        f.id ≡ accepted_count w → f.stamp ≡ w.clock → QueuedAreHeld (after_put v (tid_number s t) f) (enqueue_outcome w s t f.flow (length f.body)).world }
+    ensures take { (v : FlowsValue) (w : World) (s t : ℕ) → StandsFor v w → QueuedAreHeld v w → is_live w s ≡ true → s < w.config.stations → t < 8 →
+        QueuedAreHeld (taken_for_tid v (tid_number s t) w.clock (codel_params w s)).flows (world_take w s t).world }
+    ensures finish { (v : FlowsValue) (w : World) (f : FrameValue) → StandsFor v w → QueuedAreHeld v w → f.id < accepted_count w → times_held v.backlog f.id ≡ 0 →
+        QueuedAreHeld (with_finished v (v.backlog.finished ++ f ∷ [])) (with_frame_finished w f.fate f.id) }
+    ensures reap { (v : FlowsValue) (w : World) (behind : List FrameValue) → QueuedAreHeld v w → QueuedAreHeld (with_finished v behind) (reap_outcome w w.finished).world }
+    ensures left { (v : FlowsValue) (w : World) (s t : ℕ) → StandsFor v (with_frames_finished w (Dropped Left) (waiting_ids (session w s t).slots)) →
+        QueuedAreHeld v (with_frames_finished w (Dropped Left) (waiting_ids (session w s t).slots)) → is_live w s ≡ true → s < w.config.stations → t < 8 →
+        QueuedAreHeld (after_purge v (tid_number s t)) (after_tid_left w s t) }
 {}
 
 /// How many frames a take drops, by which the finished list grows: those of the TID queued before, less the one that is given,
@@ -244,8 +255,12 @@ pub fn the_limit_drops_a_frame_of_one_tid()
 pub fn the_fates_are_counted()
     ensures finish { (w : World) (fate : Fate) (id : ℕ) → id < accepted_count w → (frame w id).fate ≡ Held → HaveSettled w (with_frame_finished w fate id) fate 1 }
     ensures finish_all { (w : World) (fate : Fate) (ids : List ℕ) → AreHeld w ids → HaveSettled w (with_frames_finished w fate ids) fate (length ids) }
-    ensures limit { (w : World) (n : ℕ) → KeepsPlaces w → n + length w.finished ≡ length (world_after_limit w).finished → HaveSettled w (world_after_limit w) (Dropped Overlimit) n }
+    ensures limit { (v : FlowsValue) (w : World) (n : ℕ) → StandsFor v w → QueuedAreHeld v w → n + length w.finished ≡ length (world_after_limit w).finished → HaveSettled w (world_after_limit w) (Dropped Overlimit) n }
     ensures put { (w : World) (s t flow len : ℕ) (x : Fate) → tally (enqueue_outcome w s t flow len).world x ≡ tally (world_after_limit w) x + counts_as Held x }
-    ensures take { (v : FlowsValue) (w : World) (s t n : ℕ) → StandsFor v w → KeepsPlaces w → is_live w s ≡ true → s < w.config.stations → t < 8 →
+    ensures take { (v : FlowsValue) (w : World) (s t n : ℕ) → StandsFor v w → QueuedAreHeld v w → is_live w s ≡ true → s < w.config.stations → t < 8 →
         n + length w.finished ≡ length (world_take w s t).world.finished → HaveSettled w (world_take w s t).world (Dropped By_codel) n }
+    ensures left { (v : FlowsValue) (w : World) (s t n : ℕ) → StandsFor v (with_frames_finished w (Dropped Left) (waiting_ids (session w s t).slots)) →
+        QueuedAreHeld v (with_frames_finished w (Dropped Left) (waiting_ids (session w s t).slots)) → s < v.stations → t < 8 →
+        n + length (with_frames_finished w (Dropped Left) (waiting_ids (session w s t).slots)).finished ≡ length (after_tid_left w s t).finished →
+        HaveSettled (with_frames_finished w (Dropped Left) (waiting_ids (session w s t).slots)) (after_tid_left w s t) (Dropped Left) n }
 {}

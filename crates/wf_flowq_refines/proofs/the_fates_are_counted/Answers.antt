@@ -1,3 +1,4 @@
+use Rattle.wf_flowq_refines.proofs.Lefts.{settled_left}
 use Rattle.wf_flowq_refines.proofs.Fates.{settled_one, settled_all, settled_limit, counted_put, settled_take}
 use Rattle.wf_flowq_refines.proofs.the_fates_are_counted.Goals as goal
 
@@ -15,3 +16,6 @@ returns-clause-put c = counted_put
 
 pub returns-clause-take : goal.returns-clause-take
 returns-clause-take c = settled_take
+
+pub returns-clause-left : goal.returns-clause-left
+returns-clause-left c = settled_left
