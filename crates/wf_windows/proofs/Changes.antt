@@ -62,7 +62,7 @@ module _ (ws : List WindowValue) (s t : ℕ) (v : WindowValue) where
           | inr other ↦
               let P : WindowValue → Type 0 = λ u. StandsFor u (after x y) bodies in
               let Q : Session → Type 0 = λ z. StandsFor (window_of ws x y) z bodies in
-              subst P (sym (window_other x y low low_y other)) (subst Q (sym (same.same x y other)) (all.stands x y live_x low_y))
+              subst P (sym (window_other x y low low_y other)) (subst Q (sym (same.same x y low_y other)) (all.stands x y live_x low_y))
         ];
         empty = λ x y dead low_y.
             let other : x ≡ s → y ≡ t → ⊥ = λ e _. differ (sym dead ∙ ap is_live e ∙ live) in
@@ -79,7 +79,7 @@ module _ (ws vs : List WindowValue) (live_before live_after : ℕ → Bool) (bef
   stands_other x y other live low =
       let P : WindowValue → Type 0 = λ u. StandsFor u (after x y) bodies in
       let Q : Session → Type 0 = λ z. StandsFor (window_of ws x y) z bodies in
-      subst P (sym (others.windows_same x y other low)) (subst Q (sym (others.sessions x y other)) (all.stands x y (sym (others.live x other) ∙ live) low))
+      subst P (sym (others.windows_same x y other low)) (subst Q (sym (others.sessions x y other low)) (all.stands x y (sym (others.live x other) ∙ live) low))
 
   empty_other : (x y : ℕ) → x ≢ s → live_after x ≡ false → y < 8 → (window_of vs x y).places ≡ []
   empty_other x y other dead low =

@@ -13,13 +13,13 @@ pub record AllStand (windows : List WindowValue) (is_live : ℕ → Bool) (sessi
 
 -- the sessions are the same but for that of TID t of station s
 pub record IsSameElsewhere (before after : ℕ → ℕ → Session) (s t : ℕ) : Type 0 where
-  pub same : (x y : ℕ) → (x ≡ s → y ≡ t → ⊥) → after x y ≡ before x y
+  pub same : (x y : ℕ) → y < 8 → (x ≡ s → y ≡ t → ⊥) → after x y ≡ before x y
 
 -- the windows and the sessions of all other stations are the same, and are live or not as before
 pub record IsSameAtOthers (windows others : List WindowValue) (was_live is_live : ℕ → Bool) (before after : ℕ → ℕ → Session) (s : ℕ) : Type 0 where
   pub windows_same : (x y : ℕ) → x ≢ s → y < 8 → window_of others x y ≡ window_of windows x y
   pub live : (x : ℕ) → x ≢ s → is_live x ≡ was_live x
-  pub sessions : (x y : ℕ) → x ≢ s → after x y ≡ before x y
+  pub sessions : (x y : ℕ) → x ≢ s → y < 8 → after x y ≡ before x y
 
 -- the ids of the numbers that wait or fly have the same frames in both
 pub record HasSameFrames (s : Session) (bodies others : ℕ → FrameValue) : Type 0 where

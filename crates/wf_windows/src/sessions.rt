@@ -27,10 +27,12 @@ pub fn one_window_changes()
 /// before.
 pub fn a_station_comes_or_goes()
     ensures joins { (windows others : List WindowValue) (was_live is_live : ℕ → Bool) (before after : ℕ → ℕ → Session) →
-        (bodies : ℕ → FrameValue) (s : ℕ) → AllStand windows was_live before bodies → IsSameAtOthers windows others was_live is_live before after s → is_live s ≡ true →
+        (bodies : ℕ → FrameValue) (s : ℕ) → AllStand windows was_live before bodies →
+        IsSameAtOthers windows others was_live is_live before after s → is_live s ≡ true →
         ((t : ℕ) → t < 8 → StandsFor (window_of others s t) (after s t) bodies) → AllStand others is_live after bodies }
     ensures goes { (windows others : List WindowValue) (was_live is_live : ℕ → Bool) (before after : ℕ → ℕ → Session) →
-        (bodies : ℕ → FrameValue) (s : ℕ) → AllStand windows was_live before bodies → IsSameAtOthers windows others was_live is_live before after s → is_live s ≡ false →
+        (bodies : ℕ → FrameValue) (s : ℕ) → AllStand windows was_live before bodies →
+        IsSameAtOthers windows others was_live is_live before after s → is_live s ≡ false →
         ((t : ℕ) → t < 8 → (window_of others s t).places ≡ []) → AllStand others is_live after bodies }
 {}
 
