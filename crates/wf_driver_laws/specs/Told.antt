@@ -1,5 +1,6 @@
 -- What a BlockAck that a driver hands in tells of an exchange, as calls of the machine: just before the exchange's Done each of its numbers that the BlockAck
--- shows arrived, no other did, and the receiver answered (IEEE 802.11-2012, 9.21.7.7).
+-- shows arrived, no other did, and the receiver answered (IEEE 802.11-2012, 9.21.7.7). The calls are those of `caller`, the exchange's number is e, and `shown`
+-- says of each whole number whether the BlockAck shows it.
 use Rattle.std.specs.Prelude.{◌≡◌, ℕ, suc, nat_lt, Bool, true, ◌↔◌, List, [], ◌∷◌, ◌++◌, None, Some, if◌then◌else◌, length, map}
 use Rattle.wf_frame.specs.declared.settings.Config.{Config}
 use Rattle.wf_frame.specs.declared.notes.Ask.TheVariants.{Arrive, Answer, Done}
@@ -45,15 +46,15 @@ told caller e shown content =
 abbrev pub tells : (ℕ → Bool) → Content → Bool
 tells shown content = nat_lt 0 (length (indices_told shown content))
 
--- the world after them
+-- the world after what a BlockAck tells of
 abbrev pub after_told : World → ℕ → ℕ → (ℕ → Bool) → Content → World
 after_told w caller e shown content = world_after w (told caller e shown content)
 
--- the call that ends exchange e then
+-- the Done that ends the exchange then
 abbrev pub done_told : ℕ → (ℕ → Bool) → Content → Note
 done_told e shown content = Asked (Done e (tells shown content))
 
--- none of these calls is refused
+-- each of these calls is answered: none is refused
 abbrev pub AreAnswered : World → List Entry → Type 0
 AreAnswered w [] = Unit {0}
 AreAnswered w (e ∷ es) = (refusal w e.1 ≡ None) × AreAnswered (step w e.1).world es
@@ -67,7 +68,7 @@ pub record KeepsAnswer (w : World) (e : ℕ) (shown : ℕ → Bool) (x : Exchang
   pub kept : marked.answer ≡ Some answer
   pub shows : EachMpdu (λ m. shows answer m.number ≡ shown m.number) (mpdus_of x.content)
 
--- of x's numbers exactly those are acknowledged
+-- of x's numbers exactly those that are shown are acknowledged
 abbrev pub AreAckedWhere : World → (ℕ → Bool) → Exchange → Type 0
 AreAckedWhere w shown x =
     EachMpdu (λ m. ((slot (session w x.station x.tid) m.number).state ≡ State.Acked) ↔ (shown m.number ≡ true)) (mpdus_of x.content)
