@@ -49,6 +49,17 @@ pub record IsAfter (e : ℕ) (x z : Exchange) (G : ℕ → Type 0) (v u : World)
   pub kept : (i j n : ℕ) → has (receiver v i j).arrived n ≡ true → has (receiver u i j).arrived n ≡ true
   pub new : is_live v x.station ≡ true → (n : ℕ) → G n → has (receiver u x.station x.tid).arrived n ≡ true
 
+-- the exchange after its transmission k arrived, and after its receiver answered
+abbrev pub with_arrival : ℕ → Exchange → Exchange
+with_arrival k x = record x { arrived = with_member k x.arrived }
+
+abbrev pub with_answer : Score → Exchange → Exchange
+with_answer b x = record x { answer = Some b }
+
+-- the answer that the exchange's receiver gives
+abbrev pub answer_now : World → Exchange → Score
+answer_now v x = score (receiver v x.station x.tid)
+
 -- ---- one arrival
 
 arrived_old : (c : Content) (i : ℕ) (r : Receiver) (n : ℕ) → has (after_arrival c i r).arrived n ≡ true → (has r.arrived n ≡ true) ⊎ IsNumber c i n
@@ -64,10 +75,10 @@ arrived_new (Frames ms) i r n e = subst (λ (k : ℕ). has (with_member (at no_m
 arrived_new (Request f) i r n e = absurd e
 
 -- what the world of an arrival is before its station is listed
-arrived_world : (v : World) (e : ℕ) (x : Exchange) (k : ℕ) → exchange v e ≡ Some x → IsAfter e x (record x { arrived = with_member k x.arrived }) (IsNumber x.content k) v (arrive_outcome v x k).world
+arrived_world : (v : World) (e : ℕ) (x : Exchange) (k : ℕ) → exchange v e ≡ Some x → IsAfter e x (with_arrival k x) (IsNumber x.content k) v (arrive_outcome v x k).world
 unfolding arrive_outcome with_exchange on_receiver
 arrived_world v e x k found =
-    let z : Exchange = record x { arrived = with_member k x.arrived } in
+    let z : Exchange = with_arrival k x in
     let r : Receiver = receiver v x.station x.tid in
     let g : Tid → Tid = λ (y : Tid). record y { receiver = after_arrival x.content k y.receiver } in
     let number : x.number ≡ e = found_number v e x found in
@@ -116,13 +127,13 @@ not_refused v e x k found open_still fresh within = none_refuses _ (
     not_le : (a b : ℕ) → b < a → nat_le a b ≡ false
     not_le a b h = grind arith
 
-arrived_step : (v : World) (e : ℕ) (x : Exchange) (k : ℕ) → exchange v e ≡ Some x → refusal v (Asked (Arrive e k)) ≡ None → IsAfter e x (record x { arrived = with_member k x.arrived }) (IsNumber x.content k) v (step v (Asked (Arrive e k))).world
+arrived_step : (v : World) (e : ℕ) (x : Exchange) (k : ℕ) → exchange v e ≡ Some x → refusal v (Asked (Arrive e k)) ≡ None → IsAfter e x (with_arrival k x) (IsNumber x.content k) v (step v (Asked (Arrive e k))).world
 unfolding outcome_of outcome_where_open
 arrived_step v e x k found fine =
     let u : World = (arrive_outcome v x k).world in
     let same_step : (step v (Asked (Arrive e k))).world ≡ with_listings_of u (Some x.station) = step_done v (Asked (Arrive e k)) fine ∙ ap (λ (o : Option Exchange). with_listings_of (outcome_where_open v o (λ y. arrive_outcome v y k)).world (station_of o)) found in
-    subst (IsAfter e x (record x { arrived = with_member k x.arrived }) (IsNumber x.content k) v) (sym same_step)
-    (after_same e x (record x { arrived = with_member k x.arrived }) (IsNumber x.content k) v u _ (same_listed (Some x.station) u) (arrived_world v e x k found))
+    subst (IsAfter e x (with_arrival k x) (IsNumber x.content k) v) (sym same_step)
+    (after_same e x (with_arrival k x) (IsNumber x.content k) v u _ (same_listed (Some x.station) u) (arrived_world v e x k found))
 
 -- ---- one change after another
 
@@ -189,7 +200,7 @@ all_arrive [] lo caller e v x found none below r = record {
   marked = λ some. absurd (some refl);
 }
 all_arrive (i ∷ is) lo caller e v x found none below r =
-    let z : Exchange = record x { arrived = with_member i x.arrived } in
+    let z : Exchange = with_arrival i x in
     let u : World = (step v (Asked (Arrive e i))).world in
     let fresh : has x.arrived i ≡ false = on_bool (has x.arrived i) (λ h. absurd (omega (arith, below i h, r.0))) (λ h. h) in
     let fine : refusal v (Asked (Arrive e i)) ≡ None = not_refused v e x i found none fresh r.1 in
@@ -207,10 +218,10 @@ all_arrive (i ∷ is) lo caller e v x found none below r =
 
 -- ---- the answer
 
-answered_world : (v : World) (e : ℕ) (x : Exchange) → exchange v e ≡ Some x → IsAfter e x (record x { answer = Some (score (receiver v x.station x.tid)) }) (λ n. ⊥) v (answer_outcome v x).world
+answered_world : (v : World) (e : ℕ) (x : Exchange) → exchange v e ≡ Some x → IsAfter e x (with_answer (answer_now v x) x) (λ n. ⊥) v (answer_outcome v x).world
 unfolding answer_outcome with_exchange
 answered_world v e x found =
-    let z : Exchange = record x { answer = Some (score (receiver v x.station x.tid)) } in
+    let z : Exchange = with_answer (answer_now v x) x in
     let number : x.number ≡ e = found_number v e x found in
     record {
       found = found_replaced v.opened e x z found number;
@@ -235,10 +246,10 @@ may_answer v e x found none marked = none_refuses _ (
   ),
 )
 
-pub answered_step : (v : World) (e : ℕ) (x : Exchange) → exchange v e ≡ Some x → refusal v (Asked (Answer e)) ≡ None → IsAfter e x (record x { answer = Some (score (receiver v x.station x.tid)) }) (λ n. ⊥) v (step v (Asked (Answer e))).world
+pub answered_step : (v : World) (e : ℕ) (x : Exchange) → exchange v e ≡ Some x → refusal v (Asked (Answer e)) ≡ None → IsAfter e x (with_answer (answer_now v x) x) (λ n. ⊥) v (step v (Asked (Answer e))).world
 unfolding outcome_of outcome_where_open
 answered_step v e x found fine =
-    let z : Exchange = record x { answer = Some (score (receiver v x.station x.tid)) } in
+    let z : Exchange = with_answer (answer_now v x) x in
     let u : World = (answer_outcome v x).world in
     let same_step : (step v (Asked (Answer e))).world ≡ with_listings_of u (Some x.station) = step_done v (Asked (Answer e)) fine ∙ ap (λ (o : Option Exchange). with_listings_of (outcome_where_open v o (λ y. answer_outcome v y)).world (station_of o)) found in
     subst (IsAfter e x z (λ n. ⊥) v) (sym same_step) (after_same e x z (λ n. ⊥) v u _ (same_listed (Some x.station) u) (answered_world v e x found))
@@ -267,14 +278,14 @@ all_told i is caller e w x found un r =
     let marked : (length z.arrived == 0) ≡ false = first.marked (λ none. cc none) in
     let fine : refusal v (Asked (Answer e)) ≡ None = may_answer v e z first.after.found first.silent marked in
     let second = answered_step v e z first.after.found fine in
-    let b : Score = score (receiver v z.station z.tid) in
+    let b : Score = answer_now v z in
     let told_world : world_after w (entries ++ answer_to caller e (i ∷ is)) ≡ (step v (Asked (Answer e))).world = world_after-append entries w (answer_to caller e (i ∷ is)) ∙ one_entry v (by caller (Asked (Answer e))) in
     record {
-      last = record z { answer = Some b };
+      last = with_answer b z;
       answer = b;
       answered = answered_append entries (answer_to caller e (i ∷ is)) w first.answered (fine, tt);
-      after = subst (IsAfter e x (record z { answer = Some b }) (IsAmong x.content (i ∷ is)) w) (sym told_world)
-          (after_of e x (record z { answer = Some b }) (λ n. IsAmong x.content (i ∷ is) n ⊎ ⊥) (IsAmong x.content (i ∷ is)) w _ (λ n k. elim k [ inl g ↦ g | inr never ↦ absurd never ]) (λ n k. inl k)
-          (after_then e x z (record z { answer = Some b }) (IsAmong x.content (i ∷ is)) (λ n. ⊥) w v _ first.after second));
+      after = subst (IsAfter e x (with_answer b z) (IsAmong x.content (i ∷ is)) w) (sym told_world)
+          (after_of e x (with_answer b z) (λ n. IsAmong x.content (i ∷ is) n ⊎ ⊥) (IsAmong x.content (i ∷ is)) w _ (λ n k. elim k [ inl g ↦ g | inr never ↦ absurd never ]) (λ n k. inl k)
+          (after_then e x z (with_answer b z) (IsAmong x.content (i ∷ is)) (λ n. ⊥) w v _ first.after second));
       kept = refl;
     }

@@ -11,7 +11,7 @@ use Rattle.wf_world.specs.Step.{after_refusal, judged_outcome, step}
 use Rattle.wf_world.specs.Run.{Entry, by, world_after}
 use Rattle.wf_laws.proofs.Frames.Fates.{world_after-append}
 use Rattle.wf_driver_laws.specs.Driven.{Deed, Call, Heard, ending, entries_of, history_of, AreSilent, IsSilentDeed, DrivenLaw}
-use Rattle.wf_driver_laws.specs.Told.{told, tells}
+use Rattle.wf_driver_laws.specs.Told.{told, done_told}
 use Rattle.wf_driver_laws.specs.Unheard.{IsUnheard}
 use Rattle.wf_driver_laws.proofs.Opened.{first_refuses, one_entry}
 use Rattle.wf_driver_laws.proofs.Silent.{silent_law, opening_unheard}
@@ -25,31 +25,33 @@ refused_step : (w : World) (e : ℕ) → refusal w (Asked (Done e true)) ≡ Som
 unfolding step judged_outcome after_refusal
 refused_step w e h = ap (λ (r : Option Refusal). (judged_outcome w (Asked (Done e true)) r).world) h
 
-ended : (o : Option Exchange) (config : Config) (h : List Entry) (caller e : ℕ) (shown : ℕ → Bool) → exchange (world_after (opening config) h) e ≡ o → IsUnheard (world_after (opening config) h) → IsUnheard (world_after (world_after (opening config) h) (ending caller e shown o))
-ended None config h caller e shown at_e un =
-    let w : World = world_after (opening config) h in
-    subst IsUnheard (sym (one_entry w (by caller (Asked (Done e true))) ∙ refused_step w e (not_open w e at_e))) un
-ended (Some x) config h caller e shown at_e un =
-    let w : World = world_after (opening config) h in
-    let es : List Entry = told caller e shown x.content in
-    let last : Entry = by caller (Asked (Done e (tells shown x.content))) in
-    subst IsUnheard (sym (world_after-append es w (last ∷ []) ∙ one_entry (world_after w es) last)) (told_law config h caller e shown x un at_e).unheard
+module _ (config : Config) where
+  -- the world after a history
+  abbrev after : List Entry → World
+  after h = world_after (opening config) h
 
-one_deed : (d : Deed) (config : Config) (h : List Entry) (caller : ℕ) → IsSilentDeed d → IsUnheard (world_after (opening config) h) → IsUnheard (world_after (world_after (opening config) h) (entries_of (world_after (opening config) h) caller d))
-one_deed (Call note) config h caller k un = subst IsUnheard (sym (one_entry (world_after (opening config) h) (by caller note))) (silent_law config h note k un)
-one_deed (Heard e shown) config h caller k un = ended (exchange (world_after (opening config) h) e) config h caller e shown refl un
+  ended : (o : Option Exchange) (h : List Entry) (caller e : ℕ) (shown : ℕ → Bool) → exchange (after h) e ≡ o → IsUnheard (after h) → IsUnheard (world_after (after h) (ending caller e shown o))
+  ended None h caller e shown at_e un = subst IsUnheard (sym (one_entry (after h) (by caller (Asked (Done e true))) ∙ refused_step (after h) e (not_open (after h) e at_e))) un
+  ended (Some x) h caller e shown at_e un =
+      let es : List Entry = told caller e shown x.content in
+      let last : Entry = by caller (done_told e shown x.content) in
+      subst IsUnheard (sym (world_after-append es (after h) (last ∷ []) ∙ one_entry (world_after (after h) es) last)) (told_law config h caller e shown x un at_e).unheard
 
-all_deeds : (ds : List (ℕ × Deed)) (config : Config) (h : List Entry) → AreSilent ds → IsUnheard (world_after (opening config) h) → IsUnheard (world_after (world_after (opening config) h) (history_of (world_after (opening config) h) ds))
-unfolding world_after
-all_deeds [] config h k un = un
-all_deeds (d ∷ ds) config h k un =
-    let w : World = world_after (opening config) h in
-    let es : List Entry = entries_of w d.0 d.1 in
-    let later : world_after (opening config) (h ++ es) ≡ world_after w es = world_after-append h (opening config) es in
-    let first : IsUnheard (world_after w es) = one_deed d.1 config h d.0 k.0 un in
-    subst IsUnheard (sym (world_after-append es w (history_of (world_after w es) ds)))
-    (subst (λ (v : World). IsUnheard (world_after v (history_of v ds))) later (all_deeds ds config (h ++ es) k.1 (subst IsUnheard (sym later) first)))
+  one_deed : (d : Deed) (h : List Entry) (caller : ℕ) → IsSilentDeed d → IsUnheard (after h) → IsUnheard (world_after (after h) (entries_of (after h) caller d))
+  one_deed (Call note) h caller k un = subst IsUnheard (sym (one_entry (after h) (by caller note))) (silent_law config h note k un)
+  one_deed (Heard e shown) h caller k un = ended (exchange (after h) e) h caller e shown refl un
+
+  all_deeds : (ds : List (ℕ × Deed)) (h : List Entry) → AreSilent ds → IsUnheard (after h) → IsUnheard (world_after (after h) (history_of (after h) ds))
+  unfolding world_after
+  all_deeds [] h k un = un
+  all_deeds (d ∷ ds) h k un =
+      let w : World = after h in
+      let es : List Entry = entries_of w d.0 d.1 in
+      let later : after (h ++ es) ≡ world_after w es = world_after-append h (opening config) es in
+      let first : IsUnheard (world_after w es) = one_deed d.1 h d.0 k.0 un in
+      subst IsUnheard (sym (world_after-append es w (history_of (world_after w es) ds)))
+      (subst (λ (v : World). IsUnheard (world_after v (history_of v ds))) later (all_deeds ds (h ++ es) k.1 (subst IsUnheard (sym later) first)))
 
 pub driven_law : (config : Config) (ds : List (ℕ × Deed)) → DrivenLaw config ds
 unfolding world_after
-driven_law config ds k = all_deeds ds config [] k (opening_unheard config)
+driven_law config ds k = all_deeds config ds [] k (opening_unheard config)

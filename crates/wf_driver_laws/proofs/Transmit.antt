@@ -10,13 +10,12 @@ use Rattle.wf_frame.specs.declared.notes.Note.TheVariants.{Asked}
 use Rattle.wf_frame.specs.declared.notes.Refusal.{Refusal}
 use Rattle.wf_frame.specs.Classes.{all_classes, lower_tid, upper_tid, class_number}
 use Rattle.wf_frame.specs.Settings.{IsInRange}
-use Rattle.wf_rules.specs.Table.{at, with_member}
-use Rattle.wf_rules.specs.Receiver.{score}
+use Rattle.wf_rules.specs.Table.{at}
 use Rattle.wf_rules.specs.Rotation.{Rotation, has_key, in_order, no_keys, with_new_key}
 use Rattle.wf_rules.specs.Session.{Session, request_due, has_room, waiting_numbers}
 use Rattle.wf_rule_laws.proofs.Lemmas.Numbers.{on_bool, both, not_eq, eq_yes}
 use Rattle.wf_rule_laws.proofs.Lemmas.Tables.{each_put}
-use Rattle.wf_world.specs.World.{World, Station, Tid, Queue, Exchange, no_tid, no_station, new_queue, session, receiver, tid_of, station, rotation, is_live, exchange, with_station, on_station, on_tid, on_receiver, with_rotation, with_exchange, opening}
+use Rattle.wf_world.specs.World.{World, Station, Tid, Queue, Exchange, no_tid, no_station, new_queue, session, tid_of, station, rotation, is_live, exchange, with_station, on_station, on_tid, on_receiver, with_rotation, with_exchange, opening}
 use Rattle.wf_world.specs.CanSend.{is_request, request_open, can_send, can_send_in, has_credit, may_receive, is_ready, with_listing_in, with_listings_in, with_listings_of}
 use Rattle.wf_world.specs.Exchanges.{after_arrival}
 use Rattle.wf_world.specs.Refusals.{refusal}
@@ -30,6 +29,7 @@ use Rattle.wf_driver_laws.specs.Told.{arrivals, answer_to, indices_told, told}
 use Rattle.wf_driver_laws.specs.Transmit.{without_tids, HasSameTransmit, TransmitLaw}
 use Rattle.wf_driver_laws.specs.Unheard.{unmarked}
 use Rattle.wf_driver_laws.proofs.Opened.{with_replaced, found_number}
+use Rattle.wf_driver_laws.proofs.Arrivals.{with_arrival, with_answer, answer_now}
 use Rattle.wf_driver_laws.proofs.Ended.{windows_after}
 
 same_transmit : (w : World) → HasSameTransmit w w
@@ -143,11 +143,11 @@ arrived_transmit w e x k r found =
     let f : Tid → Tid = λ (y : Tid). record y { receiver = after_arrival x.content k y.receiver } in
     let u : World = on_tid w x.station x.tid f in
     then_transmit w u _ (on_tid_transmit w x.station x.tid f (λ y. refl) (λ y. refl))
-    (with_exchange_transmit u e x (record x { arrived = with_member k x.arrived }) r found (found_number w e x found) refl)
+    (with_exchange_transmit u e x (with_arrival k x) r found (found_number w e x found) refl)
 
 answered_transmit : (w : World) (e : ℕ) (x : Exchange) → OpenRises 0 w.exchanges w.opened → exchange w e ≡ Some x → HasSameTransmit w (answer_outcome w x).world
 unfolding answer_outcome
-answered_transmit w e x r found = with_exchange_transmit w e x (record x { answer = Some (score (receiver w x.station x.tid)) }) r found (found_number w e x found) refl
+answered_transmit w e x r found = with_exchange_transmit w e x (with_answer (answer_now w x) x) r found (found_number w e x found) refl
 
 -- ---- who is ready stays so
 

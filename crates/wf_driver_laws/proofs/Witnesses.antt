@@ -1,7 +1,7 @@
 -- A driver's run in which the laws speak of something, computed: three frames in one aggregate, whose numbers go across the wrap. The first BlockAck shows the second
 -- number alone, the next shows nothing, and the last shows the two that are left.
 use Rattle.std.proofs.Common.{◌≡◌, refl, ℕ, ◌==◌, true, false, List, [], ◌∷◌, map}
-use Rattle.wf_frame.specs.declared.settings.Config.{Config}
+use Rattle.wf_frame.specs.Settings.{standard}
 use Rattle.wf_frame.specs.declared.classes.Class.TheVariants.{Be}
 use Rattle.wf_frame.specs.declared.classes.Fate.{Fate}
 use Rattle.wf_frame.specs.declared.classes.Fate.TheVariants.{Acked}
@@ -12,15 +12,12 @@ use Rattle.wf_world.specs.Run.{Entry, by, world_after}
 use Rattle.wf_world.specs.Computed.{the_machine}
 use Rattle.wf_driver_laws.specs.Driven.{Deed, Call, Heard, history_of}
 
-abbrev config : Config
-config = record { stations = 16; flows = 1024; limit = 8192; room = 65536; flow_quantum = 300; quantum = 300; inflight = 2; attempts = 10; agg = 32; cap = 4000; sleeping = 64; calls = 1048576 }
-
 abbrev deeds : List (ℕ × Deed)
 deeds = map (λ d. (0, d)) (
-    Call (Asked (Join 0 4 4094 3 1)) ∷
-    Call (Enqueue 0 0 7 100) ∷
-    Call (Enqueue 0 0 7 100) ∷
-    Call (Enqueue 0 0 7 100) ∷
+    Call (Asked (Join 0 8 4094 3 2)) ∷
+    Call (Enqueue 0 3 7 100) ∷
+    Call (Enqueue 0 3 8 200) ∷
+    Call (Enqueue 0 3 9 300) ∷
     Call (Asked (Pull Be)) ∷
     Heard 0 (λ n. n == 4095) ∷
     Call (Asked (Pull Be)) ∷
@@ -30,10 +27,10 @@ deeds = map (λ d. (0, d)) (
 
 abbrev history : List Entry
 history = map (by 0) (
-    Asked (Join 0 4 4094 3 1) ∷
-    Enqueue 0 0 7 100 ∷
-    Enqueue 0 0 7 100 ∷
-    Enqueue 0 0 7 100 ∷
+    Asked (Join 0 8 4094 3 2) ∷
+    Enqueue 0 3 7 100 ∷
+    Enqueue 0 3 8 200 ∷
+    Enqueue 0 3 9 300 ∷
     Asked (Pull Be) ∷
     Asked (Arrive 0 1) ∷
     Asked (Answer 0) ∷
@@ -46,13 +43,13 @@ history = map (by 0) (
     Asked (Answer 2) ∷
     Asked (Done 2 true) ∷ [])
 
-its_history : history_of (opening config) deeds ≡ history
+its_history : history_of (opening standard) deeds ≡ history
 unfolding the_machine
 its_history = refl
 
 abbrev fates : World → List Fate
 fates w = map (λ (x : Frame). x.fate) w.frames
 
-all_acked : fates (world_after (opening config) history) ≡ Acked ∷ Acked ∷ Acked ∷ []
+all_acked : fates (world_after (opening standard) history) ≡ Acked ∷ Acked ∷ Acked ∷ []
 unfolding the_machine
 all_acked = refl

@@ -6,7 +6,7 @@ use Rattle.wf_frame.specs.declared.notes.Note.{Note}
 use Rattle.wf_frame.specs.declared.notes.Note.TheVariants.{Asked}
 use Rattle.wf_world.specs.World.{World, Exchange, exchange, opening}
 use Rattle.wf_world.specs.Run.{Entry, by, world_after}
-use Rattle.wf_driver_laws.specs.Told.{told, tells}
+use Rattle.wf_driver_laws.specs.Told.{told, done_told}
 use Rattle.wf_driver_laws.specs.Unheard.{IsSilent, IsUnheard}
 
 -- what a driver does: a call that tells of no receiver, or the end of an exchange with the numbers that its BlockAck shows
@@ -17,7 +17,7 @@ pub data Deed : Type 0 where
 -- the end of exchange e, where it is open: what its BlockAck tells of, and the Done
 abbrev pub ending : ℕ → ℕ → (ℕ → Bool) → Option Exchange → List Entry
 ending caller e shown None = by caller (Asked (Done e true)) ∷ []
-ending caller e shown (Some x) = told caller e shown x.content ++ by caller (Asked (Done e (tells shown x.content))) ∷ []
+ending caller e shown (Some x) = told caller e shown x.content ++ by caller (done_told e shown x.content) ∷ []
 
 -- the calls of the machine that a deed stands for
 abbrev pub entries_of : World → ℕ → Deed → List Entry

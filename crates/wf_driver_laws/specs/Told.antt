@@ -1,11 +1,14 @@
 -- What a BlockAck that a driver hands in tells of an exchange, as calls of the machine: just before the exchange's Done each of its numbers that the BlockAck
--- shows arrived, no other did, and the receiver answered (IEEE 802.11-2012, 9.21.7.7).
-use Rattle.std.specs.Prelude.{◌≡◌, ℕ, suc, nat_lt, Bool, true, List, [], ◌∷◌, ◌++◌, None, Some, if◌then◌else◌, length, map}
+-- shows arrived, no other did, and the receiver answered (IEEE 802.11-2012, 9.21.7.7). The calls are those of `caller`, the exchange's number is e, and `shown`
+-- says of each whole number whether the BlockAck shows it.
+use Rattle.std.specs.Prelude.{◌≡◌, ℕ, suc, nat_lt, Bool, true, ◌↔◌, List, [], ◌∷◌, ◌++◌, None, Some, if◌then◌else◌, length, map}
 use Rattle.wf_frame.specs.declared.settings.Config.{Config}
 use Rattle.wf_frame.specs.declared.notes.Ask.TheVariants.{Arrive, Answer, Done}
+use Rattle.wf_frame.specs.declared.notes.Note.{Note}
 use Rattle.wf_frame.specs.declared.notes.Note.TheVariants.{Asked}
+use Rattle.wf_rules.specs.Session.{State, slot}
 use Rattle.wf_rules.specs.Receiver.{Score, shows}
-use Rattle.wf_world.specs.World.{World, Exchange, Mpdu, Content, Frames, Request, exchange, opening}
+use Rattle.wf_world.specs.World.{World, Exchange, Mpdu, Content, Frames, Request, session, exchange, opening}
 use Rattle.wf_world.specs.Exchanges.{mpdus_of}
 use Rattle.wf_world.specs.Refusals.{refusal}
 use Rattle.wf_world.specs.Step.{step}
@@ -43,7 +46,15 @@ told caller e shown content =
 abbrev pub tells : (ℕ → Bool) → Content → Bool
 tells shown content = nat_lt 0 (length (indices_told shown content))
 
--- none of these calls is refused
+-- the world after what a BlockAck tells of
+abbrev pub after_told : World → ℕ → ℕ → (ℕ → Bool) → Content → World
+after_told w caller e shown content = world_after w (told caller e shown content)
+
+-- the Done that ends the exchange then
+abbrev pub done_told : ℕ → (ℕ → Bool) → Content → Note
+done_told e shown content = Asked (Done e (tells shown content))
+
+-- each of these calls is answered: none is refused
 abbrev pub AreAnswered : World → List Entry → Type 0
 AreAnswered w [] = Unit {0}
 AreAnswered w (e ∷ es) = (refusal w e.1 ≡ None) × AreAnswered (step w e.1).world es
@@ -57,19 +68,25 @@ pub record KeepsAnswer (w : World) (e : ℕ) (shown : ℕ → Bool) (x : Exchang
   pub kept : marked.answer ≡ Some answer
   pub shows : EachMpdu (λ m. shows answer m.number ≡ shown m.number) (mpdus_of x.content)
 
--- What a BlockAck tells of x, an open exchange e of w: each of the calls is answered, the answer that is then kept shows what the BlockAck does, and after the
--- exchange's Done no receiver has anything of which its sender does not know.
+-- of x's numbers exactly those that are shown are acknowledged
+abbrev pub AreAckedWhere : World → (ℕ → Bool) → Exchange → Type 0
+AreAckedWhere w shown x =
+    EachMpdu (λ m. ((slot (session w x.station x.tid) m.number).state ≡ State.Acked) ↔ (shown m.number ≡ true)) (mpdus_of x.content)
+
+-- What a BlockAck tells of x, an open exchange e of w: each of the calls is answered, and the answer that is then kept shows what the BlockAck does. After the
+-- exchange's Done exactly the numbers that were shown are acknowledged, and no receiver has anything of which its sender does not know.
 pub record IsTold (w : World) (caller e : ℕ) (shown : ℕ → Bool) (x : Exchange) : Type 0 where
   pub answered : AreAnswered w (told caller e shown x.content)
-  pub keeps : tells shown x.content ≡ true → KeepsAnswer (world_after w (told caller e shown x.content)) e shown x
-  pub ends : refusal (world_after w (told caller e shown x.content)) (Asked (Done e (tells shown x.content))) ≡ None
-  pub unheard : IsUnheard (step (world_after w (told caller e shown x.content)) (Asked (Done e (tells shown x.content)))).world
+  pub keeps : tells shown x.content ≡ true → KeepsAnswer (after_told w caller e shown x.content) e shown x
+  pub ends : refusal (after_told w caller e shown x.content) (done_told e shown x.content) ≡ None
+  pub acked : AreAckedWhere (step (after_told w caller e shown x.content) (done_told e shown x.content)).world shown x
+  pub unheard : IsUnheard (step (after_told w caller e shown x.content) (done_told e shown x.content)).world
 
--- in each unheard world of a run, of each exchange that is open there
+-- in the world after a history, where it is unheard, of each exchange that is open there
 abbrev pub ToldLaw : Config → List Entry → Type 0
 ToldLaw config history =
-    (caller e : ℕ) (shown : ℕ → Bool) (x : Exchange) → IsUnheard (world_after (opening config) history) →
-    exchange (world_after (opening config) history) e ≡ Some x → IsTold (world_after (opening config) history) caller e shown x
+    let w : World = world_after (opening config) history in
+    (caller e : ℕ) (shown : ℕ → Bool) (x : Exchange) → IsUnheard w → exchange w e ≡ Some x → IsTold w caller e shown x
 
 -- Calls go on a history: the world after them is the one after both, and where each frame of the history has an octet or more, or at most so many, so has
 -- each of both.

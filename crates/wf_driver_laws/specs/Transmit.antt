@@ -7,7 +7,7 @@ use Rattle.wf_rules.specs.Table.{at}
 use Rattle.wf_world.specs.World.{World, Station, Content, session, tid_of, opening}
 use Rattle.wf_world.specs.Step.{step}
 use Rattle.wf_world.specs.Run.{Entry, world_after}
-use Rattle.wf_driver_laws.specs.Told.{told}
+use Rattle.wf_driver_laws.specs.Told.{after_told}
 use Rattle.wf_driver_laws.specs.Unheard.{unmarked}
 
 -- a station without its TIDs
@@ -28,8 +28,12 @@ pub record HasSameTransmit (w u : World) : Type 0 where
   pub frames : u.frames ≡ w.frames
   pub finished : u.finished ≡ w.finished
 
--- in a world of a run, of the calls by which receivers are heard of before a Done, one by one and together
-pub record TransmitLaw (config : Config) (history : List Entry) : Type 0 where
-  pub arrive : (e i : ℕ) → HasSameTransmit (world_after (opening config) history) (step (world_after (opening config) history) (Asked (Arrive e i))).world
-  pub answer : (e : ℕ) → HasSameTransmit (world_after (opening config) history) (step (world_after (opening config) history) (Asked (Answer e))).world
-  pub told : (caller e : ℕ) (shown : ℕ → Bool) (content : Content) → HasSameTransmit (world_after (opening config) history) (world_after (world_after (opening config) history) (told caller e shown content))
+-- the calls by which a receiver is heard of before a Done, one by one and together, change nothing that a transmit path keeps
+pub record KeepsTransmit (w : World) : Type 0 where
+  pub arrive : (e i : ℕ) → HasSameTransmit w (step w (Asked (Arrive e i))).world
+  pub answer : (e : ℕ) → HasSameTransmit w (step w (Asked (Answer e))).world
+  pub told : (caller e : ℕ) (shown : ℕ → Bool) (content : Content) → HasSameTransmit w (after_told w caller e shown content)
+
+-- in the world after a history
+abbrev pub TransmitLaw : Config → List Entry → Type 0
+TransmitLaw config history = KeepsTransmit (world_after (opening config) history)

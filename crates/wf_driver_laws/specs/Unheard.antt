@@ -39,7 +39,8 @@ IsSilent (Asked (Answer e)) = ⊥
 IsSilent (Asked (Done e true)) = ⊥
 IsSilent note = Unit {0}
 
--- in a world of a run
+-- in the world after a history
 abbrev pub SilentLaw : Config → List Entry → Type 0
 SilentLaw config history =
-    (note : Note) → IsSilent note → IsUnheard (world_after (opening config) history) → IsUnheard (step (world_after (opening config) history) note).world
+    let w : World = world_after (opening config) history in
+    (note : Note) → IsSilent note → IsUnheard w → IsUnheard (step w note).world

@@ -15,8 +15,9 @@ ghost use Rattle.wf_driver_laws.specs.Told.{RunLaw, ToldLaw};
 ghost use Rattle.wf_driver_laws.specs.Transmit.{TransmitLaw};
 ghost use Rattle.wf_driver_laws.specs.Unheard.{IsUnheard, SilentLaw};
 
-/// In an unheard world of a run, a BlockAck that shows any of an open exchange's numbers tells of calls that are all answered;
-/// then the exchange keeps an answer that shows exactly those, and its Done leaves the world unheard.
+/// In an unheard world of a run, a BlockAck that shows any of an open exchange's numbers tells of calls that are all answered,
+/// and the exchange then keeps an answer that shows exactly those. After its Done exactly those are acknowledged, and the world
+/// is unheard. One that shows none of them tells of nothing, and its Done is not heard.
 pub fn told_law()
     ensures told { (config : Config) (history : List Entry) → ToldLaw config history }
 {}
