@@ -11,6 +11,7 @@ ghost use Rattle.wf_live.specs.Soak.{soak_history};
 ghost use Rattle.wf_replay.specs.Commands.{command_of};
 ghost use Rattle.wf_replay.specs.Laws.{HasLaws};
 ghost use Rattle.wf_session_run.specs.Outcome.{SessionOutcome, SessionAnswered, SessionLaw};
+ghost use Rattle.wf_uplink_run.specs.Outcome.{UplinkOutcome, UplinkAnswered, UplinkLaw};
 
 use crate::plain::Plain;
 use crate::runner::replay_on;
@@ -24,6 +25,7 @@ use wf_report::{Unwritten, summary};
 use wf_session_run::session;
 use wf_status::Status;
 use wf_turnstile::Turnstile;
+use wf_uplink_run::uplink;
 
 /// Reads a trace from the source and writes the answer line of each call before it reads the next, and the summary after
 /// the `end` line; where the trace has a fault, the line of the fault in place of the summary. Octets after the `end`
@@ -57,7 +59,8 @@ pub fn soaked<K: Sink>(alloc: Global, seed: u64, calls: u32, sink: &mut K) -> St
     }
 }
 
-/// Runs the command that the words are, on this source and sink: `replay`, `soak SEED CALLS` or `session`.
+/// Runs the command that the words are, on this source and sink: `replay`, `soak SEED CALLS`, `session` or
+/// `uplink`.
 pub fn run<R: Threads + Wait + Sync, S: Source, K: Sink, T: Turnstile + Sync>(
     rt: &R,
     alloc: Global,
@@ -95,6 +98,16 @@ pub fn run<R: Threads + Wait + Sync, S: Source, K: Sink, T: Turnstile + Sync>(
         (input : List ℕ) → S.left source.old ≡ Some input → SessionAnswered input result }
     ensures session_law { (input : List ℕ) → S.left source.old ≡ Some input → SessionLaw input }
 
+    // on `uplink`
+    ensures uplink { command_of (map string_bytes words.now) ≡ Some Command.Uplink →
+        (taken written : List ℕ) × (S.left source.old ≡ prepend_known taken (S.left source.new))
+        × (K.held sink.new ≡ append_known (K.held sink.old) written)
+        × ((input : List ℕ) → S.left source.old ≡ Some input → UplinkOutcome result input taken written) }
+    ensures uplink_complete { command_of (map string_bytes words.now) ≡ Some Command.Uplink →
+        (HasRisen (S.faults source.old) (S.faults source.new) → ⊥) → (HasRisen (K.faults sink.old) (K.faults sink.new) → ⊥) →
+        (input : List ℕ) → S.left source.old ≡ Some input → UplinkAnswered input result }
+    ensures uplink_law { (input : List ℕ) → S.left source.old ≡ Some input → UplinkLaw input }
+
     // on all
     ensures read { result ≡ Status.ReadFault → HasRisen (S.faults source.old) (S.faults source.new) }
     ensures write { result ≡ Status.WriteFault → HasRisen (K.faults sink.old) (K.faults sink.new) }
@@ -106,5 +119,6 @@ pub fn run<R: Threads + Wait + Sync, S: Source, K: Sink, T: Turnstile + Sync>(
         Some(Command::Replay) => replay(alloc, source, sink),
         Some(Command::Soak { seed, calls }) => soaked(alloc, seed, calls, sink),
         Some(Command::Session) => session(alloc, source, sink),
+        Some(Command::Uplink) => uplink(alloc, source, sink),
     }
 }

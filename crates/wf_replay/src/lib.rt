@@ -1,4 +1,5 @@
-//! The commands of the program over any source and sink: a replay of a trace, a soak, and a session.
+//! The commands of the program over any source and sink: a replay of a trace, a soak, a session, and an
+//! uplink.
 #![tactic(auto)]
 
 mod commands;

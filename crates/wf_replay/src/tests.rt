@@ -153,3 +153,18 @@ fn a_session_answers_its_script(rt: HostRuntime) -> Result<(), Fail> {
     );
     Ok(())
 }
+
+#[test]
+fn an_uplink_answers_its_script(rt: HostRuntime) -> Result<(), Fail> {
+    let octets = b"open 0 64 10\ntick 1\nend\n".to_vec(rt.alloc())?;
+    let mut source = Given::new(octets, 16, Vec::new(rt.alloc()));
+    let mut sink = Kept::new(rt.alloc(), 65_536, 4096, Vec::new(rt.alloc()))?;
+    let mut words = Vec::new(rt.alloc());
+    words.push("uplink".to_string(rt.alloc())?)?;
+    assert!(rt; run(&rt, rt.alloc(), &words, &mut source, &mut sink, &Free) == Status::Done);
+    assert_eq!(rt;
+        sink.octets(),
+        b"opened\nnow 1\nframes 0 up 0 old 0 held 0 missing 0\n".as_slice()
+    );
+    Ok(())
+}

@@ -16,6 +16,8 @@ pub enum Command {
     Soak { seed: u64, calls: u32 },
     /// Play the script on standard input on two ends of an agreement.
     Session,
+    /// Play the script on standard input on the uplink of 256 stations.
+    Uplink,
 }
 
 /// The value of digits, unless it goes past 64 bits.
@@ -73,6 +75,7 @@ pub fn command_from(words: &[String]) -> Option<Command>
     match words {
         [word] if word.as_str() == "replay" => Some(Command::Replay),
         [word] if word.as_str() == "session" => Some(Command::Session),
+        [word] if word.as_str() == "uplink" => Some(Command::Uplink),
         [word, seed, calls] if word.as_str() == "soak" => soak_of(
             number_within(0, u64::MAX, seed.as_bytes()),
             number_within(1, 1_000_000, calls.as_bytes()),

@@ -2,6 +2,7 @@ use Rattle.std.proofs.Common.{true}
 use Rattle.wf_replay.proofs.Ranges.{trace_laws}
 use Rattle.wf_replay.proofs.SoakText.{soak_laws}
 use Rattle.wf_session_run.proofs.Law.{session_law as law_of_session}
+use Rattle.wf_uplink_run.proofs.Scripts.{uplink_law as law_of_uplink}
 use Rattle.wf_replay.proofs.commands.run.Goals as goal
 
 pub returns-in-None-clause-laws : goal.returns-in-None-clause-laws
@@ -33,3 +34,24 @@ returns-in-Some-Session-clause-laws g c = λ input told. trace_laws true input
 
 pub returns-in-Some-Session-clause-soak_laws : goal.returns-in-Some-Session-clause-soak_laws
 returns-in-Some-Session-clause-soak_laws g c = soak_laws
+
+pub returns-in-None-clause-uplink_law : goal.returns-in-None-clause-uplink_law
+returns-in-None-clause-uplink_law g c = λ input told. law_of_uplink input
+
+pub returns-in-Some-Replay-clause-uplink_law : goal.returns-in-Some-Replay-clause-uplink_law
+returns-in-Some-Replay-clause-uplink_law g c = λ input told. law_of_uplink input
+
+pub returns-in-Some-Soak-clause-uplink_law : goal.returns-in-Some-Soak-clause-uplink_law
+returns-in-Some-Soak-clause-uplink_law g c = λ input told. law_of_uplink input
+
+pub returns-in-Some-Session-clause-uplink_law : goal.returns-in-Some-Session-clause-uplink_law
+returns-in-Some-Session-clause-uplink_law g c = λ input told. law_of_uplink input
+
+pub returns-in-Some-Uplink-clause-laws : goal.returns-in-Some-Uplink-clause-laws
+returns-in-Some-Uplink-clause-laws g c = λ input told. trace_laws true input
+
+pub returns-in-Some-Uplink-clause-soak_laws : goal.returns-in-Some-Uplink-clause-soak_laws
+returns-in-Some-Uplink-clause-soak_laws g c = soak_laws
+
+pub returns-in-Some-Uplink-clause-session_law : goal.returns-in-Some-Uplink-clause-session_law
+returns-in-Some-Uplink-clause-session_law g c = λ input told. law_of_session input
