@@ -1,1 +1,2 @@
 pub mod SoakLemmas
+pub mod SoakLengths

@@ -2,6 +2,7 @@
 
 ghost use Rattle.std.specs.Prelude.{◌≡◌, ◌+◌, ◌-◌, ◌≤◌, ◌<◌, IfOk, length};
 ghost use Rattle.wf_frame.specs.Settings.{standard};
+ghost use Rattle.wf_live.specs.Lengths.{HaveSoakLengths};
 ghost use Rattle.wf_live.specs.Soak.{IsLater, frame_for, soak_begun, call, reply_to, stations_join, station_joins, frame_put, air_used, sleeper_called, transmission_sent, lets_arrive, all_sent, some_arrive, exchange_ended, after_answer_if, exchange_played, transmissions_in, sending, sending_played, class_in_round, after_pull, after_reaps, after_all_reaps, round_played, rounds_played, soak_history, drawn, word, is_nothing};
 ghost use Rattle.wf_world.specs.World.{opening};
 ghost use Rattle.wf_world.specs.Run.{world_after};
@@ -38,10 +39,11 @@ impl Model for SoakRun {
 
 /// The machine after the soak of a seed and a number of calls, 1 to 1,000,000: the standard settings, sixteen stations, and rounds of
 /// enqueues, pulls, losses and reaps until so many calls were made. It takes memory; a number past its type is a fault too.
-#[tactic(auto, unfolding(crate::specs::Soak::soak_history))]
+#[tactic(auto, unfolding(crate::specs::Soak::soak_history), using(crate::proofs::SoakLengths::soak_lengths))]
 pub fn soak(alloc: Global, seed: u64, calls: u32) -> Result<Machine, Fault>
     ensures made { IfOk result (λ m. m ≡ world_after (opening standard) (soak_history seed calls)) }
     ensures counted { IfOk result (λ m. length (soak_history seed calls) ≡ calls) }
+    ensures lengths { HaveSoakLengths (soak_history seed calls) }
 {
     let begun = SoakRun::new(alloc, seed, calls);
     let soak = begun.stations_join()?.rounds_played(calls)?;

@@ -1,12 +1,19 @@
--- What is written of a soak.
-use Rattle.std.proofs.Common.{◌≡◌, ℕ, ap₂}
+-- What is written of a soak, and how long its frames are.
+use Rattle.std.proofs.Common.{◌≡◌, ℕ, List, [], ◌∷◌, ap₂, arith}
+use Rattle.wf_frame.specs.declared.notes.Note.{Note}
+use Rattle.wf_frame.specs.declared.notes.Note.TheVariants.{Enqueue, Asked}
+use Rattle.wf_rules.specs.Lengths.{greatest_body}
 use Rattle.wf_frame.specs.Settings.{standard}
 use Rattle.wf_laws.specs.Laws.{Laws}
+use Rattle.wf_laws.specs.Queues.{HasLength, IsAtMost}
 use Rattle.wf_laws.proofs.AllLaws.{laws}
+use Rattle.wf_live.specs.Lengths.{HasSoakLength, HaveSoakLengths}
+use Rattle.wf_live.proofs.SoakLengths.{soak_lengths as of_soak}
 use Rattle.wf_live.specs.Soak.{soak_history}
 use Rattle.wf_world.specs.World.{World, opening}
-use Rattle.wf_world.specs.Run.{world_after}
+use Rattle.wf_world.specs.Run.{Entry, world_after}
 use Rattle.wf_world.specs.Text.{summary}
+use Rattle.wf_replay.specs.Laws.{HasLengths}
 use Rattle.wf_replay.specs.Outcome.{soak_text}
 use Rattle.wf_replay.proofs.Ranges.{standard_in}
 
@@ -16,3 +23,18 @@ is_soak_text w n seed calls played counted = ap₂ summary played counted
 
 pub soak_laws : (seed calls : ℕ) → Laws standard (soak_history seed calls)
 soak_laws seed calls = laws standard (soak_history seed calls) standard_in
+
+-- 64 to 1500 octets are at least one, and at most those of the greatest body
+sized : (note : Note) → HasSoakLength note → HasLength note × IsAtMost greatest_body note
+sized (Enqueue station tid flow len) has = (omega (arith, has.0), omega (arith, has.1))
+sized (Asked ask) has = (tt, tt)
+
+lengths_of : (history : List Entry) → HaveSoakLengths history → HasLengths history
+lengths_of [] have = (tt, tt)
+lengths_of (e ∷ es) have =
+    let one = sized e.1 have.0 in
+    let others = lengths_of es have.1 in
+    ((one.0, others.0), (one.1, others.1))
+
+pub soak_lengths : (seed calls : ℕ) → HasLengths (soak_history seed calls)
+soak_lengths seed calls = lengths_of (soak_history seed calls) (of_soak seed calls)

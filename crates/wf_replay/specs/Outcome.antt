@@ -45,10 +45,10 @@ SoakStatusSays BadTrace seed calls written = ⊥
 SoakStatusSays ReadFault seed calls written = ⊥
 SoakStatusSays Usage seed calls written = ⊥
 
--- how a run without faults of its source and sink ends
+-- how a run without faults of its source and sink ends; the ending of a trace is always finish or a fault
 abbrev pub FitsEnding : Option Item → Status → Type 0
 FitsEnding (Some Finish) status = (status ≡ Done) ⊎ (status ≡ NoMemory)
 FitsEnding (Some (Bad fault)) status = (status ≡ BadTrace) ⊎ (status ≡ NoMemory)
-FitsEnding (Some (Head config)) status = Unit {0}
-FitsEnding (Some (Entry caller note)) status = Unit {0}
-FitsEnding None status = Unit {0}
+FitsEnding (Some (Head config)) status = ⊥
+FitsEnding (Some (Entry caller note)) status = ⊥
+FitsEnding None status = ⊥

@@ -9,7 +9,7 @@ ghost use Rattle.wf_frame.specs.Settings.{standard};
 ghost use Rattle.wf_laws.specs.Laws.{Laws};
 ghost use Rattle.wf_live.specs.Soak.{soak_history};
 ghost use Rattle.wf_replay.specs.Commands.{command_of};
-ghost use Rattle.wf_replay.specs.Laws.{HasLaws};
+ghost use Rattle.wf_replay.specs.Laws.{HasLengths, HasLaws};
 ghost use Rattle.wf_session_run.specs.Outcome.{SessionOutcome, SessionAnswered, SessionLaw};
 ghost use Rattle.wf_uplink_run.specs.Outcome.{UplinkOutcome, UplinkAnswered, UplinkLaw};
 
@@ -35,7 +35,9 @@ pub fn replay<S: Source, K: Sink>(alloc: Global, source: &mut S, sink: &mut K) -
         × (K.held sink.new ≡ append_known (K.held sink.old) written)
         × ((input : List ℕ) → S.left source.old ≡ Some input → StatusSays result input taken written) }
     ensures read { result ≡ Status.ReadFault → HasRisen (S.faults source.old) (S.faults source.new) }
+    ensures source_quiet { result ≢ Status.ReadFault → S.faults source.new ≡ S.faults source.old }
     ensures write { result ≡ Status.WriteFault → HasRisen (K.faults sink.old) (K.faults sink.new) }
+    ensures sink_quiet { result ≢ Status.WriteFault → K.faults sink.new ≡ K.faults sink.old }
     ensures command { result ≢ Status.Usage }
     ensures laws { (input : List ℕ) → S.left source.old ≡ Some input → HasLaws (reading true input) }
     ensures complete { (HasRisen (S.faults source.old) (S.faults source.new) → ⊥) → (HasRisen (K.faults sink.old) (K.faults sink.new) → ⊥) →
@@ -48,6 +50,7 @@ pub fn replay<S: Source, K: Sink>(alloc: Global, source: &mut S, sink: &mut K) -
 pub fn soaked<K: Sink>(alloc: Global, seed: u64, calls: u32, sink: &mut K) -> Status
     ensures text { (written : List ℕ) × (K.held sink.new ≡ append_known (K.held sink.old) written) × SoakStatusSays result seed calls written }
     ensures write { result ≡ Status.WriteFault → HasRisen (K.faults sink.old) (K.faults sink.new) }
+    ensures sink_quiet { result ≢ Status.WriteFault → K.faults sink.new ≡ K.faults sink.old }
 {
     let Ok(machine) = soak(alloc, seed, calls) else {
         return Status::NoMemory;
@@ -70,7 +73,7 @@ pub fn run<R: Threads + Wait + Sync, S: Source, K: Sink, T: Turnstile + Sync>(
     turnstile: &T,
 ) -> Status
     ensures usage { (result ≡ Status.Usage) ↔ (command_of (map string_bytes words.now) ≡ None) }
-    ensures untouched { result ≡ Status.Usage → (S.left source.new ≡ S.left source.old) × (K.held sink.new ≡ K.held sink.old) }
+    ensures untouched { result ≡ Status.Usage → (source.new ≡ source.old) × (sink.new ≡ sink.old) }
 
     // on `replay`
     ensures text { command_of (map string_bytes words.now) ≡ Some Command.Replay →
@@ -84,9 +87,10 @@ pub fn run<R: Threads + Wait + Sync, S: Source, K: Sink, T: Turnstile + Sync>(
 
     // on `soak SEED CALLS`
     ensures soak { (seed calls : ℕ) → command_of (map string_bytes words.now) ≡ Some (Command.Soak seed calls) →
-        (S.left source.new ≡ S.left source.old)
+        (source.new ≡ source.old)
         × ((written : List ℕ) × (K.held sink.new ≡ append_known (K.held sink.old) written) × SoakStatusSays result seed calls written) }
     ensures soak_laws { (seed calls : ℕ) → Laws standard (soak_history seed calls) }
+    ensures soak_lengths { (seed calls : ℕ) → HasLengths (soak_history seed calls) }
 
     // on `session`
     ensures session { command_of (map string_bytes words.now) ≡ Some Command.Session →
@@ -110,7 +114,9 @@ pub fn run<R: Threads + Wait + Sync, S: Source, K: Sink, T: Turnstile + Sync>(
 
     // on all
     ensures read { result ≡ Status.ReadFault → HasRisen (S.faults source.old) (S.faults source.new) }
+    ensures source_quiet { result ≢ Status.ReadFault → S.faults source.new ≡ S.faults source.old }
     ensures write { result ≡ Status.WriteFault → HasRisen (K.faults sink.old) (K.faults sink.new) }
+    ensures sink_quiet { result ≢ Status.WriteFault → K.faults sink.new ≡ K.faults sink.old }
 {
     let _ = rt;
     let _ = turnstile;

@@ -42,6 +42,7 @@ fn close<M: Runs, K: Sink>(machine: &Option<M>, calls: u64, sink: &mut K) -> Res
     ensures front { HoldsFront (K.held sink.old) (K.held sink.new) (closing (option_map M.world machine.now) calls (Some item.Finish)) }
     ensures counted { K.faults sink.old ≤ K.faults sink.new }
     ensures cause { result ≡ Err Unwritten.Sink → HasRisen (K.faults sink.old) (K.faults sink.new) }
+    ensures quiet { result ≢ Err Unwritten.Sink → K.faults sink.new ≡ K.faults sink.old }
 {
     match machine {
         Some(machine) => summary(machine, calls, sink),
@@ -55,7 +56,9 @@ pub fn replay_on<M: Runs, S: Source, K: Sink>(alloc: Global, source: &mut S, sin
         × (K.held sink.new ≡ append_known (K.held sink.old) written)
         × ((input : List ℕ) → S.left source.old ≡ Some input → StatusSays result input taken written) }
     ensures read { result ≡ Status.ReadFault → HasRisen (S.faults source.old) (S.faults source.new) }
+    ensures source_quiet { result ≢ Status.ReadFault → S.faults source.new ≡ S.faults source.old }
     ensures write { result ≡ Status.WriteFault → HasRisen (K.faults sink.old) (K.faults sink.new) }
+    ensures sink_quiet { result ≢ Status.WriteFault → K.faults sink.new ≡ K.faults sink.old }
     ensures command { result ≢ Status.Usage }
 {
     let Ok(mut reader) = TraceReader::new(alloc) else {

@@ -1,6 +1,6 @@
 use Rattle.std.proofs.Common.{true}
 use Rattle.wf_replay.proofs.Ranges.{trace_laws}
-use Rattle.wf_replay.proofs.SoakText.{soak_laws}
+use Rattle.wf_replay.proofs.SoakText.{soak_laws, soak_lengths}
 use Rattle.wf_session_run.proofs.Law.{session_law as law_of_session}
 use Rattle.wf_uplink_run.proofs.Scripts.{uplink_law as law_of_uplink}
 use Rattle.wf_replay.proofs.commands.run.Goals as goal
@@ -11,14 +11,23 @@ returns-in-None-clause-laws g c = λ input told. trace_laws true input
 pub returns-in-None-clause-soak_laws : goal.returns-in-None-clause-soak_laws
 returns-in-None-clause-soak_laws g c = soak_laws
 
+pub returns-in-None-clause-soak_lengths : goal.returns-in-None-clause-soak_lengths
+returns-in-None-clause-soak_lengths g c = soak_lengths
+
 pub returns-in-Some-Replay-clause-soak_laws : goal.returns-in-Some-Replay-clause-soak_laws
 returns-in-Some-Replay-clause-soak_laws g c = soak_laws
+
+pub returns-in-Some-Replay-clause-soak_lengths : goal.returns-in-Some-Replay-clause-soak_lengths
+returns-in-Some-Replay-clause-soak_lengths g c = soak_lengths
 
 pub returns-in-Some-Soak-clause-laws : goal.returns-in-Some-Soak-clause-laws
 returns-in-Some-Soak-clause-laws g c = λ input told. trace_laws true input
 
 pub returns-in-Some-Soak-clause-soak_laws : goal.returns-in-Some-Soak-clause-soak_laws
 returns-in-Some-Soak-clause-soak_laws g c = soak_laws
+
+pub returns-in-Some-Soak-clause-soak_lengths : goal.returns-in-Some-Soak-clause-soak_lengths
+returns-in-Some-Soak-clause-soak_lengths g c = soak_lengths
 
 pub returns-in-None-clause-session_law : goal.returns-in-None-clause-session_law
 returns-in-None-clause-session_law g c = λ input told. law_of_session input
@@ -55,3 +64,9 @@ returns-in-Some-Uplink-clause-soak_laws g c = soak_laws
 
 pub returns-in-Some-Uplink-clause-session_law : goal.returns-in-Some-Uplink-clause-session_law
 returns-in-Some-Uplink-clause-session_law g c = λ input told. law_of_session input
+
+pub returns-in-Some-Session-clause-soak_lengths : goal.returns-in-Some-Session-clause-soak_lengths
+returns-in-Some-Session-clause-soak_lengths g c = soak_lengths
+
+pub returns-in-Some-Uplink-clause-soak_lengths : goal.returns-in-Some-Uplink-clause-soak_lengths
+returns-in-Some-Uplink-clause-soak_lengths g c = soak_lengths

@@ -9,8 +9,8 @@ abbrev pub invariant-items : goal.invariant-items
 invariant-items g l = Replaying l.reader (record { world = option_map g.M.Runs.world l.machine; calls = l.calls }) (g.S.Source.left l.fn.source) (g.S.Source.left l.source) (g.K.Sink.held l.fn.sink) (g.K.Sink.held l.sink)
     × (l.reader.ended ≡ None)
     × (IsSome l.reader.place → IsSome l.machine)
-    × (g.S.Source.faults l.fn.source ≤ g.S.Source.faults l.source)
-    × (g.K.Sink.faults l.fn.sink ≤ g.K.Sink.faults l.sink)
+    × (g.S.Source.faults l.source ≡ g.S.Source.faults l.fn.source)
+    × (g.K.Sink.faults l.sink ≡ g.K.Sink.faults l.fn.sink)
     × (l.calls + room l.reader.cut.cutter ≤ longest_trace + 1)
     × (l.reader.place ≡ None → l.calls ≡ 0)
 
