@@ -1,14 +1,12 @@
 -- The calls of a script, and what is written of them.
-use Rattle.std.proofs.Common.{◌≡◌, ℕ, zero, suc, ◌*◌, ◌<◌, List, [], ◌∷◌, ◌++◌, true, false, refl, sym, ◌∙◌, ap, subst, append_assoc, append-nil, arith}
+use Rattle.std.proofs.Common.{◌≡◌, ℕ, zero, suc, ◌*◌, List, [], ◌∷◌, ◌++◌, true, false, refl, sym, ◌∙◌, ap, subst, append_assoc, append-nil, arith}
 use Rattle.std.specs.Prelude.{Option, Some, None, IfSome, is_some, flat_map, replicate}
-use Rattle.std.proofs.lemmas.List.Concat.{flat_map-append}
 use Rattle.std.specs.Io.KnownBytes.{append_known}
 use Rattle.wf_report.specs.Fronts.{HoldsFront}
 use Rattle.wf_report.proofs.FrontLaws.{append_known-nil}
 use Rattle.wf_uplink.specs.declared.up.Up.{Up}
 use Rattle.wf_uplink.specs.Shown.{up_of}
-use Rattle.wf_uplink.specs.World.{World, Call, Answer, Open, Receive, Tick, Expire, Opened, Received, Delivery, first_due, timeout_of, after_call, after_calls, answer, answers, tids}
-use Rattle.wf_uplink.specs.Laws.{TidLaw, TotalsLaw, IsCharged}
+use Rattle.wf_uplink.specs.World.{World, Call, Tick, Expire, first_due, timeout_of, after_call, after_calls, answer, answers, tids}
 use Rattle.wf_uplink.proofs.Calls.{tids_told, totals, charges}
 use Rattle.wf_script.specs.Scripts.{Script}
 use Rattle.wf_script.specs.Texts.{answers as answers_by}

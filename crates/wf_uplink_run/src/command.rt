@@ -62,7 +62,9 @@ pub fn uplink<S: Source, K: Sink>(alloc: Global, source: &mut S, sink: &mut K) -
         × (K.held sink.new ≡ append_known (K.held sink.old) written)
         × ((input : List ℕ) → S.left source.old ≡ Some input → UplinkOutcome result input taken written) }
     ensures read { result ≡ Status.ReadFault → HasRisen (S.faults source.old) (S.faults source.new) }
+    ensures source_quiet { result ≢ Status.ReadFault → S.faults source.new ≡ S.faults source.old }
     ensures write { result ≡ Status.WriteFault → HasRisen (K.faults sink.old) (K.faults sink.new) }
+    ensures sink_quiet { result ≢ Status.WriteFault → K.faults sink.new ≡ K.faults sink.old }
     ensures command { result ≢ Status.Usage }
     ensures law { (input : List ℕ) → S.left source.old ≡ Some input → UplinkLaw input }
     ensures complete { (HasRisen (S.faults source.old) (S.faults source.new) → ⊥) → (HasRisen (K.faults sink.old) (K.faults sink.new) → ⊥) →

@@ -1,6 +1,6 @@
 //! The uplink of 256 stations, as a script sees it.
 
-ghost use Rattle.std.specs.Prelude.{◌≡◌, ℕ, ◌+◌, ◌*◌, ◌^◌, ◌<◌, ◌≤◌, ◌∷◌, [], true, replicate, IfOk, OnOk, OnErr, Err};
+ghost use Rattle.std.specs.Prelude.{◌≡◌, ◌≢◌, ℕ, ◌+◌, ◌*◌, ◌^◌, ◌<◌, ◌≤◌, ◌∷◌, [], true, replicate, IfOk, OnOk, OnErr, Err};
 ghost use Rattle.std.specs.Io.KnownBytes.{append_known};
 ghost use Rattle.wf_io.specs.Faults.{HasRisen};
 ghost use Rattle.wf_report.specs.Fronts.{HoldsFront};
@@ -96,6 +96,7 @@ impl Reception {
         ensures front { OnErr result (HoldsFront (K.held sink.old) (K.held sink.new) (calls_text self.old (Open station window start ∷ []))) }
         ensures counted { K.faults sink.old ≤ K.faults sink.new }
         ensures cause { result ≡ Err Unanswered.Sink → HasRisen (K.faults sink.old) (K.faults sink.new) }
+        ensures quiet { result ≢ Err Unanswered.Sink → K.faults sink.new ≡ K.faults sink.old }
     {
         let mut line = Line::new();
         print_opened(self.uplink.open(station, window, start), &mut line);
@@ -115,6 +116,7 @@ impl Reception {
         ensures front { OnErr result (HoldsFront (K.held sink.old) (K.held sink.new) (calls_text self.old (SetRate station rate ∷ []))) }
         ensures counted { K.faults sink.old ≤ K.faults sink.new }
         ensures cause { result ≡ Err Unanswered.Sink → HasRisen (K.faults sink.old) (K.faults sink.new) }
+        ensures quiet { result ≢ Err Unanswered.Sink → K.faults sink.new ≡ K.faults sink.old }
     {
         let mut line = Line::new();
         print_set(self.uplink.set_rate(station, rate), &mut line);
@@ -129,6 +131,7 @@ impl Reception {
         ensures front { OnErr result (HoldsFront (K.held sink.old) (K.held sink.new) (calls_text self.old (Receive octets.now ∷ []))) }
         ensures counted { K.faults sink.old ≤ K.faults sink.new }
         ensures cause { result ≡ Err Unanswered.Sink → HasRisen (K.faults sink.old) (K.faults sink.new) }
+        ensures quiet { result ≢ Err Unanswered.Sink → K.faults sink.new ≡ K.faults sink.old }
     {
         if !self.has_room() {
             return Err(Unanswered::Memory);
@@ -150,6 +153,7 @@ impl Reception {
         ensures front { OnErr result (HoldsFront (K.held sink.old) (K.held sink.new) (calls_text self.old (replicate (tids * stations) Expire))) }
         ensures counted { K.faults sink.old ≤ K.faults sink.new }
         ensures cause { result ≡ Err Unanswered.Sink → HasRisen (K.faults sink.old) (K.faults sink.new) }
+        ensures quiet { result ≢ Err Unanswered.Sink → K.faults sink.new ≡ K.faults sink.old }
     {
         for _ in 0..MOST_DUE {
             if !self.has_room() {
@@ -171,6 +175,7 @@ impl Reception {
         ensures front { OnErr result (HoldsFront (K.held sink.old) (K.held sink.new) (calls_text self.old (Tick by ∷ replicate (tids * stations) Expire))) }
         ensures counted { K.faults sink.old ≤ K.faults sink.new }
         ensures cause { result ≡ Err Unanswered.Sink → HasRisen (K.faults sink.old) (K.faults sink.new) }
+        ensures quiet { result ≢ Err Unanswered.Sink → K.faults sink.new ≡ K.faults sink.old }
     {
         let now = self.pass(by)?;
         let mut line = Line::new();
@@ -185,6 +190,7 @@ impl Reception {
         ensures front { OnErr result (HoldsFront (K.held sink.old) (K.held sink.new) (totals_line (totals_of self.now))) }
         ensures counted { K.faults sink.old ≤ K.faults sink.new }
         ensures cause { result ≡ Err Unanswered.Sink → HasRisen (K.faults sink.old) (K.faults sink.new) }
+        ensures quiet { result ≢ Err Unanswered.Sink → K.faults sink.new ≡ K.faults sink.old }
     {
         let mut line = Line::new();
         print_totals(self.uplink.totals(), &mut line);

@@ -1,6 +1,6 @@
 //! The line of what goes up, which can be longer than a line of a buffer.
 
-ghost use Rattle.std.specs.Prelude.{◌≡◌, ℕ, ◌+◌, ◌≤◌, ◌++◌, ◌∷◌, [], List, Option, codes, decimal, length, OnOk, OnErr, Err};
+ghost use Rattle.std.specs.Prelude.{◌≡◌, ◌≢◌, ℕ, ◌+◌, ◌≤◌, ◌++◌, ◌∷◌, [], List, Option, codes, decimal, length, OnOk, OnErr, Err};
 ghost use Rattle.std.specs.List.{join_with_byte};
 ghost use Rattle.std.specs.Io.KnownBytes.{append_known};
 ghost use Rattle.wf_io.specs.Faults.{HasRisen};
@@ -81,6 +81,7 @@ fn spill<K: Sink>(line: &mut Line, sink: &mut K) -> Result<(), Unanswered>
     ensures front { OnErr result (HoldsFront (K.held sink.old) (K.held sink.new) line.old) }
     ensures counted { K.faults sink.old ≤ K.faults sink.new }
     ensures cause { result ≡ Err Unanswered.Sink → HasRisen (K.faults sink.old) (K.faults sink.new) }
+    ensures quiet { result ≢ Err Unanswered.Sink → K.faults sink.new ≡ K.faults sink.old }
 {
     if line.octets().len() > FULL {
         write_line(sink, line)?;
@@ -95,6 +96,7 @@ pub fn write_up<K: Sink>(up: &Up, is_frame: bool, sink: &mut K) -> Result<(), Un
     ensures front { OnErr result (HoldsFront (K.held sink.old) (K.held sink.new) (up_line is_frame up.now)) }
     ensures counted { K.faults sink.old ≤ K.faults sink.new }
     ensures cause { result ≡ Err Unanswered.Sink → HasRisen (K.faults sink.old) (K.faults sink.new) }
+    ensures quiet { result ≢ Err Unanswered.Sink → K.faults sink.new ≡ K.faults sink.old }
 {
     let mut line = Line::new();
     push_head(up, is_frame, &mut line);

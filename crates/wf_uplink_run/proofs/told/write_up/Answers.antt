@@ -1,8 +1,7 @@
-use Rattle.std.proofs.Common.{◌≤◌, ◌+◌, ◌∙◌, ap, sym, subst, length, arith}
+use Rattle.std.proofs.Common.{◌+◌, ◌∙◌, ap, sym, subst, arith}
 use Rattle.std.specs.Io.KnownBytes.{append_known}
 use Rattle.wf_report.specs.Fronts.{HoldsFront}
 use Rattle.wf_uplink_run.specs.Pieces.{IsBegun}
-use Rattle.wf_uplink_run.specs.Answers.{up_line}
 use Rattle.wf_uplink_run.proofs.Writing.{text_to, item_begun, item_front, end_written, end_front, on_ok, on_err}
 use Rattle.wf_uplink_run.proofs.told.write_up.Goals as goal
 
@@ -21,7 +20,7 @@ loop-i-preserved g c =
           (subst (λ l. IsBegun held now l text) (sym c.push_item.ensures.text)
           (item_begun c.args.is_frame c.args.up.now c.loop-i.i c.at.result held now c.loop-i.line c.at.ensures c.loop-i.invariant.0)),
       c.in_ok-spill.ensures.room,
-      omega (arith, c.loop-i.invariant.2, c.in_ok-spill.ensures.counted),
+      c.in_ok-spill.ensures.quiet (λ is. absurd (cc)) ∙ c.loop-i.invariant.2,
     )
 
 pub returns-clause-written : goal.returns-clause-written

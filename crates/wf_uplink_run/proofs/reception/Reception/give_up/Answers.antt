@@ -1,4 +1,4 @@
-use Rattle.std.proofs.Common.{◌≡◌, ℕ, suc, ◌+◌, ◌*◌, ◌-◌, replicate, sym, ◌∙◌, ap, subst, arith}
+use Rattle.std.proofs.Common.{◌≡◌, suc, ◌+◌, ◌*◌, ◌-◌, replicate, sym, ◌∙◌, ap, subst, arith}
 use Rattle.wf_uplink.specs.World.{World, Expire, tids, first_due, after_calls}
 use Rattle.wf_uplink.proofs.Worlds.{none_of}
 use Rattle.wf_uplink_run.specs.Answers.{stations, calls_text}
@@ -36,7 +36,7 @@ loop-preserved g c =
       due_step (g.K.Sink.held c.args.sink.now) (g.K.Sink.held c.loop.sink) (g.K.Sink.held c.write_up.new.sink) c.args.self.now c.loop.self c.self.inside.uplink c.expired.new.self c.expired.new.up
           (tids * stations - c.loop.counter) (tids * stations - (c.loop.counter + 1)) c.self.view_is left c.loop.invariant.0
           (sym c.expired.ensures.due ∙ c.if-not-expired.false) c.expired.ensures.up c.expired.ensures.after c.in_ok-write_up.ensures.written,
-      omega (arith, c.loop.invariant.1, c.in_ok-write_up.ensures.counted),
+      c.in_ok-write_up.ensures.quiet (λ is. absurd (cc)) ∙ c.loop.invariant.1,
     )
 
 pub returns-clause-written : goal.returns-clause-written

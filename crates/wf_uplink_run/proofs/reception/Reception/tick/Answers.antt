@@ -1,4 +1,4 @@
-use Rattle.std.proofs.Common.{◌≡◌, ◌*◌, ◌∷◌, List, ℕ, replicate, sym, ◌∙◌, ap, subst}
+use Rattle.std.proofs.Common.{◌*◌, replicate, sym, ◌∙◌, ap, subst}
 use Rattle.std.specs.Io.KnownBytes.{append_known}
 use Rattle.wf_report.specs.Fronts.{HoldsFront}
 use Rattle.wf_report.proofs.FrontLaws.{front_first, front_next, two_written}
