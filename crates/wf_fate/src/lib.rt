@@ -6,9 +6,8 @@ ghost use Rattle.wf_frame.specs.declared.classes.Fate.TheVariants.{Held};
 
 mod laws;
 
-use wf_frame::{Cause, Fate};
-
 pub use laws::many_settle_one_by_one;
+use wf_frame::{Cause, Fate};
 
 /// Counts of frames. Every accepted frame is acknowledged, dropped for one cause, or still held.
 #[derive(Clone, Copy, Debug, PartialEq, Eq)]
@@ -138,7 +137,10 @@ mod tests {
                 tally.add();
             }
         }
-        for (fate, count) in [(Fate::Dropped(Cause::Left), 4), (Fate::Dropped(Cause::Codel), 2)] {
+        for (fate, count) in [
+            (Fate::Dropped(Cause::Left), 4),
+            (Fate::Dropped(Cause::Codel), 2),
+        ] {
             if fate != Fate::Held && u64::from(count) <= tally.held() {
                 tally.settle_all(fate, count);
             }
