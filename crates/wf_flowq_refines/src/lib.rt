@@ -241,6 +241,11 @@ pub fn a_take_drops_what_it_does_not_give()
         IfSome (world_take w s t).item (λ y. length (world_take w s t).world.finished + world_queued (world_take w s t).world s t + 1 ≡ length w.finished + world_queued w s t) }
 {}
 
+/// A purge drops all that is queued of the TID: the finished list grows by as many.
+pub fn a_purge_drops_all_that_is_queued()
+    ensures { (v : FlowsValue) (w : World) (i : ℕ) → StandsFor v w → length (after_purge v i).backlog.finished ≡ length v.backlog.finished + frames_queued v i }
+{}
+
 /// Whose frame the limit drops: that of the TID that lists the longest queue, in the code as in the world. All other TIDs have
 /// as many frames queued as before.
 pub fn the_limit_drops_a_frame_of_one_tid()

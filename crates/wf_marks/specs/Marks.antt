@@ -1,5 +1,5 @@
 -- What is kept of an open exchange, and how it changes.
-use Rattle.std.specs.Prelude.{ℕ, ◌==◌, List, [], Option, Some, None, if◌then◌else◌, map}
+use Rattle.std.specs.Prelude.{ℕ, ◌==◌, List, [], Some, None, if◌then◌else◌, map}
 use Rattle.wf_rules.specs.Table.{with_member}
 use Rattle.wf_marks.specs.declared.marks.Mark.{Mark}
 
