@@ -13,7 +13,7 @@ use Rattle.wf_live.specs.Soak.{soak_history}
 use Rattle.wf_world.specs.World.{World, opening}
 use Rattle.wf_world.specs.Run.{Entry, world_after}
 use Rattle.wf_world.specs.Text.{summary}
-use Rattle.wf_replay.specs.Laws.{HasLengths}
+use Rattle.wf_laws.specs.Lengths.{HasLengths}
 use Rattle.wf_replay.specs.Outcome.{soak_text}
 use Rattle.wf_replay.proofs.Ranges.{standard_in}
 

@@ -9,7 +9,8 @@ ghost use Rattle.wf_frame.specs.Settings.{standard};
 ghost use Rattle.wf_laws.specs.Laws.{Laws};
 ghost use Rattle.wf_live.specs.Soak.{soak_history};
 ghost use Rattle.wf_replay.specs.Commands.{command_of};
-ghost use Rattle.wf_replay.specs.Laws.{HasLengths, HasLaws};
+ghost use Rattle.wf_laws.specs.Lengths.{HasLengths};
+ghost use Rattle.wf_replay.specs.Laws.{HasLaws};
 ghost use Rattle.wf_session_run.specs.Outcome.{SessionOutcome, SessionAnswered, SessionLaw};
 ghost use Rattle.wf_uplink_run.specs.Outcome.{UplinkOutcome, UplinkAnswered, UplinkLaw};
 
