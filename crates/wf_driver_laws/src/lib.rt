@@ -9,8 +9,9 @@ ghost use Rattle.std.specs.Prelude.{ℕ, List};
 ghost use Rattle.wf_frame.specs.declared.settings.Config.{Config};
 ghost use Rattle.wf_frame.specs.Settings.{IsInRange};
 ghost use Rattle.wf_world.specs.Run.{Entry};
-ghost use Rattle.wf_world.specs.World.{opening};
+ghost use Rattle.wf_world.specs.World.{World, opening};
 ghost use Rattle.wf_driver_laws.specs.Driven.{Deed, DrivenLaw};
+ghost use Rattle.wf_driver_laws.specs.Shown.{EndsAsLost, SettlesAlike};
 ghost use Rattle.wf_driver_laws.specs.Told.{RunLaw, ToldLaw};
 ghost use Rattle.wf_driver_laws.specs.Transmit.{TransmitLaw};
 ghost use Rattle.wf_driver_laws.specs.Unheard.{IsUnheard, SilentLaw};
@@ -47,4 +48,11 @@ pub fn transmit_law()
 /// and the answer that its BlockAck tells of; and that history leaves the machine in an unheard world.
 pub fn driven_law()
     ensures driven { (config : Config) (deeds : List (ℕ × Deed)) → DrivenLaw config deeds }
+{}
+
+/// Of the answer that an exchange keeps, its Done goes by what it shows of the exchange's own numbers alone. Where it shows none
+/// of an aggregate's, the Done is as one that was not heard.
+pub fn shown_law()
+    ensures alike { (w : World) → SettlesAlike w }
+    ensures none { (w : World) → EndsAsLost w }
 {}
