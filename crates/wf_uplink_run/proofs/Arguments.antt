@@ -1,6 +1,6 @@
 -- The arguments that were read lie in their ranges, and the octets of a frame have their place.
-use Rattle.std.proofs.Common.{◌≡◌, ◌⊎◌, inl, inr, ℕ, zero, suc, ◌-◌, ◌≤◌, ◌||◌, not, Bool, true, false, List, [], ◌∷◌, ◌++◌, length, take, drop, replicate, refl, sym, ◌∙◌, ap, subst, arith}
-use Rattle.std.specs.Prelude.{Option, Some, None, Result, Ok, Err, codes}
+use Rattle.std.proofs.Common.{◌≡◌, ◌⊎◌, inl, inr, ℕ, zero, suc, ◌-◌, ◌≤◌, ◌||◌, not, Bool, true, false, List, [], ◌∷◌, ◌++◌, length, take, drop, replicate, refl, sym, ◌∙◌, ap, arith}
+use Rattle.std.specs.Prelude.{Some, Ok, codes}
 use Rattle.std.specs.Str.{bytes_eq}
 use Rattle.std.proofs.lemmas.List.{length-take-le, length-replicate}
 use Rattle.std.proofs.lemmas.Slice.Eq.{bytes_eq-Decides}
@@ -8,7 +8,7 @@ use Rattle.wf_rules.specs.Bounds.{greatest_mcs}
 use Rattle.wf_trace.specs.declared.call.Arg.TheVariants.{Number}
 use Rattle.wf_trace.specs.declared.call.Value.{Value}
 use Rattle.wf_trace.specs.Grammar.{read_arg, read_args, short_most}
-use Rattle.wf_trace.specs.Notes.{long_in, long_at}
+use Rattle.wf_trace.specs.Notes.{long_in}
 use Rattle.wf_trace.specs.Words.{number_of}
 use Rattle.wf_trace.proofs.ArgLaws.{both_ok, number_ok}
 use Rattle.wf_uplink_run.specs.Lines.{open_args, rate_args, has_no_width, AreOpening, AreRate}

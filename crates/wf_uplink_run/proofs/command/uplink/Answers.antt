@@ -1,4 +1,3 @@
-use Rattle.std.proofs.Common.{refl}
 use Rattle.wf_script.proofs.Complete.{answered}
 use Rattle.wf_script.proofs.Conversing.{over_at_once}
 use Rattle.wf_status.specs.declared.status.Status.TheVariants.{NoMemory}

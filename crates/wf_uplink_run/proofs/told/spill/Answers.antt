@@ -1,4 +1,4 @@
-use Rattle.std.proofs.Common.{List, ℕ, sym, subst}
+use Rattle.std.proofs.Common.{sym, subst}
 use Rattle.wf_uplink_run.specs.Pieces.{IsBegun}
 use Rattle.wf_uplink_run.proofs.Writing.{begun_emptied}
 use Rattle.wf_uplink_run.proofs.told.spill.Goals as goal
