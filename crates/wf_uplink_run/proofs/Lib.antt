@@ -1,4 +1,6 @@
--- Arguments in their ranges; the line of what goes up; the calls of a script, and the laws.
+-- Arguments in their ranges; the line of what goes up; calls one after the other, and that nothing is due behind a tick; the laws.
 pub mod Arguments
 pub mod Writing
+pub mod Calls
+pub mod Quiet
 pub mod Scripts

@@ -1,10 +1,11 @@
 -- The laws of the uplink over a script.
-use Rattle.std.specs.Prelude.{◌≡◌, ℕ, ◌<◌, List, [], ◌∷◌, ◌++◌, flat_map}
-use Rattle.wf_uplink.specs.World.{Call, Open, Receive, Delivery, Opened, Received, tids, after_calls, answer}
+use Rattle.std.specs.Prelude.{◌≡◌, ℕ, ◌<◌, List, [], ◌∷◌, ◌++◌, None, flat_map}
+use Rattle.wf_uplink.specs.World.{Call, Open, Receive, Delivery, Opened, Received, tids, first_due, after_calls, answer}
 use Rattle.wf_uplink.specs.Laws.{TidLaw, TotalsLaw, IsCharged}
 use Rattle.wf_script.specs.Scripts.{Script}
 use Rattle.wf_script.specs.Texts.{answers}
 use Rattle.wf_uplink_run.specs.declared.event.Event.{Event}
+use Rattle.wf_uplink_run.specs.declared.event.Event.TheVariants as event
 use Rattle.wf_uplink_run.specs.Answers.{stations, first, manner, calls_of, calls_text}
 
 -- the calls of a script, one after the other
@@ -24,3 +25,5 @@ pub record HasLaws (s : Script Event) : Type 0 where
   -- each accepted frame is charged what it takes at its station's rate
   pub charges : (before rest : List Call) (octets : List ℕ) (d : Delivery) → calls_in s ≡ before ++ Receive octets ∷ rest →
       answer (Receive octets) (after_calls first before) ≡ Received d → IsCharged (after_calls first before) octets d
+  -- behind each step of the clock, and the timeouts that follow it, nothing is due
+  pub quiet : (before rest : List Call) (by : ℕ) → calls_in s ≡ before ++ (calls_of (event.Tick by) ++ rest) → first_due (after_calls first (before ++ calls_of (event.Tick by))) ≡ None

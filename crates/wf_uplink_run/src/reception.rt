@@ -83,7 +83,7 @@ impl Reception {
     }
 
     /// A station is opened, and whether it was is written.
-    #[tactic(auto, using(crate::proofs::Scripts::text_single, crate::proofs::Scripts::after_single))]
+    #[tactic(auto, using(crate::proofs::Calls::text_single, crate::proofs::Calls::after_single))]
     pub fn open<K: Sink>(
         &mut self,
         station: u16,
@@ -104,7 +104,7 @@ impl Reception {
     }
 
     /// The rate of a station is set, and whether it was is written.
-    #[tactic(auto, using(crate::proofs::Scripts::text_single, crate::proofs::Scripts::after_single))]
+    #[tactic(auto, using(crate::proofs::Calls::text_single, crate::proofs::Calls::after_single))]
     pub fn set_rate<K: Sink>(
         &mut self,
         station: u16,
@@ -124,7 +124,7 @@ impl Reception {
     }
 
     /// Octets come in, and what goes up of them, or why they are refused, is written.
-    #[tactic(auto, using(crate::proofs::Scripts::text_single, crate::proofs::Scripts::after_single))]
+    #[tactic(auto, using(crate::proofs::Calls::text_single, crate::proofs::Calls::after_single))]
     pub fn receive<K: Sink>(&mut self, octets: &[u8], sink: &mut K) -> Result<(), Unanswered>
         ensures written { OnOk result (K.held sink.new ≡ append_known (K.held sink.old) (calls_text self.old (Receive octets.now ∷ []))) }
         ensures after { OnOk result (self.new ≡ after_calls self.old (Receive octets.now ∷ [])) }

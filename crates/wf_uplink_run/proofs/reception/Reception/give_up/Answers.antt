@@ -1,8 +1,9 @@
 use Rattle.std.proofs.Common.{◌≡◌, suc, ◌+◌, ◌*◌, ◌-◌, replicate, sym, ◌∙◌, ap, subst, arith}
 use Rattle.wf_uplink.specs.World.{World, Expire, tids, first_due, after_calls}
+use Rattle.wf_uplink.proofs.Heard.{none_after}
 use Rattle.wf_uplink.proofs.Worlds.{none_of}
 use Rattle.wf_uplink_run.specs.Answers.{stations, calls_text}
-use Rattle.wf_uplink_run.proofs.Scripts.{GivesUp, text_none, after_none, same_world, quiet_after, quiet_text, due_step, due_front, given_up_text}
+use Rattle.wf_uplink_run.proofs.Calls.{GivesUp, text_none, after_none, quiet_after, quiet_text, due_step, due_front, given_up_text}
 use Rattle.wf_uplink_run.proofs.Writing.{on_err}
 use Rattle.wf_uplink_run.proofs.reception.Reception.give_up.Goals as goal
 
@@ -19,7 +20,7 @@ returns-then-not-expired-clause-after g c =
     let w = c.self.inside.uplink in
     let left = tids * stations - c.loop.counter in
     let none = none_of (first_due w) (sym c.expired.ensures.due ∙ c.if-not-expired.true) in
-    c.expired.ensures.after ∙ same_world w none ∙ sym (quiet_after w left none)
+    c.expired.ensures.after ∙ sym (none_after w none) ∙ sym (quiet_after w left none)
     ∙ ap (λ (v : World). after_calls v (replicate left Expire)) c.self.view_is ∙ sym c.loop.invariant.0.after
 
 pub returns-in_err-write_up-clause-front : goal.returns-in_err-write_up-clause-front

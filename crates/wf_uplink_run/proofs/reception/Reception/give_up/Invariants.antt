@@ -1,7 +1,7 @@
 use Rattle.std.proofs.Common.{◌≡◌, ◌*◌, ◌-◌}
 use Rattle.wf_uplink.specs.World.{tids}
 use Rattle.wf_uplink_run.specs.Answers.{stations}
-use Rattle.wf_uplink_run.proofs.Scripts.{GivesUp}
+use Rattle.wf_uplink_run.proofs.Calls.{GivesUp}
 use Rattle.wf_uplink_run.proofs.reception.Reception.give_up.Given as goal
 
 abbrev pub invariant-loop : goal.invariant-loop

@@ -4,7 +4,7 @@ use Rattle.wf_report.specs.Fronts.{HoldsFront}
 use Rattle.wf_report.proofs.FrontLaws.{front_first, front_next, two_written}
 use Rattle.wf_uplink.specs.World.{World, Tick, Now, Expire, tids, after_calls}
 use Rattle.wf_uplink_run.specs.Answers.{stations, answer_text, calls_text}
-use Rattle.wf_uplink_run.proofs.Scripts.{after_one, tick_text}
+use Rattle.wf_uplink_run.proofs.Calls.{after_one, tick_text}
 use Rattle.wf_uplink_run.proofs.Writing.{on_ok, on_err, on_err_by}
 use Rattle.wf_uplink_run.proofs.reception.Reception.tick.Goals as goal
 
