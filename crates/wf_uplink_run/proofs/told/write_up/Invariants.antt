@@ -1,4 +1,4 @@
-use Rattle.std.proofs.Common.{◌≤◌, length}
+use Rattle.std.proofs.Common.{◌≡◌, ◌≤◌, length}
 use Rattle.wf_uplink_run.specs.Pieces.{IsBegun}
 use Rattle.wf_uplink_run.proofs.Writing.{text_to}
 use Rattle.wf_uplink_run.proofs.told.write_up.Given as goal
