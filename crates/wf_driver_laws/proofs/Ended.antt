@@ -33,7 +33,7 @@ pub windows_after : (config : Config) (h : List Entry) → KeepsWindows (world_a
 windows_after config h = subst (λ (es : List Entry). KeepsWindows (world_after (opening config) es)) (take-length h) (window_law config h (length h))
 
 pub sent_after : (config : Config) (h : List Entry) → EachOpen (IsSent (world_after (opening config) h)) (world_after (opening config) h).opened
-sent_after config h = subst (λ (es : List Entry). EachOpen (IsSent (world_after (opening config) es)) (world_after (opening config) es).opened) (take-length h) (sent_law config h (length h))
+sent_after config h = subst (λ (es : List Entry). EachOpen (IsSent (world_after (opening config) es)) (world_after (opening config) es).opened) (take-length h) (sent_law config h (length h)).opened
 
 pub kept_after : (config : Config) (h : List Entry) (note : Note) → KeepsByCall (world_after (opening config) h) note
 kept_after config h note = subst (λ (es : List Entry). KeepsByCall (world_after (opening config) es) note) (take-length h) ((kept_law config h).calls (length h) note)
