@@ -13,3 +13,6 @@ pub mod Whole
 pub mod Ledgers
 pub mod Known
 pub mod Enqueues
+pub mod Closes
+pub mod Moves
+pub mod Settles

@@ -3,3 +3,4 @@ pub mod Standing
 pub mod Views
 pub mod Changes
 pub mod Counting
+pub mod Ending

@@ -42,7 +42,7 @@ others_fly s exchange limit n ns f flying =
       once = flying.once.1;
     }
 
-still_fly : (acked : Bool) (s : Session) (exchange limit n : ℕ) (ns : List ℕ) → AreFlying s exchange limit (n ∷ ns) → AreFlying (settled acked limit n s) exchange limit ns
+pub still_fly : (acked : Bool) (s : Session) (exchange limit n : ℕ) (ns : List ℕ) → AreFlying s exchange limit (n ∷ ns) → AreFlying (settled acked limit n s) exchange limit ns
 still_fly true s exchange limit n ns flying = others_fly s exchange limit n ns (λ x. record x { state = State.Acked }) flying
 still_fly false s exchange limit n ns flying = others_fly s exchange limit n ns (slot_after_miss limit) flying
 
