@@ -7,43 +7,47 @@
 //! function without a body that names it in its contract.
 #![tactic(auto)]
 
-ghost use Rattle.std.specs.Prelude.{◌≡◌, ◌<◌, ◌≤◌, ℕ, ◌+◌, ◌-◌, ◌*◌, ◌==◌, ◌||◌, pos, ◌-ℤ◌, Bool, true, List, [], ◌∷◌, Option, Some, None, is_some, option_map, map, find, count_by, set, length};
+ghost use Rattle.std.specs.Prelude.{◌≡◌, ◌<◌, ◌≤◌, ℕ, ◌+◌, ◌-◌, ◌*◌, ◌==◌, ◌||◌, pos, ◌-ℤ◌, Bool, true, false, List, [], ◌∷◌, Option, Some, None, is_some, option_map, map, find, count_by, set, length, max};
 ghost use Rattle.wf_frame.specs.Classes.{lower_tid, upper_tid, same_class};
 ghost use Rattle.wf_frame.specs.Frames.{FrameValue};
 ghost use Rattle.wf_frame.specs.Settings.{IsInRange};
 ghost use Rattle.wf_frame.specs.declared.classes.Class.{Class};
 ghost use Rattle.wf_frame.specs.declared.classes.Fate.TheVariants.{Held};
-ghost use Rattle.wf_frame.specs.declared.notes.Ask.TheVariants.{Join, Rate, Tick, Arrive, Answer, Sleep, Wake, Poll, Rx, Reap};
+ghost use Rattle.wf_frame.specs.declared.notes.Ask.TheVariants.{Done, Join, Rate, Tick, Arrive, Answer, Sleep, Wake, Poll, Rx, Reap};
 ghost use Rattle.wf_frame.specs.declared.notes.Note.{Note};
 ghost use Rattle.wf_frame.specs.declared.notes.Note.TheVariants.{Enqueue, Asked};
 ghost use Rattle.wf_frame.specs.declared.notes.Refusal.{Refusal};
 ghost use Rattle.wf_frame.specs.declared.notes.Refusal.TheVariants.{Idle};
-ghost use Rattle.wf_frame.specs.declared.notes.ReplyNote.TheVariants.{Accepted, Joined, RateSet, Ticked, Slept, Woken, Credited, Charged, Reaped, Refused};
+ghost use Rattle.wf_frame.specs.declared.notes.ReplyNote.TheVariants.{Accepted, Ended, Joined, RateSet, Ticked, Slept, Woken, Credited, Charged, Reaped, Refused};
 ghost use Rattle.wf_frame.specs.declared.settings.Config.{Config};
 ghost use Rattle.wf_rules.specs.Lengths.{greatest_body};
 ghost use Rattle.wf_rules.specs.Receiver.{Receiver};
 ghost use Rattle.wf_rules.specs.Rotation.{Rotation, has_key};
-ghost use Rattle.wf_rules.specs.Session.{Session, request_due};
-ghost use Rattle.wf_world.specs.World.{World, Station, Tid, Share, Queue, Exchange, opening, is_live, session, rotation, exchange, with_station, on_station, on_tid, on_session, on_receiver, on_share, on_queue, with_queues, with_rotation};
+ghost use Rattle.wf_rules.specs.Session.{Session, slot, request_due, is_acknowledged, is_waiting, is_failed};
+ghost use Rattle.wf_world.specs.World.{World, Station, Tid, Share, Queue, Exchange, Mpdu, Frames, Request, opening, without_exchange, is_live, session, rotation, exchange, with_station, on_station, on_tid, on_session, on_receiver, on_share, on_queue, with_queues, with_rotation};
 ghost use Rattle.wf_world.specs.FlowQueues.{frames_queued as world_queued};
 ghost use Rattle.wf_world.specs.CanSend.{request_open, has_waiting, can_send, can_send_in, is_ready, with_listings_of};
+ghost use Rattle.wf_world.specs.Exchanges.{mpdus_of, is_acked, after_charge, with_settled, with_all_settled, count_in};
 ghost use Rattle.wf_world.specs.Refusals.{refusal, open_of_station, open_of_class};
-ghost use Rattle.wf_world.specs.Step.{outcome_of, concerned_station, class_to_send, step};
+ghost use Rattle.wf_world.specs.Step.{outcome_of, concerned_station, class_to_send, step, done_outcome};
 ghost use Rattle.wf_laws.specs.Queues.{HasLength, IsAtMost};
+ghost use Rattle.wf_laws.specs.Windows.{EachMpdu, IsPending};
 ghost use Rattle.wf_flowq.specs.Flows.{tid_number, frames_queued, dropped_for_limit};
 ghost use Rattle.wf_flowq_refines.specs.Frames.{with_body};
 ghost use Rattle.wf_flowq_refines.specs.Standing.{with_finished};
 ghost use Rattle.wf_flowq_refines.specs.Rest.{rest};
 ghost use Rattle.wf_sched.specs.ClassRotas.{SchedValue, deficit, after_join};
 ghost use Rattle.wf_sched_refines.specs.Standing.{StandsFor as TurnsStandFor, LeavesRotas, everywhere, with_charge};
-ghost use Rattle.wf_origwin.specs.Window.{WindowValue};
-ghost use Rattle.wf_windows.specs.Windows.{window_of};
+ghost use Rattle.wf_origwin.specs.Answers.{answer_of};
+ghost use Rattle.wf_origwin.specs.Window.{WindowValue, StandsFor as WindowStandsFor, settled};
+ghost use Rattle.wf_windows.specs.Windows.{HaveRoom, window_of, with_window};
 ghost use Rattle.wf_exchanges.specs.Exchanges.{asks};
 ghost use Rattle.wf_members.specs.Members.{member, on_member, new_member, with_rate, with_receipt};
 ghost use Rattle.wf_powersave.specs.Sleepers.{sleeper, with_sleeper, awake};
 ghost use Rattle.wf_transmit_refines.specs.Half.{TransmitValue, opening_half, some_wait, can_send_of, is_ready_of};
 ghost use Rattle.wf_transmit_refines.specs.Standing.{open_of, HasWindows, Parts, IsReached, StandsFor, Meets};
 ghost use Rattle.wf_transmit_refines.specs.Changes.{after_listing, AreReset, after_enqueue};
+ghost use Rattle.wf_transmit_refines.specs.Ending.{after_close, after_answer, IsEnding, state_left};
 ghost use Rattle.wf_transmit_refines.specs.Views.{agreements, roster, ledger, HasSameViews, KeepsView, KeepsSums};
 
 /// A new half stands for the opening world, whatever frames are to come.
@@ -184,4 +188,52 @@ pub fn an_enqueue()
         f.id ≡ v.tally.accepted → f.stamp ≡ v.clock → f.fate ≡ Held → 1 ≤ length f.body → length f.body ≤ greatest_body →
         Meets w (with_body bodies f) (Enqueue f.station f.tid f.flow (length f.body))
         (after_listing (after_enqueue v f) f.station) (Accepted f.id (dropped_for_limit v.flows)) }
+{}
+
+/// An exchange of data ends: it is closed and charged, and then its numbers are settled, in order. `begins` says what holds
+/// before the first of them, `next` that each leads to the next, `done` what stands at the end. A number has, from when it is
+/// settled to the end, the state that its answer tells (`state`), so the answers are what the reply counts.
+pub fn an_exchange_of_data_ends()
+    ensures begins { (v : TransmitValue) (w : World) (bodies : ℕ → FrameValue) → StandsFor v w bodies → (e : ℕ) (x : Exchange) → exchange w e ≡ Some x →
+        (acked : ℕ → Bool) (m : Mpdu) (ms : List Mpdu) → mpdus_of x.content ≡ m ∷ ms →
+        EachMpdu (λ k. (slot (session w x.station x.tid) k.number).attempts < w.config.attempts) (m ∷ ms) →
+        IsEnding (after_close v (open_of x)) (after_charge (without_exchange w x.number) x) bodies x.station x.tid x.number acked (m ∷ ms)
+        (with_all_settled (after_charge (without_exchange w x.number) x) x.station x.tid acked (m ∷ ms)) }
+    ensures next { (v : TransmitValue) (w : World) (bodies : ℕ → FrameValue) (s t e : ℕ) (acked : ℕ → Bool) (m : Mpdu) (ms : List Mpdu) (after : World) (x : WindowValue) →
+        IsEnding v w bodies s t e acked (m ∷ ms) after → HaveRoom (with_window v.windows s t x) →
+        WindowStandsFor x (settled (acked m.number) v.config.attempts m.number (session w s t)) bodies →
+        IsEnding (after_answer (record v { windows = with_window v.windows s t x }) (answer_of (acked m.number) v.config.attempts bodies (slot (session w s t) m.number)))
+        (with_settled w s t (acked m.number) m) bodies s t e acked ms after }
+    ensures state { (v : TransmitValue) (w : World) (bodies : ℕ → FrameValue) (s t e : ℕ) (acked : ℕ → Bool) (m : Mpdu) (ms : List Mpdu) (after : World) →
+        IsEnding v w bodies s t e acked (m ∷ ms) after →
+        (slot (session after s t) m.number).state ≡ state_left (answer_of (acked m.number) v.config.attempts bodies (slot (session w s t) m.number)) }
+    ensures done { (v : TransmitValue) (w : World) (bodies : ℕ → FrameValue) (s t e : ℕ) (acked : ℕ → Bool) (after : World) → IsEnding v w bodies s t e acked [] after → Parts v after bodies }
+    ensures world { (w : World) (x : Exchange) (heard : Bool) (mpdus : List Mpdu) → x.content ≡ Frames mpdus →
+        (done_outcome w x heard).world ≡ with_all_settled (after_charge (without_exchange w x.number) x) x.station x.tid (is_acked heard x.answer) mpdus }
+{}
+
+/// An exchange of a request ends: it is closed and charged, and where it was heard the window of its TID is told. The request
+/// is due, and the window is near its start, as the window's call asks.
+pub fn an_exchange_of_a_request_ends()
+    ensures pending { (v : TransmitValue) (w : World) (bodies : ℕ → FrameValue) → StandsFor v w bodies → (e : ℕ) (x : Exchange) → exchange w e ≡ Some x →
+        (start : ℕ) → x.content ≡ Request start → IsPending start (session w x.station x.tid) }
+    ensures tid { (v : TransmitValue) (w : World) (bodies : ℕ → FrameValue) → StandsFor v w bodies → (e : ℕ) (x : Exchange) → exchange w e ≡ Some x →
+        (start : ℕ) → x.content ≡ Request start → x.tid < 8 }
+    ensures unheard { (v : TransmitValue) (w : World) (bodies : ℕ → FrameValue) → StandsFor v w bodies → (e : ℕ) (x : Exchange) → exchange w e ≡ Some x →
+        (start : ℕ) → x.content ≡ Request start → Parts (after_close v (open_of x)) (done_outcome w x false).world bodies }
+    ensures heard { (v : TransmitValue) (w : World) (bodies : ℕ → FrameValue) → StandsFor v w bodies → (e : ℕ) (x : Exchange) → exchange w e ≡ Some x →
+        (start : ℕ) → x.content ≡ Request start → (z : WindowValue) → HaveRoom (with_window v.windows x.station x.tid z) →
+        WindowStandsFor z (record (session w x.station x.tid) { heard = max (session w x.station x.tid).heard start }) bodies →
+        Parts (record (after_close v (open_of x)) { windows = with_window v.windows x.station x.tid z }) (done_outcome w x true).world bodies }
+{}
+
+/// A whole Done: where the parts stand for what it makes of the world, the station of the exchange is listed where it is
+/// ready. That station is live. The reply counts the numbers of the exchange by their states.
+pub fn a_done()
+    ensures live { (w : World) → IsReached w → (e : ℕ) (x : Exchange) → exchange w e ≡ Some x → is_live w x.station ≡ true }
+    ensures whole { (v z : TransmitValue) (w : World) (bodies : ℕ → FrameValue) (e : ℕ) (heard : Bool) (x : Exchange) → StandsFor v w bodies → exchange w e ≡ Some x →
+        refusal w (Asked (Done e heard)) ≡ None → Parts z (done_outcome w x heard).world bodies →
+        Meets w bodies (Asked (Done e heard)) (after_listing z x.station) (done_outcome w x heard).reply }
+    ensures reply { (w : World) (x : Exchange) (heard : Bool) →
+        (done_outcome w x heard).reply ≡ Ended (count_in (done_outcome w x heard).world x is_acknowledged) (count_in (done_outcome w x heard).world x is_waiting) (count_in (done_outcome w x heard).world x is_failed) }
 {}
