@@ -19,3 +19,4 @@ pub mod Settles
 pub mod Endings
 pub mod Ended
 pub mod Dones
+pub mod Pulls

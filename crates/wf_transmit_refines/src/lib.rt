@@ -7,13 +7,13 @@
 //! function without a body that names it in its contract.
 #![tactic(auto)]
 
-ghost use Rattle.std.specs.Prelude.{◌≡◌, ◌<◌, ◌≤◌, ℕ, ◌+◌, ◌-◌, ◌*◌, ◌==◌, ◌||◌, pos, ◌-ℤ◌, Bool, true, false, List, [], ◌∷◌, Option, Some, None, is_some, option_map, map, find, count_by, set, length, max};
+ghost use Rattle.std.specs.Prelude.{◌≡◌, ◌<◌, ◌≤◌, ℕ, ◌+◌, ◌-◌, ◌*◌, ◌==◌, ◌||◌, ◌++◌, pos, ◌-ℤ◌, Bool, true, false, List, [], ◌∷◌, Option, Some, None, is_some, option_map, map, find, count_by, set, length, max};
 ghost use Rattle.wf_frame.specs.Classes.{lower_tid, upper_tid, same_class};
 ghost use Rattle.wf_frame.specs.Frames.{FrameValue};
 ghost use Rattle.wf_frame.specs.Settings.{IsInRange};
 ghost use Rattle.wf_frame.specs.declared.classes.Class.{Class};
 ghost use Rattle.wf_frame.specs.declared.classes.Fate.TheVariants.{Held};
-ghost use Rattle.wf_frame.specs.declared.notes.Ask.TheVariants.{Done, Join, Rate, Tick, Arrive, Answer, Sleep, Wake, Poll, Rx, Reap};
+ghost use Rattle.wf_frame.specs.declared.notes.Ask.TheVariants.{Done, Join, Pull, Rate, Tick, Arrive, Answer, Sleep, Wake, Poll, Rx, Reap};
 ghost use Rattle.wf_frame.specs.declared.notes.Note.{Note};
 ghost use Rattle.wf_frame.specs.declared.notes.Note.TheVariants.{Enqueue, Asked};
 ghost use Rattle.wf_frame.specs.declared.notes.Refusal.{Refusal};
@@ -24,30 +24,31 @@ ghost use Rattle.wf_rules.specs.Lengths.{greatest_body};
 ghost use Rattle.wf_rules.specs.Receiver.{Receiver};
 ghost use Rattle.wf_rules.specs.Rotation.{Rotation, has_key};
 ghost use Rattle.wf_rules.specs.Session.{Session, slot, request_due, is_acknowledged, is_waiting, is_failed};
-ghost use Rattle.wf_world.specs.World.{World, Station, Tid, Share, Queue, Exchange, Mpdu, Frames, Request, opening, without_exchange, is_live, session, rotation, exchange, with_station, on_station, on_tid, on_session, on_receiver, on_share, on_queue, with_queues, with_rotation};
+ghost use Rattle.wf_world.specs.World.{World, Station, Tid, Share, Queue, Exchange, Mpdu, frame, accepted_count, is_held, with_frame_finished, Frames, Request, opening, without_exchange, is_live, session, rotation, exchange, with_station, on_station, on_tid, on_session, on_receiver, on_share, on_queue, with_queues, with_rotation};
 ghost use Rattle.wf_world.specs.FlowQueues.{frames_queued as world_queued};
 ghost use Rattle.wf_world.specs.CanSend.{request_open, has_waiting, can_send, can_send_in, is_ready, with_listings_of};
-ghost use Rattle.wf_world.specs.Exchanges.{mpdus_of, is_acked, after_charge, with_settled, with_all_settled, count_in};
+ghost use Rattle.wf_world.specs.Exchanges.{after_pick, after_tid_turn, with_exchange_opened, without_credit, mpdus_of, is_acked, after_charge, with_settled, with_all_settled, count_in};
 ghost use Rattle.wf_world.specs.Refusals.{refusal, open_of_station, open_of_class};
 ghost use Rattle.wf_world.specs.Step.{outcome_of, concerned_station, class_to_send, step, done_outcome};
 ghost use Rattle.wf_laws.specs.Queues.{HasLength, IsAtMost};
+ghost use Rattle.wf_laws.specs.Places.{IsNumbered};
 ghost use Rattle.wf_laws.specs.Windows.{EachMpdu, IsPending};
 ghost use Rattle.wf_flowq.specs.Flows.{tid_number, frames_queued, dropped_for_limit};
-ghost use Rattle.wf_flowq_refines.specs.Frames.{with_body};
-ghost use Rattle.wf_flowq_refines.specs.Standing.{with_finished};
+ghost use Rattle.wf_flowq_refines.specs.Frames.{with_body, IsBodySettled};
+ghost use Rattle.wf_flowq_refines.specs.Standing.{with_finished, times_held};
 ghost use Rattle.wf_flowq_refines.specs.Rest.{rest};
-ghost use Rattle.wf_sched.specs.ClassRotas.{SchedValue, deficit, after_join};
-ghost use Rattle.wf_sched_refines.specs.Standing.{StandsFor as TurnsStandFor, LeavesRotas, everywhere, with_charge};
+ghost use Rattle.wf_sched.specs.ClassRotas.{SchedValue, class_rota, with_class_rota, pick_of_class, IsAfterPick, deficit, after_join};
+ghost use Rattle.wf_sched_refines.specs.Standing.{StandsFor as TurnsStandFor, LeavesRotas, TellsReady, everywhere, with_charge};
 ghost use Rattle.wf_origwin.specs.Answers.{answer_of};
 ghost use Rattle.wf_origwin.specs.Window.{WindowValue, StandsFor as WindowStandsFor, settled};
 ghost use Rattle.wf_windows.specs.Windows.{HaveRoom, window_of, with_window};
 ghost use Rattle.wf_exchanges.specs.Exchanges.{asks};
-ghost use Rattle.wf_members.specs.Members.{member, on_member, new_member, with_rate, with_receipt};
+ghost use Rattle.wf_members.specs.Members.{member, on_member, new_member, with_rate, with_upper, with_receipt};
 ghost use Rattle.wf_powersave.specs.Sleepers.{sleeper, with_sleeper, awake};
 ghost use Rattle.wf_transmit_refines.specs.Half.{TransmitValue, opening_half, some_wait, can_send_of, is_ready_of};
 ghost use Rattle.wf_transmit_refines.specs.Standing.{open_of, HasWindows, Parts, IsReached, StandsFor, Meets};
 ghost use Rattle.wf_transmit_refines.specs.Changes.{after_listing, AreReset, after_enqueue};
-ghost use Rattle.wf_transmit_refines.specs.Ending.{after_close, after_answer, IsEnding, state_left};
+ghost use Rattle.wf_transmit_refines.specs.Ending.{after_close, after_finish, after_answer, IsEnding, state_left};
 ghost use Rattle.wf_transmit_refines.specs.Views.{agreements, roster, ledger, HasSameViews, KeepsView, KeepsSums};
 
 /// A new half stands for the opening world, whatever frames are to come.
@@ -236,4 +237,32 @@ pub fn a_done()
         Meets w bodies (Asked (Done e heard)) (after_listing z x.station) (done_outcome w x heard).reply }
     ensures reply { (w : World) (x : Exchange) (heard : Bool) →
         (done_outcome w x heard).reply ≡ Ended (count_in (done_outcome w x heard).world x is_acknowledged) (count_in (done_outcome w x heard).world x is_waiting) (count_in (done_outcome w x heard).world x is_failed) }
+{}
+
+/// What a pull does beside its aggregate. The class's stations are picked, by a list that tells who is ready; where nobody is,
+/// the pull is refused as Idle, and the pick stands. The turn goes to the TID that does not send. The exchange opens, last of
+/// all, and a credit is spent.
+pub fn a_pull_picks_and_opens()
+    ensures pick { (v : TransmitValue) (w : World) (bodies : ℕ → FrameValue) (c : Class) (ready : List Bool) (u : SchedValue) → Parts v w bodies → TellsReady w c ready →
+        IsAfterPick (class_rota v.sched c) (pick_of_class v.sched c ready) (class_rota u c) → u ≡ with_class_rota v.sched c (class_rota u c) →
+        Parts (record v { sched = u }) (after_pick w c) bodies }
+    ensures idle { (v : TransmitValue) (w : World) (bodies : ℕ → FrameValue) (c : Class) (ready : List Bool) (u : SchedValue) → StandsFor v w bodies →
+        refusal w (Asked (Pull c)) ≡ Some Idle → TellsReady w c ready → IsAfterPick (class_rota v.sched c) (pick_of_class v.sched c ready) (class_rota u c) →
+        u ≡ with_class_rota v.sched c (class_rota u c) → Meets w bodies (Asked (Pull c)) (record v { sched = u }) (Refused Idle) }
+    ensures turn { (v : TransmitValue) (w : World) (bodies : ℕ → FrameValue) → Parts v w bodies → (s : ℕ) (c : Class) (t : ℕ) → s < w.config.stations →
+        Parts (record v { members = on_member v.members s (with_upper c (t == lower_tid c)) }) (after_tid_turn w s c t) bodies }
+    ensures opens { (v : TransmitValue) (w : World) (bodies : ℕ → FrameValue) → Parts v w bodies → (x : Exchange) →
+        Parts (record v { exchanges = v.exchanges + 1; opened = v.opened ++ open_of x ∷ [] }) (with_exchange_opened w x) bodies }
+    ensures spent { (v : TransmitValue) (w : World) (bodies : ℕ → FrameValue) → Parts v w bodies → (s : ℕ) → s < w.config.stations →
+        Parts (record v { sleepers = with_sleeper v.sleepers s (record (sleeper v.sleepers s) { credit = None }) }) (without_credit w s) bodies }
+{}
+
+/// One window changes with the session that it stands for; one frame that is held goes last on the finished list.
+pub fn a_number_or_a_frame_changes()
+    ensures window { (v : TransmitValue) (w : World) (bodies : ℕ → FrameValue) (s t : ℕ) (f : Session → Session) (x : WindowValue) → is_live w s ≡ true → t < 8 →
+        HaveRoom (with_window v.windows s t x) → WindowStandsFor x (f (session w s t)) bodies → Parts v w bodies →
+        Parts (record v { windows = with_window v.windows s t x }) (on_session w s t f) bodies }
+    ensures finish { (v : TransmitValue) (w : World) (bodies : ℕ → FrameValue) (f : FrameValue) → f.id < accepted_count w → (frame w f.id).fate ≡ Held → is_held f.fate ≡ false →
+        times_held v.flows.backlog f.id ≡ 0 → IsBodySettled bodies f → Parts v w bodies → Parts (after_finish v f) (with_frame_finished w f.fate f.id) bodies }
+    ensures nowhere { (v : TransmitValue) (w : World) (bodies : ℕ → FrameValue) → StandsFor v w bodies → (id s t n : ℕ) → IsNumbered w id s t n → times_held v.flows.backlog id ≡ 0 }
 {}
