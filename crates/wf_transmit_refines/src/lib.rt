@@ -7,11 +7,14 @@
 //! function without a body that names it in its contract.
 #![tactic(auto)]
 
-ghost use Rattle.std.specs.Prelude.{◌≡◌, ◌<◌, ◌≤◌, ℕ, ◌+◌, ◌-◌, ◌*◌, ◌==◌, ◌||◌, ◌++◌, pos, ◌-ℤ◌, Bool, true, false, List, [], ◌∷◌, Option, Some, None, is_some, option_map, map, find, count_by, set, length, max};
+ghost use Rattle.std.specs.Prelude.{◌≡◌, ◌<◌, ◌≤◌, ℕ, ◌+◌, ◌-◌, ◌*◌, ◌==◌, ◌||◌, ◌++◌, pos, ◌-ℤ◌, Bool, true, false, List, [], ◌∷◌, Option, Some, None, is_some, option_map, map, find, count_by, set, length, max, unwrap_or};
+ghost use Rattle.std.specs.List.{list_any};
 ghost use Rattle.wf_frame.specs.Classes.{lower_tid, upper_tid, same_class};
 ghost use Rattle.wf_frame.specs.Frames.{FrameValue};
 ghost use Rattle.wf_frame.specs.Settings.{IsInRange};
 ghost use Rattle.wf_frame.specs.declared.classes.Class.{Class};
+ghost use Rattle.wf_frame.specs.declared.classes.Class.TheVariants.{Bk, Be, Vi, Vo};
+ghost use Rattle.wf_frame.specs.declared.classes.Fate.{Fate};
 ghost use Rattle.wf_frame.specs.declared.classes.Fate.TheVariants.{Held};
 ghost use Rattle.wf_frame.specs.declared.notes.Ask.TheVariants.{Done, Join, Pull, Rate, Tick, Arrive, Answer, Sleep, Wake, Poll, Rx, Reap};
 ghost use Rattle.wf_frame.specs.declared.notes.Note.{Note};
@@ -21,17 +24,20 @@ ghost use Rattle.wf_frame.specs.declared.notes.Refusal.TheVariants.{Idle};
 ghost use Rattle.wf_frame.specs.declared.notes.ReplyNote.TheVariants.{Accepted, Ended, Joined, RateSet, Ticked, Slept, Woken, Credited, Charged, Reaped, Refused};
 ghost use Rattle.wf_frame.specs.declared.settings.Config.{Config};
 ghost use Rattle.wf_rules.specs.Lengths.{greatest_body};
+ghost use Rattle.wf_rules.specs.Lists.{IsOnce};
 ghost use Rattle.wf_rules.specs.Receiver.{Receiver};
+ghost use Rattle.wf_rules.specs.Table.{has, upto};
 ghost use Rattle.wf_rules.specs.Rotation.{Rotation, has_key};
 ghost use Rattle.wf_rules.specs.Session.{Session, slot, request_due, is_acknowledged, is_waiting, is_failed};
-ghost use Rattle.wf_world.specs.World.{World, Station, Tid, Share, Queue, Exchange, Mpdu, frame, accepted_count, is_held, with_frame_finished, Frames, Request, opening, without_exchange, is_live, session, rotation, exchange, with_station, on_station, on_tid, on_session, on_receiver, on_share, on_queue, with_queues, with_rotation};
-ghost use Rattle.wf_world.specs.FlowQueues.{frames_queued as world_queued};
+ghost use Rattle.wf_world.specs.World.{World, Station, Tid, Share, Queue, Exchange, Mpdu, frame, accepted_count, is_held, with_frame_finished, with_frames_finished, Frames, Request, opening, without_exchange, is_live, session, rotation, exchange, with_station, on_station, on_tid, on_session, on_receiver, on_share, on_queue, with_queues, with_rotation};
+ghost use Rattle.wf_world.specs.FlowQueues.{frames_queued as world_queued, after_limit, dropped_for_limit as dropped_for_limit_in};
 ghost use Rattle.wf_world.specs.CanSend.{request_open, has_waiting, can_send, can_send_in, is_ready, with_listings_of};
 ghost use Rattle.wf_world.specs.Exchanges.{after_pick, after_tid_turn, with_exchange_opened, without_credit, mpdus_of, is_acked, after_charge, with_settled, with_all_settled, count_in};
-ghost use Rattle.wf_world.specs.Refusals.{refusal, open_of_station, open_of_class};
+ghost use Rattle.wf_world.specs.Refusals.{refusal, open_of_station, open_of_class, queued_in_class, can_send_any};
 ghost use Rattle.wf_world.specs.Step.{outcome_of, concerned_station, class_to_send, step, done_outcome};
 ghost use Rattle.wf_laws.specs.Queues.{HasLength, IsAtMost};
-ghost use Rattle.wf_laws.specs.Places.{IsNumbered};
+ghost use Rattle.wf_fate.specs.Tally.{settled_as, many_settled_as};
+ghost use Rattle.wf_laws.specs.Places.{IsNumbered, KeepsPlaces};
 ghost use Rattle.wf_laws.specs.Windows.{EachMpdu, IsPending};
 ghost use Rattle.wf_flowq.specs.Flows.{tid_number, frames_queued, dropped_for_limit};
 ghost use Rattle.wf_flowq_refines.specs.Frames.{with_body, IsBodySettled};
@@ -46,8 +52,9 @@ ghost use Rattle.wf_exchanges.specs.Exchanges.{asks};
 ghost use Rattle.wf_members.specs.Members.{member, on_member, new_member, with_rate, with_upper, with_receipt};
 ghost use Rattle.wf_powersave.specs.Sleepers.{sleeper, with_sleeper, awake};
 ghost use Rattle.wf_transmit_refines.specs.Half.{TransmitValue, opening_half, some_wait, can_send_of, is_ready_of};
-ghost use Rattle.wf_transmit_refines.specs.Standing.{open_of, HasWindows, Parts, IsReached, StandsFor, Meets};
+ghost use Rattle.wf_transmit_refines.specs.Standing.{open_of, counts_in, HasWindows, Parts, IsReached, StandsFor, Meets};
 ghost use Rattle.wf_transmit_refines.specs.Changes.{after_listing, AreReset, after_enqueue};
+ghost use Rattle.wf_transmit_refines.specs.Counting.{with_overlimit};
 ghost use Rattle.wf_transmit_refines.specs.Ending.{after_close, after_finish, after_answer, IsEnding, state_left};
 ghost use Rattle.wf_transmit_refines.specs.Views.{agreements, roster, ledger, HasSameViews, KeepsView, KeepsSums};
 
@@ -108,6 +115,12 @@ pub fn the_readers_agree()
         count_by (λ x. x.station == s) v.opened ≡ open_of_station w s }
     ensures of_class { (v : TransmitValue) (w : World) (bodies : ℕ → FrameValue) (c : Class) → Parts v w bodies →
         count_by (λ x. same_class x.class c) v.opened ≡ open_of_class w c }
+    ensures class_queued { (v : TransmitValue) (w : World) (bodies : ℕ → FrameValue) (s : ℕ) (c : Class) → Parts v w bodies → is_live w s ≡ true →
+        frames_queued v.flows (tid_number s (lower_tid c)) + frames_queued v.flows (tid_number s (upper_tid c)) ≡ queued_in_class w s c }
+    ensures any_tid { (v : TransmitValue) (w : World) (bodies : ℕ → FrameValue) (s : ℕ) → Parts v w bodies → is_live w s ≡ true →
+        list_any (can_send_of v s) (upto 8) ≡ can_send_any w s }
+    ensures polled { (v : TransmitValue) (w : World) (bodies : ℕ → FrameValue) (s : ℕ) → Parts v w bodies → is_live w s ≡ true →
+        unwrap_or (find (λ c. can_send_of v s (lower_tid c) || can_send_of v s (upper_tid c)) (Vo ∷ Vi ∷ Be ∷ [])) Bk ≡ class_to_send w s }
 {}
 
 /// A call that is refused changes nothing, but for a pull that finds nobody ready.
@@ -265,4 +278,15 @@ pub fn a_number_or_a_frame_changes()
     ensures finish { (v : TransmitValue) (w : World) (bodies : ℕ → FrameValue) (f : FrameValue) → f.id < accepted_count w → (frame w f.id).fate ≡ Held → is_held f.fate ≡ false →
         times_held v.flows.backlog f.id ≡ 0 → IsBodySettled bodies f → Parts v w bodies → Parts (after_finish v f) (with_frame_finished w f.fate f.id) bodies }
     ensures nowhere { (v : TransmitValue) (w : World) (bodies : ℕ → FrameValue) → StandsFor v w bodies → (id s t n : ℕ) → IsNumbered w id s t n → times_held v.flows.backlog id ≡ 0 }
+{}
+
+/// The counts of a world as frames are finished: one of its fate more for each, and as many inside as before. At the limit
+/// the head of the longest queue is finished.
+pub fn the_counts_follow()
+    ensures one { (w : World) (fate : Fate) (id : ℕ) → id < accepted_count w → (frame w id).fate ≡ Held → is_held fate ≡ false →
+        ledger (with_frame_finished w fate id) ≡ record (ledger w) { counts = settled_as fate (counts_in w) } }
+    ensures many { (ids : List ℕ) (w : World) (fate : Fate) → IsOnce ids →
+        ((id : ℕ) → has ids id ≡ true → (id < accepted_count w) × ((frame w id).fate ≡ Held)) → is_held fate ≡ false →
+        ledger (with_frames_finished w fate ids) ≡ record (ledger w) { counts = many_settled_as fate (length ids) (counts_in w) } }
+    ensures limit { (w : World) → KeepsPlaces w → ledger (after_limit w) ≡ record (ledger w) { counts = with_overlimit (dropped_for_limit_in w) (counts_in w) } }
 {}
