@@ -20,3 +20,4 @@ pub mod Endings
 pub mod Ended
 pub mod Dones
 pub mod Pulls
+pub mod Takes

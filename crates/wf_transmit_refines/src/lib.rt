@@ -15,7 +15,8 @@ ghost use Rattle.wf_frame.specs.Settings.{IsInRange};
 ghost use Rattle.wf_frame.specs.declared.classes.Class.{Class};
 ghost use Rattle.wf_frame.specs.declared.classes.Class.TheVariants.{Bk, Be, Vi, Vo};
 ghost use Rattle.wf_frame.specs.declared.classes.Fate.{Fate};
-ghost use Rattle.wf_frame.specs.declared.classes.Fate.TheVariants.{Held};
+ghost use Rattle.wf_frame.specs.declared.classes.Fate.TheVariants.{Held, Dropped};
+ghost use Rattle.wf_frame.specs.declared.classes.Cause.TheVariants.{Codel as By_codel};
 ghost use Rattle.wf_frame.specs.declared.notes.Ask.TheVariants.{Done, Join, Pull, Rate, Tick, Arrive, Answer, Sleep, Wake, Poll, Rx, Reap};
 ghost use Rattle.wf_frame.specs.declared.notes.Note.{Note};
 ghost use Rattle.wf_frame.specs.declared.notes.Note.TheVariants.{Enqueue, Asked};
@@ -29,8 +30,8 @@ ghost use Rattle.wf_rules.specs.Receiver.{Receiver};
 ghost use Rattle.wf_rules.specs.Table.{has, upto};
 ghost use Rattle.wf_rules.specs.Rotation.{Rotation, has_key};
 ghost use Rattle.wf_rules.specs.Session.{Session, slot, request_due, is_acknowledged, is_waiting, is_failed};
-ghost use Rattle.wf_world.specs.World.{World, Station, Tid, Share, Queue, Exchange, Mpdu, frame, accepted_count, is_held, with_frame_finished, with_frames_finished, Frames, Request, opening, without_exchange, is_live, session, rotation, exchange, with_station, on_station, on_tid, on_session, on_receiver, on_share, on_queue, with_queues, with_rotation};
-ghost use Rattle.wf_world.specs.FlowQueues.{frames_queued as world_queued, after_limit, dropped_for_limit as dropped_for_limit_in};
+ghost use Rattle.wf_world.specs.World.{World, Station, Tid, Share, Queue, Exchange, Mpdu, frame, accepted_count, is_held, codel_params, with_frame_finished, with_frames_finished, Frames, Request, opening, without_exchange, is_live, session, rotation, exchange, with_station, on_station, on_tid, on_session, on_receiver, on_share, on_queue, with_queues, with_rotation};
+ghost use Rattle.wf_world.specs.FlowQueues.{taken_for_tid as world_take, frames_queued as world_queued, after_limit, dropped_for_limit as dropped_for_limit_in};
 ghost use Rattle.wf_world.specs.CanSend.{request_open, has_waiting, can_send, can_send_in, is_ready, with_listings_of};
 ghost use Rattle.wf_world.specs.Exchanges.{after_pick, after_tid_turn, with_exchange_opened, without_credit, mpdus_of, is_acked, after_charge, with_settled, with_all_settled, count_in};
 ghost use Rattle.wf_world.specs.Refusals.{refusal, open_of_station, open_of_class, queued_in_class, can_send_any};
@@ -39,7 +40,7 @@ ghost use Rattle.wf_laws.specs.Queues.{HasLength, IsAtMost};
 ghost use Rattle.wf_fate.specs.Tally.{settled_as, many_settled_as};
 ghost use Rattle.wf_laws.specs.Places.{IsNumbered, KeepsPlaces};
 ghost use Rattle.wf_laws.specs.Windows.{EachMpdu, IsPending};
-ghost use Rattle.wf_flowq.specs.Flows.{tid_number, frames_queued, dropped_for_limit};
+ghost use Rattle.wf_flowq.specs.Flows.{tid_number, frames_queued, dropped_for_limit, taken_for_tid};
 ghost use Rattle.wf_flowq_refines.specs.Frames.{with_body, IsBodySettled};
 ghost use Rattle.wf_flowq_refines.specs.Standing.{with_finished, times_held};
 ghost use Rattle.wf_flowq_refines.specs.Rest.{rest};
@@ -56,6 +57,7 @@ ghost use Rattle.wf_transmit_refines.specs.Standing.{open_of, counts_in, HasWind
 ghost use Rattle.wf_transmit_refines.specs.Changes.{after_listing, AreReset, after_enqueue};
 ghost use Rattle.wf_transmit_refines.specs.Counting.{with_overlimit};
 ghost use Rattle.wf_transmit_refines.specs.Ending.{after_close, after_finish, after_answer, IsEnding, state_left};
+ghost use Rattle.wf_transmit_refines.specs.Taking.{QueuesAreHeld};
 ghost use Rattle.wf_transmit_refines.specs.Views.{agreements, roster, ledger, HasSameViews, KeepsView, KeepsSums};
 
 /// A new half stands for the opening world, whatever frames are to come.
@@ -289,4 +291,16 @@ pub fn the_counts_follow()
         ((id : ℕ) → has ids id ≡ true → (id < accepted_count w) × ((frame w id).fate ≡ Held)) → is_held fate ≡ false →
         ledger (with_frames_finished w fate ids) ≡ record (ledger w) { counts = many_settled_as fate (length ids) (counts_in w) } }
     ensures limit { (w : World) → KeepsPlaces w → ledger (after_limit w) ≡ record (ledger w) { counts = with_overlimit (dropped_for_limit_in w) (counts_in w) } }
+{}
+
+/// A TID takes a frame out for its aggregate: CoDel may drop frames on the way, as many as the finished list grows by. In the
+/// world of a run each queued frame is held, and this stays so from one take to the next.
+pub fn a_take()
+    ensures begins { (v : TransmitValue) (w : World) (bodies : ℕ → FrameValue) → StandsFor v w bodies → QueuesAreHeld v.flows.backlog w }
+    ensures parts { (v : TransmitValue) (w : World) (bodies : ℕ → FrameValue) (s t : ℕ) → Parts v w bodies → QueuesAreHeld v.flows.backlog w → is_live w s ≡ true → t < 8 →
+        (d : ℕ) → length (taken_for_tid v.flows (tid_number s t) w.clock (codel_params w s)).flows.backlog.finished ≡ length v.flows.backlog.finished + d →
+        Parts (record v { flows = (taken_for_tid v.flows (tid_number s t) w.clock (codel_params w s)).flows; tally = many_settled_as (Dropped By_codel) d v.tally })
+        (world_take w s t).world bodies }
+    ensures held { (v : TransmitValue) (w : World) (bodies : ℕ → FrameValue) (s t : ℕ) → Parts v w bodies → QueuesAreHeld v.flows.backlog w → is_live w s ≡ true → t < 8 →
+        QueuesAreHeld (taken_for_tid v.flows (tid_number s t) w.clock (codel_params w s)).flows.backlog (world_take w s t).world }
 {}
