@@ -10,17 +10,16 @@ use Rattle.wf_frame.specs.declared.classes.Fate.TheVariants.{Held, Acked, Droppe
 use Rattle.wf_frame.specs.Frames.{FrameValue}
 use Rattle.wf_rules.specs.Codel.{Item, Dequeued, dequeue}
 use Rattle.wf_rules.specs.Lists.{IsOnce, on}
-use Rattle.wf_rules.specs.Rotation.{Rotation, in_order}
+use Rattle.wf_rules.specs.Rotation.{in_order}
 use Rattle.wf_rules.specs.Table.{at, has}
 use Rattle.wf_rule_laws.proofs.Lemmas.Counts.{has-on, on-nil, on-append, on-hasnot}
 use Rattle.wf_rule_laws.proofs.Lemmas.Tables.{at_put_other}
-use Rattle.wf_world.specs.World.{World, Queue, Frame, no_frame, tid_of, queue, is_live, frame, accepted_count, codel_params, on_queue, on_tid, on_station, with_station, with_queues, with_fate, with_frame_finished, with_frames_finished}
+use Rattle.wf_world.specs.World.{World, Queue, Frame, no_frame, tid_of, queue, is_live, frame, codel_params, on_queue, on_tid, on_station, with_station, with_queues, with_fate, with_frame_finished, with_frames_finished}
 use Rattle.wf_world.specs.FlowQueues.{with_queues_paid, picked_queue, after_dequeue, taken_by_codel, taken_from_picked, taken_for_tid as world_take}
-use Rattle.wf_codel_queues.specs.Backlog.{BacklogValue, frames_at, item_of}
+use Rattle.wf_codel_queues.specs.Backlog.{BacklogValue, frames_at}
 use Rattle.wf_fate.specs.Tally.{Counts, many_settled_as}
 use Rattle.wf_flowq.specs.Flows.{FlowsValue, SettingsValue, tid_number, after_pick, taken_for_tid}
-use Rattle.wf_flowq_refines.specs.Standing.{Part, part, ids, ids_given, times_held, StandsFor as FlowsStandFor}
-use Rattle.wf_flowq_refines.specs.Frames.{AreAccepted}
+use Rattle.wf_flowq_refines.specs.Standing.{part, ids, ids_given, times_held, StandsFor as FlowsStandFor}
 use Rattle.wf_flowq_refines.proofs.Bodies.{frames_take}
 use Rattle.wf_flowq_refines.proofs.Changes.{times_at}
 use Rattle.wf_flowq_refines.proofs.Elsewhere.{rest_take}
@@ -33,7 +32,7 @@ use Rattle.wf_sched_refines.proofs.Unchanged.{take_leaves}
 use Rattle.wf_transmit_refines.specs.Half.{TransmitValue}
 use Rattle.wf_transmit_refines.specs.Standing.{counts_in, Parts, StandsFor}
 use Rattle.wf_transmit_refines.specs.Taking.{times_queued, QueuesAreHeld}
-use Rattle.wf_transmit_refines.specs.Views.{agreements, Roster, roster, Ledger, ledger}
+use Rattle.wf_transmit_refines.specs.Views.{Roster, roster, Ledger, ledger}
 use Rattle.wf_transmit_refines.proofs.Views.{agreements_rest, roster_rest, ledger_queue, ledger_queues}
 use Rattle.wf_transmit_refines.proofs.Stands.{WindowsStand, StationsStand, LedgerStands, Pieces, to_pieces, of_pieces}
 use Rattle.wf_transmit_refines.proofs.Ledgers.{ledger_finish_all}
@@ -150,7 +149,7 @@ module _ (v : FlowsValue) (w : World) (st : FlowsStandFor v w) (held : QueuesAre
         dropped = l;
         counted = ledger_finish_all l u (Dropped By_codel) once
             (λ id h. let some : 0 < times_queued v.backlog id = omega (arith, among id, has-on l id h) in
-                (omega (arith, st.accepted id (omega (arith, some, queued_held id)), ap (λ (fs : List Frame). length fs) frames_same), ap (λ (fs : List Frame). (at no_frame fs id).fate) frames_same ∙ held id some)) refl
+            (omega (arith, st.accepted id (omega (arith, some, queued_held id)), ap (λ (fs : List Frame). length fs) frames_same), ap (λ (fs : List Frame). (at no_frame fs id).fate) frames_same ∙ held id some)) refl
             ∙ ap (λ (k : Ledger). record k { counts = many_settled_as (Dropped By_codel) (length l) k.counts }) same;
         finished = finished_all l u (Dropped By_codel) ∙ ap (λ (k : List ℕ). k ++ l) (queue_finished w q (after_dequeue d));
         fates = λ id out. fates_kept l u (Dropped By_codel) id out ∙ ap (λ (fs : List Frame). (at no_frame fs id).fate) frames_same;
@@ -181,7 +180,7 @@ take_drops v w s t st held live low_s low_t =
     let frames_same : next.frames ≡ w.frames = next_frames w s t in
     drops_from w next _ (next_ledger w s t) (next_finished w s t) frames_same
     (from_picked (picked_queue w s t).winner (after_pick v (tid_number s t)) next s (stands_after v w st s t live low low_t)
-        (λ id some. ap (λ (fs : List Frame). (at no_frame fs id).fate) frames_same ∙ held id some))
+    (λ id some. ap (λ (fs : List Frame). (at no_frame fs id).fate) frames_same ∙ held id some))
 
 module _ (v : TransmitValue) (w : World) (bodies : ℕ → FrameValue) (s t : ℕ) (h : Parts v w bodies) (held : QueuesAreHeld v.flows.backlog w) (live : is_live w s ≡ true) (low_t : t < 8) where
   abbrev after : FlowsValue
@@ -203,10 +202,16 @@ module _ (v : TransmitValue) (w : World) (bodies : ℕ → FrameValue) (s t : �
   take_parts d many =
       let p : Pieces v w bodies = to_pieces v w bodies h in
       let same : roster w ≡ roster took = sym (roster_rest w took (rest_take w s t)) in
-      let count : length drops.dropped ≡ d = omega (arith, many,
-          ap (λ (l : List ℕ). length l) drops.finished, length-append w.finished drops.dropped,
-          ap (λ (l : List ℕ). length l) stands.finished, length-map after.backlog.finished (λ (f : FrameValue). f.id),
-          ap (λ (l : List ℕ). length l) p.flows.finished, length-map v.flows.backlog.finished (λ (f : FrameValue). f.id)) in
+      let count : length drops.dropped ≡ d = omega (
+        arith,
+        many,
+        ap (λ (l : List ℕ). length l) drops.finished,
+        length-append w.finished drops.dropped,
+        ap (λ (l : List ℕ). length l) stands.finished,
+        length-map after.backlog.finished (λ (f : FrameValue). f.id),
+        ap (λ (l : List ℕ). length l) p.flows.finished,
+        length-map v.flows.backlog.finished (λ (f : FrameValue). f.id),
+      ) in
       of_pieces (record v { flows = after; tally = many_settled_as (Dropped By_codel) d v.tally }) took bodies (record {
         config = p.config ∙ ap (λ (r : Roster). r.config) same;
         clock = p.clock ∙ ap (λ (r : Roster). r.clock) same;
@@ -247,10 +252,15 @@ queues_held v w bodies h id some = go (frame w id).fate refl
   where
     not_here : (fate : Fate) → (fate ≡ Held → ⊥) → (frame w id).fate ≡ fate → ⊥
     not_here fate other is =
-        absurd (omega (arith, some, on-nil id, none_queued (λ (frames : List FrameValue). on (ids frames) id) v.flows.backlog.queues (λ q. elim (cases_lt 0 (on (ids (frames_at v.flows.backlog q)) id)) [
-          | inl there ↦ absurd (other (sym is ∙ queued_is_held v.flows w id q h.parts.others.flows (places_kept w h.reached) there))
-          | inr none ↦ omega (arith, none)
-        ])))
+        absurd (omega (
+          arith,
+          some,
+          on-nil id,
+          none_queued (λ (frames : List FrameValue). on (ids frames) id) v.flows.backlog.queues (λ q. elim (cases_lt 0 (on (ids (frames_at v.flows.backlog q)) id)) [
+            | inl there ↦ absurd (other (sym is ∙ queued_is_held v.flows w id q h.parts.others.flows (places_kept w h.reached) there))
+            | inr none ↦ omega (arith, none)
+          ]),
+        ))
 
     go : (fate : Fate) → (frame w id).fate ≡ fate → (frame w id).fate ≡ Held
     go Held is = is
