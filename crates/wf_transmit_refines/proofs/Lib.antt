@@ -21,3 +21,4 @@ pub mod Ended
 pub mod Dones
 pub mod Pulls
 pub mod Takes
+pub mod Aggregates

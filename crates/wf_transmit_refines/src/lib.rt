@@ -7,7 +7,7 @@
 //! function without a body that names it in its contract.
 #![tactic(auto)]
 
-ghost use Rattle.std.specs.Prelude.{◌≡◌, ◌<◌, ◌≤◌, ℕ, ◌+◌, ◌-◌, ◌*◌, ◌==◌, ◌||◌, ◌++◌, pos, ◌-ℤ◌, Bool, true, false, List, [], ◌∷◌, Option, Some, None, is_some, option_map, map, find, count_by, set, length, max, unwrap_or};
+ghost use Rattle.std.specs.Prelude.{◌≡◌, ◌<◌, ◌≤◌, ℕ, suc, ◌+◌, ◌-◌, ◌*◌, ◌==◌, ◌||◌, ◌++◌, pos, ◌-ℤ◌, Bool, true, false, List, [], ◌∷◌, Option, Some, None, is_some, option_map, map, find, count_by, set, length, max, unwrap_or};
 ghost use Rattle.std.specs.List.{list_any};
 ghost use Rattle.wf_frame.specs.Classes.{lower_tid, upper_tid, same_class};
 ghost use Rattle.wf_frame.specs.Frames.{FrameValue};
@@ -32,17 +32,18 @@ ghost use Rattle.wf_rules.specs.Rotation.{Rotation, has_key};
 ghost use Rattle.wf_rules.specs.Session.{Session, slot, request_due, is_acknowledged, is_waiting, is_failed};
 ghost use Rattle.wf_world.specs.World.{World, Station, Tid, Share, Queue, Exchange, Mpdu, frame, accepted_count, is_held, codel_params, with_frame_finished, with_frames_finished, Frames, Request, opening, without_exchange, is_live, session, rotation, exchange, with_station, on_station, on_tid, on_session, on_receiver, on_share, on_queue, with_queues, with_rotation};
 ghost use Rattle.wf_world.specs.FlowQueues.{taken_for_tid as world_take, frames_queued as world_queued, after_limit, dropped_for_limit as dropped_for_limit_in};
-ghost use Rattle.wf_world.specs.CanSend.{request_open, has_waiting, can_send, can_send_in, is_ready, with_listings_of};
-ghost use Rattle.wf_world.specs.Exchanges.{after_pick, after_tid_turn, with_exchange_opened, without_credit, mpdus_of, is_acked, after_charge, with_settled, with_all_settled, count_in};
+ghost use Rattle.wf_world.specs.CanSend.{can_give, request_open, has_waiting, can_send, can_send_in, is_ready, with_listings_of};
+ghost use Rattle.wf_world.specs.Exchanges.{Aggregate, Prepared, picked_station, sending_tid, after_pick, after_tid_turn, fits_in, fresh_mpdus, with_number, with_fresh, aggregate_of, with_flying, prepared_data, prepared_request, prepared_exchange, exchange_of, with_exchange_opened, without_credit, mpdus_of, is_acked, after_charge, with_settled, with_all_settled, count_in};
 ghost use Rattle.wf_world.specs.Refusals.{refusal, open_of_station, open_of_class, queued_in_class, can_send_any};
-ghost use Rattle.wf_world.specs.Step.{outcome_of, concerned_station, class_to_send, step, done_outcome};
+ghost use Rattle.wf_world.specs.Step.{outcome_of, concerned_station, class_to_send, step, pull_outcome, done_outcome};
 ghost use Rattle.wf_laws.specs.Queues.{HasLength, IsAtMost};
 ghost use Rattle.wf_fate.specs.Tally.{settled_as, many_settled_as};
 ghost use Rattle.wf_laws.specs.Places.{IsNumbered, KeepsPlaces};
 ghost use Rattle.wf_laws.specs.Windows.{EachMpdu, IsPending};
 ghost use Rattle.wf_flowq.specs.Flows.{tid_number, frames_queued, dropped_for_limit, taken_for_tid};
 ghost use Rattle.wf_flowq_refines.specs.Frames.{with_body, IsBodySettled};
-ghost use Rattle.wf_flowq_refines.specs.Standing.{with_finished, times_held};
+ghost use Rattle.wf_flowq_refines.specs.Standing.{part, with_finished, times_held};
+ghost use Rattle.wf_codel_queues.specs.Backlog.{BacklogValue};
 ghost use Rattle.wf_flowq_refines.specs.Rest.{rest};
 ghost use Rattle.wf_sched.specs.ClassRotas.{SchedValue, class_rota, with_class_rota, pick_of_class, IsAfterPick, deficit, after_join};
 ghost use Rattle.wf_sched_refines.specs.Standing.{StandsFor as TurnsStandFor, LeavesRotas, TellsReady, everywhere, with_charge};
@@ -303,4 +304,26 @@ pub fn a_take()
         (world_take w s t).world bodies }
     ensures held { (v : TransmitValue) (w : World) (bodies : ℕ → FrameValue) (s t : ℕ) → Parts v w bodies → QueuesAreHeld v.flows.backlog w → is_live w s ≡ true → t < 8 →
         QueuesAreHeld (taken_for_tid v.flows (tid_number s t) w.clock (codel_params w s)).flows.backlog (world_take w s t).world }
+{}
+
+/// What a pull is made of. It leads through these worlds: the pick, the turn, what is prepared, the exchange that opens, and a
+/// credit that is spent. A request is prepared where one is due, else an aggregate, whose numbers fly; it ends with a fresh
+/// frame that does not fit, which has its number already, or where the TID can give none. What leaves the flow queues' part
+/// leaves their frames held.
+pub fn a_pull_is_made_of_these()
+    ensures world { (w : World) (c : Class) (s : ℕ) → (picked_station w c).winner ≡ Some s →
+        let u : World = after_pick w c in
+        let t : ℕ = sending_tid u s c in
+        let p : Prepared = prepared_exchange (after_tid_turn u s c t) s t in
+        (pull_outcome w c).world ≡ without_credit (with_exchange_opened p.world (exchange_of s t c p)) s }
+    ensures request { (w : World) (s t : ℕ) → request_due (session w s t) ≡ true → prepared_exchange w s t ≡ prepared_request w s t }
+    ensures data { (w : World) (s t : ℕ) → request_due (session w s t) ≡ false → prepared_exchange w s t ≡ prepared_data s t (aggregate_of w s t) }
+    ensures flies { (s t : ℕ) (f : Aggregate) → (prepared_data s t f).world ≡ on_session f.world s t (with_flying f.world.exchanges f.mpdus) }
+    ensures full { (w : World) (s t : ℕ) (mpdus : List Mpdu) → with_fresh 0 w s t mpdus ≡ record { world = w; mpdus = mpdus } }
+    ensures none { (n : ℕ) (w : World) (s t : ℕ) (mpdus : List Mpdu) → can_give w s t ≡ false → with_fresh n w s t mpdus ≡ record { world = w; mpdus = mpdus } }
+    ensures fits { (n : ℕ) (w : World) (s t : ℕ) (mpdus : List Mpdu) → can_give w s t ≡ true → fits_in w s (mpdus ++ fresh_mpdus w s t (world_take w s t).item) ≡ true →
+        with_fresh (suc n) w s t mpdus ≡ with_fresh n (with_number (world_take w s t).world s t (world_take w s t).item) s t (mpdus ++ fresh_mpdus w s t (world_take w s t).item) }
+    ensures too_long { (n : ℕ) (w : World) (s t : ℕ) (mpdus : List Mpdu) → can_give w s t ≡ true → fits_in w s (mpdus ++ fresh_mpdus w s t (world_take w s t).item) ≡ false →
+        with_fresh (suc n) w s t mpdus ≡ record { world = with_number (world_take w s t).world s t (world_take w s t).item; mpdus = mpdus } }
+    ensures held { (b : BacklogValue) (w u : World) → part u ≡ part w → QueuesAreHeld b w → QueuesAreHeld b u }
 {}
