@@ -18,7 +18,7 @@ use Rattle.wf_origwin.specs.Window.{settled}
 use Rattle.wf_windows.specs.Ending.{AreFlying}
 use Rattle.wf_windows.proofs.Ends.{still_fly}
 use Rattle.wf_transmit_refines.specs.Half.{TransmitValue}
-use Rattle.wf_transmit_refines.specs.Ending.{IsEnding, state_left}
+use Rattle.wf_transmit_refines.specs.Ending.{ending_of, IsEnding, state_left}
 use Rattle.wf_transmit_refines.specs.Views.{Agreements, agreements}
 use Rattle.wf_transmit_refines.proofs.Views.{agreements_rest, agreements_session}
 use Rattle.wf_transmit_refines.proofs.Moves.{with_session, session_own}
@@ -66,7 +66,7 @@ slot_left false limit n y bodies = ap (λ (z : Slot). z.state) (at_put_same no_s
 -- ---- to the end
 
 -- a number that is none of these keeps its slot
-kept_to_end : (ms : List Mpdu) (w : World) (s t e n : ℕ) (acked : ℕ → Bool) → is_live w s ≡ true → (session w s t).first ≤ n → AreFlying (session w s t) e w.config.attempts (map (λ m. m.number) ms) → has (map (λ m. m.number) ms) n ≡ false →
+kept_to_end : (ms : List Mpdu) (w : World) (s t e n : ℕ) (acked : ℕ → Bool) → is_live w s ≡ true → (session w s t).first ≤ n → AreFlying (session w s t) (ending_of w.config e acked) (map (λ m. m.number) ms) → has (map (λ m. m.number) ms) n ≡ false →
     slot (session (with_all_settled w s t acked ms) s t) n ≡ slot (session w s t) n
 unfolding with_all_settled
 kept_to_end [] w s t e n acked live from flying out = refl
@@ -76,9 +76,9 @@ kept_to_end (m ∷ ms) w s t e n acked live from flying out =
     let z : Session = settled (acked m.number) w.config.attempts m.number y in
     let a : agreements u ≡ with_agreement (agreements w) s t z = settled_agreements (acked m.number) w s t m live in
     let now : session u s t ≡ z = ap (λ (k : Agreements). k.sessions s t) a ∙ session_own (agreements w).sessions s t z in
-    let limit : u.config.attempts ≡ w.config.attempts = ap (λ (k : Agreements). k.config.attempts) a in
-    let behind : AreFlying z e w.config.attempts (map (λ (k : Mpdu). k.number) ms) = still_fly (acked m.number) y e w.config.attempts m.number (map (λ (k : Mpdu). k.number) ms) flying in
-    let flying_u : AreFlying (session u s t) e u.config.attempts (map (λ (k : Mpdu). k.number) ms) = subst (λ (i : ℕ). AreFlying (session u s t) e i (map (λ (k : Mpdu). k.number) ms)) (sym limit) (subst (λ (k : Session). AreFlying k e w.config.attempts (map (λ (k : Mpdu). k.number) ms)) (sym now) behind) in
+    let config : u.config ≡ w.config = ap (λ (k : Agreements). k.config) a in
+    let behind : AreFlying z (ending_of w.config e acked) (map (λ (k : Mpdu). k.number) ms) = still_fly (acked m.number) y (ending_of w.config e acked) m.number (map (λ (k : Mpdu). k.number) ms) flying in
+    let flying_u : AreFlying (session u s t) (ending_of u.config e acked) (map (λ (k : Mpdu). k.number) ms) = subst (λ (c : Config). AreFlying (session u s t) (ending_of c e acked) (map (λ (k : Mpdu). k.number) ms)) (sym config) (subst (λ (k : Session). AreFlying k (ending_of w.config e acked) (map (λ (k : Mpdu). k.number) ms)) (sym now) behind) in
     let from_m : y.first ≤ m.number = (flying.each m.number (or_left (m.number == m.number) (has (map (λ (k : Mpdu). k.number) ms) m.number) (eq-eqb m.number m.number refl))).from_first in
     let other : n ≢ m.number = λ i. absurd (cc (out, or_left (m.number == n) (has (map (λ (k : Mpdu). k.number) ms) n) (eq-eqb m.number n (sym i)))) in
     kept_to_end ms u s t e n acked (ap (λ (k : Agreements). k.live s) a ∙ live) (omega (arith, from, ap (λ (k : Session). k.first) now, settled_first (acked m.number) w.config.attempts m.number y)) flying_u (later (m.number == n) out)
@@ -97,9 +97,9 @@ state_at_end v w bodies s t e acked m ms after left =
     let z : Session = settled (acked m.number) w.config.attempts m.number y in
     let a : agreements u ≡ with_agreement (agreements w) s t z = settled_agreements (acked m.number) w s t m left.live in
     let now : session u s t ≡ z = ap (λ (k : Agreements). k.sessions s t) a ∙ session_own (agreements w).sessions s t z in
-    let limit : u.config.attempts ≡ w.config.attempts = ap (λ (k : Agreements). k.config.attempts) a in
-    let behind : AreFlying z e w.config.attempts (map (λ (k : Mpdu). k.number) ms) = still_fly (acked m.number) y e w.config.attempts m.number (map (λ (k : Mpdu). k.number) ms) left.flying in
-    let flying_u : AreFlying (session u s t) e u.config.attempts (map (λ (k : Mpdu). k.number) ms) = subst (λ (i : ℕ). AreFlying (session u s t) e i (map (λ (k : Mpdu). k.number) ms)) (sym limit) (subst (λ (k : Session). AreFlying k e w.config.attempts (map (λ (k : Mpdu). k.number) ms)) (sym now) behind) in
+    let config : u.config ≡ w.config = ap (λ (k : Agreements). k.config) a in
+    let behind : AreFlying z (ending_of w.config e acked) (map (λ (k : Mpdu). k.number) ms) = still_fly (acked m.number) y (ending_of w.config e acked) m.number (map (λ (k : Mpdu). k.number) ms) left.flying in
+    let flying_u : AreFlying (session u s t) (ending_of u.config e acked) (map (λ (k : Mpdu). k.number) ms) = subst (λ (c : Config). AreFlying (session u s t) (ending_of c e acked) (map (λ (k : Mpdu). k.number) ms)) (sym config) (subst (λ (k : Session). AreFlying k (ending_of w.config e acked) (map (λ (k : Mpdu). k.number) ms)) (sym now) behind) in
     let from_m : y.first ≤ m.number = (left.flying.each m.number (or_left (m.number == m.number) (has (map (λ (k : Mpdu). k.number) ms) m.number) (eq-eqb m.number m.number refl))).from_first in
     ap (λ (k : World). (slot (session k s t) m.number).state) (sym left.leads)
     ∙ ap (λ (k : Slot). k.state) (kept_to_end ms u s t e m.number acked (ap (λ (k : Agreements). k.live s) a ∙ left.live) (omega (arith, from_m, ap (λ (k : Session). k.first) now, settled_first (acked m.number) w.config.attempts m.number y)) flying_u left.flying.once.0)

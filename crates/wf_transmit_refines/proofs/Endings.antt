@@ -31,10 +31,10 @@ use Rattle.wf_flowq_refines.specs.Standing.{Part, part, ids, times_held}
 use Rattle.wf_flowq_refines.proofs.Leaves.{share_alone, closing_alone}
 use Rattle.wf_flowq_refines.proofs.Purges.{item_ids}
 use Rattle.wf_origwin.proofs.Numbers.{open_number}
-use Rattle.wf_windows.specs.Ending.{IsFlyingIn, AreFlying}
+use Rattle.wf_windows.specs.Ending.{Ending, IsFlyingIn, AreFlying}
 use Rattle.wf_transmit_refines.specs.Half.{TransmitValue}
 use Rattle.wf_transmit_refines.specs.Standing.{open_of, Parts, IsReached, StandsFor}
-use Rattle.wf_transmit_refines.specs.Ending.{after_close, IsLoose, IsEnding}
+use Rattle.wf_transmit_refines.specs.Ending.{after_close, ending_of, IsLoose, IsEnding}
 use Rattle.wf_transmit_refines.specs.Views.{Agreements, agreements}
 use Rattle.wf_transmit_refines.proofs.Views.{agreements_share}
 use Rattle.wf_transmit_refines.proofs.Reached.{by_law, now_is}
@@ -187,7 +187,7 @@ closed_parts v w bodies x low h =
 -- each transmission of an exchange of data
 module _ (v : TransmitValue) (w : World) (bodies : ℕ → FrameValue) (h : StandsFor v w bodies) (e : ℕ) (x : Exchange) (known : exchange w e ≡ Some x) where
   of_sent : IsSent w x
-  of_sent = found (IsSent w) w.opened e x known (by_law (λ u. EachOpen (IsSent u) u.opened) w h.reached (sent_law w.config h.reached.history))
+  of_sent = found (IsSent w) w.opened e x known (by_law (λ u. EachOpen (IsSent u) u.opened) w h.reached (λ m. (sent_law w.config h.reached.history m).opened))
 
   pub of_windows : IsOpenRight (session w x.station x.tid) (receiver w x.station x.tid) x
   of_windows = found (λ y. IsOpenRight (session w y.station y.tid) (receiver w y.station y.tid) y) w.opened e x known (by_law KeepsWindows w h.reached (window_law w.config h.reached.history)).opened
@@ -216,13 +216,14 @@ module _ (v : TransmitValue) (w : World) (bodies : ℕ → FrameValue) (h : Stan
       let a : agreements closed ≡ agreements w = closed_agreements w x in
       let p : part closed ≡ part w = closed_part w x in
       let same : session closed x.station x.tid ≡ y = ap (λ (z : Agreements). z.sessions x.station x.tid) a in
-      let limit : closed.config.attempts ≡ w.config.attempts = ap (λ (z : Agreements). z.config.attempts) a in
+      let config : closed.config ≡ w.config = ap (λ (z : Agreements). z.config) a in
       let live : is_live w x.station ≡ true = open_live w h.reached e x known in
       let each : EachMpdu (λ k. IsNumbered w k.id x.station x.tid k.number) (m ∷ ms) = subst (EachMpdu (λ k. IsNumbered w k.id x.station x.tid k.number)) is numbered in
       let fly : EachMpdu (λ k. (y.first ≤ k.number) × ((slot y k.number).state ≡ State.Flying x.number)) (m ∷ ms) = subst (EachMpdu (λ k. (y.first ≤ k.number) × ((slot y k.number).state ≡ State.Flying x.number))) is flown in
       let rises : NumbersRise y.first (m ∷ ms) = subst (NumbersRise y.first) is of_sent.rising in
-      let flying : AreFlying y x.number w.config.attempts (map (λ k. k.number) (m ∷ ms)) = record {
-        each = of_number (IsFlyingIn y x.number w.config.attempts) (m ∷ ms) (both_mpdus (λ k. (y.first ≤ k.number) × ((slot y k.number).state ≡ State.Flying x.number)) (λ k. (slot y k.number).attempts < w.config.attempts) (λ k. IsFlyingIn y x.number w.config.attempts k.number) (m ∷ ms) fly tried
+      let ending : Ending = ending_of w.config x.number acked in
+      let flying : AreFlying y ending (map (λ k. k.number) (m ∷ ms)) = record {
+        each = of_number (IsFlyingIn y ending) (m ∷ ms) (both_mpdus (λ k. (y.first ≤ k.number) × ((slot y k.number).state ≡ State.Flying x.number)) (λ k. (slot y k.number).attempts < w.config.attempts) (λ k. IsFlyingIn y ending k.number) (m ∷ ms) fly tried
             (λ k f t. record { from_first = f.0; flies = f.1; below = t }));
         once = rise_once y.first (m ∷ ms) rises;
       } in
@@ -230,7 +231,7 @@ module _ (v : TransmitValue) (w : World) (bodies : ℕ → FrameValue) (h : Stan
         parts = closed_parts v w bodies x (h.parts.others.turns.live x.station live) h.parts;
         live = ap (λ (z : Agreements). z.live x.station) a ∙ live;
         tid = tid_below m each.0;
-        flying = subst (λ (n : ℕ). AreFlying (session closed x.station x.tid) x.number n (map (λ k. k.number) (m ∷ ms))) (sym limit) (subst (λ (z : Session). AreFlying z x.number w.config.attempts (map (λ k. k.number) (m ∷ ms))) (sym same) flying);
+        flying = subst (λ (c : Config). AreFlying (session closed x.station x.tid) (ending_of c x.number acked) (map (λ k. k.number) (m ∷ ms))) (sym config) (subst (λ (z : Session). AreFlying z ending (map (λ k. k.number) (m ∷ ms))) (sym same) flying);
         ids = subst (λ (z : Session). EachMpdu (λ k. (slot z k.number).id ≡ k.id) (m ∷ ms)) (sym same) (subst (EachMpdu (λ k. (slot y k.number).id ≡ k.id)) is of_sent.ids);
         loose = loose_each (m ∷ ms) each;
         once = ids_once w h.reached x.station x.tid y.first (m ∷ ms) each rises;

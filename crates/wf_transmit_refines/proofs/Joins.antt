@@ -86,9 +86,9 @@ windows_reset before after bodies a s first size f h reset new = record {
   sized = reset.sized ∙ h.sized;
   room = reset.room;
   all = station_joins before after a.live (upd a.live s true) a.sessions (upd a.sessions s f) bodies s h.all (record {
-    windows = reset.others;
+    windows_same = reset.others;
     live = λ x other. upd_other a.live s x true other;
-    sessions = λ x y other. ap (λ (g : ℕ → Session). g y) (upd_other a.sessions s x f other);
+    sessions = λ x y other below. ap (λ (g : ℕ → Session). g y) (upd_other a.sessions s x f other);
   }) (upd_same a.live s true)
       (λ t low. subst (λ (y : Session). WindowStandsFor (window_of after s t) y bodies) (sym (ap (λ (g : ℕ → Session). g t) (upd_same a.sessions s f) ∙ new t low)) (reset.own t bodies low));
 }

@@ -21,6 +21,8 @@ windows_known windows w bodies others places same h = record {
   sized = h.sized;
   room = h.room;
   all = all_held_stand bodies others windows (agreements w).live (agreements w).sessions h.all
-      (λ s t n live low from below held. same (slot (session w s t) n).id (places.only_held (slot (session w s t) n).id (Numbered s t n)
-      (record { from = omega (arith, from, start_of_is (session w s t)); below = below; carries = refl; unsettled = open_state (slot (session w s t) n).state held })).0);
+      (λ s t live low. record {
+        same = λ n from below held. same (slot (session w s t) n).id (places.only_held (slot (session w s t) n).id (Numbered s t n)
+            (record { from = omega (arith, from, start_of_is (session w s t)); below = below; carries = refl; unsettled = open_state (slot (session w s t) n).state held })).0;
+      });
 }

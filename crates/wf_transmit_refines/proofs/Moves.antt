@@ -58,7 +58,7 @@ session_parts v w bodies s t f x live low room stands h =
         sized = windows_count v.windows s t x ∙ p.windows.sized;
         room = room;
         all = one_stands v.windows s t x a.live a.sessions (with_session a.sessions s t (f (session w s t))) bodies p.windows.all live low (omega (arith, p.windows.sized, low_s))
-            (record { same = session_other a.sessions s t (f (session w s t)) })
+            (record { same = λ i j below. session_other a.sessions s t (f (session w s t)) i j })
             (subst (λ (y : Session). WindowStandsFor x y bodies) (sym (session_own a.sessions s t (f (session w s t)))) stands);
       });
       flows = stands_same v.flows w u (session_alone w s t f) p.flows;

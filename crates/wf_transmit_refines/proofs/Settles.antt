@@ -27,7 +27,7 @@ use Rattle.wf_windows.specs.Windows.{HaveRoom, with_window}
 use Rattle.wf_windows.proofs.Ends.{still_fly}
 use Rattle.wf_transmit_refines.specs.Half.{TransmitValue}
 use Rattle.wf_transmit_refines.specs.Standing.{Parts}
-use Rattle.wf_transmit_refines.specs.Ending.{after_finish, after_answer, IsLoose, IsEnding}
+use Rattle.wf_transmit_refines.specs.Ending.{after_finish, after_answer, ending_of, IsLoose, IsEnding}
 use Rattle.wf_transmit_refines.specs.Views.{Agreements, agreements}
 use Rattle.wf_transmit_refines.proofs.Views.{agreements_rest, agreements_session}
 use Rattle.wf_flowq_refines.proofs.Elsewhere.{rest_finish}
@@ -207,10 +207,10 @@ ending_next_one v w bodies s t e acked m ms after x left room stands =
     let stands_w : WindowStandsFor x z bodies = subst (λ (limit : ℕ). WindowStandsFor x (settled b limit m.number y) bodies) same stands in
     subst (λ (limit : ℕ). IsEnding (after_answer (record v { windows = with_window v.windows s t x }) (answer_of b limit bodies (slot y m.number))) (with_settled w s t b m) bodies s t e acked ms after) (sym same)
     (go (one_step v w bodies s t m x left.parts left.live left.tid room left.ids.0 left.loose.0 b stands_w)
-    (still_fly b y e w.config.attempts m.number (map (λ (k : Mpdu). k.number) ms) left.flying))
+    (still_fly b y (ending_of w.config e acked) m.number (map (λ (k : Mpdu). k.number) ms) left.flying))
   where
     go : IsSettledOne m.id s t (settled (acked m.number) w.config.attempts m.number (session w s t)) bodies v w (after_answer (record v { windows = with_window v.windows s t x }) (answer_of (acked m.number) w.config.attempts bodies (slot (session w s t) m.number))) (with_settled w s t (acked m.number) m) →
-        AreFlying (settled (acked m.number) w.config.attempts m.number (session w s t)) e w.config.attempts (map (λ (k : Mpdu). k.number) ms) →
+        AreFlying (settled (acked m.number) w.config.attempts m.number (session w s t)) (ending_of w.config e acked) (map (λ (k : Mpdu). k.number) ms) →
         IsEnding (after_answer (record v { windows = with_window v.windows s t x }) (answer_of (acked m.number) w.config.attempts bodies (slot (session w s t) m.number))) (with_settled w s t (acked m.number) m) bodies s t e acked ms after
     go one flying =
         let u : World = with_settled w s t (acked m.number) m in
@@ -218,7 +218,7 @@ ending_next_one v w bodies s t e acked m ms after x left room stands =
           parts = one.parts;
           live = one.live;
           tid = left.tid;
-          flying = subst (λ (limit : ℕ). AreFlying (session u s t) e limit (map (λ (k : Mpdu). k.number) ms)) (sym (ap (λ (c : Config). c.attempts) one.config)) (subst (λ (k : Session). AreFlying k e w.config.attempts (map (λ (k : Mpdu). k.number) ms)) (sym one.session_is) flying);
+          flying = subst (λ (c : Config). AreFlying (session u s t) (ending_of c e acked) (map (λ (k : Mpdu). k.number) ms)) (sym one.config) (subst (λ (k : Session). AreFlying k (ending_of w.config e acked) (map (λ (k : Mpdu). k.number) ms)) (sym one.session_is) flying);
           ids = each_mapped (λ k. (slot (session w s t) k.number).id ≡ k.id) (λ k. (slot (session u s t) k.number).id ≡ k.id) ms
               (λ k is. ap (λ (a : Session). (slot a k.number).id) one.session_is ∙ settled_ids (acked m.number) w.config.attempts m.number k.number (session w s t) ∙ is) left.ids.1;
           loose = each_but (IsLoose v w) (IsLoose (after_answer (record v { windows = with_window v.windows s t x }) (answer_of (acked m.number) w.config.attempts bodies (slot (session w s t) m.number))) u) m.id ms left.once.0

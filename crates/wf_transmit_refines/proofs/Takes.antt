@@ -257,7 +257,7 @@ queues_held v w bodies h id some = go (frame w id).fate refl
           some,
           on-nil id,
           none_queued (λ (frames : List FrameValue). on (ids frames) id) v.flows.backlog.queues (λ q. elim (cases_lt 0 (on (ids (frames_at v.flows.backlog q)) id)) [
-            | inl there ↦ absurd (other (sym is ∙ queued_is_held v.flows w id q h.parts.others.flows (places_kept w h.reached) there))
+            | inl there ↦ absurd (other (sym is ∙ queued_is_held v.flows w h.parts.others.flows (places_kept w h.reached) q id there))
             | inr none ↦ omega (arith, none)
           ]),
         ))

@@ -1,6 +1,7 @@
 -- The end of an exchange of data, number by number.
 use Rattle.std.specs.Prelude.{◌≡◌, ◌<◌, ℕ, ◌==◌, Bool, true, not, List, [], ◌∷◌, ◌++◌, map, filter}
 use Rattle.wf_frame.specs.declared.classes.Fate.TheVariants.{Held}
+use Rattle.wf_frame.specs.declared.settings.Config.{Config}
 use Rattle.wf_frame.specs.Frames.{FrameValue}
 use Rattle.wf_rules.specs.Lists.{IsOnce}
 use Rattle.wf_rules.specs.Session.{State, slot}
@@ -14,7 +15,7 @@ use Rattle.wf_exchanges.specs.declared.opened.Open.{Open}
 use Rattle.wf_members.specs.Members.{on_member, with_charge}
 use Rattle.wf_origwin.specs.declared.window.Settled.{Settled}
 use Rattle.wf_origwin.specs.declared.window.Settled.TheVariants.{Acked, Waiting, Failed}
-use Rattle.wf_windows.specs.Ending.{AreFlying}
+use Rattle.wf_windows.specs.Ending.{Ending, AreFlying}
 use Rattle.wf_transmit_refines.specs.Half.{TransmitValue}
 use Rattle.wf_transmit_refines.specs.Standing.{Parts}
 
@@ -41,6 +42,10 @@ after_answer v (Acked f) = after_finish v f
 after_answer v Waiting = v
 after_answer v (Failed f) = after_finish v f
 
+-- how exchange e ends: `acked` tells which numbers were acknowledged, and the settings how often a frame may be sent
+abbrev pub ending_of : Config → ℕ → (ℕ → Bool) → Ending
+ending_of c e acked = record { exchange = e; acked = acked; limit = c.attempts }
+
 -- the frame of a transmission is held, in no flow queue and not finished
 pub record IsLoose (v : TransmitValue) (w : World) (m : Mpdu) : Type 0 where
   pub low : m.id < accepted_count w
@@ -53,7 +58,7 @@ pub record IsEnding (v : TransmitValue) (w : World) (bodies : ℕ → FrameValue
   pub parts : Parts v w bodies
   pub live : is_live w s ≡ true
   pub tid : t < 8
-  pub flying : AreFlying (session w s t) e w.config.attempts (map (λ m. m.number) mpdus)
+  pub flying : AreFlying (session w s t) (ending_of w.config e acked) (map (λ m. m.number) mpdus)
   pub ids : EachMpdu (λ m. (slot (session w s t) m.number).id ≡ m.id) mpdus
   pub loose : EachMpdu (IsLoose v w) mpdus
   pub once : IsOnce (map (λ m. m.id) mpdus)
