@@ -13,3 +13,12 @@ pub mod Whole
 pub mod Ledgers
 pub mod Known
 pub mod Enqueues
+pub mod Closes
+pub mod Moves
+pub mod Settles
+pub mod Endings
+pub mod Ended
+pub mod Dones
+pub mod Pulls
+pub mod Takes
+pub mod Aggregates

@@ -15,10 +15,11 @@ use Rattle.wf_flowq_refines.specs.Frames.{IsBody, IsBodySettled}
 use Rattle.wf_flowq_refines.proofs.Opening.{read_replicate, no_frames, stands_opening}
 use Rattle.wf_sched_refines.proofs.Readings.{opening_stands}
 use Rattle.wf_origwin.specs.Window.{WindowValue}
+use Rattle.wf_windows.specs.Windows.{new_window, no_window}
 use Rattle.wf_members.specs.declared.members.Member.{Member}
 use Rattle.wf_members.specs.Members.{member}
 use Rattle.wf_powersave.specs.Sleepers.{awake}
-use Rattle.wf_transmit_refines.specs.Half.{new_window, no_window, opening_half}
+use Rattle.wf_transmit_refines.specs.Half.{opening_half}
 use Rattle.wf_transmit_refines.specs.Standing.{StandsFor, HasWindows, AreBoth, IsMember}
 
 nobody : (n s : ℕ) → AreBoth IsMember (member (replicate n None) s) None
@@ -34,9 +35,11 @@ module _ (c : Config) (bodies : ℕ → FrameValue) where
   new_windows : HasWindows (replicate (8 * c.stations) new_window) (opening c) bodies
   new_windows = record {
     sized = length-replicate (8 * c.stations) new_window;
-    capacity = λ s t low_s low_t. ap (λ (x : WindowValue). x.capacity) (get_or-replicate (8 * c.stations) (8 * s + t) new_window no_window (omega arith));
-    live = λ s t is low. absurd (cc is);
-    empty = λ s t off low. no_places (8 * s + t);
+    room = record { each = λ i low. ap (λ (x : WindowValue). x.capacity) (get_or-replicate (8 * c.stations) i new_window no_window (omega (arith, low, length-replicate (8 * c.stations) new_window))) };
+    all = record {
+      stands = λ s t is low. absurd (cc is);
+      empty = λ s t off low. no_places (8 * s + t);
+    };
   }
 
 pub new_stands : (c : Config) (bodies : ℕ → FrameValue) → IsInRange c → StandsFor (opening_half c) (opening c) bodies

@@ -1,18 +1,18 @@
 -- The transmit half of an access point as its callers see it: all that it keeps, but nothing of what
 -- stations received. Times, deficits and airtime are in microseconds.
-use Rattle.std.specs.Prelude.{ℕ, ◌*◌, ◌==◌, nat_lt, Bool, not, ◌&&◌, ◌||◌, List, [], ◌∷◌, ◌++◌, Option, Some, None, is_some, option_map, if◌then◌else◌, map, find, replicate, slice_index_or}
+use Rattle.std.specs.Prelude.{ℕ, ◌*◌, ◌==◌, nat_lt, Bool, not, ◌&&◌, ◌||◌, List, [], ◌∷◌, ◌++◌, Option, Some, None, is_some, option_map, if◌then◌else◌, map, find, replicate}
 use Rattle.std.specs.List.{list_any}
 use Rattle.wf_frame.specs.declared.settings.Config.{Config}
 use Rattle.wf_frame.specs.declared.classes.Class.{Class}
 use Rattle.wf_frame.specs.Classes.{lower_tid, upper_tid}
 use Rattle.wf_frame.specs.Frames.{FrameValue}
-use Rattle.wf_rules.specs.Bounds.{greatest_window}
 use Rattle.wf_world.specs.CanSend.{has_credit}
 use Rattle.wf_flowq.specs.Flows.{FlowsValue, empty_flows, tid_number, frames_queued}
 use Rattle.wf_sched.specs.ClassRotas.{SchedValue, opening as empty_sched}
 use Rattle.wf_origwin.specs.declared.place.Place.{Place}
 use Rattle.wf_origwin.specs.declared.place.Place.TheVariants.{Waiting as Waits, Flying as Flies}
-use Rattle.wf_origwin.specs.Window.{WindowValue, fresh_window, waits, can_take}
+use Rattle.wf_origwin.specs.Window.{WindowValue, waits, can_take}
+use Rattle.wf_windows.specs.Windows.{new_window, window_of}
 use Rattle.wf_exchanges.specs.declared.opened.Open.{Open}
 use Rattle.wf_exchanges.specs.Exchanges.{asks}
 use Rattle.wf_members.specs.declared.members.Member.{Member}
@@ -35,14 +35,6 @@ pub record TransmitValue : Type 0 where
   pub opened : List Open  -- in the order of their numbers
   pub tally : Counts
 
--- a window that was just made: no number, from 0 on, of the greatest size
-abbrev pub new_window : WindowValue
-new_window = fresh_window greatest_window greatest_window 0
-
--- The window past the last. It is unreached: each call names a TID that has one.
-abbrev pub no_window : WindowValue
-no_window = record { capacity = 0; size = 0; start = 0; places = []; due = None }
-
 -- a new half: nobody is live, nothing is held, and no window has a number
 abbrev pub opening_half : Config → TransmitValue
 opening_half c = record {
@@ -60,10 +52,6 @@ opening_half c = record {
 }
 
 -- ---- reading it
-
--- the window of TID t of station s
-abbrev pub window_of : List WindowValue → ℕ → ℕ → WindowValue
-window_of windows s t = slice_index_or windows (tid_number s t) no_window
 
 -- whether some number of a window waits to be sent
 abbrev pub some_wait : WindowValue → Bool

@@ -3,3 +3,5 @@ pub mod Standing
 pub mod Views
 pub mod Changes
 pub mod Counting
+pub mod Ending
+pub mod Taking

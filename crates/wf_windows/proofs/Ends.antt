@@ -42,7 +42,7 @@ others_fly s ending n ns f flying =
       once = flying.once.1;
     }
 
-still_fly : (acked : Bool) (s : Session) (ending : Ending) (n : ℕ) (ns : List ℕ) → AreFlying s ending (n ∷ ns) → AreFlying (settled acked ending.limit n s) ending ns
+pub still_fly : (acked : Bool) (s : Session) (ending : Ending) (n : ℕ) (ns : List ℕ) → AreFlying s ending (n ∷ ns) → AreFlying (settled acked ending.limit n s) ending ns
 still_fly true s ending n ns flying = others_fly s ending n ns (λ x. record x { state = State.Acked }) flying
 still_fly false s ending n ns flying = others_fly s ending n ns (slot_after_miss ending.limit) flying
 
