@@ -14,7 +14,7 @@ use Rattle.wf_world.specs.FlowQueues.{after_limit, taken_for_tid}
 use Rattle.wf_world.specs.Step.{with_frame, enqueue_outcome, reap_outcome, after_tid_left}
 use Rattle.wf_laws.proofs.Deficits.Books.{upd_idle, put_upd}
 use Rattle.wf_flowq_refines.specs.Rest.{Rest, rest, bare, session_in, receiver_in}
-use Rattle.wf_flowq_refines.proofs.Through.{through_finish_all, through_limit, through_put_in, through_take, through_left}
+use Rattle.wf_flowq_refines.proofs.Through.{stays_finish_all, stays_limit, stays_put_in, stays_take, stays_left}
 
 -- ---- the parts
 
@@ -54,7 +54,7 @@ rest_with_queues w s t r = rest_with_station w s _ (same (at None w.stations s))
     receivers (Some x) = put_upd (λ (z : Tid). z.receiver) no_tid x.tids t _ ∙ upd_idle (receiver_in (Some x)) t _ refl
 
 pub rest_finish_all : (ids : List ℕ) (w : World) (fate : Fate) → rest (with_frames_finished w fate ids) ≡ rest w
-rest_finish_all = through_finish_all rest rest_on_queue rest_finish rest_with_queues
+rest_finish_all = stays_finish_all rest rest_on_queue rest_with_queues rest_finish
 
 -- ---- put, take and purge
 
@@ -64,13 +64,13 @@ rest_with_frame w note = refl
 
 pub rest_enqueued : (w : World) (s t flow len : ℕ) → rest (enqueue_outcome w s t flow len).world ≡ rest w
 unfolding enqueue_outcome
-rest_enqueued w s t flow len = rest_with_frame _ _ ∙ through_put_in rest rest_on_queue rest_finish rest_with_queues (after_limit w) s t _ _ ∙ through_limit rest rest_on_queue rest_finish rest_with_queues w
+rest_enqueued w s t flow len = rest_with_frame _ _ ∙ stays_put_in rest rest_on_queue rest_with_queues (after_limit w) s t _ _ ∙ stays_limit rest rest_on_queue rest_with_queues rest_finish w
 
 pub rest_take : (w : World) (s t : ℕ) → rest (taken_for_tid w s t).world ≡ rest w
-rest_take = through_take rest rest_on_queue rest_finish rest_with_queues
+rest_take = stays_take rest rest_on_queue rest_with_queues rest_finish
 
 pub rest_left : (w : World) (s t : ℕ) → rest (after_tid_left w s t) ≡ rest w
-rest_left = through_left rest rest_on_queue rest_finish rest_with_queues
+rest_left = stays_left rest rest_on_queue rest_with_queues rest_finish
 
 -- ---- reap
 

@@ -1,11 +1,11 @@
 -- Whose frame the limit drops, how many a take drops, and that a queued frame is held.
-use Rattle.std.proofs.Common.{◌≡◌, refl, ap, ap₂, sym, ◌∙◌, arith, ℕ, suc, ◌+◌, ◌<◌, true, false, ◌&&◌, List, ◌++◌, map, length, get_or, set, take, drop, length-append, length-drop, Option, Some, None, inl, inr}
-use Rattle.std.specs.Prelude.{IfSome, nat_le, slice_get}
+use Rattle.std.proofs.Common.{◌≡◌, refl, ap, ap₂, sym, ◌∙◌, subst, arith, ℕ, suc, ◌+◌, ◌<◌, true, false, ◌&&◌, List, ◌++◌, map, length, get_or, set, take, drop, length-append, length-drop, Option, Some, None, inl, inr}
+use Rattle.std.specs.Prelude.{IfSome, nat_le, slice_get, option_map}
 use Rattle.std.proofs.lemmas.List.{get_or-set_same, length-map, length-take, set_past}
 use Rattle.std.proofs.lemmas.Option.{slice_get_within}
 use Rattle.std.proofs.lemmas.Bool.{cases_lt, lt-ltb, cond_both}
 use Rattle.wf_frame.specs.declared.classes.Cause.TheVariants.{Codel as By_codel}
-use Rattle.wf_frame.specs.declared.classes.Fate.TheVariants.{Held, Dropped}
+use Rattle.wf_frame.specs.declared.classes.Fate.TheVariants.{Dropped}
 use Rattle.wf_frame.specs.Frames.{FrameValue}
 use Rattle.wf_rules.specs.Table.{has}
 use Rattle.wf_rules.specs.Codel.{Item, Params}
@@ -13,25 +13,28 @@ use Rattle.wf_rules.specs.Lists.{on}
 use Rattle.wf_rules.specs.Rotation.{Rotation, no_keys, has_key, in_order, Picked}
 use Rattle.wf_rota.specs.Rotas.{need_at}
 use Rattle.wf_rule_laws.proofs.Lemmas.Counts.{on-has, on_order-none}
-use Rattle.wf_world.specs.World.{World, queue, frame}
-use Rattle.wf_world.specs.FlowQueues.{frames_queued as world_queued, is_at_limit as world_at_limit, after_limit as world_after_limit}
+use Rattle.wf_world.specs.World.{World, is_live, queue, codel_params}
+use Rattle.wf_world.specs.FlowQueues.{frames_queued as world_queued, is_at_limit as world_at_limit, after_limit as world_after_limit, taken_for_tid as world_take}
 use Rattle.wf_laws.specs.Places.{Queued, KeepsPlaces}
-use Rattle.wf_codel_queues.specs.Backlog.{frames_at, frame_with_fate, drops_at}
+use Rattle.wf_codel_queues.specs.Backlog.{frames_at, item_of, frame_with_fate, drops_at}
 use Rattle.wf_flowq.specs.Flows.{FlowsValue, SettingsValue, tid_number, rotation, is_listed, has_frames, waiting, frames_queued, longest_queue, is_at_limit, loses_next, after_limit, pick_of_tid, after_pick, taken_from_picked, taken_for_tid}
 use Rattle.wf_flowq.proofs.Owners.{on-listed}
 use Rattle.wf_flowq.proofs.Picks.{on-picked}
 use Rattle.wf_flowq.proofs.Waiting.{waiting-set, waiting_same}
-use Rattle.wf_flowq_refines.specs.Standing.{Part, ids, Stands, StandsFor}
-use Rattle.wf_flowq_refines.specs.Frames.{loses_next_in}
+use Rattle.wf_flowq_refines.specs.Standing.{Part, part, ids, Stands, StandsFor}
+use Rattle.wf_flowq_refines.specs.Frames.{loses_next_in, QueuedAreHeld}
+use Rattle.wf_flowq_refines.specs.Rest.{Rest}
+use Rattle.wf_flowq_refines.proofs.Elsewhere.{rest_take}
 use Rattle.wf_flowq_refines.proofs.Limits.{beside_limit}
 use Rattle.wf_flowq_refines.proofs.Picking.{winner_listed}
 use Rattle.wf_flowq_refines.proofs.Purges.{item_ids}
+use Rattle.wf_flowq_refines.proofs.Takes.{stands_take, item_take}
 use Rattle.wf_flowq_refines.proofs.Readers.{same_queued, same_total, same_limit, same_longest}
 
 -- ---- a queued frame
 
-pub queued_is_held : (v : FlowsValue) (w : World) (id q : ℕ) → StandsFor v w → KeepsPlaces w → 0 < on (ids (frames_at v.backlog q)) id → (frame w id).fate ≡ Held
-queued_is_held v w id q st k some =
+pub queued_is_held : (v : FlowsValue) (w : World) → StandsFor v w → KeepsPlaces w → QueuedAreHeld v w
+queued_is_held v w st k q id some =
     let same : map (λ (x : Item). x.id) (queue w q).items ≡ ids (frames_at v.backlog q) = ap (map (λ (x : Item). x.id)) (st.items q) ∙ item_ids (frames_at v.backlog q) in
     (k.only_held id (Queued q) (ap (λ (l : List ℕ). has l id) same ∙ on-has (ids (frames_at v.backlog q)) id some)).1
 
@@ -115,3 +118,38 @@ others_keep_in v w s t st low_s low_t spared =
     let after = beside_limit v w st in
     let stations : (after_limit v).stations ≡ v.stations = ap (λ (x : SettingsValue). x.stations) after.stands.settings ∙ after.stations ∙ sym (ap (λ (x : SettingsValue). x.stations) st.settings) in
     sym (same_queued (after_limit v) (world_after_limit w) s t after.stands (omega (arith, low_s, stations)) low_t) ∙ others_keep v s t (same_loses v w s t st low_s low_t ∙ spared) ∙ same_queued v w s t st low_s low_t
+
+pub drops_counted_in : (v : FlowsValue) (w : World) (s t : ℕ) → StandsFor v w → is_live w s ≡ true → s < w.config.stations → t < 8
+    → IfSome (world_take w s t).item (λ y. length (world_take w s t).world.finished + world_queued (world_take w s t).world s t + 1 ≡ length w.finished + world_queued w s t)
+drops_counted_in v w s t st live high low_t =
+    subst (λ (o : Option Item). IfSome o (λ y. length (world_take w s t).world.finished + world_queued (world_take w s t).world s t + 1 ≡ length w.finished + world_queued w s t)) (sym (item_take v w s t st live high low_t))
+    (same_of (taken_for_tid v i w.clock (codel_params w s)).frame (drops_counted v (part w) st i (omega (arith, low_s, low_t, st.sized.lists)) w.clock (codel_params w s)))
+  where
+    i : ℕ
+    i = tid_number s t
+
+    low_s : s < v.stations
+    low_s = omega (arith, high, ap (λ (x : SettingsValue). x.stations) st.settings)
+
+    u : FlowsValue
+    u = (taken_for_tid v i w.clock (codel_params w s)).flows
+
+    after : StandsFor u (world_take w s t).world
+    after = stands_take v w s t st live high low_t
+
+    same_of : (o : Option FrameValue) → IfSome o (λ f. length u.backlog.finished + frames_queued u i + 1 ≡ length v.backlog.finished + frames_queued v i)
+        → IfSome (option_map item_of o) (λ y. length (world_take w s t).world.finished + world_queued (world_take w s t).world s t + 1 ≡ length w.finished + world_queued w s t)
+    same_of None h = tt
+    same_of (Some f) h =
+        let stays : (world_take w s t).world.config.stations ≡ w.config.stations = ap (λ (r : Rest). r.config.stations) (rest_take w s t) in
+        let low : s < u.stations = omega (arith, high, stays, ap (λ (x : SettingsValue). x.stations) after.settings) in
+        omega (
+          arith,
+          h,
+          same_queued v w s t st low_s low_t,
+          same_queued u (world_take w s t).world s t after low low_t,
+          ap (length {A = ℕ}) st.finished,
+          length-map v.backlog.finished (λ f. f.id),
+          ap (length {A = ℕ}) after.finished,
+          length-map u.backlog.finished (λ f. f.id),
+        )

@@ -35,7 +35,7 @@ times_moved b q out left fate id low =
     omega (arith, times_set b q left id low, times_finished (record b { queues = set b.queues q left }) (map (frame_with_fate fate) out) id, ap (λ (l : List ℕ). on l id) (settled_ids fate out))
 
 -- what stands before a place, at it and behind it
-split_at : (n : ℕ) (frames : List FrameValue) (id : ℕ) → on (ids frames) id ≡ on (ids (take n frames)) id + on (ids_given (slice_get frames n)) id + on (ids (drop (suc n) frames)) id
+pub split_at : (n : ℕ) (frames : List FrameValue) (id : ℕ) → on (ids frames) id ≡ on (ids (take n frames)) id + on (ids_given (slice_get frames n)) id + on (ids (drop (suc n) frames)) id
 split_at zero [] id = omega (arith, on-nil id)
 split_at (suc n) [] id = omega (arith, on-nil id)
 split_at zero (f ∷ fs) id = omega (arith, on-nil id, on-first f.id id (ids fs))

@@ -4,6 +4,7 @@
 -- lists of one TID, on both sides; all other calls are made of these and of Ends. Readers: what is read is the same. Limits and Puts: a frame is put in. Picking and
 -- Takes: one is taken out. Rising and Purges: a TID's frames are dropped. Leaves: what does not matter. Holdings: which frames are held.
 -- Through and Elsewhere: what the calls leave of a world. Each, Bodies and Notes: the frames are the accepted ones. Heads: whose frames are dropped, and how many.
+-- Held, Fates and Lefts: queued frames are held, and the frames are counted by their fates.
 pub mod Parts
 pub mod Ends
 pub mod Changes
@@ -23,3 +24,6 @@ pub mod Each
 pub mod Bodies
 pub mod Notes
 pub mod Heads
+pub mod Held
+pub mod Fates
+pub mod Lefts

@@ -18,7 +18,7 @@ use Rattle.wf_flowq_refines.specs.Frames.{notes, IsAccepted, AreAccepted, with_b
 use Rattle.wf_flowq_refines.proofs.Parts.{end_is, end_other}
 use Rattle.wf_flowq_refines.proofs.Limits.{beside_limit}
 use Rattle.wf_flowq_refines.proofs.Puts.{accepted_enqueued}
-use Rattle.wf_flowq_refines.proofs.Through.{through_finish_all, through_limit, through_put_in, through_take, through_left}
+use Rattle.wf_flowq_refines.proofs.Through.{stays_finish_all, stays_limit, stays_put_in, stays_take, stays_left}
 use Rattle.wf_flowq_refines.proofs.Bodies.{body_other, body_own}
 
 notes_queue : (w : World) (q : ℕ) (f : Queue → Queue) → notes (on_queue w q f) ≡ notes w
@@ -34,13 +34,13 @@ unfolding with_frame_finished with_fate
 notes_finish w fate id = put_upd (λ (x : Frame). x.note) no_frame w.frames id _ ∙ upd_idle (notes w) id _ refl
 
 pub notes_finish_all : (l : List ℕ) (w : World) (fate : Fate) → notes (with_frames_finished w fate l) ≡ notes w
-notes_finish_all = through_finish_all notes notes_queue notes_finish notes_lists
+notes_finish_all = stays_finish_all notes notes_queue notes_lists notes_finish
 
 pub notes_take : (w : World) (s t : ℕ) → notes (taken_for_tid w s t).world ≡ notes w
-notes_take = through_take notes notes_queue notes_finish notes_lists
+notes_take = stays_take notes notes_queue notes_lists notes_finish
 
 pub notes_left : (w : World) (s t : ℕ) → notes (after_tid_left w s t) ≡ notes w
-notes_left = through_left notes notes_queue notes_finish notes_lists
+notes_left = stays_left notes notes_queue notes_lists notes_finish
 
 pub notes_reaped : (w : World) (l : List ℕ) → notes (reap_outcome w l).world ≡ notes w
 unfolding reap_outcome
@@ -66,7 +66,7 @@ module _ (v : FlowsValue) (w : World) (s t flow len : ℕ) (st : StandsFor v w) 
   as_many = accepted_put (after_limit w) s t (queue_for (after_limit w) s t flow) (next_item w len) ∙ (beside_limit v w st).accepted
 
   notes_before : notes before ≡ notes w
-  notes_before = through_put_in notes notes_queue notes_finish notes_lists (after_limit w) s t _ _ ∙ through_limit notes notes_queue notes_finish notes_lists w
+  notes_before = stays_put_in notes notes_queue notes_lists (after_limit w) s t _ _ ∙ stays_limit notes notes_queue notes_lists notes_finish w
 
   pub notes_put : (id : ℕ) → id < accepted_count w → notes (enqueue_outcome w s t flow len).world id ≡ notes w id
   unfolding enqueue_outcome

@@ -30,7 +30,7 @@ pub item_ids : (frames : List FrameValue) → map (λ (x : Item). x.id) (map ite
 item_ids [] = refl
 item_ids (f ∷ fs) = ap (λ (l : List ℕ). f.id ∷ l) (item_ids fs)
 
-stands_flush : (v : FlowsValue) (w : World) (q : ℕ) → StandsFor v w → q < queue_count v → StandsFor (record v { backlog = after_flush v.backlog q }) (after_queue_left w q)
+pub stands_flush : (v : FlowsValue) (w : World) (q : ℕ) → StandsFor v w → q < queue_count v → StandsFor (record v { backlog = after_flush v.backlog q }) (after_queue_left w q)
 unfolding after_queue_left
 stands_flush v w q st low =
     let frames : List FrameValue = frames_at v.backlog q in
@@ -53,7 +53,7 @@ stands_flush_all [] v w st low = st
 stands_flush_all (q ∷ qs) v w st low =
     stands_flush_all qs (record v { backlog = after_flush v.backlog q }) (after_queue_left w q) (stands_flush v w q st (low q (has_head q qs))) (λ k h. low k (has_tail q qs k h))
 
-stations_finish_all : (l : List ℕ) (w : World) (fate : Fate) → (with_frames_finished w fate l).stations ≡ w.stations
+pub stations_finish_all : (l : List ℕ) (w : World) (fate : Fate) → (with_frames_finished w fate l).stations ≡ w.stations
 unfolding with_frames_finished with_frame_finished with_fate
 stations_finish_all [] w fate = refl
 stations_finish_all (id ∷ l) w fate = stations_finish_all l (with_frame_finished w fate id) fate

@@ -70,7 +70,7 @@ unfolding with_queues on_tid on_station with_station
 clock_kept w s t r = refl
 
 -- the world after a pick of a TID's queues
-abbrev after_world : World → ℕ → ℕ → World
+abbrev pub after_world : World → ℕ → ℕ → World
 after_world w s t = with_queues (with_queues_paid w (picked_queue w s t).quanta (in_order (tid_of w s t).queues)) s t (picked_queue w s t).lists
 
 module _ (v : FlowsValue) (w : World) (st : StandsFor v w) (s t : ℕ) (live : is_live w s ≡ true) (low_s : s < v.stations) (low_t : t < 8) where
@@ -152,10 +152,10 @@ in_after v i q low = low
 -- ---- what CoDel takes
 
 -- the dequeue of a queue seen as items is that of its frames
-record IsCut (frames : List FrameValue) (d : Dequeued) : Type 0 where
-  rest : d.rest ≡ map item_of (drop (suc (length d.dropped)) frames)
-  dropped : map (λ x. x.id) d.dropped ≡ ids (take (length d.dropped) frames)
-  given : d.given ≡ option_map item_of (slice_get frames (length d.dropped))
+pub record IsCut (frames : List FrameValue) (d : Dequeued) : Type 0 where
+  pub rest : d.rest ≡ map item_of (drop (suc (length d.dropped)) frames)
+  pub dropped : map (λ x. x.id) d.dropped ≡ ids (take (length d.dropped) frames)
+  pub given : d.given ≡ option_map item_of (slice_get frames (length d.dropped))
 
 cut_after : (frames : List FrameValue) (n : ℕ) (c : Codel) → IsCut frames (dequeued_after (map item_of frames) n c)
 cut_after [] zero c = record { rest = refl; dropped = refl; given = refl }
@@ -163,7 +163,7 @@ cut_after [] (suc n) c = record { rest = refl; dropped = refl; given = refl }
 cut_after (f ∷ fs) zero c = record { rest = refl; dropped = refl; given = refl }
 cut_after (f ∷ fs) (suc n) c = let k : IsCut fs (dequeued_after (map item_of fs) n c) = cut_after fs n c in record { rest = k.rest; dropped = ap (λ (l : List ℕ). f.id ∷ l) k.dropped; given = k.given }
 
-cut_dequeue : (p : Params) (now : ℕ) (c : Codel) (frames : List FrameValue) → IsCut frames (dequeue p now c (map item_of frames))
+pub cut_dequeue : (p : Params) (now : ℕ) (c : Codel) (frames : List FrameValue) → IsCut frames (dequeue p now c (map item_of frames))
 unfolding dequeue
 cut_dequeue p now c frames = cut_after frames (drops p now c (map item_of frames)) (state_after p now c (map item_of frames))
 

@@ -12,7 +12,7 @@ ghost use Rattle.wf_frame.specs.Classes.{all_classes};
 ghost use Rattle.wf_frame.specs.Frames.{FrameValue};
 ghost use Rattle.wf_frame.specs.declared.settings.Config.{Config};
 ghost use Rattle.wf_frame.specs.declared.classes.Class.{Class};
-ghost use Rattle.wf_frame.specs.declared.classes.Cause.TheVariants.{Left};
+ghost use Rattle.wf_frame.specs.declared.classes.Cause.TheVariants.{Overlimit, Codel as By_codel, Left};
 ghost use Rattle.wf_frame.specs.declared.classes.Fate.{Fate};
 ghost use Rattle.wf_frame.specs.declared.classes.Fate.TheVariants.{Held, Dropped};
 ghost use Rattle.wf_frame.specs.declared.notes.ReplyNote.TheVariants.{Accepted as AcceptedReply, Reaped as ReapedReply};
@@ -26,13 +26,14 @@ ghost use Rattle.wf_world.specs.FlowQueues.{frames_queued as world_queued, longe
 ghost use Rattle.wf_world.specs.CanSend.{with_listings_of};
 ghost use Rattle.wf_world.specs.Exchanges.{after_pick, after_tid_turn};
 ghost use Rattle.wf_world.specs.Step.{waiting_ids, in_rising_order, join_outcome, after_tid_left, without_listings, enqueue_outcome, reap_outcome};
+ghost use Rattle.wf_world.specs.Text.{tally};
 ghost use Rattle.wf_rules.specs.Lists.{on};
 ghost use Rattle.wf_laws.specs.Places.{KeepsPlaces};
 ghost use Rattle.wf_codel_queues.specs.Backlog.{frames_at, in_queues, item_of};
 ghost use Rattle.wf_flowq.specs.Flows.{FlowsValue, empty_flows, tid_number, rotation, frames_queued, longest_queue, dropped_for_limit, is_listed_elsewhere, queue_for, loses_next, after_limit, after_put, taken_for_tid, after_purge};
 ghost use Rattle.wf_flowq_refines.specs.Standing.{part, ids, ids_given, times_held, with_finished, StandsFor};
 ghost use Rattle.wf_flowq_refines.specs.Rest.{rest};
-ghost use Rattle.wf_flowq_refines.specs.Frames.{HasEach, Passes, DropsTo, AreAccepted, IsBody, IsBodySettled, HasFrames, notes, with_body, loses_next_in};
+ghost use Rattle.wf_flowq_refines.specs.Frames.{HasEach, Passes, DropsTo, AreAccepted, IsBody, IsBodySettled, HasFrames, notes, with_body, loses_next_in, counts_as, HaveSettled, AreHeld, QueuedAreHeld};
 
 /// At the start, with the same settings.
 pub fn the_flow_queues_open()
@@ -214,17 +215,35 @@ pub fn the_accepted_frames_are_kept()
     ensures reap { (w : World) → notes (reap_outcome w w.finished).world ≡ notes w }
 {}
 
-/// Where frames stand in one place each, as in the world of each run, a queued frame has the fate Held.
-pub fn a_queued_frame_is_held()
-    ensures { (v : FlowsValue) (w : World) (id q : ℕ) → StandsFor v w → KeepsPlaces w → 0 < on (ids (frames_at v.backlog q)) id → (frame w id).fate ≡ Held }
+/// Each frame in the queues has the fate Held in the world: so where frames stand in one place each, as in the world of each
+/// run, and so it stays through each call, also where that world is one in the midst of a step.
+pub fn queued_frames_are_held()
+    ensures places { (v : FlowsValue) (w : World) → StandsFor v w → KeepsPlaces w → QueuedAreHeld v w }
+    ensures put { (v : FlowsValue) (w : World) (s t : ℕ) (f : FrameValue) → StandsFor v w → QueuedAreHeld v w → is_live w s ≡ true → s < w.config.stations → t < 8 →
+        f.id ≡ accepted_count w → f.stamp ≡ w.clock → QueuedAreHeld (after_put v (tid_number s t) f) (enqueue_outcome w s t f.flow (length f.body)).world }
+    ensures take { (v : FlowsValue) (w : World) (s t : ℕ) → StandsFor v w → QueuedAreHeld v w → is_live w s ≡ true → s < w.config.stations → t < 8 →
+        QueuedAreHeld (taken_for_tid v (tid_number s t) w.clock (codel_params w s)).flows (world_take w s t).world }
+    ensures finish { (v : FlowsValue) (w : World) (f : FrameValue) → StandsFor v w → QueuedAreHeld v w → f.id < accepted_count w → times_held v.backlog f.id ≡ 0 →
+        QueuedAreHeld (with_finished v (v.backlog.finished ++ f ∷ [])) (with_frame_finished w f.fate f.id) }
+    ensures reap { (v : FlowsValue) (w : World) (behind : List FrameValue) → QueuedAreHeld v w → QueuedAreHeld (with_finished v behind) (reap_outcome w w.finished).world }
+    ensures left { (v : FlowsValue) (w : World) (s t : ℕ) → StandsFor v (with_frames_finished w (Dropped Left) (waiting_ids (session w s t).slots)) →
+        QueuedAreHeld v (with_frames_finished w (Dropped Left) (waiting_ids (session w s t).slots)) → is_live w s ≡ true → s < w.config.stations → t < 8 →
+        QueuedAreHeld (after_purge v (tid_number s t)) (after_tid_left w s t) }
 {}
 
 /// How many frames a take drops, by which the finished list grows: those of the TID queued before, less the one that is given,
 /// less those queued after.
 pub fn a_take_drops_what_it_does_not_give()
-    ensures { (v : FlowsValue) (w : World) (s t now : ℕ) (params : Params) → StandsFor v w → s < v.stations → t < 8 →
+    ensures code { (v : FlowsValue) (w : World) (s t now : ℕ) (params : Params) → StandsFor v w → s < v.stations → t < 8 →
         let i : ℕ = tid_number s t in
         IfSome (taken_for_tid v i now params).frame (λ f. length (taken_for_tid v i now params).flows.backlog.finished + frames_queued (taken_for_tid v i now params).flows i + 1 ≡ length v.backlog.finished + frames_queued v i) }
+    ensures world { (v : FlowsValue) (w : World) (s t : ℕ) → StandsFor v w → is_live w s ≡ true → s < w.config.stations → t < 8 →
+        IfSome (world_take w s t).item (λ y. length (world_take w s t).world.finished + world_queued (world_take w s t).world s t + 1 ≡ length w.finished + world_queued w s t) }
+{}
+
+/// A purge drops all that is queued of the TID: the finished list grows by as many.
+pub fn a_purge_drops_all_that_is_queued()
+    ensures { (v : FlowsValue) (w : World) (i : ℕ) → StandsFor v w → length (after_purge v i).backlog.finished ≡ length v.backlog.finished + frames_queued v i }
 {}
 
 /// Whose frame the limit drops: that of the TID that lists the longest queue, in the code as in the world. All other TIDs have
@@ -233,4 +252,20 @@ pub fn the_limit_drops_a_frame_of_one_tid()
     ensures loses { (v : FlowsValue) (w : World) (s t : ℕ) → StandsFor v w → s < v.stations → t < 8 → loses_next v s t ≡ loses_next_in w s t }
     ensures others { (v : FlowsValue) (s t : ℕ) → loses_next v s t ≡ false → frames_queued (after_limit v) (tid_number s t) ≡ frames_queued v (tid_number s t) }
     ensures others_in { (v : FlowsValue) (w : World) (s t : ℕ) → StandsFor v w → s < v.stations → t < 8 → loses_next_in w s t ≡ false → world_queued (world_after_limit w) s t ≡ world_queued w s t }
+{}
+
+/// How the frames are counted by their fates: held frames that are finished, each once, count as held no more, and with their
+/// fate; so do the frames that the limit and a take drop, as many as the finished list grows by; and a frame that is put in
+/// counts as held.
+pub fn the_fates_are_counted()
+    ensures finish { (w : World) (fate : Fate) (id : ℕ) → id < accepted_count w → (frame w id).fate ≡ Held → HaveSettled w (with_frame_finished w fate id) fate 1 }
+    ensures finish_all { (w : World) (fate : Fate) (ids : List ℕ) → AreHeld w ids → HaveSettled w (with_frames_finished w fate ids) fate (length ids) }
+    ensures limit { (v : FlowsValue) (w : World) (n : ℕ) → StandsFor v w → QueuedAreHeld v w → n + length w.finished ≡ length (world_after_limit w).finished → HaveSettled w (world_after_limit w) (Dropped Overlimit) n }
+    ensures put { (w : World) (s t flow len : ℕ) (x : Fate) → tally (enqueue_outcome w s t flow len).world x ≡ tally (world_after_limit w) x + counts_as Held x }
+    ensures take { (v : FlowsValue) (w : World) (s t n : ℕ) → StandsFor v w → QueuedAreHeld v w → is_live w s ≡ true → s < w.config.stations → t < 8 →
+        n + length w.finished ≡ length (world_take w s t).world.finished → HaveSettled w (world_take w s t).world (Dropped By_codel) n }
+    ensures left { (v : FlowsValue) (w : World) (s t n : ℕ) → StandsFor v (with_frames_finished w (Dropped Left) (waiting_ids (session w s t).slots)) →
+        QueuedAreHeld v (with_frames_finished w (Dropped Left) (waiting_ids (session w s t).slots)) → s < v.stations → t < 8 →
+        n + length (with_frames_finished w (Dropped Left) (waiting_ids (session w s t).slots)).finished ≡ length (after_tid_left w s t).finished →
+        HaveSettled (with_frames_finished w (Dropped Left) (waiting_ids (session w s t).slots)) (after_tid_left w s t) (Dropped Left) n }
 {}
