@@ -1,23 +1,27 @@
 -- The ledger of a world as frames are accepted and finished.
-use Rattle.std.proofs.Common.{◌≡◌, refl, ap, ap₂, sym, ◌∙◌, arith, ℕ, ◌+◌, ◌<◌, ◌==◌, Bool, true, false, cond, if◌then◌else◌, List, [], ◌∷◌, map, Option, None, eq-eqb, length-append, add-zero}
+use Rattle.std.proofs.Common.{◌≡◌, length, ◌++◌, suc, ◌≢◌, refl, ap, ap₂, sym, ◌∙◌, arith, ℕ, ◌+◌, ◌<◌, ◌==◌, Bool, true, false, cond, if◌then◌else◌, List, [], ◌∷◌, map, Option, None, eq-eqb, length-append, add-zero}
 use Rattle.std.specs.Prelude.{count_by}
-use Rattle.std.proofs.lemmas.Bool.{or_left}
+use Rattle.std.proofs.lemmas.Bool.{or_left, or_right}
 use Rattle.wf_frame.specs.declared.classes.Cause.TheVariants.{Overlimit, Codel, Retries, Left}
 use Rattle.wf_frame.specs.declared.classes.Fate.{Fate}
 use Rattle.wf_frame.specs.declared.classes.Fate.TheVariants.{Held, Acked, Dropped}
 use Rattle.wf_frame.specs.declared.notes.Note.{Note}
 use Rattle.wf_rules.specs.Codel.{Item}
 use Rattle.wf_rules.specs.Table.{put, has}
-use Rattle.wf_world.specs.World.{World, Frame, no_frame, queue, frame, accepted_count, inside, is_held, on_queue, with_fate, with_frame_finished}
+use Rattle.wf_world.specs.World.{World, Frame, no_frame, queue, frame, accepted_count, inside, is_held, on_queue, with_fate, with_frame_finished, with_frames_finished}
 use Rattle.wf_world.specs.FlowQueues.{without_head, after_limit, head_id, is_at_limit, longest_queue, dropped_for_limit}
 use Rattle.wf_world.specs.Text.{same_fate, tally}
 use Rattle.wf_rule_laws.proofs.Lemmas.Sums.{sum_put_within, length_put}
 use Rattle.wf_laws.specs.Places.{Queued, KeepsPlaces}
+use Rattle.wf_rules.specs.Lists.{IsOnce}
+use Rattle.wf_laws.proofs.Deficits.Books.{upd_other}
+use Rattle.wf_flowq_refines.specs.Standing.{Part, part}
+use Rattle.wf_flowq_refines.proofs.Parts.{finished_part, part_finish}
 use Rattle.wf_flowq_refines.proofs.Notes.{notes_finish}
-use Rattle.wf_fate.specs.Tally.{Counts, settled_as}
+use Rattle.wf_fate.specs.Tally.{Counts, settled_as, many_settled_as}
 use Rattle.wf_transmit_refines.specs.Standing.{counts_in}
 use Rattle.wf_transmit_refines.specs.Counting.{with_overlimit}
-use Rattle.wf_transmit_refines.specs.Views.{ledger}
+use Rattle.wf_transmit_refines.specs.Views.{Ledger, ledger}
 
 -- ---- one frame is finished
 
@@ -104,3 +108,38 @@ ledger_if false w u o e = refl
 pub ledger_limit : (w : World) → KeepsPlaces w → ledger (after_limit w) ≡ record (ledger w) { counts = with_overlimit (dropped_for_limit w) (counts_in w) }
 unfolding after_limit
 ledger_limit w places = ledger_if (is_at_limit w) w _ (head_id (queue w (longest_queue w)).items) (ledger_head w (longest_queue w) (queue w (longest_queue w)).items places refl)
+
+-- ---- many frames are finished
+
+one_more : (fate : Fate) (n : ℕ) (c : Counts) → many_settled_as fate n (settled_as fate c) ≡ many_settled_as fate (suc n) c
+one_more Held n c = refl
+one_more Acked n c = let e : (c.acked + 1) + n ≡ c.acked + suc n = omega arith in ap (λ (k : ℕ). record c { acked = k }) e
+one_more (Dropped Overlimit) n c = let e : (c.overlimit + 1) + n ≡ c.overlimit + suc n = omega arith in ap (λ (k : ℕ). record c { overlimit = k }) e
+one_more (Dropped Codel) n c = let e : (c.codel + 1) + n ≡ c.codel + suc n = omega arith in ap (λ (k : ℕ). record c { codel = k }) e
+one_more (Dropped Retries) n c = let e : (c.retries + 1) + n ≡ c.retries + suc n = omega arith in ap (λ (k : ℕ). record c { retries = k }) e
+one_more (Dropped Left) n c = let e : (c.left + 1) + n ≡ c.left + suc n = omega arith in ap (λ (k : ℕ). record c { left = k }) e
+
+none_more : (fate : Fate) (c : Counts) → c ≡ many_settled_as fate 0 c
+none_more Held c = refl
+none_more Acked c = simp add-zero
+none_more (Dropped Overlimit) c = simp add-zero
+none_more (Dropped Codel) c = simp add-zero
+none_more (Dropped Retries) c = simp add-zero
+none_more (Dropped Left) c = simp add-zero
+
+pub ledger_finish_all : (ids : List ℕ) (w : World) (fate : Fate) → IsOnce ids → ((id : ℕ) → has ids id ≡ true → (id < accepted_count w) × ((frame w id).fate ≡ Held)) → is_held fate ≡ false →
+    ledger (with_frames_finished w fate ids) ≡ record (ledger w) { counts = many_settled_as fate (length ids) (counts_in w) }
+unfolding with_frames_finished
+ledger_finish_all [] w fate once held other = ap (λ (c : Counts). record (ledger w) { counts = c }) (none_more fate (counts_in w))
+ledger_finish_all (id ∷ ids) w fate once held other =
+    let u : World = with_frame_finished w fate id in
+    let here = held id (or_left (id == id) (has ids id) (eq-eqb id id refl)) in
+    let p : part u ≡ finished_part (part w) fate id = part_finish w fate id here.0 in
+    let one : ledger u ≡ record (ledger w) { counts = settled_as fate (counts_in w) } = ledger_finish w fate id here.0 here.1 other in
+    let later : (k : ℕ) → has ids k ≡ true → (k < accepted_count u) × ((frame u k).fate ≡ Held) = λ k among.
+        let apart : k ≢ id = λ e. absurd (let m : has ids id ≡ true = ap (has ids) (sym e) ∙ among in cc (m, once.0)) in
+        let was = held k (or_right (id == k) (has ids k) among) in
+        (omega (arith, was.0, ap (λ (z : Part). z.accepted) p), ap (λ (z : Part). z.fates k) p ∙ upd_other (part w).fates id k fate apart ∙ was.1) in
+    ledger_finish_all ids u fate once.1 later other
+    ∙ ap (λ (l : Ledger). record l { counts = many_settled_as fate (length ids) l.counts }) one
+    ∙ ap (λ (c : Counts). record (ledger w) { counts = c }) (one_more fate (length ids) (counts_in w))

@@ -16,3 +16,7 @@ pub mod Enqueues
 pub mod Closes
 pub mod Moves
 pub mod Settles
+pub mod Endings
+pub mod Ended
+pub mod Dones
+pub mod Pulls

@@ -51,9 +51,13 @@ take_all : (h : List Entry) → take (length h) h ≡ h
 take_all [] = refl
 take_all (e ∷ h) = ap (λ (l : List Entry). e ∷ l) (take_all h)
 
+-- the world after all entries
+pub now_is : (w : World) (r : IsReached w) → world_at w.config r.history (length r.history) ≡ w
+now_is w r = ap (world_after (opening w.config)) (take_all r.history) ∙ sym r.after
+
 -- what holds after any number of entries holds of the world
 pub by_law : (P : World → Type 0) (w : World) (r : IsReached w) → ((m : ℕ) → P (world_at w.config r.history m)) → P w
-by_law P w r law = subst P (ap (world_after (opening w.config)) (take_all r.history) ∙ sym r.after) (law (length r.history))
+by_law P w r law = subst P (now_is w r) (law (length r.history))
 
 -- ---- what a step is
 

@@ -1,5 +1,5 @@
 -- What is read of a half is what is read of the world.
-use Rattle.std.proofs.Common.{◌≡◌, refl, ap, ap₂, sym, ◌∙◌, arith, ℕ, ◌+◌, ◌==◌, ◌<◌, nat_lt, Bool, true, false, not, ◌&&◌, ◌||◌, if◌then◌else◌, cond, List, [], ◌∷◌, map, Option, Some, None, is_some, option_map, inl, inr}
+use Rattle.std.proofs.Common.{◌≡◌, refl, ap, ap₂, sym, ◌∙◌, arith, ℕ, ◌+◌, ◌==◌, ◌<◌, nat_lt, Bool, true, false, not, ◌&&◌, ◌||◌, if◌then◌else◌, cond, List, [], ◌∷◌, map, Option, Some, None, is_some, option_map, inl, inr, zero, suc, unwrap_or}
 use Rattle.std.specs.Prelude.{count_by, find}
 use Rattle.std.specs.List.{list_any}
 use Rattle.std.proofs.lemmas.Bool.{cases_Bool}
@@ -9,11 +9,12 @@ use Rattle.wf_frame.specs.declared.classes.Class.TheVariants.{Bk, Be, Vi, Vo}
 use Rattle.wf_frame.specs.Classes.{lower_tid, upper_tid, same_class}
 use Rattle.wf_frame.specs.Frames.{FrameValue}
 use Rattle.wf_rules.specs.Session.{request_due, has_room}
-use Rattle.wf_rules.specs.Table.{at}
+use Rattle.wf_rules.specs.Table.{at, upto, count_from}
 use Rattle.wf_world.specs.World.{World, Station, Exchange, Content, Frames, Request, is_live, session, exchange}
 use Rattle.wf_world.specs.FlowQueues.{frames_queued as world_queued}
 use Rattle.wf_world.specs.CanSend.{is_request as world_request, request_open, has_waiting, can_give, can_send, has_credit, can_send_in, may_receive, is_ready}
-use Rattle.wf_world.specs.Refusals.{open_of_station, open_of_class}
+use Rattle.wf_world.specs.Refusals.{open_of_station, open_of_class, can_send_any, queued_in_class}
+use Rattle.wf_world.specs.Step.{class_to_send}
 use Rattle.wf_flowq.specs.Flows.{tid_number, frames_queued}
 use Rattle.wf_flowq_refines.proofs.Readers.{same_queued}
 use Rattle.wf_origwin.specs.Window.{WindowValue, StandsFor as WindowStandsFor, can_take}
@@ -140,3 +141,26 @@ ready_same v w bodies c s h = elim (cases_Bool (is_live w s)) [
       ap (λ (b : Bool). b && ((can_send_of v s (lower_tid c) || can_send_of v s (upper_tid c)) && (not (sleeper v.sleepers s).asleep || has_credit (sleeper v.sleepers s).credit c))) (live_same v w bodies s h ∙ off)
       ∙ ap (λ (b : Bool). b && (can_send_in w s c && may_receive w s c)) (sym off)
 ]
+
+-- ---- what refusals and a poll ask
+
+-- a test of classes that is the same of each
+find_same : (p q : Class → Bool) → ((c : Class) → p c ≡ q c) → (cs : List Class) → find p cs ≡ find q cs
+find_same p q same [] = refl
+find_same p q same (c ∷ cs) = ap₂ (λ (b : Bool) (o : Option Class). if b then Some c else o) (same c) (find_same p q same cs)
+
+pub class_same : (v : TransmitValue) (w : World) (bodies : ℕ → FrameValue) (s : ℕ) → Parts v w bodies → is_live w s ≡ true →
+    unwrap_or (find (λ c. can_send_of v s (lower_tid c) || can_send_of v s (upper_tid c)) (Vo ∷ Vi ∷ Be ∷ [])) Bk ≡ class_to_send w s
+class_same v w bodies s h live = ap (λ (o : Option Class). unwrap_or o Bk) (find_same _ (can_send_in w s) (λ c. can_send_in_same v w bodies s c h live) (Vo ∷ Vi ∷ Be ∷ []))
+
+-- a test of the TIDs from one on that is the same of each
+any_same : (p q : ℕ → Bool) (n from : ℕ) → ((t : ℕ) → t < from + n → p t ≡ q t) → list_any p (count_from from n) ≡ list_any q (count_from from n)
+any_same p q zero from same = refl
+any_same p q (suc n) from same = ap₂ (λ (a b : Bool). a || b) (same from (omega arith)) (any_same p q n (suc from) (λ t low. same t (omega (arith, low))))
+
+pub any_tid_same : (v : TransmitValue) (w : World) (bodies : ℕ → FrameValue) (s : ℕ) → Parts v w bodies → is_live w s ≡ true → list_any (can_send_of v s) (upto 8) ≡ can_send_any w s
+any_tid_same v w bodies s h live = any_same (can_send_of v s) (can_send w s) 8 0 (λ t low. can_send_same v w bodies s t h live (omega (arith, low)))
+
+pub class_queued_same : (v : TransmitValue) (w : World) (bodies : ℕ → FrameValue) (s : ℕ) (c : Class) → Parts v w bodies → is_live w s ≡ true →
+    frames_queued v.flows (tid_number s (lower_tid c)) + frames_queued v.flows (tid_number s (upper_tid c)) ≡ queued_in_class w s c
+class_queued_same v w bodies s c h live = ap₂ (λ (m n : ℕ). m + n) (queued_same v w bodies s (lower_tid c) h live (lower_low c)) (queued_same v w bodies s (upper_tid c) h live (upper_low c))

@@ -1,19 +1,31 @@
 -- The end of an exchange of data, number by number.
-use Rattle.std.specs.Prelude.{◌≡◌, ◌<◌, ℕ, Bool, true, List, [], ◌∷◌, ◌++◌, map}
+use Rattle.std.specs.Prelude.{◌≡◌, ◌<◌, ℕ, ◌==◌, Bool, true, not, List, [], ◌∷◌, ◌++◌, map, filter}
 use Rattle.wf_frame.specs.declared.classes.Fate.TheVariants.{Held}
 use Rattle.wf_frame.specs.Frames.{FrameValue}
 use Rattle.wf_rules.specs.Lists.{IsOnce}
-use Rattle.wf_rules.specs.Session.{slot}
+use Rattle.wf_rules.specs.Session.{State, slot}
 use Rattle.wf_world.specs.World.{World, Mpdu, is_live, session, frame, accepted_count}
 use Rattle.wf_world.specs.Exchanges.{with_all_settled}
 use Rattle.wf_laws.specs.Windows.{EachMpdu}
 use Rattle.wf_fate.specs.Tally.{settled_as}
 use Rattle.wf_flowq_refines.specs.Standing.{times_held, with_finished}
+use Rattle.wf_sched_refines.specs.Standing.{with_charge as with_turns_charged}
+use Rattle.wf_exchanges.specs.declared.opened.Open.{Open}
+use Rattle.wf_members.specs.Members.{on_member, with_charge}
 use Rattle.wf_origwin.specs.declared.window.Settled.{Settled}
 use Rattle.wf_origwin.specs.declared.window.Settled.TheVariants.{Acked, Waiting, Failed}
 use Rattle.wf_windows.specs.Ending.{AreFlying}
 use Rattle.wf_transmit_refines.specs.Half.{TransmitValue}
 use Rattle.wf_transmit_refines.specs.Standing.{Parts}
+
+-- an exchange is no longer open, and its station pays for it
+abbrev pub after_close : TransmitValue → Open → TransmitValue
+after_close v x =
+    record v {
+      opened = filter (λ y. not (y.number == x.number)) v.opened;
+      sched = with_turns_charged v.sched x.station x.class x.charge;
+      members = on_member v.members x.station (with_charge x.class x.charge);
+    }
 
 -- a frame goes last on the finished list, with its fate
 abbrev pub after_finish : TransmitValue → FrameValue → TransmitValue
@@ -46,3 +58,9 @@ pub record IsEnding (v : TransmitValue) (w : World) (bodies : ℕ → FrameValue
   pub loose : EachMpdu (IsLoose v w) mpdus
   pub once : IsOnce (map (λ m. m.id) mpdus)
   pub leads : with_all_settled w s t acked mpdus ≡ after
+
+-- the state in which an answer leaves its number
+abbrev pub state_left : Settled → State
+state_left (Acked f) = State.Acked
+state_left Waiting = State.Waiting
+state_left (Failed f) = State.Failed

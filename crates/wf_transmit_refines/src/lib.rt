@@ -7,43 +7,55 @@
 //! function without a body that names it in its contract.
 #![tactic(auto)]
 
-ghost use Rattle.std.specs.Prelude.{◌≡◌, ◌<◌, ◌≤◌, ℕ, ◌+◌, ◌-◌, ◌*◌, ◌==◌, ◌||◌, pos, ◌-ℤ◌, Bool, true, List, [], ◌∷◌, Option, Some, None, is_some, option_map, map, find, count_by, set, length};
+ghost use Rattle.std.specs.Prelude.{◌≡◌, ◌<◌, ◌≤◌, ℕ, ◌+◌, ◌-◌, ◌*◌, ◌==◌, ◌||◌, ◌++◌, pos, ◌-ℤ◌, Bool, true, false, List, [], ◌∷◌, Option, Some, None, is_some, option_map, map, find, count_by, set, length, max, unwrap_or};
+ghost use Rattle.std.specs.List.{list_any};
 ghost use Rattle.wf_frame.specs.Classes.{lower_tid, upper_tid, same_class};
 ghost use Rattle.wf_frame.specs.Frames.{FrameValue};
 ghost use Rattle.wf_frame.specs.Settings.{IsInRange};
 ghost use Rattle.wf_frame.specs.declared.classes.Class.{Class};
+ghost use Rattle.wf_frame.specs.declared.classes.Class.TheVariants.{Bk, Be, Vi, Vo};
+ghost use Rattle.wf_frame.specs.declared.classes.Fate.{Fate};
 ghost use Rattle.wf_frame.specs.declared.classes.Fate.TheVariants.{Held};
-ghost use Rattle.wf_frame.specs.declared.notes.Ask.TheVariants.{Join, Rate, Tick, Arrive, Answer, Sleep, Wake, Poll, Rx, Reap};
+ghost use Rattle.wf_frame.specs.declared.notes.Ask.TheVariants.{Done, Join, Pull, Rate, Tick, Arrive, Answer, Sleep, Wake, Poll, Rx, Reap};
 ghost use Rattle.wf_frame.specs.declared.notes.Note.{Note};
 ghost use Rattle.wf_frame.specs.declared.notes.Note.TheVariants.{Enqueue, Asked};
 ghost use Rattle.wf_frame.specs.declared.notes.Refusal.{Refusal};
 ghost use Rattle.wf_frame.specs.declared.notes.Refusal.TheVariants.{Idle};
-ghost use Rattle.wf_frame.specs.declared.notes.ReplyNote.TheVariants.{Accepted, Joined, RateSet, Ticked, Slept, Woken, Credited, Charged, Reaped, Refused};
+ghost use Rattle.wf_frame.specs.declared.notes.ReplyNote.TheVariants.{Accepted, Ended, Joined, RateSet, Ticked, Slept, Woken, Credited, Charged, Reaped, Refused};
 ghost use Rattle.wf_frame.specs.declared.settings.Config.{Config};
 ghost use Rattle.wf_rules.specs.Lengths.{greatest_body};
+ghost use Rattle.wf_rules.specs.Lists.{IsOnce};
 ghost use Rattle.wf_rules.specs.Receiver.{Receiver};
+ghost use Rattle.wf_rules.specs.Table.{has, upto};
 ghost use Rattle.wf_rules.specs.Rotation.{Rotation, has_key};
-ghost use Rattle.wf_rules.specs.Session.{Session, request_due};
-ghost use Rattle.wf_world.specs.World.{World, Station, Tid, Share, Queue, Exchange, opening, is_live, session, rotation, exchange, with_station, on_station, on_tid, on_session, on_receiver, on_share, on_queue, with_queues, with_rotation};
-ghost use Rattle.wf_world.specs.FlowQueues.{frames_queued as world_queued};
+ghost use Rattle.wf_rules.specs.Session.{Session, slot, request_due, is_acknowledged, is_waiting, is_failed};
+ghost use Rattle.wf_world.specs.World.{World, Station, Tid, Share, Queue, Exchange, Mpdu, frame, accepted_count, is_held, with_frame_finished, with_frames_finished, Frames, Request, opening, without_exchange, is_live, session, rotation, exchange, with_station, on_station, on_tid, on_session, on_receiver, on_share, on_queue, with_queues, with_rotation};
+ghost use Rattle.wf_world.specs.FlowQueues.{frames_queued as world_queued, after_limit, dropped_for_limit as dropped_for_limit_in};
 ghost use Rattle.wf_world.specs.CanSend.{request_open, has_waiting, can_send, can_send_in, is_ready, with_listings_of};
-ghost use Rattle.wf_world.specs.Refusals.{refusal, open_of_station, open_of_class};
-ghost use Rattle.wf_world.specs.Step.{outcome_of, concerned_station, class_to_send, step};
+ghost use Rattle.wf_world.specs.Exchanges.{after_pick, after_tid_turn, with_exchange_opened, without_credit, mpdus_of, is_acked, after_charge, with_settled, with_all_settled, count_in};
+ghost use Rattle.wf_world.specs.Refusals.{refusal, open_of_station, open_of_class, queued_in_class, can_send_any};
+ghost use Rattle.wf_world.specs.Step.{outcome_of, concerned_station, class_to_send, step, done_outcome};
 ghost use Rattle.wf_laws.specs.Queues.{HasLength, IsAtMost};
+ghost use Rattle.wf_fate.specs.Tally.{settled_as, many_settled_as};
+ghost use Rattle.wf_laws.specs.Places.{IsNumbered, KeepsPlaces};
+ghost use Rattle.wf_laws.specs.Windows.{EachMpdu, IsPending};
 ghost use Rattle.wf_flowq.specs.Flows.{tid_number, frames_queued, dropped_for_limit};
-ghost use Rattle.wf_flowq_refines.specs.Frames.{with_body};
-ghost use Rattle.wf_flowq_refines.specs.Standing.{with_finished};
+ghost use Rattle.wf_flowq_refines.specs.Frames.{with_body, IsBodySettled};
+ghost use Rattle.wf_flowq_refines.specs.Standing.{with_finished, times_held};
 ghost use Rattle.wf_flowq_refines.specs.Rest.{rest};
-ghost use Rattle.wf_sched.specs.ClassRotas.{SchedValue, deficit, after_join};
-ghost use Rattle.wf_sched_refines.specs.Standing.{StandsFor as TurnsStandFor, LeavesRotas, everywhere, with_charge};
-ghost use Rattle.wf_origwin.specs.Window.{WindowValue};
-ghost use Rattle.wf_windows.specs.Windows.{window_of};
+ghost use Rattle.wf_sched.specs.ClassRotas.{SchedValue, class_rota, with_class_rota, pick_of_class, IsAfterPick, deficit, after_join};
+ghost use Rattle.wf_sched_refines.specs.Standing.{StandsFor as TurnsStandFor, LeavesRotas, TellsReady, everywhere, with_charge};
+ghost use Rattle.wf_origwin.specs.Answers.{answer_of};
+ghost use Rattle.wf_origwin.specs.Window.{WindowValue, StandsFor as WindowStandsFor, settled};
+ghost use Rattle.wf_windows.specs.Windows.{HaveRoom, window_of, with_window};
 ghost use Rattle.wf_exchanges.specs.Exchanges.{asks};
-ghost use Rattle.wf_members.specs.Members.{member, on_member, new_member, with_rate, with_receipt};
+ghost use Rattle.wf_members.specs.Members.{member, on_member, new_member, with_rate, with_upper, with_receipt};
 ghost use Rattle.wf_powersave.specs.Sleepers.{sleeper, with_sleeper, awake};
 ghost use Rattle.wf_transmit_refines.specs.Half.{TransmitValue, opening_half, some_wait, can_send_of, is_ready_of};
-ghost use Rattle.wf_transmit_refines.specs.Standing.{open_of, HasWindows, Parts, IsReached, StandsFor, Meets};
+ghost use Rattle.wf_transmit_refines.specs.Standing.{open_of, counts_in, HasWindows, Parts, IsReached, StandsFor, Meets};
 ghost use Rattle.wf_transmit_refines.specs.Changes.{after_listing, AreReset, after_enqueue};
+ghost use Rattle.wf_transmit_refines.specs.Counting.{with_overlimit};
+ghost use Rattle.wf_transmit_refines.specs.Ending.{after_close, after_finish, after_answer, IsEnding, state_left};
 ghost use Rattle.wf_transmit_refines.specs.Views.{agreements, roster, ledger, HasSameViews, KeepsView, KeepsSums};
 
 /// A new half stands for the opening world, whatever frames are to come.
@@ -103,6 +115,12 @@ pub fn the_readers_agree()
         count_by (λ x. x.station == s) v.opened ≡ open_of_station w s }
     ensures of_class { (v : TransmitValue) (w : World) (bodies : ℕ → FrameValue) (c : Class) → Parts v w bodies →
         count_by (λ x. same_class x.class c) v.opened ≡ open_of_class w c }
+    ensures class_queued { (v : TransmitValue) (w : World) (bodies : ℕ → FrameValue) (s : ℕ) (c : Class) → Parts v w bodies → is_live w s ≡ true →
+        frames_queued v.flows (tid_number s (lower_tid c)) + frames_queued v.flows (tid_number s (upper_tid c)) ≡ queued_in_class w s c }
+    ensures any_tid { (v : TransmitValue) (w : World) (bodies : ℕ → FrameValue) (s : ℕ) → Parts v w bodies → is_live w s ≡ true →
+        list_any (can_send_of v s) (upto 8) ≡ can_send_any w s }
+    ensures polled { (v : TransmitValue) (w : World) (bodies : ℕ → FrameValue) (s : ℕ) → Parts v w bodies → is_live w s ≡ true →
+        unwrap_or (find (λ c. can_send_of v s (lower_tid c) || can_send_of v s (upper_tid c)) (Vo ∷ Vi ∷ Be ∷ [])) Bk ≡ class_to_send w s }
 {}
 
 /// A call that is refused changes nothing, but for a pull that finds nobody ready.
@@ -184,4 +202,91 @@ pub fn an_enqueue()
         f.id ≡ v.tally.accepted → f.stamp ≡ v.clock → f.fate ≡ Held → 1 ≤ length f.body → length f.body ≤ greatest_body →
         Meets w (with_body bodies f) (Enqueue f.station f.tid f.flow (length f.body))
         (after_listing (after_enqueue v f) f.station) (Accepted f.id (dropped_for_limit v.flows)) }
+{}
+
+/// An exchange of data ends: it is closed and charged, and then its numbers are settled, in order. `begins` says what holds
+/// before the first of them, `next` that each leads to the next, `done` what stands at the end. A number has, from when it is
+/// settled to the end, the state that its answer tells (`state`), so the answers are what the reply counts.
+pub fn an_exchange_of_data_ends()
+    ensures begins { (v : TransmitValue) (w : World) (bodies : ℕ → FrameValue) → StandsFor v w bodies → (e : ℕ) (x : Exchange) → exchange w e ≡ Some x →
+        (acked : ℕ → Bool) (m : Mpdu) (ms : List Mpdu) → mpdus_of x.content ≡ m ∷ ms →
+        EachMpdu (λ k. (slot (session w x.station x.tid) k.number).attempts < w.config.attempts) (m ∷ ms) →
+        IsEnding (after_close v (open_of x)) (after_charge (without_exchange w x.number) x) bodies x.station x.tid x.number acked (m ∷ ms)
+        (with_all_settled (after_charge (without_exchange w x.number) x) x.station x.tid acked (m ∷ ms)) }
+    ensures next { (v : TransmitValue) (w : World) (bodies : ℕ → FrameValue) (s t e : ℕ) (acked : ℕ → Bool) (m : Mpdu) (ms : List Mpdu) (after : World) (x : WindowValue) →
+        IsEnding v w bodies s t e acked (m ∷ ms) after → HaveRoom (with_window v.windows s t x) →
+        WindowStandsFor x (settled (acked m.number) v.config.attempts m.number (session w s t)) bodies →
+        IsEnding (after_answer (record v { windows = with_window v.windows s t x }) (answer_of (acked m.number) v.config.attempts bodies (slot (session w s t) m.number)))
+        (with_settled w s t (acked m.number) m) bodies s t e acked ms after }
+    ensures state { (v : TransmitValue) (w : World) (bodies : ℕ → FrameValue) (s t e : ℕ) (acked : ℕ → Bool) (m : Mpdu) (ms : List Mpdu) (after : World) →
+        IsEnding v w bodies s t e acked (m ∷ ms) after →
+        (slot (session after s t) m.number).state ≡ state_left (answer_of (acked m.number) v.config.attempts bodies (slot (session w s t) m.number)) }
+    ensures done { (v : TransmitValue) (w : World) (bodies : ℕ → FrameValue) (s t e : ℕ) (acked : ℕ → Bool) (after : World) → IsEnding v w bodies s t e acked [] after → Parts v after bodies }
+    ensures world { (w : World) (x : Exchange) (heard : Bool) (mpdus : List Mpdu) → x.content ≡ Frames mpdus →
+        (done_outcome w x heard).world ≡ with_all_settled (after_charge (without_exchange w x.number) x) x.station x.tid (is_acked heard x.answer) mpdus }
+{}
+
+/// An exchange of a request ends: it is closed and charged, and where it was heard the window of its TID is told. The request
+/// is due, and the window is near its start, as the window's call asks.
+pub fn an_exchange_of_a_request_ends()
+    ensures pending { (v : TransmitValue) (w : World) (bodies : ℕ → FrameValue) → StandsFor v w bodies → (e : ℕ) (x : Exchange) → exchange w e ≡ Some x →
+        (start : ℕ) → x.content ≡ Request start → IsPending start (session w x.station x.tid) }
+    ensures tid { (v : TransmitValue) (w : World) (bodies : ℕ → FrameValue) → StandsFor v w bodies → (e : ℕ) (x : Exchange) → exchange w e ≡ Some x →
+        (start : ℕ) → x.content ≡ Request start → x.tid < 8 }
+    ensures unheard { (v : TransmitValue) (w : World) (bodies : ℕ → FrameValue) → StandsFor v w bodies → (e : ℕ) (x : Exchange) → exchange w e ≡ Some x →
+        (start : ℕ) → x.content ≡ Request start → Parts (after_close v (open_of x)) (done_outcome w x false).world bodies }
+    ensures heard { (v : TransmitValue) (w : World) (bodies : ℕ → FrameValue) → StandsFor v w bodies → (e : ℕ) (x : Exchange) → exchange w e ≡ Some x →
+        (start : ℕ) → x.content ≡ Request start → (z : WindowValue) → HaveRoom (with_window v.windows x.station x.tid z) →
+        WindowStandsFor z (record (session w x.station x.tid) { heard = max (session w x.station x.tid).heard start }) bodies →
+        Parts (record (after_close v (open_of x)) { windows = with_window v.windows x.station x.tid z }) (done_outcome w x true).world bodies }
+{}
+
+/// A whole Done: where the parts stand for what it makes of the world, the station of the exchange is listed where it is
+/// ready. That station is live. The reply counts the numbers of the exchange by their states.
+pub fn a_done()
+    ensures live { (w : World) → IsReached w → (e : ℕ) (x : Exchange) → exchange w e ≡ Some x → is_live w x.station ≡ true }
+    ensures whole { (v z : TransmitValue) (w : World) (bodies : ℕ → FrameValue) (e : ℕ) (heard : Bool) (x : Exchange) → StandsFor v w bodies → exchange w e ≡ Some x →
+        refusal w (Asked (Done e heard)) ≡ None → Parts z (done_outcome w x heard).world bodies →
+        Meets w bodies (Asked (Done e heard)) (after_listing z x.station) (done_outcome w x heard).reply }
+    ensures reply { (w : World) (x : Exchange) (heard : Bool) →
+        (done_outcome w x heard).reply ≡ Ended (count_in (done_outcome w x heard).world x is_acknowledged) (count_in (done_outcome w x heard).world x is_waiting) (count_in (done_outcome w x heard).world x is_failed) }
+{}
+
+/// What a pull does beside its aggregate. The class's stations are picked, by a list that tells who is ready; where nobody is,
+/// the pull is refused as Idle, and the pick stands. The turn goes to the TID that does not send. The exchange opens, last of
+/// all, and a credit is spent.
+pub fn a_pull_picks_and_opens()
+    ensures pick { (v : TransmitValue) (w : World) (bodies : ℕ → FrameValue) (c : Class) (ready : List Bool) (u : SchedValue) → Parts v w bodies → TellsReady w c ready →
+        IsAfterPick (class_rota v.sched c) (pick_of_class v.sched c ready) (class_rota u c) → u ≡ with_class_rota v.sched c (class_rota u c) →
+        Parts (record v { sched = u }) (after_pick w c) bodies }
+    ensures idle { (v : TransmitValue) (w : World) (bodies : ℕ → FrameValue) (c : Class) (ready : List Bool) (u : SchedValue) → StandsFor v w bodies →
+        refusal w (Asked (Pull c)) ≡ Some Idle → TellsReady w c ready → IsAfterPick (class_rota v.sched c) (pick_of_class v.sched c ready) (class_rota u c) →
+        u ≡ with_class_rota v.sched c (class_rota u c) → Meets w bodies (Asked (Pull c)) (record v { sched = u }) (Refused Idle) }
+    ensures turn { (v : TransmitValue) (w : World) (bodies : ℕ → FrameValue) → Parts v w bodies → (s : ℕ) (c : Class) (t : ℕ) → s < w.config.stations →
+        Parts (record v { members = on_member v.members s (with_upper c (t == lower_tid c)) }) (after_tid_turn w s c t) bodies }
+    ensures opens { (v : TransmitValue) (w : World) (bodies : ℕ → FrameValue) → Parts v w bodies → (x : Exchange) →
+        Parts (record v { exchanges = v.exchanges + 1; opened = v.opened ++ open_of x ∷ [] }) (with_exchange_opened w x) bodies }
+    ensures spent { (v : TransmitValue) (w : World) (bodies : ℕ → FrameValue) → Parts v w bodies → (s : ℕ) → s < w.config.stations →
+        Parts (record v { sleepers = with_sleeper v.sleepers s (record (sleeper v.sleepers s) { credit = None }) }) (without_credit w s) bodies }
+{}
+
+/// One window changes with the session that it stands for; one frame that is held goes last on the finished list.
+pub fn a_number_or_a_frame_changes()
+    ensures window { (v : TransmitValue) (w : World) (bodies : ℕ → FrameValue) (s t : ℕ) (f : Session → Session) (x : WindowValue) → is_live w s ≡ true → t < 8 →
+        HaveRoom (with_window v.windows s t x) → WindowStandsFor x (f (session w s t)) bodies → Parts v w bodies →
+        Parts (record v { windows = with_window v.windows s t x }) (on_session w s t f) bodies }
+    ensures finish { (v : TransmitValue) (w : World) (bodies : ℕ → FrameValue) (f : FrameValue) → f.id < accepted_count w → (frame w f.id).fate ≡ Held → is_held f.fate ≡ false →
+        times_held v.flows.backlog f.id ≡ 0 → IsBodySettled bodies f → Parts v w bodies → Parts (after_finish v f) (with_frame_finished w f.fate f.id) bodies }
+    ensures nowhere { (v : TransmitValue) (w : World) (bodies : ℕ → FrameValue) → StandsFor v w bodies → (id s t n : ℕ) → IsNumbered w id s t n → times_held v.flows.backlog id ≡ 0 }
+{}
+
+/// The counts of a world as frames are finished: one of its fate more for each, and as many inside as before. At the limit
+/// the head of the longest queue is finished.
+pub fn the_counts_follow()
+    ensures one { (w : World) (fate : Fate) (id : ℕ) → id < accepted_count w → (frame w id).fate ≡ Held → is_held fate ≡ false →
+        ledger (with_frame_finished w fate id) ≡ record (ledger w) { counts = settled_as fate (counts_in w) } }
+    ensures many { (ids : List ℕ) (w : World) (fate : Fate) → IsOnce ids →
+        ((id : ℕ) → has ids id ≡ true → (id < accepted_count w) × ((frame w id).fate ≡ Held)) → is_held fate ≡ false →
+        ledger (with_frames_finished w fate ids) ≡ record (ledger w) { counts = many_settled_as fate (length ids) (counts_in w) } }
+    ensures limit { (w : World) → KeepsPlaces w → ledger (after_limit w) ≡ record (ledger w) { counts = with_overlimit (dropped_for_limit_in w) (counts_in w) } }
 {}

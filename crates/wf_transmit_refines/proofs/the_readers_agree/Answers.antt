@@ -1,4 +1,4 @@
-use Rattle.wf_transmit_refines.proofs.Readers.{live_same, queued_same, due_same, waiting_same, can_send_same, can_send_in_same, ready_same, asks_same, exchange_same, station_count_same, class_count_same}
+use Rattle.wf_transmit_refines.proofs.Readers.{live_same, queued_same, due_same, waiting_same, can_send_same, can_send_in_same, ready_same, asks_same, exchange_same, station_count_same, class_count_same, class_queued_same, any_tid_same, class_same}
 use Rattle.wf_transmit_refines.proofs.the_readers_agree.Goals as goal
 
 pub returns-clause-live : goal.returns-clause-live
@@ -33,3 +33,12 @@ returns-clause-of_station c = station_count_same
 
 pub returns-clause-of_class : goal.returns-clause-of_class
 returns-clause-of_class c = class_count_same
+
+pub returns-clause-class_queued : goal.returns-clause-class_queued
+returns-clause-class_queued c = class_queued_same
+
+pub returns-clause-any_tid : goal.returns-clause-any_tid
+returns-clause-any_tid c = any_tid_same
+
+pub returns-clause-polled : goal.returns-clause-polled
+returns-clause-polled c = class_same
