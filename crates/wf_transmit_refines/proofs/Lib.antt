@@ -20,3 +20,8 @@ pub mod Endings
 pub mod Ended
 pub mod Dones
 pub mod Pulls
+pub mod Numbered
+pub mod Dropping
+pub mod Rooms
+pub mod Leavings
+pub mod Gone
