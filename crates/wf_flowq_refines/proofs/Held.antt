@@ -52,7 +52,7 @@ at_lists : (w : World) (s t : ℕ) (r : Rotation) → Finishes w (with_queues w 
 unfolding with_queues on_tid on_station with_station
 at_lists w s t r = record { more = λ id. omega arith; fates = λ id none. refl }
 
-pub at_finish : (w : World) (fate : Fate) (k : ℕ) → Finishes w (with_frame_finished w fate k)
+at_finish : (w : World) (fate : Fate) (k : ℕ) → Finishes w (with_frame_finished w fate k)
 unfolding with_frame_finished with_fate
 at_finish w fate k = record {
   more = λ id. omega (arith, on-append w.finished (k ∷ []) id);

@@ -151,6 +151,25 @@ module _ (v : TransmitValue) (w : World) (bodies : ℕ → FrameValue) (s : ℕ)
     windows = record { sized = refl; empty = λ k below. absurd (omega (arith, below)); others = λ i k low other. refl };
   }
 
+-- ---- how many frames there are
+
+-- in the world of a run all frames together are within the room
+pub record HasPlace (room : ℕ) (w : World) : Type 0 where
+  pub placed : total_queued w + in_windows w + length w.finished ≡ inside w
+  pub within : inside w ≤ room
+
+pub has_place : (w : World) → IsReached w → HasPlace w.config.room w
+has_place w r = by_law (HasPlace w.config.room) w r (λ m. (let k = room_law w.config r.history r.in_range m in record { placed = k.placed; within = k.within }))
+
+few_dropped : (before v : TransmitValue) (w now : World) (bodies : ℕ → FrameValue) (s t dropped : ℕ) (taken : List ℕ) → HasDropped before w bodies s t v now taken dropped → length taken ≤ in_windows w → dropped ≤ w.config.room
+few_dropped before v w now bodies s t dropped taken h few =
+    let place : HasPlace w.config.room w = has_place w h.stood.reached in
+    let flows = h.stood.parts.others.flows in
+    omega (arith, place.placed, place.within, h.grown, h.moved.count, few, same_total before.flows w flows, finished_known before.flows w flows)
+
+pub left_few : (before v : TransmitValue) (w : World) (bodies : ℕ → FrameValue) (s t dropped : ℕ) → IsLeaving before w bodies s t v dropped → dropped ≤ w.config.room
+left_few before v w bodies s t dropped left = few_dropped before v w (after_tids_left w s (upto t)) bodies s t dropped (numbered_ids w s (upto t)) left.so_far (numbered_within w s t)
+
 -- ---- a TID begins
 
 module _ (before v : TransmitValue) (w : World) (bodies : ℕ → FrameValue) (s t dropped : ℕ) where
@@ -230,10 +249,27 @@ module _ (before v : TransmitValue) (w : World) (bodies : ℕ → FrameValue) (s
   pub none_flies_now : some_fly (window_of v.windows s t) ≡ false
   none_flies_now = some_flies (window_of v.windows s t) y bodies left.expelled.stands ∙ left.expelled.none_fly
 
+  pub expelled_few : dropped ≤ w.config.room
+  expelled_few =
+      let still : List FrameValue = frames_left bodies y in
+      let given : List FrameValue = frames_left bodies (session w s t) in
+      let all : length given ≡ length frames + length still = ap (length {A = FrameValue}) (sym left.expelled.rest) ∙ length-append frames still in
+      let same : length given ≡ length (waiting_ids slots) = sym (length-map given (λ (g : FrameValue). g.id)) ∙ ap (length {A = ℕ}) (left_ids slots bodies own) in
+      let taken : length (earlier ++ ids frames) ≡ length earlier + length frames = omega (arith, length-append earlier (ids frames), length-map frames (λ (g : FrameValue). g.id)) in
+      let next : length (numbered_ids w s (upto (suc t))) ≡ length earlier + length (waiting_ids slots) = ap (length {A = ℕ}) (numbered_next w s t) ∙ length-append earlier (waiting_ids slots) in
+      few_dropped before v w (with_frames_finished (after_tids_left w s (upto t)) (Dropped Left) (ids frames)) bodies s t dropped (earlier ++ ids frames) left.so_far (omega (arith, all, same, taken, next, numbered_within w s (suc t)))
+
   inside_windows : tid_number s t < length v.windows
   inside_windows =
       let low : s < w.config.stations = (allowed_leave w s left.so_far.allowed).low in
       omega (arith, low, left.tid, left.so_far.stood.parts.windows.sized, left.windows.sized, windows_count v.windows s t (window_of before.windows s t))
+
+  pub within : (tid_number s t < length v.windows) × (s < v.flows.stations)
+  within =
+      let low : s < w.config.stations = (allowed_leave w s left.so_far.allowed).low in
+      let now = left.so_far.parts.others in
+      let same : v.flows.stations ≡ w.config.stations = ap (λ (c : SettingsValue). c.stations) now.flows.settings ∙ ap (λ (c : Config). c.stations) (sym now.config ∙ left.so_far.stood.parts.others.config) in
+      (inside_windows, omega (arith, low, same))
 
   module _ (f : FrameValue) (some : start_of y < next_number y) (same : f ≡ frame_left bodies (slot y (start_of y))) where
     abbrev more : List FrameValue
@@ -269,9 +305,7 @@ module _ (before v : TransmitValue) (w : World) (bodies : ℕ → FrameValue) (s
 
     pub room_for_one : held v.flows.backlog < v.flows.backlog.room
     room_for_one =
-        let r : IsReached w = left.so_far.stood.reached in
-        let room : (total_queued w + in_windows w + length w.finished ≡ inside w) × (inside w ≤ w.config.room) =
-        by_law (λ u. (total_queued u + in_windows u + length u.finished ≡ inside u) × (inside u ≤ w.config.room)) w r (λ m. (let k = room_law w.config r.history r.in_range m in (k.placed, k.within))) in
+        let room : HasPlace w.config.room w = has_place w left.so_far.stood.reached in
         let flows = left.so_far.stood.parts.others.flows in
         let same_room : v.flows.backlog.room ≡ w.config.room =
         ap (λ (c : SettingsValue). c.room) left.so_far.parts.others.flows.settings ∙ ap (λ (c : Config). c.room) (sym left.so_far.parts.others.config ∙ left.so_far.stood.parts.others.config) in
@@ -279,7 +313,7 @@ module _ (before v : TransmitValue) (w : World) (bodies : ℕ → FrameValue) (s
         ap (length {A = ℕ}) (sym id_split) ∙ omega (arith, length-append (ids frames) (f.id ∷ ids more), length-map frames (λ (g : FrameValue). g.id), length-map more (λ (g : FrameValue). g.id)) in
         let taken : length (earlier ++ ids frames) ≡ length earlier + length frames = omega (arith, length-append earlier (ids frames), length-map frames (λ (g : FrameValue). g.id)) in
         let next : length (numbered_ids w s (upto (suc t))) ≡ length earlier + length (waiting_ids slots) = ap (length {A = ℕ}) (numbered_next w s t) ∙ length-append earlier (waiting_ids slots) in
-        omega (arith, room.0, room.1, same_room, shorter, taken, next, numbered_within w s (suc t), left.so_far.moved.count, same_total before.flows w flows, finished_known before.flows w flows)
+        omega (arith, room.placed, room.within, same_room, shorter, taken, next, numbered_within w s (suc t), left.so_far.moved.count, same_total before.flows w flows, finished_known before.flows w flows)
 
     module _ (x : WindowValue) (stands : WindowStandsFor x (with_state State.Acked (start_of y) y) bodies) where
       abbrev after : TransmitValue

@@ -297,7 +297,7 @@ pub fn the_counts_follow()
 /// A station leaves. TID by TID the frames that its window gives are finished as Left, one after the other, and then its flow
 /// queues are purged; after the eighth the station is on no list and no longer live, the answer is the count of its frames, and
 /// they are settled in the counts. `IsLeaving` holds between two TIDs and `IsExpelling` between two frames of a window. Nothing
-/// of the station flies, and there is room for each of its frames.
+/// of the station flies, there is room for each of its frames, and they are never more than the setting `room`.
 pub fn a_leave()
     ensures begins { (v : TransmitValue) (w : World) (bodies : ℕ → FrameValue) (s : ℕ) → StandsFor v w bodies → refusal w (Asked (Leave s)) ≡ None →
         IsLeaving v w bodies s 0 v 0 }
@@ -305,6 +305,8 @@ pub fn a_leave()
         IsExpelling before w bodies s t v [] dropped }
     ensures none_fly { (before v : TransmitValue) (w : World) (bodies : ℕ → FrameValue) (s t dropped : ℕ) (frames : List FrameValue) →
         IsExpelling before w bodies s t v frames dropped → some_fly (window_of v.windows s t) ≡ false }
+    ensures within { (before v : TransmitValue) (w : World) (bodies : ℕ → FrameValue) (s t dropped : ℕ) (frames : List FrameValue) →
+        IsExpelling before w bodies s t v frames dropped → (tid_number s t < length v.windows) × (s < v.flows.stations) }
     ensures room { (before v : TransmitValue) (w : World) (bodies : ℕ → FrameValue) (s t dropped : ℕ) (frames : List FrameValue) →
         (left : IsExpelling before w bodies s t v frames dropped) → start_of left.expelled.now < next_number left.expelled.now →
         held v.flows.backlog < v.flows.backlog.room }
@@ -318,6 +320,9 @@ pub fn a_leave()
         WindowStandsFor x left.expelled.now bodies → IsExpelled before w bodies s t (record v { windows = with_window v.windows s t x }) dropped }
     ensures purge { (before v : TransmitValue) (w : World) (bodies : ℕ → FrameValue) (s t dropped : ℕ) → IsExpelled before w bodies s t v dropped →
         IsLeaving before w bodies s (suc t) (after_tid_purged v s t) (dropped + frames_queued v.flows (tid_number s t)) }
+    ensures expelled { (before v : TransmitValue) (w : World) (bodies : ℕ → FrameValue) (s t dropped : ℕ) (frames : List FrameValue) →
+        IsExpelling before w bodies s t v frames dropped → dropped ≤ w.config.room }
+    ensures left { (before v : TransmitValue) (w : World) (bodies : ℕ → FrameValue) (s t dropped : ℕ) → IsLeaving before w bodies s t v dropped → dropped ≤ w.config.room }
     ensures counts { (before v : TransmitValue) (w : World) (bodies : ℕ → FrameValue) (s t dropped : ℕ) → IsLeaving before w bodies s t v dropped →
         dropped ≤ held_in v.tally }
     ensures ends { (before v : TransmitValue) (w : World) (bodies : ℕ → FrameValue) (s dropped : ℕ) → IsLeaving before w bodies s 8 v dropped → HaveRoom v.windows →

@@ -1,7 +1,7 @@
 use Rattle.std.proofs.Common.{refl}
 use Rattle.wf_rules.specs.Session.{slot, start_of}
 use Rattle.wf_origwin.specs.Expelling.{frame_left}
-use Rattle.wf_transmit_refines.proofs.Leavings.{leave_begins, tid_begins, none_flies_now, room_for_one, frame_next, window_ends, tid_ends}
+use Rattle.wf_transmit_refines.proofs.Leavings.{leave_begins, tid_begins, none_flies_now, within, room_for_one, frame_next, window_ends, tid_ends, expelled_few, left_few}
 use Rattle.wf_transmit_refines.proofs.Gone.{dropped_are_held, leave_meets}
 use Rattle.wf_transmit_refines.proofs.a_leave.Goals as goal
 
@@ -14,6 +14,9 @@ returns-clause-tid c = tid_begins
 pub returns-clause-none_fly : goal.returns-clause-none_fly
 returns-clause-none_fly c = none_flies_now
 
+pub returns-clause-within : goal.returns-clause-within
+returns-clause-within c = within
+
 pub returns-clause-room : goal.returns-clause-room
 returns-clause-room c = λ before v w bodies s t dropped frames left some. room_for_one before v w bodies s t dropped frames left (frame_left bodies (slot left.expelled.now (start_of left.expelled.now))) some refl
 
@@ -25,6 +28,12 @@ returns-clause-none c = window_ends
 
 pub returns-clause-purge : goal.returns-clause-purge
 returns-clause-purge c = tid_ends
+
+pub returns-clause-expelled : goal.returns-clause-expelled
+returns-clause-expelled c = expelled_few
+
+pub returns-clause-left : goal.returns-clause-left
+returns-clause-left c = left_few
 
 pub returns-clause-counts : goal.returns-clause-counts
 returns-clause-counts c = dropped_are_held
