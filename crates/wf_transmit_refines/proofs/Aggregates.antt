@@ -1,12 +1,12 @@
 -- What a pull is made of: the steps in which an aggregate is filled, and the worlds that they lead through.
-use Rattle.std.proofs.Common.{◌≡◌, refl, ap, sym, ◌∙◌, ℕ, zero, suc, ◌==◌, ◌-◌, Bool, true, false, not, if◌then◌else◌, List, ◌++◌, length, Option, Some, None}
+use Rattle.std.proofs.Common.{◌≡◌, refl, ap, ◌∙◌, ℕ, zero, suc, Bool, true, false, not, if◌then◌else◌, List, ◌++◌, Option, Some}
 use Rattle.wf_frame.specs.declared.classes.Class.{Class}
 use Rattle.wf_rules.specs.Session.{request_due}
 use Rattle.wf_world.specs.World.{World, Mpdu, session, on_session}
 use Rattle.wf_world.specs.FlowQueues.{Taken, taken_for_tid}
 use Rattle.wf_world.specs.CanSend.{can_give}
-use Rattle.wf_world.specs.Exchanges.{Aggregate, Prepared, fits_in, fresh_mpdus, with_number, with_fresh, waiting_mpdus, longest_fitting, most_frames, aggregate_of, with_flying, prepared_data, prepared_request, prepared_exchange, exchange_of, with_exchange_opened, without_credit, picked_station, after_pick, sending_tid, after_tid_turn}
-use Rattle.wf_world.specs.Step.{Outcome, send_outcome, pull_outcome_for, pull_outcome}
+use Rattle.wf_world.specs.Exchanges.{Aggregate, Prepared, fits_in, fresh_mpdus, with_number, with_fresh, aggregate_of, with_flying, prepared_data, prepared_request, prepared_exchange, exchange_of, with_exchange_opened, without_credit, picked_station, after_pick, sending_tid, after_tid_turn}
+use Rattle.wf_world.specs.Step.{send_outcome, pull_outcome_for, pull_outcome}
 use Rattle.wf_codel_queues.specs.Backlog.{BacklogValue}
 use Rattle.wf_flowq_refines.specs.Standing.{Part, part}
 use Rattle.wf_transmit_refines.specs.Taking.{QueuesAreHeld}
