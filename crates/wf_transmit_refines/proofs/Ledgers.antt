@@ -1,5 +1,5 @@
 -- The ledger of a world as frames are accepted and finished.
-use Rattle.std.proofs.Common.{◌≡◌, length, ◌++◌, suc, ◌≢◌, refl, ap, ap₂, sym, ◌∙◌, arith, ℕ, ◌+◌, ◌<◌, ◌==◌, Bool, true, false, cond, if◌then◌else◌, List, [], ◌∷◌, map, Option, None, eq-eqb, length-append, add-zero}
+use Rattle.std.proofs.Common.{◌≡◌, length, suc, ◌≢◌, refl, ap, ap₂, sym, ◌∙◌, arith, ℕ, ◌+◌, ◌<◌, ◌==◌, Bool, true, false, cond, if◌then◌else◌, List, [], ◌∷◌, map, Option, None, eq-eqb, length-append, add-zero}
 use Rattle.std.specs.Prelude.{count_by}
 use Rattle.std.proofs.lemmas.Bool.{or_left, or_right}
 use Rattle.wf_frame.specs.declared.classes.Cause.TheVariants.{Overlimit, Codel, Retries, Left}
@@ -137,9 +137,9 @@ ledger_finish_all (id ∷ ids) w fate once held other =
     let p : part u ≡ finished_part (part w) fate id = part_finish w fate id here.0 in
     let one : ledger u ≡ record (ledger w) { counts = settled_as fate (counts_in w) } = ledger_finish w fate id here.0 here.1 other in
     let later : (k : ℕ) → has ids k ≡ true → (k < accepted_count u) × ((frame u k).fate ≡ Held) = λ k among.
-        let apart : k ≢ id = λ e. absurd (let m : has ids id ≡ true = ap (has ids) (sym e) ∙ among in cc (m, once.0)) in
-        let was = held k (or_right (id == k) (has ids k) among) in
-        (omega (arith, was.0, ap (λ (z : Part). z.accepted) p), ap (λ (z : Part). z.fates k) p ∙ upd_other (part w).fates id k fate apart ∙ was.1) in
+    let apart : k ≢ id = λ e. absurd (let m : has ids id ≡ true = ap (has ids) (sym e) ∙ among in cc (m, once.0)) in
+    let was = held k (or_right (id == k) (has ids k) among) in
+    (omega (arith, was.0, ap (λ (z : Part). z.accepted) p), ap (λ (z : Part). z.fates k) p ∙ upd_other (part w).fates id k fate apart ∙ was.1) in
     ledger_finish_all ids u fate once.1 later other
     ∙ ap (λ (l : Ledger). record l { counts = many_settled_as fate (length ids) l.counts }) one
     ∙ ap (λ (c : Counts). record (ledger w) { counts = c }) (one_more fate (length ids) (counts_in w))

@@ -1,5 +1,5 @@
 -- The parts of a pull: who is picked, whose turn it is, and an exchange that opens.
-use Rattle.std.proofs.Common.{◌≡◌, refl, ap, sym, ◌∙◌, subst, ℕ, ◌+◌, ◌*◌, ◌<◌, ◌==◌, pos, ◌+ℤ◌, Bool, List, [], ◌∷◌, ◌++◌, map, Option, Some, None}
+use Rattle.std.proofs.Common.{◌≡◌, refl, ap, sym, ◌∙◌, subst, ℕ, ◌+◌, ◌*◌, ◌<◌, ◌==◌, pos, ◌+ℤ◌, Bool, List, [], ◌∷◌, ◌++◌, Some, None}
 use Rattle.std.proofs.lemmas.List.{map-append}
 use Rattle.wf_frame.specs.declared.classes.Class.{Class}
 use Rattle.wf_frame.specs.declared.notes.Note.TheVariants.{Asked}
@@ -9,7 +9,7 @@ use Rattle.wf_frame.specs.declared.notes.ReplyNote.TheVariants.{Refused}
 use Rattle.wf_frame.specs.Classes.{lower_tid}
 use Rattle.wf_frame.specs.Frames.{FrameValue}
 use Rattle.wf_rules.specs.Rotation.{Picked, in_order}
-use Rattle.wf_world.specs.World.{World, Share, Exchange, rotation, quantum, on_share, with_rotation}
+use Rattle.wf_world.specs.World.{World, Share, Exchange, rotation, quantum, on_share}
 use Rattle.wf_world.specs.Exchanges.{picked_station, with_station_paid, with_stations_paid, after_pick, after_tid_turn, without_credit, with_exchange_opened}
 use Rattle.wf_world.specs.Refusals.{refusal}
 use Rattle.wf_world.specs.Step.{Outcome, after_refusal, step}
@@ -79,8 +79,8 @@ module _ (v : TransmitValue) (w : World) (bodies : ℕ → FrameValue) (h : Part
       station_parts v w bodies s (λ y. reshared y c f) (λ y. record y { upper = updc y.upper c upper }) (on_member v.members s (with_upper c upper)) v.sleepers v.sched
       (λ y. refl)
       (λ y. view_reshared y c f
-          ∙ ap (λ (g : Class → ℕ). record (view_of y) { upper = updc (view_of y).upper c upper; charged = g; received = updc (view_of y).received c (share_in y c).received }) (updc_idle (view_of y).charged c (share_in y c).charged refl)
-          ∙ ap (λ (g : Class → ℕ). record (view_of y) { upper = updc (view_of y).upper c upper; received = g }) (updc_idle (view_of y).received c (share_in y c).received refl))
+      ∙ ap (λ (g : Class → ℕ). record (view_of y) { upper = updc (view_of y).upper c upper; charged = g; received = updc (view_of y).received c (share_in y c).received }) (updc_idle (view_of y).charged c (share_in y c).charged refl)
+      ∙ ap (λ (g : Class → ℕ). record (view_of y) { upper = updc (view_of y).upper c upper; received = g }) (updc_idle (view_of y).received c (share_in y c).received refl))
       (turn_leaves w s c t v.sched h.others.turns)
       (λ k. member_changed v.members v.sleepers w.config.stations (roster w).stations s (with_upper c upper) (λ y. record y { upper = updc y.upper c upper }) k low (turned c upper) (λ y. refl) (λ y. refl)) h
 

@@ -4,4 +4,5 @@ pub mod Views
 pub mod Changes
 pub mod Counting
 pub mod Ending
+pub mod Taking
 pub mod Leaving

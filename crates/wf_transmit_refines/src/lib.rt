@@ -15,7 +15,8 @@ ghost use Rattle.wf_frame.specs.Settings.{IsInRange};
 ghost use Rattle.wf_frame.specs.declared.classes.Class.{Class};
 ghost use Rattle.wf_frame.specs.declared.classes.Class.TheVariants.{Bk, Be, Vi, Vo};
 ghost use Rattle.wf_frame.specs.declared.classes.Fate.{Fate};
-ghost use Rattle.wf_frame.specs.declared.classes.Fate.TheVariants.{Held};
+ghost use Rattle.wf_frame.specs.declared.classes.Fate.TheVariants.{Held, Dropped};
+ghost use Rattle.wf_frame.specs.declared.classes.Cause.TheVariants.{Codel as By_codel};
 ghost use Rattle.wf_frame.specs.declared.notes.Ask.TheVariants.{Done, Join, Leave, Pull, Rate, Tick, Arrive, Answer, Sleep, Wake, Poll, Rx, Reap};
 ghost use Rattle.wf_frame.specs.declared.notes.Note.{Note};
 ghost use Rattle.wf_frame.specs.declared.notes.Note.TheVariants.{Enqueue, Asked};
@@ -29,19 +30,20 @@ ghost use Rattle.wf_rules.specs.Receiver.{Receiver};
 ghost use Rattle.wf_rules.specs.Table.{has, upto};
 ghost use Rattle.wf_rules.specs.Rotation.{Rotation, has_key};
 ghost use Rattle.wf_rules.specs.Session.{Session, State, slot, start_of, next_number, request_due, with_state, is_acknowledged, is_waiting, is_failed};
-ghost use Rattle.wf_world.specs.World.{World, Station, Tid, Share, Queue, Exchange, Mpdu, frame, accepted_count, is_held, with_frame_finished, with_frames_finished, Frames, Request, opening, without_exchange, is_live, session, rotation, exchange, with_station, on_station, on_tid, on_session, on_receiver, on_share, on_queue, with_queues, with_rotation};
-ghost use Rattle.wf_world.specs.FlowQueues.{frames_queued as world_queued, after_limit, dropped_for_limit as dropped_for_limit_in};
-ghost use Rattle.wf_world.specs.CanSend.{request_open, has_waiting, can_send, can_send_in, is_ready, with_listings_of};
-ghost use Rattle.wf_world.specs.Exchanges.{after_pick, after_tid_turn, with_exchange_opened, without_credit, mpdus_of, is_acked, after_charge, with_settled, with_all_settled, count_in};
+ghost use Rattle.wf_world.specs.World.{World, Station, Tid, Share, Queue, Exchange, Mpdu, frame, accepted_count, is_held, codel_params, with_frame_finished, with_frames_finished, Frames, Request, opening, without_exchange, is_live, session, rotation, exchange, with_station, on_station, on_tid, on_session, on_receiver, on_share, on_queue, with_queues, with_rotation};
+ghost use Rattle.wf_world.specs.FlowQueues.{taken_for_tid as world_take, frames_queued as world_queued, after_limit, dropped_for_limit as dropped_for_limit_in};
+ghost use Rattle.wf_world.specs.CanSend.{can_give, request_open, has_waiting, can_send, can_send_in, is_ready, with_listings_of};
+ghost use Rattle.wf_world.specs.Exchanges.{Aggregate, Prepared, picked_station, sending_tid, after_pick, after_tid_turn, fits_in, fresh_mpdus, with_number, with_fresh, aggregate_of, with_flying, prepared_data, prepared_request, prepared_exchange, exchange_of, with_exchange_opened, without_credit, mpdus_of, is_acked, after_charge, with_settled, with_all_settled, count_in};
 ghost use Rattle.wf_world.specs.Refusals.{refusal, open_of_station, open_of_class, queued_in_class, can_send_any};
-ghost use Rattle.wf_world.specs.Step.{outcome_of, concerned_station, class_to_send, step, done_outcome};
+ghost use Rattle.wf_world.specs.Step.{outcome_of, concerned_station, class_to_send, step, pull_outcome, done_outcome};
 ghost use Rattle.wf_laws.specs.Queues.{HasLength, IsAtMost};
 ghost use Rattle.wf_fate.specs.Tally.{held_in, settled_as, many_settled_as};
 ghost use Rattle.wf_laws.specs.Places.{IsNumbered, KeepsPlaces};
 ghost use Rattle.wf_laws.specs.Windows.{EachMpdu, IsPending};
-ghost use Rattle.wf_flowq.specs.Flows.{tid_number, frames_queued, dropped_for_limit};
+ghost use Rattle.wf_flowq.specs.Flows.{tid_number, frames_queued, dropped_for_limit, taken_for_tid};
 ghost use Rattle.wf_flowq_refines.specs.Frames.{with_body, IsBodySettled};
-ghost use Rattle.wf_flowq_refines.specs.Standing.{with_finished, times_held};
+ghost use Rattle.wf_flowq_refines.specs.Standing.{part, with_finished, times_held};
+ghost use Rattle.wf_codel_queues.specs.Backlog.{BacklogValue};
 ghost use Rattle.wf_flowq_refines.specs.Rest.{rest};
 ghost use Rattle.wf_sched.specs.ClassRotas.{SchedValue, class_rota, with_class_rota, pick_of_class, IsAfterPick, deficit, after_join};
 ghost use Rattle.wf_sched_refines.specs.Standing.{StandsFor as TurnsStandFor, LeavesRotas, TellsReady, everywhere, with_charge};
@@ -58,6 +60,7 @@ ghost use Rattle.wf_transmit_refines.specs.Standing.{open_of, counts_in, HasWind
 ghost use Rattle.wf_transmit_refines.specs.Changes.{after_listing, AreReset, after_enqueue};
 ghost use Rattle.wf_transmit_refines.specs.Counting.{with_overlimit};
 ghost use Rattle.wf_transmit_refines.specs.Ending.{after_close, after_finish, after_answer, IsEnding, state_left};
+ghost use Rattle.wf_transmit_refines.specs.Taking.{QueuesAreHeld};
 ghost use Rattle.wf_transmit_refines.specs.Leaving.{after_expelled, after_tid_purged, after_leave, IsLeaving, IsExpelling, IsExpelled};
 ghost use Rattle.wf_transmit_refines.specs.Views.{agreements, roster, ledger, HasSameViews, KeepsView, KeepsSums};
 
@@ -79,7 +82,8 @@ pub fn the_rest_does_not_matter()
 /// change of a world leaves of these; the calls of the flow queues leave the first two (`rest`, wf_flowq_refines).
 pub fn what_a_change_leaves()
     ensures agreements_rest { (w u : World) → rest u ≡ rest w → agreements u ≡ agreements w }
-    ensures agreements_station { (w : World) (s : ℕ) (f : Station → Station) → ((x : Station) → (f x).tids ≡ x.tids) → agreements (on_station w s f) ≡ agreements w }
+    ensures agreements_station { (w : World) (s : ℕ) (f : Station → Station) → ((x : Station) → (f x).tids ≡ x.tids) →
+        agreements (on_station w s f) ≡ agreements w }
     ensures agreements_share { (w : World) (s : ℕ) (c : Class) (f : Share → Share) → agreements (on_share w s c f) ≡ agreements w }
     ensures agreements_receiver { (w : World) (s t : ℕ) (f : Receiver → Receiver) → agreements (on_receiver w s t f) ≡ agreements w }
     ensures agreements_queues { (w : World) (s t : ℕ) (r : Rotation) → agreements (with_queues w s t r) ≡ agreements w }
@@ -128,7 +132,8 @@ pub fn the_readers_agree()
 
 /// A call that is refused changes nothing, but for a pull that finds nobody ready.
 pub fn a_refusal()
-    ensures { (v : TransmitValue) (w : World) (bodies : ℕ → FrameValue) (note : Note) (r : Refusal) → StandsFor v w bodies → refusal w note ≡ Some r → (r ≡ Idle → ⊥) →
+    ensures { (v : TransmitValue) (w : World) (bodies : ℕ → FrameValue) (note : Note) (r : Refusal) → StandsFor v w bodies → refusal w note ≡ Some r →
+        (r ≡ Idle → ⊥) →
         Meets w bodies note v (Refused r) }
 {}
 
@@ -136,14 +141,17 @@ pub fn a_refusal()
 /// concerns is listed in each class in which it is ready; then the half stands for the step. Nobody is to be listed where the
 /// call concerns no station, or one that is listed already wherever it is ready. In the world of a run every station is.
 pub fn the_end_of_a_call()
-    ensures listed { (v : TransmitValue) (w : World) (bodies : ℕ → FrameValue) (s : ℕ) → Parts v w bodies → Parts (after_listing v s) (with_listings_of w (Some s)) bodies }
+    ensures listed { (v : TransmitValue) (w : World) (bodies : ℕ → FrameValue) (s : ℕ) → Parts v w bodies →
+        Parts (after_listing v s) (with_listings_of w (Some s)) bodies }
     ensures reached { (w : World) (note : Note) → IsReached w → HasLength note → IsAtMost greatest_body note → IsReached (step w note).world }
     ensures concerned { (v : TransmitValue) (w : World) (bodies : ℕ → FrameValue) (note : Note) → IsReached w → HasLength note → IsAtMost greatest_body note →
         refusal w note ≡ None → Parts v (outcome_of w note).world bodies → (s : ℕ) → concerned_station w note ≡ Some s →
         Meets w bodies note (after_listing v s) (outcome_of w note).reply }
-    ensures unconcerned { (v : TransmitValue) (w : World) (bodies : ℕ → FrameValue) (note : Note) → IsReached w → HasLength note → IsAtMost greatest_body note →
+    ensures unconcerned { (v : TransmitValue) (w : World) (bodies : ℕ → FrameValue) (note : Note) → IsReached w → HasLength note →
+        IsAtMost greatest_body note →
         refusal w note ≡ None → Parts v (outcome_of w note).world bodies → concerned_station w note ≡ None → Meets w bodies note v (outcome_of w note).reply }
-    ensures nobody_new { (v : TransmitValue) (w : World) (bodies : ℕ → FrameValue) (note : Note) → IsReached w → HasLength note → IsAtMost greatest_body note →
+    ensures nobody_new { (v : TransmitValue) (w : World) (bodies : ℕ → FrameValue) (note : Note) → IsReached w → HasLength note →
+        IsAtMost greatest_body note →
         refusal w note ≡ None → Parts v (outcome_of w note).world bodies → (s : ℕ) → concerned_station w note ≡ Some s →
         ((c : Class) → is_ready (outcome_of w note).world c s ≡ true → has_key (rotation (outcome_of w note).world c) s ≡ true) →
         Meets w bodies note v (outcome_of w note).reply }
@@ -193,8 +201,10 @@ pub fn a_join()
 /// What arrives at a station, and what it answers, changes no part of the half: where it stood for a world, it stands for the
 /// world after an Arrive or an Answer, whether the machine refuses that or not.
 pub fn a_call_that_it_does_not_hear()
-    ensures arrive { (v : TransmitValue) (w : World) (bodies : ℕ → FrameValue) (e i : ℕ) → StandsFor v w bodies → StandsFor v (step w (Asked (Arrive e i))).world bodies }
-    ensures answer { (v : TransmitValue) (w : World) (bodies : ℕ → FrameValue) (e : ℕ) → StandsFor v w bodies → StandsFor v (step w (Asked (Answer e))).world bodies }
+    ensures arrive { (v : TransmitValue) (w : World) (bodies : ℕ → FrameValue) (e i : ℕ) → StandsFor v w bodies →
+        StandsFor v (step w (Asked (Arrive e i))).world bodies }
+    ensures answer { (v : TransmitValue) (w : World) (bodies : ℕ → FrameValue) (e : ℕ) → StandsFor v w bodies →
+        StandsFor v (step w (Asked (Answer e))).world bodies }
 {}
 
 /// A frame is accepted. It is marked with the next id and the clock; its body has 1 to 2304 octets. Where the queues are at
@@ -216,7 +226,8 @@ pub fn an_exchange_of_data_ends()
         EachMpdu (λ k. (slot (session w x.station x.tid) k.number).attempts < w.config.attempts) (m ∷ ms) →
         IsEnding (after_close v (open_of x)) (after_charge (without_exchange w x.number) x) bodies x.station x.tid x.number acked (m ∷ ms)
         (with_all_settled (after_charge (without_exchange w x.number) x) x.station x.tid acked (m ∷ ms)) }
-    ensures next { (v : TransmitValue) (w : World) (bodies : ℕ → FrameValue) (s t e : ℕ) (acked : ℕ → Bool) (m : Mpdu) (ms : List Mpdu) (after : World) (x : WindowValue) →
+    ensures next { (v : TransmitValue) (w : World) (bodies : ℕ → FrameValue) (s t e : ℕ) (acked : ℕ →
+        Bool) (m : Mpdu) (ms : List Mpdu) (after : World) (x : WindowValue) →
         IsEnding v w bodies s t e acked (m ∷ ms) after → HaveRoom (with_window v.windows s t x) →
         WindowStandsFor x (settled (acked m.number) v.config.attempts m.number (session w s t)) bodies →
         IsEnding (after_answer (record v { windows = with_window v.windows s t x }) (answer_of (acked m.number) v.config.attempts bodies (slot (session w s t) m.number)))
@@ -224,7 +235,8 @@ pub fn an_exchange_of_data_ends()
     ensures state { (v : TransmitValue) (w : World) (bodies : ℕ → FrameValue) (s t e : ℕ) (acked : ℕ → Bool) (m : Mpdu) (ms : List Mpdu) (after : World) →
         IsEnding v w bodies s t e acked (m ∷ ms) after →
         (slot (session after s t) m.number).state ≡ state_left (answer_of (acked m.number) v.config.attempts bodies (slot (session w s t) m.number)) }
-    ensures done { (v : TransmitValue) (w : World) (bodies : ℕ → FrameValue) (s t e : ℕ) (acked : ℕ → Bool) (after : World) → IsEnding v w bodies s t e acked [] after → Parts v after bodies }
+    ensures done { (v : TransmitValue) (w : World) (bodies : ℕ → FrameValue) (s t e : ℕ) (acked : ℕ → Bool) (after : World) →
+        IsEnding v w bodies s t e acked [] after → Parts v after bodies }
     ensures world { (w : World) (x : Exchange) (heard : Bool) (mpdus : List Mpdu) → x.content ≡ Frames mpdus →
         (done_outcome w x heard).world ≡ with_all_settled (after_charge (without_exchange w x.number) x) x.station x.tid (is_acked heard x.answer) mpdus }
 {}
@@ -248,7 +260,8 @@ pub fn an_exchange_of_a_request_ends()
 /// ready. That station is live. The reply counts the numbers of the exchange by their states.
 pub fn a_done()
     ensures live { (w : World) → IsReached w → (e : ℕ) (x : Exchange) → exchange w e ≡ Some x → is_live w x.station ≡ true }
-    ensures whole { (v z : TransmitValue) (w : World) (bodies : ℕ → FrameValue) (e : ℕ) (heard : Bool) (x : Exchange) → StandsFor v w bodies → exchange w e ≡ Some x →
+    ensures whole { (v z : TransmitValue) (w : World) (bodies : ℕ → FrameValue) (e : ℕ) (heard : Bool) (x : Exchange) → StandsFor v w bodies →
+        exchange w e ≡ Some x →
         refusal w (Asked (Done e heard)) ≡ None → Parts z (done_outcome w x heard).world bodies →
         Meets w bodies (Asked (Done e heard)) (after_listing z x.station) (done_outcome w x heard).reply }
     ensures reply { (w : World) (x : Exchange) (heard : Bool) →
@@ -259,7 +272,8 @@ pub fn a_done()
 /// the pull is refused as Idle, and the pick stands. The turn goes to the TID that does not send. The exchange opens, last of
 /// all, and a credit is spent.
 pub fn a_pull_picks_and_opens()
-    ensures pick { (v : TransmitValue) (w : World) (bodies : ℕ → FrameValue) (c : Class) (ready : List Bool) (u : SchedValue) → Parts v w bodies → TellsReady w c ready →
+    ensures pick { (v : TransmitValue) (w : World) (bodies : ℕ → FrameValue) (c : Class) (ready : List Bool) (u : SchedValue) → Parts v w bodies →
+        TellsReady w c ready →
         IsAfterPick (class_rota v.sched c) (pick_of_class v.sched c ready) (class_rota u c) → u ≡ with_class_rota v.sched c (class_rota u c) →
         Parts (record v { sched = u }) (after_pick w c) bodies }
     ensures idle { (v : TransmitValue) (w : World) (bodies : ℕ → FrameValue) (c : Class) (ready : List Bool) (u : SchedValue) → StandsFor v w bodies →
@@ -275,12 +289,16 @@ pub fn a_pull_picks_and_opens()
 
 /// One window changes with the session that it stands for; one frame that is held goes last on the finished list.
 pub fn a_number_or_a_frame_changes()
-    ensures window { (v : TransmitValue) (w : World) (bodies : ℕ → FrameValue) (s t : ℕ) (f : Session → Session) (x : WindowValue) → is_live w s ≡ true → t < 8 →
+    ensures window { (v : TransmitValue) (w : World) (bodies : ℕ → FrameValue) (s t : ℕ) (f : Session → Session) (x : WindowValue) →
+        is_live w s ≡ true → t < 8 →
         HaveRoom (with_window v.windows s t x) → WindowStandsFor x (f (session w s t)) bodies → Parts v w bodies →
         Parts (record v { windows = with_window v.windows s t x }) (on_session w s t f) bodies }
-    ensures finish { (v : TransmitValue) (w : World) (bodies : ℕ → FrameValue) (f : FrameValue) → f.id < accepted_count w → (frame w f.id).fate ≡ Held → is_held f.fate ≡ false →
-        times_held v.flows.backlog f.id ≡ 0 → IsBodySettled bodies f → Parts v w bodies → Parts (after_finish v f) (with_frame_finished w f.fate f.id) bodies }
-    ensures nowhere { (v : TransmitValue) (w : World) (bodies : ℕ → FrameValue) → StandsFor v w bodies → (id s t n : ℕ) → IsNumbered w id s t n → times_held v.flows.backlog id ≡ 0 }
+    ensures finish { (v : TransmitValue) (w : World) (bodies : ℕ → FrameValue) (f : FrameValue) → f.id < accepted_count w →
+        (frame w f.id).fate ≡ Held → is_held f.fate ≡ false →
+        times_held v.flows.backlog f.id ≡ 0 → IsBodySettled bodies f → Parts v w bodies →
+        Parts (after_finish v f) (with_frame_finished w f.fate f.id) bodies }
+    ensures nowhere { (v : TransmitValue) (w : World) (bodies : ℕ → FrameValue) → StandsFor v w bodies → (id s t n : ℕ) → IsNumbered w id s t n →
+        times_held v.flows.backlog id ≡ 0 }
 {}
 
 /// The counts of a world as frames are finished: one of its fate more for each, and as many inside as before. At the limit
@@ -291,7 +309,47 @@ pub fn the_counts_follow()
     ensures many { (ids : List ℕ) (w : World) (fate : Fate) → IsOnce ids →
         ((id : ℕ) → has ids id ≡ true → (id < accepted_count w) × ((frame w id).fate ≡ Held)) → is_held fate ≡ false →
         ledger (with_frames_finished w fate ids) ≡ record (ledger w) { counts = many_settled_as fate (length ids) (counts_in w) } }
-    ensures limit { (w : World) → KeepsPlaces w → ledger (after_limit w) ≡ record (ledger w) { counts = with_overlimit (dropped_for_limit_in w) (counts_in w) } }
+    ensures limit { (w : World) → KeepsPlaces w →
+        ledger (after_limit w) ≡ record (ledger w) { counts = with_overlimit (dropped_for_limit_in w) (counts_in w) } }
+{}
+
+/// A TID takes a frame out for its aggregate: CoDel may drop frames on the way, as many as the finished list grows by. In the
+/// world of a run each queued frame is held, and this stays so from one take to the next.
+pub fn a_take()
+    ensures begins { (v : TransmitValue) (w : World) (bodies : ℕ → FrameValue) → StandsFor v w bodies → QueuesAreHeld v.flows.backlog w }
+    ensures parts { (v : TransmitValue) (w : World) (bodies : ℕ → FrameValue) (s t : ℕ) → Parts v w bodies → QueuesAreHeld v.flows.backlog w →
+        is_live w s ≡ true → t < 8 →
+        (d : ℕ) → length (taken_for_tid v.flows (tid_number s t) w.clock (codel_params w s)).flows.backlog.finished ≡ length v.flows.backlog.finished + d →
+        Parts (record v { flows = (taken_for_tid v.flows (tid_number s t) w.clock (codel_params w s)).flows; tally = many_settled_as (Dropped By_codel) d v.tally })
+        (world_take w s t).world bodies }
+    ensures held { (v : TransmitValue) (w : World) (bodies : ℕ → FrameValue) (s t : ℕ) → Parts v w bodies → QueuesAreHeld v.flows.backlog w →
+        is_live w s ≡ true → t < 8 →
+        QueuesAreHeld (taken_for_tid v.flows (tid_number s t) w.clock (codel_params w s)).flows.backlog (world_take w s t).world }
+{}
+
+/// What a pull is made of. It leads through these worlds: the pick, the turn, what is prepared, the exchange that opens, and a
+/// credit that is spent. A request is prepared where one is due, else an aggregate, whose numbers fly; it ends with a fresh
+/// frame that does not fit, which has its number already, or where the TID can give none. What leaves the flow queues' part
+/// leaves their frames held.
+pub fn a_pull_is_made_of_these()
+    ensures world { (w : World) (c : Class) (s : ℕ) → (picked_station w c).winner ≡ Some s →
+        let u : World = after_pick w c in
+        let t : ℕ = sending_tid u s c in
+        let p : Prepared = prepared_exchange (after_tid_turn u s c t) s t in
+        (pull_outcome w c).world ≡ without_credit (with_exchange_opened p.world (exchange_of s t c p)) s }
+    ensures request { (w : World) (s t : ℕ) → request_due (session w s t) ≡ true → prepared_exchange w s t ≡ prepared_request w s t }
+    ensures data { (w : World) (s t : ℕ) → request_due (session w s t) ≡ false → prepared_exchange w s t ≡ prepared_data s t (aggregate_of w s t) }
+    ensures flies { (s t : ℕ) (f : Aggregate) → (prepared_data s t f).world ≡ on_session f.world s t (with_flying f.world.exchanges f.mpdus) }
+    ensures full { (w : World) (s t : ℕ) (mpdus : List Mpdu) → with_fresh 0 w s t mpdus ≡ record { world = w; mpdus = mpdus } }
+    ensures none { (n : ℕ) (w : World) (s t : ℕ) (mpdus : List Mpdu) → can_give w s t ≡ false →
+        with_fresh n w s t mpdus ≡ record { world = w; mpdus = mpdus } }
+    ensures fits { (n : ℕ) (w : World) (s t : ℕ) (mpdus : List Mpdu) → can_give w s t ≡ true →
+        fits_in w s (mpdus ++ fresh_mpdus w s t (world_take w s t).item) ≡ true →
+        with_fresh (suc n) w s t mpdus ≡ with_fresh n (with_number (world_take w s t).world s t (world_take w s t).item) s t (mpdus ++ fresh_mpdus w s t (world_take w s t).item) }
+    ensures too_long { (n : ℕ) (w : World) (s t : ℕ) (mpdus : List Mpdu) → can_give w s t ≡ true →
+        fits_in w s (mpdus ++ fresh_mpdus w s t (world_take w s t).item) ≡ false →
+        with_fresh (suc n) w s t mpdus ≡ record { world = with_number (world_take w s t).world s t (world_take w s t).item; mpdus = mpdus } }
+    ensures held { (b : BacklogValue) (w u : World) → part u ≡ part w → QueuesAreHeld b w → QueuesAreHeld b u }
 {}
 
 /// A station leaves. TID by TID the frames that its window gives are finished as Left, one after the other, and then its flow
