@@ -34,9 +34,9 @@ use Rattle.wf_flowq_refines.proofs.Through.{through_put_in, through_limit, throu
 -- ---- what a call finishes
 
 -- the finished list only grows, and a frame that is not on it has the fate that it had
-record Finishes (w u : World) : Type 0 where
-  more : (id : ℕ) → on w.finished id ≤ on u.finished id
-  fates : (id : ℕ) → on u.finished id ≡ 0 → (frame u id).fate ≡ (frame w id).fate
+pub record Finishes (w u : World) : Type 0 where
+  pub more : (id : ℕ) → on w.finished id ≤ on u.finished id
+  pub fates : (id : ℕ) → on u.finished id ≡ 0 → (frame u id).fate ≡ (frame w id).fate
 
 nothing : (w : World) → Finishes w w
 nothing w = record { more = λ id. omega arith; fates = λ id none. refl }
@@ -60,6 +60,10 @@ at_finish w fate k = record {
       let other : id ≡ k → ⊥ = λ e. omega (arith, none, on-append w.finished (k ∷ []) id, ap (on (k ∷ [])) e, on-cons_same k []) in
       ap (λ (f : ℕ → Fate). f id) (put_upd (λ (x : Frame). x.fate) no_frame w.frames k _) ∙ upd_other (λ i. (frame w i).fate) k id fate other;
 }
+
+-- a purge, once the frames of the TID's numbers are finished
+pub finishes_purge : (w : World) (s t : ℕ) → Finishes (with_frames_finished w (Dropped Left) (waiting_ids (session w s t).slots)) (after_tid_left w s t)
+finishes_purge = through_purge Finishes nothing both at_queue at_lists at_finish
 
 -- ---- what leaves the queues
 
@@ -146,7 +150,7 @@ pub held_left : (v : FlowsValue) (w : World) (s t : ℕ) → StandsFor v (with_f
     → is_live w s ≡ true → s < w.config.stations → t < 8 → QueuedAreHeld (after_purge v (tid_number s t)) (after_tid_left w s t)
 held_left v w s t st h live high low =
     still_held v (after_purge v (tid_number s t)) (with_frames_finished w (Dropped Left) (waiting_ids (session w s t).slots)) (after_tid_left w s t) (stands_left v w s t st live high low) h
-    (through_purge Finishes nothing both at_queue at_lists at_finish w s t) (fewer_purge v (tid_number s t))
+    (finishes_purge w s t) (fewer_purge v (tid_number s t))
 
 pub held_finish : (v : FlowsValue) (w : World) (f : FrameValue) → StandsFor v w → QueuedAreHeld v w → f.id < accepted_count w → times_held v.backlog f.id ≡ 0 → QueuedAreHeld (with_finished v (v.backlog.finished ++ f ∷ [])) (with_frame_finished w f.fate f.id)
 held_finish v w f st h low none =

@@ -1,5 +1,5 @@
 -- An exchange of data begins to end, and one that sent a request ends.
-use Rattle.std.proofs.Common.{◌≡◌, refl, ap, sym, ◌∙◌, subst, arith, ℕ, suc, ◌<◌, ◌≤◌, ◌==◌, ◌||◌, Bool, true, false, if◌then◌else◌, List, [], ◌∷◌, ◌++◌, map, length, take, get_or, Option, Some, None, is_some, option_map, inl, inr, eq-eqb}
+use Rattle.std.proofs.Common.{◌≡◌, refl, ap, sym, ◌∙◌, subst, arith, ℕ, suc, ◌<◌, ◌≤◌, ◌==◌, ◌||◌, Bool, true, false, if◌then◌else◌, List, [], ◌∷◌, ◌++◌, map, length, take, get_or, Some, None, inl, inr, eq-eqb}
 use Rattle.std.specs.Prelude.{find, filter, not, sum_by, ◌%◌}
 use Rattle.std.proofs.lemmas.List.Sums.{sum_by-cons}
 use Rattle.std.proofs.lemmas.Bool.{cases_eq, cases_lt, ne_eqb}
@@ -11,13 +11,13 @@ use Rattle.wf_rules.specs.Session.{Session, State, slot, is_settled}
 use Rattle.wf_rules.specs.Codel.{Item}
 use Rattle.wf_rules.specs.Table.{at, has}
 use Rattle.wf_rule_laws.proofs.Lemmas.Counts.{on-append, on-has}
-use Rattle.wf_world.specs.World.{World, Station, Exchange, opening, Mpdu, is_live, session, receiver, queue, frame, accepted_count, exchange, without_exchange}
+use Rattle.wf_world.specs.World.{World, Exchange, opening, Mpdu, is_live, session, receiver, queue, frame, accepted_count, exchange, without_exchange}
 use Rattle.wf_world.specs.Exchanges.{mpdus_of, paid, after_charge, with_all_settled}
 use Rattle.wf_laws.specs.Finished.{KeepsFinished, reaped_ids}
 use Rattle.wf_laws.specs.Places.{Queued, Numbered, IsNumbered, StandsOnce}
 use Rattle.wf_laws.specs.Sent.{IsSent, NumbersRise}
 use Rattle.wf_laws.specs.Windows.{EachMpdu, EachOpen, IsOpenRight, KeepsWindows}
-use Rattle.wf_laws.proofs.Deficits.Books.{books, core, account}
+use Rattle.wf_laws.proofs.Deficits.Books.{books, core}
 use Rattle.wf_laws.proofs.Deficits.Kept.{IsOpen}
 use Rattle.wf_laws.proofs.Deficits.KeptStep.{kept}
 use Rattle.wf_laws.proofs.Deficits.Openings.{Every}
@@ -31,6 +31,7 @@ use Rattle.wf_flowq_refines.specs.Standing.{Part, part, ids, times_held}
 use Rattle.wf_flowq_refines.proofs.Leaves.{share_alone, closing_alone}
 use Rattle.wf_flowq_refines.proofs.Purges.{item_ids}
 use Rattle.wf_origwin.proofs.Numbers.{open_number}
+use Rattle.wf_sched_refines.proofs.Stands.{some_account}
 use Rattle.wf_windows.specs.Ending.{Ending, IsFlyingIn, AreFlying}
 use Rattle.wf_transmit_refines.specs.Half.{TransmitValue}
 use Rattle.wf_transmit_refines.specs.Standing.{open_of, Parts, IsReached, StandsFor}
@@ -57,10 +58,6 @@ found P (y ∷ ys) e x known h = elim (cases_eq y.number e) [
 each_core : (P : Exchange → Type 0) (xs : List Exchange) → Every P (map core xs) → EachOpen (λ x. P (core x)) xs
 each_core P [] h = tt
 each_core P (x ∷ xs) h = (h.0, each_core P xs h.1)
-
-some_account : (o : Option Station) → is_some (option_map account o) ≡ is_some o
-some_account None = refl
-some_account (Some x) = refl
 
 -- the station of an open exchange is live
 pub open_live : (w : World) (r : IsReached w) (e : ℕ) (x : Exchange) → exchange w e ≡ Some x → is_live w x.station ≡ true
@@ -107,7 +104,7 @@ of_number P (m ∷ ms) h n here = elim (cases_eq m.number n) [
 
 -- ---- a frame that has a number is in no queue and not finished
 
-sum_none : (f : List FrameValue → ℕ) (xs : List (List FrameValue)) → ((k : ℕ) → f (get_or xs k []) ≡ 0) → sum_by f xs ≡ 0
+pub sum_none : (f : List FrameValue → ℕ) (xs : List (List FrameValue)) → ((k : ℕ) → f (get_or xs k []) ≡ 0) → sum_by f xs ≡ 0
 sum_none f [] h = refl
 sum_none f (x ∷ xs) h = omega (arith, sum_by-cons f x xs, h 0, sum_none f xs (λ k. h (suc k)))
 

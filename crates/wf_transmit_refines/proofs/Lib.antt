@@ -22,3 +22,8 @@ pub mod Dones
 pub mod Pulls
 pub mod Takes
 pub mod Aggregates
+pub mod Numbered
+pub mod Dropping
+pub mod Rooms
+pub mod Leavings
+pub mod Gone

@@ -70,7 +70,7 @@ module _ (v : TransmitValue) (w : World) (bodies : ℕ → FrameValue) (s t : �
 
 -- ---- one number
 
-settled_body : (bodies : ℕ → FrameValue) (id : ℕ) (fate : Fate) → (bodies id).id ≡ id → (bodies id).fate ≡ Held → is_held fate ≡ false → IsBodySettled bodies (with_fate fate (bodies id))
+pub settled_body : (bodies : ℕ → FrameValue) (id : ℕ) (fate : Fate) → (bodies id).id ≡ id → (bodies id).fate ≡ Held → is_held fate ≡ false → IsBodySettled bodies (with_fate fate (bodies id))
 settled_body bodies id fate own held other = (ap (λ (z : Fate). let g : FrameValue = record (bodies id) { fate = z } in g) (sym held) ∙ ap bodies (sym own), other)
 
 module _ (v : TransmitValue) (w : World) (bodies : ℕ → FrameValue) (s t : ℕ) (m : Mpdu) (x : WindowValue) (h : Parts v w bodies) (live : is_live w s ≡ true) (low : t < 8) (room : HaveRoom (with_window v.windows s t x))

@@ -2,13 +2,13 @@
 use Rattle.std.proofs.Common.{◌≡◌, refl, ap, sym, ◌∙◌, subst, arith, ℕ, ◌+◌, ◌<◌, Bool, false, List, length, set, get_or, Option, Some, None, IfSome, option_map, length-set}
 use Rattle.std.proofs.lemmas.List.{get_or-set_same, get_or-set_other, set-get_or}
 use Rattle.wf_frame.specs.declared.classes.Class.{Class}
-use Rattle.wf_frame.specs.declared.classes.Class.TheVariants.{Bk, Be, Vi, Vo}
 use Rattle.wf_frame.specs.Classes.{class_number}
 use Rattle.wf_frame.specs.Frames.{FrameValue}
 use Rattle.wf_rules.specs.Airtime.{Rate}
 use Rattle.wf_world.specs.World.{World, Station, on_station}
 use Rattle.wf_laws.proofs.Deficits.Books.{upd, updc}
 use Rattle.wf_sched.specs.ClassRotas.{SchedValue}
+use Rattle.wf_sched.proofs.Views.{class_below}
 use Rattle.wf_sched_refines.specs.Standing.{StandsFor as TurnsStandFor}
 use Rattle.wf_sched_refines.proofs.Stands.{each_other, each_other_class}
 use Rattle.wf_flowq_refines.proofs.Leaves.{stands_same, station_alone}
@@ -74,16 +74,10 @@ sleeper_changed members sleepers count stations s z g h low keeps sleeps =
 
 -- ---- what a member keeps by class
 
-class_low : (c : Class) → class_number c < 4
-class_low Bk = omega arith
-class_low Be = omega arith
-class_low Vi = omega arith
-class_low Vo = omega arith
-
 by_class : {X : Type 0} (xs : List X) (d : X) (x : X) (c : Class) (f : Class → X) → length xs ≡ 4 → ((k : Class) → get_or xs (class_number k) d ≡ f k) → (k : Class) → get_or (set xs (class_number c) x) (class_number k) d ≡ updc f c x k
 by_class xs d x c f four h = each_other_class (λ k z. get_or (set xs (class_number c) x) (class_number k) d ≡ z) f c x
     (λ k other. get_or-set_other xs (class_number c) (class_number k) x d other ∙ h k)
-    (get_or-set_same xs (class_number c) x d (omega (arith, class_low c, four)))
+    (get_or-set_same xs (class_number c) x d (omega (arith, class_below c, four)))
 
 pub rated : (rate : Rate) (m : Member) (x : StationView) → IsOfView m x → IsOfView (with_rate rate m) (record x { rate = rate })
 rated rate m x h = record {

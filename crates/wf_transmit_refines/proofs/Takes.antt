@@ -1,7 +1,5 @@
 -- A TID takes a frame out: the frames that CoDel drops on the way are finished.
-use Rattle.std.proofs.Common.{◌≡◌, refl, ap, ap₂, sym, ◌∙◌, subst, arith, ℕ, suc, ◌+◌, ◌*◌, ◌<◌, ◌≤◌, pos, ◌+ℤ◌, true, List, [], ◌∷◌, ◌++◌, length, take, drop, map, Option, Some, None, append_assoc, inl, inr, eq-eqb, Bool, false, ◌==◌, ◌||◌, get_or}
-use Rattle.std.proofs.lemmas.List.Sums.{sum_by-cons}
-use Rattle.std.specs.Prelude.{sum_by}
+use Rattle.std.proofs.Common.{◌≡◌, refl, ap, ap₂, sym, ◌∙◌, subst, arith, ℕ, ◌+◌, ◌*◌, ◌<◌, ◌≤◌, pos, ◌+ℤ◌, true, List, [], ◌∷◌, ◌++◌, length, take, drop, map, Option, Some, None, append_assoc, inl, inr, eq-eqb, Bool, false, ◌==◌, ◌||◌}
 use Rattle.std.proofs.lemmas.List.{append-nil, length-append, length-map, take-append-drop, get_or_past}
 use Rattle.std.proofs.lemmas.Bool.{cases_lt, or_left}
 use Rattle.wf_frame.specs.declared.classes.Cause.TheVariants.{Codel as By_codel}
@@ -37,6 +35,7 @@ use Rattle.wf_transmit_refines.proofs.Views.{agreements_rest, roster_rest, ledge
 use Rattle.wf_transmit_refines.proofs.Stands.{WindowsStand, StationsStand, LedgerStands, Pieces, to_pieces, of_pieces}
 use Rattle.wf_transmit_refines.proofs.Ledgers.{ledger_finish_all}
 use Rattle.wf_transmit_refines.proofs.Enqueues.{places_kept}
+use Rattle.wf_transmit_refines.proofs.Endings.{sum_none}
 
 -- these frames are finished, which CoDel drops, and all others keep their fates
 record Drops (w u : World) : Type 0 where
@@ -242,10 +241,6 @@ module _ (v : TransmitValue) (w : World) (bodies : ℕ → FrameValue) (s t : �
 
 -- ---- at the beginning of a call
 
-none_queued : (f : List FrameValue → ℕ) (xs : List (List FrameValue)) → ((k : ℕ) → f (get_or xs k []) ≡ 0) → sum_by f xs ≡ 0
-none_queued f [] h = refl
-none_queued f (x ∷ xs) h = omega (arith, sum_by-cons f x xs, h 0, none_queued f xs (λ k. h (suc k)))
-
 -- in the world of a run each queued frame is held
 pub queues_held : (v : TransmitValue) (w : World) (bodies : ℕ → FrameValue) → StandsFor v w bodies → QueuesAreHeld v.flows.backlog w
 queues_held v w bodies h id some = go (frame w id).fate refl
@@ -256,7 +251,7 @@ queues_held v w bodies h id some = go (frame w id).fate refl
           arith,
           some,
           on-nil id,
-          none_queued (λ (frames : List FrameValue). on (ids frames) id) v.flows.backlog.queues (λ q. elim (cases_lt 0 (on (ids (frames_at v.flows.backlog q)) id)) [
+          sum_none (λ (frames : List FrameValue). on (ids frames) id) v.flows.backlog.queues (λ q. elim (cases_lt 0 (on (ids (frames_at v.flows.backlog q)) id)) [
             | inl there ↦ absurd (other (sym is ∙ queued_is_held v.flows w h.parts.others.flows (places_kept w h.reached) q id there))
             | inr none ↦ omega (arith, none)
           ]),

@@ -17,19 +17,19 @@ ghost use Rattle.wf_frame.specs.declared.classes.Class.TheVariants.{Bk, Be, Vi, 
 ghost use Rattle.wf_frame.specs.declared.classes.Fate.{Fate};
 ghost use Rattle.wf_frame.specs.declared.classes.Fate.TheVariants.{Held, Dropped};
 ghost use Rattle.wf_frame.specs.declared.classes.Cause.TheVariants.{Codel as By_codel};
-ghost use Rattle.wf_frame.specs.declared.notes.Ask.TheVariants.{Done, Join, Pull, Rate, Tick, Arrive, Answer, Sleep, Wake, Poll, Rx, Reap};
+ghost use Rattle.wf_frame.specs.declared.notes.Ask.TheVariants.{Done, Join, Leave, Pull, Rate, Tick, Arrive, Answer, Sleep, Wake, Poll, Rx, Reap};
 ghost use Rattle.wf_frame.specs.declared.notes.Note.{Note};
 ghost use Rattle.wf_frame.specs.declared.notes.Note.TheVariants.{Enqueue, Asked};
 ghost use Rattle.wf_frame.specs.declared.notes.Refusal.{Refusal};
 ghost use Rattle.wf_frame.specs.declared.notes.Refusal.TheVariants.{Idle};
-ghost use Rattle.wf_frame.specs.declared.notes.ReplyNote.TheVariants.{Accepted, Ended, Joined, RateSet, Ticked, Slept, Woken, Credited, Charged, Reaped, Refused};
+ghost use Rattle.wf_frame.specs.declared.notes.ReplyNote.TheVariants.{Accepted, Ended, Gone, Joined, RateSet, Ticked, Slept, Woken, Credited, Charged, Reaped, Refused};
 ghost use Rattle.wf_frame.specs.declared.settings.Config.{Config};
 ghost use Rattle.wf_rules.specs.Lengths.{greatest_body};
 ghost use Rattle.wf_rules.specs.Lists.{IsOnce};
 ghost use Rattle.wf_rules.specs.Receiver.{Receiver};
 ghost use Rattle.wf_rules.specs.Table.{has, upto};
 ghost use Rattle.wf_rules.specs.Rotation.{Rotation, has_key};
-ghost use Rattle.wf_rules.specs.Session.{Session, slot, request_due, is_acknowledged, is_waiting, is_failed};
+ghost use Rattle.wf_rules.specs.Session.{Session, State, slot, start_of, next_number, request_due, with_state, is_acknowledged, is_waiting, is_failed};
 ghost use Rattle.wf_world.specs.World.{World, Station, Tid, Share, Queue, Exchange, Mpdu, frame, accepted_count, is_held, codel_params, with_frame_finished, with_frames_finished, Frames, Request, opening, without_exchange, is_live, session, rotation, exchange, with_station, on_station, on_tid, on_session, on_receiver, on_share, on_queue, with_queues, with_rotation};
 ghost use Rattle.wf_world.specs.FlowQueues.{taken_for_tid as world_take, frames_queued as world_queued, after_limit, dropped_for_limit as dropped_for_limit_in};
 ghost use Rattle.wf_world.specs.CanSend.{can_give, request_open, has_waiting, can_send, can_send_in, is_ready, with_listings_of};
@@ -37,7 +37,7 @@ ghost use Rattle.wf_world.specs.Exchanges.{Aggregate, Prepared, picked_station, 
 ghost use Rattle.wf_world.specs.Refusals.{refusal, open_of_station, open_of_class, queued_in_class, can_send_any};
 ghost use Rattle.wf_world.specs.Step.{outcome_of, concerned_station, class_to_send, step, pull_outcome, done_outcome};
 ghost use Rattle.wf_laws.specs.Queues.{HasLength, IsAtMost};
-ghost use Rattle.wf_fate.specs.Tally.{settled_as, many_settled_as};
+ghost use Rattle.wf_fate.specs.Tally.{held_in, settled_as, many_settled_as};
 ghost use Rattle.wf_laws.specs.Places.{IsNumbered, KeepsPlaces};
 ghost use Rattle.wf_laws.specs.Windows.{EachMpdu, IsPending};
 ghost use Rattle.wf_flowq.specs.Flows.{tid_number, frames_queued, dropped_for_limit, taken_for_tid};
@@ -48,7 +48,9 @@ ghost use Rattle.wf_flowq_refines.specs.Rest.{rest};
 ghost use Rattle.wf_sched.specs.ClassRotas.{SchedValue, class_rota, with_class_rota, pick_of_class, IsAfterPick, deficit, after_join};
 ghost use Rattle.wf_sched_refines.specs.Standing.{StandsFor as TurnsStandFor, LeavesRotas, TellsReady, everywhere, with_charge};
 ghost use Rattle.wf_origwin.specs.Answers.{answer_of};
-ghost use Rattle.wf_origwin.specs.Window.{WindowValue, StandsFor as WindowStandsFor, settled};
+ghost use Rattle.wf_origwin.specs.Window.{WindowValue, StandsFor as WindowStandsFor, settled, some_fly};
+ghost use Rattle.wf_origwin.specs.Expelling.{frame_left};
+ghost use Rattle.wf_codel_queues.specs.Backlog.{held};
 ghost use Rattle.wf_windows.specs.Windows.{HaveRoom, window_of, with_window};
 ghost use Rattle.wf_exchanges.specs.Exchanges.{asks};
 ghost use Rattle.wf_members.specs.Members.{member, on_member, new_member, with_rate, with_upper, with_receipt};
@@ -59,6 +61,7 @@ ghost use Rattle.wf_transmit_refines.specs.Changes.{after_listing, AreReset, aft
 ghost use Rattle.wf_transmit_refines.specs.Counting.{with_overlimit};
 ghost use Rattle.wf_transmit_refines.specs.Ending.{after_close, after_finish, after_answer, IsEnding, state_left};
 ghost use Rattle.wf_transmit_refines.specs.Taking.{QueuesAreHeld};
+ghost use Rattle.wf_transmit_refines.specs.Leaving.{after_expelled, after_tid_purged, after_leave, IsLeaving, IsExpelling, IsExpelled};
 ghost use Rattle.wf_transmit_refines.specs.Views.{agreements, roster, ledger, HasSameViews, KeepsView, KeepsSums};
 
 /// A new half stands for the opening world, whatever frames are to come.
@@ -347,4 +350,39 @@ pub fn a_pull_is_made_of_these()
         fits_in w s (mpdus ++ fresh_mpdus w s t (world_take w s t).item) ≡ false →
         with_fresh (suc n) w s t mpdus ≡ record { world = with_number (world_take w s t).world s t (world_take w s t).item; mpdus = mpdus } }
     ensures held { (b : BacklogValue) (w u : World) → part u ≡ part w → QueuesAreHeld b w → QueuesAreHeld b u }
+{}
+
+/// A station leaves. TID by TID the frames that its window gives are finished as Left, one after the other, and then its flow
+/// queues are purged; after the eighth the station is on no list and no longer live, the answer is the count of its frames, and
+/// they are settled in the counts. `IsLeaving` holds between two TIDs and `IsExpelling` between two frames of a window. Nothing
+/// of the station flies, there is room for each of its frames, and they are never more than the setting `room`.
+pub fn a_leave()
+    ensures begins { (v : TransmitValue) (w : World) (bodies : ℕ → FrameValue) (s : ℕ) → StandsFor v w bodies → refusal w (Asked (Leave s)) ≡ None →
+        IsLeaving v w bodies s 0 v 0 }
+    ensures tid { (before v : TransmitValue) (w : World) (bodies : ℕ → FrameValue) (s t dropped : ℕ) → IsLeaving before w bodies s t v dropped → t < 8 →
+        IsExpelling before w bodies s t v [] dropped }
+    ensures none_fly { (before v : TransmitValue) (w : World) (bodies : ℕ → FrameValue) (s t dropped : ℕ) (frames : List FrameValue) →
+        IsExpelling before w bodies s t v frames dropped → some_fly (window_of v.windows s t) ≡ false }
+    ensures within { (before v : TransmitValue) (w : World) (bodies : ℕ → FrameValue) (s t dropped : ℕ) (frames : List FrameValue) →
+        IsExpelling before w bodies s t v frames dropped → (tid_number s t < length v.windows) × (s < v.flows.stations) }
+    ensures room { (before v : TransmitValue) (w : World) (bodies : ℕ → FrameValue) (s t dropped : ℕ) (frames : List FrameValue) →
+        (left : IsExpelling before w bodies s t v frames dropped) → start_of left.expelled.now < next_number left.expelled.now →
+        held v.flows.backlog < v.flows.backlog.room }
+    ensures next { (before v : TransmitValue) (w : World) (bodies : ℕ → FrameValue) (s t dropped : ℕ) (frames : List FrameValue) →
+        (left : IsExpelling before w bodies s t v frames dropped) → (x : WindowValue) (f : FrameValue) →
+        start_of left.expelled.now < next_number left.expelled.now → f ≡ frame_left bodies (slot left.expelled.now (start_of left.expelled.now)) →
+        WindowStandsFor x (with_state State.Acked (start_of left.expelled.now) left.expelled.now) bodies →
+        IsExpelling before w bodies s t (after_expelled v s t x f) (frames ++ f ∷ []) (dropped + 1) }
+    ensures none { (before v : TransmitValue) (w : World) (bodies : ℕ → FrameValue) (s t dropped : ℕ) (frames : List FrameValue) →
+        (left : IsExpelling before w bodies s t v frames dropped) → (x : WindowValue) → next_number left.expelled.now ≡ start_of left.expelled.now →
+        WindowStandsFor x left.expelled.now bodies → IsExpelled before w bodies s t (record v { windows = with_window v.windows s t x }) dropped }
+    ensures purge { (before v : TransmitValue) (w : World) (bodies : ℕ → FrameValue) (s t dropped : ℕ) → IsExpelled before w bodies s t v dropped →
+        IsLeaving before w bodies s (suc t) (after_tid_purged v s t) (dropped + frames_queued v.flows (tid_number s t)) }
+    ensures expelled { (before v : TransmitValue) (w : World) (bodies : ℕ → FrameValue) (s t dropped : ℕ) (frames : List FrameValue) →
+        IsExpelling before w bodies s t v frames dropped → dropped ≤ w.config.room }
+    ensures left { (before v : TransmitValue) (w : World) (bodies : ℕ → FrameValue) (s t dropped : ℕ) → IsLeaving before w bodies s t v dropped → dropped ≤ w.config.room }
+    ensures counts { (before v : TransmitValue) (w : World) (bodies : ℕ → FrameValue) (s t dropped : ℕ) → IsLeaving before w bodies s t v dropped →
+        dropped ≤ held_in v.tally }
+    ensures ends { (before v : TransmitValue) (w : World) (bodies : ℕ → FrameValue) (s dropped : ℕ) → IsLeaving before w bodies s 8 v dropped → HaveRoom v.windows →
+        Meets w bodies (Asked (Leave s)) (after_leave v s dropped) (Gone dropped) }
 {}
