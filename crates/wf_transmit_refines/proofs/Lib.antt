@@ -19,9 +19,6 @@ pub mod Settles
 pub mod Endings
 pub mod Ended
 pub mod Dones
-pub mod Pulls
-pub mod Takes
-pub mod Aggregates
 pub mod Numbered
 pub mod Dropping
 pub mod Rooms

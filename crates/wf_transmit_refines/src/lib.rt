@@ -268,25 +268,6 @@ pub fn a_done()
         (done_outcome w x heard).reply ≡ Ended (count_in (done_outcome w x heard).world x is_acknowledged) (count_in (done_outcome w x heard).world x is_waiting) (count_in (done_outcome w x heard).world x is_failed) }
 {}
 
-/// What a pull does beside its aggregate. The class's stations are picked, by a list that tells who is ready; where nobody is,
-/// the pull is refused as Idle, and the pick stands. The turn goes to the TID that does not send. The exchange opens, last of
-/// all, and a credit is spent.
-pub fn a_pull_picks_and_opens()
-    ensures pick { (v : TransmitValue) (w : World) (bodies : ℕ → FrameValue) (c : Class) (ready : List Bool) (u : SchedValue) → Parts v w bodies →
-        TellsReady w c ready →
-        IsAfterPick (class_rota v.sched c) (pick_of_class v.sched c ready) (class_rota u c) → u ≡ with_class_rota v.sched c (class_rota u c) →
-        Parts (record v { sched = u }) (after_pick w c) bodies }
-    ensures idle { (v : TransmitValue) (w : World) (bodies : ℕ → FrameValue) (c : Class) (ready : List Bool) (u : SchedValue) → StandsFor v w bodies →
-        refusal w (Asked (Pull c)) ≡ Some Idle → TellsReady w c ready → IsAfterPick (class_rota v.sched c) (pick_of_class v.sched c ready) (class_rota u c) →
-        u ≡ with_class_rota v.sched c (class_rota u c) → Meets w bodies (Asked (Pull c)) (record v { sched = u }) (Refused Idle) }
-    ensures turn { (v : TransmitValue) (w : World) (bodies : ℕ → FrameValue) → Parts v w bodies → (s : ℕ) (c : Class) (t : ℕ) → s < w.config.stations →
-        Parts (record v { members = on_member v.members s (with_upper c (t == lower_tid c)) }) (after_tid_turn w s c t) bodies }
-    ensures opens { (v : TransmitValue) (w : World) (bodies : ℕ → FrameValue) → Parts v w bodies → (x : Exchange) →
-        Parts (record v { exchanges = v.exchanges + 1; opened = v.opened ++ open_of x ∷ [] }) (with_exchange_opened w x) bodies }
-    ensures spent { (v : TransmitValue) (w : World) (bodies : ℕ → FrameValue) → Parts v w bodies → (s : ℕ) → s < w.config.stations →
-        Parts (record v { sleepers = with_sleeper v.sleepers s (record (sleeper v.sleepers s) { credit = None }) }) (without_credit w s) bodies }
-{}
-
 /// One window changes with the session that it stands for; one frame that is held goes last on the finished list.
 pub fn a_number_or_a_frame_changes()
     ensures window { (v : TransmitValue) (w : World) (bodies : ℕ → FrameValue) (s t : ℕ) (f : Session → Session) (x : WindowValue) →
@@ -311,45 +292,6 @@ pub fn the_counts_follow()
         ledger (with_frames_finished w fate ids) ≡ record (ledger w) { counts = many_settled_as fate (length ids) (counts_in w) } }
     ensures limit { (w : World) → KeepsPlaces w →
         ledger (after_limit w) ≡ record (ledger w) { counts = with_overlimit (dropped_for_limit_in w) (counts_in w) } }
-{}
-
-/// A TID takes a frame out for its aggregate: CoDel may drop frames on the way, as many as the finished list grows by. In the
-/// world of a run each queued frame is held, and this stays so from one take to the next.
-pub fn a_take()
-    ensures begins { (v : TransmitValue) (w : World) (bodies : ℕ → FrameValue) → StandsFor v w bodies → QueuesAreHeld v.flows.backlog w }
-    ensures parts { (v : TransmitValue) (w : World) (bodies : ℕ → FrameValue) (s t : ℕ) → Parts v w bodies → QueuesAreHeld v.flows.backlog w →
-        is_live w s ≡ true → t < 8 →
-        (d : ℕ) → length (taken_for_tid v.flows (tid_number s t) w.clock (codel_params w s)).flows.backlog.finished ≡ length v.flows.backlog.finished + d →
-        Parts (record v { flows = (taken_for_tid v.flows (tid_number s t) w.clock (codel_params w s)).flows; tally = many_settled_as (Dropped By_codel) d v.tally })
-        (world_take w s t).world bodies }
-    ensures held { (v : TransmitValue) (w : World) (bodies : ℕ → FrameValue) (s t : ℕ) → Parts v w bodies → QueuesAreHeld v.flows.backlog w →
-        is_live w s ≡ true → t < 8 →
-        QueuesAreHeld (taken_for_tid v.flows (tid_number s t) w.clock (codel_params w s)).flows.backlog (world_take w s t).world }
-{}
-
-/// What a pull is made of. It leads through these worlds: the pick, the turn, what is prepared, the exchange that opens, and a
-/// credit that is spent. A request is prepared where one is due, else an aggregate, whose numbers fly; it ends with a fresh
-/// frame that does not fit, which has its number already, or where the TID can give none. What leaves the flow queues' part
-/// leaves their frames held.
-pub fn a_pull_is_made_of_these()
-    ensures world { (w : World) (c : Class) (s : ℕ) → (picked_station w c).winner ≡ Some s →
-        let u : World = after_pick w c in
-        let t : ℕ = sending_tid u s c in
-        let p : Prepared = prepared_exchange (after_tid_turn u s c t) s t in
-        (pull_outcome w c).world ≡ without_credit (with_exchange_opened p.world (exchange_of s t c p)) s }
-    ensures request { (w : World) (s t : ℕ) → request_due (session w s t) ≡ true → prepared_exchange w s t ≡ prepared_request w s t }
-    ensures data { (w : World) (s t : ℕ) → request_due (session w s t) ≡ false → prepared_exchange w s t ≡ prepared_data s t (aggregate_of w s t) }
-    ensures flies { (s t : ℕ) (f : Aggregate) → (prepared_data s t f).world ≡ on_session f.world s t (with_flying f.world.exchanges f.mpdus) }
-    ensures full { (w : World) (s t : ℕ) (mpdus : List Mpdu) → with_fresh 0 w s t mpdus ≡ record { world = w; mpdus = mpdus } }
-    ensures none { (n : ℕ) (w : World) (s t : ℕ) (mpdus : List Mpdu) → can_give w s t ≡ false →
-        with_fresh n w s t mpdus ≡ record { world = w; mpdus = mpdus } }
-    ensures fits { (n : ℕ) (w : World) (s t : ℕ) (mpdus : List Mpdu) → can_give w s t ≡ true →
-        fits_in w s (mpdus ++ fresh_mpdus w s t (world_take w s t).item) ≡ true →
-        with_fresh (suc n) w s t mpdus ≡ with_fresh n (with_number (world_take w s t).world s t (world_take w s t).item) s t (mpdus ++ fresh_mpdus w s t (world_take w s t).item) }
-    ensures too_long { (n : ℕ) (w : World) (s t : ℕ) (mpdus : List Mpdu) → can_give w s t ≡ true →
-        fits_in w s (mpdus ++ fresh_mpdus w s t (world_take w s t).item) ≡ false →
-        with_fresh (suc n) w s t mpdus ≡ record { world = with_number (world_take w s t).world s t (world_take w s t).item; mpdus = mpdus } }
-    ensures held { (b : BacklogValue) (w u : World) → part u ≡ part w → QueuesAreHeld b w → QueuesAreHeld b u }
 {}
 
 /// A station leaves. TID by TID the frames that its window gives are finished as Left, one after the other, and then its flow
