@@ -16,3 +16,4 @@ pub mod Enqueues
 pub mod Closes
 pub mod Moves
 pub mod Settles
+pub mod Pulls

@@ -4,3 +4,4 @@ pub mod Views
 pub mod Changes
 pub mod Counting
 pub mod Ending
+pub mod Pulling

@@ -13,22 +13,23 @@ ghost use Rattle.wf_frame.specs.Frames.{FrameValue};
 ghost use Rattle.wf_frame.specs.Settings.{IsInRange};
 ghost use Rattle.wf_frame.specs.declared.classes.Class.{Class};
 ghost use Rattle.wf_frame.specs.declared.classes.Fate.TheVariants.{Held};
-ghost use Rattle.wf_frame.specs.declared.notes.Ask.TheVariants.{Join, Rate, Tick, Arrive, Answer, Sleep, Wake, Poll, Rx, Reap};
+ghost use Rattle.wf_frame.specs.declared.notes.Ask.TheVariants.{Join, Rate, Tick, Pull, Arrive, Answer, Sleep, Wake, Poll, Rx, Reap};
 ghost use Rattle.wf_frame.specs.declared.notes.Note.{Note};
 ghost use Rattle.wf_frame.specs.declared.notes.Note.TheVariants.{Enqueue, Asked};
 ghost use Rattle.wf_frame.specs.declared.notes.Refusal.{Refusal};
 ghost use Rattle.wf_frame.specs.declared.notes.Refusal.TheVariants.{Idle};
-ghost use Rattle.wf_frame.specs.declared.notes.ReplyNote.TheVariants.{Accepted, Joined, RateSet, Ticked, Slept, Woken, Credited, Charged, Reaped, Refused};
+ghost use Rattle.wf_frame.specs.declared.notes.ReplyNote.TheVariants.{Accepted, Joined, RateSet, Ticked, Slept, Woken, Credited, Send, Charged, Reaped, Refused};
 ghost use Rattle.wf_frame.specs.declared.settings.Config.{Config};
 ghost use Rattle.wf_rules.specs.Lengths.{greatest_body};
 ghost use Rattle.wf_rules.specs.Receiver.{Receiver};
 ghost use Rattle.wf_rules.specs.Rotation.{Rotation, has_key};
 ghost use Rattle.wf_rules.specs.Session.{Session, request_due};
-ghost use Rattle.wf_world.specs.World.{World, Station, Tid, Share, Queue, Exchange, opening, is_live, session, rotation, exchange, with_station, on_station, on_tid, on_session, on_receiver, on_share, on_queue, with_queues, with_rotation};
+ghost use Rattle.wf_world.specs.World.{World, Station, Tid, Share, Queue, Exchange, opening, is_live, is_wide, session, rotation, exchange, with_station, on_station, on_tid, on_session, on_receiver, on_share, on_queue, with_queues, with_rotation};
 ghost use Rattle.wf_world.specs.FlowQueues.{frames_queued as world_queued};
 ghost use Rattle.wf_world.specs.CanSend.{request_open, has_waiting, can_send, can_send_in, is_ready, with_listings_of};
+ghost use Rattle.wf_world.specs.Exchanges.{Prepared, sending_tid, after_pick, after_tid_turn, part_of};
 ghost use Rattle.wf_world.specs.Refusals.{refusal, open_of_station, open_of_class};
-ghost use Rattle.wf_world.specs.Step.{outcome_of, concerned_station, class_to_send, step};
+ghost use Rattle.wf_world.specs.Step.{outcome_of, concerned_station, class_to_send, send_outcome, step};
 ghost use Rattle.wf_laws.specs.Queues.{HasLength, IsAtMost};
 ghost use Rattle.wf_flowq.specs.Flows.{tid_number, frames_queued, dropped_for_limit};
 ghost use Rattle.wf_flowq_refines.specs.Frames.{with_body};
@@ -36,14 +37,16 @@ ghost use Rattle.wf_flowq_refines.specs.Standing.{with_finished};
 ghost use Rattle.wf_flowq_refines.specs.Rest.{rest};
 ghost use Rattle.wf_sched.specs.ClassRotas.{SchedValue, deficit, after_join};
 ghost use Rattle.wf_sched_refines.specs.Standing.{StandsFor as TurnsStandFor, LeavesRotas, everywhere, with_charge};
+ghost use Rattle.wf_sched_refines.specs.Calls.{HasPicked};
 ghost use Rattle.wf_origwin.specs.Window.{WindowValue};
 ghost use Rattle.wf_windows.specs.Windows.{window_of};
 ghost use Rattle.wf_exchanges.specs.Exchanges.{asks};
 ghost use Rattle.wf_members.specs.Members.{member, on_member, new_member, with_rate, with_receipt};
 ghost use Rattle.wf_powersave.specs.Sleepers.{sleeper, with_sleeper, awake};
 ghost use Rattle.wf_transmit_refines.specs.Half.{TransmitValue, opening_half, some_wait, can_send_of, is_ready_of};
-ghost use Rattle.wf_transmit_refines.specs.Standing.{open_of, HasWindows, Parts, IsReached, StandsFor, Meets};
+ghost use Rattle.wf_transmit_refines.specs.Standing.{open_of, sending_of, HasWindows, Parts, IsReached, StandsFor, Meets};
 ghost use Rattle.wf_transmit_refines.specs.Changes.{after_listing, AreReset, after_enqueue};
+ghost use Rattle.wf_transmit_refines.specs.Pulling.{sending_tid_of, after_turn, is_wide_of, open_next, after_sending};
 ghost use Rattle.wf_transmit_refines.specs.Views.{agreements, roster, ledger, HasSameViews, KeepsView, KeepsSums};
 
 /// A new half stands for the opening world, whatever frames are to come.
@@ -184,4 +187,32 @@ pub fn an_enqueue()
         f.id ≡ v.tally.accepted → f.stamp ≡ v.clock → f.fate ≡ Held → 1 ≤ length f.body → length f.body ≤ greatest_body →
         Meets w (with_body bodies f) (Enqueue f.station f.tid f.flow (length f.body))
         (after_listing (after_enqueue v f) f.station) (Accepted f.id (dropped_for_limit v.flows)) }
+{}
+
+/// A pull that finds nobody ready is refused, but its pick is done: the class's lists and the deficits change.
+pub fn a_pull_that_finds_nobody()
+    ensures { (v : TransmitValue) (w : World) (bodies : ℕ → FrameValue) → StandsFor v w bodies → (c : Class) (turns : SchedValue) →
+        refusal w (Asked (Pull c)) ≡ Some Idle → HasPicked w c v.sched turns →
+        Meets w bodies (Asked (Pull c)) (record v { sched = turns }) (Refused Idle) }
+{}
+
+/// A pull begins: a station is picked, and the TID of the class that sends gives the turn to the other one.
+pub fn a_pull_begins()
+    ensures pick { (v : TransmitValue) (w : World) (bodies : ℕ → FrameValue) (c : Class) (turns : SchedValue) → HasPicked w c v.sched turns →
+        Parts v w bodies → Parts (record v { sched = turns }) (after_pick w c) bodies }
+    ensures sends { (v : TransmitValue) (w : World) (bodies : ℕ → FrameValue) (s : ℕ) (c : Class) → Parts v w bodies → is_live w s ≡ true →
+        sending_tid_of v s c ≡ sending_tid w s c }
+    ensures turn { (v : TransmitValue) (w : World) (bodies : ℕ → FrameValue) (s : ℕ) (c : Class) (t : ℕ) → s < w.config.stations →
+        Parts v w bodies → Parts (after_turn v s c t) (after_tid_turn w s c t) bodies }
+{}
+
+/// What is prepared goes on the air: the half that stood for the world in which it is prepared stands for the one in which it
+/// is sent, and the reply tells of the exchange that the half opened.
+pub fn an_exchange_is_sent()
+    ensures sent { (v : TransmitValue) (bodies : ℕ → FrameValue) (s t : ℕ) (c : Class) (p : Prepared) → Parts v p.world bodies → is_live p.world s ≡ true →
+        Parts (after_sending v s t c p.charge (sending_of p.content)) (send_outcome s t c p).world bodies }
+    ensures reply { (v : TransmitValue) (bodies : ℕ → FrameValue) (s t : ℕ) (c : Class) (p : Prepared) → Parts v p.world bodies → is_live p.world s ≡ true →
+        Send v.exchanges s t p.charge (part_of p.content) (open_next v s t c p.charge (sending_of p.content)).more ≡ (send_outcome s t c p).reply }
+    ensures wide { (v : TransmitValue) (w : World) (bodies : ℕ → FrameValue) (s t : ℕ) → Parts v w bodies → is_live w s ≡ true → t < 8 →
+        is_wide_of v s t ≡ is_wide w s t }
 {}
