@@ -17,3 +17,4 @@ pub mod Closes
 pub mod Moves
 pub mod Settles
 pub mod Pulls
+pub mod Flies

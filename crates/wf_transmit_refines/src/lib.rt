@@ -7,7 +7,7 @@
 //! function without a body that names it in its contract.
 #![tactic(auto)]
 
-ghost use Rattle.std.specs.Prelude.{◌≡◌, ◌<◌, ◌≤◌, ℕ, ◌+◌, ◌-◌, ◌*◌, ◌==◌, ◌||◌, pos, ◌-ℤ◌, Bool, true, List, [], ◌∷◌, Option, Some, None, is_some, option_map, map, find, count_by, set, length};
+ghost use Rattle.std.specs.Prelude.{◌≡◌, ◌<◌, ◌≤◌, ℕ, ◌+◌, ◌-◌, ◌*◌, ◌%◌, ◌==◌, ◌||◌, pos, ◌-ℤ◌, Bool, true, List, [], ◌∷◌, Option, Some, None, is_some, option_map, map, find, count_by, set, length};
 ghost use Rattle.wf_frame.specs.Classes.{lower_tid, upper_tid, same_class};
 ghost use Rattle.wf_frame.specs.Frames.{FrameValue};
 ghost use Rattle.wf_frame.specs.Settings.{IsInRange};
@@ -23,11 +23,11 @@ ghost use Rattle.wf_frame.specs.declared.settings.Config.{Config};
 ghost use Rattle.wf_rules.specs.Lengths.{greatest_body};
 ghost use Rattle.wf_rules.specs.Receiver.{Receiver};
 ghost use Rattle.wf_rules.specs.Rotation.{Rotation, has_key};
-ghost use Rattle.wf_rules.specs.Session.{Session, request_due};
-ghost use Rattle.wf_world.specs.World.{World, Station, Tid, Share, Queue, Exchange, opening, is_live, is_wide, session, rotation, exchange, with_station, on_station, on_tid, on_session, on_receiver, on_share, on_queue, with_queues, with_rotation};
+ghost use Rattle.wf_rules.specs.Session.{Session, State, slot, request_due, with_state};
+ghost use Rattle.wf_world.specs.World.{World, Station, Tid, Share, Queue, Mpdu, Exchange, opening, is_live, is_wide, session, rotation, exchange, with_station, on_station, on_tid, on_session, on_receiver, on_share, on_queue, with_queues, with_rotation};
 ghost use Rattle.wf_world.specs.FlowQueues.{frames_queued as world_queued};
 ghost use Rattle.wf_world.specs.CanSend.{request_open, has_waiting, can_send, can_send_in, is_ready, with_listings_of};
-ghost use Rattle.wf_world.specs.Exchanges.{Prepared, sending_tid, after_pick, after_tid_turn, part_of};
+ghost use Rattle.wf_world.specs.Exchanges.{Aggregate, Prepared, prepared_data, sending_tid, after_pick, after_tid_turn, part_of};
 ghost use Rattle.wf_world.specs.Refusals.{refusal, open_of_station, open_of_class};
 ghost use Rattle.wf_world.specs.Step.{outcome_of, concerned_station, class_to_send, send_outcome, step};
 ghost use Rattle.wf_laws.specs.Queues.{HasLength, IsAtMost};
@@ -38,8 +38,8 @@ ghost use Rattle.wf_flowq_refines.specs.Rest.{rest};
 ghost use Rattle.wf_sched.specs.ClassRotas.{SchedValue, deficit, after_join};
 ghost use Rattle.wf_sched_refines.specs.Standing.{StandsFor as TurnsStandFor, LeavesRotas, everywhere, with_charge};
 ghost use Rattle.wf_sched_refines.specs.Calls.{HasPicked};
-ghost use Rattle.wf_origwin.specs.Window.{WindowValue};
-ghost use Rattle.wf_windows.specs.Windows.{window_of};
+ghost use Rattle.wf_origwin.specs.Window.{WindowValue, StandsFor as WindowStandsFor, IsNumber, state_at};
+ghost use Rattle.wf_windows.specs.Windows.{HaveRoom, window_of, with_window};
 ghost use Rattle.wf_exchanges.specs.Exchanges.{asks};
 ghost use Rattle.wf_members.specs.Members.{member, on_member, new_member, with_rate, with_receipt};
 ghost use Rattle.wf_powersave.specs.Sleepers.{sleeper, with_sleeper, awake};
@@ -47,6 +47,7 @@ ghost use Rattle.wf_transmit_refines.specs.Half.{TransmitValue, opening_half, so
 ghost use Rattle.wf_transmit_refines.specs.Standing.{open_of, sending_of, HasWindows, Parts, IsReached, StandsFor, Meets};
 ghost use Rattle.wf_transmit_refines.specs.Changes.{after_listing, AreReset, after_enqueue};
 ghost use Rattle.wf_transmit_refines.specs.Pulling.{sending_tid_of, after_turn, is_wide_of, open_next, after_sending};
+ghost use Rattle.wf_transmit_refines.specs.Filling.{AreWaiting, IsTakingOff};
 ghost use Rattle.wf_transmit_refines.specs.Views.{agreements, roster, ledger, HasSameViews, KeepsView, KeepsSums};
 
 /// A new half stands for the opening world, whatever frames are to come.
@@ -215,4 +216,23 @@ pub fn an_exchange_is_sent()
         Send v.exchanges s t p.charge (part_of p.content) (open_next v s t c p.charge (sending_of p.content)).more ≡ (send_outcome s t c p).reply }
     ensures wide { (v : TransmitValue) (w : World) (bodies : ℕ → FrameValue) (s t : ℕ) → Parts v w bodies → is_live w s ≡ true → t < 8 →
         is_wide_of v s t ≡ is_wide w s t }
+{}
+
+/// The numbers of an aggregate take off, one after the other. Each of them still waits when its turn comes, with its own frame;
+/// where its window stands for the session in which it flies, those behind it are next, and at the end all fly.
+pub fn the_numbers_take_off()
+    ensures begins { (v : TransmitValue) (a : Aggregate) (bodies : ℕ → FrameValue) (s t : ℕ) → Parts v a.world bodies → is_live a.world s ≡ true → t < 8 →
+        AreWaiting (session a.world s t) bodies a.mpdus → IsTakingOff v a.world bodies s t a.world.exchanges a.mpdus (prepared_data s t a).world }
+    ensures number { (v : TransmitValue) (w : World) (bodies : ℕ → FrameValue) (s t e : ℕ) (m : Mpdu) (ms : List Mpdu) (after : World) →
+        IsTakingOff v w bodies s t e (m ∷ ms) after → (seq : ℕ) → seq ≡ m.number % 4096 → IsNumber (session w s t) m.number seq }
+    ensures waits { (v : TransmitValue) (w : World) (bodies : ℕ → FrameValue) (s t e : ℕ) (m : Mpdu) (ms : List Mpdu) (after : World) →
+        IsTakingOff v w bodies s t e (m ∷ ms) after → (seq : ℕ) → seq ≡ m.number % 4096 → state_at (window_of v.windows s t) seq ≡ State.Waiting }
+    ensures frame { (v : TransmitValue) (w : World) (bodies : ℕ → FrameValue) (s t e : ℕ) (m : Mpdu) (ms : List Mpdu) (after : World) →
+        IsTakingOff v w bodies s t e (m ∷ ms) after → (bodies (slot (session w s t) m.number).id).id ≡ m.id }
+    ensures next { (v : TransmitValue) (w : World) (bodies : ℕ → FrameValue) (s t e : ℕ) (m : Mpdu) (ms : List Mpdu) (after : World) →
+        IsTakingOff v w bodies s t e (m ∷ ms) after → (x : WindowValue) → HaveRoom (with_window v.windows s t x) →
+        WindowStandsFor x (with_state (State.Flying e) m.number (session w s t)) bodies →
+        IsTakingOff (record v { windows = with_window v.windows s t x }) (on_session w s t (with_state (State.Flying e) m.number)) bodies s t e ms after }
+    ensures ends { (v : TransmitValue) (w : World) (bodies : ℕ → FrameValue) (s t e : ℕ) (after : World) →
+        IsTakingOff v w bodies s t e [] after → Parts v after bodies }
 {}
