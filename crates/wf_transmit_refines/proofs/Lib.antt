@@ -18,3 +18,5 @@ pub mod Moves
 pub mod Settles
 pub mod Pulls
 pub mod Flies
+pub mod Takes
+pub mod Gives

@@ -7,7 +7,7 @@
 //! function without a body that names it in its contract.
 #![tactic(auto)]
 
-ghost use Rattle.std.specs.Prelude.{◌≡◌, ◌<◌, ◌≤◌, ℕ, ◌+◌, ◌-◌, ◌*◌, ◌%◌, ◌==◌, ◌||◌, pos, ◌-ℤ◌, Bool, true, List, [], ◌∷◌, Option, Some, None, is_some, option_map, map, find, count_by, set, length};
+ghost use Rattle.std.specs.Prelude.{◌≡◌, ◌<◌, ◌≤◌, ℕ, ◌+◌, ◌-◌, ◌*◌, ◌%◌, ◌==◌, ◌||◌, pos, ◌-ℤ◌, Bool, true, false, List, [], ◌∷◌, Option, Some, None, is_some, option_map, map, find, count_by, set, length, ◌&&◌, ◌++◌, nat_lt};
 ghost use Rattle.wf_frame.specs.Classes.{lower_tid, upper_tid, same_class};
 ghost use Rattle.wf_frame.specs.Frames.{FrameValue};
 ghost use Rattle.wf_frame.specs.Settings.{IsInRange};
@@ -20,25 +20,28 @@ ghost use Rattle.wf_frame.specs.declared.notes.Refusal.{Refusal};
 ghost use Rattle.wf_frame.specs.declared.notes.Refusal.TheVariants.{Idle};
 ghost use Rattle.wf_frame.specs.declared.notes.ReplyNote.TheVariants.{Accepted, Joined, RateSet, Ticked, Slept, Woken, Credited, Send, Charged, Reaped, Refused};
 ghost use Rattle.wf_frame.specs.declared.settings.Config.{Config};
+ghost use Rattle.wf_rules.specs.Codel.{Params};
+ghost use Rattle.wf_rules.specs.Fit.{fits};
 ghost use Rattle.wf_rules.specs.Lengths.{greatest_body};
 ghost use Rattle.wf_rules.specs.Receiver.{Receiver};
 ghost use Rattle.wf_rules.specs.Rotation.{Rotation, has_key};
-ghost use Rattle.wf_rules.specs.Session.{Session, State, slot, request_due, with_state};
-ghost use Rattle.wf_world.specs.World.{World, Station, Tid, Share, Queue, Mpdu, Exchange, opening, is_live, is_wide, session, rotation, exchange, with_station, on_station, on_tid, on_session, on_receiver, on_share, on_queue, with_queues, with_rotation};
+ghost use Rattle.wf_rules.specs.Session.{Session, State, slot, request_due, with_state, next_number, with_number_given};
+ghost use Rattle.wf_world.specs.World.{World, Station, Tid, Share, Queue, Mpdu, Exchange, opening, is_live, is_wide, session, rotation, exchange, with_station, on_station, on_tid, on_session, on_receiver, on_share, on_queue, with_queues, with_rotation, codel_params};
 ghost use Rattle.wf_world.specs.FlowQueues.{frames_queued as world_queued};
 ghost use Rattle.wf_world.specs.CanSend.{request_open, has_waiting, can_send, can_send_in, is_ready, with_listings_of};
-ghost use Rattle.wf_world.specs.Exchanges.{Aggregate, Prepared, prepared_data, sending_tid, after_pick, after_tid_turn, part_of};
+ghost use Rattle.wf_world.specs.Exchanges.{Aggregate, Prepared, prepared_data, sending_tid, after_pick, after_tid_turn, part_of, lens_of};
 ghost use Rattle.wf_world.specs.Refusals.{refusal, open_of_station, open_of_class};
 ghost use Rattle.wf_world.specs.Step.{outcome_of, concerned_station, class_to_send, send_outcome, step};
 ghost use Rattle.wf_laws.specs.Queues.{HasLength, IsAtMost};
-ghost use Rattle.wf_flowq.specs.Flows.{tid_number, frames_queued, dropped_for_limit};
+ghost use Rattle.wf_ampdu.specs.Rooms.{RoomValue, StandsFor as RoomStandsFor};
+ghost use Rattle.wf_flowq.specs.Flows.{tid_number, frames_queued, dropped_for_limit, taken_for_tid};
 ghost use Rattle.wf_flowq_refines.specs.Frames.{with_body};
 ghost use Rattle.wf_flowq_refines.specs.Standing.{with_finished};
 ghost use Rattle.wf_flowq_refines.specs.Rest.{rest};
 ghost use Rattle.wf_sched.specs.ClassRotas.{SchedValue, deficit, after_join};
 ghost use Rattle.wf_sched_refines.specs.Standing.{StandsFor as TurnsStandFor, LeavesRotas, everywhere, with_charge};
 ghost use Rattle.wf_sched_refines.specs.Calls.{HasPicked};
-ghost use Rattle.wf_origwin.specs.Window.{WindowValue, StandsFor as WindowStandsFor, IsNumber, state_at};
+ghost use Rattle.wf_origwin.specs.Window.{WindowValue, StandsFor as WindowStandsFor, IsNumber, state_at, can_take, on_air};
 ghost use Rattle.wf_windows.specs.Windows.{HaveRoom, window_of, with_window};
 ghost use Rattle.wf_exchanges.specs.Exchanges.{asks};
 ghost use Rattle.wf_members.specs.Members.{member, on_member, new_member, with_rate, with_receipt};
@@ -47,7 +50,7 @@ ghost use Rattle.wf_transmit_refines.specs.Half.{TransmitValue, opening_half, so
 ghost use Rattle.wf_transmit_refines.specs.Standing.{open_of, sending_of, HasWindows, Parts, IsReached, StandsFor, Meets};
 ghost use Rattle.wf_transmit_refines.specs.Changes.{after_listing, AreReset, after_enqueue};
 ghost use Rattle.wf_transmit_refines.specs.Pulling.{sending_tid_of, after_turn, is_wide_of, open_next, after_sending};
-ghost use Rattle.wf_transmit_refines.specs.Filling.{AreWaiting, IsTakingOff};
+ghost use Rattle.wf_transmit_refines.specs.Filling.{AreWaiting, IsTakingOff, with_one_fresh, IsFilling, IsFilled, after_giving, fresh_mpdu};
 ghost use Rattle.wf_transmit_refines.specs.Views.{agreements, roster, ledger, HasSameViews, KeepsView, KeepsSums};
 
 /// A new half stands for the opening world, whatever frames are to come.
@@ -216,6 +219,35 @@ pub fn an_exchange_is_sent()
         Send v.exchanges s t p.charge (part_of p.content) (open_next v s t c p.charge (sending_of p.content)).more ≡ (send_outcome s t c p).reply }
     ensures wide { (v : TransmitValue) (w : World) (bodies : ℕ → FrameValue) (s t : ℕ) → Parts v w bodies → is_live w s ≡ true → t < 8 →
         is_wide_of v s t ≡ is_wide w s t }
+{}
+
+/// Fresh frames are given, one after the other, while there is room for one and the TID can give one. A frame is taken out by the
+/// parameters of the station's rate, those that CoDel drops are counted, and it gets the next number. Where it fits, the
+/// aggregate goes on with it; where not, it waits with its number, and the aggregate is filled without it.
+pub fn fresh_frames_are_given()
+    ensures full { (v : TransmitValue) (w : World) (bodies : ℕ → FrameValue) (s t : ℕ) (room : RoomValue) (numbers : List ℕ) (mpdus : List Mpdu) (after : Aggregate) →
+        IsFilling v w bodies s t room numbers mpdus after → room.agg ≤ length numbers → IsFilled v bodies s t room numbers after }
+    ensures idle { (v : TransmitValue) (w : World) (bodies : ℕ → FrameValue) (s t : ℕ) (room : RoomValue) (numbers : List ℕ) (mpdus : List Mpdu) (after : Aggregate) →
+        IsFilling v w bodies s t room numbers mpdus after → (nat_lt 0 (frames_queued v.flows (tid_number s t)) && can_take (window_of v.windows s t)) ≡ false →
+        IsFilled v bodies s t room numbers after }
+    ensures own { (v : TransmitValue) (w : World) (bodies : ℕ → FrameValue) (s t : ℕ) (room : RoomValue) (numbers : List ℕ) (mpdus : List Mpdu) (after : Aggregate) →
+        IsFilling v w bodies s t room numbers mpdus after → (params : Params) → params ≡ codel_params w s →
+        (f : FrameValue) → (taken_for_tid v.flows (tid_number s t) v.clock params).frame ≡ Some f → f ≡ bodies f.id }
+    ensures goes_on { (v : TransmitValue) (w : World) (bodies : ℕ → FrameValue) (s t : ℕ) (room : RoomValue) (numbers : List ℕ) (mpdus : List Mpdu) (after : Aggregate) →
+        IsFilling v w bodies s t room numbers mpdus after → (params : Params) → params ≡ codel_params w s →
+        (f : FrameValue) → (taken_for_tid v.flows (tid_number s t) v.clock params).frame ≡ Some f →
+        (x : WindowValue) → HaveRoom (with_window v.windows s t x) → WindowStandsFor x (with_number_given (session w s t) f.id) bodies →
+        length numbers < room.agg → (nat_lt 0 (frames_queued v.flows (tid_number s t)) && can_take (window_of v.windows s t)) ≡ true →
+        (more : RoomValue) → fits room.rate room.exponent room.agg room.cap (lens_of mpdus ++ length f.body ∷ []) ≡ true →
+        more ≡ record room { count = more.count; octets = more.octets } → RoomStandsFor more (lens_of mpdus ++ length f.body ∷ []) →
+        IsFilling (after_giving v s t params x) (with_one_fresh w s t) bodies s t more (numbers ++ on_air (next_number (session w s t)) ∷ []) (mpdus ++ fresh_mpdu w s t f ∷ []) after }
+    ensures stops { (v : TransmitValue) (w : World) (bodies : ℕ → FrameValue) (s t : ℕ) (room : RoomValue) (numbers : List ℕ) (mpdus : List Mpdu) (after : Aggregate) →
+        IsFilling v w bodies s t room numbers mpdus after → (params : Params) → params ≡ codel_params w s →
+        (f : FrameValue) → (taken_for_tid v.flows (tid_number s t) v.clock params).frame ≡ Some f →
+        (x : WindowValue) → HaveRoom (with_window v.windows s t x) → WindowStandsFor x (with_number_given (session w s t) f.id) bodies →
+        length numbers < room.agg → (nat_lt 0 (frames_queued v.flows (tid_number s t)) && can_take (window_of v.windows s t)) ≡ true →
+        fits room.rate room.exponent room.agg room.cap (lens_of mpdus ++ length f.body ∷ []) ≡ false →
+        IsFilled (after_giving v s t params x) bodies s t room numbers after }
 {}
 
 /// The numbers of an aggregate take off, one after the other. Each of them still waits when its turn comes, with its own frame;
