@@ -60,7 +60,7 @@ later_wait y bodies e n lo (m ∷ ms) from past rising h =
     let same : slot (with_state (State.Flying e) n y) m.number ≡ slot y m.number = at_change_other y.slots (n - y.first) (m.number - y.first) (λ x. record x { state = State.Flying e }) other in
     (record { waits = ap (λ (x : Slot). x.state) same ∙ h.0.waits; carries = ap (λ (x : Slot). x.id) same ∙ h.0.carries; frame = h.0.frame }, later_wait y bodies e n (suc m.number) ms from (omega (arith, rising.0)) rising.1 h.1)
 
-rises_past : (lo hi : ℕ) (ns : List ℕ) → lo ≤ hi → IsRising hi ns → IsRising lo ns
+pub rises_past : (lo hi : ℕ) (ns : List ℕ) → lo ≤ hi → IsRising hi ns → IsRising lo ns
 rises_past lo hi [] h rising = tt
 rises_past lo hi (n ∷ ns) h rising = (omega (arith, rising.0), rising.1)
 

@@ -45,10 +45,10 @@ use Rattle.wf_transmit_refines.proofs.Takes.{take_parts}
 
 -- ---- where the frames are
 
-record Placed (w : World) : Type 0 where
-  named : List ℕ
-  placing : Placing named w
-  fresh : Fresh w
+pub record Placed (w : World) : Type 0 where
+  pub named : List ℕ
+  pub placing : Placing named w
+  pub fresh : Fresh w
 
 placed_reached : (w : World) → IsReached w → Placed w
 placed_reached w r =
@@ -68,7 +68,7 @@ placed_fresh (suc n) w s t p =
     let a = safe_numbered before.named (with_so_many_fresh n w s t) s t before.placing before.fresh in
     record { named = before.named; placing = a.placing; fresh = a.fresh }
 
-placed : (w : World) (s t : ℕ) → IsUnderway w s t → Placed w
+pub placed : (w : World) (s t : ℕ) → IsUnderway w s t → Placed w
 placed w s t u = subst Placed u.is (placed_fresh u.given (after_tid_turn (after_pick u.before u.class) s u.class t) s t (placed_turned u.before s t u.class (placed_reached u.before u.reached)))
 
 pub one_more_fresh : (w : World) (s t : ℕ) → IsUnderway w s t → IsUnderway (with_one_fresh w s t) s t
@@ -76,7 +76,7 @@ one_more_fresh w s t u = record { before = u.before; reached = u.reached; class 
 
 -- ---- waiting numbers, and a fresh one behind them
 
-given_below : (xs : List Slot) (k : ℕ) → (at no_slot xs k).state ≡ State.Waiting → k < length xs
+pub given_below : (xs : List Slot) (k : ℕ) → (at no_slot xs k).state ≡ State.Waiting → k < length xs
 given_below [] k h = absurd (cc h)
 given_below (x ∷ xs) zero h = omega arith
 given_below (x ∷ xs) (suc k) h = omega (arith, given_below xs k h)
@@ -159,11 +159,11 @@ room_kept room more w u s t mpdus longer same kept lens h = record {
 
 -- ---- the world's loop
 
-if_first : (b : Bool) (x y : Aggregate) → b ≡ true → (if b then x else y) ≡ x
+pub if_first : (b : Bool) (x y : Aggregate) → b ≡ true → (if b then x else y) ≡ x
 if_first true x y e = refl
 if_first false x y e = absurd (cc e)
 
-if_second : (b : Bool) (x y : Aggregate) → b ≡ false → (if b then x else y) ≡ y
+pub if_second : (b : Bool) (x y : Aggregate) → b ≡ false → (if b then x else y) ≡ y
 if_second true x y e = absurd (cc e)
 if_second false x y e = refl
 

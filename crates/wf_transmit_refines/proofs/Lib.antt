@@ -20,3 +20,4 @@ pub mod Pulls
 pub mod Flies
 pub mod Takes
 pub mod Gives
+pub mod Fills

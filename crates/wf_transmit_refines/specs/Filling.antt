@@ -9,12 +9,13 @@ use Rattle.wf_rules.specs.Lists.{IsRising}
 use Rattle.wf_rules.specs.Session.{Session, State, slot, next_number, request_due}
 use Rattle.wf_world.specs.World.{World, Mpdu, is_live, station, session, is_wide, on_session}
 use Rattle.wf_world.specs.FlowQueues.{Taken, taken_for_tid}
-use Rattle.wf_world.specs.Exchanges.{Aggregate, after_pick, after_tid_turn, most_frames, lens_of, with_number, with_fresh, with_flying}
+use Rattle.wf_world.specs.Exchanges.{Aggregate, after_pick, after_tid_turn, most_frames, lens_of, fits_in, mpdu_of, with_number, with_fresh, with_flying}
 use Rattle.wf_laws.specs.Windows.{EachMpdu}
 use Rattle.wf_ampdu.specs.Rooms.{RoomValue, empty_room, StandsFor as RoomStandsFor}
 use Rattle.wf_fate.specs.Tally.{many_settled_as}
 use Rattle.wf_flowq.specs.Flows.{FlowsValue, tid_number, taken_for_tid as take_out}
-use Rattle.wf_origwin.specs.Window.{WindowValue}
+use Rattle.wf_origwin.specs.Listing.{HasListed}
+use Rattle.wf_origwin.specs.Window.{WindowValue, on_air}
 use Rattle.wf_windows.specs.Windows.{with_window}
 use Rattle.wf_transmit_refines.specs.Half.{TransmitValue}
 use Rattle.wf_transmit_refines.specs.Standing.{numbers_on_air, Parts, IsReached}
@@ -83,6 +84,23 @@ room_for w s t = empty_room (station w s).rate (station w s).exponent (most_fram
 pub record HasRoomFor (room : RoomValue) (w : World) (s t : ℕ) (mpdus : List Mpdu) : Type 0 where
   pub settings : room ≡ record (room_for w s t) { count = room.count; octets = room.octets }
   pub lens : RoomStandsFor room (lens_of mpdus)
+
+-- the half is to fill an aggregate for TID t of station s, of which no request is due
+pub record IsToFill (v : TransmitValue) (w : World) (bodies : ℕ → FrameValue) (s t : ℕ) : Type 0 where
+  pub parts : Parts v w bodies
+  pub live : is_live w s ≡ true
+  pub tid : t < 8
+  pub quiet : request_due (session w s t) ≡ false
+  pub underway : IsUnderway w s t
+
+-- In the middle of choosing: of the waiting numbers, which a window lists from its start on, these fit, and the others are listed
+-- from `from` on.
+pub record IsChoosing (room : RoomValue) (numbers : List ℕ) (from : ℕ) (w : World) (s t : ℕ) : Type 0 where
+  pub chosen : List ℕ
+  pub listed : HasListed (session w s t) chosen from
+  pub on_air : numbers ≡ map on_air chosen
+  pub room_is : HasRoomFor room w s t (map (mpdu_of w s t) chosen)
+  pub fit : 0 < length chosen → fits_in w s (map (mpdu_of w s t) chosen) ≡ true
 
 -- In the middle of filling: the half has these transmissions, all of which wait and fit; with the fresh frames that are still to
 -- come the aggregate is `after`. No request is due.

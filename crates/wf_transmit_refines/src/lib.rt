@@ -29,7 +29,7 @@ ghost use Rattle.wf_rules.specs.Session.{Session, State, slot, request_due, with
 ghost use Rattle.wf_world.specs.World.{World, Station, Tid, Share, Queue, Mpdu, Exchange, opening, is_live, is_wide, session, rotation, exchange, with_station, on_station, on_tid, on_session, on_receiver, on_share, on_queue, with_queues, with_rotation, codel_params};
 ghost use Rattle.wf_world.specs.FlowQueues.{frames_queued as world_queued};
 ghost use Rattle.wf_world.specs.CanSend.{request_open, has_waiting, can_send, can_send_in, is_ready, with_listings_of};
-ghost use Rattle.wf_world.specs.Exchanges.{Aggregate, Prepared, prepared_data, sending_tid, after_pick, after_tid_turn, part_of, lens_of};
+ghost use Rattle.wf_world.specs.Exchanges.{Aggregate, Prepared, prepared_data, sending_tid, after_pick, after_tid_turn, part_of, lens_of, mpdu_of, aggregate_of};
 ghost use Rattle.wf_world.specs.Refusals.{refusal, open_of_station, open_of_class};
 ghost use Rattle.wf_world.specs.Step.{outcome_of, concerned_station, class_to_send, send_outcome, step};
 ghost use Rattle.wf_laws.specs.Queues.{HasLength, IsAtMost};
@@ -41,7 +41,9 @@ ghost use Rattle.wf_flowq_refines.specs.Rest.{rest};
 ghost use Rattle.wf_sched.specs.ClassRotas.{SchedValue, deficit, after_join};
 ghost use Rattle.wf_sched_refines.specs.Standing.{StandsFor as TurnsStandFor, LeavesRotas, everywhere, with_charge};
 ghost use Rattle.wf_sched_refines.specs.Calls.{HasPicked};
-ghost use Rattle.wf_origwin.specs.Window.{WindowValue, StandsFor as WindowStandsFor, IsNumber, state_at, can_take, on_air};
+ghost use Rattle.wf_seq12.specs.Distance.{distance};
+ghost use Rattle.wf_origwin.specs.Listing.{IsListedNext};
+ghost use Rattle.wf_origwin.specs.Window.{WindowValue, StandsFor as WindowStandsFor, IsNumber, state_at, can_take, on_air, waiting_from};
 ghost use Rattle.wf_windows.specs.Windows.{HaveRoom, window_of, with_window};
 ghost use Rattle.wf_exchanges.specs.Exchanges.{asks};
 ghost use Rattle.wf_members.specs.Members.{member, on_member, new_member, with_rate, with_receipt};
@@ -50,7 +52,7 @@ ghost use Rattle.wf_transmit_refines.specs.Half.{TransmitValue, opening_half, so
 ghost use Rattle.wf_transmit_refines.specs.Standing.{open_of, sending_of, HasWindows, Parts, IsReached, StandsFor, Meets};
 ghost use Rattle.wf_transmit_refines.specs.Changes.{after_listing, AreReset, after_enqueue};
 ghost use Rattle.wf_transmit_refines.specs.Pulling.{sending_tid_of, after_turn, is_wide_of, open_next, after_sending};
-ghost use Rattle.wf_transmit_refines.specs.Filling.{AreWaiting, IsTakingOff, with_one_fresh, IsFilling, IsFilled, after_giving, fresh_mpdu};
+ghost use Rattle.wf_transmit_refines.specs.Filling.{AreWaiting, IsTakingOff, with_one_fresh, IsFilling, IsFilled, after_giving, fresh_mpdu, room_for, IsToFill, IsChoosing};
 ghost use Rattle.wf_transmit_refines.specs.Views.{agreements, roster, ledger, HasSameViews, KeepsView, KeepsSums};
 
 /// A new half stands for the opening world, whatever frames are to come.
@@ -219,6 +221,33 @@ pub fn an_exchange_is_sent()
         Send v.exchanges s t p.charge (part_of p.content) (open_next v s t c p.charge (sending_of p.content)).more ≡ (send_outcome s t c p).reply }
     ensures wide { (v : TransmitValue) (w : World) (bodies : ℕ → FrameValue) (s t : ℕ) → Parts v w bodies → is_live w s ≡ true → t < 8 →
         is_wide_of v s t ≡ is_wide w s t }
+{}
+
+/// The waiting numbers of an aggregate are chosen, as a window lists them, while they fit. Where one does not fit, the aggregate
+/// is filled by those before it; where all do, fresh frames come next.
+pub fn waiting_numbers_are_chosen()
+    ensures begins { (v : TransmitValue) (w : World) (bodies : ℕ → FrameValue) (s t : ℕ) → IsToFill v w bodies s t →
+        IsChoosing (room_for w s t) [] (window_of v.windows s t).start w s t }
+    ensures near { (v : TransmitValue) (w : World) (bodies : ℕ → FrameValue) (s t : ℕ) → IsToFill v w bodies s t →
+        (room : RoomValue) (numbers : List ℕ) (from : ℕ) → IsChoosing room numbers from w s t →
+        distance from (window_of v.windows s t).start ≤ length (window_of v.windows s t).places }
+    ensures length { (v : TransmitValue) (w : World) (bodies : ℕ → FrameValue) (s t : ℕ) → IsToFill v w bodies s t →
+        (room : RoomValue) (numbers : List ℕ) (from : ℕ) (so_far : IsChoosing room numbers from w s t) (seq : ℕ) (next : IsListedNext (session w s t) so_far.chosen seq) →
+        length (bodies (slot (session w s t) next.number).id).body ≡ (mpdu_of w s t next.number).len }
+    ensures goes_on { (v : TransmitValue) (w : World) (bodies : ℕ → FrameValue) (s t : ℕ) → IsToFill v w bodies s t →
+        (room : RoomValue) (numbers : List ℕ) (from : ℕ) (so_far : IsChoosing room numbers from w s t) (seq : ℕ) (next : IsListedNext (session w s t) so_far.chosen seq) →
+        (more : RoomValue) → fits room.rate room.exponent room.agg room.cap (lens_of (map (mpdu_of w s t) so_far.chosen) ++ (mpdu_of w s t next.number).len ∷ []) ≡ true →
+        more ≡ record room { count = more.count; octets = more.octets } →
+        RoomStandsFor more (lens_of (map (mpdu_of w s t) so_far.chosen) ++ (mpdu_of w s t next.number).len ∷ []) →
+        IsChoosing more (numbers ++ seq ∷ []) ((seq + 1) % 4096) w s t }
+    ensures stops { (v : TransmitValue) (w : World) (bodies : ℕ → FrameValue) (s t : ℕ) → IsToFill v w bodies s t →
+        (room : RoomValue) (numbers : List ℕ) (from : ℕ) (so_far : IsChoosing room numbers from w s t) (seq : ℕ) (next : IsListedNext (session w s t) so_far.chosen seq) →
+        fits room.rate room.exponent room.agg room.cap (lens_of (map (mpdu_of w s t) so_far.chosen) ++ (mpdu_of w s t next.number).len ∷ []) ≡ false →
+        IsFilled v bodies s t room numbers (aggregate_of w s t) }
+    ensures ends { (v : TransmitValue) (w : World) (bodies : ℕ → FrameValue) (s t : ℕ) → IsToFill v w bodies s t →
+        (room : RoomValue) (numbers : List ℕ) (from : ℕ) (so_far : IsChoosing room numbers from w s t) →
+        option_map on_air (waiting_from (session w s t) so_far.listed.number) ≡ None →
+        IsFilling v w bodies s t room numbers (map (mpdu_of w s t) so_far.chosen) (aggregate_of w s t) }
 {}
 
 /// Fresh frames are given, one after the other, while there is room for one and the TID can give one. A frame is taken out by the
