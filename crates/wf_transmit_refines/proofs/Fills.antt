@@ -92,14 +92,14 @@ module _ (v : TransmitValue) (w : World) (bodies : ℕ → FrameValue) (s t : �
 
   pub known_number : (n : ℕ) → y.first ≤ n → (slot y n).state ≡ State.Waiting → (slot y n).id < accepted_count w
   known_number n from waits =
-      let p : Placed w = placed w s t to.underway in
+      let p : Placed w = placed w s t to.turned.underway in
       (p.placing.numbered s t n from (omega (arith, from, given_below y.slots (n - y.first) waits))).old
 
   waits_there : (n : ℕ) → has (waiting_numbers y) n ≡ true → IsWaitingWith y bodies (g n)
   waits_there n h =
       let from : y.first ≤ n = omega (arith, low_of (start_of y) n (waiting_numbers y) (waiting_rise y) h, start_ge y.slots y.first) in
       let waits : (slot y n).state ≡ State.Waiting = waiting_is (slot y n).state (sym (waiting_exactly y n from) ∙ h) in
-      record { waits = waits; carries = refl; frame = (to.parts.others.notes (slot y n).id (known_number n from waits)).id }
+      record { waits = waits; carries = refl; frame = (to.turned.parts.others.notes (slot y n).id (known_number n from waits)).id }
 
   chosen_wait : (ns rest : List ℕ) → ns ++ rest ≡ waiting_numbers y → AreWaiting y bodies (map g ns)
   chosen_wait ns rest e = record {
@@ -111,7 +111,7 @@ module _ (v : TransmitValue) (w : World) (bodies : ℕ → FrameValue) (s t : �
   pub choosing_begins : IsChoosing (room_for w s t) [] (window_of v.windows s t).start w s t
   choosing_begins = record {
     chosen = [];
-    listed = listing_begins (window_of v.windows s t) y bodies (to.parts.windows.all.stands s t to.live to.tid);
+    listed = listing_begins (window_of v.windows s t) y bodies (to.turned.parts.windows.all.stands s t to.turned.live to.turned.tid);
     on_air = refl;
     room_is = record { settings = refl; lens = record { count = refl; octets = refl } };
     fit = λ some. absurd (omega (arith, some));
@@ -122,7 +122,7 @@ module _ (v : TransmitValue) (w : World) (bodies : ℕ → FrameValue) (s t : �
     ns = so_far.chosen
 
     pub choosing_near : distance from (window_of v.windows s t).start ≤ length (window_of v.windows s t).places
-    choosing_near = listing_near (window_of v.windows s t) y bodies (to.parts.windows.all.stands s t to.live to.tid) ns from so_far.listed
+    choosing_near = listing_near (window_of v.windows s t) y bodies (to.turned.parts.windows.all.stands s t to.turned.live to.turned.tid) ns from so_far.listed
 
     adds_number : (m : Mpdu) → fits room.rate room.exponent room.agg room.cap (lens_of (map g ns) ++ m.len ∷ []) ≡ fits_in w s (map g ns ++ m ∷ [])
     adds_number m =
@@ -134,11 +134,11 @@ module _ (v : TransmitValue) (w : World) (bodies : ℕ → FrameValue) (s t : �
     choosing_ends none =
         let all : ns ≡ waiting_numbers y = listing_ends y ns from so_far.listed none in
         record {
-          parts = to.parts;
-          live = to.live;
-          tid = to.tid;
+          parts = to.turned.parts;
+          live = to.turned.live;
+          tid = to.turned.tid;
           quiet = to.quiet;
-          underway = to.underway;
+          underway = to.turned.underway;
           waiting = chosen_wait ns [] (append-nil ns ∙ all);
           on_air = so_far.on_air ∙ airs_of w s t ns;
           room_is = so_far.room_is;
@@ -152,7 +152,7 @@ module _ (v : TransmitValue) (w : World) (bodies : ℕ → FrameValue) (s t : �
       pub choosing_len : length (bodies (slot y next.number).id).body ≡ m.len
       choosing_len =
           let from : y.first ≤ next.number = omega (arith, next.is_number.from_start, start_ge y.slots y.first) in
-          sym (ap len_of (to.parts.others.notes (slot y next.number).id (known_number next.number from next.waits)).note)
+          sym (ap len_of (to.turned.parts.others.notes (slot y next.number).id (known_number next.number from next.waits)).note)
 
       pub choosing_next : (more : RoomValue) → fits room.rate room.exponent room.agg room.cap (lens_of (map g ns) ++ m.len ∷ []) ≡ true → more ≡ record room { count = more.count; octets = more.octets } → RoomStandsFor more (lens_of (map g ns) ++ m.len ∷ []) →
           IsChoosing more (numbers ++ seq ∷ []) ((seq + 1) % 4096) w s t
@@ -179,9 +179,9 @@ module _ (v : TransmitValue) (w : World) (bodies : ℕ → FrameValue) (s t : �
           let all : waiting_mpdus w s t ≡ map g ns ++ m ∷ map g rest = ap (map g) (sym split) ∙ map-append g ns (next.number ∷ rest) in
           let front : longest_fitting w s (map g ns ++ m ∷ map g rest) ≡ map g ns = chosen_ends w s (map g ns) m (map g rest) (begun w s g ns so_far.fit) (sym (adds_number m) ∙ fit) in
           subst (IsFilled v bodies s t room numbers) (sym (aggregate_front w s t (map g ns) (map g rest) m all front)) (record {
-            parts = to.parts;
-            live = to.live;
-            tid = to.tid;
+            parts = to.turned.parts;
+            live = to.turned.live;
+            tid = to.turned.tid;
             waiting = chosen_wait ns (next.number ∷ rest) split;
             on_air = so_far.on_air ∙ airs_of w s t ns;
             room_is = so_far.room_is;

@@ -21,3 +21,4 @@ pub mod Flies
 pub mod Takes
 pub mod Gives
 pub mod Fills
+pub mod Sends

@@ -85,13 +85,17 @@ pub record HasRoomFor (room : RoomValue) (w : World) (s t : ℕ) (mpdus : List M
   pub settings : room ≡ record (room_for w s t) { count = room.count; octets = room.octets }
   pub lens : RoomStandsFor room (lens_of mpdus)
 
--- the half is to fill an aggregate for TID t of station s, of which no request is due
-pub record IsToFill (v : TransmitValue) (w : World) (bodies : ℕ → FrameValue) (s t : ℕ) : Type 0 where
+-- TID t of station s has had its turn in a pull: the half is to prepare what it sends
+pub record IsTurned (v : TransmitValue) (w : World) (bodies : ℕ → FrameValue) (s t : ℕ) : Type 0 where
   pub parts : Parts v w bodies
   pub live : is_live w s ≡ true
   pub tid : t < 8
-  pub quiet : request_due (session w s t) ≡ false
   pub underway : IsUnderway w s t
+
+-- no request is due: the half is to fill an aggregate
+pub record IsToFill (v : TransmitValue) (w : World) (bodies : ℕ → FrameValue) (s t : ℕ) : Type 0 where
+  pub turned : IsTurned v w bodies s t
+  pub quiet : request_due (session w s t) ≡ false
 
 -- In the middle of choosing: of the waiting numbers, which a window lists from its start on, these fit, and the others are listed
 -- from `from` on.

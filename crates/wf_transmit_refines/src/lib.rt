@@ -20,8 +20,11 @@ ghost use Rattle.wf_frame.specs.declared.notes.Refusal.{Refusal};
 ghost use Rattle.wf_frame.specs.declared.notes.Refusal.TheVariants.{Idle};
 ghost use Rattle.wf_frame.specs.declared.notes.ReplyNote.TheVariants.{Accepted, Joined, RateSet, Ticked, Slept, Woken, Credited, Send, Charged, Reaped, Refused};
 ghost use Rattle.wf_frame.specs.declared.settings.Config.{Config};
+ghost use Rattle.wf_frame.specs.declared.notes.Part.TheVariants.{Mpdus, Request as Starts};
+ghost use Rattle.wf_rules.specs.Airtime.{data_charge, request_charge};
 ghost use Rattle.wf_rules.specs.Codel.{Params};
-ghost use Rattle.wf_rules.specs.Fit.{fits};
+ghost use Rattle.wf_rules.specs.Fit.{fits, octets_of};
+ghost use Rattle.wf_exchanges.specs.declared.opened.Sending.TheVariants.{Data, Request as Starts_at};
 ghost use Rattle.wf_rules.specs.Lengths.{greatest_body};
 ghost use Rattle.wf_rules.specs.Receiver.{Receiver};
 ghost use Rattle.wf_rules.specs.Rotation.{Rotation, has_key};
@@ -29,7 +32,7 @@ ghost use Rattle.wf_rules.specs.Session.{Session, State, slot, request_due, with
 ghost use Rattle.wf_world.specs.World.{World, Station, Tid, Share, Queue, Mpdu, Exchange, opening, is_live, is_wide, session, rotation, exchange, with_station, on_station, on_tid, on_session, on_receiver, on_share, on_queue, with_queues, with_rotation, codel_params};
 ghost use Rattle.wf_world.specs.FlowQueues.{frames_queued as world_queued};
 ghost use Rattle.wf_world.specs.CanSend.{request_open, has_waiting, can_send, can_send_in, is_ready, with_listings_of};
-ghost use Rattle.wf_world.specs.Exchanges.{Aggregate, Prepared, prepared_data, sending_tid, after_pick, after_tid_turn, part_of, lens_of, mpdu_of, aggregate_of};
+ghost use Rattle.wf_world.specs.Exchanges.{Aggregate, Prepared, prepared_data, sending_tid, after_pick, after_tid_turn, part_of, lens_of, mpdu_of, aggregate_of, picked_station, aggregate_charge};
 ghost use Rattle.wf_world.specs.Refusals.{refusal, open_of_station, open_of_class};
 ghost use Rattle.wf_world.specs.Step.{outcome_of, concerned_station, class_to_send, send_outcome, step};
 ghost use Rattle.wf_laws.specs.Queues.{HasLength, IsAtMost};
@@ -49,10 +52,10 @@ ghost use Rattle.wf_exchanges.specs.Exchanges.{asks};
 ghost use Rattle.wf_members.specs.Members.{member, on_member, new_member, with_rate, with_receipt};
 ghost use Rattle.wf_powersave.specs.Sleepers.{sleeper, with_sleeper, awake};
 ghost use Rattle.wf_transmit_refines.specs.Half.{TransmitValue, opening_half, some_wait, can_send_of, is_ready_of};
-ghost use Rattle.wf_transmit_refines.specs.Standing.{open_of, sending_of, HasWindows, Parts, IsReached, StandsFor, Meets};
+ghost use Rattle.wf_transmit_refines.specs.Standing.{open_of, sending_of, HasWindows, Parts, IsReached, StandsFor, Meets, numbers_on_air};
 ghost use Rattle.wf_transmit_refines.specs.Changes.{after_listing, AreReset, after_enqueue};
 ghost use Rattle.wf_transmit_refines.specs.Pulling.{sending_tid_of, after_turn, is_wide_of, open_next, after_sending};
-ghost use Rattle.wf_transmit_refines.specs.Filling.{AreWaiting, IsTakingOff, with_one_fresh, IsFilling, IsFilled, after_giving, fresh_mpdu, room_for, IsToFill, IsChoosing};
+ghost use Rattle.wf_transmit_refines.specs.Filling.{AreWaiting, IsTakingOff, with_one_fresh, IsFilling, IsFilled, after_giving, fresh_mpdu, room_for, IsToFill, IsChoosing, IsTurned};
 ghost use Rattle.wf_transmit_refines.specs.Views.{agreements, roster, ledger, HasSameViews, KeepsView, KeepsSums};
 
 /// A new half stands for the opening world, whatever frames are to come.
@@ -296,4 +299,30 @@ pub fn the_numbers_take_off()
         IsTakingOff (record v { windows = with_window v.windows s t x }) (on_session w s t (with_state (State.Flying e) m.number)) bodies s t e ms after }
     ensures ends { (v : TransmitValue) (w : World) (bodies : ℕ → FrameValue) (s t e : ℕ) (after : World) →
         IsTakingOff v w bodies s t e [] after → Parts v after bodies }
+{}
+
+/// A pull, whole. The station that is picked has its turn, in which the half is to prepare what one of its TIDs sends. Where a
+/// request is due, that is sent; else an aggregate, once it is filled and all its numbers have taken off. Then the half stands
+/// for the step, and the reply is the step's.
+pub fn a_pull()
+    ensures tid { (v : TransmitValue) (w : World) (bodies : ℕ → FrameValue) → StandsFor v w bodies → (c : Class) (s : ℕ) → (picked_station w c).winner ≡ Some s →
+        (turns : SchedValue) → HasPicked w c v.sched turns → sending_tid_of (record v { sched = turns }) s c ≡ sending_tid (after_pick w c) s c }
+    ensures turned { (v : TransmitValue) (w : World) (bodies : ℕ → FrameValue) → StandsFor v w bodies → (c : Class) (s : ℕ) → (picked_station w c).winner ≡ Some s →
+        (turns : SchedValue) → HasPicked w c v.sched turns → (t : ℕ) → t ≡ sending_tid_of (record v { sched = turns }) s c →
+        IsTurned (after_turn (record v { sched = turns }) s c t) (after_tid_turn (after_pick w c) s c t) bodies s t }
+    ensures request { (v : TransmitValue) (w : World) (bodies : ℕ → FrameValue) → StandsFor v w bodies → (c : Class) (s : ℕ) → refusal w (Asked (Pull c)) ≡ None →
+        (picked_station w c).winner ≡ Some s → (t : ℕ) → t ≡ sending_tid (after_pick w c) s c →
+        (x : TransmitValue) → IsTurned x (after_tid_turn (after_pick w c) s c t) bodies s t → is_some (window_of x.windows s t).due ≡ true →
+        (charge : ℕ) → charge ≡ request_charge (is_wide_of x s t) →
+        Meets w bodies (Asked (Pull c)) (after_listing (after_sending x s t c charge (Starts_at (window_of x.windows s t).start)) s)
+        (Send x.exchanges s t charge (Starts (window_of x.windows s t).start) (open_next x s t c charge (Starts_at (window_of x.windows s t).start)).more) }
+    ensures charge { (v : TransmitValue) (bodies : ℕ → FrameValue) (s t : ℕ) (room : RoomValue) (numbers : List ℕ) (a : Aggregate) → IsFilled v bodies s t room numbers a →
+        data_charge room.rate (octets_of (lens_of a.mpdus)) room.wide ≡ aggregate_charge s t a }
+    ensures data { (v : TransmitValue) (w : World) (bodies : ℕ → FrameValue) → StandsFor v w bodies → (c : Class) (s : ℕ) → refusal w (Asked (Pull c)) ≡ None →
+        (picked_station w c).winner ≡ Some s → (t : ℕ) → t ≡ sending_tid (after_pick w c) s c →
+        (a : Aggregate) → aggregate_of (after_tid_turn (after_pick w c) s c t) s t ≡ a → request_due (session (after_tid_turn (after_pick w c) s c t) s t) ≡ false →
+        (x : TransmitValue) (u : World) → IsTakingOff x u bodies s t a.world.exchanges [] (prepared_data s t a).world →
+        (charge : ℕ) (numbers : List ℕ) → charge ≡ aggregate_charge s t a → numbers ≡ numbers_on_air a.mpdus →
+        Meets w bodies (Asked (Pull c)) (after_listing (after_sending x s t c charge (Data numbers)) s)
+        (Send x.exchanges s t charge (Mpdus (map (λ m. (m.id, m.number % 4096)) a.mpdus)) (open_next x s t c charge (Data numbers)).more) }
 {}
