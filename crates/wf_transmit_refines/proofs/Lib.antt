@@ -22,3 +22,4 @@ pub mod Takes
 pub mod Gives
 pub mod Fills
 pub mod Sends
+pub mod Asked

@@ -38,7 +38,7 @@ use Rattle.wf_transmit_refines.proofs.Pulls.{pick_parts, sending_same, sending_l
 
 -- ---- the station that is picked has its turn
 
-from_winner : (o : Option ℕ) (s : ℕ) (P : ℕ → Type 0) → o ≡ Some s → IfSome o P → P s
+pub from_winner : (o : Option ℕ) (s : ℕ) (P : ℕ → Type 0) → o ≡ Some s → IfSome o P → P s
 from_winner None s P e h = absurd (cc e)
 from_winner (Some k) s P e h = let same : k ≡ s = cc in subst P same h
 
@@ -47,7 +47,7 @@ unfolding after_tid_turn
 turn_live w s t c live = ap (λ (a : Agreements). a.live s) (agreements_share w s c _) ∙ live
 
 module _ (v : TransmitValue) (w : World) (bodies : ℕ → FrameValue) (h : StandsFor v w bodies) (c : Class) (s : ℕ) (won : (picked_station w c).winner ≡ Some s) where
-  winner_live : is_live (after_pick w c) s ≡ true
+  pub winner_live : is_live (after_pick w c) s ≡ true
   winner_live = (from_winner (picked_station w c).winner s (λ k. (is_live (after_pick w c) k ≡ true) × (can_send_in (after_pick w c) k c ≡ true)) won (winner_ready w c)).0
 
   module _ (turns : SchedValue) (picked : HasPicked w c v.sched turns) where

@@ -7,7 +7,7 @@
 //! function without a body that names it in its contract.
 #![tactic(auto)]
 
-ghost use Rattle.std.specs.Prelude.{◌≡◌, ◌<◌, ◌≤◌, ℕ, ◌+◌, ◌-◌, ◌*◌, ◌%◌, ◌==◌, ◌||◌, pos, ◌-ℤ◌, Bool, true, false, List, [], ◌∷◌, Option, Some, None, is_some, option_map, map, find, count_by, set, length, ◌&&◌, ◌++◌, nat_lt};
+ghost use Rattle.std.specs.Prelude.{◌≡◌, ◌<◌, ◌≤◌, ℕ, ◌+◌, ◌-◌, ◌*◌, ◌%◌, ◌==◌, ◌||◌, pos, ◌-ℤ◌, Bool, true, false, List, [], ◌∷◌, Option, Some, None, is_some, option_map, map, find, count_by, set, length, ◌&&◌, ◌++◌, nat_lt, nat_le, if◌then◌else◌};
 ghost use Rattle.wf_frame.specs.Classes.{lower_tid, upper_tid, same_class};
 ghost use Rattle.wf_frame.specs.Frames.{FrameValue};
 ghost use Rattle.wf_frame.specs.Settings.{IsInRange};
@@ -17,12 +17,13 @@ ghost use Rattle.wf_frame.specs.declared.notes.Ask.TheVariants.{Join, Rate, Tick
 ghost use Rattle.wf_frame.specs.declared.notes.Note.{Note};
 ghost use Rattle.wf_frame.specs.declared.notes.Note.TheVariants.{Enqueue, Asked};
 ghost use Rattle.wf_frame.specs.declared.notes.Refusal.{Refusal};
-ghost use Rattle.wf_frame.specs.declared.notes.Refusal.TheVariants.{Idle};
+ghost use Rattle.wf_frame.specs.declared.notes.Refusal.TheVariants.{Idle, Full};
 ghost use Rattle.wf_frame.specs.declared.notes.ReplyNote.TheVariants.{Accepted, Joined, RateSet, Ticked, Slept, Woken, Credited, Send, Charged, Reaped, Refused};
 ghost use Rattle.wf_frame.specs.declared.settings.Config.{Config};
 ghost use Rattle.wf_frame.specs.declared.notes.Part.TheVariants.{Mpdus, Request as Starts};
-ghost use Rattle.wf_rules.specs.Airtime.{data_charge, request_charge};
+ghost use Rattle.wf_rules.specs.Airtime.{Rate as RateValue, data_charge, request_charge};
 ghost use Rattle.wf_rules.specs.Codel.{Params};
+ghost use Rattle.wf_rules.specs.Parameters.{params_at};
 ghost use Rattle.wf_rules.specs.Fit.{fits, octets_of};
 ghost use Rattle.wf_exchanges.specs.declared.opened.Sending.TheVariants.{Data, Request as Starts_at};
 ghost use Rattle.wf_rules.specs.Lengths.{greatest_body};
@@ -36,7 +37,7 @@ ghost use Rattle.wf_world.specs.Exchanges.{Aggregate, Prepared, prepared_data, s
 ghost use Rattle.wf_world.specs.Refusals.{refusal, open_of_station, open_of_class};
 ghost use Rattle.wf_world.specs.Step.{outcome_of, concerned_station, class_to_send, send_outcome, step};
 ghost use Rattle.wf_laws.specs.Queues.{HasLength, IsAtMost};
-ghost use Rattle.wf_ampdu.specs.Rooms.{RoomValue, StandsFor as RoomStandsFor};
+ghost use Rattle.wf_ampdu.specs.Rooms.{RoomValue, StandsFor as RoomStandsFor, empty_room};
 ghost use Rattle.wf_flowq.specs.Flows.{tid_number, frames_queued, dropped_for_limit, taken_for_tid};
 ghost use Rattle.wf_flowq_refines.specs.Frames.{with_body};
 ghost use Rattle.wf_flowq_refines.specs.Standing.{with_finished};
@@ -205,6 +206,34 @@ pub fn a_pull_that_finds_nobody()
         Meets w bodies (Asked (Pull c)) (record v { sched = turns }) (Refused Idle) }
 {}
 
+/// When a pull is refused, by what the half has: the class has as many open exchanges as may be, or else nobody is picked.
+pub fn a_pull_is_refused()
+    ensures full { (v : TransmitValue) (w : World) (bodies : ℕ → FrameValue) (c : Class) → Parts v w bodies →
+        nat_le v.config.inflight (count_by (λ x. same_class x.class c) v.opened) ≡ true →
+        refusal w (Asked (Pull c)) ≡ Some (Full (count_by (λ x. same_class x.class c) v.opened)) }
+    ensures idle { (v : TransmitValue) (w : World) (bodies : ℕ → FrameValue) (c : Class) → Parts v w bodies →
+        nat_le v.config.inflight (count_by (λ x. same_class x.class c) v.opened) ≡ false → (picked_station w c).winner ≡ None →
+        refusal w (Asked (Pull c)) ≡ Some Idle }
+    ensures none { (v : TransmitValue) (w : World) (bodies : ℕ → FrameValue) (c : Class) → Parts v w bodies →
+        nat_le v.config.inflight (count_by (λ x. same_class x.class c) v.opened) ≡ false → (s : ℕ) → (picked_station w c).winner ≡ Some s →
+        refusal w (Asked (Pull c)) ≡ None }
+{}
+
+/// What a half reads of a live station in a pull: CoDel's parameters, the room of an aggregate, and how many frames a take
+/// dropped, by those of the TID that are queued before and after it.
+pub fn a_pull_reads()
+    ensures params { (v : TransmitValue) (w : World) (bodies : ℕ → FrameValue) (s : ℕ) → Parts v w bodies → is_live w s ≡ true →
+        (rate : RateValue) → option_map (λ m. m.rate) (member v.members s) ≡ Some rate → params_at rate ≡ codel_params w s }
+    ensures room { (v : TransmitValue) (w : World) (bodies : ℕ → FrameValue) (s : ℕ) → Parts v w bodies → is_live w s ≡ true →
+        (rate : RateValue) → option_map (λ m. m.rate) (member v.members s) ≡ Some rate →
+        (t exponent : ℕ) → t < 8 → option_map (λ m. m.exponent) (member v.members s) ≡ Some exponent →
+        empty_room rate exponent (if (sleeper v.sleepers s).asleep then 1 else v.config.agg) v.config.cap (is_wide_of v s t) ≡ room_for w s t }
+    ensures drops { (v : TransmitValue) (w : World) (bodies : ℕ → FrameValue) (s t : ℕ) → Parts v w bodies → is_live w s ≡ true → t < 8 →
+        (params : Params) (f : FrameValue) → (taken_for_tid v.flows (tid_number s t) v.clock params).frame ≡ Some f →
+        frames_queued v.flows (tid_number s t) - 1 - frames_queued (taken_for_tid v.flows (tid_number s t) v.clock params).flows (tid_number s t)
+        ≡ length (taken_for_tid v.flows (tid_number s t) v.clock params).flows.backlog.finished - length v.flows.backlog.finished }
+{}
+
 /// A pull begins: a station is picked, and the TID of the class that sends gives the turn to the other one.
 pub fn a_pull_begins()
     ensures pick { (v : TransmitValue) (w : World) (bodies : ℕ → FrameValue) (c : Class) (turns : SchedValue) → HasPicked w c v.sched turns →
@@ -307,6 +336,9 @@ pub fn the_numbers_take_off()
 pub fn a_pull()
     ensures tid { (v : TransmitValue) (w : World) (bodies : ℕ → FrameValue) → StandsFor v w bodies → (c : Class) (s : ℕ) → (picked_station w c).winner ≡ Some s →
         (turns : SchedValue) → HasPicked w c v.sched turns → sending_tid_of (record v { sched = turns }) s c ≡ sending_tid (after_pick w c) s c }
+    ensures sends { (v : TransmitValue) (w : World) (bodies : ℕ → FrameValue) → StandsFor v w bodies → (c : Class) (s : ℕ) → (picked_station w c).winner ≡ Some s →
+        (turns : SchedValue) → HasPicked w c v.sched turns →
+        can_send_of (record v { sched = turns }) s (sending_tid_of (record v { sched = turns }) s c) ≡ true }
     ensures turned { (v : TransmitValue) (w : World) (bodies : ℕ → FrameValue) → StandsFor v w bodies → (c : Class) (s : ℕ) → (picked_station w c).winner ≡ Some s →
         (turns : SchedValue) → HasPicked w c v.sched turns → (t : ℕ) → t ≡ sending_tid_of (record v { sched = turns }) s c →
         IsTurned (after_turn (record v { sched = turns }) s c t) (after_tid_turn (after_pick w c) s c t) bodies s t }

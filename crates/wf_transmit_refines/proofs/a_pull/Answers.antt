@@ -1,8 +1,12 @@
 use Rattle.wf_transmit_refines.proofs.Sends.{turn_tid, turned, request_meets, filled_charge, data_meets}
+use Rattle.wf_transmit_refines.proofs.Asked.{turn_sends}
 use Rattle.wf_transmit_refines.proofs.a_pull.Goals as goal
 
 pub returns-clause-tid : goal.returns-clause-tid
 returns-clause-tid c = turn_tid
+
+pub returns-clause-sends : goal.returns-clause-sends
+returns-clause-sends c = turn_sends
 
 pub returns-clause-turned : goal.returns-clause-turned
 returns-clause-turned c = turned
