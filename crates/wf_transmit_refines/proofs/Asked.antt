@@ -1,5 +1,5 @@
 -- What a half reads in a pull, and when a pull is refused.
-use Rattle.std.proofs.Common.{◌≡◌, refl, ap, ap₂, sym, ◌∙◌, subst, arith, ℕ, ◌+◌, ◌-◌, ◌<◌, Bool, true, false, ◌||◌, if◌then◌else◌, List, [], ◌∷◌, length, Option, Some, None, is_some, is_none, option_map, unwrap_or}
+use Rattle.std.proofs.Common.{◌≡◌, refl, ap, ap₂, sym, ◌∙◌, arith, ℕ, ◌+◌, ◌-◌, ◌<◌, Bool, true, false, if◌then◌else◌, [], ◌∷◌, length, Option, Some, None, is_some, is_none, option_map, unwrap_or}
 use Rattle.std.specs.Prelude.{nat_le, IfSome, count_by}
 use Rattle.wf_frame.specs.declared.classes.Class.{Class}
 use Rattle.wf_frame.specs.Classes.{lower_tid, upper_tid, same_class}
@@ -17,10 +17,10 @@ use Rattle.wf_world.specs.CanSend.{can_send, can_send_in}
 use Rattle.wf_world.specs.Exchanges.{most_frames, picked_station, after_pick, sending_tid}
 use Rattle.wf_world.specs.Refusals.{open_of_class, first_refusal, refusal}
 use Rattle.wf_laws.proofs.Windows.Agreed.{sends, winner_ready}
-use Rattle.wf_ampdu.specs.Rooms.{RoomValue, empty_room}
+use Rattle.wf_ampdu.specs.Rooms.{empty_room}
 use Rattle.wf_sched.specs.ClassRotas.{SchedValue}
 use Rattle.wf_sched_refines.specs.Calls.{HasPicked}
-use Rattle.wf_flowq.specs.Flows.{FlowsValue, Taken, tid_number, frames_queued, taken_for_tid as take_out}
+use Rattle.wf_flowq.specs.Flows.{Taken, tid_number, frames_queued, taken_for_tid as take_out}
 use Rattle.wf_flowq_refines.specs.Standing.{part}
 use Rattle.wf_flowq_refines.proofs.Heads.{drops_counted}
 use Rattle.wf_members.specs.declared.members.Member.{Member}

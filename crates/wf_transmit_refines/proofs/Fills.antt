@@ -1,28 +1,28 @@
 -- The waiting numbers of an aggregate are chosen, from the lowest up, while they fit.
-use Rattle.std.proofs.Common.{◌≡◌, refl, ap, sym, ◌∙◌, subst, arith, ℕ, suc, ◌+◌, ◌-◌, ◌%◌, ◌<◌, ◌≤◌, ◌==◌, ◌||◌, Bool, true, false, if◌then◌else◌, List, [], ◌∷◌, ◌++◌, map, length, length-append, append-nil, append_assoc, Option, Some, None, option_map, inl, inr, eq-eqb}
+use Rattle.std.proofs.Common.{◌≡◌, refl, ap, sym, ◌∙◌, subst, arith, ℕ, suc, ◌+◌, ◌-◌, ◌%◌, ◌<◌, ◌≤◌, ◌==◌, ◌||◌, Bool, true, false, if◌then◌else◌, List, [], ◌∷◌, ◌++◌, map, length, length-append, append-nil, append_assoc, None, option_map, inl, inr, eq-eqb}
 use Rattle.std.proofs.lemmas.Bool.{or_left, or_right}
 use Rattle.std.proofs.lemmas.Bool.Decides.{nat_tests}
-use Rattle.std.proofs.lemmas.List.{map-append, length-map}
+use Rattle.std.proofs.lemmas.List.{map-append}
 use Rattle.wf_frame.specs.Frames.{FrameValue}
 use Rattle.wf_rules.specs.Fit.{fits}
 use Rattle.wf_rules.specs.Lists.{IsRising}
-use Rattle.wf_rules.specs.Session.{Session, Slot, State, slot, start_of, next_number, waiting_numbers, is_waiting}
+use Rattle.wf_rules.specs.Session.{Session, State, slot, start_of, waiting_numbers}
 use Rattle.wf_rules.specs.Table.{has}
 use Rattle.wf_seq12.specs.Distance.{distance}
-use Rattle.wf_world.specs.World.{World, Mpdu, station, session, frame, len_of, accepted_count}
-use Rattle.wf_world.specs.Exchanges.{Aggregate, most_frames, lens_of, fits_in, mpdu_of, waiting_mpdus, longest_fitting, with_fresh, aggregate_of}
+use Rattle.wf_world.specs.World.{World, Mpdu, station, session, len_of, accepted_count}
+use Rattle.wf_world.specs.Exchanges.{most_frames, lens_of, fits_in, mpdu_of, waiting_mpdus, longest_fitting, with_fresh, aggregate_of}
 use Rattle.wf_world.proofs.Fitting.{IsBegun, chosen_all, chosen_ends}
 use Rattle.wf_laws.specs.Windows.{EachMpdu}
 use Rattle.wf_rule_laws.proofs.Lemmas.Numbers.{eq_yes}
 use Rattle.wf_laws.proofs.Sessions.Starts.{start_ge}
 use Rattle.wf_ampdu.specs.Rooms.{RoomValue, StandsFor as RoomStandsFor}
-use Rattle.wf_origwin.specs.Listing.{HasListed, IsListedNext, waiting_since}
+use Rattle.wf_origwin.specs.Listing.{IsListedNext, waiting_since}
 use Rattle.wf_origwin.specs.Window.{on_air, waiting_from}
 use Rattle.wf_origwin.proofs.Listing.{listing_begins, listing_near, listing_ends, waiting_exactly, waiting_rise}
 use Rattle.wf_origwin.proofs.Numbers.{waiting_is}
 use Rattle.wf_windows.specs.Windows.{window_of}
 use Rattle.wf_transmit_refines.specs.Half.{TransmitValue}
-use Rattle.wf_transmit_refines.specs.Filling.{IsWaitingWith, AreWaiting, IsToFill, room_for, HasRoomFor, IsChoosing, IsFilling, IsFilled}
+use Rattle.wf_transmit_refines.specs.Filling.{IsWaitingWith, AreWaiting, IsToFill, room_for, IsChoosing, IsFilling, IsFilled}
 use Rattle.wf_transmit_refines.proofs.Flies.{rises_past}
 use Rattle.wf_transmit_refines.proofs.Gives.{Placed, placed, given_below, if_first, if_second}
 

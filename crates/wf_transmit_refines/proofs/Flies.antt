@@ -1,16 +1,16 @@
 -- The numbers of an aggregate fly, one after the other.
-use Rattle.std.proofs.Common.{◌≡◌, ◌≢◌, refl, ap, sym, ◌∙◌, subst, arith, ℕ, zero, suc, ◌-◌, ◌%◌, ◌<◌, ◌≤◌, Bool, true, false, List, [], ◌∷◌, map, Option, Some, None, option_map}
+use Rattle.std.proofs.Common.{◌≡◌, ◌≢◌, refl, ap, sym, ◌∙◌, subst, arith, ℕ, zero, suc, ◌-◌, ◌%◌, ◌<◌, ◌≤◌, true, List, [], ◌∷◌, map, Option, Some, None, option_map}
 use Rattle.std.proofs.lemmas.List.{set-get_or}
 use Rattle.wf_frame.specs.Frames.{FrameValue}
 use Rattle.wf_rules.specs.Lists.{IsRising}
-use Rattle.wf_rules.specs.Session.{Session, Slot, State, no_slot, slot, on_slot, is_settled, with_state}
+use Rattle.wf_rules.specs.Session.{Session, Slot, State, slot, is_settled, with_state}
 use Rattle.wf_rules.specs.Table.{at, put, change}
 use Rattle.wf_world.specs.World.{World, Station, Tid, Mpdu, no_tid, is_live, session, with_station, on_station, on_tid, on_session}
 use Rattle.wf_world.specs.Exchanges.{Aggregate, with_flying, prepared_data}
 use Rattle.wf_rule_laws.proofs.Lemmas.Tables.{at_put_same}
 use Rattle.wf_laws.specs.Windows.{EachMpdu}
 use Rattle.wf_laws.proofs.Sessions.Starts.{at_change_other}
-use Rattle.wf_origwin.specs.Window.{WindowValue, StandsFor as WindowStandsFor, IsNumber, state_at, HasFrame, place_at}
+use Rattle.wf_origwin.specs.Window.{WindowValue, StandsFor as WindowStandsFor, IsNumber, state_at}
 use Rattle.wf_origwin.proofs.Numbers.{open_number}
 use Rattle.wf_origwin.proofs.Callers.{state_is}
 use Rattle.wf_flowq.specs.Flows.{tid_number}
@@ -18,7 +18,7 @@ use Rattle.wf_windows.specs.Windows.{HaveRoom, no_window, window_of, with_window
 use Rattle.wf_transmit_refines.specs.Half.{TransmitValue}
 use Rattle.wf_transmit_refines.specs.Standing.{Parts}
 use Rattle.wf_transmit_refines.specs.Filling.{IsWaitingWith, AreWaiting, IsTakingOff}
-use Rattle.wf_transmit_refines.specs.Views.{Agreements, agreements}
+use Rattle.wf_transmit_refines.specs.Views.{Agreements}
 use Rattle.wf_transmit_refines.proofs.Views.{agreements_session}
 use Rattle.wf_transmit_refines.proofs.Moves.{session_parts, session_is}
 

@@ -1,5 +1,5 @@
 -- Fresh frames are given numbers, one after the other, while they fit.
-use Rattle.std.proofs.Common.{◌≡◌, refl, ap, ap₂, sym, ◌∙◌, subst, arith, ℕ, zero, suc, ◌+◌, ◌-◌, ◌%◌, ◌<◌, ◌≤◌, Bool, true, false, not, ◌&&◌, if◌then◌else◌, List, [], ◌∷◌, ◌++◌, map, length, length-append, Option, Some, None, option_map, unwrap_or}
+use Rattle.std.proofs.Common.{◌≡◌, refl, ap, ap₂, sym, ◌∙◌, subst, arith, ℕ, zero, suc, ◌-◌, ◌<◌, ◌≤◌, Bool, true, false, not, ◌&&◌, if◌then◌else◌, List, [], ◌∷◌, ◌++◌, map, length, length-append, Option, Some, None, option_map, unwrap_or}
 use Rattle.std.specs.Prelude.{nat_lt, is_some, IfSome}
 use Rattle.std.proofs.lemmas.List.{map-append, length-map}
 use Rattle.wf_frame.specs.declared.classes.Class.{Class}
@@ -11,23 +11,22 @@ use Rattle.wf_rules.specs.Fit.{fits}
 use Rattle.wf_rules.specs.Lists.{IsRising}
 use Rattle.wf_rules.specs.Session.{Session, Slot, State, no_slot, slot, next_number, request_due, has_room, with_number_given}
 use Rattle.wf_rules.specs.Table.{at}
-use Rattle.wf_world.specs.World.{World, Station, Mpdu, no_station, is_live, station, session, codel_params, is_wide, on_session}
-use Rattle.wf_world.specs.FlowQueues.{frames_queued as world_queued, Taken, taken_for_tid}
+use Rattle.wf_world.specs.World.{World, Station, Mpdu, no_station, is_live, station, session, codel_params, on_session}
+use Rattle.wf_world.specs.FlowQueues.{taken_for_tid}
 use Rattle.wf_world.specs.CanSend.{can_give}
 use Rattle.wf_world.specs.Exchanges.{Aggregate, after_pick, after_tid_turn, most_frames, lens_of, fits_in, fresh_mpdus, with_number, with_fresh}
 use Rattle.wf_laws.specs.Windows.{EachMpdu}
-use Rattle.wf_laws.proofs.Frames.Fates.{Fresh, Safe, safe_calm, safe_numbered}
+use Rattle.wf_laws.proofs.Frames.Fates.{Fresh, safe_calm, safe_numbered}
 use Rattle.wf_laws.proofs.Frames.Fewer.{less_after_pick, less_after_turn}
-use Rattle.wf_laws.proofs.Frames.Places.{Standing, standing}
+use Rattle.wf_laws.proofs.Frames.Places.{standing}
 use Rattle.wf_laws.proofs.Frames.Untouched.{untouched_after_pick, untouched_after_turn}
 use Rattle.wf_laws.proofs.Releases.Placed.{Any, Placing}
-use Rattle.wf_laws.proofs.Sessions.Flights.{fresh_waits, next-give}
 use Rattle.wf_laws.proofs.Windows.Agreement.{slot_give, not_due_give}
 use Rattle.wf_laws.proofs.Windows.Agreed.{session_same}
-use Rattle.wf_laws.proofs.Windows.Sides.{Same, same_after_pick, same_after_turn, same_take}
+use Rattle.wf_laws.proofs.Windows.Sides.{same_after_pick, same_after_turn, same_take}
 use Rattle.wf_ampdu.specs.Rooms.{RoomValue, StandsFor as RoomStandsFor}
 use Rattle.wf_codel_queues.specs.Backlog.{item_of}
-use Rattle.wf_flowq.specs.Flows.{FlowsValue, tid_number, frames_queued, taken_for_tid as take_out}
+use Rattle.wf_flowq.specs.Flows.{tid_number, frames_queued, taken_for_tid as take_out}
 use Rattle.wf_flowq_refines.proofs.Bodies.{frame_given}
 use Rattle.wf_flowq_refines.proofs.Elsewhere.{rest_take}
 use Rattle.wf_flowq_refines.proofs.Takes.{item_take}
@@ -35,7 +34,7 @@ use Rattle.wf_origwin.specs.Window.{WindowValue, StandsFor as WindowStandsFor, c
 use Rattle.wf_origwin.proofs.Calls.{can_take_is}
 use Rattle.wf_windows.specs.Windows.{HaveRoom, window_of, with_window}
 use Rattle.wf_transmit_refines.specs.Half.{TransmitValue}
-use Rattle.wf_transmit_refines.specs.Standing.{numbers_on_air, Parts, IsReached}
+use Rattle.wf_transmit_refines.specs.Standing.{Parts, IsReached}
 use Rattle.wf_transmit_refines.specs.Filling.{IsWaitingWith, AreWaiting, after_take, with_one_fresh, with_so_many_fresh, IsUnderway, room_for, HasRoomFor, IsFilling, IsFilled, after_giving, fresh_mpdu}
 use Rattle.wf_transmit_refines.specs.Views.{StationView, view_of, Roster, roster}
 use Rattle.wf_transmit_refines.proofs.Views.{roster_rest, roster_session}
@@ -85,9 +84,10 @@ still_waits : (y : Session) (bodies : ℕ → FrameValue) (id lo : ℕ) (ms : Li
 still_waits y bodies id lo [] from rising h = tt
 still_waits y bodies id lo (m ∷ ms) from rising h =
     let below : m.number - y.first < length y.slots = given_below y.slots (m.number - y.first) h.0.waits in
-    let same : slot (with_number_given y id) m.number ≡ slot y m.number = slot_give y id m.number (omega (arith, from, rising.0)) (omega (arith, below, from, rising.0)) in
-    (record { waits = ap (λ (x : Slot). x.state) same ∙ h.0.waits; carries = ap (λ (x : Slot). x.id) same ∙ h.0.carries; frame = h.0.frame },
-      still_waits y bodies id (suc m.number) ms (omega (arith, from, rising.0)) rising.1 h.1)
+    let same : slot (with_number_given y id) m.number ≡ slot y m.number = slot_give y id m.number (omega (arith, from, rising.0)) (omega (arith, below, from, rising.0)) in (
+      record { waits = ap (λ (x : Slot). x.state) same ∙ h.0.waits; carries = ap (λ (x : Slot). x.id) same ∙ h.0.carries; frame = h.0.frame },
+      still_waits y bodies id (suc m.number) ms (omega (arith, from, rising.0)) rising.1 h.1,
+    )
 
 rises_to : (y : Session) (bodies : ℕ → FrameValue) (lo n : ℕ) (ms : List Mpdu) → y.first ≤ lo → lo ≤ n → n ≡ next_number y → IsRising lo (map (λ m. m.number) ms) → EachMpdu (IsWaitingWith y bodies) ms → IsRising lo (map (λ m. m.number) ms ++ n ∷ [])
 rises_to y bodies lo n [] from low e rising h = (low, tt)

@@ -1,22 +1,19 @@
 -- A pull, but for its aggregate: who is picked and whose turn it is, the exchange that opens, and the credit that is spent.
-use Rattle.std.proofs.Common.{◌≡◌, refl, ap, ap₂, sym, ◌∙◌, subst, arith, ℕ, zero, suc, ◌+◌, ◌*◌, ◌<◌, ◌≤◌, ◌==◌, pos, ◌+ℤ◌, Bool, true, false, not, ◌&&◌, ◌||◌, if◌then◌else◌, List, [], ◌∷◌, ◌++◌, map, length, Option, Some, None, is_some, option_map, unwrap_or}
+use Rattle.std.proofs.Common.{◌≡◌, refl, ap, ap₂, sym, ◌∙◌, subst, arith, ℕ, zero, suc, ◌+◌, ◌*◌, ◌<◌, ◌≤◌, ◌==◌, pos, ◌+ℤ◌, Bool, true, false, not, ◌&&◌, ◌||◌, if◌then◌else◌, List, [], ◌∷◌, ◌++◌, Option, Some, None, is_some, option_map, unwrap_or}
 use Rattle.std.specs.Prelude.{nat_lt}
 use Rattle.std.proofs.lemmas.List.{map-append}
 use Rattle.std.specs.List.{list_any}
 use Rattle.wf_frame.specs.declared.classes.Class.{Class}
 use Rattle.wf_frame.specs.declared.notes.Note.TheVariants.{Asked}
 use Rattle.wf_frame.specs.declared.notes.Ask.TheVariants.{Pull}
-use Rattle.wf_frame.specs.declared.notes.Part.{Part}
-use Rattle.wf_frame.specs.declared.notes.Refusal.{Refusal}
 use Rattle.wf_frame.specs.declared.notes.Refusal.TheVariants.{Idle}
-use Rattle.wf_frame.specs.declared.notes.ReplyNote.{ReplyNote}
 use Rattle.wf_frame.specs.declared.notes.ReplyNote.TheVariants.{Send, Refused}
 use Rattle.wf_frame.specs.Classes.{lower_tid, upper_tid}
 use Rattle.wf_frame.specs.Frames.{FrameValue}
 use Rattle.wf_rules.specs.Table.{at, count_from}
 use Rattle.wf_rules.specs.Rotation.{in_order}
 use Rattle.wf_rules.specs.Bounds.{narrow_window}
-use Rattle.wf_world.specs.World.{World, Station, Share, Content, Frames, Request, Exchange, no_station, quantum, is_live, station, share, is_wide, rotation, on_share}
+use Rattle.wf_world.specs.World.{World, Station, Share, Content, Frames, Request, Exchange, no_station, quantum, is_live, share, is_wide, rotation, on_share}
 use Rattle.wf_world.specs.FlowQueues.{frames_queued as world_queued}
 use Rattle.wf_world.specs.CanSend.{can_send, has_waiting, is_request as sends_request}
 use Rattle.wf_world.specs.Exchanges.{picked_station, with_station_paid, with_stations_paid, after_pick, first_tid, other_tid, sending_tid, after_tid_turn, Prepared, has_more, exchange_of, with_exchange_opened, without_credit, part_of}
@@ -32,15 +29,13 @@ use Rattle.wf_flowq_refines.proofs.Leaves.{share_alone, opened_alone, stands_sam
 use Rattle.wf_flowq.specs.Flows.{tid_number, frames_queued}
 use Rattle.wf_windows.specs.Windows.{window_of}
 use Rattle.wf_exchanges.specs.declared.opened.Open.{Open}
-use Rattle.wf_exchanges.specs.declared.opened.Sending.{Sending}
 use Rattle.wf_exchanges.specs.Exchanges.{is_request}
 use Rattle.wf_members.specs.declared.members.Member.{Member}
 use Rattle.wf_members.specs.Members.{member, on_member, upper_in, with_upper}
-use Rattle.wf_powersave.specs.declared.sleepers.Sleeper.{Sleeper}
 use Rattle.wf_powersave.specs.Sleepers.{sleeper, with_sleeper}
 use Rattle.wf_transmit_refines.specs.Half.{TransmitValue, can_send_of, some_wait}
 use Rattle.wf_transmit_refines.specs.Standing.{IsMember, AreBoth, sending_of, open_of, Parts, StandsFor, Meets}
-use Rattle.wf_transmit_refines.specs.Pulling.{has_upper_turn, first_tid_of, other_tid_of, sending_tid_of, after_turn, is_wide_of, has_more_of, open_next, after_opening, after_spending, after_sending}
+use Rattle.wf_transmit_refines.specs.Pulling.{has_upper_turn, sending_tid_of, after_turn, is_wide_of, has_more_of, open_next, after_opening, after_spending, after_sending}
 use Rattle.wf_transmit_refines.specs.Views.{view_of, roster, HasSameViews}
 use Rattle.wf_transmit_refines.proofs.Views.{agreements_share, roster_share, ledger_share, reshared, view_reshared}
 use Rattle.wf_transmit_refines.proofs.Stands.{Pieces, to_pieces, of_pieces, same_views}

@@ -1,8 +1,7 @@
 -- A pull, whole: what the station that is picked sends.
-use Rattle.std.proofs.Common.{◌≡◌, refl, ap, ap₂, sym, ◌∙◌, subst, arith, ℕ, ◌%◌, ◌<◌, Bool, true, false, if◌then◌else◌, List, [], map, Option, Some, None, is_some}
+use Rattle.std.proofs.Common.{◌≡◌, refl, ap, sym, ◌∙◌, subst, arith, ℕ, ◌%◌, Bool, true, false, if◌then◌else◌, List, [], map, Option, Some, None, is_some}
 use Rattle.std.specs.Prelude.{IfSome}
 use Rattle.wf_frame.specs.declared.classes.Class.{Class}
-use Rattle.wf_frame.specs.declared.notes.Note.{Note}
 use Rattle.wf_frame.specs.declared.notes.Note.TheVariants.{Asked}
 use Rattle.wf_frame.specs.declared.notes.Ask.TheVariants.{Pull}
 use Rattle.wf_frame.specs.declared.notes.Part.TheVariants.{Mpdus, Request as Starts}
@@ -11,8 +10,8 @@ use Rattle.wf_frame.specs.declared.notes.ReplyNote.TheVariants.{Send}
 use Rattle.wf_frame.specs.Frames.{FrameValue}
 use Rattle.wf_rules.specs.Airtime.{data_charge, request_charge}
 use Rattle.wf_rules.specs.Fit.{octets_of}
-use Rattle.wf_rules.specs.Session.{Session, start_of, request_due}
-use Rattle.wf_world.specs.World.{World, Mpdu, is_live, session, on_session}
+use Rattle.wf_rules.specs.Session.{request_due}
+use Rattle.wf_world.specs.World.{World, is_live, session}
 use Rattle.wf_world.specs.CanSend.{can_send_in}
 use Rattle.wf_world.specs.Exchanges.{picked_station, after_pick, sending_tid, after_tid_turn, lens_of, Aggregate, aggregate_of, with_flying, Prepared, aggregate_charge, prepared_data, prepared_request, prepared_exchange, part_of}
 use Rattle.wf_world.specs.Refusals.{refusal}
@@ -21,7 +20,6 @@ use Rattle.wf_laws.proofs.Windows.Agreed.{winner_ready}
 use Rattle.wf_ampdu.specs.Rooms.{RoomValue}
 use Rattle.wf_sched.specs.ClassRotas.{SchedValue}
 use Rattle.wf_sched_refines.specs.Calls.{HasPicked}
-use Rattle.wf_exchanges.specs.declared.opened.Sending.{Sending}
 use Rattle.wf_exchanges.specs.declared.opened.Sending.TheVariants.{Data, Request as Starts_at}
 use Rattle.wf_origwin.proofs.Calls.{due_is}
 use Rattle.wf_windows.specs.Windows.{window_of}
@@ -29,8 +27,8 @@ use Rattle.wf_transmit_refines.specs.Half.{TransmitValue}
 use Rattle.wf_transmit_refines.specs.Standing.{numbers_on_air, sending_of, Parts, StandsFor, Meets}
 use Rattle.wf_transmit_refines.specs.Changes.{after_listing}
 use Rattle.wf_transmit_refines.specs.Pulling.{sending_tid_of, after_turn, is_wide_of, open_next, after_sending}
-use Rattle.wf_transmit_refines.specs.Filling.{IsTakingOff, HasRoomFor, IsTurned, IsFilled}
-use Rattle.wf_transmit_refines.specs.Views.{Agreements, agreements}
+use Rattle.wf_transmit_refines.specs.Filling.{IsTakingOff, IsTurned, IsFilled}
+use Rattle.wf_transmit_refines.specs.Views.{Agreements}
 use Rattle.wf_transmit_refines.proofs.Views.{agreements_session, agreements_share}
 use Rattle.wf_transmit_refines.proofs.Flies.{off_ends}
 use Rattle.wf_transmit_refines.proofs.Meets.{listed_meets}

@@ -1,5 +1,5 @@
 -- A frame is taken out of a TID's queues: those that CoDel drops are counted.
-use Rattle.std.proofs.Common.{◌≡◌, ◌≢◌, refl, ap, ap₂, sym, ◌∙◌, subst, arith, ℕ, suc, ◌+◌, ◌-◌, ◌<◌, ◌==◌, ◌||◌, Bool, true, false, List, [], ◌∷◌, ◌++◌, map, length, length-append, Option, Some, None, inl, inr, eq-eqb, add-zero}
+use Rattle.std.proofs.Common.{◌≡◌, ◌≢◌, refl, ap, ap₂, sym, ◌∙◌, subst, arith, ℕ, suc, ◌+◌, ◌-◌, ◌<◌, ◌==◌, true, List, [], ◌∷◌, length, length-append, Option, Some, None, inl, eq-eqb, add-zero}
 use Rattle.std.proofs.lemmas.Bool.{or_left, or_right}
 use Rattle.std.proofs.lemmas.List.{length-map}
 use Rattle.wf_frame.specs.declared.classes.Cause.{Cause}
@@ -7,24 +7,23 @@ use Rattle.wf_frame.specs.declared.classes.Cause.TheVariants.{Overlimit, Codel a
 use Rattle.wf_frame.specs.declared.classes.Fate.{Fate}
 use Rattle.wf_frame.specs.declared.classes.Fate.TheVariants.{Held, Dropped}
 use Rattle.wf_frame.specs.Frames.{FrameValue}
-use Rattle.wf_rules.specs.Codel.{Item, Dequeued, dequeue}
+use Rattle.wf_rules.specs.Codel.{Dequeued, dequeue}
 use Rattle.wf_rules.specs.Lists.{IsOnce}
 use Rattle.wf_rules.specs.Rotation.{in_order}
 use Rattle.wf_rules.specs.Table.{has}
-use Rattle.wf_world.specs.World.{World, Queue, queue, tid_of, frame, is_live, accepted_count, codel_params, on_queue, with_queues, with_frame_finished, with_frames_finished}
+use Rattle.wf_world.specs.World.{World, queue, tid_of, frame, is_live, accepted_count, codel_params, on_queue, with_queues, with_frame_finished, with_frames_finished}
 use Rattle.wf_world.specs.FlowQueues.{with_queues_paid, after_dequeue, taken_by_codel, taken_from_picked, picked_queue, taken_for_tid}
 use Rattle.wf_laws.proofs.Deficits.Books.{upd_other}
-use Rattle.wf_laws.proofs.Frames.Fates.{Fresh, ids_in, ids_carried, IsDroppedRight, dropped_dequeue, safe_calm}
+use Rattle.wf_laws.proofs.Frames.Fates.{Fresh, ids_in, IsDroppedRight, dropped_dequeue, safe_calm}
 use Rattle.wf_laws.proofs.Frames.Fewer.{less_pay_queues, less_with_queues, then_less}
 use Rattle.wf_laws.proofs.Frames.Untouched.{untouched_pay_queues, untouched_with_queues, then_untouched}
 use Rattle.wf_laws.proofs.Releases.Placed.{Any, Placing}
 use Rattle.wf_laws.proofs.Windows.Sides.{then_same, same_pay_queues, same_with_queues}
 use Rattle.wf_fate.specs.Tally.{Counts, settled_as, many_settled_as}
 use Rattle.wf_flowq.specs.Flows.{FlowsValue, tid_number, taken_for_tid as take_out}
-use Rattle.wf_flowq_refines.specs.Standing.{Part, part, ids, StandsFor as FlowsStandFor}
+use Rattle.wf_flowq_refines.specs.Standing.{Part, part, StandsFor as FlowsStandFor}
 use Rattle.wf_flowq_refines.proofs.Bodies.{frames_take}
 use Rattle.wf_flowq_refines.proofs.Elsewhere.{rest_take}
-use Rattle.wf_flowq_refines.proofs.Notes.{notes_take}
 use Rattle.wf_flowq_refines.proofs.Parts.{part_finish}
 use Rattle.wf_flowq_refines.proofs.Takes.{stands_take}
 use Rattle.wf_sched_refines.proofs.Unchanged.{take_leaves}

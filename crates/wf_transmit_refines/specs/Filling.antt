@@ -1,5 +1,5 @@
 -- In the middle of a pull: an aggregate is filled, and its numbers take off, one after the other.
-use Rattle.std.specs.Prelude.{◌≡◌, ℕ, zero, suc, ◌-◌, ◌<◌, ◌≤◌, Bool, true, false, List, [], ◌++◌, length, map}
+use Rattle.std.specs.Prelude.{◌≡◌, ℕ, zero, suc, ◌-◌, ◌<◌, true, false, List, length, map}
 use Rattle.wf_frame.specs.declared.classes.Cause.TheVariants.{Codel as By_codel}
 use Rattle.wf_frame.specs.declared.classes.Class.{Class}
 use Rattle.wf_frame.specs.declared.classes.Fate.TheVariants.{Dropped}
