@@ -24,3 +24,10 @@ pub mod Dropping
 pub mod Rooms
 pub mod Leavings
 pub mod Gone
+pub mod Pulls
+pub mod Flies
+pub mod Takes
+pub mod Gives
+pub mod Fills
+pub mod Sends
+pub mod Asked

@@ -5,3 +5,5 @@ pub mod Changes
 pub mod Counting
 pub mod Ending
 pub mod Leaving
+pub mod Pulling
+pub mod Filling

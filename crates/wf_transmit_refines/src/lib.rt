@@ -7,7 +7,7 @@
 //! function without a body that names it in its contract.
 #![tactic(auto)]
 
-ghost use Rattle.std.specs.Prelude.{◌≡◌, ◌<◌, ◌≤◌, ℕ, suc, ◌+◌, ◌-◌, ◌*◌, ◌==◌, ◌||◌, ◌++◌, pos, ◌-ℤ◌, Bool, true, false, List, [], ◌∷◌, Option, Some, None, is_some, option_map, map, find, count_by, set, length, max, unwrap_or};
+ghost use Rattle.std.specs.Prelude.{◌≡◌, ◌<◌, ◌≤◌, ℕ, suc, ◌+◌, ◌-◌, ◌*◌, ◌==◌, ◌||◌, ◌++◌, pos, ◌-ℤ◌, Bool, true, false, List, [], ◌∷◌, Option, Some, None, is_some, option_map, map, find, count_by, set, length, max, unwrap_or, ◌%◌, ◌&&◌, nat_lt, nat_le, if◌then◌else◌};
 ghost use Rattle.std.specs.List.{list_any};
 ghost use Rattle.wf_frame.specs.Classes.{lower_tid, upper_tid, same_class};
 ghost use Rattle.wf_frame.specs.Frames.{FrameValue};
@@ -21,21 +21,27 @@ ghost use Rattle.wf_frame.specs.declared.notes.Ask.TheVariants.{Done, Join, Leav
 ghost use Rattle.wf_frame.specs.declared.notes.Note.{Note};
 ghost use Rattle.wf_frame.specs.declared.notes.Note.TheVariants.{Enqueue, Asked};
 ghost use Rattle.wf_frame.specs.declared.notes.Refusal.{Refusal};
-ghost use Rattle.wf_frame.specs.declared.notes.Refusal.TheVariants.{Idle};
-ghost use Rattle.wf_frame.specs.declared.notes.ReplyNote.TheVariants.{Accepted, Ended, Gone, Joined, RateSet, Ticked, Slept, Woken, Credited, Charged, Reaped, Refused};
+ghost use Rattle.wf_frame.specs.declared.notes.Refusal.TheVariants.{Idle, Full};
+ghost use Rattle.wf_frame.specs.declared.notes.ReplyNote.TheVariants.{Accepted, Ended, Gone, Joined, RateSet, Ticked, Slept, Woken, Credited, Charged, Reaped, Refused, Send};
 ghost use Rattle.wf_frame.specs.declared.settings.Config.{Config};
+ghost use Rattle.wf_frame.specs.declared.notes.Part.TheVariants.{Mpdus, Request as Starts};
+ghost use Rattle.wf_rules.specs.Airtime.{Rate as RateValue, data_charge, request_charge};
+ghost use Rattle.wf_rules.specs.Codel.{Params};
+ghost use Rattle.wf_rules.specs.Parameters.{params_at};
+ghost use Rattle.wf_rules.specs.Fit.{fits, octets_of};
+ghost use Rattle.wf_exchanges.specs.declared.opened.Sending.TheVariants.{Data, Request as Starts_at};
 ghost use Rattle.wf_rules.specs.Lengths.{greatest_body};
 ghost use Rattle.wf_rules.specs.Lists.{IsOnce};
 ghost use Rattle.wf_rules.specs.Receiver.{Receiver};
 ghost use Rattle.wf_rules.specs.Table.{has, upto};
 ghost use Rattle.wf_rules.specs.Rotation.{Rotation, has_key};
-ghost use Rattle.wf_rules.specs.Session.{Session, State, slot, start_of, next_number, request_due, with_state, is_acknowledged, is_waiting, is_failed};
-ghost use Rattle.wf_world.specs.World.{World, Station, Tid, Share, Queue, Exchange, Mpdu, frame, accepted_count, is_held, codel_params, with_frame_finished, with_frames_finished, Frames, Request, opening, without_exchange, is_live, session, rotation, exchange, with_station, on_station, on_tid, on_session, on_receiver, on_share, on_queue, with_queues, with_rotation};
+ghost use Rattle.wf_rules.specs.Session.{Session, State, slot, start_of, next_number, request_due, with_state, is_acknowledged, is_waiting, is_failed, with_number_given};
+ghost use Rattle.wf_world.specs.World.{World, Station, Tid, Share, Queue, Exchange, Mpdu, frame, accepted_count, is_held, codel_params, with_frame_finished, with_frames_finished, Frames, Request, opening, without_exchange, is_live, session, rotation, exchange, with_station, on_station, on_tid, on_session, on_receiver, on_share, on_queue, with_queues, with_rotation, is_wide};
 ghost use Rattle.wf_world.specs.FlowQueues.{taken_for_tid as world_take, frames_queued as world_queued, after_limit, dropped_for_limit as dropped_for_limit_in};
 ghost use Rattle.wf_world.specs.CanSend.{can_give, request_open, has_waiting, can_send, can_send_in, is_ready, with_listings_of};
-ghost use Rattle.wf_world.specs.Exchanges.{Aggregate, Prepared, picked_station, sending_tid, after_pick, after_tid_turn, fits_in, fresh_mpdus, with_number, with_fresh, aggregate_of, with_flying, prepared_data, prepared_request, prepared_exchange, exchange_of, with_exchange_opened, without_credit, mpdus_of, is_acked, after_charge, with_settled, with_all_settled, count_in};
+ghost use Rattle.wf_world.specs.Exchanges.{Aggregate, Prepared, picked_station, sending_tid, after_pick, after_tid_turn, fits_in, fresh_mpdus, with_number, with_fresh, aggregate_of, with_flying, prepared_data, prepared_request, prepared_exchange, exchange_of, with_exchange_opened, without_credit, mpdus_of, is_acked, after_charge, with_settled, with_all_settled, count_in, part_of, lens_of, mpdu_of, aggregate_charge};
 ghost use Rattle.wf_world.specs.Refusals.{refusal, open_of_station, open_of_class, queued_in_class, can_send_any};
-ghost use Rattle.wf_world.specs.Step.{outcome_of, concerned_station, class_to_send, step, pull_outcome, done_outcome};
+ghost use Rattle.wf_world.specs.Step.{outcome_of, concerned_station, class_to_send, step, pull_outcome, done_outcome, send_outcome};
 ghost use Rattle.wf_laws.specs.Queues.{HasLength, IsAtMost};
 ghost use Rattle.wf_fate.specs.Tally.{held_in, settled_as, many_settled_as};
 ghost use Rattle.wf_laws.specs.Places.{IsNumbered, KeepsPlaces};
@@ -43,25 +49,29 @@ ghost use Rattle.wf_laws.specs.Windows.{EachMpdu, IsPending};
 ghost use Rattle.wf_flowq.specs.Flows.{tid_number, frames_queued, dropped_for_limit, taken_for_tid};
 ghost use Rattle.wf_flowq_refines.specs.Frames.{with_body, IsBodySettled};
 ghost use Rattle.wf_flowq_refines.specs.Standing.{part, with_finished, times_held};
-ghost use Rattle.wf_codel_queues.specs.Backlog.{BacklogValue};
+ghost use Rattle.wf_codel_queues.specs.Backlog.{BacklogValue, held};
 ghost use Rattle.wf_flowq_refines.specs.Rest.{rest};
 ghost use Rattle.wf_sched.specs.ClassRotas.{SchedValue, class_rota, with_class_rota, pick_of_class, IsAfterPick, deficit, after_join};
 ghost use Rattle.wf_sched_refines.specs.Standing.{StandsFor as TurnsStandFor, LeavesRotas, TellsReady, everywhere, with_charge};
 ghost use Rattle.wf_origwin.specs.Answers.{answer_of};
-ghost use Rattle.wf_origwin.specs.Window.{WindowValue, StandsFor as WindowStandsFor, settled, some_fly};
+ghost use Rattle.wf_origwin.specs.Window.{WindowValue, StandsFor as WindowStandsFor, settled, some_fly, IsNumber, state_at, can_take, on_air, waiting_from};
 ghost use Rattle.wf_origwin.specs.Expelling.{frame_left};
-ghost use Rattle.wf_codel_queues.specs.Backlog.{held};
+ghost use Rattle.wf_ampdu.specs.Rooms.{RoomValue, StandsFor as RoomStandsFor, empty_room};
+ghost use Rattle.wf_sched_refines.specs.Calls.{HasPicked};
+ghost use Rattle.wf_seq12.specs.Distance.{distance};
+ghost use Rattle.wf_origwin.specs.Listing.{IsListedNext};
 ghost use Rattle.wf_windows.specs.Windows.{HaveRoom, window_of, with_window};
 ghost use Rattle.wf_exchanges.specs.Exchanges.{asks};
 ghost use Rattle.wf_members.specs.Members.{member, on_member, new_member, with_rate, with_upper, with_receipt};
 ghost use Rattle.wf_powersave.specs.Sleepers.{sleeper, with_sleeper, awake};
 ghost use Rattle.wf_transmit_refines.specs.Half.{TransmitValue, opening_half, some_wait, can_send_of, is_ready_of};
-ghost use Rattle.wf_transmit_refines.specs.Standing.{open_of, counts_in, HasWindows, Parts, IsReached, StandsFor, Meets};
+ghost use Rattle.wf_transmit_refines.specs.Standing.{open_of, counts_in, HasWindows, Parts, IsReached, StandsFor, Meets, sending_of, numbers_on_air};
 ghost use Rattle.wf_transmit_refines.specs.Changes.{after_listing, AreReset, after_enqueue};
 ghost use Rattle.wf_transmit_refines.specs.Counting.{with_overlimit};
 ghost use Rattle.wf_transmit_refines.specs.Ending.{after_close, after_finish, after_answer, IsEnding, state_left};
-ghost use Rattle.wf_transmit_refines.specs.Taking.{QueuesAreHeld};
 ghost use Rattle.wf_transmit_refines.specs.Leaving.{after_expelled, after_tid_purged, after_leave, IsLeaving, IsExpelling, IsExpelled};
+ghost use Rattle.wf_transmit_refines.specs.Pulling.{sending_tid_of, after_turn, is_wide_of, open_next, after_sending};
+ghost use Rattle.wf_transmit_refines.specs.Filling.{AreWaiting, IsTakingOff, with_one_fresh, IsFilling, IsFilled, after_giving, fresh_mpdu, room_for, IsToFill, IsChoosing, IsTurned};
 ghost use Rattle.wf_transmit_refines.specs.Views.{agreements, roster, ledger, HasSameViews, KeepsView, KeepsSums};
 
 /// A new half stands for the opening world, whatever frames are to come.
@@ -327,4 +337,164 @@ pub fn a_leave()
         dropped ≤ held_in v.tally }
     ensures ends { (before v : TransmitValue) (w : World) (bodies : ℕ → FrameValue) (s dropped : ℕ) → IsLeaving before w bodies s 8 v dropped → HaveRoom v.windows →
         Meets w bodies (Asked (Leave s)) (after_leave v s dropped) (Gone dropped) }
+{}
+
+/// A pull that finds nobody ready is refused, but its pick is done: the class's lists and the deficits change.
+pub fn a_pull_that_finds_nobody()
+    ensures { (v : TransmitValue) (w : World) (bodies : ℕ → FrameValue) → StandsFor v w bodies → (c : Class) (turns : SchedValue) →
+        refusal w (Asked (Pull c)) ≡ Some Idle → HasPicked w c v.sched turns →
+        Meets w bodies (Asked (Pull c)) (record v { sched = turns }) (Refused Idle) }
+{}
+
+/// When a pull is refused, by what the half has: the class has as many open exchanges as may be, or else nobody is picked.
+pub fn a_pull_is_refused()
+    ensures full { (v : TransmitValue) (w : World) (bodies : ℕ → FrameValue) (c : Class) → Parts v w bodies →
+        nat_le v.config.inflight (count_by (λ x. same_class x.class c) v.opened) ≡ true →
+        refusal w (Asked (Pull c)) ≡ Some (Full (count_by (λ x. same_class x.class c) v.opened)) }
+    ensures idle { (v : TransmitValue) (w : World) (bodies : ℕ → FrameValue) (c : Class) → Parts v w bodies →
+        nat_le v.config.inflight (count_by (λ x. same_class x.class c) v.opened) ≡ false → (picked_station w c).winner ≡ None →
+        refusal w (Asked (Pull c)) ≡ Some Idle }
+    ensures none { (v : TransmitValue) (w : World) (bodies : ℕ → FrameValue) (c : Class) → Parts v w bodies →
+        nat_le v.config.inflight (count_by (λ x. same_class x.class c) v.opened) ≡ false → (s : ℕ) → (picked_station w c).winner ≡ Some s →
+        refusal w (Asked (Pull c)) ≡ None }
+{}
+
+/// What a half reads of a live station in a pull: CoDel's parameters, the room of an aggregate, and how many frames a take
+/// dropped, by those of the TID that are queued before and after it.
+pub fn a_pull_reads()
+    ensures params { (v : TransmitValue) (w : World) (bodies : ℕ → FrameValue) (s : ℕ) → Parts v w bodies → is_live w s ≡ true →
+        (rate : RateValue) → option_map (λ m. m.rate) (member v.members s) ≡ Some rate → params_at rate ≡ codel_params w s }
+    ensures room { (v : TransmitValue) (w : World) (bodies : ℕ → FrameValue) (s : ℕ) → Parts v w bodies → is_live w s ≡ true →
+        (rate : RateValue) → option_map (λ m. m.rate) (member v.members s) ≡ Some rate →
+        (t exponent : ℕ) → t < 8 → option_map (λ m. m.exponent) (member v.members s) ≡ Some exponent →
+        empty_room rate exponent (if (sleeper v.sleepers s).asleep then 1 else v.config.agg) v.config.cap (is_wide_of v s t) ≡ room_for w s t }
+    ensures drops { (v : TransmitValue) (w : World) (bodies : ℕ → FrameValue) (s t : ℕ) → Parts v w bodies → is_live w s ≡ true → t < 8 →
+        (params : Params) (f : FrameValue) → (taken_for_tid v.flows (tid_number s t) v.clock params).frame ≡ Some f →
+        frames_queued v.flows (tid_number s t) - 1 - frames_queued (taken_for_tid v.flows (tid_number s t) v.clock params).flows (tid_number s t)
+        ≡ length (taken_for_tid v.flows (tid_number s t) v.clock params).flows.backlog.finished - length v.flows.backlog.finished }
+{}
+
+/// A pull begins: a station is picked, and the TID of the class that sends gives the turn to the other one.
+pub fn a_pull_begins()
+    ensures pick { (v : TransmitValue) (w : World) (bodies : ℕ → FrameValue) (c : Class) (turns : SchedValue) → HasPicked w c v.sched turns →
+        Parts v w bodies → Parts (record v { sched = turns }) (after_pick w c) bodies }
+    ensures sends { (v : TransmitValue) (w : World) (bodies : ℕ → FrameValue) (s : ℕ) (c : Class) → Parts v w bodies → is_live w s ≡ true →
+        sending_tid_of v s c ≡ sending_tid w s c }
+    ensures turn { (v : TransmitValue) (w : World) (bodies : ℕ → FrameValue) (s : ℕ) (c : Class) (t : ℕ) → s < w.config.stations →
+        Parts v w bodies → Parts (after_turn v s c t) (after_tid_turn w s c t) bodies }
+{}
+
+/// What is prepared goes on the air: the half that stood for the world in which it is prepared stands for the one in which it
+/// is sent, and the reply tells of the exchange that the half opened.
+pub fn an_exchange_is_sent()
+    ensures sent { (v : TransmitValue) (bodies : ℕ → FrameValue) (s t : ℕ) (c : Class) (p : Prepared) → Parts v p.world bodies → is_live p.world s ≡ true →
+        Parts (after_sending v s t c p.charge (sending_of p.content)) (send_outcome s t c p).world bodies }
+    ensures reply { (v : TransmitValue) (bodies : ℕ → FrameValue) (s t : ℕ) (c : Class) (p : Prepared) → Parts v p.world bodies → is_live p.world s ≡ true →
+        Send v.exchanges s t p.charge (part_of p.content) (open_next v s t c p.charge (sending_of p.content)).more ≡ (send_outcome s t c p).reply }
+    ensures wide { (v : TransmitValue) (w : World) (bodies : ℕ → FrameValue) (s t : ℕ) → Parts v w bodies → is_live w s ≡ true → t < 8 →
+        is_wide_of v s t ≡ is_wide w s t }
+{}
+
+/// The waiting numbers of an aggregate are chosen, as a window lists them, while they fit. Where one does not fit, the aggregate
+/// is filled by those before it; where all do, fresh frames come next.
+pub fn waiting_numbers_are_chosen()
+    ensures begins { (v : TransmitValue) (w : World) (bodies : ℕ → FrameValue) (s t : ℕ) → IsToFill v w bodies s t →
+        IsChoosing (room_for w s t) [] (window_of v.windows s t).start w s t }
+    ensures near { (v : TransmitValue) (w : World) (bodies : ℕ → FrameValue) (s t : ℕ) → IsToFill v w bodies s t →
+        (room : RoomValue) (numbers : List ℕ) (from : ℕ) → IsChoosing room numbers from w s t →
+        distance from (window_of v.windows s t).start ≤ length (window_of v.windows s t).places }
+    ensures length { (v : TransmitValue) (w : World) (bodies : ℕ → FrameValue) (s t : ℕ) → IsToFill v w bodies s t →
+        (room : RoomValue) (numbers : List ℕ) (from : ℕ) (so_far : IsChoosing room numbers from w s t) (seq : ℕ) (next : IsListedNext (session w s t) so_far.chosen seq) →
+        length (bodies (slot (session w s t) next.number).id).body ≡ (mpdu_of w s t next.number).len }
+    ensures goes_on { (v : TransmitValue) (w : World) (bodies : ℕ → FrameValue) (s t : ℕ) → IsToFill v w bodies s t →
+        (room : RoomValue) (numbers : List ℕ) (from : ℕ) (so_far : IsChoosing room numbers from w s t) (seq : ℕ) (next : IsListedNext (session w s t) so_far.chosen seq) →
+        (more : RoomValue) → fits room.rate room.exponent room.agg room.cap (lens_of (map (mpdu_of w s t) so_far.chosen) ++ (mpdu_of w s t next.number).len ∷ []) ≡ true →
+        more ≡ record room { count = more.count; octets = more.octets } →
+        RoomStandsFor more (lens_of (map (mpdu_of w s t) so_far.chosen) ++ (mpdu_of w s t next.number).len ∷ []) →
+        IsChoosing more (numbers ++ seq ∷ []) ((seq + 1) % 4096) w s t }
+    ensures stops { (v : TransmitValue) (w : World) (bodies : ℕ → FrameValue) (s t : ℕ) → IsToFill v w bodies s t →
+        (room : RoomValue) (numbers : List ℕ) (from : ℕ) (so_far : IsChoosing room numbers from w s t) (seq : ℕ) (next : IsListedNext (session w s t) so_far.chosen seq) →
+        fits room.rate room.exponent room.agg room.cap (lens_of (map (mpdu_of w s t) so_far.chosen) ++ (mpdu_of w s t next.number).len ∷ []) ≡ false →
+        IsFilled v bodies s t room numbers (aggregate_of w s t) }
+    ensures ends { (v : TransmitValue) (w : World) (bodies : ℕ → FrameValue) (s t : ℕ) → IsToFill v w bodies s t →
+        (room : RoomValue) (numbers : List ℕ) (from : ℕ) (so_far : IsChoosing room numbers from w s t) →
+        option_map on_air (waiting_from (session w s t) so_far.listed.number) ≡ None →
+        IsFilling v w bodies s t room numbers (map (mpdu_of w s t) so_far.chosen) (aggregate_of w s t) }
+{}
+
+/// Fresh frames are given, one after the other, while there is room for one and the TID can give one. A frame is taken out by the
+/// parameters of the station's rate, those that CoDel drops are counted, and it gets the next number. Where it fits, the
+/// aggregate goes on with it; where not, it waits with its number, and the aggregate is filled without it.
+pub fn fresh_frames_are_given()
+    ensures full { (v : TransmitValue) (w : World) (bodies : ℕ → FrameValue) (s t : ℕ) (room : RoomValue) (numbers : List ℕ) (mpdus : List Mpdu) (after : Aggregate) →
+        IsFilling v w bodies s t room numbers mpdus after → room.agg ≤ length numbers → IsFilled v bodies s t room numbers after }
+    ensures idle { (v : TransmitValue) (w : World) (bodies : ℕ → FrameValue) (s t : ℕ) (room : RoomValue) (numbers : List ℕ) (mpdus : List Mpdu) (after : Aggregate) →
+        IsFilling v w bodies s t room numbers mpdus after → (nat_lt 0 (frames_queued v.flows (tid_number s t)) && can_take (window_of v.windows s t)) ≡ false →
+        IsFilled v bodies s t room numbers after }
+    ensures own { (v : TransmitValue) (w : World) (bodies : ℕ → FrameValue) (s t : ℕ) (room : RoomValue) (numbers : List ℕ) (mpdus : List Mpdu) (after : Aggregate) →
+        IsFilling v w bodies s t room numbers mpdus after → (params : Params) → params ≡ codel_params w s →
+        (f : FrameValue) → (taken_for_tid v.flows (tid_number s t) v.clock params).frame ≡ Some f → f ≡ bodies f.id }
+    ensures goes_on { (v : TransmitValue) (w : World) (bodies : ℕ → FrameValue) (s t : ℕ) (room : RoomValue) (numbers : List ℕ) (mpdus : List Mpdu) (after : Aggregate) →
+        IsFilling v w bodies s t room numbers mpdus after → (params : Params) → params ≡ codel_params w s →
+        (f : FrameValue) → (taken_for_tid v.flows (tid_number s t) v.clock params).frame ≡ Some f →
+        (x : WindowValue) → HaveRoom (with_window v.windows s t x) → WindowStandsFor x (with_number_given (session w s t) f.id) bodies →
+        length numbers < room.agg → (nat_lt 0 (frames_queued v.flows (tid_number s t)) && can_take (window_of v.windows s t)) ≡ true →
+        (more : RoomValue) → fits room.rate room.exponent room.agg room.cap (lens_of mpdus ++ length f.body ∷ []) ≡ true →
+        more ≡ record room { count = more.count; octets = more.octets } → RoomStandsFor more (lens_of mpdus ++ length f.body ∷ []) →
+        IsFilling (after_giving v s t params x) (with_one_fresh w s t) bodies s t more (numbers ++ on_air (next_number (session w s t)) ∷ []) (mpdus ++ fresh_mpdu w s t f ∷ []) after }
+    ensures stops { (v : TransmitValue) (w : World) (bodies : ℕ → FrameValue) (s t : ℕ) (room : RoomValue) (numbers : List ℕ) (mpdus : List Mpdu) (after : Aggregate) →
+        IsFilling v w bodies s t room numbers mpdus after → (params : Params) → params ≡ codel_params w s →
+        (f : FrameValue) → (taken_for_tid v.flows (tid_number s t) v.clock params).frame ≡ Some f →
+        (x : WindowValue) → HaveRoom (with_window v.windows s t x) → WindowStandsFor x (with_number_given (session w s t) f.id) bodies →
+        length numbers < room.agg → (nat_lt 0 (frames_queued v.flows (tid_number s t)) && can_take (window_of v.windows s t)) ≡ true →
+        fits room.rate room.exponent room.agg room.cap (lens_of mpdus ++ length f.body ∷ []) ≡ false →
+        IsFilled (after_giving v s t params x) bodies s t room numbers after }
+{}
+
+/// The numbers of an aggregate take off, one after the other. Each of them still waits when its turn comes, with its own frame;
+/// where its window stands for the session in which it flies, those behind it are next, and at the end all fly.
+pub fn the_numbers_take_off()
+    ensures begins { (v : TransmitValue) (a : Aggregate) (bodies : ℕ → FrameValue) (s t : ℕ) → Parts v a.world bodies → is_live a.world s ≡ true → t < 8 →
+        AreWaiting (session a.world s t) bodies a.mpdus → IsTakingOff v a.world bodies s t a.world.exchanges a.mpdus (prepared_data s t a).world }
+    ensures number { (v : TransmitValue) (w : World) (bodies : ℕ → FrameValue) (s t e : ℕ) (m : Mpdu) (ms : List Mpdu) (after : World) →
+        IsTakingOff v w bodies s t e (m ∷ ms) after → (seq : ℕ) → seq ≡ m.number % 4096 → IsNumber (session w s t) m.number seq }
+    ensures waits { (v : TransmitValue) (w : World) (bodies : ℕ → FrameValue) (s t e : ℕ) (m : Mpdu) (ms : List Mpdu) (after : World) →
+        IsTakingOff v w bodies s t e (m ∷ ms) after → (seq : ℕ) → seq ≡ m.number % 4096 → state_at (window_of v.windows s t) seq ≡ State.Waiting }
+    ensures frame { (v : TransmitValue) (w : World) (bodies : ℕ → FrameValue) (s t e : ℕ) (m : Mpdu) (ms : List Mpdu) (after : World) →
+        IsTakingOff v w bodies s t e (m ∷ ms) after → (bodies (slot (session w s t) m.number).id).id ≡ m.id }
+    ensures next { (v : TransmitValue) (w : World) (bodies : ℕ → FrameValue) (s t e : ℕ) (m : Mpdu) (ms : List Mpdu) (after : World) →
+        IsTakingOff v w bodies s t e (m ∷ ms) after → (x : WindowValue) → HaveRoom (with_window v.windows s t x) →
+        WindowStandsFor x (with_state (State.Flying e) m.number (session w s t)) bodies →
+        IsTakingOff (record v { windows = with_window v.windows s t x }) (on_session w s t (with_state (State.Flying e) m.number)) bodies s t e ms after }
+    ensures ends { (v : TransmitValue) (w : World) (bodies : ℕ → FrameValue) (s t e : ℕ) (after : World) →
+        IsTakingOff v w bodies s t e [] after → Parts v after bodies }
+{}
+
+/// A pull, whole. The station that is picked has its turn, in which the half is to prepare what one of its TIDs sends. Where a
+/// request is due, that is sent; else an aggregate, once it is filled and all its numbers have taken off. Then the half stands
+/// for the step, and the reply is the step's.
+pub fn a_pull()
+    ensures tid { (v : TransmitValue) (w : World) (bodies : ℕ → FrameValue) → StandsFor v w bodies → (c : Class) (s : ℕ) → (picked_station w c).winner ≡ Some s →
+        (turns : SchedValue) → HasPicked w c v.sched turns → sending_tid_of (record v { sched = turns }) s c ≡ sending_tid (after_pick w c) s c }
+    ensures sends { (v : TransmitValue) (w : World) (bodies : ℕ → FrameValue) → StandsFor v w bodies → (c : Class) (s : ℕ) → (picked_station w c).winner ≡ Some s →
+        (turns : SchedValue) → HasPicked w c v.sched turns →
+        can_send_of (record v { sched = turns }) s (sending_tid_of (record v { sched = turns }) s c) ≡ true }
+    ensures turned { (v : TransmitValue) (w : World) (bodies : ℕ → FrameValue) → StandsFor v w bodies → (c : Class) (s : ℕ) → (picked_station w c).winner ≡ Some s →
+        (turns : SchedValue) → HasPicked w c v.sched turns → (t : ℕ) → t ≡ sending_tid_of (record v { sched = turns }) s c →
+        IsTurned (after_turn (record v { sched = turns }) s c t) (after_tid_turn (after_pick w c) s c t) bodies s t }
+    ensures request { (v : TransmitValue) (w : World) (bodies : ℕ → FrameValue) → StandsFor v w bodies → (c : Class) (s : ℕ) → refusal w (Asked (Pull c)) ≡ None →
+        (picked_station w c).winner ≡ Some s → (t : ℕ) → t ≡ sending_tid (after_pick w c) s c →
+        (x : TransmitValue) → IsTurned x (after_tid_turn (after_pick w c) s c t) bodies s t → is_some (window_of x.windows s t).due ≡ true →
+        (charge : ℕ) → charge ≡ request_charge (is_wide_of x s t) →
+        Meets w bodies (Asked (Pull c)) (after_listing (after_sending x s t c charge (Starts_at (window_of x.windows s t).start)) s)
+        (Send x.exchanges s t charge (Starts (window_of x.windows s t).start) (open_next x s t c charge (Starts_at (window_of x.windows s t).start)).more) }
+    ensures charge { (v : TransmitValue) (bodies : ℕ → FrameValue) (s t : ℕ) (room : RoomValue) (numbers : List ℕ) (a : Aggregate) → IsFilled v bodies s t room numbers a →
+        data_charge room.rate (octets_of (lens_of a.mpdus)) room.wide ≡ aggregate_charge s t a }
+    ensures data { (v : TransmitValue) (w : World) (bodies : ℕ → FrameValue) → StandsFor v w bodies → (c : Class) (s : ℕ) → refusal w (Asked (Pull c)) ≡ None →
+        (picked_station w c).winner ≡ Some s → (t : ℕ) → t ≡ sending_tid (after_pick w c) s c →
+        (a : Aggregate) → aggregate_of (after_tid_turn (after_pick w c) s c t) s t ≡ a → request_due (session (after_tid_turn (after_pick w c) s c t) s t) ≡ false →
+        (x : TransmitValue) (u : World) → IsTakingOff x u bodies s t a.world.exchanges [] (prepared_data s t a).world →
+        (charge : ℕ) (numbers : List ℕ) → charge ≡ aggregate_charge s t a → numbers ≡ numbers_on_air a.mpdus →
+        Meets w bodies (Asked (Pull c)) (after_listing (after_sending x s t c charge (Data numbers)) s)
+        (Send x.exchanges s t charge (Mpdus (map (λ m. (m.id, m.number % 4096)) a.mpdus)) (open_next x s t c charge (Data numbers)).more) }
 {}
