@@ -77,9 +77,9 @@ windows_gone before after bodies a s f h emptied room = record {
   sized = emptied.sized ∙ h.sized;
   room = room;
   all = station_goes before after a.live (upd a.live s false) a.sessions (upd a.sessions s f) bodies s h.all (record {
-    windows = λ i k other low. emptied.others i k low (λ e _. other e);
+    windows_same = λ i k other low. emptied.others i k low (λ e _. other e);
     live = λ i other. upd_other a.live s i false other;
-    sessions = λ i k other. ap (λ (g : ℕ → Session). g k) (upd_other a.sessions s i f other);
+    sessions = λ i k other low. ap (λ (g : ℕ → Session). g k) (upd_other a.sessions s i f other);
   }) (upd_same a.live s false) (λ k low. emptied.empty k low);
 }
 
