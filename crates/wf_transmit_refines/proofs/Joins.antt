@@ -1,11 +1,9 @@
 -- A station joins.
-use Rattle.std.proofs.Common.{◌≡◌, refl, ap, sym, ◌∙◌, subst, arith, ℕ, zero, suc, ◌*◌, ◌<◌, true, false, List, [], ◌∷◌, Some, None, set, replicate, inl, inr}
-use Rattle.std.proofs.lemmas.Bool.{cases_eq}
+use Rattle.std.proofs.Common.{◌≡◌, refl, ap, sym, ◌∙◌, subst, arith, ℕ, zero, suc, ◌*◌, ◌<◌, true, false, List, [], ◌∷◌, Some, None, set, replicate}
 use Rattle.wf_frame.specs.declared.classes.Class.{Class}
 use Rattle.wf_frame.specs.declared.classes.Class.TheVariants.{Bk, Be, Vi, Vo}
 use Rattle.wf_frame.specs.Frames.{FrameValue}
 use Rattle.wf_rules.specs.Airtime.{lowest_rate}
-use Rattle.wf_rules.specs.Bounds.{greatest_window}
 use Rattle.wf_rules.specs.Session.{Session, new_session}
 use Rattle.wf_rules.specs.Table.{at}
 use Rattle.wf_world.specs.World.{World, Station, Tid, no_tid, new_tid, new_share, is_live, with_station}
@@ -17,9 +15,11 @@ use Rattle.wf_sched_refines.proofs.Members.{join_stands}
 use Rattle.wf_flowq_refines.specs.Rest.{session_in}
 use Rattle.wf_flowq_refines.proofs.Leaves.{stands_joined}
 use Rattle.wf_origwin.specs.Window.{WindowValue, StandsFor as WindowStandsFor}
+use Rattle.wf_windows.specs.Windows.{window_of}
+use Rattle.wf_windows.proofs.Changes.{station_joins}
 use Rattle.wf_members.specs.Members.{new_member, upper_in, charged_in, received_in}
 use Rattle.wf_powersave.specs.Sleepers.{awake, with_sleeper}
-use Rattle.wf_transmit_refines.specs.Half.{TransmitValue, window_of}
+use Rattle.wf_transmit_refines.specs.Half.{TransmitValue}
 use Rattle.wf_transmit_refines.specs.Standing.{Parts}
 use Rattle.wf_transmit_refines.specs.Changes.{AreReset}
 use Rattle.wf_transmit_refines.specs.Views.{Agreements, agreements, view_of, Roster, roster}
@@ -80,26 +80,18 @@ module _ (airtime window start exponent weight : ℕ) where
 abbrev pub with_sessions : Agreements → ℕ → (ℕ → Session) → Agreements
 with_sessions a s f = record a { live = upd a.live s true; sessions = upd a.sessions s f }
 
-module _ (before after : List WindowValue) (bodies : ℕ → FrameValue) (a : Agreements) (s first size : ℕ) (f : ℕ → Session) (h : WindowsStand before bodies a) (reset : AreReset before after s first size)
-    (low : s < a.config.stations) (new : (t : ℕ) → t < 8 → f t ≡ new_session first size) where
-  windows_reset : WindowsStand after bodies (with_sessions a s f)
-  windows_reset = record {
-    sized = reset.sized ∙ h.sized;
-    capacity = λ i t low_i low_t. elim (cases_eq i s) [
-      | inl e ↦ subst (λ (n : ℕ). (window_of after n t).capacity ≡ greatest_window) (sym e) (reset.capacity t low_t ∙ h.capacity s t low low_t)
-      | inr other ↦ ap (λ (x : WindowValue). x.capacity) (reset.others i t other low_t) ∙ h.capacity i t low_i low_t
-    ];
-    live = λ i t is low_t. elim (cases_eq i s) [
-      | inl e ↦ subst (λ (n : ℕ). WindowStandsFor (window_of after n t) (upd a.sessions s f n t) bodies) (sym e)
-          (subst (λ (y : Session). WindowStandsFor (window_of after s t) y bodies) (sym (ap (λ (g : ℕ → Session). g t) (upd_same a.sessions s f) ∙ new t low_t)) (reset.own t bodies low_t))
-      | inr other ↦ subst (λ (x : WindowValue). WindowStandsFor x (upd a.sessions s f i t) bodies) (sym (reset.others i t other low_t))
-          (subst (λ (y : Session). WindowStandsFor (window_of before i t) y bodies) (sym (ap (λ (g : ℕ → Session). g t) (upd_other a.sessions s i f other))) (h.live i t (sym (upd_other a.live s i true other) ∙ is) low_t))
-    ];
-    empty = λ i t off low_t. elim (cases_eq i s) [
-      | inl e ↦ let on : upd a.live s true i ≡ true = ap (upd a.live s true) e ∙ upd_same a.live s true in absurd (cc (on, off))
-      | inr other ↦ ap (λ (x : WindowValue). x.places) (reset.others i t other low_t) ∙ h.empty i t (sym (upd_other a.live s i true other) ∙ off) low_t
-    ];
-  }
+windows_reset : (before after : List WindowValue) (bodies : ℕ → FrameValue) (a : Agreements) (s first size : ℕ) (f : ℕ → Session) → WindowsStand before bodies a → AreReset before after s first size →
+    ((t : ℕ) → t < 8 → f t ≡ new_session first size) → WindowsStand after bodies (with_sessions a s f)
+windows_reset before after bodies a s first size f h reset new = record {
+  sized = reset.sized ∙ h.sized;
+  room = reset.room;
+  all = station_joins before after a.live (upd a.live s true) a.sessions (upd a.sessions s f) bodies s h.all (record {
+    windows = reset.others;
+    live = λ x other. upd_other a.live s x true other;
+    sessions = λ x y other. ap (λ (g : ℕ → Session). g y) (upd_other a.sessions s x f other);
+  }) (upd_same a.live s true)
+      (λ t low. subst (λ (y : Session). WindowStandsFor (window_of after s t) y bodies) (sym (ap (λ (g : ℕ → Session). g t) (upd_same a.sessions s f) ∙ new t low)) (reset.own t bodies low));
+}
 
 -- ---- the call
 
@@ -129,7 +121,7 @@ join_parts v w bodies after s window start exponent weight low off reset h =
           (station_replaced v.members v.sleepers w.config.stations (roster w).stations s (Some (new_member exponent)) awake (Some (view_of x)) p.stations low
           (fresh_member (w.config.quantum * weight) window start exponent weight) (record { asleep = refl; credit = refl }));
       windows = subst (WindowsStand after bodies) (sym (agreements_with_station w s (Some x)))
-          (windows_reset v.windows after bodies (agreements w) s start window (session_in (Some x)) p.windows reset low (new_sessions (w.config.quantum * weight) window start exponent weight));
+          (windows_reset v.windows after bodies (agreements w) s start window (session_in (Some x)) p.windows reset (new_sessions (w.config.quantum * weight) window start exponent weight));
       flows = stands_joined v.flows w s window start exponent weight off p.flows;
       turns = join_stands v.sched w s window start exponent weight p.turns low;
       ledger = p.ledger;

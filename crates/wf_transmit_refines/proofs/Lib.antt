@@ -10,3 +10,6 @@ pub mod Listings
 pub mod Meets
 pub mod Unheard
 pub mod Whole
+pub mod Ledgers
+pub mod Known
+pub mod Enqueues

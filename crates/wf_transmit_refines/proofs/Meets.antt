@@ -26,7 +26,7 @@ by_step v w bodies note o e h r = record {
   reply = sym (ap (λ (x : Outcome). x.reply) e);
 }
 
-listed_none : (v : TransmitValue) (u : World) (bodies : ℕ → FrameValue) → Parts v u bodies → Parts v (with_listings_of u None) bodies
+pub listed_none : (v : TransmitValue) (u : World) (bodies : ℕ → FrameValue) → Parts v u bodies → Parts v (with_listings_of u None) bodies
 unfolding with_listings_of
 listed_none v u bodies h = h
 

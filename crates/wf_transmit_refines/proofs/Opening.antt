@@ -1,6 +1,8 @@
 -- A new half stands for the opening world.
-use Rattle.std.proofs.Common.{refl, sym, subst, arith, ℕ, List, [], Option, None, replicate}
-use Rattle.std.proofs.lemmas.List.{length-replicate}
+use Rattle.std.proofs.Common.{◌≡◌, refl, ap, sym, subst, arith, ℕ, ◌+◌, ◌*◌, [], Option, None, replicate, inl, inr}
+use Rattle.std.specs.Prelude.{slice_index_or}
+use Rattle.std.proofs.lemmas.Bool.{cases_lt}
+use Rattle.std.proofs.lemmas.List.{get_or-replicate, get_or_past, length-replicate}
 use Rattle.std.proofs.lemmas.List.Elements.{All-nil, All-same}
 use Rattle.wf_frame.specs.declared.settings.Config.{Config}
 use Rattle.wf_frame.specs.Frames.{FrameValue}
@@ -13,6 +15,7 @@ use Rattle.wf_flowq_refines.specs.Frames.{IsBody, IsBodySettled}
 use Rattle.wf_flowq_refines.proofs.Opening.{read_replicate, no_frames, stands_opening}
 use Rattle.wf_sched_refines.proofs.Readings.{opening_stands}
 use Rattle.wf_origwin.specs.Window.{WindowValue}
+use Rattle.wf_windows.specs.Windows.{new_window, no_window}
 use Rattle.wf_members.specs.declared.members.Member.{Member}
 use Rattle.wf_members.specs.Members.{member}
 use Rattle.wf_powersave.specs.Sleepers.{awake}
@@ -22,11 +25,28 @@ use Rattle.wf_transmit_refines.specs.Standing.{StandsFor, HasWindows, AreBoth, I
 nobody : (n s : ℕ) → AreBoth IsMember (member (replicate n None) s) None
 nobody n s = subst (λ (m : Option Member). AreBoth IsMember m None) (sym (read_replicate {X = Option Member} n s None)) tt
 
-pub new_stands : (c : Config) (windows : List WindowValue) (bodies : ℕ → FrameValue) → IsInRange c → HasWindows windows (opening c) bodies → StandsFor (opening_half c windows) (opening c) bodies
+module _ (c : Config) (bodies : ℕ → FrameValue) where
+  no_places : (k : ℕ) → (slice_index_or (replicate (8 * c.stations) new_window) k no_window).places ≡ []
+  no_places k = elim (cases_lt k (8 * c.stations)) [
+    | inl low ↦ ap (λ (x : WindowValue). x.places) (get_or-replicate (8 * c.stations) k new_window no_window low)
+    | inr past ↦ ap (λ (x : WindowValue). x.places) (get_or_past (replicate (8 * c.stations) new_window) k no_window (omega (arith, past, length-replicate (8 * c.stations) new_window)))
+  ]
+
+  new_windows : HasWindows (replicate (8 * c.stations) new_window) (opening c) bodies
+  new_windows = record {
+    sized = length-replicate (8 * c.stations) new_window;
+    room = record { each = λ i low. ap (λ (x : WindowValue). x.capacity) (get_or-replicate (8 * c.stations) i new_window no_window (omega (arith, low, length-replicate (8 * c.stations) new_window))) };
+    all = record {
+      stands = λ s t is low. absurd (cc is);
+      empty = λ s t off low. no_places (8 * s + t);
+    };
+  }
+
+pub new_stands : (c : Config) (bodies : ℕ → FrameValue) → IsInRange c → StandsFor (opening_half c) (opening c) bodies
 unfolding world_after
-new_stands c windows bodies range h = record {
+new_stands c bodies range = record {
   parts = record {
-    windows = h;
+    windows = new_windows c bodies;
     others = record {
       config = refl;
       clock = refl;

@@ -19,12 +19,13 @@ use Rattle.wf_flowq_refines.proofs.Readers.{same_queued}
 use Rattle.wf_origwin.specs.Window.{WindowValue, StandsFor as WindowStandsFor, can_take}
 use Rattle.wf_origwin.proofs.Calls.{due_is, can_take_is}
 use Rattle.wf_origwin.proofs.Counting.{some_waits}
+use Rattle.wf_windows.specs.Windows.{window_of}
 use Rattle.wf_exchanges.specs.declared.opened.Open.{Open}
 use Rattle.wf_exchanges.specs.Exchanges.{is_request, asks}
 use Rattle.wf_members.specs.declared.members.Member.{Member}
 use Rattle.wf_members.specs.Members.{member}
 use Rattle.wf_powersave.specs.Sleepers.{sleeper}
-use Rattle.wf_transmit_refines.specs.Half.{TransmitValue, window_of, some_wait, can_send_of, is_ready_of}
+use Rattle.wf_transmit_refines.specs.Half.{TransmitValue, some_wait, can_send_of, is_ready_of}
 use Rattle.wf_transmit_refines.specs.Standing.{sending_of, open_of, IsMember, AreBoth, Parts}
 
 -- ---- open exchanges
@@ -84,7 +85,7 @@ module _ (v : TransmitValue) (w : World) (bodies : ℕ → FrameValue) (s t : �
   window = window_of v.windows s t
 
   stands : WindowStandsFor window (session w s t) bodies
-  stands = h.windows.live s t live low
+  stands = h.windows.all.stands s t live low
 
   below : s < v.flows.stations
   below = omega (arith, h.others.turns.live s live, ap (λ x. x.stations) h.others.flows.settings)

@@ -1,12 +1,13 @@
 -- The relation over the views of a world, there and back.
-use Rattle.std.proofs.Common.{◌≡◌, refl, ap, sym, ◌∙◌, subst, ℕ, ◌*◌, ◌<◌, true, false, List, [], length, Option, Some, None, is_some, IfSome, unwrap_or, option_map}
+use Rattle.std.proofs.Common.{◌≡◌, refl, ap, sym, ◌∙◌, subst, ℕ, ◌*◌, ◌<◌, true, List, length, Option, Some, None, is_some, IfSome, unwrap_or, option_map}
 use Rattle.wf_frame.specs.declared.classes.Class.{Class}
 use Rattle.wf_frame.specs.Frames.{FrameValue}
-use Rattle.wf_rules.specs.Bounds.{greatest_window}
 use Rattle.wf_rules.specs.Table.{at}
 use Rattle.wf_world.specs.World.{World, Station, no_station}
 use Rattle.wf_fate.specs.Tally.{Counts}
-use Rattle.wf_origwin.specs.Window.{WindowValue, StandsFor as WindowStandsFor}
+use Rattle.wf_origwin.specs.Window.{WindowValue}
+use Rattle.wf_windows.specs.Windows.{HaveRoom}
+use Rattle.wf_windows.specs.Many.{AllStand}
 use Rattle.wf_members.specs.declared.members.Member.{Member}
 use Rattle.wf_members.specs.Members.{member, upper_in, charged_in, received_in}
 use Rattle.wf_powersave.specs.declared.sleepers.Sleeper.{Sleeper}
@@ -16,7 +17,7 @@ use Rattle.wf_flowq_refines.specs.Frames.{HasFrames, IsAccepted}
 use Rattle.wf_flowq_refines.proofs.Leaves.{stands_same}
 use Rattle.wf_sched.specs.ClassRotas.{SchedValue}
 use Rattle.wf_sched_refines.specs.Standing.{StandsFor as TurnsStandFor, LeavesRotas}
-use Rattle.wf_transmit_refines.specs.Half.{TransmitValue, window_of}
+use Rattle.wf_transmit_refines.specs.Half.{TransmitValue}
 use Rattle.wf_transmit_refines.specs.Standing.{HasFour, IsMember, AreBoth, HasWindows, Parts}
 use Rattle.wf_transmit_refines.specs.Views.{Agreements, agreements, StationView, view_of, Roster, roster, Ledger, ledger, HasSameViews}
 
@@ -24,15 +25,14 @@ use Rattle.wf_transmit_refines.specs.Views.{Agreements, agreements, StationView,
 
 pub record WindowsStand (windows : List WindowValue) (bodies : ℕ → FrameValue) (a : Agreements) : Type 0 where
   pub sized : length windows ≡ 8 * a.config.stations
-  pub capacity : (s t : ℕ) → s < a.config.stations → t < 8 → (window_of windows s t).capacity ≡ greatest_window
-  pub live : (s t : ℕ) → a.live s ≡ true → t < 8 → WindowStandsFor (window_of windows s t) (a.sessions s t) bodies
-  pub empty : (s t : ℕ) → a.live s ≡ false → t < 8 → (window_of windows s t).places ≡ []
+  pub room : HaveRoom windows
+  pub all : AllStand windows a.live a.sessions bodies
 
 pub to_agreements : (windows : List WindowValue) (w : World) (bodies : ℕ → FrameValue) → HasWindows windows w bodies → WindowsStand windows bodies (agreements w)
-to_agreements windows w bodies h = record { sized = h.sized; capacity = h.capacity; live = h.live; empty = h.empty }
+to_agreements windows w bodies h = record { sized = h.sized; room = h.room; all = h.all }
 
 pub of_agreements : (windows : List WindowValue) (w : World) (bodies : ℕ → FrameValue) → WindowsStand windows bodies (agreements w) → HasWindows windows w bodies
-of_agreements windows w bodies h = record { sized = h.sized; capacity = h.capacity; live = h.live; empty = h.empty }
+of_agreements windows w bodies h = record { sized = h.sized; room = h.room; all = h.all }
 
 pub windows_same : (windows : List WindowValue) (w u : World) (bodies : ℕ → FrameValue) → agreements u ≡ agreements w → HasWindows windows w bodies → HasWindows windows u bodies
 windows_same windows w u bodies e h = of_agreements windows u bodies (subst (WindowsStand windows bodies) (sym e) (to_agreements windows w bodies h))

@@ -6,16 +6,19 @@ use Rattle.std.proofs.lemmas.Bool.{and_parts, leb-false}
 use Rattle.std.proofs.lemmas.List.{get_or-set_same}
 use Rattle.wf_frame.specs.declared.classes.Class.{Class}
 use Rattle.wf_frame.specs.declared.notes.Note.TheVariants.{Asked}
-use Rattle.wf_frame.specs.declared.notes.Ask.TheVariants.{Join, Rate, Tick, Sleep, Wake, Poll, Rx, Reap}
+use Rattle.wf_frame.specs.declared.notes.Ask.TheVariants.{Join, Rate, Tick, Arrive, Answer, Sleep, Wake, Poll, Rx, Reap}
+use Rattle.wf_frame.specs.declared.notes.Refusal.{Refusal}
 use Rattle.wf_frame.specs.declared.notes.ReplyNote.{ReplyNote}
 use Rattle.wf_frame.specs.declared.notes.ReplyNote.TheVariants.{Joined, RateSet, Ticked, Slept, Woken, Credited, Charged, Reaped}
 use Rattle.wf_frame.specs.Classes.{lower_tid, upper_tid}
 use Rattle.wf_frame.specs.Frames.{FrameValue}
 use Rattle.wf_rules.specs.Rotation.{Rotation, has_key}
-use Rattle.wf_world.specs.World.{World, rotation, is_live, on_station, on_share, with_station}
-use Rattle.wf_world.specs.CanSend.{has_credit, is_ready}
+use Rattle.wf_world.specs.World.{World, Exchange, rotation, is_live, exchange, on_station, on_tid, on_receiver, on_share, with_station, with_exchange}
+use Rattle.wf_world.specs.CanSend.{has_credit, is_ready, with_listings_of}
 use Rattle.wf_world.specs.Refusals.{refusal, refusals}
-use Rattle.wf_world.specs.Step.{outcome_of, class_to_send, tick_outcome, rate_outcome, sleep_outcome, wake_outcome, poll_outcome, rx_outcome, join_outcome}
+use Rattle.wf_world.specs.Step.{outcome_of, outcome_where_open, station_of, after_refusal, judged_outcome, step, arrive_outcome, answer_outcome, class_to_send, tick_outcome, rate_outcome, sleep_outcome, wake_outcome, poll_outcome, rx_outcome, join_outcome}
+use Rattle.wf_laws.specs.Windows.{OpenRises}
+use Rattle.wf_laws.proofs.Windows.Law.{window_law}
 use Rattle.wf_laws.proofs.Deficits.KeptStep.{NoRow, no_row}
 use Rattle.wf_laws.proofs.Deficits.Law.{deficits}
 use Rattle.wf_sched.specs.ClassRotas.{SchedValue, deficit, after_join}
@@ -30,11 +33,13 @@ use Rattle.wf_powersave.specs.Sleepers.{sleeper, with_sleeper, awake}
 use Rattle.wf_transmit_refines.specs.Half.{TransmitValue, can_send_of, is_ready_of}
 use Rattle.wf_transmit_refines.specs.Standing.{Parts, IsReached, StandsFor, Meets}
 use Rattle.wf_transmit_refines.specs.Changes.{after_listing, AreReset}
-use Rattle.wf_transmit_refines.proofs.Reached.{by_law}
+use Rattle.wf_transmit_refines.proofs.Reached.{by_law, reached_step}
 use Rattle.wf_transmit_refines.proofs.Readers.{ready_same}
 use Rattle.wf_transmit_refines.proofs.Calls.{tick_parts, rate_parts, sleep_parts, wake_parts, poll_parts, rx_parts, reap_parts}
 use Rattle.wf_transmit_refines.proofs.Joins.{join_parts}
-use Rattle.wf_transmit_refines.proofs.Meets.{listed_meets, unlisted_meets, idle_meets}
+use Rattle.wf_transmit_refines.proofs.Meets.{listed_none, listed_meets, unlisted_meets, idle_meets}
+use Rattle.wf_transmit_refines.proofs.Listings.{nobody_new}
+use Rattle.wf_transmit_refines.proofs.Unheard.{arrive_parts, answer_parts}
 
 -- ---- who is listed
 
@@ -167,3 +172,49 @@ module _ (v : TransmitValue) (w : World) (bodies : ℕ → FrameValue) (h : Stan
         members = set v.members s (Some (new_member exponent));
         sleepers = with_sleeper v.sleepers s awake;
       }) w bodies (Asked (Join s window start exponent weight)) h.reached tt tt done (join_parts v w bodies windows s window start exponent weight (below w s rows.0) rows.1.1.1.1.1.0 reset h.parts) s refl
+
+-- ---- what arrives, and what is answered
+
+rises : (w : World) → IsReached w → OpenRises 0 w.exchanges w.opened
+rises w r = by_law (λ u. OpenRises 0 u.exchanges u.opened) w r (λ m. (window_law w.config r.history m).rising)
+
+arrive_lists : (w : World) (x : Exchange) (i : ℕ) (c : Class) → rotation (arrive_outcome w x i).world c ≡ rotation w c
+unfolding arrive_outcome with_exchange on_receiver on_tid on_station with_station
+arrive_lists w x i c = refl
+
+answer_lists : (w : World) (x : Exchange) (c : Class) → rotation (answer_outcome w x).world c ≡ rotation w c
+unfolding answer_outcome with_exchange
+answer_lists w x c = refl
+
+module _ (v : TransmitValue) (w : World) (bodies : ℕ → FrameValue) (h : StandsFor v w bodies) where
+  -- a world with the same lists, for which the half stands: nobody is to be listed
+  unlisted : (u : World) (s : ℕ) → Parts v u bodies → ((c : Class) → rotation u c ≡ rotation w c) → Parts v (with_listings_of u (Some s)) bodies
+  unlisted u s k lists = subst (λ (x : World). Parts v x bodies) (sym (nobody_new u s (same_listed v v w u bodies s h.reached h.parts k (λ c. refl) lists))) k
+
+  arrived_parts : (e i : ℕ) (o : Option Exchange) → exchange w e ≡ o → Parts v (with_listings_of (outcome_where_open w o (λ x. arrive_outcome w x i)).world (station_of o)) bodies
+  unfolding outcome_where_open
+  arrived_parts e i None known = listed_none v w bodies h.parts
+  arrived_parts e i (Some x) known = unlisted (arrive_outcome w x i).world x.station (arrive_parts v w bodies e x known (rises w h.reached) h.parts i) (arrive_lists w x i)
+
+  answered_parts : (e : ℕ) (o : Option Exchange) → exchange w e ≡ o → Parts v (with_listings_of (outcome_where_open w o (λ x. answer_outcome w x)).world (station_of o)) bodies
+  unfolding outcome_where_open
+  answered_parts e None known = listed_none v w bodies h.parts
+  answered_parts e (Some x) known = unlisted (answer_outcome w x).world x.station (answer_parts v w bodies e x known (rises w h.reached) h.parts) (answer_lists w x)
+
+  arrive_step : (e i : ℕ) (o : Option Refusal) → Parts v (judged_outcome w (Asked (Arrive e i)) o).world bodies
+  unfolding judged_outcome outcome_of after_refusal
+  arrive_step e i None = arrived_parts e i (exchange w e) refl
+  arrive_step e i (Some r) = h.parts
+
+  answer_step : (e : ℕ) (o : Option Refusal) → Parts v (judged_outcome w (Asked (Answer e)) o).world bodies
+  unfolding judged_outcome outcome_of after_refusal
+  answer_step e None = answered_parts e (exchange w e) refl
+  answer_step e (Some r) = h.parts
+
+pub arrive_stands : (v : TransmitValue) (w : World) (bodies : ℕ → FrameValue) (e i : ℕ) → StandsFor v w bodies → StandsFor v (step w (Asked (Arrive e i))).world bodies
+unfolding step
+arrive_stands v w bodies e i h = record { parts = arrive_step v w bodies h e i (refusal w (Asked (Arrive e i))); reached = reached_step w (Asked (Arrive e i)) h.reached tt tt }
+
+pub answer_stands : (v : TransmitValue) (w : World) (bodies : ℕ → FrameValue) (e : ℕ) → StandsFor v w bodies → StandsFor v (step w (Asked (Answer e))).world bodies
+unfolding step
+answer_stands v w bodies e h = record { parts = answer_step v w bodies h e (refusal w (Asked (Answer e))); reached = reached_step w (Asked (Answer e)) h.reached tt tt }

@@ -1,6 +1,6 @@
 -- The transmit half of an access point as its callers see it: all that it keeps, but nothing of what
 -- stations received. Times, deficits and airtime are in microseconds.
-use Rattle.std.specs.Prelude.{ℕ, ◌==◌, nat_lt, Bool, not, ◌&&◌, ◌||◌, List, [], ◌∷◌, ◌++◌, Option, Some, None, is_some, option_map, if◌then◌else◌, map, find, replicate, slice_index_or}
+use Rattle.std.specs.Prelude.{ℕ, ◌*◌, ◌==◌, nat_lt, Bool, not, ◌&&◌, ◌||◌, List, [], ◌∷◌, ◌++◌, Option, Some, None, is_some, option_map, if◌then◌else◌, map, find, replicate}
 use Rattle.std.specs.List.{list_any}
 use Rattle.wf_frame.specs.declared.settings.Config.{Config}
 use Rattle.wf_frame.specs.declared.classes.Class.{Class}
@@ -12,6 +12,7 @@ use Rattle.wf_sched.specs.ClassRotas.{SchedValue, opening as empty_sched}
 use Rattle.wf_origwin.specs.declared.place.Place.{Place}
 use Rattle.wf_origwin.specs.declared.place.Place.TheVariants.{Waiting as Waits, Flying as Flies}
 use Rattle.wf_origwin.specs.Window.{WindowValue, waits, can_take}
+use Rattle.wf_windows.specs.Windows.{new_window, window_of}
 use Rattle.wf_exchanges.specs.declared.opened.Open.{Open}
 use Rattle.wf_exchanges.specs.Exchanges.{asks}
 use Rattle.wf_members.specs.declared.members.Member.{Member}
@@ -34,16 +35,16 @@ pub record TransmitValue : Type 0 where
   pub opened : List Open  -- in the order of their numbers
   pub tally : Counts
 
--- a new half: nobody is live and nothing is held, and no window has a number
-abbrev pub opening_half : Config → List WindowValue → TransmitValue
-opening_half c windows = record {
+-- a new half: nobody is live, nothing is held, and no window has a number
+abbrev pub opening_half : Config → TransmitValue
+opening_half c = record {
   config = c;
   clock = 0;
   exchanges = 0;
   inside = 0;
   flows = empty_flows c;
   sched = empty_sched c.stations c.quantum;
-  windows = windows;
+  windows = replicate (8 * c.stations) new_window;
   members = replicate c.stations None;
   sleepers = replicate c.stations awake;
   opened = [];
@@ -51,14 +52,6 @@ opening_half c windows = record {
 }
 
 -- ---- reading it
-
--- where there is no TID of that number
-abbrev pub no_window : WindowValue
-no_window = record { capacity = 0; size = 0; start = 0; places = []; due = None }
-
--- the window of TID t of station s
-abbrev pub window_of : List WindowValue → ℕ → ℕ → WindowValue
-window_of windows s t = slice_index_or windows (tid_number s t) no_window
 
 -- whether some number of a window waits to be sent
 abbrev pub some_wait : WindowValue → Bool

@@ -1,5 +1,5 @@
 -- When a transmit half stands for that of a world of a run.
-use Rattle.std.specs.Prelude.{◌≡◌, ◌<◌, ℕ, ◌*◌, true, false, List, [], Option, Some, None, length, map}
+use Rattle.std.specs.Prelude.{◌≡◌, ℕ, ◌*◌, true, List, Option, Some, None, length, map}
 use Rattle.wf_frame.specs.declared.classes.Class.{Class}
 use Rattle.wf_frame.specs.declared.classes.Cause.TheVariants.{Overlimit, Codel, Retries, Left}
 use Rattle.wf_frame.specs.declared.classes.Fate.TheVariants.{Acked, Dropped}
@@ -7,7 +7,6 @@ use Rattle.wf_frame.specs.declared.notes.Note.{Note}
 use Rattle.wf_frame.specs.declared.notes.ReplyNote.{ReplyNote}
 use Rattle.wf_frame.specs.Frames.{FrameValue}
 use Rattle.wf_frame.specs.Settings.{IsInRange}
-use Rattle.wf_rules.specs.Bounds.{greatest_window}
 use Rattle.wf_rules.specs.Table.{at}
 use Rattle.wf_world.specs.World.{World, Station, Mpdu, Content, Frames, Request, Exchange, opening, is_live, station, session, accepted_count, inside as inside_of}
 use Rattle.wf_world.specs.Step.{step}
@@ -18,7 +17,9 @@ use Rattle.wf_laws.specs.Queues.{HaveLengths, AreAtMost}
 use Rattle.wf_flowq_refines.specs.Frames.{HasFrames, AreAccepted}
 use Rattle.wf_flowq_refines.specs.Standing.{StandsFor as FlowsStandFor}
 use Rattle.wf_sched_refines.specs.Standing.{StandsFor as TurnsStandFor, share_in}
-use Rattle.wf_origwin.specs.Window.{WindowValue, StandsFor as WindowStandsFor, on_air}
+use Rattle.wf_origwin.specs.Window.{WindowValue, on_air}
+use Rattle.wf_windows.specs.Windows.{HaveRoom}
+use Rattle.wf_windows.specs.Many.{AllStand}
 use Rattle.wf_exchanges.specs.declared.opened.Open.{Open}
 use Rattle.wf_exchanges.specs.declared.opened.Sending.{Sending}
 use Rattle.wf_exchanges.specs.declared.opened.Sending.TheVariants.{Data, Request as Starts_at}
@@ -27,7 +28,7 @@ use Rattle.wf_members.specs.Members.{member, upper_in, charged_in, received_in}
 use Rattle.wf_powersave.specs.declared.sleepers.Sleeper.{Sleeper}
 use Rattle.wf_powersave.specs.Sleepers.{sleeper}
 use Rattle.wf_fate.specs.Tally.{Counts}
-use Rattle.wf_transmit_refines.specs.Half.{TransmitValue, window_of}
+use Rattle.wf_transmit_refines.specs.Half.{TransmitValue}
 
 -- ---- exchanges
 
@@ -97,13 +98,12 @@ counts_in w = record {
 
 -- ---- the parts
 
--- Each live station has its eight windows, which stand for the originator's sides of its
--- agreements. The windows of a station that is not live hold nothing.
+-- The eight windows of each live station stand for the originator's sides of its agreements, and each window may be given the
+-- greatest size. Those of a station that is not live hold nothing.
 pub record HasWindows (windows : List WindowValue) (w : World) (bodies : ℕ → FrameValue) : Type 0 where
   pub sized : length windows ≡ 8 * w.config.stations
-  pub capacity : (s t : ℕ) → s < w.config.stations → t < 8 → (window_of windows s t).capacity ≡ greatest_window
-  pub live : (s t : ℕ) → is_live w s ≡ true → t < 8 → WindowStandsFor (window_of windows s t) (session w s t) bodies
-  pub empty : (s t : ℕ) → is_live w s ≡ false → t < 8 → (window_of windows s t).places ≡ []
+  pub room : HaveRoom windows
+  pub all : AllStand windows (λ s. is_live w s) (λ s t. session w s t) bodies
 
 -- all parts but the windows agree with the world; `bodies` has the frame of each id as it was accepted
 pub record HasOthers (v : TransmitValue) (w : World) (bodies : ℕ → FrameValue) : Type 0 where

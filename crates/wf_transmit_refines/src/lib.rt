@@ -7,17 +7,18 @@
 //! function without a body that names it in its contract.
 #![tactic(auto)]
 
-ghost use Rattle.std.specs.Prelude.{◌≡◌, ◌<◌, ℕ, ◌+◌, ◌-◌, ◌*◌, ◌==◌, ◌||◌, pos, ◌-ℤ◌, Bool, true, List, [], ◌∷◌, Option, Some, None, is_some, option_map, map, find, count_by, set};
+ghost use Rattle.std.specs.Prelude.{◌≡◌, ◌<◌, ◌≤◌, ℕ, ◌+◌, ◌-◌, ◌*◌, ◌==◌, ◌||◌, pos, ◌-ℤ◌, Bool, true, List, [], ◌∷◌, Option, Some, None, is_some, option_map, map, find, count_by, set, length};
 ghost use Rattle.wf_frame.specs.Classes.{lower_tid, upper_tid, same_class};
 ghost use Rattle.wf_frame.specs.Frames.{FrameValue};
 ghost use Rattle.wf_frame.specs.Settings.{IsInRange};
 ghost use Rattle.wf_frame.specs.declared.classes.Class.{Class};
+ghost use Rattle.wf_frame.specs.declared.classes.Fate.TheVariants.{Held};
 ghost use Rattle.wf_frame.specs.declared.notes.Ask.TheVariants.{Join, Rate, Tick, Arrive, Answer, Sleep, Wake, Poll, Rx, Reap};
 ghost use Rattle.wf_frame.specs.declared.notes.Note.{Note};
-ghost use Rattle.wf_frame.specs.declared.notes.Note.TheVariants.{Asked};
+ghost use Rattle.wf_frame.specs.declared.notes.Note.TheVariants.{Enqueue, Asked};
 ghost use Rattle.wf_frame.specs.declared.notes.Refusal.{Refusal};
 ghost use Rattle.wf_frame.specs.declared.notes.Refusal.TheVariants.{Idle};
-ghost use Rattle.wf_frame.specs.declared.notes.ReplyNote.TheVariants.{Joined, RateSet, Ticked, Slept, Woken, Credited, Charged, Reaped, Refused};
+ghost use Rattle.wf_frame.specs.declared.notes.ReplyNote.TheVariants.{Accepted, Joined, RateSet, Ticked, Slept, Woken, Credited, Charged, Reaped, Refused};
 ghost use Rattle.wf_frame.specs.declared.settings.Config.{Config};
 ghost use Rattle.wf_rules.specs.Lengths.{greatest_body};
 ghost use Rattle.wf_rules.specs.Receiver.{Receiver};
@@ -29,25 +30,25 @@ ghost use Rattle.wf_world.specs.CanSend.{request_open, has_waiting, can_send, ca
 ghost use Rattle.wf_world.specs.Refusals.{refusal, open_of_station, open_of_class};
 ghost use Rattle.wf_world.specs.Step.{outcome_of, concerned_station, class_to_send, step};
 ghost use Rattle.wf_laws.specs.Queues.{HasLength, IsAtMost};
-ghost use Rattle.wf_flowq.specs.Flows.{tid_number, frames_queued};
+ghost use Rattle.wf_flowq.specs.Flows.{tid_number, frames_queued, dropped_for_limit};
+ghost use Rattle.wf_flowq_refines.specs.Frames.{with_body};
 ghost use Rattle.wf_flowq_refines.specs.Standing.{with_finished};
 ghost use Rattle.wf_flowq_refines.specs.Rest.{rest};
 ghost use Rattle.wf_sched.specs.ClassRotas.{SchedValue, deficit, after_join};
 ghost use Rattle.wf_sched_refines.specs.Standing.{StandsFor as TurnsStandFor, LeavesRotas, everywhere, with_charge};
 ghost use Rattle.wf_origwin.specs.Window.{WindowValue};
+ghost use Rattle.wf_windows.specs.Windows.{window_of};
 ghost use Rattle.wf_exchanges.specs.Exchanges.{asks};
 ghost use Rattle.wf_members.specs.Members.{member, on_member, new_member, with_rate, with_receipt};
 ghost use Rattle.wf_powersave.specs.Sleepers.{sleeper, with_sleeper, awake};
-ghost use Rattle.wf_transmit_refines.specs.Half.{TransmitValue, opening_half, window_of, some_wait, can_send_of, is_ready_of};
+ghost use Rattle.wf_transmit_refines.specs.Half.{TransmitValue, opening_half, some_wait, can_send_of, is_ready_of};
 ghost use Rattle.wf_transmit_refines.specs.Standing.{open_of, HasWindows, Parts, IsReached, StandsFor, Meets};
-ghost use Rattle.wf_transmit_refines.specs.Changes.{after_listing, AreReset};
+ghost use Rattle.wf_transmit_refines.specs.Changes.{after_listing, AreReset, after_enqueue};
 ghost use Rattle.wf_transmit_refines.specs.Views.{agreements, roster, ledger, HasSameViews, KeepsView, KeepsSums};
 
-/// A new half stands for the opening world, whatever frames are to come. Nobody is live, so its windows need only be there,
-/// each with room for 256 numbers and without a number.
+/// A new half stands for the opening world, whatever frames are to come.
 pub fn a_new_half()
-    ensures { (c : Config) (windows : List WindowValue) (bodies : ℕ → FrameValue) → IsInRange c → HasWindows windows (opening c) bodies →
-        StandsFor (opening_half c windows) (opening c) bodies }
+    ensures { (c : Config) (bodies : ℕ → FrameValue) → IsInRange c → StandsFor (opening_half c) (opening c) bodies }
 {}
 
 /// What stands for a world stands for every world with the same views and turns.
@@ -166,4 +167,21 @@ pub fn a_join()
           members = set v.members s (Some (new_member exponent));
           sleepers = with_sleeper v.sleepers s awake;
         }) s) Joined }
+{}
+
+/// What arrives at a station, and what it answers, changes no part of the half: where it stood for a world, it stands for the
+/// world after an Arrive or an Answer, whether the machine refuses that or not.
+pub fn a_call_that_it_does_not_hear()
+    ensures arrive { (v : TransmitValue) (w : World) (bodies : ℕ → FrameValue) (e i : ℕ) → StandsFor v w bodies → StandsFor v (step w (Asked (Arrive e i))).world bodies }
+    ensures answer { (v : TransmitValue) (w : World) (bodies : ℕ → FrameValue) (e : ℕ) → StandsFor v w bodies → StandsFor v (step w (Asked (Answer e))).world bodies }
+{}
+
+/// A frame is accepted. It is marked with the next id and the clock; its body has 1 to 2304 octets. Where the queues are at
+/// their limit, the head of the longest is dropped, and the answer names it.
+pub fn an_enqueue()
+    ensures { (v : TransmitValue) (w : World) (bodies : ℕ → FrameValue) → StandsFor v w bodies →
+        (f : FrameValue) → refusal w (Enqueue f.station f.tid f.flow (length f.body)) ≡ None →
+        f.id ≡ v.tally.accepted → f.stamp ≡ v.clock → f.fate ≡ Held → 1 ≤ length f.body → length f.body ≤ greatest_body →
+        Meets w (with_body bodies f) (Enqueue f.station f.tid f.flow (length f.body))
+        (after_listing (after_enqueue v f) f.station) (Accepted f.id (dropped_for_limit v.flows)) }
 {}

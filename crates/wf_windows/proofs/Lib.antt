@@ -1,2 +1,4 @@
 pub mod Changes
 pub mod Ends
+pub mod Held
+pub mod Resetting

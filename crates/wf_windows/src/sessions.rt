@@ -1,10 +1,11 @@
 //! The windows of all TIDs and the sessions that they stand for: laws over the definitions, for the loops of callers. Each is
 //! a function without a body that names it in its contract.
 
-ghost use Rattle.std.specs.Prelude.{◌≡◌, ◌≢◌, ℕ, ◌%◌, ◌<◌, Bool, true, false, List, [], ◌∷◌, length};
+ghost use Rattle.std.specs.Prelude.{◌≡◌, ◌≢◌, ℕ, ◌+◌, ◌%◌, ◌<◌, ◌≤◌, Bool, true, false, is_some, List, [], ◌∷◌, length};
 ghost use Rattle.wf_frame.specs.Frames.{FrameValue};
-ghost use Rattle.wf_rules.specs.Session.{Session};
-ghost use Rattle.wf_origwin.specs.Window.{WindowValue, StandsFor, IsNumber, settled};
+ghost use Rattle.wf_rules.specs.Session.{Session, slot, new_session, start_of, next_number, request_due};
+ghost use Rattle.wf_seq12.specs.Distance.{distance};
+ghost use Rattle.wf_origwin.specs.Window.{WindowValue, fresh_window, StandsFor, IsNumber, settled, may_give, can_take, is_held};
 ghost use Rattle.wf_flowq.specs.Flows.{tid_number};
 ghost use Rattle.wf_windows.specs.Windows.{window_of, with_window};
 ghost use Rattle.wf_windows.specs.Many.{AllStand, IsSameElsewhere, IsSameAtOthers};
@@ -31,6 +32,33 @@ pub fn a_station_comes_or_goes()
     ensures goes { (windows others : List WindowValue) (was_live is_live : ℕ → Bool) (before after : ℕ → ℕ → Session) (bodies : ℕ → FrameValue) (s : ℕ) →
         AllStand windows was_live before bodies → IsSameAtOthers windows others was_live is_live before after s → is_live s ≡ false →
         ((t : ℕ) → t < 8 → (window_of others s t).places ≡ []) → AllStand others is_live after bodies }
+{}
+
+/// What is read of a window alone is read of each session that it stands for: whether a request is due, whether a fresh
+/// number may be given, and how many numbers there are from F on. A request that was sent from a number f on is near where F
+/// is not below f and N not above f + w. A fresh window stands for a new session.
+pub fn a_window_tells_of_its_session()
+    ensures request { (w : WindowValue) (s : Session) (bodies : ℕ → FrameValue) → StandsFor w s bodies → is_some w.due ≡ request_due s }
+    ensures give { (w : WindowValue) (s : Session) (bodies : ℕ → FrameValue) → StandsFor w s bodies → can_take w ≡ may_give s }
+    ensures numbers { (w : WindowValue) (s : Session) (bodies : ℕ → FrameValue) → StandsFor w s bodies →
+        start_of s + length w.places ≡ next_number s }
+    ensures near { (w : WindowValue) (s : Session) (bodies : ℕ → FrameValue) (f start : ℕ) → StandsFor w s bodies → start ≡ f % 4096 →
+        f ≤ start_of s → next_number s ≤ f + s.size → distance w.start start + length w.places ≤ w.size }
+    ensures fresh { (capacity size start n : ℕ) (bodies : ℕ → FrameValue) → start ≡ n % 4096 → size ≤ 256 →
+        StandsFor (fresh_window capacity size start) (new_session n size) bodies }
+{}
+
+/// Windows stand for their sessions whatever frames are given to other ids than those that the sessions hold: so they do
+/// after a frame is accepted, which gets a new id.
+pub fn only_held_frames_matter()
+    ensures one { (bodies others : ℕ → FrameValue) (w : WindowValue) (s : Session) → StandsFor w s bodies →
+        ((n : ℕ) → start_of s ≤ n → n < next_number s → is_held (slot s n).state ≡ true → others (slot s n).id ≡ bodies (slot s n).id) →
+        StandsFor w s others }
+    ensures all { (bodies others : ℕ → FrameValue) (windows : List WindowValue) (is_live : ℕ → Bool) (sessions : ℕ → ℕ → Session) →
+        AllStand windows is_live sessions bodies →
+        ((s t n : ℕ) → is_live s ≡ true → t < 8 → start_of (sessions s t) ≤ n → n < next_number (sessions s t) →
+        is_held (slot (sessions s t) n).state ≡ true → others (slot (sessions s t) n).id ≡ bodies (slot (sessions s t) n).id) →
+        AllStand windows is_live sessions others }
 {}
 
 /// The numbers of an exchange are settled one after the other. Each of them still flies when its turn comes, with fewer

@@ -19,7 +19,7 @@ use wf_origwin::{Settled, Window};
 use wf_seq12::Seq12;
 
 /// How many TIDs a station has.
-const TIDS: u32 = 8;
+const TIDS: u8 = 8;
 
 /// The greatest size of a window, in numbers.
 const GREATEST_WINDOW: u16 = 256;
@@ -56,7 +56,7 @@ impl Windows {
         requires { (1 ≤ stations) × (stations ≤ 256) }
         ensures { IfOk result (λ made. made ≡ replicate (8 * stations) new_window) }
     {
-        let count = (TIDS * stations) as usize;
+        let count = usize::from(TIDS) * stations as usize;
         let mut windows = Vec::with_capacity(alloc, count)?;
         'making: for _ in 0..count {
             windows.push_reserved(Window::new(alloc, GREATEST_WINDOW)?);
@@ -86,6 +86,22 @@ impl Windows {
         ensures count { length self.new ≡ length self.old }
     {
         self.windows[place(station, tid)].reset(start, size);
+    }
+
+    /// Begins new sessions of the eight TIDs of a station, each as by `reset`.
+    pub fn reset_all(&mut self, station: u16, start: Seq12, size: u16)
+        requires within { tid_number station 7 < length self.old }
+        requires empty { (t : ℕ) → t < 8 → (window_of self.old station t).places ≡ [] }
+        requires in_range { (1 ≤ size) × (size ≤ greatest_window) }
+        ensures stands { (t : ℕ) (bodies : ℕ → FrameValue) (n : ℕ) → t < 8 → start ≡ n % 4096 →
+            StandsFor (window_of self.new station t) (new_session n size) bodies }
+        ensures fresh { (t : ℕ) → t < 8 → window_of self.new station t ≡ fresh_window greatest_window size start }
+        ensures others { (s t : ℕ) → s ≢ station → t < 8 → window_of self.new s t ≡ window_of self.old s t }
+        ensures count { length self.new ≡ length self.old }
+    {
+        for tid in 0..TIDS {
+            self.reset(station, tid, start, size);
+        }
     }
 
     /// A request with this start was heard, as `Window::bar_heard`.
