@@ -81,7 +81,8 @@ impl Transmit {
         exponent: u8,
         weight: u8,
     ) -> Result<(), Refusal>
-        ensures refused { (w : World) (bodies : ℕ → FrameValue) → StandsFor self.now w bodies → refusal_in result ≡ refusal w (Asked (Join station window start exponent weight)) }
+        ensures refused { (w : World) (bodies : ℕ → FrameValue) → StandsFor self.now w bodies →
+            refusal_in result ≡ refusal w (Asked (Join station window start exponent weight)) }
         ensures within { IfOk result (λ _. station < self.now.config.stations) }
         ensures window { IfOk result (λ _. (1 ≤ window) × (window ≤ 256)) }
         ensures start { IfOk result (λ _. start < 4096) }
@@ -148,7 +149,8 @@ impl Transmit {
         mhz: u8,
         short: bool,
     ) -> Result<Rate, Refusal>
-        ensures refused { (w : World) (bodies : ℕ → FrameValue) → StandsFor self.now w bodies → refusal_in result ≡ refusal w (Asked (Rates station mcs mhz short)) }
+        ensures refused { (w : World) (bodies : ℕ → FrameValue) → StandsFor self.now w bodies →
+            refusal_in result ≡ refusal w (Asked (Rates station mcs mhz short)) }
         ensures rate { IfOk result (λ rate. rate ≡ record { mcs = mcs; mhz = mhz; short = short }) }
         ensures within { IfOk result (λ _. station < self.now.config.stations) }
     {
@@ -160,7 +162,8 @@ impl Transmit {
 
     // A station that used airtime, but for the debt that it may not exceed.
     pub(crate) fn check_receive(&self, station: u16, class: Class, air: u32) -> Result<(), Refusal>
-        ensures refused { IfErr result (λ reason. (w : World) (bodies : ℕ → FrameValue) → StandsFor self.now w bodies → refusal w (Asked (Rx station class air)) ≡ Some reason) }
+        ensures refused { IfErr result (λ reason. (w : World) (bodies : ℕ → FrameValue) → StandsFor self.now w bodies →
+            refusal w (Asked (Rx station class air)) ≡ Some reason) }
         ensures passed { IfOk result (λ _. (w : World) (bodies : ℕ → FrameValue) → StandsFor self.now w bodies →
             refusal w (Asked (Rx station class air)) ≡ (if int_lt ((share w station class).deficit -ℤ pos air) deepest_deficit then Some (Debt (share w station class).deficit) else None)) }
         ensures within { IfOk result (λ _. station < self.now.config.stations) }

@@ -28,7 +28,8 @@ impl Transmit {
         weight: u8,
     ) -> Result<(), Refusal>
         requires some { HasWorld self.old }
-        ensures meets { (w : World) (bodies : ℕ → FrameValue) → StandsFor self.old w bodies → Meets w bodies (Asked (Join station window start exponent weight)) self.new (reply_of (λ _. Joined) result) }
+        ensures meets { (w : World) (bodies : ℕ → FrameValue) → StandsFor self.old w bodies →
+            Meets w bodies (Asked (Join station window start exponent weight)) self.new (reply_of (λ _. Joined) result) }
         ensures refused { IfErr result (λ _. self.new ≡ self.old) }
         ensures kept { HasWorld self.old → HasWorld self.new }
     {
@@ -46,7 +47,8 @@ impl Transmit {
     /// further.
     pub fn tick(&mut self, by: u32) -> Result<u64, Refusal>
         requires small { self.old.clock < 2 ^ 62 }
-        ensures meets { (w : World) (bodies : ℕ → FrameValue) → StandsFor self.old w bodies → Meets w bodies (Asked (Tick by)) self.new (reply_of Ticked result) }
+        ensures meets { (w : World) (bodies : ℕ → FrameValue) → StandsFor self.old w bodies →
+            Meets w bodies (Asked (Tick by)) self.new (reply_of Ticked result) }
         ensures refused { IfErr result (λ _. self.new ≡ self.old) }
         ensures kept { HasWorld self.old → HasWorld self.new }
     {
@@ -57,7 +59,8 @@ impl Transmit {
 
     /// A station is sent to at this rate from now on. Refused as BadStation, BadRate or NoStation.
     pub fn rate(&mut self, station: u16, mcs: u8, mhz: u8, short: bool) -> Result<(), Refusal>
-        ensures meets { (w : World) (bodies : ℕ → FrameValue) → StandsFor self.old w bodies → Meets w bodies (Asked (Rate station mcs mhz short)) self.new (reply_of (λ _. RateSet) result) }
+        ensures meets { (w : World) (bodies : ℕ → FrameValue) → StandsFor self.old w bodies →
+            Meets w bodies (Asked (Rate station mcs mhz short)) self.new (reply_of (λ _. RateSet) result) }
         ensures refused { IfErr result (λ _. self.new ≡ self.old) }
         ensures kept { HasWorld self.old → HasWorld self.new }
     {
@@ -68,7 +71,8 @@ impl Transmit {
 
     /// A station goes to sleep (IEEE 802.11-2012, 10.2.1). Refused as BadStation, NoStation or Asleep.
     pub fn sleep(&mut self, station: u16) -> Result<(), Refusal>
-        ensures meets { (w : World) (bodies : ℕ → FrameValue) → StandsFor self.old w bodies → Meets w bodies (Asked (Sleep station)) self.new (reply_of (λ _. Slept) result) }
+        ensures meets { (w : World) (bodies : ℕ → FrameValue) → StandsFor self.old w bodies →
+            Meets w bodies (Asked (Sleep station)) self.new (reply_of (λ _. Slept) result) }
         ensures refused { IfErr result (λ _. self.new ≡ self.old) }
         ensures kept { HasWorld self.old → HasWorld self.new }
     {
@@ -80,7 +84,8 @@ impl Transmit {
 
     /// A station wakes. Refused as BadStation, NoStation or Awake.
     pub fn wake(&mut self, station: u16) -> Result<(), Refusal>
-        ensures meets { (w : World) (bodies : ℕ → FrameValue) → StandsFor self.old w bodies → Meets w bodies (Asked (Wake station)) self.new (reply_of (λ _. Woken) result) }
+        ensures meets { (w : World) (bodies : ℕ → FrameValue) → StandsFor self.old w bodies →
+            Meets w bodies (Asked (Wake station)) self.new (reply_of (λ _. Woken) result) }
         ensures refused { IfErr result (λ _. self.new ≡ self.old) }
         ensures kept { HasWorld self.old → HasWorld self.new }
     {
@@ -93,7 +98,8 @@ impl Transmit {
     /// A sleeping station asks for one frame (PS-Poll, 10.2.1.6): the most urgent class in which one of its TIDs can send, of
     /// which it may be sent one exchange. Refused as BadStation, NoStation, Awake, Polled or Nothing.
     pub fn poll(&mut self, station: u16) -> Result<Class, Refusal>
-        ensures meets { (w : World) (bodies : ℕ → FrameValue) → StandsFor self.old w bodies → Meets w bodies (Asked (Poll station)) self.new (reply_of Credited result) }
+        ensures meets { (w : World) (bodies : ℕ → FrameValue) → StandsFor self.old w bodies →
+            Meets w bodies (Asked (Poll station)) self.new (reply_of Credited result) }
         ensures refused { IfErr result (λ _. self.new ≡ self.old) }
         ensures kept { HasWorld self.old → HasWorld self.new }
     {
@@ -107,7 +113,8 @@ impl Transmit {
     /// BadStation, BadAir, NoStation, or as Debt where the deficit would fall below -1,000,000.
     pub fn receive(&mut self, station: u16, class: Class, air: u32) -> Result<i64, Refusal>
         requires small { IsReceiptSmall self.old station class }
-        ensures meets { (w : World) (bodies : ℕ → FrameValue) → StandsFor self.old w bodies → Meets w bodies (Asked (Rx station class air)) self.new (reply_of Charged result) }
+        ensures meets { (w : World) (bodies : ℕ → FrameValue) → StandsFor self.old w bodies →
+            Meets w bodies (Asked (Rx station class air)) self.new (reply_of Charged result) }
         ensures refused { IfErr result (λ _. self.new ≡ self.old) }
         ensures kept { HasWorld self.old → HasWorld self.new }
     {
