@@ -1,0 +1,6 @@
+pub mod Rows
+pub mod Polls
+pub mod Worlds
+pub mod Resets
+pub mod Calls
+pub mod Openings

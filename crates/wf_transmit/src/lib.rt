@@ -1,0 +1,15 @@
+//! The transmit half of an access point: flow queues, the scheduler, the originator's windows and the exchanges that are open.
+//!
+//! Each call is a call of the machine (`wf_world`). Where it is refused it changes nothing. No call takes memory.
+#![tactic(auto)]
+
+mod frames;
+mod half;
+mod ready;
+mod refuse;
+mod stations;
+
+pub use half::Transmit;
+
+#[cfg(test)]
+mod tests;
