@@ -2,7 +2,7 @@
 
 use super::Transmit;
 use std::alloc::AllocError;
-use wf_frame::{Class, Config, Refusal};
+use wf_frame::{Config, Refusal};
 
 /// Stations come, at their own weights, and each fault is told in its order.
 #[test]
