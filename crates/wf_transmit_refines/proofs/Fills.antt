@@ -1,5 +1,6 @@
 -- The waiting numbers of an aggregate are chosen, from the lowest up, while they fit.
 use Rattle.std.proofs.Common.{◌≡◌, refl, ap, sym, ◌∙◌, subst, arith, ℕ, suc, ◌+◌, ◌-◌, ◌%◌, ◌<◌, ◌≤◌, ◌==◌, ◌||◌, Bool, true, false, if◌then◌else◌, List, [], ◌∷◌, ◌++◌, map, length, length-append, append-nil, append_assoc, None, option_map, inl, inr, eq-eqb}
+use Rattle.std.specs.Prelude.{nat_lt}
 use Rattle.std.proofs.lemmas.Bool.{or_left, or_right}
 use Rattle.std.proofs.lemmas.Bool.Decides.{nat_tests}
 use Rattle.std.proofs.lemmas.List.{map-append}
@@ -21,8 +22,9 @@ use Rattle.wf_origwin.specs.Window.{on_air, waiting_from}
 use Rattle.wf_origwin.proofs.Listing.{listing_begins, listing_near, listing_ends, waiting_exactly, waiting_rise}
 use Rattle.wf_origwin.proofs.Numbers.{waiting_is}
 use Rattle.wf_windows.specs.Windows.{window_of}
-use Rattle.wf_transmit_refines.specs.Half.{TransmitValue}
+use Rattle.wf_transmit_refines.specs.Half.{TransmitValue, some_wait}
 use Rattle.wf_transmit_refines.specs.Filling.{IsWaitingWith, AreWaiting, IsToFill, room_for, IsChoosing, IsFilling, IsFilled}
+use Rattle.wf_transmit_refines.proofs.Readers.{waiting_same}
 use Rattle.wf_transmit_refines.proofs.Flies.{rises_past}
 use Rattle.wf_transmit_refines.proofs.Gives.{Placed, placed, given_below, if_first, if_second}
 
@@ -59,6 +61,10 @@ numbers_of w s t (n ∷ ns) = ap (λ (l : List ℕ). n ∷ l) (numbers_of w s t 
 airs_of : (w : World) (s t : ℕ) (ns : List ℕ) → map on_air ns ≡ map (λ m. on_air m.number) (map (mpdu_of w s t) ns)
 airs_of w s t [] = refl
 airs_of w s t (n ∷ ns) = ap (λ (l : List ℕ). on_air n ∷ l) (airs_of w s t ns)
+
+no_numbers : (ns : List ℕ) → map on_air ns ≡ [] → ns ≡ []
+no_numbers [] e = refl
+no_numbers (n ∷ ns) e = absurd (cc e)
 
 begun : (w : World) (s : ℕ) (g : ℕ → Mpdu) (ns : List ℕ) → (0 < length ns → fits_in w s (map g ns) ≡ true) → IsBegun w s (map g ns)
 unfolding IsBegun
@@ -144,6 +150,12 @@ module _ (v : TransmitValue) (w : World) (bodies : ℕ → FrameValue) (s t : �
           room_is = so_far.room_is;
           leads = sym (aggregate_all w s t (map g ns) (sym (ap (map g) all)) (ap (longest_fitting w s) (sym (append-nil (map g ns))) ∙ chosen_all w s (map g ns) (begun w s g ns so_far.fit)));
         }
+
+    -- none is chosen of none that waits
+    pub choosing_none : option_map on_air (waiting_from y so_far.listed.number) ≡ None → numbers ≡ [] → some_wait (window_of v.windows s t) ≡ false
+    choosing_none none empty =
+        waiting_same v w bodies s t to.turned.parts to.turned.live to.turned.tid
+        ∙ ap (λ (l : List ℕ). nat_lt 0 (length l)) (sym (listing_ends y ns from so_far.listed none) ∙ no_numbers ns (sym so_far.on_air ∙ empty))
 
     module _ (seq : ℕ) (next : IsListedNext y ns seq) where
       abbrev m : Mpdu

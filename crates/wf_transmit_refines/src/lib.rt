@@ -420,6 +420,10 @@ pub fn waiting_numbers_are_chosen()
         (room : RoomValue) (numbers : List ℕ) (from : ℕ) (so_far : IsChoosing room numbers from w s t) →
         option_map on_air (waiting_from (session w s t) so_far.listed.number) ≡ None →
         IsFilling v w bodies s t room numbers (map (mpdu_of w s t) so_far.chosen) (aggregate_of w s t) }
+    ensures none { (v : TransmitValue) (w : World) (bodies : ℕ → FrameValue) (s t : ℕ) → IsToFill v w bodies s t →
+        (room : RoomValue) (numbers : List ℕ) (from : ℕ) (so_far : IsChoosing room numbers from w s t) →
+        option_map on_air (waiting_from (session w s t) so_far.listed.number) ≡ None → numbers ≡ [] →
+        some_wait (window_of v.windows s t) ≡ false }
 {}
 
 /// Fresh frames are given, one after the other, while there is room for one and the TID can give one. A frame is taken out by the

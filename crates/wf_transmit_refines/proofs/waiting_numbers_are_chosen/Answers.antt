@@ -1,4 +1,4 @@
-use Rattle.wf_transmit_refines.proofs.Fills.{choosing_begins, choosing_near, choosing_len, choosing_next, choosing_stops, choosing_ends}
+use Rattle.wf_transmit_refines.proofs.Fills.{choosing_begins, choosing_near, choosing_len, choosing_next, choosing_stops, choosing_ends, choosing_none}
 use Rattle.wf_transmit_refines.proofs.waiting_numbers_are_chosen.Goals as goal
 
 pub returns-clause-begins : goal.returns-clause-begins
@@ -18,3 +18,6 @@ returns-clause-stops c = choosing_stops
 
 pub returns-clause-ends : goal.returns-clause-ends
 returns-clause-ends c = choosing_ends
+
+pub returns-clause-none : goal.returns-clause-none
+returns-clause-none c = choosing_none
