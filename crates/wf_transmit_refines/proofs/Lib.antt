@@ -31,3 +31,4 @@ pub mod Gives
 pub mod Fills
 pub mod Sends
 pub mod Asked
+pub mod Openings

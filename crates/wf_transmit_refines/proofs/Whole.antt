@@ -175,7 +175,7 @@ module _ (v : TransmitValue) (w : World) (bodies : ℕ → FrameValue) (h : Stan
 
 -- ---- what arrives, and what is answered
 
-rises : (w : World) → IsReached w → OpenRises 0 w.exchanges w.opened
+pub rises : (w : World) → IsReached w → OpenRises 0 w.exchanges w.opened
 rises w r = by_law (λ u. OpenRises 0 u.exchanges u.opened) w r (λ m. (window_law w.config r.history m).rising)
 
 arrive_lists : (w : World) (x : Exchange) (i : ℕ) (c : Class) → rotation (arrive_outcome w x i).world c ≡ rotation w c

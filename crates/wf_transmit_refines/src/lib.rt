@@ -7,7 +7,7 @@
 //! function without a body that names it in its contract.
 #![tactic(auto)]
 
-ghost use Rattle.std.specs.Prelude.{◌≡◌, ◌<◌, ◌≤◌, ℕ, suc, ◌+◌, ◌-◌, ◌*◌, ◌==◌, ◌||◌, ◌++◌, pos, ◌-ℤ◌, Bool, true, false, List, [], ◌∷◌, Option, Some, None, is_some, option_map, map, find, count_by, set, length, max, unwrap_or, ◌%◌, ◌&&◌, nat_lt, nat_le, if◌then◌else◌};
+ghost use Rattle.std.specs.Prelude.{◌≡◌, ◌<◌, ◌≤◌, ℕ, suc, ◌+◌, ◌-◌, ◌*◌, ◌==◌, ◌||◌, ◌++◌, pos, ◌-ℤ◌, Bool, true, false, List, [], ◌∷◌, Option, Some, None, is_some, option_map, map, find, count_by, set, length, max, unwrap_or, ◌%◌, ◌&&◌, nat_lt, nat_le, if◌then◌else◌, All};
 ghost use Rattle.std.specs.List.{list_any};
 ghost use Rattle.wf_frame.specs.Classes.{lower_tid, upper_tid, same_class};
 ghost use Rattle.wf_frame.specs.Frames.{FrameValue};
@@ -359,6 +359,14 @@ pub fn a_pull_is_refused()
         refusal w (Asked (Pull c)) ≡ None }
 {}
 
+/// In the world of a run an exchange may be opened: all that are open have lower numbers, and where a class has fewer than may be
+/// open of it, there is room for one more among the 32 of all classes.
+pub fn an_exchange_may_open()
+    ensures above { (v : TransmitValue) (w : World) (bodies : ℕ → FrameValue) → StandsFor v w bodies → All (λ o. o.number < v.exchanges) v.opened }
+    ensures room { (v : TransmitValue) (w : World) (bodies : ℕ → FrameValue) → StandsFor v w bodies → (c : Class) →
+        nat_le v.config.inflight (count_by (λ x. same_class x.class c) v.opened) ≡ false → length v.opened < 32 }
+{}
+
 /// What a half reads of a live station in a pull: CoDel's parameters, the room of an aggregate, and how many frames a take
 /// dropped, by those of the TID that are queued before and after it.
 pub fn a_pull_reads()
@@ -430,15 +438,20 @@ pub fn waiting_numbers_are_chosen()
 /// parameters of the station's rate, those that CoDel drops are counted, and it gets the next number. Where it fits, the
 /// aggregate goes on with it; where not, it waits with its number, and the aggregate is filled without it.
 pub fn fresh_frames_are_given()
-    ensures full { (v : TransmitValue) (w : World) (bodies : ℕ → FrameValue) (s t : ℕ) (room : RoomValue) (numbers : List ℕ) (mpdus : List Mpdu) (after : Aggregate) →
+    ensures full { (v : TransmitValue) (w : World) (bodies : ℕ →
+        FrameValue) (s t : ℕ) (room : RoomValue) (numbers : List ℕ) (mpdus : List Mpdu) (after : Aggregate) →
         IsFilling v w bodies s t room numbers mpdus after → room.agg ≤ length numbers → IsFilled v bodies s t room numbers after }
-    ensures idle { (v : TransmitValue) (w : World) (bodies : ℕ → FrameValue) (s t : ℕ) (room : RoomValue) (numbers : List ℕ) (mpdus : List Mpdu) (after : Aggregate) →
-        IsFilling v w bodies s t room numbers mpdus after → (nat_lt 0 (frames_queued v.flows (tid_number s t)) && can_take (window_of v.windows s t)) ≡ false →
+    ensures idle { (v : TransmitValue) (w : World) (bodies : ℕ →
+        FrameValue) (s t : ℕ) (room : RoomValue) (numbers : List ℕ) (mpdus : List Mpdu) (after : Aggregate) →
+        IsFilling v w bodies s t room numbers mpdus after →
+        (nat_lt 0 (frames_queued v.flows (tid_number s t)) && can_take (window_of v.windows s t)) ≡ false →
         IsFilled v bodies s t room numbers after }
-    ensures own { (v : TransmitValue) (w : World) (bodies : ℕ → FrameValue) (s t : ℕ) (room : RoomValue) (numbers : List ℕ) (mpdus : List Mpdu) (after : Aggregate) →
+    ensures own { (v : TransmitValue) (w : World) (bodies : ℕ →
+        FrameValue) (s t : ℕ) (room : RoomValue) (numbers : List ℕ) (mpdus : List Mpdu) (after : Aggregate) →
         IsFilling v w bodies s t room numbers mpdus after → (params : Params) → params ≡ codel_params w s →
         (f : FrameValue) → (taken_for_tid v.flows (tid_number s t) v.clock params).frame ≡ Some f → f ≡ bodies f.id }
-    ensures goes_on { (v : TransmitValue) (w : World) (bodies : ℕ → FrameValue) (s t : ℕ) (room : RoomValue) (numbers : List ℕ) (mpdus : List Mpdu) (after : Aggregate) →
+    ensures goes_on { (v : TransmitValue) (w : World) (bodies : ℕ →
+        FrameValue) (s t : ℕ) (room : RoomValue) (numbers : List ℕ) (mpdus : List Mpdu) (after : Aggregate) →
         IsFilling v w bodies s t room numbers mpdus after → (params : Params) → params ≡ codel_params w s →
         (f : FrameValue) → (taken_for_tid v.flows (tid_number s t) v.clock params).frame ≡ Some f →
         (x : WindowValue) → HaveRoom (with_window v.windows s t x) → WindowStandsFor x (with_number_given (session w s t) f.id) bodies →
@@ -446,7 +459,8 @@ pub fn fresh_frames_are_given()
         (more : RoomValue) → fits room.rate room.exponent room.agg room.cap (lens_of mpdus ++ length f.body ∷ []) ≡ true →
         more ≡ record room { count = more.count; octets = more.octets } → RoomStandsFor more (lens_of mpdus ++ length f.body ∷ []) →
         IsFilling (after_giving v s t params x) (with_one_fresh w s t) bodies s t more (numbers ++ on_air (next_number (session w s t)) ∷ []) (mpdus ++ fresh_mpdu w s t f ∷ []) after }
-    ensures stops { (v : TransmitValue) (w : World) (bodies : ℕ → FrameValue) (s t : ℕ) (room : RoomValue) (numbers : List ℕ) (mpdus : List Mpdu) (after : Aggregate) →
+    ensures stops { (v : TransmitValue) (w : World) (bodies : ℕ →
+        FrameValue) (s t : ℕ) (room : RoomValue) (numbers : List ℕ) (mpdus : List Mpdu) (after : Aggregate) →
         IsFilling v w bodies s t room numbers mpdus after → (params : Params) → params ≡ codel_params w s →
         (f : FrameValue) → (taken_for_tid v.flows (tid_number s t) v.clock params).frame ≡ Some f →
         (x : WindowValue) → HaveRoom (with_window v.windows s t x) → WindowStandsFor x (with_number_given (session w s t) f.id) bodies →
@@ -478,25 +492,32 @@ pub fn the_numbers_take_off()
 /// request is due, that is sent; else an aggregate, once it is filled and all its numbers have taken off. Then the half stands
 /// for the step, and the reply is the step's.
 pub fn a_pull()
-    ensures tid { (v : TransmitValue) (w : World) (bodies : ℕ → FrameValue) → StandsFor v w bodies → (c : Class) (s : ℕ) → (picked_station w c).winner ≡ Some s →
+    ensures tid { (v : TransmitValue) (w : World) (bodies : ℕ → FrameValue) → StandsFor v w bodies → (c : Class) (s : ℕ) →
+        (picked_station w c).winner ≡ Some s →
         (turns : SchedValue) → HasPicked w c v.sched turns → sending_tid_of (record v { sched = turns }) s c ≡ sending_tid (after_pick w c) s c }
-    ensures sends { (v : TransmitValue) (w : World) (bodies : ℕ → FrameValue) → StandsFor v w bodies → (c : Class) (s : ℕ) → (picked_station w c).winner ≡ Some s →
+    ensures sends { (v : TransmitValue) (w : World) (bodies : ℕ → FrameValue) → StandsFor v w bodies → (c : Class) (s : ℕ) →
+        (picked_station w c).winner ≡ Some s →
         (turns : SchedValue) → HasPicked w c v.sched turns →
         can_send_of (record v { sched = turns }) s (sending_tid_of (record v { sched = turns }) s c) ≡ true }
-    ensures turned { (v : TransmitValue) (w : World) (bodies : ℕ → FrameValue) → StandsFor v w bodies → (c : Class) (s : ℕ) → (picked_station w c).winner ≡ Some s →
+    ensures turned { (v : TransmitValue) (w : World) (bodies : ℕ → FrameValue) → StandsFor v w bodies → (c : Class) (s : ℕ) →
+        (picked_station w c).winner ≡ Some s →
         (turns : SchedValue) → HasPicked w c v.sched turns → (t : ℕ) → t ≡ sending_tid_of (record v { sched = turns }) s c →
         IsTurned (after_turn (record v { sched = turns }) s c t) (after_tid_turn (after_pick w c) s c t) bodies s t }
-    ensures request { (v : TransmitValue) (w : World) (bodies : ℕ → FrameValue) → StandsFor v w bodies → (c : Class) (s : ℕ) → refusal w (Asked (Pull c)) ≡ None →
+    ensures request { (v : TransmitValue) (w : World) (bodies : ℕ → FrameValue) → StandsFor v w bodies → (c : Class) (s : ℕ) →
+        refusal w (Asked (Pull c)) ≡ None →
         (picked_station w c).winner ≡ Some s → (t : ℕ) → t ≡ sending_tid (after_pick w c) s c →
         (x : TransmitValue) → IsTurned x (after_tid_turn (after_pick w c) s c t) bodies s t → is_some (window_of x.windows s t).due ≡ true →
         (charge : ℕ) → charge ≡ request_charge (is_wide_of x s t) →
         Meets w bodies (Asked (Pull c)) (after_listing (after_sending x s t c charge (Starts_at (window_of x.windows s t).start)) s)
         (Send x.exchanges s t charge (Starts (window_of x.windows s t).start) (open_next x s t c charge (Starts_at (window_of x.windows s t).start)).more) }
-    ensures charge { (v : TransmitValue) (bodies : ℕ → FrameValue) (s t : ℕ) (room : RoomValue) (numbers : List ℕ) (a : Aggregate) → IsFilled v bodies s t room numbers a →
+    ensures charge { (v : TransmitValue) (bodies : ℕ → FrameValue) (s t : ℕ) (room : RoomValue) (numbers : List ℕ) (a : Aggregate) →
+        IsFilled v bodies s t room numbers a →
         data_charge room.rate (octets_of (lens_of a.mpdus)) room.wide ≡ aggregate_charge s t a }
-    ensures data { (v : TransmitValue) (w : World) (bodies : ℕ → FrameValue) → StandsFor v w bodies → (c : Class) (s : ℕ) → refusal w (Asked (Pull c)) ≡ None →
+    ensures data { (v : TransmitValue) (w : World) (bodies : ℕ → FrameValue) → StandsFor v w bodies → (c : Class) (s : ℕ) →
+        refusal w (Asked (Pull c)) ≡ None →
         (picked_station w c).winner ≡ Some s → (t : ℕ) → t ≡ sending_tid (after_pick w c) s c →
-        (a : Aggregate) → aggregate_of (after_tid_turn (after_pick w c) s c t) s t ≡ a → request_due (session (after_tid_turn (after_pick w c) s c t) s t) ≡ false →
+        (a : Aggregate) → aggregate_of (after_tid_turn (after_pick w c) s c t) s t ≡ a →
+        request_due (session (after_tid_turn (after_pick w c) s c t) s t) ≡ false →
         (x : TransmitValue) (u : World) → IsTakingOff x u bodies s t a.world.exchanges [] (prepared_data s t a).world →
         (charge : ℕ) (numbers : List ℕ) → charge ≡ aggregate_charge s t a → numbers ≡ numbers_on_air a.mpdus →
         Meets w bodies (Asked (Pull c)) (after_listing (after_sending x s t c charge (Data numbers)) s)
