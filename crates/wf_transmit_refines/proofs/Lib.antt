@@ -22,3 +22,5 @@ pub mod Dones
 pub mod Pulls
 pub mod Takes
 pub mod Aggregates
+mod Apart
+mod Spared

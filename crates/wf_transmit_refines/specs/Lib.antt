@@ -5,3 +5,4 @@ pub mod Changes
 pub mod Counting
 pub mod Ending
 pub mod Taking
+pub mod Readiness
