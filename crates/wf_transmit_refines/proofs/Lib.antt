@@ -24,3 +24,4 @@ pub mod Takes
 pub mod Aggregates
 mod Apart
 mod Spared
+mod Steady

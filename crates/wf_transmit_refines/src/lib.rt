@@ -59,7 +59,7 @@ ghost use Rattle.wf_transmit_refines.specs.Changes.{after_listing, AreReset, aft
 ghost use Rattle.wf_transmit_refines.specs.Counting.{with_overlimit};
 ghost use Rattle.wf_transmit_refines.specs.Ending.{after_close, after_finish, after_answer, IsEnding, state_left};
 ghost use Rattle.wf_transmit_refines.specs.Taking.{QueuesAreHeld};
-ghost use Rattle.wf_transmit_refines.specs.Readiness.{loses_in};
+ghost use Rattle.wf_transmit_refines.specs.Readiness.{loses_in, leaves_ready};
 ghost use Rattle.wf_transmit_refines.specs.Views.{agreements, roster, ledger, HasSameViews, KeepsView, KeepsSums};
 
 /// A new half stands for the opening world, whatever frames are to come.
@@ -355,6 +355,8 @@ pub fn a_pull_is_made_of_these()
 pub fn the_others_stay_as_ready()
     ensures others { (w : World) (note : Note) → IsReached w → (s : ℕ) (c : Class) → (concerned_station w note ≡ Some s → ⊥) →
         loses_in w note s c ≡ false → is_ready (step w note).world c s ≡ is_ready w c s }
+    ensures nobody { (w : World) (note : Note) → IsReached w → leaves_ready note ≡ true → (s : ℕ) (c : Class) →
+        is_ready (step w note).world c s ≡ is_ready w c s }
     ensures refused { (w : World) (note : Note) (r : Refusal) → refusal w note ≡ Some r → (s : ℕ) (c : Class) →
         is_ready (step w note).world c s ≡ is_ready w c s }
 {}
