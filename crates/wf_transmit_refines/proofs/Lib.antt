@@ -25,3 +25,4 @@ pub mod Aggregates
 mod Apart
 mod Spared
 mod Steady
+mod OwnClass

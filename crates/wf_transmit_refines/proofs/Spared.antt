@@ -149,7 +149,7 @@ unfolding without_head with_frame_finished with_fate
 long_without_head [] w p q other = omega arith
 long_without_head (x ∷ rest) w p q other = long_on_queue w p q (λ y. record y { items = rest }) (λ e. absurd (other e))
 
-long_after_limit : (w : World) (q : ℕ) → (is_at_limit w ≡ true → longest_queue w ≡ q → ⊥) → length (queue w q).items ≤ length (queue (after_limit w) q).items
+pub long_after_limit : (w : World) (q : ℕ) → (is_at_limit w ≡ true → longest_queue w ≡ q → ⊥) → length (queue w q).items ≤ length (queue (after_limit w) q).items
 unfolding after_limit
 long_after_limit w q other = on_if (λ (v : World). length (queue w q).items ≤ length (queue v q).items) (is_at_limit w) _ _
     (λ e. long_without_head (queue w (longest_queue w)).items w (longest_queue w) q (other e)) (λ _. omega arith)
@@ -172,7 +172,7 @@ long_enqueued w s t flow len q other =
     long_then w u (after_put_in u s t (queue_for u s t flow) (next_item w len)) q (long_after_limit w q other) (long_put_in u s t (queue_for u s t flow) q (next_item w len))
 
 -- a TID that loses no frame does not list the queue that loses its head
-not_the_longest : (w : World) (s t q : ℕ) → loses_next_in w s t ≡ false → Lists w s t q → is_at_limit w ≡ true → longest_queue w ≡ q → ⊥
+pub not_the_longest : (w : World) (s t q : ℕ) → loses_next_in w s t ≡ false → Lists w s t q → is_at_limit w ≡ true → longest_queue w ≡ q → ⊥
 not_the_longest w s t q spared k full e =
     let listed : has_key (tid_of w s t).queues (longest_queue w) ≡ true = subst (λ (p : ℕ). has_key (tid_of w s t).queues p ≡ true) (sym e) (listed-some (tid_of w s t).queues q k) in
     absurd (cc (rw (full, listed) at spared))
@@ -213,7 +213,7 @@ spares : World → Note → ℕ → ℕ → Bool
 spares w (Enqueue i j flow len) s t = not (loses_next_in w s t)
 spares w (Asked ask) s t = true
 
-neither : (a b : Bool) → a || b ≡ false → (a ≡ false) × (b ≡ false)
+pub neither : (a b : Bool) → a || b ≡ false → (a ≡ false) × (b ≡ false)
 neither true b h = absurd (cc h)
 neither false b h = (refl, h)
 

@@ -50,7 +50,8 @@ steady_ready w v h c s = ready_same_by w v c s (ap (λ (a : Agreements). a.live 
 
 -- ---- a station changes, but neither its TIDs nor its sleep and credit
 
-abbrev receives : Class → Option Station → Bool
+-- whether a station, if it is there, may receive in a class
+abbrev pub receives : Class → Option Station → Bool
 receives c o = not (unwrap_or o no_station).asleep || has_credit (unwrap_or o no_station).credit c
 
 -- its sleep and its credit stay

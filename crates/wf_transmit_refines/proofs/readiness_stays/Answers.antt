@@ -1,12 +1,16 @@
 use Rattle.wf_transmit_refines.proofs.Spared.{ready_others, ready_refused}
+use Rattle.wf_transmit_refines.proofs.OwnClass.{ready_enqueued}
 use Rattle.wf_transmit_refines.proofs.Steady.{ready_left}
-use Rattle.wf_transmit_refines.proofs.the_others_stay_as_ready.Goals as goal
+use Rattle.wf_transmit_refines.proofs.readiness_stays.Goals as goal
 
 pub returns-clause-others : goal.returns-clause-others
 returns-clause-others c = ready_others
 
 pub returns-clause-nobody : goal.returns-clause-nobody
 returns-clause-nobody c = ready_left
+
+pub returns-clause-enqueue : goal.returns-clause-enqueue
+returns-clause-enqueue c = ready_enqueued
 
 pub returns-clause-refused : goal.returns-clause-refused
 returns-clause-refused c = ready_refused
