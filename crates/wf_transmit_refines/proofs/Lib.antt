@@ -26,3 +26,4 @@ mod Apart
 mod Spared
 mod Steady
 mod OwnClass
+mod Beyond

@@ -6,7 +6,6 @@ use Rattle.std.proofs.lemmas.Bool.{cases_eq, not-false}
 use Rattle.wf_frame.specs.declared.classes.Class.{Class}
 use Rattle.wf_frame.specs.declared.classes.Class.TheVariants.{Bk, Be, Vi, Vo}
 use Rattle.wf_frame.specs.declared.notes.Note.TheVariants.{Enqueue}
-use Rattle.wf_frame.specs.declared.notes.Refusal.{Refusal}
 use Rattle.wf_frame.specs.Classes.{lower_tid, upper_tid, class_of}
 use Rattle.wf_rules.specs.Table.{at}
 use Rattle.wf_rules.specs.Lengths.{greatest_body}
@@ -38,7 +37,7 @@ use Rattle.wf_transmit_refines.specs.Standing.{IsReached}
 use Rattle.wf_transmit_refines.specs.Readiness.{loses_in}
 use Rattle.wf_transmit_refines.proofs.Reached.{by_law, reached_step, step_done}
 use Rattle.wf_transmit_refines.proofs.Steady.{receives}
-use Rattle.wf_transmit_refines.proofs.Spared.{IsSameTid, ready_same_by, queued_same, ready_listed, ready_refused, ready_others, neither, long_after_limit, not_the_longest}
+use Rattle.wf_transmit_refines.proofs.Spared.{IsSameTid, ready_same_by, queued_same, ready_stepped, ready_others, neither, long_after_limit, not_the_longest}
 
 -- ---- which queues each TID lists
 
@@ -173,13 +172,13 @@ module _ (w : World) (s t flow len : ℕ) (live : is_live w s ≡ true) where
 
 -- ---- readiness
 
-lower_class : (c : Class) → class_of (lower_tid c) ≡ c
+pub lower_class : (c : Class) → class_of (lower_tid c) ≡ c
 lower_class Bk = refl
 lower_class Be = refl
 lower_class Vi = refl
 lower_class Vo = refl
 
-upper_class : (c : Class) → class_of (upper_tid c) ≡ c
+pub upper_class : (c : Class) → class_of (upper_tid c) ≡ c
 upper_class Bk = refl
 upper_class Be = refl
 upper_class Vi = refl
@@ -207,13 +206,7 @@ pub ready_enqueued : (w : World) (s t flow len : ℕ) → IsReached w → HasLen
     → is_ready (step w (Enqueue s t flow len)).world c i ≡ is_ready w c i
 ready_enqueued w s t flow len r some most i c other spared = elim (cases_eq i s) [
   | inl same ↦ subst (λ (n : ℕ). is_ready (step w (Enqueue s t flow len)).world c n ≡ is_ready w c n) (sym same)
-      (own (refusal w (Enqueue s t flow len)) refl (subst (λ (n : ℕ). loses_in w (Enqueue s t flow len) n c ≡ false) same spared) (other same))
+      (ready_stepped w (Enqueue s t flow len) s c (λ e.
+      own_enqueued w s t flow len (reached_step w (Enqueue s t flow len) r some most) e (no_row (refusals w (Enqueue s t flow len)) e) c (other same) (subst (λ (n : ℕ). loses_in w (Enqueue s t flow len) n c ≡ false) same spared)))
   | inr differs ↦ ready_others w (Enqueue s t flow len) r i c (λ e. differs (cc e)) spared
 ]
-  where
-    own : (o : Option Refusal) → refusal w (Enqueue s t flow len) ≡ o → loses_in w (Enqueue s t flow len) s c ≡ false → (class_of t ≡ c → ⊥) → is_ready (step w (Enqueue s t flow len)).world c s ≡ is_ready w c s
-    own (Some x) e mine apart = ready_refused w (Enqueue s t flow len) x e s c
-    own None e mine apart =
-        ap (λ (o : Outcome). is_ready o.world c s) (step_done w (Enqueue s t flow len) e)
-        ∙ ready_listed (Some s) (outcome_of w (Enqueue s t flow len)).world c s
-        ∙ own_enqueued w s t flow len (reached_step w (Enqueue s t flow len) r some most) e (no_row (refusals w (Enqueue s t flow len)) e) c apart mine

@@ -309,12 +309,16 @@ done_others o w note e r row s c other spared =
     (λ q k. long_done note w s (lower_tid c) q row keeps apart (spares_lower note w s c spared) k)
     (λ q k. long_done note w s (upper_tid c) q row keeps apart (spares_upper note w s c spared) k)
 
-pub ready_others : (w : World) (note : Note) → IsReached w → (s : ℕ) (c : Class) → (concerned_station w note ≡ Some s → ⊥) → loses_in w note s c ≡ false → is_ready (step w note).world c s ≡ is_ready w c s
-ready_others w note r s c other spared = go (refusal w note) refl
+-- a step leaves who is ready where what it does leaves it: a refusal and a listing do
+pub ready_stepped : (w : World) (note : Note) (s : ℕ) (c : Class) → (refusal w note ≡ None → is_ready (outcome_of w note).world c s ≡ is_ready w c s) → is_ready (step w note).world c s ≡ is_ready w c s
+ready_stepped w note s c h = go (refusal w note) refl
   where
     go : (o : Option Refusal) → refusal w note ≡ o → is_ready (step w note).world c s ≡ is_ready w c s
     go (Some x) e = ready_refused w note x e s c
     go None e =
         ap (λ (o : Outcome). is_ready o.world c s) (step_done w note e)
         ∙ ready_listed (concerned_station w note) (outcome_of w note).world c s
-        ∙ done_others (concerned_station w note) w note refl r (no_row (refusals w note) e) s c other spared
+        ∙ h e
+
+pub ready_others : (w : World) (note : Note) → IsReached w → (s : ℕ) (c : Class) → (concerned_station w note ≡ Some s → ⊥) → loses_in w note s c ≡ false → is_ready (step w note).world c s ≡ is_ready w c s
+ready_others w note r s c other spared = ready_stepped w note s c (λ e. done_others (concerned_station w note) w note refl r (no_row (refusals w note) e) s c other spared)

@@ -6,15 +6,13 @@ use Rattle.wf_frame.specs.declared.classes.Class.{Class}
 use Rattle.wf_frame.specs.declared.notes.Note.{Note}
 use Rattle.wf_frame.specs.declared.notes.Note.TheVariants.{Enqueue, Asked}
 use Rattle.wf_frame.specs.declared.notes.Ask.TheVariants.{Join, Leave, Rate, Tick, Pull, Arrive, Answer, Done, Sleep, Wake, Poll, Rx, Reap}
-use Rattle.wf_frame.specs.declared.notes.Refusal.{Refusal}
 use Rattle.wf_frame.specs.Classes.{lower_tid, upper_tid}
 use Rattle.wf_rules.specs.Table.{at}
 use Rattle.wf_rules.specs.Rotation.{in_order}
 use Rattle.wf_rules.specs.Receiver.{Receiver}
 use Rattle.wf_world.specs.World.{World, Station, Exchange, no_station, exchange, on_station, with_station, on_tid, on_receiver, on_share, with_exchange}
 use Rattle.wf_world.specs.CanSend.{is_request, request_open, has_credit, may_receive, is_ready}
-use Rattle.wf_world.specs.Refusals.{refusal}
-use Rattle.wf_world.specs.Step.{Outcome, outcome_of, concerned_station, step, outcome_where_open, rate_outcome, tick_outcome, arrive_outcome, answer_outcome, rx_outcome, reap_outcome}
+use Rattle.wf_world.specs.Step.{Outcome, outcome_of, step, outcome_where_open, rate_outcome, tick_outcome, arrive_outcome, answer_outcome, rx_outcome, reap_outcome}
 use Rattle.wf_rule_laws.proofs.Lemmas.Tables.{each_put}
 use Rattle.wf_laws.proofs.Deficits.Books.{Books, books, core}
 use Rattle.wf_laws.proofs.Deficits.Kept.{IsKept}
@@ -25,8 +23,7 @@ use Rattle.wf_transmit_refines.specs.Standing.{IsReached}
 use Rattle.wf_transmit_refines.specs.Readiness.{leaves_ready}
 use Rattle.wf_transmit_refines.specs.Views.{Agreements, agreements}
 use Rattle.wf_transmit_refines.proofs.Views.{agreements_station, agreements_receiver}
-use Rattle.wf_transmit_refines.proofs.Reached.{step_done}
-use Rattle.wf_transmit_refines.proofs.Spared.{IsSameTid, ready_same_by, ready_listed, ready_refused, orderly_reached}
+use Rattle.wf_transmit_refines.proofs.Spared.{IsSameTid, ready_same_by, ready_stepped, orderly_reached}
 
 -- the flow queues and the sessions are the same, and so are the open requests, and who may receive
 record IsSteady (w v : World) : Type 0 where
@@ -55,15 +52,15 @@ abbrev pub receives : Class → Option Station → Bool
 receives c o = not (unwrap_or o no_station).asleep || has_credit (unwrap_or o no_station).credit c
 
 -- its sleep and its credit stay
-record KeepsSleep (f : Station → Station) : Type 0 where
-  asleep : (x : Station) → (f x).asleep ≡ x.asleep
-  credit : (x : Station) → (f x).credit ≡ x.credit
+pub record KeepsSleep (f : Station → Station) : Type 0 where
+  pub asleep : (x : Station) → (f x).asleep ≡ x.asleep
+  pub credit : (x : Station) → (f x).credit ≡ x.credit
 
 receives_mapped : (f : Station → Station) → KeepsSleep f → (c : Class) (o : Option Station) → receives c (option_map f o) ≡ receives c o
 receives_mapped f h c None = refl
 receives_mapped f h c (Some x) = ap₂ (λ (b : Bool) (o : Option Class). not b || has_credit o c) (h.asleep x) (h.credit x)
 
-receives_on_station : (w : World) (i : ℕ) (f : Station → Station) → KeepsSleep f → (s : ℕ) (c : Class) → may_receive (on_station w i f) s c ≡ may_receive w s c
+pub receives_on_station : (w : World) (i : ℕ) (f : Station → Station) → KeepsSleep f → (s : ℕ) (c : Class) → may_receive (on_station w i f) s c ≡ may_receive w s c
 unfolding on_station with_station
 receives_on_station w i f h s c =
     each_put (λ y o. receives c o ≡ receives c (at None w.stations y)) None w.stations i (option_map f (at None w.stations i)) (λ y. refl) (receives_mapped f h c (at None w.stations i)) s
@@ -92,16 +89,15 @@ steady_received w i d air = record {
 
 -- ---- an open exchange is marked
 
-asks : ℕ → ℕ → List Exchange → Bool
+-- whether a request of a TID is among these exchanges
+abbrev pub asks : ℕ → ℕ → List Exchange → Bool
 asks s t xs = list_any (λ x. (x.station == s) && ((x.tid == t) && is_request x.content)) xs
 
 asks_core : (s t : ℕ) (xs : List Exchange) → asks s t (map core xs) ≡ asks s t xs
-unfolding asks
 asks_core s t [] = refl
 asks_core s t (x ∷ xs) = ap (λ (b : Bool). ((x.station == s) && ((x.tid == t) && is_request x.content)) || b) (asks_core s t xs)
 
 same_requests : (w v : World) → books v ≡ books w → (s t : ℕ) → request_open v s t ≡ request_open w s t
-unfolding asks
 same_requests w v e s t = sym (asks_core s t v.opened) ∙ ap (λ (b : Books). asks s t b.opened) e ∙ asks_core s t w.opened
 
 agreements_marked : (w : World) (z : Exchange) → agreements (with_exchange w z) ≡ agreements w
@@ -168,11 +164,4 @@ steady_done (Asked (Wake i)) w r h c s = absurd (cc h)
 steady_done (Asked (Poll i)) w r h c s = absurd (cc h)
 
 pub ready_left : (w : World) (note : Note) → IsReached w → leaves_ready note ≡ true → (s : ℕ) (c : Class) → is_ready (step w note).world c s ≡ is_ready w c s
-ready_left w note r h s c = go (refusal w note) refl
-  where
-    go : (o : Option Refusal) → refusal w note ≡ o → is_ready (step w note).world c s ≡ is_ready w c s
-    go (Some x) e = ready_refused w note x e s c
-    go None e =
-        ap (λ (o : Outcome). is_ready o.world c s) (step_done w note e)
-        ∙ ready_listed (concerned_station w note) (outcome_of w note).world c s
-        ∙ steady_done note w r h c s
+ready_left w note r h s c = ready_stepped w note s c (λ _. steady_done note w r h c s)
