@@ -32,24 +32,24 @@ pub record IsBeyond (s t : ℕ) (w v : World) : Type 0 where
   pub receives : (c : Class) → may_receive v s c ≡ may_receive w s c
   pub opened : v.opened ≡ w.opened
 
-beyond_here : (s t : ℕ) (w : World) → IsBeyond s t w w
+pub beyond_here : (s t : ℕ) (w : World) → IsBeyond s t w w
 beyond_here s t w = record { tids = λ j _. refl; live = refl; receives = λ c. refl; opened = refl }
 
-beyond_then : (s t : ℕ) (w u v : World) → IsBeyond s t w u → IsBeyond s t u v → IsBeyond s t w v
+pub beyond_then : (s t : ℕ) (w u v : World) → IsBeyond s t w u → IsBeyond s t u v → IsBeyond s t w v
 beyond_then s t w u v h k = record { tids = λ j o. k.tids j o ∙ h.tids j o; live = k.live ∙ h.live; receives = λ c. k.receives c ∙ h.receives c; opened = k.opened ∙ h.opened }
 
-beyond_if : (b : Bool) (s t : ℕ) (w u v : World) → IsBeyond s t w u → IsBeyond s t w v → IsBeyond s t w (if b then u else v)
+pub beyond_if : (b : Bool) (s t : ℕ) (w u v : World) → IsBeyond s t w u → IsBeyond s t w v → IsBeyond s t w (if b then u else v)
 beyond_if true s t w u v h k = h
 beyond_if false s t w u v h k = k
 
 -- ---- the parts
 
-on_station_opened : (w : World) (s : ℕ) (f : Station → Station) → (on_station w s f).opened ≡ w.opened
+pub on_station_opened : (w : World) (s : ℕ) (f : Station → Station) → (on_station w s f).opened ≡ w.opened
 unfolding on_station with_station
 on_station_opened w s f = refl
 
 -- a change of the station shows in a TID as it does in the station
-tid_on_station : (w : World) (s j : ℕ) (f : Station → Station) → ((x : Station) → at no_tid (f x).tids j ≡ at no_tid x.tids j) → tid_of (on_station w s f) s j ≡ tid_of w s j
+pub tid_on_station : (w : World) (s j : ℕ) (f : Station → Station) → ((x : Station) → at no_tid (f x).tids j ≡ at no_tid x.tids j) → tid_of (on_station w s f) s j ≡ tid_of w s j
 unfolding on_station with_station
 tid_on_station w s j f h = ap (λ (o : Option Station). at no_tid (unwrap_or o no_station).tids j) (at_put_same None w.stations s (option_map f (at None w.stations s))) ∙ go (at None w.stations s)
   where
@@ -57,7 +57,7 @@ tid_on_station w s j f h = ap (λ (o : Option Station). at no_tid (unwrap_or o n
     go None = refl
     go (Some x) = h x
 
-beyond_on_session : (w : World) (s t : ℕ) (f : Session → Session) → IsBeyond s t w (on_session w s t f)
+pub beyond_on_session : (w : World) (s t : ℕ) (f : Session → Session) → IsBeyond s t w (on_session w s t f)
 unfolding on_session on_tid
 beyond_on_session w s t f = record {
   tids = λ j other. tid_on_station w s j (λ x. record x { tids = change no_tid x.tids t (λ y. record y { session = f y.session }) }) (λ x. at_put_other no_tid x.tids t j _ (λ e. other (sym e)));
@@ -66,7 +66,7 @@ beyond_on_session w s t f = record {
   opened = on_station_opened w s _;
 }
 
-beyond_on_share : (w : World) (s t : ℕ) (c : Class) (f : Share → Share) → IsBeyond s t w (on_share w s c f)
+pub beyond_on_share : (w : World) (s t : ℕ) (c : Class) (f : Share → Share) → IsBeyond s t w (on_share w s c f)
 unfolding on_share
 beyond_on_share w s t c f = record {
   tids = λ j _. tid_on_station w s j _ (λ x. refl);
@@ -75,7 +75,7 @@ beyond_on_share w s t c f = record {
   opened = on_station_opened w s _;
 }
 
-beyond_finish : (s t : ℕ) (w : World) (fate : Fate) (id : ℕ) → IsBeyond s t w (with_frame_finished w fate id)
+pub beyond_finish : (s t : ℕ) (w : World) (fate : Fate) (id : ℕ) → IsBeyond s t w (with_frame_finished w fate id)
 unfolding with_frame_finished with_fate
 beyond_finish s t w fate id = record { tids = λ j _. refl; live = refl; receives = λ c. refl; opened = refl }
 

@@ -27,3 +27,4 @@ mod Spared
 mod Steady
 mod OwnClass
 mod Beyond
+mod Pulled

@@ -190,7 +190,7 @@ apart_other w i s t q keeps other live k = record {
   long = omega arith;
 }
 
-winner_live : (w : World) (c : Class) (i : ℕ) → (picked_station w c).winner ≡ Some i → is_live w i ≡ true
+pub winner_live : (w : World) (c : Class) (i : ℕ) → (picked_station w c).winner ≡ Some i → is_live w i ≡ true
 winner_live w c i e = left_true (is_live w i) _ (subst (λ (o : Option ℕ). IfSome o (λ k. is_ready w c k ≡ true)) e (pick_ready (station_need w c) (is_ready w c) (rotation w c)))
 
 long_pulled : (o : Option ℕ) (w : World) (c : Class) (s t q : ℕ) → KeepsQueues w → (picked_station w c).winner ≡ o → (o ≡ Some s → ⊥) → Lists w s t q → length (queue w q).items ≤ length (queue (pull_outcome_for (after_pick w c) c o).world q).items

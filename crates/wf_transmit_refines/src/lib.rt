@@ -351,14 +351,16 @@ pub fn a_pull_is_made_of_these()
 {}
 
 /// Who is ready stays so. A call leaves the readiness of each station that it does not concern, in each class in which the
-/// limit drops none of its frames. An enqueue and a Done leave their own station's too, but in the class of the frame's
-/// TID, or the exchange's; and some calls leave everybody's, as a refusal does.
+/// limit drops none of its frames. An enqueue, a pull and a Done leave their own station's too, but in the class of the
+/// frame's TID, the pull's class, and the class of the exchange's TID. Some calls leave everybody's, as a refusal does.
 pub fn readiness_stays()
     ensures others { (w : World) (note : Note) → IsReached w → (s : ℕ) (c : Class) → (concerned_station w note ≡ Some s → ⊥) →
         loses_in w note s c ≡ false → is_ready (step w note).world c s ≡ is_ready w c s }
     ensures enqueue { (w : World) (s t flow len : ℕ) → IsReached w → HasLength (Enqueue s t flow len) → IsAtMost greatest_body (Enqueue s t flow len) →
         (i : ℕ) (c : Class) → (i ≡ s → class_of t ≡ c → ⊥) → loses_in w (Enqueue s t flow len) i c ≡ false →
         is_ready (step w (Enqueue s t flow len)).world c i ≡ is_ready w c i }
+    ensures pull { (w : World) (d : Class) → IsReached w → (i : ℕ) (c : Class) → ((picked_station w d).winner ≡ Some i → d ≡ c → ⊥) →
+        is_ready (step w (Asked (Pull d))).world c i ≡ is_ready w c i }
     ensures done { (w : World) (e : ℕ) (heard : Bool) (x : Exchange) → IsReached w → exchange w e ≡ Some x →
         (i : ℕ) (c : Class) → (i ≡ x.station → class_of x.tid ≡ c → ⊥) → is_ready (step w (Asked (Done e heard))).world c i ≡ is_ready w c i }
     ensures nobody { (w : World) (note : Note) → IsReached w → leaves_ready note ≡ true → (s : ℕ) (c : Class) →

@@ -1,3 +1,4 @@
+use Rattle.wf_transmit_refines.proofs.Pulled.{ready_pulled}
 use Rattle.wf_transmit_refines.proofs.Spared.{ready_others, ready_refused}
 use Rattle.wf_transmit_refines.proofs.OwnClass.{ready_enqueued}
 use Rattle.wf_transmit_refines.proofs.Beyond.{ready_ended}
@@ -6,6 +7,9 @@ use Rattle.wf_transmit_refines.proofs.readiness_stays.Goals as goal
 
 pub returns-clause-others : goal.returns-clause-others
 returns-clause-others c = ready_others
+
+pub returns-clause-pull : goal.returns-clause-pull
+returns-clause-pull c = ready_pulled
 
 pub returns-clause-done : goal.returns-clause-done
 returns-clause-done c = ready_ended
