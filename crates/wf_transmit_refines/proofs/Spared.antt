@@ -4,7 +4,6 @@ use Rattle.std.proofs.lemmas.Bool.{cases_eq, not-false}
 use Rattle.std.proofs.lemmas.List.{length-append}
 use Rattle.std.proofs.lemmas.List.Sums.{sum_by-cons}
 use Rattle.wf_frame.specs.declared.classes.Class.{Class}
-use Rattle.wf_frame.specs.declared.classes.Class.TheVariants.{Bk, Be, Vi, Vo}
 use Rattle.wf_frame.specs.declared.notes.Note.{Note}
 use Rattle.wf_frame.specs.declared.notes.Note.TheVariants.{Enqueue, Asked}
 use Rattle.wf_frame.specs.declared.notes.Ask.TheVariants.{Join, Leave, Rate, Tick, Pull, Arrive, Answer, Done, Sleep, Wake, Poll, Rx, Reap}
@@ -37,6 +36,7 @@ use Rattle.wf_flowq_refines.specs.Frames.{loses_next_in}
 use Rattle.wf_transmit_refines.specs.Standing.{IsReached}
 use Rattle.wf_transmit_refines.specs.Readiness.{loses_in}
 use Rattle.wf_transmit_refines.proofs.Reached.{by_law, step_done, step_refused}
+use Rattle.wf_transmit_refines.proofs.Readers.{lower_low, upper_low}
 use Rattle.wf_transmit_refines.proofs.Apart.{IsApart, apart_pulled, apart_gone}
 
 -- ---- what readiness reads
@@ -116,19 +116,7 @@ module _ (w v : World) (i s : ℕ) (other : s ≡ i → ⊥) (m : IsMild i w v) 
       let same : option_map sends (at None v.stations s) ≡ option_map sends (at None w.stations s) = m.stations s other in
       ready_same_by w v c s (live_same (at None v.stations s) (at None w.stations s) same)
       (sends_same (λ x. not x.asleep || has_credit x.credit c) (λ x. refl) (at None v.stations s) (at None w.stations s) same)
-      (tid_same (lower_tid c) (lower_below c) lower) (tid_same (upper_tid c) (upper_below c) upper)
-    where
-      lower_below : (c : Class) → lower_tid c < 8
-      lower_below Bk = omega arith
-      lower_below Be = omega arith
-      lower_below Vi = omega arith
-      lower_below Vo = omega arith
-
-      upper_below : (c : Class) → upper_tid c < 8
-      upper_below Bk = omega arith
-      upper_below Be = omega arith
-      upper_below Vi = omega arith
-      upper_below Vo = omega arith
+      (tid_same (lower_tid c) (lower_low c) lower) (tid_same (upper_tid c) (upper_low c) upper)
 
 -- ---- an enqueue shortens the queue alone that loses its head
 
