@@ -32,3 +32,9 @@ pub mod Fills
 pub mod Sends
 pub mod Asked
 pub mod Openings
+mod Apart
+mod Spared
+mod Steady
+mod OwnClass
+mod Beyond
+mod Pulled

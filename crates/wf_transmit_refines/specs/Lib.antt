@@ -7,3 +7,4 @@ pub mod Ending
 pub mod Leaving
 pub mod Pulling
 pub mod Filling
+pub mod Readiness

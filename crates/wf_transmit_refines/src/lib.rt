@@ -9,7 +9,7 @@
 
 ghost use Rattle.std.specs.Prelude.{◌≡◌, ◌<◌, ◌≤◌, ℕ, suc, ◌+◌, ◌-◌, ◌*◌, ◌==◌, ◌||◌, ◌++◌, pos, ◌-ℤ◌, Bool, true, false, List, [], ◌∷◌, Option, Some, None, is_some, option_map, map, find, count_by, set, length, max, unwrap_or, ◌%◌, ◌&&◌, nat_lt, nat_le, if◌then◌else◌, All};
 ghost use Rattle.std.specs.List.{list_any};
-ghost use Rattle.wf_frame.specs.Classes.{lower_tid, upper_tid, same_class};
+ghost use Rattle.wf_frame.specs.Classes.{lower_tid, upper_tid, same_class, class_of};
 ghost use Rattle.wf_frame.specs.Frames.{FrameValue};
 ghost use Rattle.wf_frame.specs.Settings.{IsInRange};
 ghost use Rattle.wf_frame.specs.declared.classes.Class.{Class};
@@ -73,6 +73,7 @@ ghost use Rattle.wf_transmit_refines.specs.Leaving.{after_expelled, after_tid_pu
 ghost use Rattle.wf_transmit_refines.specs.Pulling.{sending_tid_of, after_turn, is_wide_of, open_next, after_sending};
 ghost use Rattle.wf_transmit_refines.specs.Filling.{AreWaiting, IsTakingOff, with_one_fresh, IsFilling, IsFilled, after_giving, fresh_mpdu, room_for, IsToFill, IsChoosing, IsTurned};
 ghost use Rattle.wf_transmit_refines.specs.Views.{agreements, roster, ledger, HasSameViews, KeepsView, KeepsSums};
+ghost use Rattle.wf_transmit_refines.specs.Readiness.{loses_in, leaves_ready};
 
 /// A new half stands for the opening world, whatever frames are to come.
 pub fn a_new_half()
@@ -522,4 +523,23 @@ pub fn a_pull()
         (charge : ℕ) (numbers : List ℕ) → charge ≡ aggregate_charge s t a → numbers ≡ numbers_on_air a.mpdus →
         Meets w bodies (Asked (Pull c)) (after_listing (after_sending x s t c charge (Data numbers)) s)
         (Send x.exchanges s t charge (Mpdus (map (λ m. (m.id, m.number % 4096)) a.mpdus)) (open_next x s t c charge (Data numbers)).more) }
+{}
+
+/// Who is ready stays so. A call leaves the readiness of each station that it does not concern, in each class in which the
+/// limit drops none of its frames. An enqueue, a pull and a Done leave their own station's too, but in the class of the
+/// frame's TID, the pull's class, and the class of the exchange's TID. Some calls leave everybody's, as a refusal does.
+pub fn readiness_stays()
+    ensures others { (w : World) (note : Note) → IsReached w → (s : ℕ) (c : Class) → (concerned_station w note ≡ Some s → ⊥) →
+        loses_in w note s c ≡ false → is_ready (step w note).world c s ≡ is_ready w c s }
+    ensures enqueue { (w : World) (s t flow len : ℕ) → IsReached w → HasLength (Enqueue s t flow len) → IsAtMost greatest_body (Enqueue s t flow len) →
+        (i : ℕ) (c : Class) → (i ≡ s → class_of t ≡ c → ⊥) → loses_in w (Enqueue s t flow len) i c ≡ false →
+        is_ready (step w (Enqueue s t flow len)).world c i ≡ is_ready w c i }
+    ensures pull { (w : World) (d : Class) → IsReached w → (i : ℕ) (c : Class) → ((picked_station w d).winner ≡ Some i → d ≡ c → ⊥) →
+        is_ready (step w (Asked (Pull d))).world c i ≡ is_ready w c i }
+    ensures done { (w : World) (e : ℕ) (heard : Bool) (x : Exchange) → IsReached w → exchange w e ≡ Some x →
+        (i : ℕ) (c : Class) → (i ≡ x.station → class_of x.tid ≡ c → ⊥) → is_ready (step w (Asked (Done e heard))).world c i ≡ is_ready w c i }
+    ensures nobody { (w : World) (note : Note) → IsReached w → leaves_ready note ≡ true → (s : ℕ) (c : Class) →
+        is_ready (step w note).world c s ≡ is_ready w c s }
+    ensures refused { (w : World) (note : Note) (r : Refusal) → refusal w note ≡ Some r → (s : ℕ) (c : Class) →
+        is_ready (step w note).world c s ≡ is_ready w c s }
 {}
