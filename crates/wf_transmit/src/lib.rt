@@ -5,6 +5,7 @@
 
 mod frames;
 mod half;
+mod leave;
 mod ready;
 mod refuse;
 mod stations;

@@ -10,7 +10,7 @@ ghost use Rattle.wf_seq12.specs.Distance.{distance};
 ghost use Rattle.wf_origwin.specs.Window.{fresh_window, StandsFor, IsNumber, settled, place_at, state_at, attempts_of, is_flying, some_fly, can_take};
 ghost use Rattle.wf_origwin.specs.Answers.{answer_of, with_fate};
 ghost use Rattle.wf_flowq.specs.Flows.{tid_number};
-ghost use Rattle.wf_windows.specs.Windows.{new_window, window_of, with_window};
+ghost use Rattle.wf_windows.specs.Windows.{HaveRoom, new_window, window_of, with_window};
 
 use std::alloc::{AllocError, Global};
 use std::marker::Model;
@@ -179,6 +179,7 @@ impl Windows {
         ensures fewer { IfSome result (λ _. length (window_of self.new station tid).places < length (window_of self.old station tid).places) }
         ensures still { some_fly (window_of self.new station tid) ≡ false }
         ensures others { self.new ≡ with_window self.old station tid (window_of self.new station tid) }
+        ensures room { HaveRoom self.new }
         ensures count { length self.new ≡ length self.old }
     {
         self.windows[place(station, tid)].expel()
