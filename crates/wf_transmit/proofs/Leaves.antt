@@ -1,5 +1,5 @@
 -- The steps of a leave, from what each does to the parts of the half.
-use Rattle.std.proofs.Common.{◌≡◌, refl, ap, sym, ◌∙◌, subst, arith, ℕ, suc, ◌+◌, ◌<◌, ◌≤◌, ◌^◌, false, List, [], ◌∷◌, ◌++◌, length, Option, None, set}
+use Rattle.std.proofs.Common.{◌≡◌, ap, sym, ◌∙◌, subst, arith, ℕ, suc, ◌+◌, ◌<◌, ◌≤◌, ◌^◌, false, List, [], ◌∷◌, ◌++◌, length, Option, None, set}
 use Rattle.wf_frame.specs.declared.classes.Cause.TheVariants.{Left}
 use Rattle.wf_frame.specs.declared.classes.Fate.TheVariants.{Dropped}
 use Rattle.wf_frame.specs.declared.notes.Ask.TheVariants.{Leave}
@@ -23,7 +23,7 @@ use Rattle.wf_transmit_refines.specs.Leaving.{after_expelled, after_tid_purged, 
 use Rattle.wf_transmit_refines.specs.Standing.{Meets}
 use Rattle.wf_transmit_refines.proofs.Leavings.{tid_begins, none_flies_now, within, room_for_one, frame_next, window_ends, tid_ends, expelled_few, left_few}
 use Rattle.wf_transmit_refines.proofs.Gone.{dropped_are_held, leave_meets}
-use Rattle.wf_transmit.specs.Leaving.{Gives, SomeLeaves, SomeGives}
+use Rattle.wf_transmit.specs.Leaving.{Gives, SomeGives}
 use Rattle.wf_transmit.proofs.Worlds.{met_by}
 
 -- ---- a frame of a window

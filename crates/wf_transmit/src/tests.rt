@@ -20,3 +20,18 @@ fn stations_join(rt: HostRuntime) -> Result<(), AllocError> {
     assert!(rt; half.reap().is_none());
     Ok(())
 }
+
+/// A station leaves, and may come again.
+#[test]
+fn stations_leave(rt: HostRuntime) -> Result<(), AllocError> {
+    let mut half = Transmit::new(rt.alloc(), Config::standard())?;
+    assert_eq!(rt; half.leave(16), Err(Refusal::BadStation));
+    assert_eq!(rt; half.leave(3), Err(Refusal::NoStation));
+    assert_eq!(rt; half.join(3, 64, 4090, 3, 1), Ok(()));
+    assert_eq!(rt; half.leave(3), Ok(0));
+    assert_eq!(rt; half.leave(3), Err(Refusal::NoStation));
+    assert_eq!(rt; half.join(3, 64, 0, 3, 1), Ok(()));
+    assert_eq!(rt; half.leave(3), Ok(0));
+    assert!(rt; !half.is_live(3) && half.reap().is_none());
+    Ok(())
+}
