@@ -1,2 +1,3 @@
 pub mod Half
 pub mod Replies
+pub mod Enqueues

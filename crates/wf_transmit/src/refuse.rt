@@ -46,7 +46,7 @@ fn is_within(greatest: u32, number: u32) -> bool
 }
 
 // Refused for this reason where a condition holds.
-fn refuse_where(condition: bool, reason: Refusal) -> Result<(), Refusal>
+pub(crate) fn refuse_where(condition: bool, reason: Refusal) -> Result<(), Refusal>
     ensures refused { refusal_in result ≡ (if condition then Some reason else None) }
     ensures passed { IfOk result (λ _. condition ≡ false) }
 {
@@ -201,7 +201,7 @@ impl Transmit {
     }
 
     // The number of a station that is to be live is below the setting.
-    fn in_range(&self, station: u16) -> Result<(), Refusal>
+    pub(crate) fn in_range(&self, station: u16) -> Result<(), Refusal>
         ensures refused { refusal_in result ≡ (if nat_le self.now.config.stations station then Some BadStation else None) }
         ensures within { IfOk result (λ _. station < self.now.config.stations) }
     {
@@ -212,7 +212,7 @@ impl Transmit {
     }
 
     // A station in range is to be live.
-    fn live(&self, station: u16) -> Result<(), Refusal>
+    pub(crate) fn live(&self, station: u16) -> Result<(), Refusal>
         requires { station < self.now.config.stations }
         ensures refused { refusal_in result ≡ (if not (is_some (member self.now.members station)) then Some NoStation else None) }
         ensures live { IfOk result (λ _. IsLive self.now station) }
