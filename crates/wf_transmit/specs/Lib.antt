@@ -1,3 +1,4 @@
 pub mod Half
 pub mod Replies
 pub mod Leaving
+pub mod Enqueues

@@ -3,6 +3,7 @@
 //! Each call is a call of the machine (`wf_world`). Where it is refused it changes nothing. No call takes memory.
 #![tactic(auto)]
 
+mod enqueue;
 mod frames;
 mod half;
 mod leave;
