@@ -4,3 +4,4 @@ pub mod Worlds
 pub mod Resets
 pub mod Calls
 pub mod Openings
+pub mod Settling

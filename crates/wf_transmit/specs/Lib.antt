@@ -1,2 +1,4 @@
 pub mod Half
 pub mod Replies
+pub mod Bits
+pub mod Counts

@@ -3,12 +3,14 @@
 //! Each call is a call of the machine (`wf_world`). Where it is refused it changes nothing. No call takes memory.
 #![tactic(auto)]
 
+mod finish;
 mod frames;
 mod half;
 mod ready;
 mod refuse;
 mod stations;
 
+pub use finish::Ended;
 pub use half::Transmit;
 
 #[cfg(test)]
