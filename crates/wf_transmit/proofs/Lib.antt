@@ -5,3 +5,4 @@ pub mod Resets
 pub mod Calls
 pub mod Openings
 pub mod Settling
+pub mod Ends

@@ -1,23 +1,25 @@
 -- What a BlockAck shows of sequence numbers, by its start and its bits alone, and how the end of an exchange goes by it.
-use Rattle.std.specs.Prelude.{◌≡◌, ℕ, ◌+◌, ◌<◌, ◌≤◌, ◌^◌, ◌==◌, nat_lt, Bool, false, ◌&&◌, List, length, find, Option, Some, None, IfSome, if◌then◌else◌}
+use Rattle.std.specs.Prelude.{◌≡◌, ℕ, ◌+◌, ◌<◌, ◌≤◌, ◌^◌, ◌==◌, nat_lt, Bool, true, false, is_some, ◌&&◌, List, length, find, Option, Some, None, IfSome, if◌then◌else◌}
 use Rattle.wf_frame.specs.Frames.{FrameValue}
 use Rattle.wf_frame.specs.declared.notes.ReplyNote.{ReplyNote}
 use Rattle.wf_frame.specs.declared.notes.ReplyNote.TheVariants.{Ended as Ends}
 use Rattle.wf_rules.specs.Bounds.{narrow_window, greatest_window}
 use Rattle.wf_rules.specs.Receiver.{Score, shows}
 use Rattle.wf_rules.specs.Table.{has}
-use Rattle.wf_world.specs.World.{World, Exchange, Mpdu, is_wide}
-use Rattle.wf_world.specs.Exchanges.{mpdus_of}
+use Rattle.wf_world.specs.World.{World, Exchange, Mpdu, exchange, is_wide}
+use Rattle.wf_world.specs.CanSend.{is_request}
+use Rattle.wf_world.specs.Exchanges.{mpdus_of, is_acked}
 use Rattle.wf_laws.specs.Windows.{EachMpdu}
 use Rattle.wf_fate.specs.Tally.{held_in}
 use Rattle.wf_codel_queues.specs.Backlog.{held}
 use Rattle.wf_seq12.specs.Distance.{distance}
 use Rattle.wf_origwin.specs.declared.window.Settled.{Settled}
 use Rattle.wf_origwin.specs.declared.window.Settled.TheVariants.{Acked, Waiting, Failed}
+use Rattle.wf_exchanges.specs.declared.opened.Open.{Open}
 use Rattle.wf_members.specs.Members.{member, charged_in}
 use Rattle.wf_transmit_refines.specs.Half.{TransmitValue}
-use Rattle.wf_transmit_refines.specs.Standing.{numbers_on_air}
-use Rattle.wf_transmit_refines.specs.Ending.{IsEnding}
+use Rattle.wf_transmit_refines.specs.Standing.{numbers_on_air, open_of, StandsFor}
+use Rattle.wf_transmit_refines.specs.Ending.{after_close, IsEnding}
 use Rattle.wf_transmit.specs.declared.finish.Ended.{Ended}
 
 -- ---- a BlockAck
@@ -43,6 +45,12 @@ AreShown w x b heard = EachMpdu (λ m. shows b m.number ≡ is_shown (is_wide w 
 abbrev pub NoneIsShown : World → Exchange → Option (ℕ × List ℕ) → Type 0
 NoneIsShown w x heard = EachMpdu (λ m. is_shown (is_wide w x.station x.tid) heard m.number ≡ false) (mpdus_of x.content)
 
+-- An exchange ends by what was heard as by its receiver's answer, where that was heard or where it was not: of each of its numbers both
+-- tell the same, and a request is heard where anything was.
+pub record GoesBy (w : World) (x : Exchange) (heard : Option (ℕ × List ℕ)) (answered : Bool) : Type 0 where
+  pub numbers : EachMpdu (λ m. is_acked answered x.answer m.number ≡ is_shown (is_wide w x.station x.tid) heard m.number) (mpdus_of x.content)
+  pub request : is_request x.content ≡ true → answered ≡ is_some heard
+
 -- ---- what the calls ask
 
 -- where an exchange is open, the airtime of its station's exchanges in its class is below 2^62 microseconds
@@ -63,6 +71,18 @@ pub record IsToSettle (v : TransmitValue) (s t : ℕ) (numbers : List ℕ) (acke
   pub after : World
   pub ending : IsEnding v world bodies s t exchange acked mpdus after
   pub numbers_are : numbers ≡ numbers_on_air mpdus
+
+-- exchange o is just closed and charged, and what it sent is still to be settled
+pub record IsClosed (v : TransmitValue) (o : Open) : Type 0 where
+  pub before : TransmitValue
+  pub world : World
+  pub bodies : ℕ → FrameValue
+  pub number : ℕ
+  pub exchange_is : Exchange
+  pub stands : StandsFor before world bodies
+  pub known : exchange world number ≡ Some exchange_is
+  pub same : o ≡ open_of exchange_is
+  pub closed : v ≡ after_close before o
 
 -- ---- what it gives
 

@@ -1,22 +1,28 @@
 //! The end of an exchange.
 
-ghost use Rattle.std.specs.Prelude.{◌≡◌, ◌≢◌, ◌<◌, ◌≤◌, ◌==◌, ℕ, Bool, true, None, find, length, List};
+ghost use Rattle.std.specs.Prelude.{◌≡◌, ◌≢◌, ◌<◌, ◌≤◌, ◌==◌, ℕ, Bool, true, false, Some, length, find, is_ok, is_some, IfErr, IfNone, IfSome, List};
 ghost use Rattle.wf_frame.specs.Frames.{FrameValue};
 ghost use Rattle.wf_frame.specs.declared.classes.Fate.TheVariants.{Held};
-ghost use Rattle.wf_world.specs.World.{World, Mpdu};
-ghost use Rattle.wf_codel_queues.specs.Backlog.{held};
-ghost use Rattle.wf_fate.specs.Tally.{held_in};
+ghost use Rattle.wf_world.specs.World.{World, Mpdu, Exchange, exchange as exchange_in};
+ghost use Rattle.wf_world.specs.CanSend.{is_request};
+ghost use Rattle.wf_world.specs.Step.{done_outcome};
 ghost use Rattle.wf_transmit_refines.specs.Half.{TransmitValue};
-ghost use Rattle.wf_transmit_refines.specs.Standing.{Parts, numbers_on_air};
-ghost use Rattle.wf_transmit_refines.specs.Ending.{IsEnding, after_finish, after_answer};
-ghost use Rattle.wf_transmit.specs.Bits.{is_shown, CanFinish, IsToSettle, none_ended, with_one_more, all_ended};
+ghost use Rattle.wf_transmit_refines.specs.Standing.{StandsFor, Meets, Parts, numbers_on_air, open_of};
+ghost use Rattle.wf_transmit_refines.specs.Ending.{IsEnding, after_close, after_finish, after_answer};
+ghost use Rattle.wf_transmit.specs.Bits.{is_shown, CanFinish, IsToSettle, IsClosed, GoesBy, with_one_more, all_ended, ended_reply, IsChargeSmall, AreShown, NoneIsShown};
+ghost use Rattle.wf_transmit.specs.Half.{HasWorld};
+ghost use Rattle.wf_transmit.specs.Replies.{reply_of};
+ghost use Rattle.wf_rules.specs.Receiver.{Score};
+ghost use Rattle.wf_frame.specs.declared.notes.Ask.TheVariants.{Done};
+ghost use Rattle.wf_frame.specs.declared.notes.Note.TheVariants.{Asked};
+ghost use Rattle.wf_frame.specs.declared.notes.Refusal.TheVariants.{NoExchange};
 ghost use Rattle.wf_transmit.specs.Counts.{AreCounted, HasFate};
 
 use crate::Transmit;
 use wf_bits::Bits256;
 use wf_chain::Parcel;
-use wf_exchanges::Numbers;
-use wf_frame::Fate;
+use wf_exchanges::{Numbers, Open, Sending};
+use wf_frame::Refusal;
 use wf_seq12::Seq12;
 use wf_windows::Settled;
 
@@ -49,6 +55,64 @@ fn is_shown(wide: bool, heard: &Option<(Seq12, Bits256)>, number: Seq12) -> bool
 }
 
 impl Transmit {
+    /// An exchange ends: its station pays for it, and what it sent is settled. `heard` is what was heard in answer: the start and
+    /// the bits of a BlockAck (IEEE 802.11-2012, 8.3.1.9), of which the first 64 count, or all 256 where the TID's window is
+    /// above 64. Each number that it shows is acknowledged; each other one waits again, or fails where it was sent `attempts`
+    /// times. A request is heard where anything was. Where the exchange is not open, refused as NoExchange.
+    pub fn done(&mut self, exchange: u64, heard: Option<(Seq12, Bits256)>) -> Result<Ended, Refusal>
+        requires some { HasWorld self.old }
+        requires small { IsChargeSmall self.old exchange }
+        ensures lost { IfNone heard ((w : World) (bodies : ℕ → FrameValue) → StandsFor self.old w bodies →
+            Meets w bodies (Asked (Done exchange false)) self.new (reply_of ended_reply result)) }
+        ensures shown { IfSome heard (λ score. (w : World) (bodies : ℕ → FrameValue) (x : Exchange) (b : Score) → StandsFor self.old w bodies →
+            exchange_in w exchange ≡ Some x → x.answer ≡ Some b → AreShown w x b (Some score) →
+            Meets w bodies (Asked (Done exchange true)) self.new (reply_of ended_reply result)) }
+        ensures none_shown { (w : World) (bodies : ℕ → FrameValue) (x : Exchange) → StandsFor self.old w bodies →
+            exchange_in w exchange ≡ Some x → is_request x.content ≡ false → NoneIsShown w x heard →
+            Meets w bodies (Asked (Done exchange false)) self.new (reply_of ended_reply result) }
+        ensures open { is_ok result ≡ is_some (find (λ x. x.number == exchange) self.old.opened) }
+        ensures refused { IfErr result (λ reason. (reason ≡ NoExchange) × (self.new ≡ self.old)) }
+        ensures kept { IfNone heard (HasWorld self.new) }
+    {
+        let Some(open) = self.opened.take_out(exchange) else {
+            return Err(Refusal::NoExchange);
+        };
+        self.sched.charge(open.station, open.class, open.charge);
+        self.members.charge(open.station, open.class, open.charge);
+        let ended = self.settle(&open, &heard);
+        self.list(open.station);
+        Ok(ended)
+    }
+
+    // What an exchange sent is settled, once it is closed and charged: the numbers of an aggregate by what was heard, and a
+    // request where anything was.
+    fn settle(&mut self, open: &Open, heard: &Option<(Seq12, Bits256)>) -> Ended
+        requires some { IsClosed self.old open.now }
+        ensures settled { (v : TransmitValue) (w : World) (bodies : ℕ → FrameValue) (e : ℕ) (x : Exchange) (answered : Bool) →
+            StandsFor v w bodies → exchange_in w e ≡ Some x → open.now ≡ open_of x → self.old ≡ after_close v open.now → GoesBy w x heard.now answered →
+            Parts self.new (done_outcome w x answered).world bodies }
+        ensures reply { (v : TransmitValue) (w : World) (bodies : ℕ → FrameValue) (e : ℕ) (x : Exchange) (answered : Bool) →
+            StandsFor v w bodies → exchange_in w e ≡ Some x → open.now ≡ open_of x → self.old ≡ after_close v open.now → GoesBy w x heard.now answered →
+            ended_reply result ≡ (done_outcome w x answered).reply }
+    {
+        match &open.sending {
+            Sending::Data(numbers) => {
+                let wide = self.windows.at(open.station, open.tid).size() > NARROW;
+                self.settle_all(open.station, open.tid, numbers, wide, heard)
+            }
+            Sending::Request(start) => {
+                if heard.is_some() {
+                    self.windows.bar_heard(open.station, open.tid, *start);
+                }
+                Ended {
+                    acked: 0,
+                    waiting: 0,
+                    failed: 0,
+                }
+            }
+        }
+    }
+
     // Settles each number of an aggregate, in its order, by what was heard.
     fn settle_all(
         &mut self,
