@@ -6,3 +6,4 @@ pub mod Calls
 pub mod Openings
 pub mod Settling
 pub mod Ends
+pub mod Dones

@@ -70,7 +70,7 @@ impl Transmit {
         ensures none_shown { (w : World) (bodies : ℕ → FrameValue) (x : Exchange) → StandsFor self.old w bodies →
             exchange_in w exchange ≡ Some x → is_request x.content ≡ false → NoneIsShown w x heard →
             Meets w bodies (Asked (Done exchange false)) self.new (reply_of ended_reply result) }
-        ensures open { is_ok result ≡ is_some (find (λ x. x.number == exchange) self.old.opened) }
+        ensures found { is_ok result ≡ is_some (find (λ x. x.number == exchange) self.old.opened) }
         ensures refused { IfErr result (λ reason. (reason ≡ NoExchange) × (self.new ≡ self.old)) }
         ensures kept { IfNone heard (HasWorld self.new) }
     {
@@ -94,6 +94,7 @@ impl Transmit {
         ensures reply { (v : TransmitValue) (w : World) (bodies : ℕ → FrameValue) (e : ℕ) (x : Exchange) (answered : Bool) →
             StandsFor v w bodies → exchange_in w e ≡ Some x → open.now ≡ open_of x → self.old ≡ after_close v open.now → GoesBy w x heard.now answered →
             ended_reply result ≡ (done_outcome w x answered).reply }
+        ensures config { self.new.config ≡ self.old.config }
     {
         match &open.sending {
             Sending::Data(numbers) => {
@@ -128,6 +129,7 @@ impl Transmit {
             IsEnding self.old w bodies station tid e (is_shown wide heard.now) mpdus after → numbers.now ≡ numbers_on_air mpdus → Parts self.new after bodies }
         ensures counted { (w after : World) (bodies : ℕ → FrameValue) (e : ℕ) (mpdus : List Mpdu) →
             IsEnding self.old w bodies station tid e (is_shown wide heard.now) mpdus after → numbers.now ≡ numbers_on_air mpdus → AreCounted after station tid mpdus result }
+        ensures config { self.new.config ≡ self.old.config }
     {
         let limit = self.config.attempts as u8;
         let mut ended = Ended {

@@ -58,3 +58,9 @@ returns-else-is_some-clause-settled c v w bodies e x answered h known same close
 
 pub returns-else-is_some-clause-reply : goal.returns-else-is_some-clause-reply
 returns-else-is_some-clause-reply c v w bodies e x answered h known same closed goes = request_told v w bodies h e x known c.args.self.now c.args.open.now same closed c.in-Request.start c.args.heard.now answered goes c.in-Request.is
+
+pub returns-in-Data-clause-config : goal.returns-in-Data-clause-config
+returns-in-Data-clause-config c = c.settle_all.ensures.config
+
+pub returns-then-is_some-clause-config : goal.returns-then-is_some-clause-config
+returns-then-is_some-clause-config c = ap (λ (z : TransmitValue). z.config) c.self-in-Request.view_is

@@ -53,3 +53,6 @@ returns-clause-settled c w after bodies e mpdus ending is =
 pub returns-clause-counted : goal.returns-clause-counted
 returns-clause-counted c w after bodies e mpdus ending is =
     all_counted c.args.self.now c.loop-i.self c.args.station c.args.tid c.args.numbers.now (is_shown c.args.wide c.args.heard.now) c.loop-i.i c.loop-i.ended c.loop-i.invariant (omega (arith, c.loop-i-test.false, c.len-i-end.ensures.count)) w after bodies e mpdus ending is
+
+pub returns-clause-config : goal.returns-clause-config
+returns-clause-config c = c.loop-i.invariant.config
