@@ -1,5 +1,5 @@
 -- A whole Done, from what it does to the parts of the half.
-use Rattle.std.proofs.Common.{◌≡◌, refl, ap, ap₂, sym, ◌∙◌, subst, arith, ℕ, ◌-◌, ◌*◌, ◌^◌, ◌<◌, ◌≤◌, ◌==◌, ℤ, pos, negsuc, ◌-ℤ◌, ◌≤ℤ◌, Bool, true, false, not, List, [], ◌∷◌, length, Option, Some, None, is_some, is_none, option_map, if◌then◌else◌}
+use Rattle.std.proofs.Common.{◌≡◌, refl, ap, ap₂, sym, ◌∙◌, subst, arith, ℕ, ◌-◌, ◌^◌, ◌<◌, ◌≤◌, ◌==◌, pos, negsuc, ◌-ℤ◌, ◌≤ℤ◌, Bool, true, false, not, List, [], ◌∷◌, length, Option, Some, None, is_none, option_map, if◌then◌else◌}
 use Rattle.std.specs.Prelude.{find, filter, IfSome, IfNone}
 use Rattle.wf_frame.specs.declared.notes.Note.TheVariants.{Asked}
 use Rattle.wf_frame.specs.declared.notes.Ask.TheVariants.{Done}
@@ -9,7 +9,7 @@ use Rattle.wf_frame.specs.declared.notes.Refusal.TheVariants.{NoExchange}
 use Rattle.wf_frame.specs.declared.settings.Config.{Config}
 use Rattle.wf_frame.specs.Frames.{FrameValue}
 use Rattle.wf_rules.specs.Receiver.{Score, shows}
-use Rattle.wf_world.specs.World.{World, Exchange, Mpdu, Content, Frames, Request, exchange, is_live, is_wide}
+use Rattle.wf_world.specs.World.{World, Exchange, Mpdu, exchange, is_live, is_wide}
 use Rattle.wf_world.specs.CanSend.{is_request}
 use Rattle.wf_world.specs.Exchanges.{mpdus_of, is_acked}
 use Rattle.wf_world.specs.Refusals.{refusal}
@@ -24,7 +24,6 @@ use Rattle.wf_sched.specs.ClassRotas.{SchedValue, deficit}
 use Rattle.wf_sched_refines.specs.Standing.{StandsFor as TurnsStandFor, with_charge as with_turns_charged}
 use Rattle.wf_sched_refines.proofs.Calls.{charge_fits}
 use Rattle.wf_driver_laws.proofs.Opened.{found_number, first_refuses}
-use Rattle.wf_driver_laws.proofs.Ended.{may_end_lost, may_end_heard}
 use Rattle.wf_transmit_refines.specs.Half.{TransmitValue}
 use Rattle.wf_transmit_refines.specs.Standing.{open_of, Parts, StandsFor, Meets}
 use Rattle.wf_transmit_refines.specs.Changes.{after_listing}
@@ -34,7 +33,7 @@ use Rattle.wf_transmit_refines.proofs.Endings.{found, open_live}
 use Rattle.wf_transmit_refines.proofs.Meets.{refused_meets}
 use Rattle.wf_transmit_refines.proofs.Reached.{now_is, by_law}
 use Rattle.wf_transmit_refines.proofs.Readers.{exchange_same}
-use Rattle.wf_transmit.specs.Bits.{is_shown, shows_bits, AreShown, NoneIsShown, GoesBy, IsClosed, IsChargeSmall, ended_reply}
+use Rattle.wf_transmit.specs.Bits.{is_shown, AreShown, NoneIsShown, GoesBy, IsClosed, IsChargeSmall, ended_reply}
 use Rattle.wf_transmit.specs.Half.{HasWorld}
 use Rattle.wf_transmit.specs.declared.finish.Ended.{Ended}
 

@@ -1,29 +1,25 @@
 -- An exchange that is open ends: what the half finds of it, and what is left once its numbers are settled.
-use Rattle.std.proofs.Common.{◌≡◌, refl, ap, ap₂, sym, ◌∙◌, subst, arith, ℕ, suc, ◌+◌, ◌-◌, ◌*◌, ◌^◌, ◌<◌, ◌≤◌, ◌%◌, ◌==◌, ◌||◌, ℤ, pos, negsuc, ◌-ℤ◌, ◌≤ℤ◌, Bool, true, false, not, cond, if◌then◌else◌, List, [], ◌∷◌, map, length, Option, Some, None, is_some, option_map, unwrap_or, max, eq-eqb}
-use Rattle.std.specs.Prelude.{count_by, sum_by, find}
+use Rattle.std.proofs.Common.{◌≡◌, refl, ap, ap₂, sym, ◌∙◌, subst, arith, ℕ, ◌+◌, ◌-◌, ◌<◌, ◌≤◌, ◌%◌, ◌==◌, Bool, true, false, not, cond, List, [], ◌∷◌, map, length, Option, Some, None, is_some, unwrap_or, max, eq-eqb}
+use Rattle.std.specs.Prelude.{count_by, sum_by}
 use Rattle.std.proofs.lemmas.Bool.{or_left}
 use Rattle.std.proofs.lemmas.List.{length-map}
-use Rattle.wf_frame.specs.declared.notes.Note.TheVariants.{Asked}
-use Rattle.wf_frame.specs.declared.notes.Ask.TheVariants.{Done}
 use Rattle.wf_frame.specs.declared.notes.ReplyNote.TheVariants.{Ended as Ends}
-use Rattle.wf_frame.specs.declared.settings.Config.{Config}
 use Rattle.wf_frame.specs.Frames.{FrameValue}
 use Rattle.wf_rules.specs.Session.{Session, Slot, State, no_slot, slot, start_of, next_number, is_settled, is_acknowledged, is_waiting, is_failed}
 use Rattle.wf_rules.specs.Table.{at, has}
 use Rattle.wf_rule_laws.proofs.Lemmas.Sums.{sum_put, sum_put_within}
-use Rattle.wf_world.specs.World.{World, Station, Tid, Exchange, Mpdu, Content, Frames, Request, no_station, no_tid, is_live, session, exchange, inside, without_exchange, is_wide}
+use Rattle.wf_world.specs.World.{World, Station, Tid, Exchange, Mpdu, Content, Frames, Request, no_station, no_tid, is_live, session, exchange, without_exchange, is_wide}
 use Rattle.wf_world.specs.CanSend.{is_request}
 use Rattle.wf_world.specs.Exchanges.{mpdus_of, is_acked, after_charge, with_all_settled, count_in}
 use Rattle.wf_world.specs.Step.{done_outcome}
 use Rattle.wf_laws.specs.Room.{unsettled_of, in_windows_of, in_windows}
-use Rattle.wf_laws.specs.Sent.{HasSome, KeepsSent}
+use Rattle.wf_laws.specs.Sent.{HasSome}
 use Rattle.wf_laws.specs.Attempts.{IsTried}
 use Rattle.wf_laws.specs.Tallies.{AddsUp}
 use Rattle.wf_laws.specs.Windows.{EachMpdu, EachOpen, IsPending}
 use Rattle.wf_laws.proofs.Attempts.Law.{attempts_law}
 use Rattle.wf_laws.proofs.Frames.Tallies.{tally_law}
 use Rattle.wf_laws.proofs.Sent.Law.{sent_law}
-use Rattle.wf_codel_queues.specs.Backlog.{held}
 use Rattle.wf_fate.specs.Tally.{Counts, held_in}
 use Rattle.wf_flowq.specs.Flows.{SettingsValue, tid_number}
 use Rattle.wf_flowq_refines.proofs.Readers.{same_total}
@@ -35,12 +31,11 @@ use Rattle.wf_windows.specs.Windows.{HaveRoom, window_of, with_window}
 use Rattle.wf_windows.specs.Ending.{Ending, IsFlyingIn, AreFlying}
 use Rattle.wf_windows.proofs.Ends.{still_fly}
 use Rattle.wf_exchanges.specs.declared.opened.Open.{Open}
-use Rattle.wf_exchanges.specs.declared.opened.Sending.{Sending}
 use Rattle.wf_exchanges.specs.declared.opened.Sending.TheVariants.{Data, Request as Starts_at}
 use Rattle.wf_transmit_refines.specs.Half.{TransmitValue}
-use Rattle.wf_transmit_refines.specs.Standing.{sending_of, open_of, numbers_on_air, counts_in, Parts, IsReached, StandsFor}
+use Rattle.wf_transmit_refines.specs.Standing.{sending_of, open_of, numbers_on_air, Parts, StandsFor}
 use Rattle.wf_transmit_refines.specs.Ending.{after_close, ending_of, IsEnding}
-use Rattle.wf_transmit_refines.specs.Views.{Agreements, agreements}
+use Rattle.wf_transmit_refines.specs.Views.{Agreements}
 use Rattle.wf_transmit_refines.proofs.Reached.{by_law}
 use Rattle.wf_transmit_refines.proofs.Dropping.{held_counted, finished_known}
 use Rattle.wf_transmit_refines.proofs.Leavings.{HasPlace, has_place}

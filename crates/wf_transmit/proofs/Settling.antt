@@ -1,6 +1,6 @@
 -- The numbers of an aggregate are settled, one after the other.
-use Rattle.std.proofs.Common.{◌≡◌, ◌≢◌, nat_le, length-append, append_assoc, append-nil, refl, ap, ap₂, sym, ◌∙◌, subst, arith, ℕ, suc, ◌+◌, ◌-◌, ◌<◌, ◌≤◌, ◌%◌, ◌==◌, nat_lt, Bool, true, false, ◌&&◌, cond, if◌then◌else◌, List, [], ◌∷◌, ◌++◌, map, length, Option, Some, None}
-use Rattle.std.specs.Prelude.{count_by, sum_by, slice_get}
+use Rattle.std.proofs.Common.{◌≡◌, ◌≢◌, nat_le, length-append, append_assoc, append-nil, refl, ap, ap₂, sym, ◌∙◌, subst, arith, ℕ, suc, ◌+◌, ◌-◌, ◌<◌, ◌≤◌, nat_lt, Bool, true, false, ◌&&◌, cond, if◌then◌else◌, List, [], ◌∷◌, ◌++◌, map, length, Option, Some, None}
+use Rattle.std.specs.Prelude.{slice_get}
 use Rattle.std.proofs.lemmas.List.{length-map}
 use Rattle.std.proofs.lemmas.List.Sums.{sum_by-cons}
 use Rattle.wf_frame.specs.declared.classes.Cause.TheVariants.{Overlimit, Codel, Retries, Left}
@@ -12,7 +12,6 @@ use Rattle.wf_rules.specs.Session.{Session, Slot, State, slot, is_acknowledged, 
 use Rattle.wf_rules.specs.Table.{has}
 use Rattle.wf_world.specs.World.{World, Mpdu, session}
 use Rattle.wf_world.specs.Exchanges.{with_settled}
-use Rattle.wf_codel_queues.specs.Backlog.{held}
 use Rattle.wf_flowq.specs.Flows.{tid_number}
 use Rattle.wf_fate.specs.Tally.{held_in, settled_as}
 use Rattle.wf_seq12.specs.Distance.{distance}
@@ -29,7 +28,7 @@ use Rattle.wf_transmit_refines.specs.Ending.{after_finish, after_answer, ending_
 use Rattle.wf_transmit_refines.proofs.Settles.{ending_next_one, ending_done}
 use Rattle.wf_transmit_refines.proofs.Ended.{state_at_end}
 use Rattle.wf_transmit.specs.declared.finish.Ended.{Ended}
-use Rattle.wf_transmit.specs.Bits.{shows_bits, is_shown, CanFinish, IsToSettle, with_one_more, all_ended}
+use Rattle.wf_transmit.specs.Bits.{is_shown, CanFinish, IsToSettle, with_one_more, all_ended}
 use Rattle.wf_transmit.specs.Counts.{count_of, AreCounted, HasFate}
 
 -- ---- what is shown goes by a number modulo 4096

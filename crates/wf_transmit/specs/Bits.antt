@@ -1,5 +1,5 @@
 -- What a BlockAck shows of sequence numbers, by its start and its bits alone, and how the end of an exchange goes by it.
-use Rattle.std.specs.Prelude.{◌≡◌, ℕ, ◌+◌, ◌<◌, ◌≤◌, ◌^◌, ◌==◌, nat_lt, Bool, true, false, is_some, ◌&&◌, List, length, find, Option, Some, None, IfSome, if◌then◌else◌}
+use Rattle.std.specs.Prelude.{◌≡◌, ℕ, ◌+◌, ◌<◌, ◌≤◌, ◌^◌, ◌==◌, nat_lt, Bool, true, false, is_some, ◌&&◌, List, find, Option, Some, None, IfSome, if◌then◌else◌}
 use Rattle.wf_frame.specs.Frames.{FrameValue}
 use Rattle.wf_frame.specs.declared.notes.ReplyNote.{ReplyNote}
 use Rattle.wf_frame.specs.declared.notes.ReplyNote.TheVariants.{Ended as Ends}
@@ -85,10 +85,6 @@ pub record IsClosed (v : TransmitValue) (o : Open) : Type 0 where
   pub closed : v ≡ after_close before o
 
 -- ---- what it gives
-
--- no number is settled yet
-abbrev pub none_ended : Ended
-none_ended = record { acked = 0; waiting = 0; failed = 0 }
 
 -- one number more, by what its window gave for it
 abbrev pub with_one_more : Ended → Settled → Ended

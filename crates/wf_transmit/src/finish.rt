@@ -28,6 +28,7 @@ use wf_windows::Settled;
 
 /// How many numbers a BlockAck tells of, from its start on.
 const NARROW: u16 = 64;
+
 const WIDE: u16 = 256;
 
 /// What became of the frames of an exchange that ended. They are at most 256.

@@ -1,23 +1,20 @@
-use Rattle.std.proofs.Common.{◌≡◌, refl, sym, ap, ◌∙◌, subst, arith, Option, Some, None, true, false, Bool, List, ℕ, ◌<◌, ◌==◌, is_some, rules}
+use Rattle.std.proofs.Common.{◌≡◌, refl, sym, ap, ◌∙◌, subst, arith, Option, Some, true, false, List, ℕ, ◌==◌, is_some}
 use Rattle.std.specs.Prelude.{find}
 use Rattle.wf_frame.specs.declared.settings.Config.{Config}
-use Rattle.wf_frame.specs.Frames.{FrameValue}
 use Rattle.wf_frame.specs.declared.notes.Note.TheVariants.{Asked}
 use Rattle.wf_frame.specs.declared.notes.Ask.TheVariants.{Done}
 use Rattle.wf_frame.specs.declared.notes.Refusal.TheVariants.{NoExchange}
 use Rattle.wf_frame.specs.declared.notes.ReplyNote.TheVariants.{Refused}
-use Rattle.wf_rules.specs.Receiver.{Score}
-use Rattle.wf_world.specs.World.{World, Exchange, exchange}
-use Rattle.wf_world.specs.Refusals.{refusal}
+use Rattle.wf_world.specs.World.{Exchange}
 use Rattle.wf_exchanges.specs.declared.opened.Open.{Open}
 use Rattle.wf_transmit_refines.specs.Half.{TransmitValue}
-use Rattle.wf_transmit_refines.specs.Standing.{StandsFor, Meets}
+use Rattle.wf_transmit_refines.specs.Standing.{StandsFor}
 use Rattle.wf_driver_laws.proofs.Ended.{may_end_lost, may_end_heard}
-use Rattle.wf_transmit.specs.Bits.{IsChargeSmall, IsClosed, GoesBy, AreShown, ended_reply}
+use Rattle.wf_transmit.specs.Bits.{IsChargeSmall, GoesBy}
 use Rattle.wf_transmit.specs.Half.{HasWorld}
 use Rattle.wf_transmit.proofs.Calls.{view_of}
 use Rattle.wf_transmit.proofs.Worlds.{kept_world, met_by}
-use Rattle.wf_transmit.proofs.Dones.{IsKnown, known_of, refused_done, none_open, within_turns, within_members, charge_low, charge_small, closes, closed_now, unopened, where_none, from_none, where_some, within_config, goes_lost, goes_shown, goes_unshown, done_whole}
+use Rattle.wf_transmit.proofs.Dones.{IsKnown, known_of, refused_done, within_turns, within_members, charge_low, charge_small, closes, closed_now, unopened, where_none, from_none, where_some, within_config, goes_lost, goes_shown, goes_unshown, done_whole}
 use Rattle.wf_transmit.proofs.half.Transmit.done.Goals as goal
 
 pub returns-in_default-clause-refused : goal.returns-in_default-clause-refused

@@ -1,13 +1,8 @@
-use Rattle.std.proofs.Common.{◌≡◌, sym, ap, ◌∙◌, subst, arith, ◌+◌, ◌≤◌, ◌<◌, nat_lt, ℕ, length, List, ◌%◌, max}
-use Rattle.wf_frame.specs.Frames.{FrameValue}
-use Rattle.wf_rules.specs.Session.{Session, start_of, next_number}
-use Rattle.wf_world.specs.Step.{done_outcome}
-use Rattle.wf_flowq.specs.Flows.{tid_number}
+use Rattle.std.proofs.Common.{sym, ap, ◌∙◌, subst, arith, ◌+◌, ◌≤◌, nat_lt, length}
 use Rattle.wf_seq12.specs.Distance.{distance}
-use Rattle.wf_origwin.specs.Window.{WindowValue, StandsFor as WindowStandsFor}
-use Rattle.wf_windows.specs.Windows.{window_of, with_window}
+use Rattle.wf_origwin.specs.Window.{WindowValue}
+use Rattle.wf_windows.specs.Windows.{window_of}
 use Rattle.wf_transmit_refines.specs.Half.{TransmitValue}
-use Rattle.wf_transmit_refines.specs.Standing.{Parts}
 use Rattle.wf_transmit.specs.Bits.{is_shown}
 use Rattle.wf_transmit.proofs.Calls.{view_of}
 use Rattle.wf_transmit.proofs.Ends.{data_tid, data_within, data_place, data_some, data_settled, data_told, request_low, request_within, request_near, request_told, request_lost, request_heard}

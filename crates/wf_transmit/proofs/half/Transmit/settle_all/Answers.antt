@@ -1,4 +1,4 @@
-use Rattle.std.proofs.Common.{◌≡◌, sym, ap, ◌∙◌, subst, arith, rules, ◌+◌, ℕ}
+use Rattle.std.proofs.Common.{◌≡◌, sym, ap, ◌∙◌, subst, arith}
 use Rattle.wf_frame.specs.declared.settings.Config.{Config}
 use Rattle.wf_windows.specs.Windows.{HaveRoom}
 use Rattle.wf_transmit_refines.specs.Half.{TransmitValue}
