@@ -6,3 +6,6 @@ pub mod Calls
 pub mod Openings
 pub mod Leaves
 pub mod Enqueues
+pub mod Settling
+pub mod Ends
+pub mod Dones

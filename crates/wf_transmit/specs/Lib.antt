@@ -2,3 +2,5 @@ pub mod Half
 pub mod Replies
 pub mod Leaving
 pub mod Enqueues
+pub mod Bits
+pub mod Counts

@@ -4,6 +4,7 @@
 #![tactic(auto)]
 
 mod enqueue;
+mod finish;
 mod frames;
 mod half;
 mod leave;
@@ -11,6 +12,7 @@ mod ready;
 mod refuse;
 mod stations;
 
+pub use finish::Ended;
 pub use half::Transmit;
 
 #[cfg(test)]

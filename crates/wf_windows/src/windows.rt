@@ -114,6 +114,7 @@ impl Windows {
             start ≡ f % 4096 → f ≤ start_of s → next_number s ≤ f + s.size →
             StandsFor (window_of self.new station tid) (record s { heard = max s.heard f }) bodies }
         ensures others { self.new ≡ with_window self.old station tid (window_of self.new station tid) }
+        ensures room { HaveRoom self.new }
         ensures count { length self.new ≡ length self.old }
     {
         self.windows[place(station, tid)].bar_heard(start);
@@ -159,6 +160,7 @@ impl Windows {
         ensures answer { (s : Session) (bodies : ℕ → FrameValue) (n : ℕ) → StandsFor (window_of self.old station tid) s bodies →
             IsNumber s n seq → result ≡ answer_of acked limit bodies (slot s n) }
         ensures others { self.new ≡ with_window self.old station tid (window_of self.new station tid) }
+        ensures room { HaveRoom self.new }
         ensures count { length self.new ≡ length self.old }
     {
         self.windows[place(station, tid)].settle(seq, acked, limit)
