@@ -3,8 +3,10 @@
 //! Each call is a call of the machine (`wf_world`). Where it is refused it changes nothing. No call takes memory.
 #![tactic(auto)]
 
+mod fill;
 mod frames;
 mod half;
+mod pull;
 mod ready;
 mod refuse;
 mod stations;
