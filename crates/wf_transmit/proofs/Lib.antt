@@ -4,3 +4,7 @@ pub mod Worlds
 pub mod Resets
 pub mod Calls
 pub mod Openings
+pub mod Taking
+pub mod Giving
+pub mod Filling
+pub mod Flying

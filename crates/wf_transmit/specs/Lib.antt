@@ -1,2 +1,3 @@
 pub mod Half
+pub mod Pulls
 pub mod Replies

@@ -10,7 +10,7 @@ ghost use Rattle.wf_seq12.specs.Distance.{distance};
 ghost use Rattle.wf_origwin.specs.Window.{fresh_window, StandsFor, IsNumber, settled, place_at, state_at, attempts_of, is_flying, some_fly, can_take};
 ghost use Rattle.wf_origwin.specs.Answers.{answer_of, with_fate};
 ghost use Rattle.wf_flowq.specs.Flows.{tid_number};
-ghost use Rattle.wf_windows.specs.Windows.{new_window, window_of, with_window};
+ghost use Rattle.wf_windows.specs.Windows.{HaveRoom, new_window, window_of, with_window};
 
 use std::alloc::{AllocError, Global};
 use std::marker::Model;
@@ -130,6 +130,7 @@ impl Windows {
             (seq ≡ next_number s % 4096) × StandsFor (window_of self.new station tid) (with_number_given s parcel.id) bodies) }
         ensures refused { IfErr result (λ back. (back ≡ parcel) × (self.new ≡ self.old)) }
         ensures others { self.new ≡ with_window self.old station tid (window_of self.new station tid) }
+        ensures room { HaveRoom self.new }
         ensures count { length self.new ≡ length self.old }
     {
         self.windows[place(station, tid)].give(parcel)
@@ -143,6 +144,7 @@ impl Windows {
         ensures stands { (s : Session) (bodies : ℕ → FrameValue) (n : ℕ) → StandsFor (window_of self.old station tid) s bodies →
             IsNumber s n seq → StandsFor (window_of self.new station tid) (with_state (State.Flying exchange) n s) bodies }
         ensures others { self.new ≡ with_window self.old station tid (window_of self.new station tid) }
+        ensures room { HaveRoom self.new }
         ensures count { length self.new ≡ length self.old }
     {
         self.windows[place(station, tid)].fly(seq, exchange);
