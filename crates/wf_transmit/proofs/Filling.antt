@@ -1,8 +1,7 @@
 -- An aggregate is filled, one number after the other.
-use Rattle.std.proofs.Common.{◌≡◌, refl, ap, sym, ◌∙◌, subst, arith, ℕ, ◌+◌, ◌%◌, ◌<◌, ◌≤◌, ◌&&◌, nat_lt, Bool, true, false, if◌then◌else◌, List, [], ◌∷◌, ◌++◌, length, map, Option, Some, None, option_map}
+use Rattle.std.proofs.Common.{◌≡◌, ap, sym, ◌∙◌, subst, arith, ℕ, ◌+◌, ◌%◌, ◌<◌, ◌≤◌, ◌&&◌, nat_lt, Bool, true, false, if◌then◌else◌, List, [], ◌∷◌, ◌++◌, length, map, Option, Some, None, option_map}
 use Rattle.std.proofs.lemmas.List.{length-map}
 use Rattle.wf_frame.specs.Frames.{FrameValue}
-use Rattle.wf_rules.specs.Codel.{Params}
 use Rattle.wf_rules.specs.Fit.{fits}
 use Rattle.wf_rules.specs.Session.{Session, slot, start_of, next_number, with_number_given}
 use Rattle.wf_world.specs.World.{World, Mpdu, session, codel_params}

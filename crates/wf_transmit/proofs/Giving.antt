@@ -2,11 +2,9 @@
 use Rattle.std.proofs.Common.{◌≡◌, ap, sym, ◌∙◌, subst, ℕ, ◌%◌, List, length}
 use Rattle.wf_frame.specs.Frames.{FrameValue}
 use Rattle.wf_rules.specs.Session.{Session, next_number, with_number_given}
-use Rattle.wf_flowq.specs.Flows.{tid_number}
 use Rattle.wf_origwin.specs.Window.{WindowValue, StandsFor as WindowStandsFor}
 use Rattle.wf_windows.specs.Windows.{HaveRoom, window_of, with_window}
 use Rattle.wf_transmit_refines.specs.Half.{TransmitValue}
-use Rattle.wf_transmit_refines.specs.Filling.{after_take}
 use Rattle.wf_transmit.specs.Pulls.{IsTaken, IsGiven}
 
 -- x is v once this frame is taken

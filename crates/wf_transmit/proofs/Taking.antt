@@ -1,16 +1,16 @@
 -- A frame is taken out of a TID's queues in the middle of a pull: how many frames CoDel dropped, and that they were held.
-use Rattle.std.proofs.Common.{◌≡◌, refl, ap, sym, ◌∙◌, subst, arith, ℕ, ◌+◌, ◌-◌, ◌<◌, ◌≤◌, true, length, Option, Some, None}
+use Rattle.std.proofs.Common.{◌≡◌, ap, sym, ◌∙◌, subst, arith, ℕ, ◌+◌, ◌-◌, ◌<◌, ◌≤◌, length, Option, Some, None}
 use Rattle.std.specs.Prelude.{IfSome}
 use Rattle.wf_frame.specs.declared.classes.Cause.TheVariants.{Codel as By_codel}
 use Rattle.wf_frame.specs.declared.classes.Fate.TheVariants.{Dropped}
 use Rattle.wf_frame.specs.Frames.{FrameValue}
 use Rattle.wf_rules.specs.Codel.{Params}
-use Rattle.wf_world.specs.World.{World, is_live, codel_params}
+use Rattle.wf_world.specs.World.{World, codel_params}
 use Rattle.wf_world.specs.FlowQueues.{taken_for_tid}
 use Rattle.wf_laws.specs.Tallies.{AddsUp}
 use Rattle.wf_laws.proofs.Frames.Tallies.{counts_add}
 use Rattle.wf_fate.specs.Tally.{Counts, held_in, many_settled_as}
-use Rattle.wf_flowq.specs.Flows.{FlowsValue, tid_number, frames_queued, Taken, TakeGives, taken_for_tid as take_out}
+use Rattle.wf_flowq.specs.Flows.{FlowsValue, tid_number, frames_queued, TakeGives, taken_for_tid as take_out}
 use Rattle.wf_flowq_refines.proofs.Heads.{drops_counted}
 use Rattle.wf_flowq_refines.specs.Standing.{part}
 use Rattle.wf_transmit_refines.specs.Half.{TransmitValue}

@@ -1,5 +1,5 @@
 -- In the middle of a pull, what its steps ask for and what each has done.
-use Rattle.std.specs.Prelude.{◌≡◌, ℕ, ◌%◌, ◌≤◌, List, [], length, Option, Some, option_map, map, take, drop, IfSome, if◌then◌else◌}
+use Rattle.std.specs.Prelude.{◌≡◌, ℕ, ◌%◌, ◌≤◌, List, [], length, Some, option_map, map, take, drop, IfSome, if◌then◌else◌}
 use Rattle.wf_frame.specs.Frames.{FrameValue}
 use Rattle.wf_rules.specs.Airtime.{Rate}
 use Rattle.wf_rules.specs.Codel.{Params}
@@ -15,7 +15,7 @@ use Rattle.wf_origwin.specs.Window.{WindowValue, StandsFor as WindowStandsFor}
 use Rattle.wf_windows.specs.Windows.{HaveRoom, window_of, with_window}
 use Rattle.wf_transmit_refines.specs.Half.{TransmitValue}
 use Rattle.wf_transmit_refines.specs.Standing.{numbers_on_air}
-use Rattle.wf_transmit_refines.specs.Filling.{IsTurned, IsToFill, IsFilling, IsFilled, IsTakingOff, after_take, after_giving}
+use Rattle.wf_transmit_refines.specs.Filling.{IsTurned, IsToFill, IsFilling, IsTakingOff, after_take, after_giving}
 
 -- the most frames of one aggregate of a station: one where it sleeps
 abbrev pub most_of : TransmitValue → ℕ → ℕ

@@ -1,9 +1,4 @@
-use Rattle.std.proofs.Common.{refl, ◌≡◌, ap, sym, ◌∙◌, subst, arith, ℕ, ◌-◌, ◌<◌, ◌≤◌, ◌++◌, ◌∷◌, [], List, length, length-append}
-use Rattle.wf_frame.specs.Frames.{FrameValue}
-use Rattle.wf_world.specs.Exchanges.{Aggregate}
-use Rattle.wf_ampdu.specs.Rooms.{RoomValue}
-use Rattle.wf_transmit_refines.specs.Half.{TransmitValue}
-use Rattle.wf_transmit_refines.specs.Filling.{IsFilled}
+use Rattle.std.proofs.Common.{refl, ap, sym, ◌∙◌, arith, ℕ, ◌∷◌, [], length, length-append}
 use Rattle.wf_transmit_refines.proofs.Gives.{full_fills, filled_idle}
 use Rattle.wf_transmit.proofs.Filling.{filling_lens, goes_on_fresh, ends_fresh, same_agg, turn_of, same_given}
 use Rattle.wf_transmit.proofs.half.Transmit.add_fresh.Goals as goal

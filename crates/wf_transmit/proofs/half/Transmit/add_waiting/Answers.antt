@@ -1,12 +1,6 @@
-use Rattle.std.proofs.Common.{refl, ◌≡◌, ap, sym, ◌∙◌, subst, arith, ℕ, ◌+◌, ◌%◌, ◌<◌, ◌≤◌, ◌++◌, ◌∷◌, [], List, length, Option, Some, None}
-use Rattle.wf_frame.specs.Frames.{FrameValue}
-use Rattle.wf_world.specs.World.{World}
-use Rattle.wf_world.specs.Exchanges.{aggregate_of}
+use Rattle.std.proofs.Common.{refl, sym, ◌∙◌, subst, ◌≤◌, length, Some, None}
 use Rattle.wf_origwin.specs.Window.{WindowValue}
-use Rattle.wf_windows.specs.Windows.{window_of}
-use Rattle.wf_ampdu.specs.Rooms.{RoomValue}
 use Rattle.wf_transmit_refines.specs.Half.{TransmitValue}
-use Rattle.wf_transmit_refines.specs.Filling.{IsToFill, IsChoosing, IsFilled}
 use Rattle.wf_transmit_refines.proofs.Fills.{choosing_near}
 use Rattle.wf_transmit.proofs.Filling.{choosing_lens, next_read, waiting_goes_on, waiting_ends, all_waiting, few_most, same_agg}
 use Rattle.wf_seq12.specs.Distance.{distance}

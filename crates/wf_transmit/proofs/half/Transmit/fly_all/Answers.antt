@@ -1,13 +1,10 @@
-use Rattle.std.proofs.Common.{◌≡◌, ap, sym, ◌∙◌, subst, arith, ℕ, ◌+◌, List, length, Some}
+use Rattle.std.proofs.Common.{◌≡◌, ap, sym, ◌∙◌, subst, arith, ℕ, List}
 use Rattle.std.specs.Prelude.{slice_get}
 use Rattle.wf_frame.specs.Frames.{FrameValue}
 use Rattle.wf_rules.specs.Session.{State, Session, slot, with_state}
-use Rattle.wf_world.specs.World.{World, Mpdu}
 use Rattle.wf_origwin.specs.Window.{is_held, state_at, WindowValue, StandsFor as WindowStandsFor, IsNumber}
 use Rattle.wf_windows.specs.Windows.{window_of}
 use Rattle.wf_transmit_refines.specs.Half.{TransmitValue}
-use Rattle.wf_transmit_refines.specs.Standing.{numbers_on_air}
-use Rattle.wf_transmit.specs.Pulls.{IsFlying}
 use Rattle.wf_transmit.proofs.Calls.{view_of}
 use Rattle.wf_transmit.proofs.Flying.{flying_waits, flying_next, all_fly, as_many, one_more_pair}
 use Rattle.wf_transmit.proofs.half.Transmit.fly_all.Goals as goal

@@ -1,4 +1,4 @@
-use Rattle.std.proofs.Common.{◌≡◌, ap, ap₂, sym, ◌∙◌, subst, ℕ, ◌≤◌, Bool, List, [], Option, Some, None, option_map}
+use Rattle.std.proofs.Common.{◌≡◌, ap, ap₂, sym, ◌∙◌, subst, ℕ, ◌≤◌, Bool, List, Option, Some, None, option_map}
 use Rattle.std.specs.Prelude.{IfSome}
 use Rattle.wf_ampdu.specs.Rooms.{RoomValue, empty_room}
 use Rattle.wf_members.specs.declared.members.Member.{Member}

@@ -1,5 +1,4 @@
-use Rattle.std.proofs.Common.{◌≡◌, ap, ap₂, sym, ◌∙◌, subst, arith, ℕ, ◌-◌, ◌≤◌}
-use Rattle.wf_fate.specs.Tally.{held_in}
+use Rattle.std.proofs.Common.{ap₂, sym, ◌∙◌, subst, arith, ℕ, ◌-◌}
 use Rattle.wf_transmit_refines.specs.Half.{TransmitValue}
 use Rattle.wf_transmit_refines.specs.Filling.{IsTurned}
 use Rattle.wf_transmit_refines.proofs.Asked.{params_read}
