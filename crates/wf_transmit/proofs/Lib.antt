@@ -9,3 +9,7 @@ pub mod Enqueues
 pub mod Settling
 pub mod Ends
 pub mod Dones
+pub mod Taking
+pub mod Giving
+pub mod Filling
+pub mod Flying

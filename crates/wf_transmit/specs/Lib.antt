@@ -1,4 +1,5 @@
 pub mod Half
+pub mod Pulls
 pub mod Replies
 pub mod Leaving
 pub mod Enqueues

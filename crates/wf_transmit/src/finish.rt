@@ -142,13 +142,13 @@ impl Transmit {
             let number = numbers.at(i);
             let acked = is_shown(wide, heard, number);
             let answer = self.windows.settle(station, tid, number, acked, limit);
-            self.take(answer, &mut ended);
+            self.account_for(answer, &mut ended);
         }
         ended
     }
 
     // What a window gave for a number is counted, and its frame finished where it has its fate.
-    fn take(&mut self, answer: Settled, ended: &mut Ended)
+    fn account_for(&mut self, answer: Settled, ended: &mut Ended)
         requires fate { HasFate answer }
         requires room { CanFinish self.old 1 }
         requires few { all_ended ended.old < 256 }

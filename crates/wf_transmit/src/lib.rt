@@ -4,10 +4,12 @@
 #![tactic(auto)]
 
 mod enqueue;
+mod fill;
 mod finish;
 mod frames;
 mod half;
 mod leave;
+mod pull;
 mod ready;
 mod refuse;
 mod stations;

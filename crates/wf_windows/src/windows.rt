@@ -131,6 +131,7 @@ impl Windows {
             (seq ≡ next_number s % 4096) × StandsFor (window_of self.new station tid) (with_number_given s parcel.id) bodies) }
         ensures refused { IfErr result (λ back. (back ≡ parcel) × (self.new ≡ self.old)) }
         ensures others { self.new ≡ with_window self.old station tid (window_of self.new station tid) }
+        ensures room { HaveRoom self.new }
         ensures count { length self.new ≡ length self.old }
     {
         self.windows[place(station, tid)].give(parcel)
@@ -144,6 +145,7 @@ impl Windows {
         ensures stands { (s : Session) (bodies : ℕ → FrameValue) (n : ℕ) → StandsFor (window_of self.old station tid) s bodies →
             IsNumber s n seq → StandsFor (window_of self.new station tid) (with_state (State.Flying exchange) n s) bodies }
         ensures others { self.new ≡ with_window self.old station tid (window_of self.new station tid) }
+        ensures room { HaveRoom self.new }
         ensures count { length self.new ≡ length self.old }
     {
         self.windows[place(station, tid)].fly(seq, exchange);

@@ -13,10 +13,10 @@ use Rattle.wf_world.specs.Text.{same_fate}
 use Rattle.wf_world.specs.Stretches.{world_at}
 use Rattle.wf_laws.specs.Tallies.{TallyLaw}
 
-abbrev count_of : List Frame → Fate → ℕ
+abbrev pub count_of : List Frame → Fate → ℕ
 count_of frames fate = count_by (λ f. same_fate f.fate fate) frames
 
-abbrev Adds : List Frame → Type 0
+abbrev pub Adds : List Frame → Type 0
 Adds frames =
     length frames
     ≡ count_of frames Acked + count_of frames (Dropped Overlimit) + count_of frames (Dropped Codel) + count_of frames (Dropped Retries) + count_of frames (Dropped Left) + count_of frames Held
@@ -84,7 +84,7 @@ one_more note Held frames adds =
     let held : count_of (f ∷ frames) Held ≡ 1 + count_of frames Held = counted f frames Held in
     omega (arith, adds, acked, overlimit, codel, retries, left, held)
 
-counts_add : (frames : List Frame) → Adds frames
+pub counts_add : (frames : List Frame) → Adds frames
 counts_add [] = refl
 counts_add (f ∷ frames) = one_more f.note f.fate frames (counts_add frames)
 

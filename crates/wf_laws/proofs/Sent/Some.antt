@@ -46,12 +46,12 @@ use Rattle.wf_laws.proofs.Windows.Sides.{Same, same_on_station, same_on_share, s
 -- ---- the settings, the rates and the lengths
 
 -- what a frame needs to fit by itself
-record IsApt (w : World) : Type 0 where
-  agg : 1 ≤ w.config.agg
-  cap : 3000 ≤ w.config.cap
-  rates : (s : ℕ) → (station w s).rate.mcs ≤ greatest_mcs
-  short : (k : ℕ) → len_of ((shelves w).notes k) ≤ greatest_body
-  measured : AllMeasured (shelves w).notes (shelves w)
+pub record IsApt (w : World) : Type 0 where
+  pub agg : 1 ≤ w.config.agg
+  pub cap : 3000 ≤ w.config.cap
+  pub rates : (s : ℕ) → (station w s).rate.mcs ≤ greatest_mcs
+  pub short : (k : ℕ) → len_of ((shelves w).notes k) ≤ greatest_body
+  pub measured : AllMeasured (shelves w).notes (shelves w)
 
 AreFew : World → Type 0
 AreFew w = (s : ℕ) → (station w s).rate.mcs ≤ greatest_mcs
@@ -95,10 +95,10 @@ apt_few : (w : World) → IsApt w → AreFew w
 unfolding AreFew
 apt_few w h = h.rates
 
-apt_picked : (w : World) (c : Class) → IsApt w → IsApt (after_pick w c)
+pub apt_picked : (w : World) (c : Class) → IsApt w → IsApt (after_pick w c)
 apt_picked w c h = apt_by w (after_pick w c) (ap (λ (b : Books). b.config) (books_after_pick w c)) (shelves_after_pick w c) (few_picked w c (apt_few w h)) h
 
-apt_turned : (w : World) (s : ℕ) (c : Class) (t : ℕ) → IsApt w → IsApt (after_tid_turn w s c t)
+pub apt_turned : (w : World) (s : ℕ) (c : Class) (t : ℕ) → IsApt w → IsApt (after_tid_turn w s c t)
 apt_turned w s c t h = apt_by w (after_tid_turn w s c t) (ap (λ (b : Books). b.config) (books_after_turn w s c t)) (shelves_after_turn w s c t) (few_turned w s c t (apt_few w h)) h
 
 -- ---- an aggregate
@@ -172,7 +172,7 @@ waits w s t h none = go (waiting_numbers (session w s t)) (can_give w s t) h non
     go [] b h e = h
     go (n ∷ ns) b h e = absurd (cc e)
 
-some_filled : (w : World) (s t : ℕ) → is_live w s ≡ true → has_waiting w s t || can_give w s t ≡ true → IsApt w → IsSome (aggregate_of w s t)
+pub some_filled : (w : World) (s t : ℕ) → is_live w s ≡ true → has_waiting w s t || can_give w s t ≡ true → IsApt w → IsSome (aggregate_of w s t)
 unfolding aggregate_of
 some_filled w s t live may a = go (waiting_mpdus w s t) refl (measured_waiting w s t)
   where
@@ -218,7 +218,7 @@ some_data : (s t : ℕ) (f : Aggregate) → IsSome f → 1 ≤ length (mpdus_of 
 unfolding prepared_data
 some_data s t f h = h
 
-some_prepared : (w : World) (s t : ℕ) → is_live w s ≡ true → can_send w s t ≡ true → IsApt w
+pub some_prepared : (w : World) (s t : ℕ) → is_live w s ≡ true → can_send w s t ≡ true → IsApt w
     → is_request (prepared_exchange w s t).content ≡ false → 1 ≤ length (mpdus_of (prepared_exchange w s t).content)
 unfolding prepared_exchange
 some_prepared w s t live may a =
@@ -330,7 +330,7 @@ some_step w note l a h = some_answer (refusal w note) w note l a h
 
 -- ---- the run
 
-apt : (w : World) → IsKept (books w) → IsStocked greatest_body w → IsApt w
+pub apt : (w : World) → IsKept (books w) → IsStocked greatest_body w → IsApt w
 apt w k i = record { agg = omega (arith, k.range.agg.0); cap = omega (arith, k.range.cap.0); rates = few; short = i.short; measured = i.measured }
   where
     few : (s : ℕ) → (station w s).rate.mcs ≤ greatest_mcs

@@ -27,8 +27,8 @@ settle-answer-requires-clause-limit c =
     ap (λ (v : TransmitValue). v.config.attempts) c.self.view_is ∙ ap (λ (k : Config). k.attempts) (sym at.config) in
     omega (arith, limit, (next_settles c.args.self.now (view_of c.self-in-loop-i.inside) c.args.station c.args.tid c.args.numbers.now (is_shown c.args.wide c.args.heard.now) c.loop-i.i c.loop-i.ended at c.at-number.result c.at-number.ensures c.requires.some).below)
 
-pub take-requires-clause-fate : goal.take-requires-clause-fate
-take-requires-clause-fate c =
+pub account_for-requires-clause-fate : goal.account_for-requires-clause-fate
+account_for-requires-clause-fate c =
     let at : IsSettling c.args.self.now (view_of c.self-in-loop-i.inside) c.args.station c.args.tid c.args.numbers.now (is_shown c.args.wide c.args.heard.now) c.loop-i.i c.loop-i.ended =
     subst (λ (v : TransmitValue). IsSettling c.args.self.now v c.args.station c.args.tid c.args.numbers.now (is_shown c.args.wide c.args.heard.now) c.loop-i.i c.loop-i.ended) (sym c.self-in-loop-i.view_is) c.loop-i.invariant in
     let limit : c.self.inside.config.attempts ≡ c.self-in-loop-i.inside.config.attempts =
@@ -44,7 +44,7 @@ loop-i-preserved c =
     ap (λ (v : TransmitValue). v.config.attempts) c.self.view_is ∙ ap (λ (k : Config). k.attempts) (sym at.config) in
     let room : HaveRoom c.settle-answer.new.self = c.settle-answer.ensures.room in
     let next = settling_next c.args.self.now (view_of c.self-in-loop-i.inside) c.args.station c.args.tid c.args.numbers.now (is_shown c.args.wide c.args.heard.now) c.loop-i.i c.loop-i.ended at c.at-number.result c.at-number.ensures c.requires.some c.settle-answer.new.self c.settle-answer.result c.is_shown-acked.result c.self.inside.config.attempts c.is_shown-acked.ensures limit (shown_on_air c.args.wide c.args.heard.now) room c.settle-answer.ensures.stands c.settle-answer.ensures.answer c.settle-answer.ensures.others (omega (arith, c.loop-i-test.true, c.len-i-end.ensures.count)) in
-    rw (c.take.ensures.half, c.take.ensures.ended) next
+    rw (c.account_for.ensures.half, c.account_for.ensures.ended) next
 
 pub returns-clause-settled : goal.returns-clause-settled
 returns-clause-settled c w after bodies e mpdus ending is =

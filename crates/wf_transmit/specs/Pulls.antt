@@ -1,0 +1,133 @@
+-- In the middle of a pull, what its steps ask for and what each has done.
+use Rattle.std.specs.Prelude.{◌≡◌, ℕ, ◌%◌, ◌≤◌, List, [], length, Some, option_map, map, take, drop, IfSome, if◌then◌else◌}
+use Rattle.wf_frame.specs.Frames.{FrameValue}
+use Rattle.wf_rules.specs.Airtime.{Rate}
+use Rattle.wf_rules.specs.Codel.{Params}
+use Rattle.wf_rules.specs.Parameters.{params_at}
+use Rattle.wf_rules.specs.Session.{Session, next_number, with_number_given}
+use Rattle.wf_world.specs.World.{World, Mpdu}
+use Rattle.wf_world.specs.Exchanges.{Aggregate, aggregate_of, aggregate_charge, prepared_data}
+use Rattle.wf_ampdu.specs.Rooms.{RoomValue, StandsFor as RoomStandsFor}
+use Rattle.wf_flowq.specs.Flows.{tid_number, taken_for_tid}
+use Rattle.wf_members.specs.Members.{member}
+use Rattle.wf_powersave.specs.Sleepers.{sleeper}
+use Rattle.wf_origwin.specs.Window.{WindowValue, StandsFor as WindowStandsFor}
+use Rattle.wf_windows.specs.Windows.{HaveRoom, window_of, with_window}
+use Rattle.wf_transmit_refines.specs.Half.{TransmitValue}
+use Rattle.wf_transmit_refines.specs.Standing.{numbers_on_air}
+use Rattle.wf_transmit_refines.specs.Filling.{IsTurned, IsToFill, IsFilling, IsTakingOff, after_take, after_giving}
+
+-- the most frames of one aggregate of a station: one where it sleeps
+abbrev pub most_of : TransmitValue → ℕ → ℕ
+most_of v s = if (sleeper v.sleepers s).asleep then 1 else v.config.agg
+
+-- the maximum A-MPDU length exponent of a station is at most 3, where it is live
+abbrev pub IsExponentSmall : TransmitValue → ℕ → Type 0
+IsExponentSmall v s = IfSome (member v.members s) (λ m. m.exponent ≤ 3)
+
+-- all is the same but the frames: where they are, and what became of them
+abbrev pub IsSameButFrames : TransmitValue → TransmitValue → Type 0
+IsSameButFrames v u = u ≡ record v { flows = u.flows; windows = u.windows; tally = u.tally }
+
+-- ---- some world under way
+
+-- in some world TID t of station s has had its turn
+pub record HasTurn (v : TransmitValue) (s t : ℕ) : Type 0 where
+  pub world : World
+  pub bodies : ℕ → FrameValue
+  pub turned : IsTurned v world bodies s t
+
+-- in some world no request of TID t of station s is due
+pub record HasToFill (v : TransmitValue) (s t : ℕ) : Type 0 where
+  pub world : World
+  pub bodies : ℕ → FrameValue
+  pub to_fill : IsToFill v world bodies s t
+
+-- in some world this aggregate to TID t of station s goes on, up to that one
+pub record GoesOn (v : TransmitValue) (bodies : ℕ → FrameValue) (s t : ℕ) (room : RoomValue) (numbers : List ℕ) (after : Aggregate) : Type 0 where
+  pub world : World
+  pub mpdus : List Mpdu
+  pub filling : IsFilling v world bodies s t room numbers mpdus after
+
+-- it goes on up to some aggregate
+pub record HasFilling (v : TransmitValue) (s t : ℕ) (room : RoomValue) (numbers : List ℕ) : Type 0 where
+  pub bodies : ℕ → FrameValue
+  pub after : Aggregate
+  pub goes_on : GoesOn v bodies s t room numbers after
+
+-- the numbers of an aggregate are as many as the frames that its room has, which takes at most 256
+pub record HasLens (room : RoomValue) (numbers : List ℕ) : Type 0 where
+  pub lens : List ℕ
+  pub stands : RoomStandsFor room lens
+  pub as_many : length numbers ≡ length lens
+  pub few : room.agg ≤ 256
+
+-- ---- a frame is taken out
+
+-- CoDel's parameters are those of the rate of station s
+pub record IsParamsOf (v : TransmitValue) (s : ℕ) (params : Params) : Type 0 where
+  pub rate : Rate
+  pub is_rate : option_map (λ m. m.rate) (member v.members s) ≡ Some rate
+  pub is : params ≡ params_at rate
+
+-- this frame was taken out of the queues of TID t of station s
+pub record IsTaken (v u : TransmitValue) (s t : ℕ) (f : FrameValue) : Type 0 where
+  pub params : Params
+  pub read : IsParamsOf v s params
+  pub out : (taken_for_tid v.flows (tid_number s t) v.clock params).frame ≡ Some f
+  pub is : u ≡ after_take v (tid_number s t) params
+
+-- a frame with so many octets was taken out and got this number on the air, with which it waits in its window
+pub record IsGiven (v u : TransmitValue) (s t number len : ℕ) : Type 0 where
+  pub params : Params
+  pub read : IsParamsOf v s params
+  pub frame : FrameValue
+  pub out : (taken_for_tid v.flows (tid_number s t) v.clock params).frame ≡ Some frame
+  pub octets : len ≡ length frame.body
+  pub window : WindowValue
+  pub room : HaveRoom (with_window v.windows s t window)
+  pub waits : (y : Session) (bodies : ℕ → FrameValue) → WindowStandsFor (window_of v.windows s t) y bodies → frame ≡ bodies frame.id →
+      (number ≡ next_number y % 4096) × WindowStandsFor window (with_number_given y frame.id) bodies
+  pub is : u ≡ after_giving v s t params window
+
+-- ---- numbers take off
+
+-- in some world the half is to let these numbers fly in its next exchange
+pub record HasTakingOff (v : TransmitValue) (s t : ℕ) (numbers : List ℕ) : Type 0 where
+  pub world : World
+  pub bodies : ℕ → FrameValue
+  pub mpdus : List Mpdu
+  pub after : World
+  pub off : IsTakingOff v world bodies s t v.exchanges mpdus after
+  pub on_air : numbers ≡ numbers_on_air mpdus
+
+-- the transmissions, each by its id and its number on the air
+abbrev pub pairs_of : List Mpdu → List (ℕ × ℕ)
+pairs_of mpdus = map (λ m. (m.id, m.number % 4096)) mpdus
+
+-- after those before place i have taken off, the others are still to, and the pairs are of those before
+pub record IsFlying (v : TransmitValue) (bodies : ℕ → FrameValue) (s t e : ℕ) (mpdus : List Mpdu) (after : World) (i : ℕ) (pairs : List (ℕ × ℕ)) : Type 0 where
+  pub world : World
+  pub off : IsTakingOff v world bodies s t e (drop i mpdus) after
+  pub pairs_are : pairs ≡ pairs_of (take i mpdus)
+
+-- ---- what is sent
+
+-- in some world the half is to fill an aggregate, which is to have some number
+pub record HasToSend (v : TransmitValue) (s t : ℕ) : Type 0 where
+  pub world : World
+  pub bodies : ℕ → FrameValue
+  pub to_fill : IsToFill v world bodies s t
+  pub some : 1 ≤ length (aggregate_of world s t).mpdus
+
+-- the numbers of this aggregate have taken off
+pub record IsPreparedAs (v : TransmitValue) (a : Aggregate) (bodies : ℕ → FrameValue) (s t charge : ℕ) (numbers : List ℕ) (pairs : List (ℕ × ℕ)) : Type 0 where
+  pub world : World
+  pub off : IsTakingOff v world bodies s t a.world.exchanges [] (prepared_data s t a).world
+  pub charge_is : charge ≡ aggregate_charge s t a
+  pub numbers_are : numbers ≡ numbers_on_air a.mpdus
+  pub pairs_are : pairs ≡ pairs_of a.mpdus
+
+-- those of the aggregate that TID t of station s sends in w
+abbrev pub IsPrepared : TransmitValue → World → (ℕ → FrameValue) → ℕ → ℕ → ℕ → List ℕ → List (ℕ × ℕ) → Type 0
+IsPrepared v w bodies s t = IsPreparedAs v (aggregate_of w s t) bodies s t
