@@ -13,3 +13,4 @@ pub mod Taking
 pub mod Giving
 pub mod Filling
 pub mod Flying
+pub mod Pulling

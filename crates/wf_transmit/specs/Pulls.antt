@@ -1,20 +1,31 @@
 -- In the middle of a pull, what its steps ask for and what each has done.
-use Rattle.std.specs.Prelude.{◌≡◌, ℕ, ◌%◌, ◌≤◌, List, [], length, Some, option_map, map, take, drop, IfSome, if◌then◌else◌}
+use Rattle.std.specs.Prelude.{◌≡◌, ℕ, ◌%◌, ◌≤◌, Bool, true, false, List, [], length, Option, None, Some, is_some, option_map, map, take, drop, IfSome, if◌then◌else◌}
+use Rattle.wf_frame.specs.declared.classes.Class.{Class}
+use Rattle.wf_frame.specs.declared.notes.Ask.TheVariants.{Pull}
+use Rattle.wf_frame.specs.declared.notes.Note.TheVariants.{Asked}
 use Rattle.wf_frame.specs.Frames.{FrameValue}
-use Rattle.wf_rules.specs.Airtime.{Rate}
+use Rattle.wf_rules.specs.Airtime.{Rate, request_charge}
 use Rattle.wf_rules.specs.Codel.{Params}
 use Rattle.wf_rules.specs.Parameters.{params_at}
-use Rattle.wf_rules.specs.Session.{Session, next_number, with_number_given}
-use Rattle.wf_world.specs.World.{World, Mpdu}
-use Rattle.wf_world.specs.Exchanges.{Aggregate, aggregate_of, aggregate_charge, prepared_data}
+use Rattle.wf_rules.specs.Rotation.{has_key}
+use Rattle.wf_rules.specs.Session.{Session, next_number, request_due, with_number_given}
+use Rattle.wf_world.specs.World.{World, Mpdu, session}
+use Rattle.wf_world.specs.Exchanges.{Aggregate, aggregate_of, aggregate_charge, prepared_data, picked_station}
+use Rattle.wf_world.specs.Refusals.{refusal}
+use Rattle.wf_rota.specs.Rotas.{is_ready as entry}
+use Rattle.wf_sched.specs.ClassRotas.{rotation}
+use Rattle.wf_sched_refines.specs.Calls.{HasPicked}
+use Rattle.wf_exchanges.specs.declared.opened.Sending.{Sending}
+use Rattle.wf_exchanges.specs.declared.opened.Sending.TheVariants.{Data, Request as Starts_at}
 use Rattle.wf_ampdu.specs.Rooms.{RoomValue, StandsFor as RoomStandsFor}
 use Rattle.wf_flowq.specs.Flows.{tid_number, taken_for_tid}
 use Rattle.wf_members.specs.Members.{member}
 use Rattle.wf_powersave.specs.Sleepers.{sleeper}
 use Rattle.wf_origwin.specs.Window.{WindowValue, StandsFor as WindowStandsFor}
 use Rattle.wf_windows.specs.Windows.{HaveRoom, window_of, with_window}
-use Rattle.wf_transmit_refines.specs.Half.{TransmitValue}
-use Rattle.wf_transmit_refines.specs.Standing.{numbers_on_air}
+use Rattle.wf_transmit_refines.specs.Half.{TransmitValue, is_ready_of}
+use Rattle.wf_transmit_refines.specs.Standing.{StandsFor, numbers_on_air}
+use Rattle.wf_transmit_refines.specs.Pulling.{is_wide_of}
 use Rattle.wf_transmit_refines.specs.Filling.{IsTurned, IsToFill, IsFilling, IsTakingOff, after_take, after_giving}
 
 -- the most frames of one aggregate of a station: one where it sleeps
@@ -131,3 +142,54 @@ pub record IsPreparedAs (v : TransmitValue) (a : Aggregate) (bodies : ℕ → Fr
 -- those of the aggregate that TID t of station s sends in w
 abbrev pub IsPrepared : TransmitValue → World → (ℕ → FrameValue) → ℕ → ℕ → ℕ → List ℕ → List (ℕ × ℕ) → Type 0
 IsPrepared v w bodies s t = IsPreparedAs v (aggregate_of w s t) bodies s t
+
+-- ---- a whole pull
+
+-- the list `ready`, of one entry for each station, says of each station that is listed in a class whether it is ready in it
+pub record IsTold (v : TransmitValue) (c : Class) (ready : List Bool) : Type 0 where
+  pub stations : length ready ≡ v.config.stations
+  pub tells : (s : ℕ) → has_key (rotation v.sched c) s ≡ true → entry ready s ≡ is_ready_of v c s
+
+-- u is v once a pull has picked station s in a class, where v stands for w
+pub record IsPicked (v u : TransmitValue) (w : World) (bodies : ℕ → FrameValue) (s : ℕ) (c : Class) : Type 0 where
+  pub stands : StandsFor v w bodies
+  pub passes : refusal w (Asked (Pull c)) ≡ None
+  pub won : (picked_station w c).winner ≡ Some s
+  pub picked : HasPicked w c v.sched u.sched
+  pub others : u ≡ record v { sched = u.sched }
+
+-- some half has picked station s in a class, and is u then
+pub record HasPick (u : TransmitValue) (s : ℕ) (c : Class) : Type 0 where
+  pub before : TransmitValue
+  pub world : World
+  pub bodies : ℕ → FrameValue
+  pub is : IsPicked before u world bodies s c
+
+-- in some world TID t of station s has had its turn; where no request is due, its aggregate is to have some number
+pub record HasToPrepare (v : TransmitValue) (s t : ℕ) : Type 0 where
+  pub world : World
+  pub bodies : ℕ → FrameValue
+  pub turned : IsTurned v world bodies s t
+  pub some : request_due (session world s t) ≡ false → 1 ≤ length (aggregate_of world s t).mpdus
+
+-- the start of what is sent, where that is a request
+abbrev pub request_in : Sending → Option ℕ
+request_in (Data numbers) = None
+request_in (Starts_at start) = Some start
+
+-- a request is due on TID t of station s, with this start and this charge in microseconds
+pub record IsRequest (v u : TransmitValue) (s t charge start : ℕ) : Type 0 where
+  pub due : is_some (window_of v.windows s t).due ≡ true
+  pub same : u ≡ v
+  pub charge_is : charge ≡ request_charge (is_wide_of v s t)
+  pub start_is : start ≡ (window_of v.windows s t).start
+
+-- no request is due there, and the numbers of its aggregate have taken off
+pub record IsData (v u : TransmitValue) (s t charge : ℕ) (pairs : List (ℕ × ℕ)) (numbers : List ℕ) : Type 0 where
+  pub quiet : is_some (window_of v.windows s t).due ≡ false
+  pub prepared : (w : World) (bodies : ℕ → FrameValue) → IsToFill v w bodies s t → IsPrepared u w bodies s t charge numbers pairs
+
+-- v has prepared this for TID t of station s, and is u then
+abbrev pub IsPreparedFor : TransmitValue → TransmitValue → ℕ → ℕ → ℕ → List (ℕ × ℕ) → Sending → Type 0
+IsPreparedFor v u s t charge pairs (Data numbers) = IsData v u s t charge pairs numbers
+IsPreparedFor v u s t charge pairs (Starts_at start) = IsRequest v u s t charge start

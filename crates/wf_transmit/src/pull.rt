@@ -1,19 +1,172 @@
 //! What the driver sends next.
 
-ghost use Rattle.std.specs.Prelude.{◌≡◌, ◌<◌, ◌^◌, ℕ, List, length};
+ghost use Rattle.std.specs.Prelude.{◌≡◌, ◌<◌, ◌^◌, ◌||◌, ℕ, List, [], All, true, nat_le, nat_lt, count_by, length};
+ghost use Rattle.wf_frame.specs.Classes.{same_class};
 ghost use Rattle.wf_frame.specs.Frames.{FrameValue};
+ghost use Rattle.wf_frame.specs.Answers.{reply_with};
+ghost use Rattle.wf_frame.specs.declared.answers.Brief.TheVariants.{Send, Refused};
+ghost use Rattle.wf_frame.specs.declared.notes.Ask.TheVariants.{Pull};
+ghost use Rattle.wf_frame.specs.declared.notes.Note.TheVariants.{Asked};
+ghost use Rattle.wf_frame.specs.declared.notes.Refusal.TheVariants.{Full};
+ghost use Rattle.wf_flowq.specs.Flows.{tid_number, frames_queued};
+ghost use Rattle.wf_windows.specs.Windows.{window_of};
 ghost use Rattle.wf_world.specs.World.{World, Mpdu};
-ghost use Rattle.wf_transmit_refines.specs.Standing.{numbers_on_air};
+ghost use Rattle.wf_transmit_refines.specs.Half.{TransmitValue, some_wait};
+ghost use Rattle.wf_transmit_refines.specs.Standing.{StandsFor, Meets, numbers_on_air};
+ghost use Rattle.wf_transmit_refines.specs.Changes.{after_listing};
 ghost use Rattle.wf_transmit_refines.specs.Filling.{IsToFill, IsTakingOff};
-ghost use Rattle.wf_transmit_refines.specs.Pulling.{sending_tid_of, after_turn};
-ghost use Rattle.wf_transmit.specs.Half.{IsLive};
-ghost use Rattle.wf_transmit.specs.Pulls.{IsExponentSmall, IsSameButFrames, HasTakingOff, IsFlying, HasToSend, IsPrepared};
+ghost use Rattle.wf_transmit_refines.specs.Pulling.{sending_tid_of, after_turn, has_more_of, open_next, after_sending};
+ghost use Rattle.wf_transmit.specs.Half.{HasWorld, IsLive};
+ghost use Rattle.wf_transmit.specs.Pulls.{IsTold, IsPicked, HasPick, IsExponentSmall, IsSameButFrames, HasTakingOff, IsFlying, HasToPrepare, HasToSend, IsPrepared, IsPreparedFor, request_in};
 
 use crate::Transmit;
-use wf_exchanges::Numbers;
-use wf_frame::{Class, Pairs};
+use wf_airtime::request_charge;
+use wf_exchanges::{Numbers, Open, Sending};
+use wf_frame::{Brief, Class, Pairs, Refusal};
+
+/// What an exchange sends, and its charge in microseconds.
+#[derive(Drop)]
+pub(crate) struct Prepared {
+    sending: Sending,
+    charge: u32,
+}
+
+// The start of what is sent, where that is a request.
+fn request_in(sending: &Sending) -> Option<u16>
+    ensures { result ≡ request_in sending.now }
+{
+    match sending {
+        Sending::Data(_) => None,
+        Sending::Request(start) => Some(start.raw()),
+    }
+}
 
 impl Transmit {
+    /// The driver asks for the next exchange of a class. `ready` has an entry for each station, which tells of a listed one whether
+    /// it is ready in the class. The station whose turn it is sends what is due on one of its TIDs: a request, or an aggregate,
+    /// whose frames are written to `pairs`, each by its id and its sequence number. Refused as Full where as many exchanges of the
+    /// class are open as the setting `inflight` allows, or as Idle where no listed station is ready.
+    pub fn pull(&mut self, class: Class, ready: &[bool], pairs: &mut Pairs) -> Brief
+        requires some { HasWorld self.old }
+        requires told { IsTold self.old class ready.now }
+        requires clock { self.old.clock < 2 ^ 62 }
+        requires exchanges { self.old.exchanges < 2 ^ 62 }
+        ensures meets { (w : World) (bodies : ℕ → FrameValue) → StandsFor self.old w bodies →
+            Meets w bodies (Asked (Pull class)) self.new (reply_with result pairs.new []) }
+        ensures full { nat_le self.old.config.inflight (count_by (λ x. same_class x.class class) self.old.opened) ≡ true →
+            (result ≡ Refused (Full (count_by (λ x. same_class x.class class) self.old.opened))) × (self.new ≡ self.old) }
+        ensures kept { HasWorld self.new }
+    {
+        let count = self.opened.of_class(class);
+        if self.config.inflight <= count {
+            return Brief::Refused(Refusal::Full { count });
+        }
+        match self.sched.pick(class, ready) {
+            Some(station) => self.send(station, class, pairs),
+            None => Brief::Refused(Refusal::Idle),
+        }
+    }
+
+    // Sends what is due of a station that was picked.
+    fn send(&mut self, station: u16, class: Class, pairs: &mut Pairs) -> Brief
+        requires within { station < self.old.config.stations }
+        requires clock { self.old.clock < 2 ^ 62 }
+        requires exchanges { self.old.exchanges < 2 ^ 62 }
+        requires room { length self.old.opened < 32 }
+        requires picked { HasPick self.old station class }
+        ensures meets { (v : TransmitValue) (w : World) (bodies : ℕ → FrameValue) → IsPicked v self.old w bodies station class →
+            Meets w bodies (Asked (Pull class)) self.new (reply_with result pairs.new []) }
+    {
+        let tid = self.take_turn(station, class);
+        let prepared = self.prepare(station, tid, pairs);
+        self.put_on_air(station, tid, class, prepared)
+    }
+
+    // Opens an exchange, which uses up the credit of its station.
+    fn put_on_air(&mut self, station: u16, tid: u8, class: Class, prepared: Prepared) -> Brief
+        requires within { station < self.old.config.stations }
+        requires small { self.old.exchanges < 2 ^ 62 }
+        requires room { length self.old.opened < 32 }
+        requires above { All (λ x. x.number < self.old.exchanges) self.old.opened }
+        ensures opened { self.new ≡ after_listing (after_sending self.old station tid class prepared.charge prepared.sending) station }
+        ensures brief { result ≡ Send self.old.exchanges station tid prepared.charge (request_in prepared.sending)
+            (open_next self.old station tid class prepared.charge prepared.sending).more }
+    {
+        let exchange = self.exchanges;
+        let Prepared { sending, charge } = prepared;
+        let request = request_in(&sending);
+        let more = self.sleepers.asleep(station) && request.is_none() && self.has_more(station);
+        self.opened.push(Open {
+            number: exchange,
+            station,
+            tid,
+            class,
+            charge,
+            sending,
+            more,
+        });
+        self.exchanges += 1;
+        self.sleepers.spend(station);
+        self.list(station);
+        Brief::Send {
+            exchange,
+            station,
+            tid,
+            air: charge,
+            request,
+            more,
+        }
+    }
+
+    // Whether a number waits or a frame is queued on some TID of a station.
+    fn has_more(&self, station: u16) -> bool
+        requires within { station < self.now.config.stations }
+        ensures { result ≡ has_more_of self.now station }
+    {
+        self.has_some(station, 0)
+            || self.has_some(station, 1)
+            || self.has_some(station, 2)
+            || self.has_some(station, 3)
+            || self.has_some(station, 4)
+            || self.has_some(station, 5)
+            || self.has_some(station, 6)
+            || self.has_some(station, 7)
+    }
+
+    // Whether a number of a TID waits or a frame is queued.
+    fn has_some(&self, station: u16, tid: u8) -> bool
+        requires within { station < self.now.config.stations }
+        requires tid { tid < 8 }
+        ensures { result ≡ (some_wait (window_of self.now.windows station tid) || nat_lt 0 (frames_queued self.now.flows (tid_number station tid))) }
+    {
+        self.windows.at(station, tid).has_waiting() || self.flows.queued(station, tid) > 0
+    }
+
+    // A request where one is due, else an aggregate, whose numbers fly from then on.
+    fn prepare(&mut self, station: u16, tid: u8, pairs: &mut Pairs) -> Prepared
+        requires within { station < self.old.config.stations }
+        requires tid { tid < 8 }
+        requires live { IsLive self.old station }
+        requires small { self.old.clock < 2 ^ 62 }
+        requires exponent { IsExponentSmall self.old station }
+        requires due { HasToPrepare self.old station tid }
+        ensures prepared { IsPreparedFor self.old self.new station tid result.charge pairs.new result.sending }
+        ensures same { IsSameButFrames self.old self.new }
+    {
+        let window = self.windows.at(station, tid);
+        if window.bar_due() {
+            return Prepared {
+                sending: Sending::Request(window.start()),
+                charge: request_charge(self.is_wide(station, tid)),
+            };
+        }
+        let (numbers, charge) = self.prepare_data(station, tid, pairs);
+        Prepared {
+            sending: Sending::Data(numbers),
+            charge,
+        }
+    }
+
     // The TID that sends: the one whose turn it is, where it can, else the other. The turn goes to the TID that does not.
     fn take_turn(&mut self, station: u16, class: Class) -> u8
         requires within { station < self.old.config.stations }
