@@ -9,6 +9,7 @@ pub mod Enqueues
 pub mod Settling
 pub mod Ends
 pub mod Dones
+pub mod Driven
 pub mod Taking
 pub mod Giving
 pub mod Filling

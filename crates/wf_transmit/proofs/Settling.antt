@@ -1,8 +1,10 @@
 -- The numbers of an aggregate are settled, one after the other.
-use Rattle.std.proofs.Common.{◌≡◌, ◌≢◌, nat_le, length-append, append_assoc, append-nil, refl, ap, ap₂, sym, ◌∙◌, subst, arith, ℕ, suc, ◌+◌, ◌-◌, ◌<◌, ◌≤◌, nat_lt, Bool, true, false, ◌&&◌, cond, if◌then◌else◌, List, [], ◌∷◌, ◌++◌, map, length, Option, Some, None}
-use Rattle.std.specs.Prelude.{slice_get}
-use Rattle.std.proofs.lemmas.List.{length-map}
-use Rattle.std.proofs.lemmas.List.Sums.{sum_by-cons}
+use Rattle.std.proofs.Common.{◌≡◌, ◌≢◌, nat_le, length-append, append_assoc, append-nil, refl, ap, ap₂, sym, ◌∙◌, subst, arith, ℕ, suc, ◌+◌, ◌-◌, ◌<◌, ◌≤◌, nat_lt, Bool, true, false, ◌&&◌, cond, if◌then◌else◌, List, [], ◌∷◌, ◌++◌, map, take, get_or, length, Option, Some, None, inl, inr}
+use Rattle.std.specs.Prelude.{slice_get, count_by}
+use Rattle.std.proofs.lemmas.Bool.{cases_Bool}
+use Rattle.std.proofs.lemmas.List.{length-map, take_all}
+use Rattle.std.proofs.lemmas.List.Sums.{sum_by-cons, count_by_more_yes, count_by_more_no}
+use Rattle.std.proofs.lemmas.Option.{get_or_from_slice_get}
 use Rattle.wf_frame.specs.declared.classes.Cause.TheVariants.{Overlimit, Codel, Retries, Left}
 use Rattle.wf_frame.specs.declared.classes.Fate.{Fate}
 use Rattle.wf_frame.specs.declared.classes.Fate.TheVariants.{Held, Acked as Is_acked, Dropped}
@@ -69,6 +71,7 @@ pub record IsSettling (start v : TransmitValue) (s t : ℕ) (numbers : List ℕ)
   pub config : v.config ≡ start.config
   pub place : CanFinish v (length numbers - i)
   pub few : all_ended ended ≡ i
+  pub shown : ended.acked ≡ count_by acked (take i numbers)
   pub each : (w after : World) (bodies : ℕ → FrameValue) (e : ℕ) (mpdus : List Mpdu) → IsEnding start w bodies s t e acked mpdus after → numbers ≡ numbers_on_air mpdus → HasSettled v bodies s t e acked i mpdus after ended
 
 pub settling_begins : (v : TransmitValue) (s t : ℕ) (numbers : List ℕ) (acked : ℕ → Bool) → CanFinish v (length numbers) → IsSettling v v s t numbers acked 0 (record { acked = 0; waiting = 0; failed = 0 })
@@ -77,6 +80,7 @@ settling_begins v s t numbers acked place = record {
   config = refl;
   place = record { room = omega (arith, place.room); held = omega (arith, place.held) };
   few = refl;
+  shown = refl;
   each = λ w after bodies e mpdus ending is. record { world = w; before = []; left = mpdus; all = refl; count = refl; ending = ending; counted = record { acked = refl; waiting = refl; failed = refl } };
 }
 
@@ -129,6 +133,25 @@ counted_more after s t m ms ended a is h =
     by_answer (Acked f) x y z = record { acked = omega (arith, x, h.acked); waiting = omega (arith, y, h.waiting); failed = omega (arith, z, h.failed) }
     by_answer Waiting x y z = record { acked = omega (arith, x, h.acked); waiting = omega (arith, y, h.waiting); failed = omega (arith, z, h.failed) }
     by_answer (Failed f) x y z = record { acked = omega (arith, x, h.acked); waiting = omega (arith, y, h.waiting); failed = omega (arith, z, h.failed) }
+
+-- one that is shown is one more that is acknowledged
+acked_more : (b : Bool) (limit : ℕ) (bodies : ℕ → FrameValue) (x : Slot) (ended : Ended) → (with_one_more ended (answer_of b limit bodies x)).acked ≡ ended.acked + as_one b
+unfolding as_one
+acked_more true limit bodies x ended = omega arith
+acked_more false limit bodies x ended = by_limit (nat_le limit (x.attempts + 1))
+  where
+    by_limit : (c : Bool) → (with_one_more ended (if c then Failed (with_fate (Dropped Retries) (bodies x.id)) else Waiting)).acked ≡ ended.acked + as_one false
+    by_limit true = omega arith
+    by_limit false = omega arith
+
+shown_more : (p : ℕ → Bool) (numbers : List ℕ) (i n : ℕ) → i < length numbers → slice_get numbers i ≡ Some n → count_by p (take (i + 1) numbers) ≡ count_by p (take i numbers) + as_one (p n)
+unfolding as_one
+shown_more p numbers i n below is =
+    let at : p (get_or numbers i 0) ≡ p n = ap p (get_or_from_slice_get numbers i n 0 is) in
+    elim (cases_Bool (p n)) [
+      | inl so ↦ count_by_more_yes p numbers i 0 below (at ∙ so) ∙ ap (λ (b : Bool). count_by p (take i numbers) + as_one b) (sym so)
+      | inr not_so ↦ omega (arith, count_by_more_no p numbers i 0 below (at ∙ not_so), ap as_one not_so)
+    ]
 
 one_more : (ended : Ended) (a : Settled) → all_ended (with_one_more ended a) ≡ all_ended ended + 1
 one_more ended (Acked f) = omega arith
@@ -202,12 +225,19 @@ module _ (start v : TransmitValue) (s t : ℕ) (numbers : List ℕ) (acked : ℕ
         (stands_then : (y : Session) (bodies : ℕ → FrameValue) (n : ℕ) → WindowStandsFor (window_of v.windows s t) y bodies → IsNumber y n seq → WindowStandsFor (window_of windows s t) (settled b limit n y) bodies)
         (answer : (y : Session) (bodies : ℕ → FrameValue) (n : ℕ) → WindowStandsFor (window_of v.windows s t) y bodies → IsNumber y n seq → a ≡ answer_of b limit bodies (slot y n))
         (others : windows ≡ with_window v.windows s t (window_of windows s t)) where
+      abbrev slot_here : Slot
+      slot_here = slot (session at_some.world s t) next.mpdu.number
+
+      answer_here : a ≡ answer_of b limit some.bodies slot_here
+      answer_here = answer (session at_some.world s t) some.bodies next.mpdu.number (stands v at_some.world some.bodies s t some.exchange acked next.mpdu next.behind some.after ending_here seq next.air) (is_number v at_some.world some.bodies s t some.exchange acked next.mpdu next.behind some.after ending_here seq next.air)
+
       pub fate_given : HasFate a
-      fate_given =
-          let y : Session = session at_some.world s t in
-          let is : a ≡ answer_of b limit some.bodies (slot y next.mpdu.number) =
-          answer y some.bodies next.mpdu.number (stands v at_some.world some.bodies s t some.exchange acked next.mpdu next.behind some.after ending_here seq next.air) (is_number v at_some.world some.bodies s t some.exchange acked next.mpdu next.behind some.after ending_here seq next.air) in
-          subst HasFate (sym is) (answer_fate b limit some.bodies (slot y next.mpdu.number))
+      fate_given = subst HasFate (sym answer_here) (answer_fate b limit some.bodies slot_here)
+
+      shown_next : i < length numbers → (with_one_more ended a).acked ≡ count_by acked (take (i + 1) numbers)
+      shown_next below =
+          let one : (with_one_more ended a).acked ≡ ended.acked + as_one b = subst (λ (z : Settled). (with_one_more ended z).acked ≡ ended.acked + as_one b) (sym answer_here) (acked_more b limit some.bodies slot_here ended) in
+          omega (arith, one, shown_more acked numbers i seq below at_i, so_far.shown, ap as_one b_is)
 
       abbrev moved : TransmitValue
       moved = record v { windows = windows }
@@ -247,6 +277,7 @@ module _ (start v : TransmitValue) (s t : ℕ) (numbers : List ℕ) (acked : ℕ
             config = same_config moved a ∙ so_far.config;
             place = answer_leaves moved (length numbers - (i + 1)) a fate_given (let p = subst (CanFinish v) rest so_far.place in record { room = p.room; held = p.held });
             few = omega (arith, one_more ended a, so_far.few);
+            shown = shown_next below;
             each = λ w after bodies e mpdus ending is. settled_next bodies e mpdus after is (so_far.each w after bodies e mpdus ending is);
           }
 
@@ -273,3 +304,6 @@ module _ (start v : TransmitValue) (s t : ℕ) (numbers : List ℕ) (acked : ℕ
   all_counted =
       let whole : last.before ≡ mpdus = sym (append-nil last.before) ∙ ap (λ (l : List Mpdu). last.before ++ l) (sym none_left) ∙ last.all in
       subst (λ (l : List Mpdu). AreCounted after s t l ended) whole last.counted
+
+pub all_shown : (start v : TransmitValue) (s t : ℕ) (numbers : List ℕ) (acked : ℕ → Bool) (i : ℕ) (ended : Ended) → IsSettling start v s t numbers acked i ended → length numbers ≤ i → ended.acked ≡ count_by acked numbers
+all_shown start v s t numbers acked i ended so_far all = so_far.shown ∙ ap (count_by acked) (take_all i numbers all)

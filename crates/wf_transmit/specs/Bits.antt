@@ -1,5 +1,5 @@
 -- What a BlockAck shows of sequence numbers, by its start and its bits alone, and how the end of an exchange goes by it.
-use Rattle.std.specs.Prelude.{◌≡◌, ℕ, ◌+◌, ◌<◌, ◌≤◌, ◌^◌, ◌==◌, nat_lt, Bool, true, false, is_some, ◌&&◌, List, find, Option, Some, None, IfSome, if◌then◌else◌}
+use Rattle.std.specs.Prelude.{◌≡◌, ℕ, ◌+◌, ◌<◌, ◌≤◌, ◌^◌, ◌==◌, nat_lt, Bool, true, false, is_some, ◌&&◌, List, [], count_by, find, Option, Some, None, IfSome, if◌then◌else◌}
 use Rattle.wf_frame.specs.Frames.{FrameValue}
 use Rattle.wf_frame.specs.declared.notes.ReplyNote.{ReplyNote}
 use Rattle.wf_frame.specs.declared.notes.ReplyNote.TheVariants.{Ended as Ends}
@@ -16,10 +16,13 @@ use Rattle.wf_seq12.specs.Distance.{distance}
 use Rattle.wf_origwin.specs.declared.window.Settled.{Settled}
 use Rattle.wf_origwin.specs.declared.window.Settled.TheVariants.{Acked, Waiting, Failed}
 use Rattle.wf_exchanges.specs.declared.opened.Open.{Open}
+use Rattle.wf_exchanges.specs.declared.opened.Sending.{Sending}
+use Rattle.wf_exchanges.specs.declared.opened.Sending.TheVariants.{Data, Request as Starts_at}
 use Rattle.wf_members.specs.Members.{member, charged_in}
 use Rattle.wf_transmit_refines.specs.Half.{TransmitValue}
 use Rattle.wf_transmit_refines.specs.Standing.{numbers_on_air, open_of, StandsFor}
 use Rattle.wf_transmit_refines.specs.Ending.{after_close, IsEnding}
+use Rattle.wf_transmit_refines.specs.Pulling.{is_wide_of}
 use Rattle.wf_transmit.specs.declared.finish.Ended.{Ended}
 
 -- ---- a BlockAck
@@ -36,6 +39,19 @@ shows_bits wide start bits n = nat_lt (distance n start) (span_of wide) && has b
 abbrev pub is_shown : Bool → Option (ℕ × List ℕ) → ℕ → Bool
 is_shown wide None n = false
 is_shown wide (Some score) n = shows_bits wide score.0 score.1 n
+
+-- how many of these numbers are shown
+abbrev pub count_shown : Bool → Option (ℕ × List ℕ) → List ℕ → ℕ
+count_shown wide heard numbers = count_by (is_shown wide heard) numbers
+
+-- the numbers of what is sent, as they stand on the air: a request has none
+abbrev pub numbers_sent : Sending → List ℕ
+numbers_sent (Data numbers) = numbers
+numbers_sent (Starts_at start) = []
+
+-- how many numbers of an open exchange are shown
+abbrev pub count_shown_of : TransmitValue → Option (ℕ × List ℕ) → Open → ℕ
+count_shown_of v heard x = count_shown (is_wide_of v x.station x.tid) heard (numbers_sent x.sending)
 
 -- of each number of an exchange its receiver's answer shows what the bits do; of a request there is nothing to say
 abbrev pub AreShown : World → Exchange → Score → Option (ℕ × List ℕ) → Type 0

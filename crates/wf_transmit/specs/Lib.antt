@@ -5,3 +5,4 @@ pub mod Leaving
 pub mod Enqueues
 pub mod Bits
 pub mod Counts
+pub mod Driven

@@ -1,6 +1,6 @@
 //! The end of an exchange.
 
-ghost use Rattle.std.specs.Prelude.{◌≡◌, ◌≢◌, ◌<◌, ◌≤◌, ◌==◌, ℕ, Bool, true, false, Some, length, find, is_ok, is_some, IfErr, IfNone, IfSome, List};
+ghost use Rattle.std.specs.Prelude.{◌≡◌, ◌≢◌, ◌<◌, ◌≤◌, ◌==◌, ℕ, Bool, true, false, Some, length, find, is_ok, is_some, IfOk, IfErr, IfNone, IfSome, List};
 ghost use Rattle.wf_frame.specs.Frames.{FrameValue};
 ghost use Rattle.wf_frame.specs.declared.classes.Fate.TheVariants.{Held};
 ghost use Rattle.wf_world.specs.World.{World, Mpdu, Exchange, exchange as exchange_in};
@@ -9,7 +9,7 @@ ghost use Rattle.wf_world.specs.Step.{done_outcome};
 ghost use Rattle.wf_transmit_refines.specs.Half.{TransmitValue};
 ghost use Rattle.wf_transmit_refines.specs.Standing.{StandsFor, Meets, Parts, numbers_on_air, open_of};
 ghost use Rattle.wf_transmit_refines.specs.Ending.{IsEnding, after_close, after_finish, after_answer};
-ghost use Rattle.wf_transmit.specs.Bits.{is_shown, CanFinish, IsToSettle, IsClosed, GoesBy, with_one_more, all_ended, ended_reply, IsChargeSmall, AreShown, NoneIsShown};
+ghost use Rattle.wf_transmit.specs.Bits.{is_shown, CanFinish, IsToSettle, IsClosed, GoesBy, with_one_more, all_ended, ended_reply, IsChargeSmall, AreShown, NoneIsShown, count_shown, count_shown_of};
 ghost use Rattle.wf_transmit.specs.Half.{HasWorld};
 ghost use Rattle.wf_transmit.specs.Replies.{reply_of};
 ghost use Rattle.wf_rules.specs.Receiver.{Score};
@@ -58,8 +58,8 @@ fn is_shown(wide: bool, heard: &Option<(Seq12, Bits256)>, number: Seq12) -> bool
 impl Transmit {
     /// An exchange ends: its station pays for it, and what it sent is settled. `heard` is what was heard in answer: the start and
     /// the bits of a BlockAck (IEEE 802.11-2012, 8.3.1.9), of which the first 64 count, or all 256 where the TID's window is
-    /// above 64. Each number that it shows is acknowledged; each other one waits again, or fails where it was sent `attempts`
-    /// times. A request is heard where anything was. Where the exchange is not open, refused as NoExchange.
+    /// above 64. Each number that it shows is acknowledged, and `acked` counts them; each other one waits again, or fails where it
+    /// was sent `attempts` times. A request is heard where anything was. Where the exchange is not open, refused as NoExchange.
     pub fn done(&mut self, exchange: u64, heard: Option<(Seq12, Bits256)>) -> Result<Ended, Refusal>
         requires some { HasWorld self.old }
         requires small { IsChargeSmall self.old exchange }
@@ -73,6 +73,8 @@ impl Transmit {
             Meets w bodies (Asked (Done exchange false)) self.new (reply_of ended_reply result) }
         ensures found { is_ok result ≡ is_some (find (λ x. x.number == exchange) self.old.opened) }
         ensures refused { IfErr result (λ reason. (reason ≡ NoExchange) × (self.new ≡ self.old)) }
+        ensures acked { IfOk result (λ ended. IfSome (find (λ x. x.number == exchange) self.old.opened) (λ x.
+            ended.acked ≡ count_shown_of self.old heard x)) }
         ensures kept { IfNone heard (HasWorld self.new) }
     {
         let Some(open) = self.opened.take_out(exchange) else {
@@ -95,6 +97,7 @@ impl Transmit {
         ensures reply { (v : TransmitValue) (w : World) (bodies : ℕ → FrameValue) (e : ℕ) (x : Exchange) (answered : Bool) →
             StandsFor v w bodies → exchange_in w e ≡ Some x → open.now ≡ open_of x → self.old ≡ after_close v open.now → GoesBy w x heard.now answered →
             ended_reply result ≡ (done_outcome w x answered).reply }
+        ensures acked { result.acked ≡ count_shown_of self.old heard.now open.now }
         ensures config { self.new.config ≡ self.old.config }
     {
         match &open.sending {
@@ -130,6 +133,7 @@ impl Transmit {
             IsEnding self.old w bodies station tid e (is_shown wide heard.now) mpdus after → numbers.now ≡ numbers_on_air mpdus → Parts self.new after bodies }
         ensures counted { (w after : World) (bodies : ℕ → FrameValue) (e : ℕ) (mpdus : List Mpdu) →
             IsEnding self.old w bodies station tid e (is_shown wide heard.now) mpdus after → numbers.now ≡ numbers_on_air mpdus → AreCounted after station tid mpdus result }
+        ensures acked { result.acked ≡ count_shown wide heard.now numbers.now }
         ensures config { self.new.config ≡ self.old.config }
     {
         let limit = self.config.attempts as u8;

@@ -10,9 +10,11 @@ mod frames;
 mod half;
 mod leave;
 mod pull;
+mod readers;
 mod ready;
 mod refuse;
 mod stations;
+pub mod unheard;
 
 pub use finish::Ended;
 pub use half::Transmit;

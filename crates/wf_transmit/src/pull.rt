@@ -119,7 +119,7 @@ impl Transmit {
     }
 
     // Whether a number waits or a frame is queued on some TID of a station.
-    fn has_more(&self, station: u16) -> bool
+    pub(crate) fn has_more(&self, station: u16) -> bool
         requires within { station < self.now.config.stations }
         ensures { result ≡ has_more_of self.now station }
     {

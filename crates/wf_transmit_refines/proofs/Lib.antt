@@ -33,8 +33,8 @@ pub mod Sends
 pub mod Asked
 pub mod Openings
 mod Apart
-mod Spared
-mod Steady
-mod OwnClass
-mod Beyond
-mod Pulled
+pub mod Spared
+pub mod Steady
+pub mod OwnClass
+pub mod Beyond
+pub mod Pulled

@@ -1,5 +1,5 @@
 use Rattle.std.proofs.Common.{◌≡◌, refl, sym, ap, ◌∙◌, subst, arith, Option, Some, true, false, List, ℕ, ◌==◌, is_some}
-use Rattle.std.specs.Prelude.{find}
+use Rattle.std.specs.Prelude.{find, IfSome}
 use Rattle.wf_frame.specs.declared.settings.Config.{Config}
 use Rattle.wf_frame.specs.declared.notes.Note.TheVariants.{Asked}
 use Rattle.wf_frame.specs.declared.notes.Ask.TheVariants.{Done}
@@ -10,7 +10,7 @@ use Rattle.wf_exchanges.specs.declared.opened.Open.{Open}
 use Rattle.wf_transmit_refines.specs.Half.{TransmitValue}
 use Rattle.wf_transmit_refines.specs.Standing.{StandsFor}
 use Rattle.wf_driver_laws.proofs.Ended.{may_end_lost, may_end_heard}
-use Rattle.wf_transmit.specs.Bits.{IsChargeSmall, GoesBy}
+use Rattle.wf_transmit.specs.Bits.{IsChargeSmall, GoesBy, count_shown_of}
 use Rattle.wf_transmit.specs.Half.{HasWorld}
 use Rattle.wf_transmit.proofs.Calls.{view_of}
 use Rattle.wf_transmit.proofs.Worlds.{kept_world, met_by}
@@ -96,6 +96,11 @@ returns-clause-none_shown c w bodies x h known data_is none =
 
 pub returns-clause-found : goal.returns-clause-found
 returns-clause-found c = ap is_some c.in-Some.ensures.taken ∙ ap (λ (z : TransmitValue). is_some (find (λ (k : Open). k.number == c.args.exchange) z.opened)) c.self.view_is
+
+pub returns-clause-acked : goal.returns-clause-acked
+returns-clause-acked c =
+    subst (λ (z : TransmitValue). IfSome (find (λ (k : Open). k.number == c.args.exchange) z.opened) (λ (k : Open). c.settle-ended.result.acked ≡ count_shown_of z c.args.heard k)) c.self.view_is
+    (subst (λ (o : Option Open). IfSome o (λ (k : Open). c.settle-ended.result.acked ≡ count_shown_of (view_of c.self.inside) c.args.heard k)) c.in-Some.ensures.taken c.settle-ended.ensures.acked)
 
 pub returns-clause-kept : goal.returns-clause-kept
 returns-clause-kept c = where_none _ c.args.heard (λ none.

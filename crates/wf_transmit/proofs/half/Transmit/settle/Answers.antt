@@ -1,9 +1,11 @@
-use Rattle.std.proofs.Common.{sym, ap, ◌∙◌, subst, arith, ◌+◌, ◌≤◌, nat_lt, length}
+use Rattle.std.proofs.Common.{sym, ap, ◌∙◌, subst, arith, ◌+◌, ◌≤◌, nat_lt, Bool, length}
 use Rattle.wf_seq12.specs.Distance.{distance}
 use Rattle.wf_origwin.specs.Window.{WindowValue}
 use Rattle.wf_windows.specs.Windows.{window_of}
 use Rattle.wf_transmit_refines.specs.Half.{TransmitValue}
-use Rattle.wf_transmit.specs.Bits.{is_shown}
+use Rattle.wf_exchanges.specs.declared.opened.Sending.{Sending}
+use Rattle.wf_transmit_refines.specs.Pulling.{is_wide_of}
+use Rattle.wf_transmit.specs.Bits.{is_shown, count_shown, numbers_sent}
 use Rattle.wf_transmit.proofs.Calls.{view_of}
 use Rattle.wf_transmit.proofs.Ends.{data_tid, data_within, data_place, data_some, data_settled, data_told, request_low, request_within, request_near, request_told, request_lost, request_heard}
 use Rattle.wf_transmit.proofs.half.Transmit.settle.Goals as goal
@@ -53,6 +55,19 @@ returns-else-is_some-clause-settled c v w bodies e x answered h known same close
 
 pub returns-else-is_some-clause-reply : goal.returns-else-is_some-clause-reply
 returns-else-is_some-clause-reply c v w bodies e x answered h known same closed goes = request_told v w bodies h e x known c.args.self.now c.args.open.now same closed c.in-Request.start c.args.heard.now answered goes c.in-Request.is
+
+pub returns-in-Data-clause-acked : goal.returns-in-Data-clause-acked
+returns-in-Data-clause-acked c =
+    let told = ap (nat_lt 64) (c.size-wide.ensures.shown ∙ ap (λ (z : WindowValue). z.size) (c.at.ensures ∙ ap (λ (z : TransmitValue). window_of z.windows c.args.open.now.station c.args.open.now.tid) c.self.view_is)) in
+    c.settle_all.ensures.acked
+    ∙ ap (λ (b : Bool). count_shown b c.args.heard.now c.in-Data.numbers) told
+    ∙ ap (λ (z : Sending). count_shown (is_wide_of c.args.self.now c.args.open.now.station c.args.open.now.tid) c.args.heard.now (numbers_sent z)) (sym c.in-Data.is)
+
+pub returns-then-is_some-clause-acked : goal.returns-then-is_some-clause-acked
+returns-then-is_some-clause-acked c = ap (λ (z : Sending). count_shown (is_wide_of c.args.self.now c.args.open.now.station c.args.open.now.tid) c.args.heard.now (numbers_sent z)) (sym c.in-Request.is)
+
+pub returns-else-is_some-clause-acked : goal.returns-else-is_some-clause-acked
+returns-else-is_some-clause-acked c = ap (λ (z : Sending). count_shown (is_wide_of c.args.self.now c.args.open.now.station c.args.open.now.tid) c.args.heard.now (numbers_sent z)) (sym c.in-Request.is)
 
 pub returns-in-Data-clause-config : goal.returns-in-Data-clause-config
 returns-in-Data-clause-config c = c.settle_all.ensures.config

@@ -4,7 +4,7 @@ use Rattle.wf_windows.specs.Windows.{HaveRoom}
 use Rattle.wf_transmit_refines.specs.Half.{TransmitValue}
 use Rattle.wf_transmit.specs.Bits.{is_shown}
 use Rattle.wf_transmit.proofs.Calls.{view_of}
-use Rattle.wf_transmit.proofs.Settling.{IsSettling, shown_on_air, next_settles, next_within, fate_given, settling_next, all_stand, all_counted}
+use Rattle.wf_transmit.proofs.Settling.{IsSettling, shown_on_air, next_settles, next_within, fate_given, settling_next, all_stand, all_counted, all_shown}
 use Rattle.wf_transmit.proofs.half.Transmit.settle_all.Goals as goal
 
 pub settle-answer-requires-clause-within : goal.settle-answer-requires-clause-within
@@ -53,6 +53,10 @@ returns-clause-settled c w after bodies e mpdus ending is =
 pub returns-clause-counted : goal.returns-clause-counted
 returns-clause-counted c w after bodies e mpdus ending is =
     all_counted c.args.self.now c.loop-i.self c.args.station c.args.tid c.args.numbers.now (is_shown c.args.wide c.args.heard.now) c.loop-i.i c.loop-i.ended c.loop-i.invariant (omega (arith, c.loop-i-test.false, c.len-i-end.ensures.count)) w after bodies e mpdus ending is
+
+pub returns-clause-acked : goal.returns-clause-acked
+returns-clause-acked c =
+    all_shown c.args.self.now c.loop-i.self c.args.station c.args.tid c.args.numbers.now (is_shown c.args.wide c.args.heard.now) c.loop-i.i c.loop-i.ended c.loop-i.invariant (omega (arith, c.loop-i-test.false, c.len-i-end.ensures.count))
 
 pub returns-clause-config : goal.returns-clause-config
 returns-clause-config c = c.loop-i.invariant.config
