@@ -1,0 +1,5 @@
+pub mod Identifiers
+pub mod Opened
+pub mod Flying
+pub mod Written
+pub mod Told

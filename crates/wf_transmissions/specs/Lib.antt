@@ -1,0 +1,5 @@
+pub mod Transmissions
+pub mod Flights
+pub mod Writing
+pub mod Answers
+pub mod Traffic
