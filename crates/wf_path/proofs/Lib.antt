@@ -1,0 +1,9 @@
+mod Flags
+mod Kept
+mod Pulls
+mod Enqueues
+mod Answers
+mod Openings
+mod Jobs
+mod Dones
+mod SmallSums

@@ -1,0 +1,57 @@
+-- Calls of a path, and what comes back of them beside the answer.
+use Rattle.std.specs.Prelude.{ℕ, Bool, true, false, Option, Some, None}
+use Rattle.wf_frame.specs.Frames.{FrameValue}
+use Rattle.wf_frame.specs.declared.notes.Ask.{Ask}
+use Rattle.wf_frame.specs.declared.notes.Ask.TheVariants.{Arrive, Answer, Done, Reap}
+use Rattle.wf_frame.specs.declared.notes.Note.{Note}
+use Rattle.wf_frame.specs.declared.notes.Note.TheVariants.{Asked}
+use Rattle.wf_frame.specs.declared.notes.Refusal.TheVariants.{Idle}
+use Rattle.wf_frame.specs.declared.notes.ReplyNote.{ReplyNote}
+use Rattle.wf_frame.specs.declared.notes.ReplyNote.TheVariants.{Accepted, Reaped, Refused}
+use Rattle.wf_flowq_refines.specs.Frames.{with_body}
+use Rattle.wf_transmit.specs.Enqueues.{enqueue_of, as_accepted}
+use Rattle.wf_transmit_refines.specs.Half.{TransmitValue}
+use Rattle.wf_path.specs.declared.job.Job.{Job}
+use Rattle.wf_path.specs.declared.job.Job.TheVariants.{Give, Call}
+
+-- the call of the machine that a job is
+abbrev pub note_of : Job → Note
+note_of (Give f) = enqueue_of f
+note_of (Call ask) = Asked ask
+
+-- the frame that a job brings, if any
+abbrev pub frame_of : Job → Option FrameValue
+frame_of (Give f) = Some f
+frame_of (Call ask) = None
+
+-- the calls that a path hears: all but an Arrive, an Answer and a Done
+abbrev pub IsHeard : Job → Type 0
+IsHeard (Call (Arrive exchange index)) = ⊥
+IsHeard (Call (Answer exchange)) = ⊥
+IsHeard (Call (Done exchange heard)) = ⊥
+IsHeard job = Unit {0}
+
+-- the calls whose answer is a brief alone, or with the frames of an aggregate: none of exchanges that are open, and no reap
+abbrev pub IsBrief : Ask → Type 0
+IsBrief (Arrive exchange index) = ⊥
+IsBrief (Answer exchange) = ⊥
+IsBrief (Done exchange heard) = ⊥
+IsBrief Reap = ⊥
+IsBrief ask = Unit {0}
+
+-- the frames of the ids after a call of v: with the frame that it brought, where that is accepted
+abbrev pub bodies_after : TransmitValue → Job → ReplyNote → (ℕ → FrameValue) → ℕ → FrameValue
+bodies_after v (Give f) (Accepted id dropped) bodies = with_body bodies (as_accepted v f)
+bodies_after v job reply bodies = bodies
+
+-- The frame that comes back: the one that a call brought, where it is refused; the frame of the reaped id, with its fate; else none.
+abbrev pub given_back : (ℕ → FrameValue) → Job → ReplyNote → Option FrameValue
+given_back bodies (Give f) (Refused reason) = Some f
+given_back bodies (Call Reap) (Reaped id fate) = Some (record (bodies id) { fate = fate })
+given_back bodies job reply = None
+
+-- whether a reply refuses its call, which then changes nothing: any refusal but that of a pull which finds nobody ready
+abbrev pub changes_nothing : ReplyNote → Bool
+changes_nothing (Refused Idle) = false
+changes_nothing (Refused reason) = true
+changes_nothing reply = false

@@ -1,0 +1,250 @@
+//! The calls of a path, but for the end of an exchange.
+
+ghost use Rattle.std.specs.Prelude.{◌≡◌, ℕ, true, List, Option, IfSome, IfNone, IfOk, IfErr};
+ghost use Rattle.wf_frame.specs.Frames.{FrameValue};
+ghost use Rattle.wf_frame.specs.Answers.{reply_of, reply_with};
+ghost use Rattle.wf_frame.specs.declared.notes.Ask.TheVariants.{Join, Leave, Rate, Tick, Pull, Sleep, Wake, Poll, Rx, Reap};
+ghost use Rattle.wf_frame.specs.declared.notes.Note.TheVariants.{Asked};
+ghost use Rattle.wf_frame.specs.declared.notes.ReplyNote.TheVariants.{Accepted, Refused};
+ghost use Rattle.wf_world.specs.World.{World};
+ghost use Rattle.wf_flowq_refines.specs.Frames.{with_body, IsBodySettled};
+ghost use Rattle.wf_transmit.specs.Enqueues.{enqueue_of, as_accepted};
+ghost use Rattle.wf_transmit.specs.Replies.{reaped_reply};
+ghost use Rattle.wf_transmit_refines.specs.Standing.{StandsFor, Meets};
+ghost use Rattle.wf_path.specs.Jobs.{IsHeard, IsBrief, note_of, bodies_after, given_back, changes_nothing};
+ghost use Rattle.wf_path.specs.Paths.{IsPath, IsSmall, IsAnswered, IsToldBriefly};
+
+use crate::{Job, Path};
+use wf_chain::Parcel;
+use wf_frame::{Answer, Ask, Brief, Class, Pairs, Refusal};
+
+impl Path {
+    /// Makes a call, which is none of Arrive, Answer and Done, and answers it. A frame comes back exactly where it was refused, or
+    /// reaped.
+    pub fn call(&mut self, job: Job, answer: &mut Answer) -> Option<Parcel>
+        requires heard { IsHeard job }
+        requires small { IsSmall self.old }
+        ensures meets { (w : World) (bodies : ℕ → FrameValue) → StandsFor self.old w bodies →
+            Meets w (bodies_after self.old job (reply_of answer.new) bodies) (note_of job) self.new (reply_of answer.new) }
+        ensures parcel { (w : World) (bodies : ℕ → FrameValue) → StandsFor self.old w bodies →
+            result ≡ given_back bodies job (reply_of answer.new) }
+        ensures refused { changes_nothing (reply_of answer.new) ≡ true → self.new ≡ self.old }
+        ensures path { IsPath self.new }
+    {
+        match job {
+            Job::Give(parcel) => self.give(parcel, answer),
+            Job::Call(Ask::Reap) => {
+                let reaped = self.reap();
+                answer.brief = reaped_brief(&reaped);
+                reaped
+            }
+            Job::Call(ask) => {
+                answer.brief = self.ask(ask, &mut answer.pairs);
+                None
+            }
+        }
+    }
+
+    // A frame comes in.
+    fn give(&mut self, parcel: Parcel, answer: &mut Answer) -> Option<Parcel>
+        requires small { IsSmall self.old }
+        ensures meets { (w : World) (bodies : ℕ → FrameValue) → StandsFor self.old w bodies →
+            Meets w (bodies_after self.old (Job.Give parcel) (reply_of answer.new) bodies) (enqueue_of parcel) self.new (reply_of answer.new) }
+        ensures parcel { (bodies : ℕ → FrameValue) → result ≡ given_back bodies (Job.Give parcel) (reply_of answer.new) }
+        ensures refused { changes_nothing (reply_of answer.new) ≡ true → self.new ≡ self.old }
+        ensures path { IsPath self.new }
+    {
+        match self.enqueue(parcel) {
+            Ok((id, dropped)) => {
+                answer.brief = Brief::Accepted { id, dropped };
+                None
+            }
+            Err((reason, parcel)) => {
+                answer.brief = Brief::Refused(reason);
+                Some(parcel)
+            }
+        }
+    }
+
+    // Accepts a frame, or hands it back.
+    fn enqueue(&mut self, parcel: Parcel) -> Result<(u64, Option<u64>), (Refusal, Parcel)>
+        requires small { IsSmall self.old }
+        ensures meets { IfOk result (λ given. (w : World) (bodies : ℕ → FrameValue) → StandsFor self.old w bodies →
+            Meets w (with_body bodies (as_accepted self.old parcel)) (enqueue_of parcel) self.new (Accepted given.0 given.1)) }
+        ensures refuses { IfErr result (λ given. (w : World) (bodies : ℕ → FrameValue) → StandsFor self.old w bodies →
+            Meets w bodies (enqueue_of parcel) self.new (Refused given.0)) }
+        ensures refused { IfErr result (λ _. self.new ≡ self.old) }
+        ensures handed_back { IfErr result (λ given. given.1 ≡ parcel) }
+        ensures path { IsPath self.new }
+    {
+        let frame = parcel.frame();
+        let (station, tid, _octets) = (frame.station(), frame.tid(), frame.len());
+        let loser = self.half.next_drop();
+        let accepted = self.half.enqueue(parcel)?;
+        self.ready.set(&self.half, station, Class::of_tid(tid));
+        if let Some((station, tid)) = loser {
+            self.ready.set(&self.half, station, Class::of_tid(tid));
+        }
+        Ok(accepted)
+    }
+
+    // Takes the first finished frame.
+    fn reap(&mut self) -> Option<Parcel>
+        ensures meets { (w : World) (bodies : ℕ → FrameValue) → StandsFor self.old w bodies → Meets w bodies (Asked Reap) self.new (reaped_reply result) }
+        ensures parcel { IfSome result (λ p. (w : World) (bodies : ℕ → FrameValue) → StandsFor self.old w bodies → IsBodySettled bodies p) }
+        ensures refused { IfNone result (self.new ≡ self.old) }
+        ensures path { IsPath self.new }
+    {
+        self.half.reap()
+    }
+
+    // Makes a call whose answer is a brief, with the frames of an aggregate.
+    fn ask(&mut self, ask: Ask, pairs: &mut Pairs) -> Brief
+        requires brief { IsBrief ask }
+        requires small { IsSmall self.old }
+        ensures answered { IsAnswered self.old ask self.new result pairs.new }
+        ensures brief { IsBrief ask }
+    {
+        match ask {
+            Ask::Join {
+                station,
+                window,
+                start,
+                exponent,
+                weight,
+            } => self.join(station, window, start, exponent, weight),
+            Ask::Leave { station } => self.leave(station),
+            Ask::Rate {
+                station,
+                mcs,
+                mhz,
+                short,
+            } => self.rate(station, mcs, mhz, short),
+            Ask::Tick { by } => self.tick(by),
+            Ask::Pull { class } => self.pull(class, pairs),
+            Ask::Sleep { station } => self.sleep(station),
+            Ask::Wake { station } => self.wake(station),
+            Ask::Poll { station } => self.poll(station),
+            Ask::Rx {
+                station,
+                class,
+                air,
+            } => self.receive(station, class, air),
+            Ask::Arrive { .. } | Ask::Answer { .. } | Ask::Done { .. } | Ask::Reap =>
+                unreachable!(),
+        }
+    }
+
+    fn pull(&mut self, class: Class, pairs: &mut Pairs) -> Brief
+        requires small { IsSmall self.old }
+        ensures { IsAnswered self.old (Pull class) self.new result pairs.new }
+    {
+        let brief = self.half.pull(class, self.ready.of(class), pairs);
+        if let Brief::Send { station, .. } = brief {
+            self.ready.set(&self.half, station, class);
+        }
+        brief
+    }
+
+    fn tick(&mut self, by: u32) -> Brief
+        requires small { IsSmall self.old }
+        ensures { IsToldBriefly self.old (Tick by) self.new result }
+    {
+        match self.half.tick(by) {
+            Ok(now) => Brief::Ticked { now },
+            Err(reason) => Brief::Refused(reason),
+        }
+    }
+
+    fn rate(&mut self, station: u16, mcs: u8, mhz: u8, short: bool) -> Brief
+        ensures { IsToldBriefly self.old (Rate station mcs mhz short) self.new result }
+    {
+        match self.half.rate(station, mcs, mhz, short) {
+            Ok(()) => Brief::RateSet,
+            Err(reason) => Brief::Refused(reason),
+        }
+    }
+
+    fn receive(&mut self, station: u16, class: Class, air: u32) -> Brief
+        requires small { IsSmall self.old }
+        ensures { IsToldBriefly self.old (Rx station class air) self.new result }
+    {
+        match self.half.receive(station, class, air) {
+            Ok(deficit) => Brief::Charged { deficit },
+            Err(reason) => Brief::Refused(reason),
+        }
+    }
+
+    fn join(&mut self, station: u16, window: u16, start: u16, exponent: u8, weight: u8) -> Brief
+        ensures { IsToldBriefly self.old (Join station window start exponent weight) self.new result }
+    {
+        match self.half.join(station, window, start, exponent, weight) {
+            Ok(()) => {
+                self.ready.set_all(&self.half, station);
+                Brief::Joined
+            }
+            Err(reason) => Brief::Refused(reason),
+        }
+    }
+
+    fn leave(&mut self, station: u16) -> Brief
+        ensures { IsToldBriefly self.old (Leave station) self.new result }
+    {
+        match self.half.leave(station) {
+            Ok(dropped) => {
+                self.ready.set_all(&self.half, station);
+                Brief::Gone { dropped }
+            }
+            Err(reason) => Brief::Refused(reason),
+        }
+    }
+
+    fn sleep(&mut self, station: u16) -> Brief
+        ensures { IsToldBriefly self.old (Sleep station) self.new result }
+    {
+        match self.half.sleep(station) {
+            Ok(()) => {
+                self.ready.set_all(&self.half, station);
+                Brief::Slept
+            }
+            Err(reason) => Brief::Refused(reason),
+        }
+    }
+
+    fn wake(&mut self, station: u16) -> Brief
+        ensures { IsToldBriefly self.old (Wake station) self.new result }
+    {
+        match self.half.wake(station) {
+            Ok(()) => {
+                self.ready.set_all(&self.half, station);
+                Brief::Woken
+            }
+            Err(reason) => Brief::Refused(reason),
+        }
+    }
+
+    fn poll(&mut self, station: u16) -> Brief
+        ensures { IsToldBriefly self.old (Poll station) self.new result }
+    {
+        match self.half.poll(station) {
+            Ok(class) => {
+                self.ready.set_all(&self.half, station);
+                Brief::Credited { class }
+            }
+            Err(reason) => Brief::Refused(reason),
+        }
+    }
+}
+
+// What is answered of a frame that was reaped, if any.
+fn reaped_brief(reaped: &Option<Parcel>) -> Brief
+    ensures { (pairs : List (ℕ × ℕ)) (ids : List ℕ) → reply_with result pairs ids ≡ reaped_reply reaped.now }
+{
+    match reaped {
+        None => Brief::Refused(Refusal::Nothing),
+        Some(parcel) => Brief::Reaped {
+            id: parcel.frame().id(),
+            fate: parcel.frame().fate(),
+        },
+    }
+}
