@@ -1,0 +1,4 @@
+pub mod Hearing
+pub mod Arriving
+pub mod Refusing
+pub mod Answers
