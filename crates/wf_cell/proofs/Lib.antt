@@ -1,0 +1,7 @@
+pub mod Runs
+pub mod Hearing
+pub mod Calls
+pub mod Exchanges
+pub mod Written
+pub mod Steps
+pub mod News

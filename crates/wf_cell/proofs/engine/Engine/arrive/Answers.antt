@@ -1,0 +1,19 @@
+use Rattle.std.proofs.Common.{◌≡◌, ap, sym, ◌∙◌, subst, ℕ, List, Option, Some, None, refl, arith}
+use Rattle.wf_cell.specs.Engines.{EngineValue, IsIn, Meets}
+use Rattle.wf_cell.proofs.Exchanges.{arrive_refused}
+use Rattle.wf_cell.proofs.engine.Engine.arrive.Goals as goal
+
+pub returns-in-Err : goal.returns-in-Err
+returns-in-Err c = λ w bodies i. arrive_refused c.args.self.now w bodies c.args.exchange c.args.index i c.in-Err.reason (c.in-Err.ensures.refused w bodies i)
+
+pub pass_on-requires : goal.pass_on-requires
+pass_on-requires c = record {
+  world = c.requires.world;
+  bodies = c.requires.bodies;
+  is_in = c.requires.is_in;
+  arrives = sym (c.in-Ok.ensures.refused c.requires.world c.requires.bodies c.requires.is_in);
+  told = c.in-Ok.ensures.sent;
+}
+
+pub returns-in-Ok : goal.returns-in-Ok
+returns-in-Ok c = λ w bodies i. c.pass_on.ensures w bodies i (sym (c.in-Ok.ensures.refused w bodies i))

@@ -1,0 +1,149 @@
+//! The cell and its history.
+
+ghost use Rattle.std.specs.Prelude.{◌≡◌, ◌↔◌, ◌+◌, ◌<◌, ◌≤◌, ℕ, [], Err, Some, IfOk, length, slice_get};
+ghost use Rattle.wf_frame.specs.Answers.{reply_of};
+ghost use Rattle.wf_frame.specs.Frames.{FrameValue};
+ghost use Rattle.wf_frame.specs.Settings.{first_out_of_range};
+ghost use Rattle.wf_frame.specs.declared.notes.Refusal.TheVariants.{HistoryFull};
+ghost use Rattle.wf_frame.specs.declared.notes.ReplyNote.TheVariants.{Refused};
+ghost use Rattle.wf_frame.specs.declared.settings.Field.{Field};
+ghost use Rattle.wf_world.specs.Run.{by, world_of};
+ghost use Rattle.wf_world.specs.Step.{step};
+ghost use Rattle.wf_laws.specs.Laws.{Laws};
+ghost use Rattle.wf_laws.specs.Lengths.{HasLengths};
+ghost use Rattle.wf_laws.specs.Queues.{HasLength, IsAtMost};
+ghost use Rattle.wf_rules.specs.Lengths.{greatest_body};
+ghost use Rattle.wf_transmit_refines.specs.Standing.{StandsFor};
+ghost use Rattle.wf_path.specs.Jobs.{bodies_after, frame_of, given_back, note_of};
+ghost use Rattle.wf_cell.specs.Cells.{room_in, with_entry};
+
+use crate::engine::Engine;
+use std::alloc::Global;
+use std::marker::Model;
+use wf_chain::Parcel;
+use wf_frame::{Answer, Brief, Config, Note, Refusal};
+use wf_path::{Job, NewFault, Path};
+
+/// A cell: the transmit path of an access point, the receive halves of its stations, and the history of the calls that were made.
+/// A contract sees the history and what the path keeps; the type keeps that they agree with the machine's run of that history
+/// (`wf_world`). Only `new` takes memory.
+#[derive(Drop)]
+pub struct Cell {
+    engine: Engine,
+    past: Vec<(u32, Note)>,
+}
+
+impl Model for Cell {
+    ghost use Rattle.std.specs.Prelude.{vec_capacity};
+    ghost use Rattle.wf_cell.specs.Cells.{CellValue, IsCell};
+
+    ghost Value = { CellValue };
+
+    ghost view = { λ c. record { past = record { config = c.engine.half.config; history = c.past.items }; half = c.engine.half } };
+
+    ghost invariant = { λ c. IsCell (record { config = c.engine.half.config; history = c.past.items }) c.engine (vec_capacity c.past) };
+}
+
+// The call that a job is, as the history keeps it.
+fn note_of_job(job: &Job) -> Note
+    ensures value { result ≡ note_of job.now }
+    ensures some { HasLength result }
+    ensures most { IsAtMost greatest_body result }
+{
+    match job {
+        Job::Give(parcel) => {
+            let frame = parcel.frame();
+            Note::Enqueue {
+                station: frame.station(),
+                tid: frame.tid(),
+                flow: frame.flow(),
+                len: frame.len(),
+            }
+        }
+        Job::Call(ask) => Note::Asked(*ask),
+    }
+}
+
+impl Cell {
+    /// A cell of these settings: no station is live, and no call was made. Refused as BadConfig where a setting is out of its
+    /// range, with the first such setting, or as NoMemory.
+    pub fn new(alloc: Global, config: Config) -> Result<Cell, NewFault>
+        ensures bad { (f : Field) → (result ≡ Err (NewFault.BadConfig f)) ↔ (first_out_of_range config ≡ Some f) }
+        ensures past { IfOk result (λ made. made.past ≡ record { config = config; history = [] }) }
+    {
+        match Engine::new(alloc, config) {
+            Err(fault) => Err(fault),
+            Ok(engine) => match Vec::with_capacity(alloc, config.calls as usize) {
+                Ok(past) => Ok(Cell { engine, past }),
+                Err(_) => Err(NewFault::NoMemory),
+            },
+        }
+    }
+
+    /// Makes a call and answers it. The call is one entry of the history, refused or not, while the history has fewer entries than
+    /// the setting `calls`; from then on each call is refused as HistoryFull and is no entry.
+    pub fn step(&mut self, caller: u32, job: Job, answer: &mut Answer) -> Option<Parcel>
+        // where there is room, the history has the call, and the answer is the machine's
+        ensures past { 0 < room_in self.old.past → self.new.past ≡ with_entry (by caller (note_of job)) self.old.past }
+        ensures reply { 0 < room_in self.old.past → reply_of answer.new ≡ (step (world_of self.old.past) (note_of job)).reply }
+
+        // the frame that comes back is the one that was refused, or the one that was reaped, as it was accepted but for its fate
+        ensures parcel { 0 < room_in self.old.past → (bodies : ℕ → FrameValue) → StandsFor self.old.half (world_of self.old.past) bodies →
+            result ≡ given_back bodies job (reply_of answer.new) }
+        ensures stands { 0 < room_in self.old.past → (bodies : ℕ → FrameValue) → StandsFor self.old.half (world_of self.old.past) bodies →
+            StandsFor self.new.half (world_of self.new.past) (bodies_after self.old.half job (reply_of answer.new) bodies) }
+
+        // where there is none, nothing changes
+        ensures full { room_in self.old.past ≡ 0 → reply_of answer.new ≡ Refused HistoryFull }
+        ensures unchanged { room_in self.old.past ≡ 0 → self.new ≡ self.old }
+        ensures handed_back { room_in self.old.past ≡ 0 → result ≡ frame_of job }
+
+        // all laws of runs hold of what was done
+        ensures laws { Laws self.new.past.config self.new.past.history }
+    {
+        if self.room() == 0 {
+            answer.brief = Brief::Refused(Refusal::HistoryFull);
+            return job.parcel();
+        }
+        self.past.push_reserved((caller, note_of_job(&job)));
+        self.engine.step(job, answer)
+    }
+
+    /// How many entries the history has.
+    pub fn len(&self) -> u64
+        ensures count { result ≡ length self.now.past.history }
+        ensures most { result ≤ self.now.past.config.calls }
+    {
+        self.past.len() as u64
+    }
+
+    /// An entry of the history, counted from 0: its caller and its call.
+    pub fn entry(&self, i: u64) -> (u32, Note)
+        requires { i < length self.now.past.history }
+        ensures { slice_get self.now.past.history i ≡ Some result }
+    {
+        self.past[i as usize]
+    }
+
+    /// How many entries the history may still take.
+    pub fn room(&self) -> u64
+        ensures { result ≡ room_in self.now.past }
+    {
+        u64::from(self.engine.path.config().calls) - self.past.len() as u64
+    }
+
+    /// The settings.
+    pub fn config(&self) -> Config
+        ensures { result ≡ self.now.past.config }
+    {
+        self.engine.path.config()
+    }
+
+    /// The transmit path. It stands for the world after the history.
+    pub fn path(&self) -> &Path
+        ensures value { result.now ≡ self.now.half }
+        ensures stands { (bodies : ℕ → FrameValue) × StandsFor self.now.half (world_of self.now.past) bodies }
+    {
+        &self.engine.path
+    }
+}

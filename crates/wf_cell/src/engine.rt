@@ -1,0 +1,172 @@
+//! What a cell has beside its history: the path, the receive halves and the marks.
+
+ghost use Rattle.std.specs.Prelude.{◌≡◌, ◌≤◌, ◌↔◌, ℕ, Err, Some, IfOk};
+ghost use Rattle.wf_frame.specs.Frames.{FrameValue};
+ghost use Rattle.wf_frame.specs.Answers.{reply_of};
+ghost use Rattle.wf_frame.specs.Settings.{first_out_of_range};
+ghost use Rattle.wf_frame.specs.declared.notes.Ask.TheVariants.{Join, Pull};
+ghost use Rattle.wf_frame.specs.declared.notes.Note.TheVariants.{Asked};
+ghost use Rattle.wf_frame.specs.declared.settings.Field.{Field};
+ghost use Rattle.wf_world.specs.World.{World, opening};
+ghost use Rattle.wf_transmit_refines.specs.Standing.{StandsFor};
+ghost use Rattle.wf_path.specs.Paths.{IsSmall};
+ghost use Rattle.wf_cell.specs.Engines.{HasWorld, IsDone, IsIn, Meets};
+
+use crate::peers::Peers;
+use std::alloc::{AllocError, Global};
+use std::marker::Model;
+use wf_chain::Parcel;
+use wf_frame::{Answer, Ask, Brief, Class, Config};
+use wf_marks::Marks;
+use wf_path::{Job, NewFault, Path};
+use wf_seq12::Seq12;
+
+/// The most octets of one transmission: a header of 26 and a body of 2304.
+pub(crate) const LONGEST: usize = 2330;
+
+/// The path, the receive half of each station and the marks of the open exchanges. A contract says of a call what it makes of each
+/// world that they stand for. Only `new` takes memory.
+#[derive(Drop)]
+pub(crate) struct Engine {
+    pub(crate) path: Path,
+    pub(crate) peers: Peers,
+    pub(crate) marks: Marks,
+    /// The octets of a transmission that is on the air.
+    pub(crate) octets: [u8; LONGEST],
+}
+
+impl Model for Engine {
+    ghost use Rattle.wf_cell.specs.Engines.{EngineValue};
+
+    ghost Value = { EngineValue };
+
+    ghost view = { λ e. record { half = e.path; peers = e.peers; marks = e.marks } };
+}
+
+impl Engine {
+    /// An engine of these settings, which stands for the opening world. Refused as `Path::new`.
+    pub(crate) fn new(alloc: Global, config: Config) -> Result<Engine, NewFault>
+        ensures bad { (f : Field) → (result ≡ Err (NewFault.BadConfig f)) ↔ (first_out_of_range config ≡ Some f) }
+        ensures is_in { IfOk result (λ made. (bodies : ℕ → FrameValue) → IsIn made (opening config) bodies) }
+    {
+        match Path::new(alloc, config) {
+            Err(fault) => Err(fault),
+            Ok(path) => match Engine::over(alloc, path) {
+                Ok(engine) => Ok(engine),
+                Err(_) => Err(NewFault::NoMemory),
+            },
+        }
+    }
+
+    // A new path, with new receive halves and no mark.
+    fn over(alloc: Global, path: Path) -> Result<Engine, AllocError>
+        requires { path.config.stations ≤ 256 }
+        ensures { IfOk result (λ made. (bodies : ℕ → FrameValue) → StandsFor path (opening path.config) bodies →
+            IsIn made (opening path.config) bodies) }
+    {
+        let peers = Peers::new(alloc, path.config().stations)?;
+        let marks = Marks::new(alloc)?;
+        Ok(Engine {
+            path,
+            peers,
+            marks,
+            octets: [0; LONGEST],
+        })
+    }
+
+    /// Makes a call and answers it. A frame comes back exactly where it was refused, or reaped.
+    pub(crate) fn step(&mut self, job: Job, answer: &mut Answer) -> Option<Parcel>
+        requires some { HasWorld self.old }
+        requires small { IsSmall self.old.half }
+        ensures { (w : World) (bodies : ℕ → FrameValue) → IsIn self.old w bodies →
+            IsDone w bodies job self.old.half self.new (reply_of answer.new) result }
+    {
+        match job {
+            Job::Give(parcel) => self.path.call(Job::Give(parcel), answer),
+            Job::Call(ask) => self.ask(ask, answer),
+        }
+    }
+
+    // A call that brings no frame.
+    fn ask(&mut self, ask: Ask, answer: &mut Answer) -> Option<Parcel>
+        requires some { HasWorld self.old }
+        requires small { IsSmall self.old.half }
+        ensures { (w : World) (bodies : ℕ → FrameValue) → IsIn self.old w bodies →
+            IsDone w bodies (Job.Call ask) self.old.half self.new (reply_of answer.new) result }
+    {
+        match ask {
+            Ask::Arrive { exchange, index } => {
+                self.arrive(exchange, index, answer);
+                None
+            }
+            Ask::Answer { exchange } => {
+                self.answer(exchange, answer);
+                None
+            }
+            Ask::Done { exchange, heard } => {
+                self.done(exchange, heard, answer);
+                None
+            }
+            Ask::Join {
+                station,
+                window,
+                start,
+                exponent,
+                weight,
+            } => {
+                self.join(station, window, start, exponent, weight, answer);
+                None
+            }
+            Ask::Pull { class } => {
+                self.pull(class, answer);
+                None
+            }
+            _ => self.path.call(Job::Call(ask), answer),
+        }
+    }
+
+    // A station joins: its receive half is new.
+    fn join(
+        &mut self,
+        station: u16,
+        window: u16,
+        start: u16,
+        exponent: u8,
+        weight: u8,
+        answer: &mut Answer,
+    )
+        requires some { HasWorld self.old }
+        requires small { IsSmall self.old.half }
+        ensures { (w : World) (bodies : ℕ → FrameValue) → IsIn self.old w bodies →
+            Meets w bodies (Asked (Join station window start exponent weight)) self.new (reply_of answer.new) }
+    {
+        let ask = Ask::Join {
+            station,
+            window,
+            start,
+            exponent,
+            weight,
+        };
+        let _ = self.path.call(Job::Call(ask), answer);
+        match answer.brief {
+            Brief::Joined => self
+                .peers
+                .reset(station, Seq12::of(u64::from(start)), window),
+            _ => {}
+        }
+    }
+
+    // The next exchange of a class opens: it has a mark.
+    fn pull(&mut self, class: Class, answer: &mut Answer)
+        requires some { HasWorld self.old }
+        requires small { IsSmall self.old.half }
+        ensures { (w : World) (bodies : ℕ → FrameValue) → IsIn self.old w bodies →
+            Meets w bodies (Asked (Pull class)) self.new (reply_of answer.new) }
+    {
+        let _ = self.path.call(Job::Call(Ask::Pull { class }), answer);
+        match answer.brief {
+            Brief::Send { exchange, .. } => self.marks.open(exchange),
+            _ => {}
+        }
+    }
+}

@@ -1,0 +1,118 @@
+//! The receive halves of all stations.
+
+ghost use Rattle.std.specs.Prelude.{◌≡◌, ℕ, ◌<◌, ◌≤◌, [], length, nat_lt, IfOk};
+ghost use Rattle.wf_peer.specs.Agreements.{new_peer};
+ghost use Rattle.wf_receive_refines.specs.Arriving.{buffer_outcome, peer_after};
+ghost use Rattle.wf_world.specs.World.{Content};
+ghost use Rattle.wf_receive_refines.specs.Hearing.{AreNew, agreement_of, peer_of, with_peer};
+ghost use Rattle.wf_cell.specs.Octets.{IsSent, IsSentTo};
+
+use std::alloc::{AllocError, Global};
+use std::marker::Model;
+use wf_bits::Bits256;
+use wf_blockack::{decode_ba, decode_wide};
+use wf_frame::Ids;
+use wf_marks::widened;
+use wf_peer::Peer;
+use wf_seq12::Seq12;
+
+/// The octets of a BlockAck of 256 numbers.
+const WIDE: usize = 52;
+
+/// What a station's BlockAck says.
+#[derive(Clone, Copy, Debug)]
+pub(crate) struct BlockAck {
+    /// The first number that it tells of.
+    pub(crate) start: Seq12,
+    /// How far past the start each number stands that arrived.
+    pub(crate) bits: Bits256,
+    /// It tells of 256 numbers, and not of 64.
+    pub(crate) wide: bool,
+}
+
+/// The receive half of each station, by its number. A contract sees them as a list. Only `new` takes memory.
+#[derive(Drop)]
+pub(crate) struct Peers {
+    list: Vec<Peer>,
+}
+
+impl Model for Peers {
+    ghost use Rattle.std.specs.Prelude.{List};
+    ghost use Rattle.wf_peer.specs.Agreements.{PeerValue};
+
+    ghost Value = { List PeerValue };
+
+    ghost view = { λ p. p.list.items };
+}
+
+impl Peers {
+    /// The receive halves of so many stations, to which nothing came.
+    pub(crate) fn new(alloc: Global, stations: u32) -> Result<Peers, AllocError>
+        requires { stations ≤ 256 }
+        ensures { IfOk result (λ made. AreNew stations made) }
+    {
+        let mut list = Vec::with_capacity(alloc, stations as usize)?;
+        for station in 0..stations as u16 {
+            list.push_reserved(Peer::new(alloc, station)?);
+        }
+        Ok(Peers { list })
+    }
+
+    /// The receive half of a station that joins: its first number, and its window of 1 to 256 numbers.
+    pub(crate) fn reset(&mut self, station: u16, start: Seq12, size: u16)
+        requires within { station < length self.old }
+        requires size { (1 ≤ size) × (size ≤ 256) }
+        ensures { self.new ≡ with_peer station (new_peer (peer_of self.old station).station start size) self.old }
+    {
+        self.list[usize::from(station)].reset(start, size);
+    }
+
+    /// Octets that are for this station reach it. The ids of the frames that it passes up go into `up`, which must be empty.
+    pub(crate) fn receive(&mut self, station: u16, octets: &[u8], id: u64, up: &mut Ids)
+        requires within { station < length self.old }
+        requires sent { IsSent (peer_of self.old station).station octets.now }
+        requires empty { up.old ≡ [] }
+        ensures heard { (tid i : ℕ) (content : Content) → IsSentTo (peer_of self.old station).station tid i content octets.now →
+            self.new ≡ with_peer station (peer_after tid i id content (peer_of self.old station)) self.old }
+        ensures up { (tid i : ℕ) (content : Content) → IsSentTo (peer_of self.old station).station tid i content octets.now →
+            up.new ≡ (buffer_outcome i id content (agreement_of self.old station tid).buffer).up }
+    {
+        if self.list[usize::from(station)]
+            .receive(octets, id, up)
+            .is_err()
+        {
+            unreachable!();
+        }
+    }
+
+    /// What a station's BlockAck of a traffic identifier below 8 says, written and read back.
+    pub(crate) fn answer(&self, station: u16, tid: u8) -> BlockAck
+        requires within { station < length self.now }
+        requires tid { tid < 8 }
+        ensures start { result.start ≡ (agreement_of self.now station tid).board.start }
+        ensures bits { result.bits ≡ (agreement_of self.now station tid).board.offsets }
+        ensures wide { result.wide ≡ nat_lt 64 (agreement_of self.now station tid).board.size }
+    {
+        let mut octets = [0; WIDE];
+        let len = self.list[usize::from(station)].answer(tid, &mut octets);
+        if len == WIDE {
+            match decode_wide(&octets[..len]) {
+                Ok(ba) => BlockAck {
+                    start: ba.start,
+                    bits: ba.bits,
+                    wide: true,
+                },
+                Err(_) => unreachable!(),
+            }
+        } else {
+            match decode_ba(&octets[..len]) {
+                Ok(ba) => BlockAck {
+                    start: ba.start,
+                    bits: widened(ba.bits),
+                    wide: false,
+                },
+                Err(_) => unreachable!(),
+            }
+        }
+    }
+}
