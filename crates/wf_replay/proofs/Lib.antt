@@ -1,5 +1,6 @@
 pub mod Shapes
 pub mod Replays
+pub mod Sendings
 pub mod Complete
 pub mod Ranges
 pub mod Numerals

@@ -1,6 +1,6 @@
 -- A replay so far, and what each way out of it says.
 use Rattle.std.proofs.Common.{inl, inr, ◌+◌, arith, ◌≡◌, ℕ, ◌≤◌, List, [], ◌∷◌, ◌++◌, length, take, drop, Bool, true, false, refl, sym, ◌∙◌, ap, subst, append_assoc, append-nil}
-use Rattle.std.specs.Prelude.{Option, Some, None, Result, Ok, Err, IsSome}
+use Rattle.std.specs.Prelude.{Option, Some, None, Result, Ok, Err, IsSome, IsOk}
 use Rattle.std.specs.Io.KnownBytes.{prepend_known, append_known, IsAtEnd}
 use Rattle.std.proofs.lemmas.List.{take-append-drop}
 use Rattle.wf_io.specs.declared.source.Failed.{Failed}
@@ -21,6 +21,7 @@ use Rattle.wf_trace.specs.Faults.{fault_line}
 use Rattle.wf_replay.specs.Texts.{history_among, text}
 use Rattle.wf_report.specs.Fronts.{HoldsFront}
 use Rattle.wf_replay.specs.Running.{Progress, behind_item, text_of_item, closing}
+use Rattle.wf_replay.specs.Sending.{Leaves}
 use Rattle.wf_status.specs.Fronts.{IsFrontOf}
 use Rattle.wf_replay.specs.Outcome.{StatusSays, ReachesEnd}
 use Rattle.wf_replay.proofs.Shapes.{answers_from, behind_items, told_text, answers_told, text_told}
@@ -58,20 +59,22 @@ text-with items m r leads =
     rw (answers_from-append None items r.items, behind_items-append None items r.items, history_among-append items r.items, leads.world_is, leads.counted)
     (append_assoc (answers_from None items) (answers_from m.world r.items) (closing (behind_items m.world r.items) (m.calls + length (history_among r.items)) r.ending))
 
--- Octets were taken and octets written, for the items so far.
-pub record Replaying (reader : Reader) (m : Progress) (left left_now held held_now : Option (List ℕ)) : Type 0 where
+-- Octets were taken, and octets written for the items so far, behind which others wait.
+pub record Replaying (reader : Reader) (m : Progress) (left left_now held held_now : Option (List ℕ)) (waiting : List ℕ) : Type 0 where
   pub items : List Item
   pub taken : List ℕ
   pub took : left ≡ prepend_known taken left_now
   pub same : (closed : Bool) (more : List ℕ) → Fits reader.cut.cutter.ended left_now closed more → reading closed (taken ++ more) ≡ with_items items (rest reader closed more)
-  pub wrote : held_now ≡ append_known held (answers_from None items)
+  pub written : List ℕ
+  pub wrote : held_now ≡ append_known held written
+  pub answers : answers_from None items ≡ written ++ waiting
   pub leads : LeadsTo items m
 
 pub append_known-nil : (held : Option (List ℕ)) → held ≡ append_known held []
 append_known-nil None = refl
 append_known-nil (Some xs) = ap Some (sym (append-nil xs))
 
-append_known-append : (held : Option (List ℕ)) (one two : List ℕ) → append_known (append_known held one) two ≡ append_known held (one ++ two)
+pub append_known-append : (held : Option (List ℕ)) (one two : List ℕ) → append_known (append_known held one) two ≡ append_known held (one ++ two)
 append_known-append None one two = refl
 append_known-append (Some xs) one two = ap Some (append_assoc xs one two)
 
@@ -97,30 +100,34 @@ fits_rest : (end : Option End) (left : List ℕ) → Fits end (Some left) true l
 fits_rest None left = tt
 fits_rest (Some end) left = (refl, refl)
 
-pub replaying_none : (reader : Reader) (left held : Option (List ℕ)) → ((closed : Bool) (octets : List ℕ) → rest reader closed octets ≡ reading closed octets) → Replaying reader (record { world = None; calls = 0 }) left left held held
+pub replaying_none : (reader : Reader) (left held : Option (List ℕ)) → ((closed : Bool) (octets : List ℕ) → rest reader closed octets ≡ reading closed octets) → Replaying reader (record { world = None; calls = 0 }) left left held held []
 replaying_none reader left held is = record {
   items = [];
   taken = [];
   took = prepend_known-nil left;
   same = λ closed more fits. sym (is closed more);
+  written = [];
   wrote = append_known-nil held;
+  answers = refl;
   leads = record { world_is = refl; counted = refl };
 }
 
 -- a call of the reader took octets
-pub record Turned (result : Result Item Failed) (new : Reader) (m : Progress) (left left_new held held_now : Option (List ℕ)) : Type 0 where
+pub record Turned (result : Result Item Failed) (new : Reader) (m : Progress) (left left_new held held_now : Option (List ℕ)) (waiting : List ℕ) : Type 0 where
   pub items : List Item
   pub taken : List ℕ
   pub took : left ≡ prepend_known taken left_new
   pub gives : (closed : Bool) (more : List ℕ) → Fits new.cut.cutter.ended left_new closed more →
       (r : Reading) × (reading closed (taken ++ more) ≡ with_items items r) × Gives result new r (rest new closed more)
-  pub wrote : held_now ≡ append_known held (answers_from None items)
+  pub written : List ℕ
+  pub wrote : held_now ≡ append_known held written
+  pub answers : answers_from None items ≡ written ++ waiting
   pub leads : LeadsTo items m
 
-pub turned : (old new : Reader) (m : Progress) (left left_now left_new held held_now : Option (List ℕ)) (result : Result Item Failed) (octets : List ℕ) →
-    Replaying old m left left_now held held_now → Reads old left_now result new left_new octets → (IsSome old.cut.cutter.ended → IsSome new.cut.cutter.ended) →
-    Turned result new m left left_new held held_now
-turned old new m left left_now left_new held held_now result octets so_far reads sticky = record {
+pub turned : (old new : Reader) (m : Progress) (left left_now left_new held held_now : Option (List ℕ)) (waiting : List ℕ) (result : Result Item Failed) (octets : List ℕ) →
+    Replaying old m left left_now held held_now waiting → Reads old left_now result new left_new octets → (IsSome old.cut.cutter.ended → IsSome new.cut.cutter.ended) →
+    Turned result new m left left_new held held_now waiting
+turned old new m left left_now left_new held held_now waiting result octets so_far reads sticky = record {
   items = so_far.items;
   taken = so_far.taken ++ octets;
   took = so_far.took ∙ ap (prepend_known so_far.taken) reads.taken ∙ prepend_known-append so_far.taken octets left_new;
@@ -129,7 +136,9 @@ turned old new m left left_now left_new held held_now result octets so_far reads
     ap (reading closed) (append_assoc so_far.taken octets more) ∙ so_far.same closed (octets ++ more) (fits_back old.cut.cutter.ended new.cut.cutter.ended left_now left_new octets closed more sticky reads.taken fits),
     reads.gives closed more fits,
   );
+  written = so_far.written;
   wrote = so_far.wrote;
+  answers = so_far.answers;
   leads = so_far.leads;
 }
 
@@ -156,27 +165,37 @@ leads_entry items m caller note leads = record {
   counted = history_among-append items (Entry caller note ∷ []) ∙ let is = leads.counted in omega arith;
 }
 
-pub with_head : (new : Reader) (m : Progress) (left left_new held held_now : Option (List ℕ)) (config : Config) →
-    Turned (Ok (Head config)) new m left left_new held held_now → m.calls ≡ 0 → Replaying new (begun config) left left_new held held_now
-with_head new m left left_new held held_now config t none = record {
+pub with_head : (new : Reader) (m : Progress) (left left_new held held_now : Option (List ℕ)) (waiting : List ℕ) (config : Config) →
+    Turned (Ok (Head config)) new m left left_new held held_now waiting → m.calls ≡ 0 → Replaying new (begun config) left left_new held held_now waiting
+with_head new m left left_new held held_now waiting config t none = record {
   items = t.items ++ Head config ∷ [];
   taken = t.taken;
   took = t.took;
   same = λ closed more fits. let g = t.gives closed more fits in g.1 ∙ ap (with_items t.items) g.2 ∙ with_items-more t.items (Head config) (rest new closed more);
-  wrote = t.wrote ∙ ap (append_known held) (sym (answers_from-append None t.items (Head config ∷ []) ∙ append-nil (answers_from None t.items)));
+  written = t.written;
+  wrote = t.wrote;
+  answers = answers_from-append None t.items (Head config ∷ []) ∙ append-nil (answers_from None t.items) ∙ t.answers;
   leads = leads_head t.items m config t.leads none;
 }
 
-pub with_entry : (new : Reader) (m : Progress) (left left_new held held_now held_new : Option (List ℕ)) (caller : ℕ) (note : Note) (line : List ℕ) →
-    Turned (Ok (Entry caller note)) new m left left_new held held_now → line ≡ text_of_item m.world (Entry caller note) → held_new ≡ append_known held_now line →
-    Replaying new (gone_on m caller note) left left_new held held_new
-with_entry new m left left_new held held_now held_new caller note line t is wrote = record {
+-- a line behind what waits
+line_behind : (line : List ℕ) (written waiting some rest answers : List ℕ) → answers ≡ written ++ waiting → waiting ++ line ≡ some ++ rest → answers ++ line ≡ (written ++ some) ++ rest
+line_behind line written waiting some rest answers is left =
+    ap (λ l. l ++ line) is ∙ append_assoc written waiting line ∙ ap (λ l. written ++ l) left ∙ sym (append_assoc written some rest)
+
+pub with_entry : (new : Reader) (m : Progress) (left left_new held held_now held_new : Option (List ℕ)) (waiting left_over : List ℕ) (caller : ℕ) (note : Note) (line : List ℕ) →
+    Turned (Ok (Entry caller note)) new m left left_new held held_now waiting → line ≡ text_of_item m.world (Entry caller note) → Leaves held_now held_new (waiting ++ line) left_over →
+    Replaying new (gone_on m caller note) left left_new held held_new left_over
+with_entry new m left left_new held held_now held_new waiting left_over caller note line t is some = record {
   items = t.items ++ Entry caller note ∷ [];
   taken = t.taken;
   took = t.took;
   same = λ closed more fits. let g = t.gives closed more fits in g.1 ∙ ap (with_items t.items) g.2 ∙ with_items-more t.items (Entry caller note) (rest new closed more);
-  wrote = wrote ∙ ap (λ h. append_known h line) t.wrote ∙ append_known-append held (answers_from None t.items) line
-      ∙ ap (append_known held) (sym (answers_from-append None t.items (Entry caller note ∷ []) ∙ ap (λ l. answers_from None t.items ++ l) (append-nil (text_of_item (behind_items None t.items) (Entry caller note)) ∙ ap (λ w. text_of_item w (Entry caller note)) t.leads.world_is ∙ sym is)));
+  written = t.written ++ some.written;
+  wrote = some.holds ∙ ap (λ h. append_known h some.written) t.wrote ∙ append_known-append held t.written some.written;
+  answers = answers_from-append None t.items (Entry caller note ∷ [])
+      ∙ ap (λ l. answers_from None t.items ++ l) (append-nil (text_of_item (behind_items None t.items) (Entry caller note)) ∙ ap (λ w. text_of_item w (Entry caller note)) t.leads.world_is ∙ sym is)
+      ∙ line_behind line t.written waiting some.written left_over (answers_from None t.items) t.answers some.is;
   leads = leads_entry t.items m caller note t.leads;
 }
 
@@ -209,48 +228,56 @@ pub ended_at_once : (left held : Option (List ℕ)) → Ended NoMemory left left
 ended_at_once left held = ([], [], prepend_known-nil left, append_known-nil held, λ input is. (told_text (reading true input), refl))
 
 -- the whole reading, as far as it is known
-whole : (result : Result Item Failed) (new : Reader) (m : Progress) (left left_new held held_now : Option (List ℕ)) (t : Turned result new m left left_new held held_now) →
+whole : (result : Result Item Failed) (new : Reader) (m : Progress) (left left_new held held_now : Option (List ℕ)) (waiting : List ℕ) (t : Turned result new m left left_new held held_now waiting) →
     (input : List ℕ) → left ≡ Some input → (r : Reading) × (more : List ℕ) × (left_new ≡ Some more) × (reading true input ≡ with_items t.items r) × Gives result new r (rest new true more)
-whole result new m left left_new held held_now t input is =
+whole result new m left left_new held held_now waiting t input is =
     let known = told t.taken left_new input (sym is ∙ t.took) in
     let fits : Fits new.cut.cutter.ended left_new true known.0 = subst (λ (l : Option (List ℕ)). Fits new.cut.cutter.ended l true known.0) (sym known.1) (fits_rest new.cut.cutter.ended known.0) in
     let g = t.gives true known.0 fits in
     (g.0, known.0, known.1, ap (reading true) known.2 ∙ g.1, g.2)
 
-front : (items : List Item) (m : Progress) (r s : Reading) → LeadsTo items m → s ≡ with_items items r → IsFrontOf (answers_from None items) (told_text s)
-front items m r s leads same = (text_from m r, ap told_text same ∙ text-with items m r leads)
+front : (items : List Item) (m : Progress) (r s : Reading) (written waiting : List ℕ) → LeadsTo items m → answers_from None items ≡ written ++ waiting → s ≡ with_items items r → IsFrontOf written (told_text s)
+front items m r s written waiting leads is same = (
+  waiting ++ text_from m r,
+  ap told_text same ∙ text-with items m r leads ∙ ap (λ l. l ++ text_from m r) is ∙ append_assoc written waiting (text_from m r),
+)
 
-pub ended_no_memory : (new : Reader) (m : Progress) (left left_new held held_now : Option (List ℕ)) (result : Result Item Failed) →
-    Turned result new m left left_new held held_now → Ended NoMemory left left_new held held_now
-ended_no_memory new m left left_new held held_now result t = (
+pub ended_no_memory : (new : Reader) (m : Progress) (left left_new held held_now : Option (List ℕ)) (waiting : List ℕ) (result : Result Item Failed) →
+    Turned result new m left left_new held held_now waiting → Ended NoMemory left left_new held held_now
+ended_no_memory new m left left_new held held_now waiting result t = (
   t.taken,
-  answers_from None t.items,
+  t.written,
   t.took,
   t.wrote,
-  λ input is. let w = whole result new m left left_new held held_now t input is in front t.items m w.0 (reading true input) t.leads w.3,
+  λ input is. let w = whole result new m left left_new held held_now waiting t input is in front t.items m w.0 (reading true input) t.written waiting t.leads t.answers w.3,
 )
 
 -- the source failed: nothing that was taken ends a line
 nothing : (r : Reader) → IsHeld r → rest r false [] ≡ record { items = []; ending = None }
 nothing r held = rw (held.open_, held.cut.open_, held.cut.going, held.cut.given, held.cut.waiting) refl
 
-pub ended_read : (new : Reader) (m : Progress) (left left_new held held_now : Option (List ℕ)) (failed : Failed) →
-    Turned (Err failed) new m left left_new held held_now → IsHeld new → Ended ReadFault left left_new held held_now
-ended_read new m left left_new held held_now failed t still = (
+pub ended_read : (new : Reader) (m : Progress) (left left_new held held_now : Option (List ℕ)) (waiting : List ℕ) (failed : Failed) →
+    Turned (Err failed) new m left left_new held held_now waiting → waiting ≡ [] → IsHeld new → Ended ReadFault left left_new held held_now
+ended_read new m left left_new held held_now waiting failed t none still = (
   t.taken,
-  answers_from None t.items,
+  t.written,
   t.took,
   t.wrote,
-  λ input is. let w = whole (Err failed) new m left left_new held held_now t input is in
+  λ input is. let w = whole (Err failed) new m left left_new held held_now waiting t input is in
       let fits : Fits new.cut.cutter.ended left_new false [] = subst (λ (e : Option End). Fits e left_new false []) (sym still.cut.going) tt in
       let g = t.gives false [] fits in
       let all : reading false t.taken ≡ with_items t.items (record { items = []; ending = None })
       = ap (reading false) (sym (append-nil t.taken)) ∙ g.1 ∙ ap (with_items t.items) (g.2 ∙ nothing new still) in (
         ap (λ (r : Reading). r.ending) all,
-        sym (ap (λ (r : Reading). answers_from None r.items) all ∙ ap (answers_from None) (append-nil t.items)),
-        front t.items m w.0 (reading true input) t.leads w.3,
+        sym (ap (λ (r : Reading). answers_from None r.items) all ∙ ap (answers_from None) (append-nil t.items) ∙ t.answers ∙ ap (λ l. t.written ++ l) none ∙ append-nil t.written),
+        front t.items m w.0 (reading true input) t.written waiting t.leads t.answers w.3,
       ),
 )
+
+-- nothing waits where the source was read
+pub none_waits : {P : Type 0} (will : Bool) (failed : Failed) (waiting : List ℕ) → (will ≡ true → waiting ≡ []) → (will ≡ false → P × (let r : Result Item Failed = Err failed in IsOk r)) → waiting ≡ []
+none_waits true failed waiting reads quiet = reads refl
+none_waits false failed waiting reads quiet = absurd (let never = (quiet refl).1 in cc)
 
 -- the line that an item adds, and what follows it
 abbrev pub line_at : Progress → Item → List ℕ
@@ -293,39 +320,48 @@ abbrev pub Front : Option (List ℕ) → Option (List ℕ) → Option (List ℕ)
 Front left left_new held held_new = (taken written : List ℕ) × (left ≡ prepend_known taken left_new) × (held_new ≡ append_known held written)
     × ((input : List ℕ) → left ≡ Some input → IsFrontOf written (told_text (reading true input)))
 
-ended_front : (new : Reader) (m : Progress) (left left_new held held_now held_new : Option (List ℕ)) (item : Item) (line : List ℕ) →
-    Turned (Ok item) new m left left_new held held_now → line ≡ line_at m item → HoldsFront held_now held_new line → Front left left_new held held_new
-ended_front new m left left_new held held_now held_new item line t is some = (
+ended_front : (new : Reader) (m : Progress) (left left_new held held_now held_new : Option (List ℕ)) (waiting : List ℕ) (item : Item) (line : List ℕ) →
+    Turned (Ok item) new m left left_new held held_now waiting → line ≡ line_at m item → HoldsFront held_now held_new (waiting ++ line) → Front left left_new held held_new
+ended_front new m left left_new held held_now held_new waiting item line t is some = (
   t.taken,
-  answers_from None t.items ++ some.written,
+  t.written ++ some.written,
   t.took,
-  some.holds ∙ ap (λ h. append_known h some.written) t.wrote ∙ append_known-append held (answers_from None t.items) some.written,
-  λ input told_is. let w = whole (Ok item) new m left left_new held held_now t input told_is in
+  some.holds ∙ ap (λ h. append_known h some.written) t.wrote ∙ append_known-append held t.written some.written,
+  λ input told_is. let w = whole (Ok item) new m left left_new held held_now waiting t input told_is in
       let first = line_first m item new w.0 (rest new true w.1) (λ e. rest_ended new item true w.1 e) w.4 in
       let all : told_text (reading true input) ≡ answers_from None t.items ++ (line ++ first.0)
       = ap told_text w.3 ∙ text-with t.items m w.0 t.leads ∙ ap (λ l. answers_from None t.items ++ l) (first.1 ∙ ap (λ l. l ++ first.0) (sym is)) in
-      let off = cut_off (answers_from None t.items) line first.0 some.written some.rest some.is in
-      (off.0, all ∙ off.1),
+      let behind : answers_from None t.items ++ (line ++ first.0) ≡ t.written ++ ((waiting ++ line) ++ first.0)
+      = ap (λ l. l ++ (line ++ first.0)) t.answers ∙ append_assoc t.written waiting (line ++ first.0) ∙ ap (λ l. t.written ++ l) (sym (append_assoc waiting line first.0)) in
+      let off = cut_off t.written (waiting ++ line) first.0 some.written some.rest some.is in
+      (off.0, all ∙ behind ∙ off.1),
 )
 
-pub ended_write : (new : Reader) (m : Progress) (left left_new held held_now held_new : Option (List ℕ)) (item : Item) (line : List ℕ) →
-    Turned (Ok item) new m left left_new held held_now → line ≡ line_at m item → HoldsFront held_now held_new line → Ended WriteFault left left_new held held_new
-ended_write new m left left_new held held_now held_new item line t is some = ended_front new m left left_new held held_now held_new item line t is some
+pub ended_write : (new : Reader) (m : Progress) (left left_new held held_now held_new : Option (List ℕ)) (waiting : List ℕ) (item : Item) (line : List ℕ) →
+    Turned (Ok item) new m left left_new held held_now waiting → line ≡ line_at m item → HoldsFront held_now held_new (waiting ++ line) → Ended WriteFault left left_new held held_new
+ended_write new m left left_new held held_now held_new waiting item line t is some = ended_front new m left left_new held held_now held_new waiting item line t is some
 
-pub ended_unwritten : (new : Reader) (m : Progress) (left left_new held held_now held_new : Option (List ℕ)) (item : Item) (line : List ℕ) →
-    Turned (Ok item) new m left left_new held held_now → line ≡ line_at m item → HoldsFront held_now held_new line → Ended NoMemory left left_new held held_new
-ended_unwritten new m left left_new held held_now held_new item line t is some = ended_front new m left left_new held held_now held_new item line t is some
+pub ended_unwritten : (new : Reader) (m : Progress) (left left_new held held_now held_new : Option (List ℕ)) (waiting : List ℕ) (item : Item) (line : List ℕ) →
+    Turned (Ok item) new m left left_new held held_now waiting → line ≡ line_at m item → HoldsFront held_now held_new (waiting ++ line) → Ended NoMemory left left_new held held_new
+ended_unwritten new m left left_new held held_now held_new waiting item line t is some = ended_front new m left left_new held held_now held_new waiting item line t is some
+
+-- all that waits was written, and a line behind it
+all_written : (held held_now held_new : Option (List ℕ)) (written waiting line answers : List ℕ) → held_now ≡ append_known held written → answers ≡ written ++ waiting →
+    held_new ≡ append_known held_now (waiting ++ line) → held_new ≡ append_known held (answers ++ line)
+all_written held held_now held_new written waiting line answers before is wrote =
+    wrote ∙ ap (λ h. append_known h (waiting ++ line)) before ∙ append_known-append held written (waiting ++ line)
+    ∙ ap (append_known held) (sym (append_assoc written waiting line) ∙ ap (λ l. l ++ line) (sym is))
 
 -- the last line was written
-pub ended_done : (new : Reader) (m : Progress) (left left_new held held_now held_new : Option (List ℕ)) (line : List ℕ) →
-    Turned (Ok Finish) new m left left_new held held_now → line ≡ closing m.world m.calls (Some Finish) → held_new ≡ append_known held_now line →
+pub ended_done : (new : Reader) (m : Progress) (left left_new held held_now held_new : Option (List ℕ)) (waiting line : List ℕ) →
+    Turned (Ok Finish) new m left left_new held held_now waiting → line ≡ closing m.world m.calls (Some Finish) → held_new ≡ append_known held_now (waiting ++ line) →
     (IsSome new.cut.cutter.ended → IsAtEnd left_new) → Ended Done left left_new held held_new
-ended_done new m left left_new held held_now held_new line t is wrote over = (
+ended_done new m left left_new held held_now held_new waiting line t is wrote over = (
   t.taken,
   answers_from None t.items ++ line,
   t.took,
-  wrote ∙ ap (λ h. append_known h line) t.wrote ∙ append_known-append held (answers_from None t.items) line,
-  λ input told_is. let w = whole (Ok Finish) new m left left_new held held_now t input told_is in
+  all_written held held_now held_new t.written waiting line (answers_from None t.items) t.wrote t.answers wrote,
+  λ input told_is. let w = whole (Ok Finish) new m left left_new held held_now waiting t input told_is in
       let r_is : w.0 ≡ reading_that_ends Finish = w.4.1 ∙ rest_ended new Finish true w.1 w.4.0 in (
         ap (λ (r : Reading). r.ending) (w.3 ∙ ap (with_items t.items) r_is),
         reaches new.cut.cutter.ended refl input told_is,
@@ -343,14 +379,14 @@ ended_done new m left left_new held held_now held_new line t is wrote over = (
         let nothing : known.0 ≡ [] = subst (λ (l : Option (List ℕ)). IsAtEnd l) known.1 (over (subst (λ (e : Option End). IsSome e) (sym ended) refl)) in
         inr (sym (known.2 ∙ ap (λ l. t.taken ++ l) nothing ∙ append-nil t.taken))
 
-pub ended_bad : (new : Reader) (m : Progress) (left left_new held held_now held_new : Option (List ℕ)) (fault : Fault) (line : List ℕ) →
-    Turned (Ok (Bad fault)) new m left left_new held held_now → line ≡ fault_line fault → held_new ≡ append_known held_now line → Ended BadTrace left left_new held held_new
-ended_bad new m left left_new held held_now held_new fault line t is wrote = (
+pub ended_bad : (new : Reader) (m : Progress) (left left_new held held_now held_new : Option (List ℕ)) (waiting : List ℕ) (fault : Fault) (line : List ℕ) →
+    Turned (Ok (Bad fault)) new m left left_new held held_now waiting → line ≡ fault_line fault → held_new ≡ append_known held_now (waiting ++ line) → Ended BadTrace left left_new held held_new
+ended_bad new m left left_new held held_now held_new waiting fault line t is wrote = (
   t.taken,
   answers_from None t.items ++ line,
   t.took,
-  wrote ∙ ap (λ h. append_known h line) t.wrote ∙ append_known-append held (answers_from None t.items) line,
-  λ input told_is. let w = whole (Ok (Bad fault)) new m left left_new held held_now t input told_is in
+  all_written held held_now held_new t.written waiting line (answers_from None t.items) t.wrote t.answers wrote,
+  λ input told_is. let w = whole (Ok (Bad fault)) new m left left_new held held_now waiting t input told_is in
       let r_is : w.0 ≡ reading_that_ends (Bad fault) = w.4.1 ∙ rest_ended new (Bad fault) true w.1 w.4.0 in (
         fault,
         ap (λ (r : Reading). r.ending) (w.3 ∙ ap (with_items t.items) r_is),

@@ -1,5 +1,6 @@
 pub mod Texts
 pub mod Running
+pub mod Sending
 pub mod Outcome
 pub mod Laws
 pub mod Commands

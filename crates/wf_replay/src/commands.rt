@@ -28,9 +28,9 @@ use wf_status::Status;
 use wf_turnstile::Turnstile;
 use wf_uplink_run::uplink;
 
-/// Reads a trace from the source and writes the answer line of each call before it reads the next, and the summary after
-/// the `end` line; where the trace has a fault, the line of the fault in place of the summary. Octets after the `end`
-/// line are not looked at.
+/// Reads a trace from the source and writes the answer lines of the calls read before it reads the source again, and the
+/// summary after the `end` line; where the trace has a fault, the line of the fault in place of the summary. Octets after
+/// the `end` line are not looked at.
 pub fn replay<S: Source, K: Sink>(alloc: Global, source: &mut S, sink: &mut K) -> Status
     ensures text { (taken written : List ℕ) × (S.left source.old ≡ prepend_known taken (S.left source.new))
         × (K.held sink.new ≡ append_known (K.held sink.old) written)

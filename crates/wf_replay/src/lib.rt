@@ -3,6 +3,7 @@
 #![tactic(auto)]
 
 mod commands;
+mod outgoing;
 mod plain;
 mod runner;
 mod words;

@@ -8,9 +8,10 @@ ghost use Rattle.wf_report.specs.Fronts.{HoldsFront};
 ghost use Rattle.wf_replay.specs.Running.{text_of_item as answer_to, behind_item, closing};
 ghost use Rattle.wf_replay.specs.Outcome.{StatusSays};
 
+use crate::outgoing::Outgoing;
 use std::alloc::Global;
 use wf_frame::{Answer, Note};
-use wf_io::{Line, Sink, Source, write_all};
+use wf_io::{Line, Sink, Source};
 use wf_report::{Runs, Stopped, Unwritten, print_reply, summary};
 use wf_status::Status;
 use wf_trace::{Item, TraceReader, print_fault};
@@ -50,6 +51,25 @@ fn close<M: Runs, K: Sink>(machine: &Option<M>, calls: u64, sink: &mut K) -> Res
     }
 }
 
+// Writes the answers that wait, and the summary behind them.
+fn finish<M: Runs, K: Sink>(
+    machine: &Option<M>,
+    calls: u64,
+    outgoing: &mut Outgoing,
+    sink: &mut K,
+) -> Result<(), Unwritten>
+    ensures written { OnOk result (K.held sink.new ≡ append_known (K.held sink.old) (outgoing.old ++ closing (option_map M.world machine.now) calls (Some item.Finish))) }
+    ensures front { HoldsFront (K.held sink.old) (K.held sink.new) (outgoing.old ++ closing (option_map M.world machine.now) calls (Some item.Finish)) }
+    ensures counted { K.faults sink.old ≤ K.faults sink.new }
+    ensures cause { result ≡ Err Unwritten.Sink → HasRisen (K.faults sink.old) (K.faults sink.new) }
+    ensures quiet { result ≢ Err Unwritten.Sink → K.faults sink.new ≡ K.faults sink.old }
+{
+    match outgoing.send(sink) {
+        Ok(()) => close(machine, calls, sink),
+        Err(_) => Err(Unwritten::Sink),
+    }
+}
+
 /// Reads a trace from the source and writes what a machine answers, and the summary or the line of the fault.
 pub fn replay_on<M: Runs, S: Source, K: Sink>(alloc: Global, source: &mut S, sink: &mut K) -> Status
     ensures text { (taken written : List ℕ) × (S.left source.old ≡ prepend_known taken (S.left source.new))
@@ -62,6 +82,9 @@ pub fn replay_on<M: Runs, S: Source, K: Sink>(alloc: Global, source: &mut S, sin
     ensures command { result ≢ Status.Usage }
 {
     let Ok(mut reader) = TraceReader::new(alloc) else {
+        return Status::NoMemory;
+    };
+    let Ok(mut outgoing) = Outgoing::new(alloc) else {
         return Status::NoMemory;
     };
     let mut machine: Option<M> = None;
@@ -81,20 +104,20 @@ pub fn replay_on<M: Runs, S: Source, K: Sink>(alloc: Global, source: &mut S, sin
                     Ok(()) => {}
                     Err(_) => return Status::NoMemory,
                 }
-                match write_all(sink, line.octets()) {
+                match outgoing.put(line.octets(), reader.will_read(), sink) {
                     Ok(()) => {}
                     Err(_) => return Status::WriteFault,
                 }
                 calls += 1;
             }
-            Ok(Item::Finish) => match close(&machine, calls, sink) {
+            Ok(Item::Finish) => match finish(&machine, calls, &mut outgoing, sink) {
                 Ok(()) => return Status::Done,
                 Err(Unwritten::Sink) => return Status::WriteFault,
                 Err(Unwritten::Machine) => return Status::NoMemory,
             },
             Ok(Item::Bad(fault)) => {
                 print_fault(fault, &mut line);
-                match write_all(sink, line.octets()) {
+                match outgoing.put(line.octets(), true, sink) {
                     Ok(()) => return Status::BadTrace,
                     Err(_) => return Status::WriteFault,
                 }

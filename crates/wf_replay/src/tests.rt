@@ -81,6 +81,14 @@ fn a_sink_that_fails_at_each_call(rt: HostRuntime) -> Result<(), Fail> {
 }
 
 #[test]
+fn the_answers_to_one_read_go_out_by_one_write(rt: HostRuntime) -> Result<(), Fail> {
+    let (status, written) = replayed(&rt, ONE_FRAME, 4096, &[], &[1])?;
+    assert!(rt; status == Status::WriteFault);
+    assert!(rt; written.ends_with(b"done acked 1 waiting 0 failed 0\n"));
+    Ok(())
+}
+
+#[test]
 fn an_input_that_is_cut_after_each_octet(rt: HostRuntime) -> Result<(), Fail> {
     let cuts: [(usize, &[u8]); 8] = [
         (0, b"fault line 1 no-head\n"),

@@ -8,12 +8,13 @@ use Rattle.wf_trace.specs.declared.fault.End.TheVariants.{Over, Flaw}
 use Rattle.wf_trace.specs.declared.cut.Piece.{Piece}
 use Rattle.wf_trace.specs.declared.cut.Piece.TheVariants.{Text, Ended, Bad}
 use Rattle.wf_trace.specs.Lines.{texts_of}
-use Rattle.wf_trace.specs.Scanning.{lines_behind}
+use Rattle.wf_trace.specs.Scanning.{lines_behind, begins_word}
 use Rattle.wf_trace.specs.Words.{words, skipped}
-use Rattle.wf_trace.specs.Cutting.{Cutting, Takes, Fits}
+use Rattle.wf_trace.specs.Cutting.{Cutting, Takes, Fits, will_read as will_cut}
 use Rattle.wf_trace.specs.Pieces.{Pieces, ending_piece, pieces_from, pieces}
 use Rattle.wf_trace.specs.Numbering.{Numbering, Cuts, GivesPiece, pieces_left, pieces_left_of, IsLastPiece}
 use Rattle.wf_trace.proofs.Parted.{lines_parted}
+use Rattle.wf_trace.proofs.WordLaws.{says_something}
 use Rattle.wf_trace.proofs.Taking.{prepend_known-nil, prepend_known-append}
 
 -- Octets were taken, and the pieces to come stayed.
@@ -127,3 +128,22 @@ cuts_again c left piece is ending = ([], record { taken = prepend_known-nil left
 pub pieces_whole : (closed : Bool) (octets : List ℕ) →
     pieces_from 1 (texts_of closed (lines_behind closed 0 [] octets)).texts (texts_of closed (lines_behind closed 0 [] octets)).ending ≡ pieces closed octets
 pieces_whole closed octets = rw (lines_parted closed octets) refl
+
+-- Where the first call of the cutter does not read, no other comes.
+abbrev pub Still : {S : Type 0} → Numbering → Numbering → S → S → Type 0
+Still first now source source_now = will_cut first.cutter ≡ false → (now ≡ first) × (source_now ≡ source)
+
+still_cut : {S : Type 0} (first now : Numbering) (cutter : Cutting) (source source_now : S) → Still first now source source_now → cutter ≡ now.cutter →
+    will_cut first.cutter ≡ false → will_cut cutter ≡ false
+still_cut first now cutter source source_now still is quiet =
+    ap will_cut is ∙ ap (λ (c : Numbering). will_cut c.cutter) (still quiet).0 ∙ quiet
+
+pub still_quiet : {S P : Type 0} (first now : Numbering) (cutter : Cutting) (source source_now source_new : S) → Still first now source source_now → cutter ≡ now.cutter →
+    (will_cut cutter ≡ false → (source_new ≡ source_now) × P) → will_cut first.cutter ≡ false → (source_new ≡ source) × P
+still_quiet first now cutter source source_now source_new still is called quiet =
+    let call = called (still_cut first now cutter source source_now still is quiet) in (call.0 ∙ (still quiet).1, call.1)
+
+pub still_says : {S : Type 0} (first now : Numbering) (cutter : Cutting) (line : List ℕ) (source source_now : S) → Still first now source source_now → cutter ≡ now.cutter →
+    (will_cut cutter ≡ false → begins_word line ≡ true) → skipped (words line) ≡ true → will_cut first.cutter ≡ false → ⊥
+still_says first now cutter line source source_now still is called skips quiet =
+    let says = says_something line (called (still_cut first now cutter source source_now still is quiet)) in absurd (cc)

@@ -1,16 +1,18 @@
 -- Laws of lines that are looked at octet by octet.
-use Rattle.std.proofs.Common.{◌≡◌, ◌≢◌, ℕ, suc, ◌+◌, ◌-◌, ◌<◌, ◌≤◌, List, [], ◌∷◌, ◌++◌, length, drop, get_or, Bool, true, false, cond, nat_eq, refl, ◌∙◌, arith, length-append}
-use Rattle.std.specs.Prelude.{Option, Some, None, nat_lt, slice_range}
+use Rattle.std.proofs.Common.{◌≡◌, ◌≢◌, ℕ, suc, ◌+◌, ◌-◌, ◌<◌, ◌≤◌, List, [], ◌∷◌, ◌++◌, length, take, drop, get_or, Bool, true, false, cond, nat_eq, refl, sym, ap, ◌∙◌, arith, length-append, append_assoc}
+use Rattle.std.specs.Prelude.{Option, Some, None, nat_lt, slice_index, slice_range, ◌||◌}
 use Rattle.std.proofs.lemmas.Bool.{eq-eqb}
 use Rattle.std.proofs.lemmas.Bool.Decides.{nat_tests}
-use Rattle.std.proofs.lemmas.List.{drop_more, length-take}
+use Rattle.std.proofs.lemmas.List.{drop_more, drop-drop, length-take, length-drop, drop-take, get_or-take, get_or-drop}
+use Rattle.std.proofs.lemmas.List.Folds.{list_any-append, list_any_at}
+use Rattle.std.proofs.Math.Seq.{take-add}
 use Rattle.wf_trace.specs.declared.fault.FaultKind.{FaultKind}
 use Rattle.wf_trace.specs.declared.fault.FaultKind.TheVariants.{TooBig, LongLine}
 use Rattle.wf_trace.specs.declared.fault.End.TheVariants.{Flaw}
 use Rattle.wf_trace.specs.declared.scanner.Found.{Found}
 use Rattle.wf_trace.specs.declared.scanner.Found.TheVariants as found
 use Rattle.wf_trace.specs.Lines.{Texts, longest_trace, longest_line, flaw, before_texts, texts_of}
-use Rattle.wf_trace.specs.Scanning.{Scanning, Finds, lines_behind}
+use Rattle.wf_trace.specs.Scanning.{Scanning, Finds, Keeps, EndsAt, lines_behind, has_end, begins_word}
 
 -- the first of a part of a list
 pub waiting_first : (xs : List ℕ) (i j octet : ℕ) → i ≤ j → j ≤ length xs → 0 < length (slice_range xs i j) → octet ≡ get_or xs i octet →
@@ -96,3 +98,78 @@ pub finds_on : (a b c : Scanning) (f : Option Found) → Finds a None b → Find
 finds_on a b c None first second = λ closed more. first closed more ∙ second closed more
 finds_on a b c (Some found.Line) first second = λ closed more. first closed more ∙ second closed more
 finds_on a b c (Some found.TooBig) first second = λ more. first true more ∙ second more
+
+-- The same four ways, and what each keeps.
+pub keeps_line : (s : Scanning) (octet : ℕ) (rest : List ℕ) → s.waiting ≡ octet ∷ rest → octet ≡ 10 →
+    Keeps s (Some found.Line) (record { looked = s.looked + 1; line = s.line; waiting = rest })
+keeps_line s octet rest waits ends begins = begun s.line (rw waits at begins)
+  where
+    begun : (line : List ℕ) → begins_word (line ++ octet ∷ rest) ≡ true → begins_word line ≡ true
+    begun [] is = absurd (let never = rw (eq-eqb octet 10 ends) at is in cc)
+    begun (x ∷ line) is = is
+
+pub keeps_more : (s : Scanning) (octet : ℕ) (rest : List ℕ) → s.waiting ≡ octet ∷ rest → octet ≢ 10 →
+    Keeps s None (record { looked = s.looked + 1; line = s.line ++ octet ∷ []; waiting = rest })
+keeps_more s octet rest waits other =
+    let test : nat_eq octet 10 ≡ false = grind (arith, nat_tests) in
+    (rw (waits, test) refl, rw waits (ap begins_word (append_assoc s.line (octet ∷ []) rest)))
+
+pub keeps_long : (s : Scanning) (octet : ℕ) (rest : List ℕ) → s.waiting ≡ octet ∷ rest → octet ≢ 10 → longest_line < length s.line →
+    Keeps s None (record { looked = s.looked + 1; line = s.line; waiting = rest })
+keeps_long s octet rest waits other past =
+    let test : nat_eq octet 10 ≡ false = grind (arith, nat_tests) in
+    (rw (waits, test) refl, rw waits (begun s.line past))
+  where
+    begun : (line : List ℕ) → longest_line < length line → begins_word (line ++ rest) ≡ begins_word (line ++ octet ∷ rest)
+    begun [] past = absurd (omega arith)
+    begun (x ∷ line) past = refl
+
+pub keeps_on : (a b c : Scanning) (f : Option Found) → Keeps a None b → Keeps b f c → Keeps a f c
+keeps_on a b c None first second = (second.0 ∙ first.0, second.1 ∙ first.1)
+keeps_on a b c (Some found.Line) first second = λ begins. second (first.1 ∙ begins)
+keeps_on a b c (Some found.TooBig) first second = tt
+
+-- The place of the last end of a line says whether one waits.
+or-false : (a b : Bool) → (a || b) ≡ false → b ≡ false
+or-false true b is = absurd (cc)
+or-false false b is = is
+
+slice_parts : (xs : List ℕ) (i j k : ℕ) → i ≤ j → j ≤ k → slice_range xs i k ≡ slice_range xs i j ++ slice_range xs j k
+slice_parts xs i j k low high =
+    let whole : k - i ≡ (j - i) + (k - j) = omega arith in
+    let place : i + (j - i) ≡ j = omega arith in
+    rw whole (take-add (j - i) (k - j) (drop i xs) ∙ ap (λ l. take (j - i) (drop i xs) ++ take (k - j) l) (drop-drop (j - i) i xs ∙ ap (λ n. drop n xs) place))
+
+pub no_end_waits : (xs : List ℕ) (ends from to : ℕ) → EndsAt xs ends to → ends ≤ from → from ≤ to → has_end (slice_range xs from to) ≡ false
+no_end_waits xs ends from to at past within =
+    or-false (has_end (slice_range xs ends from)) (has_end (slice_range xs from to))
+    (sym (list_any-append (λ octet. nat_eq octet 10) (slice_range xs ends from) (slice_range xs from to)) ∙ ap has_end (sym (slice_parts xs ends from to past within)) ∙ at.1)
+
+pub end_waits : (xs : List ℕ) (ends from to : ℕ) → EndsAt xs ends to → from < ends → to ≤ length xs → has_end (slice_range xs from to) ≡ true
+end_waits xs ends from to at before within =
+    let some : 0 < ends = omega arith in
+    let k : ℕ = (ends - 1) - from in
+    let below : k < to - from = omega (arith, at.0) in
+    let place : from + k ≡ ends - 1 = omega arith in
+    let inside : k < length (slice_range xs from to) = omega (arith, below, length-take (to - from) (drop from xs), length-drop from xs, at.0) in
+    let is : get_or (slice_range xs from to) k 0 ≡ 10 = get_or-take (to - from) (drop from xs) k 0 below ∙ get_or-drop from xs k 0 ∙ ap (λ n. get_or xs n 0) place ∙ at.2 some in
+    list_any_at (λ octet. nat_eq octet 10) (slice_range xs from to) k 0 inside (eq-eqb (get_or (slice_range xs from to) k 0) 10 is)
+
+-- the first that waits, in front of the last end of a line
+pub first_of_line : (xs : List ℕ) (ends from to octet : ℕ) → EndsAt xs ends to → from < ends → to ≤ length xs → octet ≡ get_or xs from octet →
+    slice_range xs from to ≡ octet ∷ slice_range xs (from + 1) to
+first_of_line xs ends from to octet at before within is =
+    let some : 0 < length (slice_range xs from to) = omega (arith, at.0, length-take (to - from) (drop from xs), length-drop from xs) in
+    waiting_first xs from to octet (omega (arith, at.0)) within some is
+
+-- of octets that were taken
+pub ends_at : (xs : List ℕ) (ends to : ℕ) → to ≤ length xs → ends ≤ length (take to xs) → has_end (drop ends (take to xs)) ≡ false →
+    (0 < ends → slice_index (take to xs) (ends - 1) ≡ 10) → EndsAt xs ends to
+ends_at xs ends to within low none last =
+    let most : ends ≤ to = omega (arith, low, length-take to xs) in
+    let whole : to ≡ ends + (to - ends) = omega arith in
+    let rest : drop ends (take to xs) ≡ slice_range xs ends to = ap (λ n. drop ends (take n xs)) whole ∙ drop-take ends (to - ends) xs in (
+      most,
+      ap has_end (sym rest) ∙ none,
+      (λ some. let below : ends - 1 < to = omega arith in sym (get_or-take to xs (ends - 1) 0 below) ∙ last some),
+    )

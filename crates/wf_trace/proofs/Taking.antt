@@ -8,7 +8,7 @@ use Rattle.wf_trace.specs.declared.fault.End.{End}
 use Rattle.wf_trace.specs.declared.fault.End.TheVariants.{Flaw}
 use Rattle.wf_trace.specs.declared.scanner.Found.TheVariants as found
 use Rattle.wf_trace.specs.Lines.{before_texts, flaw, texts_of}
-use Rattle.wf_trace.specs.Scanning.{Scanning, Finds, lines_behind, texts_from, texts_behind}
+use Rattle.wf_trace.specs.Scanning.{Scanning, Finds, Keeps, lines_behind, texts_from, texts_behind, has_end, begins_word}
 use Rattle.wf_trace.specs.Cutting.{Cutting, Takes, Fits, Follows, to_come}
 
 -- Octets were taken, and the texts to come stayed.
@@ -105,3 +105,20 @@ takes_end first s left left_now left_new end new took at_end is ended follows = 
         rw (nothing.0, nothing.1, took.same true []) follows;
   },
 )
+
+-- The call looks at the octets that wait first: where an end of a line is among them it does not come to read, and the line
+-- begins as they do.
+abbrev pub Still : {S : Type 0} → Cutting → Cutting → S → S → Type 0
+Still first now source source_now = has_end first.scanner.waiting ≡ true → (now ≡ first) × (source_now ≡ source)
+
+pub still_ends : {S : Type 0} (first now : Cutting) (s t : Scanning) (source source_now : S) → Still first now source source_now → s ≡ now.scanner →
+    Keeps s None t → t.waiting ≡ [] → has_end first.scanner.waiting ≡ true → ⊥
+still_ends first now s t source source_now still is keeps dry ends =
+    let here : has_end now.scanner.waiting ≡ true = ap (λ (c : Cutting). has_end c.scanner.waiting) (still ends).0 ∙ ends in
+    let none : has_end s.waiting ≡ false = sym keeps.0 ∙ ap has_end dry in
+    absurd (let there : has_end s.waiting ≡ true = ap (λ (u : Scanning). has_end u.waiting) is ∙ here in cc)
+
+pub still_begins : {S : Type 0} (first now : Cutting) (s t : Scanning) (source source_now : S) → Still first now source source_now → s ≡ now.scanner →
+    Keeps s (Some found.Line) t → has_end first.scanner.waiting ≡ true → begins_word (first.scanner.line ++ first.scanner.waiting) ≡ true → begins_word t.line ≡ true
+still_begins first now s t source source_now still is keeps ends begins =
+    keeps (ap (λ (u : Scanning). begins_word (u.line ++ u.waiting)) is ∙ ap (λ (c : Cutting). begins_word (c.scanner.line ++ c.scanner.waiting)) (still ends).0 ∙ begins)

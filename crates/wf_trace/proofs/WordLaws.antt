@@ -1,9 +1,10 @@
 -- Laws of the words of a line.
-use Rattle.std.proofs.Common.{◌≡◌, ◌≢◌, ℕ, zero, suc, ◌<◌, ◌≤◌, List, [], ◌∷◌, length, take, drop, get_or, true, false, nat_eq, refl, ◌∙◌, ap, add-zero, arith}
-use Rattle.std.specs.Prelude.{filter}
+use Rattle.std.proofs.Common.{◌≡◌, ◌≢◌, ℕ, zero, suc, ◌<◌, ◌≤◌, List, [], ◌∷◌, length, take, drop, get_or, Bool, true, false, cond, nat_eq, refl, ◌∙◌, ap, add-zero, arith}
+use Rattle.std.specs.Prelude.{filter, not, ◌&&◌}
 use Rattle.std.proofs.lemmas.Bool.Decides.{nat_tests}
 use Rattle.std.proofs.lemmas.List.{length-drop, length-take-le, get_or-drop}
-use Rattle.wf_trace.specs.Words.{parts, in_front, words, is_word}
+use Rattle.wf_trace.specs.Scanning.{begins_word}
+use Rattle.wf_trace.specs.Words.{parts, in_front, words, is_word, skipped}
 
 -- octets in front of the first part
 abbrev ahead : List ℕ → List (List ℕ) → List (List ℕ)
@@ -44,3 +45,15 @@ words_first line n within some before found =
 pub some_octets : (line : List ℕ) (n : ℕ) → 0 < length line → get_or line 0 0 ≢ 32 → (n < length line → get_or line n 0 ≡ 32) → 0 < n
 some_octets line zero some first found = absurd (first (found some))
 some_octets line (suc n) some first found = omega arith
+
+-- a line that begins with an octet of a word that is no # is not skipped
+pub says_something : (line : List ℕ) → begins_word line ≡ true → skipped (words line) ≡ false
+says_something [] is = absurd (cc)
+says_something (octet ∷ octets) is = first (nat_eq octet 10) (nat_eq octet 32) (nat_eq octet 35) refl refl (parts octets) is
+  where
+    first : (a b c : Bool) → nat_eq octet 32 ≡ b → nat_eq octet 35 ≡ c → (others : List (List ℕ)) → (not a && not b && not c) ≡ true → skipped (filter is_word (cond b ([] ∷ others) (in_front octet others))) ≡ false
+    first true b c space hash others is = absurd (cc)
+    first false true c space hash others is = absurd (cc)
+    first false false true space hash others is = absurd (cc)
+    first false false false space hash [] is = hash
+    first false false false space hash (part ∷ others) is = hash

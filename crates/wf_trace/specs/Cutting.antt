@@ -1,10 +1,10 @@
 -- What contracts see of a cutter of lines, and what a call of it gives.
-use Rattle.std.specs.Prelude.{◌≡◌, ℕ, ◌+◌, ◌-◌, List, [], ◌∷◌, ◌++◌, Bool, true, false, Option, Some, None, Result, Ok, Err}
+use Rattle.std.specs.Prelude.{◌≡◌, ℕ, ◌+◌, ◌-◌, List, [], ◌∷◌, ◌++◌, Bool, true, false, not, ◌&&◌, Option, Some, None, Result, Ok, Err}
 use Rattle.std.specs.Io.KnownBytes.{prepend_known}
 use Rattle.wf_io.specs.declared.source.Failed.{Failed}
 use Rattle.wf_trace.specs.declared.fault.End.{End}
 use Rattle.wf_trace.specs.Lines.{Texts, longest_trace}
-use Rattle.wf_trace.specs.Scanning.{Scanning, untouched, texts_from, texts_behind}
+use Rattle.wf_trace.specs.Scanning.{Scanning, untouched, texts_from, texts_behind, holds_text}
 
 -- the octets taken, whether their line was given, and whether no more are
 pub record Cutting : Type 0 where
@@ -53,3 +53,13 @@ room_of looked (Some end) = longest_trace - looked
 -- the same of a cutter
 abbrev pub room : Cutting → ℕ
 room c = room_of c.scanner.looked c.ended
+
+-- whether the next call reads the source, as far as can be said without a look at whole lines: it does not where the end is
+-- known, or where a line was given and another waits
+abbrev pub will_read_of : Option End → Bool → List ℕ → Bool
+will_read_of None given waiting = not (given && holds_text waiting)
+will_read_of (Some end) given waiting = false
+
+-- the same of a cutter
+abbrev pub will_read : Cutting → Bool
+will_read c = will_read_of c.ended c.given c.scanner.waiting

@@ -6,7 +6,7 @@ use Rattle.wf_trace.specs.declared.cut.Piece.{Piece}
 use Rattle.wf_trace.specs.declared.cut.Piece.TheVariants.{Text, Ended, Bad}
 use Rattle.wf_trace.specs.Lines.{Texts}
 use Rattle.wf_trace.specs.Pieces.{Pieces, with_line, pieces_from}
-use Rattle.wf_trace.specs.Cutting.{Cutting, to_come, Fits}
+use Rattle.wf_trace.specs.Cutting.{Cutting, to_come, Fits, will_read as will_cut}
 
 -- its cutter, the number of the next line, and the piece that ends the input, once it is reached
 pub record Numbering : Type 0 where
@@ -66,3 +66,12 @@ IsLastPiece None = Unit {0}
 IsLastPiece (Some (Text line)) = ⊥
 IsLastPiece (Some (Ended line)) = Unit {0}
 IsLastPiece (Some (Bad fault)) = Unit {0}
+
+-- whether the next call reads the source: it does not where the end is known, or where a whole line waits that is not skipped
+abbrev pub will_read_of : Option Piece → Cutting → Bool
+will_read_of None cutter = will_cut cutter
+will_read_of (Some piece) cutter = false
+
+-- the same of a cutter of numbered lines
+abbrev pub will_read : Numbering → Bool
+will_read c = will_read_of c.ended c.cutter

@@ -1,5 +1,5 @@
 -- What contracts see of a reader, and what a call of it gives.
-use Rattle.std.specs.Prelude.{◌≡◌, ℕ, ◌+◌, ◌<◌, List, [], ◌∷◌, ◌++◌, Bool, Option, Some, None, Result, Ok, Err, IsSome}
+use Rattle.std.specs.Prelude.{◌≡◌, ℕ, ◌+◌, ◌<◌, List, [], ◌∷◌, ◌++◌, Bool, false, Option, Some, None, Result, Ok, Err, IsSome}
 use Rattle.std.specs.Io.KnownBytes.{prepend_known}
 use Rattle.wf_io.specs.declared.source.Failed.{Failed}
 use Rattle.wf_trace.specs.declared.fault.FaultKind.{FaultKind}
@@ -10,7 +10,7 @@ use Rattle.wf_trace.specs.declared.meaning.Place.{Place}
 use Rattle.wf_trace.specs.declared.reader.Item.{Item}
 use Rattle.wf_trace.specs.declared.reader.Item.TheVariants.{Head, Entry, Finish, Bad}
 use Rattle.wf_trace.specs.Pieces.{Numbered, Pieces}
-use Rattle.wf_trace.specs.Numbering.{Numbering, HasNoLine, pieces_left}
+use Rattle.wf_trace.specs.Numbering.{Numbering, HasNoLine, pieces_left, will_read as will_cut}
 use Rattle.wf_trace.specs.Words.{words}
 use Rattle.wf_trace.specs.Meanings.{meant}
 use Rattle.wf_trace.specs.Reading.{Reading, with_item, reading_that_ends, bad, stopped}
@@ -87,3 +87,12 @@ Places (Head config) old new = (old ≡ None) × IsSome new.place × (new.ended 
 Places (Entry caller note) old new = IsSome old × IsSome new.place × (new.ended ≡ None)
 Places Finish old new = Unit {0}
 Places (Bad fault) old new = Unit {0}
+
+-- whether the next call reads the source: it does not where the ending is known, or where a whole line waits that is not skipped
+abbrev pub will_read_of : Option Item → Numbering → Bool
+will_read_of None cut = will_cut cut
+will_read_of (Some item) cut = false
+
+-- the same of a reader
+abbrev pub will_read : Reader → Bool
+will_read r = will_read_of r.ended r.cut

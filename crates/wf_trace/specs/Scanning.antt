@@ -1,5 +1,6 @@
 -- What contracts see of the octets that were taken and not yet given as lines.
-use Rattle.std.specs.Prelude.{◌≡◌, ℕ, ◌+◌, ◌==◌, if◌then◌else◌, List, [], ◌∷◌, ◌++◌, Bool, true, false, Option, Some, None}
+use Rattle.std.specs.Prelude.{◌≡◌, ℕ, ◌+◌, ◌-◌, ◌<◌, ◌≤◌, ◌==◌, slice_index, slice_range, ◌&&◌, not, if◌then◌else◌, List, [], ◌∷◌, ◌++◌, Bool, true, false, Option, Some, None}
+use Rattle.std.specs.List.{list_any}
 use Rattle.wf_trace.specs.declared.fault.FaultKind.TheVariants.{TooBig}
 use Rattle.wf_trace.specs.declared.fault.End.TheVariants.{Flaw}
 use Rattle.wf_trace.specs.declared.scanner.Found.{Found}
@@ -52,3 +53,26 @@ Finds old (Some found.Line) new =
     before_texts (flaw new.looked new.line) new.line (texts_behind new closed more)
 Finds old (Some found.TooBig) new =
     (more : List ℕ) → texts_from old true more ≡ record { texts = []; ending = Some (Flaw TooBig) }
+
+-- whether the end of a line is among octets
+abbrev pub has_end : List ℕ → Bool
+has_end octets = list_any (λ octet. octet == 10) octets
+
+-- whether octets begin with the first word of a line that is not skipped: with no end of a line, no space and no #
+abbrev pub begins_word : List ℕ → Bool
+begins_word [] = false
+begins_word (octet ∷ octets) = not (octet == 10) && not (octet == 32) && not (octet == 35)
+
+-- whether a whole line waits that is not skipped, as its first octet says
+abbrev pub holds_text : List ℕ → Bool
+holds_text waiting = has_end waiting && begins_word waiting
+
+-- the first octet of the line stays, and so does an end of a line that waits, until it is found
+abbrev pub Keeps : Scanning → Option Found → Scanning → Type 0
+Keeps old None new = (has_end new.waiting ≡ has_end old.waiting) × (begins_word (new.line ++ new.waiting) ≡ begins_word (old.line ++ old.waiting))
+Keeps old (Some found.Line) new = begins_word (old.line ++ old.waiting) ≡ true → begins_word new.line ≡ true
+Keeps old (Some found.TooBig) new = Unit {0}
+
+-- of the octets of a buffer up to `to`, the last end of a line stands in front of `ends`; none does where that is 0
+abbrev pub EndsAt : List ℕ → ℕ → ℕ → Type 0
+EndsAt buffer ends to = (ends ≤ to) × (has_end (slice_range buffer ends to) ≡ false) × (0 < ends → slice_index buffer (ends - 1) ≡ 10)

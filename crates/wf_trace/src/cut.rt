@@ -1,6 +1,6 @@
 //! The lines of a source that are not skipped, with their numbers.
 
-ghost use Rattle.std.specs.Prelude.{◌≡◌, ◌<◌, ◌≤◌, List, ℕ, Bool, Some, None, IfOk, IfSome, IsSome, OnErr, Ok};
+ghost use Rattle.std.specs.Prelude.{◌≡◌, ◌<◌, ◌≤◌, List, ℕ, Bool, false, Some, None, IfOk, IsOk, IfSome, IsSome, OnErr, Ok};
 ghost use Rattle.std.specs.Io.KnownBytes.{IsAtEnd};
 ghost use Rattle.wf_io.specs.Faults.{CountsFaults};
 
@@ -46,9 +46,9 @@ impl Model for Cut {
 }
 
 impl Cut {
-    ghost use Rattle.wf_trace.specs.Cutting.{room};
+    ghost use Rattle.wf_trace.specs.Cutting.{room, will_read as will_cut};
     ghost use Rattle.wf_trace.specs.Pieces.{pieces, ending_piece};
-    ghost use Rattle.wf_trace.specs.Numbering.{pieces_left, line_of, HasText, HasNoLine, OnText, Cuts};
+    ghost use Rattle.wf_trace.specs.Numbering.{pieces_left, line_of, will_read, HasText, HasNoLine, OnText, Cuts};
 
     /// A cutter at the front of an input. It takes its buffer of 4096 octets here, and no memory later.
     pub fn new(alloc: Global) -> Result<Self, AllocError>
@@ -70,6 +70,14 @@ impl Cut {
         ensures { result.now ≡ line_of self.now }
     {
         self.cutter.octets()
+    }
+
+    /// Whether the next call of `next` may read the source. It answers without a read where the end is known, and where the
+    /// octets taken have a whole line next whose first octet is neither a space nor `#`.
+    pub fn will_read(&self) -> bool
+        ensures { result ≡ will_read self.now }
+    {
+        self.ended.is_none() && self.cutter.will_read()
     }
 
     // No further line comes.
@@ -96,6 +104,7 @@ impl Cut {
         ensures progress { OnText result (room self.new.cutter < room self.old.cutter) }
         ensures over { OnText result (IsSome self.new.cutter.ended → IsAtEnd (S.left source.new)) }
         ensures sticky { IsSome self.old.cutter.ended → IsSome self.new.cutter.ended }
+        ensures quiet { will_cut self.old.cutter ≡ false → (source.new ≡ source.old) × IsOk result }
         ensures cause { CountsFaults (S.faults source.old) (S.faults source.new) result }
     {
         'lines: loop {
@@ -123,6 +132,7 @@ impl Cut {
         ensures progress { OnText result (room self.new.cutter < room self.old.cutter) }
         ensures over { OnText result (IsSome self.new.cutter.ended → IsAtEnd (S.left source.new)) }
         ensures sticky { IsSome self.old.cutter.ended → IsSome self.new.cutter.ended }
+        ensures quiet { will_read self.old ≡ false → (source.new ≡ source.old) × IsOk result }
         ensures cause { CountsFaults (S.faults source.old) (S.faults source.new) result }
     {
         if let Some(piece) = self.ended {

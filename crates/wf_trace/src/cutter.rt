@@ -1,6 +1,6 @@
 //! Lines of a source.
 
-ghost use Rattle.std.specs.Prelude.{◌≡◌, ◌<◌, ◌≤◌, [], List, ℕ, true, false, MatchOption, IfNone, IfOk, OnErr, Some, None, IsSome, Ok};
+ghost use Rattle.std.specs.Prelude.{◌≡◌, ◌<◌, ◌≤◌, ◌++◌, [], List, ℕ, true, false, MatchOption, IfNone, IfOk, IsOk, OnErr, Some, None, IsSome, Ok};
 ghost use Rattle.std.specs.List.{list_all};
 ghost use Rattle.std.specs.Io.KnownBytes.{IsAtEnd};
 ghost use Rattle.wf_io.specs.Faults.{CountsFaults};
@@ -54,7 +54,8 @@ impl Model for Cutter {
 }
 
 impl Cutter {
-    ghost use Rattle.wf_trace.specs.Cutting.{fresh, Takes, Follows, to_come, room};
+    ghost use Rattle.wf_trace.specs.Scanning.{has_end, begins_word};
+    ghost use Rattle.wf_trace.specs.Cutting.{fresh, Takes, Follows, to_come, room, will_read};
 
     pub fn new(alloc: Global) -> Result<Self, AllocError>
         ensures { IfOk result (λ c. c ≡ fresh) }
@@ -72,6 +73,17 @@ impl Cutter {
         ensures { result.now ≡ self.now.scanner.line }
     {
         self.scanner.line()
+    }
+
+    /// Whether the next call reads the source. It does not where the end is known, or where a line was given and a whole
+    /// one waits, of which the first octet says that it is not skipped.
+    pub fn will_read(&self) -> bool
+        ensures { result ≡ will_read self.now }
+    {
+        if self.ended.is_some() {
+            return false;
+        }
+        !(self.given && self.scanner.holds_text())
     }
 
     // Gives the begun line, which has ended.
@@ -126,6 +138,9 @@ impl Cutter {
         ensures progress { result ≡ Ok None → room self.new < room self.old }
         ensures grows { room self.new ≤ room self.old }
         ensures over { result ≡ Ok None → IsSome self.new.ended → IsAtEnd (S.left source.new) }
+        ensures quiet { has_end self.old.scanner.waiting ≡ true → (source.new ≡ source.old) × IsOk result }
+        ensures word { has_end self.old.scanner.waiting ≡ true → begins_word (self.old.scanner.line ++ self.old.scanner.waiting) ≡ true →
+            result ≡ Ok None → begins_word self.new.scanner.line ≡ true }
         ensures cause { CountsFaults (S.faults source.old) (S.faults source.new) result }
     {
         'lines: loop {
@@ -155,6 +170,8 @@ impl Cutter {
         ensures grows { room self.new ≤ room self.old }
         ensures over { result ≡ Ok None → IsSome self.new.ended → IsAtEnd (S.left source.new) }
         ensures sticky { IsSome self.old.ended → IsSome self.new.ended }
+        ensures quiet { will_read self.old ≡ false → (source.new ≡ source.old) × IsOk result }
+        ensures word { will_read self.old ≡ false → result ≡ Ok None → begins_word self.new.scanner.line ≡ true }
         ensures cause { CountsFaults (S.faults source.old) (S.faults source.new) result }
     {
         if let Some(end) = self.ended {

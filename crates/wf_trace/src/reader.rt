@@ -1,6 +1,6 @@
 //! The reader of a trace.
 
-ghost use Rattle.std.specs.Prelude.{◌≡◌, ◌<◌, List, ℕ, Bool, Some, None, IfOk, IsSomeAnd, IsSome, IfSome, OnErr, Ok};
+ghost use Rattle.std.specs.Prelude.{◌≡◌, ◌<◌, List, ℕ, Bool, false, Some, None, IfOk, IsOk, IsSomeAnd, IsSome, IfSome, OnErr, Ok};
 ghost use Rattle.std.specs.Io.KnownBytes.{IsAtEnd};
 ghost use Rattle.wf_io.specs.Faults.{CountsFaults};
 ghost use Rattle.wf_trace.specs.Reading.{missing as missing_behind};
@@ -77,7 +77,7 @@ impl TraceReader {
     ghost use Rattle.wf_trace.specs.Words.{words};
     ghost use Rattle.wf_trace.specs.Meanings.{meant};
     ghost use Rattle.wf_trace.specs.Reading.{reading};
-    ghost use Rattle.wf_trace.specs.Reader.{Reads, IsHeld, Goes, Places, Gives, rest, rest_of, said, read_lines};
+    ghost use Rattle.wf_trace.specs.Reader.{Reads, IsHeld, Goes, Places, Gives, rest, rest_of, said, read_lines, will_read};
 
     /// A reader at the front of a trace. It takes its buffer of 4096 octets here, and no memory later.
     pub fn new(alloc: Global) -> Result<Self, AllocError>
@@ -91,6 +91,14 @@ impl TraceReader {
             place: None,
             ended: None,
         })
+    }
+
+    /// Whether the next call of `next` may read the source. It answers without a read where the ending is known, and where the
+    /// octets taken have a whole line next whose first octet is neither a space nor `#`.
+    pub fn will_read(&self) -> bool
+        ensures { result ≡ will_read self.now }
+    {
+        self.ended.is_none() && self.cut.will_read()
     }
 
     // No further line is read.
@@ -146,6 +154,7 @@ impl TraceReader {
         ensures over { self.old.ended ≡ None → result ≡ Ok Item.Finish → IsSome self.new.cut.cutter.ended →
             IsAtEnd (S.left source.new) }
         ensures sticky { IsSome self.old.cut.cutter.ended → IsSome self.new.cut.cutter.ended }
+        ensures quiet { will_read self.old ≡ false → (source.new ≡ source.old) × IsOk result }
         ensures cause { CountsFaults (S.faults source.old) (S.faults source.new) result }
     {
         if let Some(item) = self.ended {

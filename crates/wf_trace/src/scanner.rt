@@ -1,8 +1,9 @@
 //! Octets of a source, looked at one by one for the ends of lines.
 
-ghost use Rattle.std.specs.Prelude.{◌≡◌, ◌==◌, ◌+◌, ◌<◌, ◌≤◌, [], ◌++◌, length, IfNone, IfOk, OnErr, Some};
+ghost use Rattle.std.specs.Prelude.{◌≡◌, ◌==◌, ◌+◌, ◌-◌, ◌<◌, ◌≤◌, [], ◌∷◌, ◌++◌, length, drop, slice_index, false, IfNone, IfOk, OnErr, Some};
 ghost use Rattle.std.specs.Io.KnownBytes.{prepend_known, IsAtEnd};
 ghost use Rattle.wf_io.specs.Faults.{CountsFaults};
+ghost use Rattle.wf_trace.specs.Scanning.{has_end, begins_word};
 
 use arrayvec::ArrayVec;
 use std::alloc::{AllocError, Global};
@@ -22,12 +23,36 @@ pub enum Found {
     TooBig,
 }
 
+// How many octets stand up to the last end of a line, with it.
+fn lines_len(octets: &[u8]) -> usize
+    ensures within { result ≤ length octets.now }
+    ensures behind { has_end (drop result octets.now) ≡ false }
+    ensures end { 0 < result → slice_index octets.now (result - 1) ≡ 10 }
+{
+    let mut len = octets.len();
+    while len > 0 {
+        if octets[len - 1] == b'\n' {
+            return len;
+        }
+        len -= 1;
+    }
+    0
+}
+
+// Whether an octet stands first in a line that is not skipped.
+fn starts_word(octet: u8) -> bool
+    ensures { result ≡ begins_word (octet ∷ []) }
+{
+    octet != b'\n' && octet != b' ' && octet != b'#'
+}
+
 /// A buffer of octets that were taken from a source, and the line that has begun.
 #[derive(Drop)]
 pub struct Scanner {
     buffer: Vec<u8>,
     from: usize,
     to: usize,
+    ends: usize,
     line: ArrayVec<u8, 161>,
     looked: u64,
 }
@@ -35,7 +60,7 @@ pub struct Scanner {
 impl Model for Scanner {
     ghost use Rattle.std.specs.Prelude.{◌≡◌, ◌≤◌, length, slice_range};
     ghost use Rattle.wf_trace.specs.Lines.{longest_trace};
-    ghost use Rattle.wf_trace.specs.Scanning.{Scanning, buffer_size};
+    ghost use Rattle.wf_trace.specs.Scanning.{Scanning, buffer_size, EndsAt};
 
     ghost Value = { Scanning };
 
@@ -46,12 +71,13 @@ impl Model for Scanner {
     } };
 
     ghost invariant = { λ s. (s.from ≤ s.to) × (s.to ≤ length s.buffer.items)
-        × (length s.buffer.items ≡ buffer_size) × (s.looked ≤ longest_trace) };
+        × (length s.buffer.items ≡ buffer_size) × (s.looked ≤ longest_trace)
+        × EndsAt s.buffer.items s.ends s.to };
 }
 
 impl Scanner {
     ghost use Rattle.wf_trace.specs.Lines.{longest_trace};
-    ghost use Rattle.wf_trace.specs.Scanning.{Finds, untouched};
+    ghost use Rattle.wf_trace.specs.Scanning.{Finds, Keeps, holds_text, untouched};
 
     pub fn new(alloc: Global) -> Result<Self, AllocError>
         ensures { IfOk result (λ s. s ≡ untouched) }
@@ -61,6 +87,7 @@ impl Scanner {
             buffer,
             from: 0,
             to: 0,
+            ends: 0,
             line: ArrayVec::new(),
             looked: 0,
         })
@@ -95,6 +122,7 @@ impl Scanner {
         ensures line { result ≡ Some Found.Line → self.old.looked < self.new.looked }
         ensures most { self.new.looked ≤ longest_trace }
         ensures finds { Finds self.old result self.new }
+        ensures keeps { Keeps self.old result self.new }
     {
         let octet = self.buffer[self.from];
         self.from += 1;
@@ -118,9 +146,20 @@ impl Scanner {
         self.from == self.to
     }
 
+    /// Whether a whole line waits, of which the first octet says that it is not skipped.
+    pub fn holds_text(&self) -> bool
+        ensures { result ≡ holds_text self.now.waiting }
+    {
+        if self.from >= self.ends {
+            return false;
+        }
+        starts_word(self.buffer[self.from])
+    }
+
     /// Looks at the octets that wait, up to the end of a line.
     pub fn scan(&mut self) -> Option<Found>
         ensures finds { Finds self.old result self.new }
+        ensures keeps { Keeps self.old result self.new }
         ensures dry { IfNone result (self.new.waiting ≡ []) }
         ensures looked { IfNone result (self.new.looked ≡ self.old.looked + length self.old.waiting) }
         ensures grows { self.old.looked ≤ self.new.looked }
@@ -147,7 +186,9 @@ impl Scanner {
     {
         self.from = 0;
         self.to = 0;
+        self.ends = 0;
         self.to = source.read(&mut self.buffer)?;
+        self.ends = lines_len(&self.buffer[..self.to]);
         Ok(self.to)
     }
 }

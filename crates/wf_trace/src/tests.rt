@@ -41,6 +41,21 @@ fn items_come_in_order_and_the_end_again(rt: HostRuntime) -> Result<(), Fail> {
     Ok(())
 }
 
+#[test]
+fn a_reader_says_when_it_will_read(rt: HostRuntime) -> Result<(), Fail> {
+    let octets = b"cell\ntick 5\n tick 6\ntick 7\nend".to_vec(rt.alloc())?;
+    let mut source = Given::new(octets, 28, Vec::new(rt.alloc()));
+    let mut reader = TraceReader::new(rt.alloc())?;
+    // nothing taken, `tick 5`, a line that begins with a space, `tick 7`, the front of `end`
+    for will in [true, false, true, false, true] {
+        assert!(rt; reader.will_read() == will);
+        assert!(rt; reader.next(&mut source).is_ok());
+    }
+    assert!(rt; !reader.will_read());
+    assert!(rt; reader.next(&mut source) == Ok(Item::Finish));
+    Ok(())
+}
+
 // The item that ends a trace.
 fn ending<S: Source>(reader: &mut TraceReader, source: &mut S) -> Option<Item> {
     for _ in 0..16 {

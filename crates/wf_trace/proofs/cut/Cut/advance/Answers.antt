@@ -1,6 +1,7 @@
-use Rattle.std.proofs.Common.{◌≡◌, true, false, sym, ◌∙◌, arith}
+use Rattle.std.proofs.Common.{◌≡◌, true, false, refl, sym, ap, ◌∙◌, arith}
+use Rattle.wf_trace.specs.Numbering.{Numbering}
 use Rattle.wf_trace.specs.Words.{words, skipped}
-use Rattle.wf_trace.proofs.CutLaws.{kept_skip, cuts_line, cuts_end, cuts_none}
+use Rattle.wf_trace.proofs.CutLaws.{kept_skip, cuts_line, cuts_end, cuts_none, still_quiet, still_says}
 use Rattle.wf_trace.proofs.cut.Cut.advance.Goals as goal
 
 pub returns-in-Ok-Some-clause-cuts : goal.returns-in-Ok-Some-clause-cuts
@@ -36,4 +37,15 @@ lines-preserved g c =
       (λ first. c.in-Ok-None.ensures.sticky (before first)),
       (let before = rw (← c.self.view_is) at c.lines.invariant.3 in omega (arith, before, c.in-Ok-None.ensures.grows)),
       c.in-Ok-None.ensures.cause.quiet ∙ c.lines.invariant.4,
+      (let word = rw (c.in-Ok-None.field-0-is) at c.in-Ok-None.ensures.word in
+          λ quiet. absurd (still_says _ _ c.self.inside.cutter c.next.new.self.scanner.line _ _ c.lines.invariant.5 (ap (λ (k : Numbering). k.cutter) c.self.view_is) (λ q. word q refl) skips quiet)),
     )
+
+pub returns-in-Ok-Some-clause-quiet : goal.returns-in-Ok-Some-clause-quiet
+returns-in-Ok-Some-clause-quiet g c = still_quiet _ _ c.self.inside.cutter _ _ _ c.lines.invariant.5 (ap (λ (k : Numbering). k.cutter) c.self.view_is) c.in-Ok-Some.ensures.quiet
+
+pub returns-in-Err-clause-quiet : goal.returns-in-Err-clause-quiet
+returns-in-Err-clause-quiet g c = still_quiet _ _ c.self.inside.cutter _ _ _ c.lines.invariant.5 (ap (λ (k : Numbering). k.cutter) c.self.view_is) c.in-Err.ensures.quiet
+
+pub returns-then-not-is_skipped-clause-quiet : goal.returns-then-not-is_skipped-clause-quiet
+returns-then-not-is_skipped-clause-quiet g c = still_quiet _ _ c.self.inside.cutter _ _ _ c.lines.invariant.5 (ap (λ (k : Numbering). k.cutter) c.self.view_is) c.in-Ok-None.ensures.quiet

@@ -1,7 +1,7 @@
 use Rattle.std.proofs.Common.{◌≡◌, ◌≤◌, None}
 use Rattle.std.specs.Prelude.{IsSome}
 use Rattle.wf_trace.specs.Cutting.{room}
-use Rattle.wf_trace.proofs.CutLaws.{Kept}
+use Rattle.wf_trace.proofs.CutLaws.{Kept, Still}
 use Rattle.wf_trace.proofs.cut.Cut.advance.Given as goal
 
 abbrev pub invariant-lines : goal.invariant-lines
@@ -10,6 +10,7 @@ invariant-lines g l = Kept l.fn.self l.self (g.S.Source.left l.fn.source) (g.S.S
     × (IsSome l.fn.self.cutter.ended → IsSome l.self.cutter.ended)
     × (room l.self.cutter ≤ room l.fn.self.cutter)
     × (g.S.Source.faults l.source ≡ g.S.Source.faults l.fn.source)
+    × Still l.fn.self l.self l.fn.source l.source
 
 abbrev pub decreases-lines : goal.decreases-lines
 decreases-lines g l = room l.self.cutter

@@ -1,5 +1,6 @@
-use Rattle.std.proofs.Common.{◌∙◌, arith}
-use Rattle.wf_trace.proofs.Taking.{took_scan, took_refill}
+use Rattle.std.proofs.Common.{◌∙◌, arith, ap}
+use Rattle.wf_trace.specs.Cutting.{Cutting}
+use Rattle.wf_trace.proofs.Taking.{took_scan, took_refill, still_ends}
 use Rattle.wf_trace.proofs.cutter.Cutter.advance.Goals as goal
 
 pub lines-preserved : goal.lines-preserved
@@ -12,4 +13,5 @@ lines-preserved g c =
       ended,
       (let before = rw (← c.self.view_is) at c.lines.invariant.3 in rw (c.in_ok-refill.ensures.same) (omega (arith, before, c.scan.ensures.grows))),
       c.in_ok-refill.ensures.cause.quiet ∙ c.lines.invariant.4,
+      (λ ends. absurd (still_ends _ _ c.self.inside.scanner c.scan.new.self _ _ c.lines.invariant.5 (ap (λ (k : Cutting). k.scanner) c.self.view_is) c.in-None.ensures.keeps c.in-None.ensures.dry ends)),
     )
