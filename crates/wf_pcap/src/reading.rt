@@ -1,6 +1,6 @@
 //! The headers of a capture file, as they are read.
 
-ghost use Rattle.std.specs.Prelude.{◌≡◌, ◌+◌, ◌≤◌, IfOk, Ok, length};
+ghost use Rattle.std.specs.Prelude.{◌≡◌, ◌+◌, ◌≤◌, IfOk, Ok, Some, length};
 ghost use Rattle.wf_pcap.specs.Capture.{number_at, IsHead, packet_in};
 ghost use Rattle.wf_pcap.specs.Faults.{precision_of, form_of, head_fault, packet_fault, fault_of};
 ghost use Rattle.wf_pcap.specs.declared.reading.Form.{Form};
@@ -79,6 +79,7 @@ pub enum PcapFault {
 pub fn read_head(octets: &[u8]) -> Result<Form, PcapFault>
     ensures read { IfOk result (λ form. IsHead octets.now form) }
     ensures complete { (form : Form) → IsHead octets.now form → result ≡ Ok form }
+    ensures form { IfOk result (λ form. form_of octets.now ≡ Some form) }
 
     // it is refused for the first check that fails, and for nothing else
     ensures fault { fault_of result ≡ head_fault octets.now }

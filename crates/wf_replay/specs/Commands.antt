@@ -3,7 +3,7 @@ use Rattle.std.specs.Prelude.{ℕ, ◌^◌, ◌-◌, nat_le, ◌&&◌, List, [],
 use Rattle.std.specs.Str.{bytes_eq}
 use Rattle.wf_trace.specs.Words.{is_plain_number, value_from}
 use Rattle.wf_replay.specs.declared.words.Command.{Command}
-use Rattle.wf_replay.specs.declared.words.Command.TheVariants.{Replay, Soak, Session, Uplink}
+use Rattle.wf_replay.specs.declared.words.Command.TheVariants.{Replay, Soak, Session, Uplink, Frames}
 
 -- the number that a word is, where it lies between two
 abbrev pub number_within : ℕ → ℕ → List ℕ → Option ℕ
@@ -20,9 +20,10 @@ abbrev pub word_command : List ℕ → Option Command
 word_command word =
     if bytes_eq word (codes "replay") then Some Replay
     else (if bytes_eq word (codes "session") then Some Session
-    else (if bytes_eq word (codes "uplink") then Some Uplink else None))
+    else (if bytes_eq word (codes "uplink") then Some Uplink
+    else (if bytes_eq word (codes "frames") then Some Frames else None)))
 
--- `replay`, `session`, `uplink`, and `soak SEED CALLS`
+-- `replay`, `session`, `uplink`, `frames`, and `soak SEED CALLS`
 abbrev pub command_of : List (List ℕ) → Option Command
 command_of [] = None
 command_of (word ∷ []) = word_command word

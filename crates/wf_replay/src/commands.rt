@@ -13,6 +13,8 @@ ghost use Rattle.wf_laws.specs.Lengths.{HasLengths};
 ghost use Rattle.wf_replay.specs.Laws.{HasLaws};
 ghost use Rattle.wf_session_run.specs.Outcome.{SessionOutcome, SessionAnswered, SessionLaw};
 ghost use Rattle.wf_uplink_run.specs.Outcome.{UplinkOutcome, UplinkAnswered, UplinkLaw};
+ghost use Rattle.wf_frames_run.specs.Outcome.{FramesOutcome, FramesAnswered};
+ghost use Rattle.wf_frames_run.specs.Law.{FramesLaw};
 
 use crate::plain::Plain;
 use crate::runner::replay_on;
@@ -20,6 +22,7 @@ use crate::words::{Command, command_from};
 use std::alloc::Global;
 use std::sync::Wait;
 use std::thread::Threads;
+use wf_frames_run::frames;
 use wf_io::{Sink, Source};
 use wf_live::soak;
 use wf_report::{Unwritten, summary};
@@ -63,8 +66,8 @@ pub fn soaked<K: Sink>(alloc: Global, seed: u64, calls: u32, sink: &mut K) -> St
     }
 }
 
-/// Runs the command that the words are, on this source and sink: `replay`, `soak SEED CALLS`, `session` or
-/// `uplink`.
+/// Runs the command that the words are, on this source and sink: `replay`, `soak SEED CALLS`, `session`, `uplink` or
+/// `frames`.
 pub fn run<R: Threads + Wait + Sync, S: Source, K: Sink, T: Turnstile + Sync>(
     rt: &R,
     alloc: Global,
@@ -113,6 +116,16 @@ pub fn run<R: Threads + Wait + Sync, S: Source, K: Sink, T: Turnstile + Sync>(
         (input : List ℕ) → S.left source.old ≡ Some input → UplinkAnswered input result }
     ensures uplink_law { (input : List ℕ) → S.left source.old ≡ Some input → UplinkLaw input }
 
+    // on `frames`
+    ensures frames { command_of (map string_bytes words.now) ≡ Some Command.Frames →
+        (taken written : List ℕ) × (S.left source.old ≡ prepend_known taken (S.left source.new))
+        × (K.held sink.new ≡ append_known (K.held sink.old) written)
+        × ((input : List ℕ) → S.left source.old ≡ Some input → FramesOutcome result input taken written) }
+    ensures frames_complete { command_of (map string_bytes words.now) ≡ Some Command.Frames →
+        (HasRisen (S.faults source.old) (S.faults source.new) → ⊥) → (HasRisen (K.faults sink.old) (K.faults sink.new) → ⊥) →
+        (input : List ℕ) → S.left source.old ≡ Some input → FramesAnswered input result }
+    ensures frames_law { (input : List ℕ) → S.left source.old ≡ Some input → FramesLaw input }
+
     // on all
     ensures read { result ≡ Status.ReadFault → HasRisen (S.faults source.old) (S.faults source.new) }
     ensures source_quiet { result ≢ Status.ReadFault → S.faults source.new ≡ S.faults source.old }
@@ -127,5 +140,6 @@ pub fn run<R: Threads + Wait + Sync, S: Source, K: Sink, T: Turnstile + Sync>(
         Some(Command::Soak { seed, calls }) => soaked(alloc, seed, calls, sink),
         Some(Command::Session) => session(alloc, source, sink),
         Some(Command::Uplink) => uplink(alloc, source, sink),
+        Some(Command::Frames) => frames(alloc, source, sink),
     }
 }

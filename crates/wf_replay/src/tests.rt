@@ -176,3 +176,24 @@ fn an_uplink_answers_its_script(rt: HostRuntime) -> Result<(), Fail> {
     );
     Ok(())
 }
+
+/// A capture of one BlockAck in the high octet first.
+const CAPTURE: [u8; 68] = [
+    0xa1, 0xb2, 0xc3, 0xd4, 0, 2, 0, 4, 0, 0, 0, 0, 0, 0, 0, 0, 0, 0, 0xff, 0xff, 0, 0, 0, 0x69, 0,
+    0, 0, 5, 0, 0, 0, 7, 0, 0, 0, 28, 0, 0, 0, 28, 0x94, 0, 0, 0, 2, 0, 0, 0, 0, 0, 2, 0, 0, 1, 0,
+    0, 4, 0, 0x40, 6, 1, 0, 0, 0, 0, 0, 0, 0,
+];
+
+#[test]
+fn a_capture_is_listed(rt: HostRuntime) -> Result<(), Fail> {
+    let mut source = Given::new(CAPTURE.to_vec(rt.alloc())?, 16, Vec::new(rt.alloc()));
+    let mut sink = Kept::new(rt.alloc(), 65_536, 4096, Vec::new(rt.alloc()))?;
+    let mut words = Vec::new(rt.alloc());
+    words.push("frames".to_string(rt.alloc())?)?;
+    assert!(rt; run(&rt, rt.alloc(), &words, &mut source, &mut sink, &Free) == Status::Done);
+    assert_eq!(rt;
+        sink.octets(),
+        b"5 7 len 28 ba tid 0 start 100\npackets 1\n".as_slice()
+    );
+    Ok(())
+}

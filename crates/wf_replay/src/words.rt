@@ -18,6 +18,8 @@ pub enum Command {
     Session,
     /// Play the script on standard input on the uplink of 256 stations.
     Uplink,
+    /// List the packets of the capture file on standard input.
+    Frames,
 }
 
 /// The value of digits, unless it goes past 64 bits.
@@ -76,6 +78,7 @@ pub fn command_from(words: &[String]) -> Option<Command>
         [word] if word.as_str() == "replay" => Some(Command::Replay),
         [word] if word.as_str() == "session" => Some(Command::Session),
         [word] if word.as_str() == "uplink" => Some(Command::Uplink),
+        [word] if word.as_str() == "frames" => Some(Command::Frames),
         [word, seed, calls] if word.as_str() == "soak" => soak_of(
             number_within(0, u64::MAX, seed.as_bytes()),
             number_within(1, 1_000_000, calls.as_bytes()),
