@@ -22,7 +22,8 @@ fn words(rt: &HostRuntime) -> Result<Vec<String>, Status> {
 fn message(status: Status) -> &'static str {
     match status {
         Status::Done | Status::BadTrace => "",
-        Status::Usage => "usage: wf replay | wf soak SEED CALLS | wf session | wf frames | wf uplink",
+        Status::Usage =>
+            "usage: wf replay | wf soak SEED CALLS | wf session | wf frames | wf uplink",
         Status::ReadFault => "wf: read fault",
         Status::WriteFault => "wf: write fault",
         Status::NoMemory => "wf: no memory",
