@@ -70,9 +70,11 @@ impl Frame {
         requires within { (0 < len) × (len ≤ greatest_body) }
         ensures { IfOk result (λ f. f ≡ new_frame station tid flow (sample_body flow len)) }
     {
-        let mut body = Vec::new(alloc);
-        for j in 0..len {
-            body.push(((u64::from(flow) + u64::from(j)) % 256) as u8)?;
+        let mut body = vec![in alloc; 0; usize::from(len)]?;
+        let mut next = (flow % 256) as u8;
+        for octet in body.iter_mut() {
+            *octet = next;
+            next = next.wrapping_add(1);
         }
         Ok(Frame {
             body,

@@ -1,6 +1,6 @@
-use Rattle.std.proofs.Common.{◌≡◌, length}
+use Rattle.std.proofs.Common.{◌≡◌, ◌+◌, ◌%◌, take}
 use Rattle.wf_frame.specs.Frames.{sample_body}
 use Rattle.wf_frame.proofs.frames.Frame.sample.Given as goal
 
-abbrev pub invariant-loop-j : goal.invariant-loop-j
-invariant-loop-j l = (length l.body.items ≡ l.j) × (l.body.items ≡ sample_body l.flow l.j)
+abbrev pub invariant-loop-octet : goal.invariant-loop-octet
+invariant-loop-octet l = (l.next ≡ (l.flow + l.octet-index) % 256) × (take l.octet-index l.octet-items ≡ sample_body l.flow l.octet-index)
