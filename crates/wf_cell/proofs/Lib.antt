@@ -4,5 +4,6 @@ pub mod Calls
 pub mod Exchanges
 pub mod Written
 pub mod Rights
+pub mod Bodies
 pub mod Steps
 pub mod News

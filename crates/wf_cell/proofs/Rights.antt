@@ -34,7 +34,7 @@ unfolding reap_outcome
 told_of [] w id fate e = absurd (cc e)
 told_of (first ∷ ids) w id fate e = let same : first ≡ id = cc e in subst (λ k. has (first ∷ ids) k ≡ true) same (has_head first ids)
 
-on_the_list : (w : World) (id : ℕ) (fate : Fate) → (step w (Asked ask.Reap)).reply ≡ reply.Reaped id fate → has w.finished id ≡ true
+pub on_the_list : (w : World) (id : ℕ) (fate : Fate) → (step w (Asked ask.Reap)).reply ≡ reply.Reaped id fate → has w.finished id ≡ true
 unfolding outcome_of
 on_the_list w id fate e = of (refusal w (Asked ask.Reap)) refl
   where

@@ -2,3 +2,4 @@ pub mod Engines
 pub mod Cells
 pub mod Octets
 pub mod Rights
+pub mod Bodies
