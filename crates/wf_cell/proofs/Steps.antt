@@ -53,7 +53,7 @@ module _ (p : Past) (engine : EngineValue) (capacity : ℕ) (is : IsCell p engin
 -- after a call, where there was room
 module _ (p : Past) (engine : EngineValue) (capacity : ℕ) (is : IsCell p engine capacity) (own : p.config ≡ engine.half.config) (room : 0 < room_in p) (caller : ℕ) (job : Job) (after : EngineValue)
     (answered : ReplyNote) (given : Option FrameValue) (done : (w : World) (bodies : ℕ → FrameValue) → IsIn engine w bodies → IsDone w bodies job engine.half after answered given) where
-  stepped : IsDone (world_of p) is.bodies job engine.half after answered given
+  pub stepped : IsDone (world_of p) is.bodies job engine.half after answered given
   stepped = done (world_of p) is.bodies is.is_in
 
   pub replied : answered ≡ (step (world_of p) (note_of job)).reply

@@ -1,3 +1,5 @@
 pub mod Engines
 pub mod Cells
 pub mod Octets
+pub mod Rights
+pub mod Bodies

@@ -1,11 +1,12 @@
 //! The cell and its history.
 
-ghost use Rattle.std.specs.Prelude.{◌≡◌, ◌↔◌, ◌+◌, ◌<◌, ◌≤◌, ℕ, [], Err, Some, IfOk, length, slice_get};
+ghost use Rattle.std.specs.Prelude.{◌≡◌, ◌↔◌, ◌+◌, ◌<◌, ◌≤◌, ℕ, [], Err, Some, is_some, IfOk, IfSome, length, slice_get};
 ghost use Rattle.wf_frame.specs.Answers.{reply_of};
 ghost use Rattle.wf_frame.specs.Frames.{FrameValue};
 ghost use Rattle.wf_frame.specs.Settings.{first_out_of_range};
+ghost use Rattle.wf_frame.specs.declared.classes.Fate.{Fate};
 ghost use Rattle.wf_frame.specs.declared.notes.Refusal.TheVariants.{HistoryFull};
-ghost use Rattle.wf_frame.specs.declared.notes.ReplyNote.TheVariants.{Refused};
+ghost use Rattle.wf_frame.specs.declared.notes.ReplyNote.TheVariants.{Reaped, Refused};
 ghost use Rattle.wf_frame.specs.declared.settings.Field.{Field};
 ghost use Rattle.wf_world.specs.Run.{by, world_of};
 ghost use Rattle.wf_world.specs.Step.{step};
@@ -13,9 +14,13 @@ ghost use Rattle.wf_laws.specs.Laws.{Laws};
 ghost use Rattle.wf_laws.specs.Lengths.{HasLengths};
 ghost use Rattle.wf_laws.specs.Queues.{HasLength, IsAtMost};
 ghost use Rattle.wf_rules.specs.Lengths.{greatest_body};
+ghost use Rattle.wf_transmit_refines.specs.Half.{body_of};
 ghost use Rattle.wf_transmit_refines.specs.Standing.{StandsFor};
+ghost use Rattle.wf_bodies.specs.Inside.{is_inside};
 ghost use Rattle.wf_path.specs.Jobs.{bodies_after, frame_of, given_back, note_of};
+ghost use Rattle.wf_cell.specs.Bodies.{body_after};
 ghost use Rattle.wf_cell.specs.Cells.{room_in, with_entry};
+ghost use Rattle.wf_cell.specs.Rights.{IsRight};
 
 use crate::engine::Engine;
 use std::alloc::Global;
@@ -93,6 +98,14 @@ impl Cell {
         ensures stands { 0 < room_in self.old.past → (bodies : ℕ → FrameValue) → StandsFor self.old.half (world_of self.old.past) bodies →
             StandsFor self.new.half (world_of self.new.past) (bodies_after self.old.half job (reply_of answer.new) bodies) }
 
+        // an accepted frame brings the body of its id, and a reaped one takes it out; every other body stays, id by id
+        ensures bodies { 0 < room_in self.old.past → (id : ℕ) → body_of self.new.half id ≡ body_after self.old.half (reply_of answer.new) job id }
+        ensures reaped { 0 < room_in self.old.past → (id : ℕ) (fate : Fate) → reply_of answer.new ≡ Reaped id fate →
+            IfSome result (λ f. body_of self.old.half id ≡ Some f.body) }
+
+        // so the answer is right, as a gate asks it of a machine
+        ensures right { 0 < room_in self.old.past → IsRight self.old.past.config self.old.past.history job (reply_of answer.new) result }
+
         // where there is none, nothing changes
         ensures full { room_in self.old.past ≡ 0 → reply_of answer.new ≡ Refused HistoryFull }
         ensures unchanged { room_in self.old.past ≡ 0 → self.new ≡ self.old }
@@ -139,10 +152,12 @@ impl Cell {
         self.engine.path.config()
     }
 
-    /// The transmit path. It stands for the world after the history.
+    /// The transmit path. It stands for the world after the history, and has a body for each frame that was accepted and is not
+    /// reaped: the held ones and those on the finished list.
     pub fn path(&self) -> &Path
         ensures value { result.now ≡ self.now.half }
         ensures stands { (bodies : ℕ → FrameValue) × StandsFor self.now.half (world_of self.now.past) bodies }
+        ensures inside { (id : ℕ) → is_some (body_of self.now.half id) ≡ is_inside (world_of self.now.past) id }
     {
         &self.engine.path
     }

@@ -1,7 +1,7 @@
 //! Threads may share a gate, and each may take a seat, at every machine that may be sent to a thread.
 use crate::gate::Gate;
-use crate::machine::Machine;
 use crate::seat::Seat;
+use wf_machine::Machine;
 
 fn is_shared<T: Sync>() {}
 

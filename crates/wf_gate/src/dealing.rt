@@ -7,10 +7,10 @@ ghost use Rattle.wf_gate.specs.Turns.{opening_of, first_view};
 ghost use Rattle.wf_gate.specs.Passes.{IsSized};
 ghost use Rattle.wf_gate.specs.Seats.{gate_of, new_seat, IsOf, IsRecorded};
 
-use crate::machine::Machine;
 use crate::plays::{Deal, Gather};
 use crate::seat::{Seat, SeatOf};
 use crate::view::{Pass, Shared};
+use wf_machine::Machine;
 
 /// Cuts the first seat into one for each quota. The last is what is left of the first.
 pub(crate) fn deal<M: Machine + Drop>(

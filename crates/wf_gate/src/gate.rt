@@ -4,7 +4,6 @@ ghost use mathlib.Core.List.{IsPrefix};
 ghost use Rattle.wf_gate.specs.Seats.{IsOf, IsSameSeat, IsAtRest, new_seat, AreAll, EndsWith, last_place, AreOfSeats, IsRightAt, places_of, made_since, opened};
 
 use crate::dealing::{deal, gather};
-use crate::machine::Machine;
 use crate::seat::Seat;
 use crate::turn::{draw, serve, wait};
 use crate::view::{Key, MACHINE, Turns, View};
@@ -13,6 +12,7 @@ use std::alloc::{AllocError, Global};
 use std::marker::Model;
 use std::snapshot::Snapshot;
 use std::sync::Wait;
+use wf_machine::Machine;
 
 /// A gate before a machine. Contracts see it as a `GateView`: which gate it is, the machine as it was when the gate was made, and the quotas.
 #[derive(Drop)]

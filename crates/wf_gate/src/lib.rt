@@ -7,7 +7,6 @@
 mod crossing;
 mod dealing;
 mod gate;
-mod machine;
 mod plays;
 mod seat;
 #[cfg(test)]
@@ -17,6 +16,6 @@ mod turn;
 mod view;
 
 pub use gate::{Gate, Spent};
-pub use machine::Machine;
 pub use seat::{Seat, SeatOf};
 pub use tries::TryFault;
+pub use wf_machine::Machine;

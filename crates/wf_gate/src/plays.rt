@@ -1,10 +1,10 @@
 //! What each step on the table tells.
 ghost use Rattle.wf_gate.specs.Turns.{drawn, looked, peeked, tried, served, deal_left, deal_right, joined, spent};
 
-use crate::machine::Machine;
 use crate::view::View;
 use atomic_table::{Join, Play, Split};
 use std::marker::PhantomData;
+use wf_machine::Machine;
 
 /// A ticket is drawn.
 pub(crate) struct Draw;

@@ -1,9 +1,9 @@
 //! A seat at the gate.
 ghost use Rattle.std.specs.Prelude.{◌≡◌, ◌≤◌, length};
 
-use crate::machine::Machine;
 use crate::view::View;
 use std::marker::Model;
+use wf_machine::Machine;
 
 /// A seat at the gate, by which one caller makes its calls. `Seat<M>` is its name at a machine M.
 /// Contracts see it as a `SeatView`: its number, its quota, and what it has seen and done.

@@ -5,9 +5,9 @@ ghost use Rattle.wf_gate.specs.Seats.{IsOf, IsSameSeat, IsAtRest, EndsWith, last
 ghost use Rattle.wf_gate.specs.Faults.{IfSpent, IfBusy};
 
 use crate::gate::Gate;
-use crate::machine::Machine;
 use crate::seat::Seat;
 use crate::turn::{attempt, serve};
+use wf_machine::Machine;
 
 /// Why a try made no call.
 #[derive(Debug, Drop)]

@@ -4,11 +4,11 @@ ghost use Rattle.wf_gate.specs.declared.view.Stage.TheVariants.{Idle, Waits};
 ghost use Rattle.wf_gate.specs.Turns.{opening_of, waiting, after_turn, in_vain};
 ghost use Rattle.wf_gate.specs.Passes.{IsSized, IsPassOf, MayDraw, HasTurn, AtTurn};
 
-use crate::machine::Machine;
 use crate::plays::{Draw, Look, Peek, Serve, Try};
 use crate::view::{MACHINE, Pass, SERVING, Shared, TICKET};
 use std::sync::Wait;
 use std::thread;
+use wf_machine::Machine;
 
 /// Draws the next ticket.
 pub(crate) fn draw<M: Machine + Drop>(shared: &Shared<M>, pass: &mut Pass<M>) -> u64

@@ -1,9 +1,9 @@
 //! What a seat knows of the gate, and the table's rule. No value of `View`, `Face`, `Stage` or `Opening` is made: these are types of the proofs alone.
-use crate::machine::Machine;
 use atomic_table::TableRule;
 use std::collections::LinkedList;
 use std::marker::PhantomData;
 use std::snapshot::Snapshot;
+use wf_machine::Machine;
 
 /// The machine as it was when the gate was made, and the quotas by seat number.
 pub struct Opening<S> {

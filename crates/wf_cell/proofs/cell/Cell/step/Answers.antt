@@ -1,4 +1,4 @@
-use Rattle.std.proofs.Common.{◌≡◌, ap, sym, ◌∙◌, subst, ℕ, ◌<◌, List, [], ◌∷◌, ◌++◌, refl, vec_capacity, arith}
+use Rattle.std.proofs.Common.{IfSome, Some, ◌≡◌, ap, sym, ◌∙◌, subst, ℕ, ◌<◌, List, [], ◌∷◌, ◌++◌, refl, vec_capacity, arith}
 use Rattle.wf_frame.specs.Answers.{reply_of}
 use Rattle.wf_frame.specs.declared.notes.Note.{Note}
 use Rattle.wf_frame.specs.declared.notes.ReplyNote.{ReplyNote}
@@ -6,11 +6,18 @@ use Rattle.wf_rules.specs.Lengths.{greatest_body}
 use Rattle.wf_world.specs.Run.{Entry, Past, by, world_of}
 use Rattle.wf_laws.specs.Laws.{Laws}
 use Rattle.wf_laws.specs.Queues.{HasLength, IsAtMost}
+use Rattle.wf_frame.specs.declared.classes.Fate.{Fate}
+use Rattle.wf_frame.specs.declared.notes.ReplyNote.TheVariants.{Reaped}
+use Rattle.wf_transmit_refines.specs.Half.{TransmitValue, body_of}
 use Rattle.wf_transmit_refines.specs.Standing.{StandsFor}
 use Rattle.wf_path.specs.Jobs.{note_of, bodies_after}
 use Rattle.wf_cell.specs.Engines.{EngineValue}
 use Rattle.wf_cell.specs.Cells.{CellValue, room_in, with_entry}
-use Rattle.wf_cell.proofs.Steps.{all_laws, is_small, past_grown, still_stands, next_cell}
+use Rattle.wf_cell.specs.Rights.{IsRight}
+use Rattle.wf_cell.specs.Bodies.{body_after}
+use Rattle.wf_cell.proofs.Bodies.{bodies_then, reaped_body}
+use Rattle.wf_cell.proofs.Rights.{is_right}
+use Rattle.wf_cell.proofs.Steps.{all_laws, is_small, stepped, replied, came_back, past_grown, still_stands, next_cell}
 use Rattle.wf_cell.proofs.cell.Cell.step.Goals as goal
 
 pub returns-then-room-eq0-clause-laws : goal.returns-then-room-eq0-clause-laws
@@ -51,6 +58,43 @@ returns-clause-past c = λ some.
     let grown : history ≡ p.history ++ e ∷ [] = c.push_reserved.ensures.items ∙ ap (λ (n : Note). p.history ++ by c.args.caller n ∷ []) c.note_of_job.ensures.value in
     past_grown p engine (vec_capacity c.self.inside.past) c.self.invariant refl room c.args.caller c.args.job c.step.new.self answered c.step.result c.step.ensures history grown
     ∙ ap (λ (u : CellValue). with_entry e u.past) c.self.view_is
+
+pub returns-clause-bodies : goal.returns-clause-bodies
+returns-clause-bodies c = λ some id.
+    let engine : EngineValue = c.self.inside.engine in
+    let p : Past = record { config = engine.half.config; history = c.self.inside.past.items } in
+    let is = c.self.invariant in
+    let answered : ReplyNote = reply_of c.step.new.answer in
+    let left : c.room.result ≡ room_in p = c.room.ensures ∙ ap (λ (u : CellValue). room_in u.past) (sym c.self.view_is) in
+    let room : 0 < room_in p = omega (arith, left, c.if-room-eq0.false) in
+    let after = stepped p engine (vec_capacity c.self.inside.past) is refl room c.args.caller c.args.job c.step.new.self answered c.step.result c.step.ensures in
+    subst (λ (u : CellValue). body_of c.step.new.self.half id ≡ body_after u.half answered c.args.job id) c.self.view_is
+    (bodies_then engine.half c.step.new.self.half (world_of p) is.bodies c.args.job answered is.is_in.half after.reply after.is_in.half id)
+
+pub returns-clause-reaped : goal.returns-clause-reaped
+returns-clause-reaped c = λ some id fate told.
+    let engine : EngineValue = c.self.inside.engine in
+    let p : Past = record { config = engine.half.config; history = c.self.inside.past.items } in
+    let is = c.self.invariant in
+    let answered : ReplyNote = reply_of c.step.new.answer in
+    let left : c.room.result ≡ room_in p = c.room.ensures ∙ ap (λ (u : CellValue). room_in u.past) (sym c.self.view_is) in
+    let room : 0 < room_in p = omega (arith, left, c.if-room-eq0.false) in
+    let after = stepped p engine (vec_capacity c.self.inside.past) is refl room c.args.caller c.args.job c.step.new.self answered c.step.result c.step.ensures in
+    subst (λ (u : CellValue). IfSome c.step.result (λ f. body_of u.half id ≡ Some f.body)) c.self.view_is
+    (reaped_body engine.half (world_of p) is.bodies c.args.job answered c.step.result is.is_in.half after.reply after.back id fate told)
+
+pub returns-clause-right : goal.returns-clause-right
+returns-clause-right c = λ some.
+    let engine : EngineValue = c.self.inside.engine in
+    let p : Past = record { config = engine.half.config; history = c.self.inside.past.items } in
+    let is = c.self.invariant in
+    let answered : ReplyNote = reply_of c.step.new.answer in
+    let left : c.room.result ≡ room_in p = c.room.ensures ∙ ap (λ (u : CellValue). room_in u.past) (sym c.self.view_is) in
+    let room : 0 < room_in p = omega (arith, left, c.if-room-eq0.false) in
+    subst (λ (u : CellValue). IsRight u.past.config u.past.history c.args.job answered c.step.result) c.self.view_is
+    (is_right engine.half p is.bodies c.args.job answered c.step.result is.is_in.half
+    (replied p engine (vec_capacity c.self.inside.past) is refl room c.args.caller c.args.job c.step.new.self answered c.step.result c.step.ensures)
+    (came_back p engine (vec_capacity c.self.inside.past) is refl room c.args.caller c.args.job c.step.new.self answered c.step.result c.step.ensures is.bodies is.is_in.half))
 
 pub returns-clause-stands : goal.returns-clause-stands
 returns-clause-stands c = λ some bodies stands.

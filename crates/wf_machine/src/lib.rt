@@ -1,4 +1,6 @@
-//! What the gate is a gate to.
+//! What makes one step for each call and keeps a history: a machine, which a gate may share among threads.
+#![tactic(auto)]
+
 ghost use Rattle.std.specs.Prelude.{◌≡◌, ℕ, ◌+◌, ◌<◌, List, [], ◌∷◌, ◌++◌};
 
 /// A machine that makes one step for each call and keeps a history of them.

@@ -1,0 +1,129 @@
+-- The bodies that a half has after a call.
+use Rattle.std.proofs.Common.{◌≡◌, refl, ap, sym, ◌∙◌, subst, ℕ, ◌==◌, Bool, true, false, if◌then◌else◌, List, Option, Some, None, IfSome, is_some}
+use Rattle.std.specs.Prelude.{◌||◌}
+use Rattle.wf_frame.specs.Frames.{FrameValue}
+use Rattle.wf_frame.specs.declared.classes.Fate.{Fate}
+use Rattle.wf_frame.specs.declared.notes.Ask.{Ask}
+use Rattle.wf_frame.specs.declared.notes.Ask.TheVariants as ask
+use Rattle.wf_frame.specs.declared.notes.Note.TheVariants.{Asked}
+use Rattle.wf_frame.specs.declared.notes.ReplyNote.{ReplyNote}
+use Rattle.wf_frame.specs.declared.notes.ReplyNote.TheVariants as reply
+use Rattle.wf_rule_laws.proofs.Lemmas.Numbers.{on_bool, yes_eq}
+use Rattle.wf_rules.specs.Table.{has}
+use Rattle.wf_world.specs.World.{World}
+use Rattle.wf_world.specs.Step.{step}
+use Rattle.wf_fate.specs.Tally.{Counts}
+use Rattle.wf_flowq_refines.specs.Frames.{with_body}
+use Rattle.wf_transmit.specs.Enqueues.{as_accepted}
+use Rattle.wf_transmit_refines.specs.Half.{TransmitValue, body_of}
+use Rattle.wf_transmit_refines.specs.Standing.{StandsFor}
+use Rattle.wf_bodies.specs.Inside.{is_held_id, is_inside, inside_after, body_inside}
+use Rattle.wf_bodies.proofs.Inside.{next_id, inside_reached}
+use Rattle.wf_bodies.proofs.Frames.{bodies_are}
+use Rattle.wf_path.specs.declared.job.Job.{Job}
+use Rattle.wf_path.specs.declared.job.Job.TheVariants.{Give, Call}
+use Rattle.wf_path.specs.Jobs.{bodies_after, given_back, note_of}
+use Rattle.wf_cell.specs.Bodies.{body_after}
+use Rattle.wf_cell.proofs.Rights.{on_the_list}
+
+module _ (v : TransmitValue) (w : World) (bodies : ℕ → FrameValue) (stands : StandsFor v w bodies) where
+  -- an id that stays where it was
+  stays : (id : ℕ) → body_inside w bodies id ≡ body_of v id
+  stays id = sym (bodies_are v w bodies stands id)
+
+  -- the frame of a new id comes in
+  comes : (f : FrameValue) (new id : ℕ) → new ≡ v.tally.accepted → (if (if id == new then true else is_inside w id) then Some (with_body bodies (as_accepted v f) id).body else None) ≡ (if id == new then Some f.body else body_of v id)
+  comes f new id next =
+      subst (λ k. (if (if id == k then true else is_inside w id) then Some (with_body bodies (as_accepted v f) id).body else None) ≡ (if id == k then Some f.body else body_of v id)) (sym next) (of (id == v.tally.accepted) refl)
+    where
+      of : (b : Bool) → (id == v.tally.accepted) ≡ b → (if (if id == v.tally.accepted then true else is_inside w id) then Some (if id == v.tally.accepted then as_accepted v f else bodies id).body else None) ≡ (if id == v.tally.accepted then Some f.body else body_of v id)
+      of true e = subst (λ b. (if (if b then true else is_inside w id) then Some (if b then as_accepted v f else bodies id).body else None) ≡ (if b then Some f.body else body_of v id)) (sym e) refl
+      of false e = subst (λ b. (if (if b then true else is_inside w id) then Some (if b then as_accepted v f else bodies id).body else None) ≡ (if b then Some f.body else body_of v id)) (sym e) (stays id)
+
+  -- a reaped id goes out
+  goes : (gone id : ℕ) → (if (if id == gone then false else is_inside w id) then Some (bodies id).body else None) ≡ (if id == gone then None else body_of v id)
+  goes gone id = of (id == gone)
+    where
+      of : (b : Bool) → (if (if b then false else is_inside w id) then Some (bodies id).body else None) ≡ (if b then None else body_of v id)
+      of true = refl
+      of false = stays id
+
+  by_reply : (job : Job) (answered : ReplyNote) (id : ℕ) → ((f : FrameValue) (new : ℕ) (dropped : Option ℕ) → job ≡ Give f → answered ≡ reply.Accepted new dropped → new ≡ v.tally.accepted) →
+      (if inside_after w answered (note_of job) id then Some (bodies_after v job answered bodies id).body else None) ≡ body_after v answered job id
+  by_reply (Give f) reply.Joined id next = stays id
+  by_reply (Give f) (reply.Gone dropped) id next = stays id
+  by_reply (Give f) reply.RateSet id next = stays id
+  by_reply (Give f) (reply.Ticked now) id next = stays id
+  by_reply (Give f) (reply.Accepted new dropped) id next = comes f new id (next f new dropped refl refl)
+  by_reply (Give f) (reply.Send exchange station tid air part more) id next = stays id
+  by_reply (Give f) (reply.Released ids) id next = stays id
+  by_reply (Give f) (reply.Ba start b0 b1 b2 b3 wide) id next = stays id
+  by_reply (Give f) (reply.Ended acked waiting failed) id next = stays id
+  by_reply (Give f) reply.Slept id next = stays id
+  by_reply (Give f) reply.Woken id next = stays id
+  by_reply (Give f) (reply.Credited class) id next = stays id
+  by_reply (Give f) (reply.Charged deficit) id next = stays id
+  by_reply (Give f) (reply.Reaped gone fate) id next = goes gone id
+  by_reply (Give f) (reply.Refused reason) id next = stays id
+  by_reply (Call ask) reply.Joined id next = stays id
+  by_reply (Call ask) (reply.Gone dropped) id next = stays id
+  by_reply (Call ask) reply.RateSet id next = stays id
+  by_reply (Call ask) (reply.Ticked now) id next = stays id
+  by_reply (Call ask) (reply.Accepted new dropped) id next = stays id
+  by_reply (Call ask) (reply.Send exchange station tid air part more) id next = stays id
+  by_reply (Call ask) (reply.Released ids) id next = stays id
+  by_reply (Call ask) (reply.Ba start b0 b1 b2 b3 wide) id next = stays id
+  by_reply (Call ask) (reply.Ended acked waiting failed) id next = stays id
+  by_reply (Call ask) reply.Slept id next = stays id
+  by_reply (Call ask) reply.Woken id next = stays id
+  by_reply (Call ask) (reply.Credited class) id next = stays id
+  by_reply (Call ask) (reply.Charged deficit) id next = stays id
+  by_reply (Call ask) (reply.Reaped gone fate) id next = goes gone id
+  by_reply (Call ask) (reply.Refused reason) id next = stays id
+
+-- the body of each id after a call
+pub bodies_then : (v u : TransmitValue) (w : World) (bodies : ℕ → FrameValue) (job : Job) (answered : ReplyNote) → StandsFor v w bodies → answered ≡ (step w (note_of job)).reply → StandsFor u (step w (note_of job)).world (bodies_after v job answered bodies) →
+    (id : ℕ) → body_of u id ≡ body_after v answered job id
+bodies_then v u w bodies job answered stands told after id =
+    let inside : is_inside (step w (note_of job)).world id ≡ inside_after w answered (note_of job) id =
+    inside_reached w stands.reached (note_of job) id ∙ ap (λ (r : ReplyNote). inside_after w r (note_of job) id) (sym told) in
+    bodies_are u (step w (note_of job)).world (bodies_after v job answered bodies) after id
+    ∙ ap (λ (b : Bool). if b then Some (bodies_after v job answered bodies id).body else None) inside
+    ∙ by_reply v w bodies stands job answered id
+    (λ f new dropped is said. next_id w f.station f.tid f.flow _ new dropped (ap (λ (j : Job). (step w (note_of j)).reply) (sym is) ∙ sym told ∙ said) ∙ sym (ap (λ (c : Counts). c.accepted) stands.parts.others.tally))
+
+-- the frame that a reap hands back has the body that its id had
+pub reaped_body : (v : TransmitValue) (w : World) (bodies : ℕ → FrameValue) (job : Job) (answered : ReplyNote) (back : Option FrameValue) → StandsFor v w bodies → answered ≡ (step w (note_of job)).reply → back ≡ given_back bodies job answered →
+    (id : ℕ) (fate : Fate) → answered ≡ reply.Reaped id fate → IfSome back (λ f. body_of v id ≡ Some f.body)
+reaped_body v w bodies job answered back stands told given id fate is =
+    subst (λ (b : Option FrameValue). IfSome b (λ f. body_of v id ≡ Some f.body)) (sym (given ∙ ap (given_back bodies job) is)) (of job (sym (sym is ∙ told)))
+  where
+    had : (step w (Asked ask.Reap)).reply ≡ reply.Reaped id fate → body_of v id ≡ Some (bodies id).body
+    had e =
+        let there : has w.finished id ≡ true = on_the_list w id fate e in
+        let inside : is_inside w id ≡ true = on_bool (is_held_id w id) (λ b. cc b) (λ b. cc (b, there)) in
+        bodies_are v w bodies stands id ∙ ap (λ (b : Bool). if b then Some (bodies id).body else None) inside
+
+    of : (j : Job) → (step w (note_of j)).reply ≡ reply.Reaped id fate → IfSome (given_back bodies j (reply.Reaped id fate)) (λ f. body_of v id ≡ Some f.body)
+    of (Give f) e = tt
+    of (Call ask.Reap) e = had e
+    of (Call (ask.Join s window start exponent weight)) e = tt
+    of (Call (ask.Leave s)) e = tt
+    of (Call (ask.Rate s mcs mhz short)) e = tt
+    of (Call (ask.Tick by)) e = tt
+    of (Call (ask.Pull c)) e = tt
+    of (Call (ask.Arrive exchange index)) e = tt
+    of (Call (ask.Answer exchange)) e = tt
+    of (Call (ask.Done exchange heard)) e = tt
+    of (Call (ask.Sleep s)) e = tt
+    of (Call (ask.Wake s)) e = tt
+    of (Call (ask.Poll s)) e = tt
+    of (Call (ask.Rx s c air)) e = tt
+
+-- the ids that have a body are those inside
+pub ids_inside : (v : TransmitValue) (w : World) (bodies : ℕ → FrameValue) → StandsFor v w bodies → (id : ℕ) → is_some (body_of v id) ≡ is_inside w id
+ids_inside v w bodies stands id = ap is_some (bodies_are v w bodies stands id) ∙ of (is_inside w id)
+  where
+    of : (b : Bool) → is_some (if b then Some (bodies id).body else None) ≡ b
+    of true = refl
+    of false = refl

@@ -1,0 +1,15 @@
+use Rattle.std.proofs.Common.{◌≡◌, ap, sym, ◌∙◌, subst, ℕ, vec_capacity, is_some}
+use Rattle.wf_transmit_refines.specs.Half.{body_of}
+use Rattle.wf_world.specs.Run.{Past, world_of}
+use Rattle.wf_bodies.specs.Inside.{is_inside}
+use Rattle.wf_cell.specs.Engines.{EngineValue}
+use Rattle.wf_cell.specs.Cells.{CellValue}
+use Rattle.wf_cell.proofs.Bodies.{ids_inside}
+use Rattle.wf_cell.proofs.cell.Cell.path.Goals as goal
+
+pub returns-clause-inside : goal.returns-clause-inside
+returns-clause-inside c = λ id.
+    let engine : EngineValue = c.self.inside.engine in
+    let p : Past = record { config = engine.half.config; history = c.self.inside.past.items } in
+    subst (λ (u : CellValue). is_some (body_of u.half id) ≡ is_inside (world_of u.past) id) c.self.view_is
+    (ids_inside engine.half (world_of p) c.self.invariant.bodies c.self.invariant.is_in.half id)
