@@ -19,7 +19,7 @@ use Rattle.wf_status.specs.declared.status.Status.TheVariants.{Done, Usage, BadT
 use Rattle.wf_world.specs.World.{World, opening}
 use Rattle.wf_trace.specs.Faults.{fault_line}
 use Rattle.wf_replay.specs.Texts.{history_among, text}
-use Rattle.wf_report.specs.Fronts.{HoldsFront}
+use Rattle.wf_status.specs.Fronts.{HoldsFront}
 use Rattle.wf_replay.specs.Running.{Progress, behind_item, text_of_item, closing}
 use Rattle.wf_replay.specs.Sending.{Leaves}
 use Rattle.wf_status.specs.Fronts.{IsFrontOf}

@@ -4,7 +4,7 @@ ghost use Rattle.std.specs.Prelude.{◌≡◌, ◌≢◌, ◌≤◌, ◌+◌, �
 ghost use Rattle.std.specs.Io.KnownBytes.{prepend_known, append_known};
 ghost use Rattle.wf_io.specs.Faults.{HasRisen};
 ghost use Rattle.wf_trace.specs.declared.reader.Item.TheVariants as item;
-ghost use Rattle.wf_report.specs.Fronts.{HoldsFront};
+ghost use Rattle.wf_status.specs.Fronts.{HoldsFront};
 ghost use Rattle.wf_replay.specs.Running.{text_of_item as answer_to, behind_item, closing};
 ghost use Rattle.wf_replay.specs.Outcome.{StatusSays};
 

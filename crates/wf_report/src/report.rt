@@ -8,7 +8,8 @@ ghost use Rattle.wf_io.specs.Words.{text_of, width_of};
 ghost use Rattle.wf_world.specs.World.{live_stations, share};
 ghost use Rattle.wf_frame.specs.Words.{line};
 ghost use Rattle.wf_world.specs.Text.{summary as summary_of, share_line, share_lines, hex};
-ghost use Rattle.wf_report.specs.Fronts.{HoldsFront, counts_of, lines_of, shares_of, map_line};
+ghost use Rattle.wf_status.specs.Fronts.{HoldsFront};
+ghost use Rattle.wf_report.specs.Parts.{counts_of, lines_of, shares_of, map_line};
 
 use crate::parts::push_hex;
 use crate::runs::{Runs, Stopped};

@@ -1,6 +1,6 @@
 use Rattle.std.proofs.Common.{◌++◌}
-use Rattle.wf_report.specs.Fronts.{counts_of, shares_of, map_line}
-use Rattle.wf_report.proofs.FrontLaws.{front_first, front_next, front_whole, two_written, three_written}
+use Rattle.wf_report.specs.Parts.{counts_of, shares_of, map_line}
+use Rattle.wf_status.proofs.FrontLaws.{front_first, front_next, front_whole, two_written, three_written}
 use Rattle.wf_report.proofs.report.write_parts.Goals as goal
 
 pub returns-in-Err-clause-front : goal.returns-in-Err-clause-front

@@ -1,7 +1,8 @@
 use Rattle.std.proofs.Common.{◌∙◌, ap, arith}
 use Rattle.std.specs.Io.KnownBytes.{append_known}
-use Rattle.wf_report.specs.Fronts.{lines_of}
-use Rattle.wf_report.proofs.FrontLaws.{append_known-append, shares_below, shares-more, front_share}
+use Rattle.wf_report.specs.Parts.{lines_of}
+use Rattle.wf_status.proofs.FrontLaws.{append_known-append}
+use Rattle.wf_report.proofs.ShareLaws.{shares_below, shares-more, front_share}
 use Rattle.wf_report.proofs.report.write_shares.Goals as goal
 
 pub returns-in-Err-clause-front : goal.returns-in-Err-clause-front

@@ -1,6 +1,6 @@
 use Rattle.std.proofs.Common.{◌≡◌}
 use Rattle.std.specs.Io.KnownBytes.{append_known}
-use Rattle.wf_report.proofs.FrontLaws.{shares_below}
+use Rattle.wf_report.proofs.ShareLaws.{shares_below}
 use Rattle.wf_report.proofs.report.write_shares.Given as goal
 
 abbrev pub invariant-loop-station : goal.invariant-loop-station

@@ -1,17 +1,9 @@
--- What a sink holds after a text was written to it, or some of it.
-use Rattle.std.specs.Prelude.{◌≡◌, ℕ, List, [], ◌∷◌, ◌++◌, Option, if◌then◌else◌, codes, decimal, length, map}
+-- The parts of a summary.
+use Rattle.std.specs.Prelude.{ℕ, List, [], ◌∷◌, ◌++◌, if◌then◌else◌, codes, decimal, length, map}
 use Rattle.std.specs.List.{concat}
-use Rattle.std.specs.Io.KnownBytes.{append_known}
 use Rattle.wf_world.specs.World.{World, is_live, live_stations}
 use Rattle.wf_frame.specs.Words.{line}
 use Rattle.wf_world.specs.Text.{share_lines, tally_words, traffic_map, with_traffic, hex}
-
--- octets of a text's front were written
-pub record HoldsFront (old new : Option (List ℕ)) (text : List ℕ) : Type 0 where
-  pub written : List ℕ
-  pub rest : List ℕ
-  pub is : text ≡ written ++ rest
-  pub holds : new ≡ append_known old written
 
 -- the first four lines of a summary, those of a station and of all stations, and the last
 abbrev pub counts_of : World → ℕ → List ℕ
