@@ -1,9 +1,14 @@
-use Rattle.std.proofs.Common.{◌≡◌, ◌∙◌, refl, arith}
+use Rattle.std.proofs.Common.{◌≡◌, ◌∙◌, refl, subst, sym}
+use Rattle.std.specs.Prelude.{Option}
+use Rattle.wf_trace.specs.declared.meaning.Place.{Place}
 use Rattle.wf_trace.specs.declared.reader.Item.TheVariants.{Entry, Finish, Bad}
 use Rattle.wf_status.specs.declared.status.Status.TheVariants.{Done, BadTrace, ReadFault, WriteFault, NoMemory}
-use Rattle.wf_replay.proofs.Replays.{said, turned, room_most, replaying_none, none_waits, with_head, with_entry, ended_at_once, ended_no_memory, ended_read, ended_write, ended_unwritten, ended_done, ended_bad}
+use Rattle.wf_replay.specs.Running.{IsAt}
+use Rattle.wf_replay.proofs.Cells.{progress_at, progress_head, progress_on, at_head, at_entry, room_at}
+use Rattle.wf_replay.proofs.Ranges.{line_config, line_sized}
+use Rattle.wf_replay.proofs.Replays.{said, turned, replaying_none, none_waits, with_head, with_entry, ended_at_once, ended_no_memory, ended_read, ended_write, ended_done, ended_bad}
 use Rattle.wf_replay.proofs.Sendings.{all_sent}
-use Rattle.wf_replay.proofs.runner.replay_on.Goals as goal
+use Rattle.wf_replay.proofs.runner.play.Goals as goal
 
 pub returns-in_default-clause-text : goal.returns-in_default-clause-text
 returns-in_default-clause-text g c = said NoMemory _ _ _ _ (ended_at_once (g.S.Source.left c.args.source.now) (g.K.Sink.held c.args.sink.now))
@@ -15,34 +20,51 @@ pub items-init : goal.items-init
 items-init g c = (
   rw (c.in-Ok-new.ensures) (replaying_none _ _ _ c.in-Ok.ensures.reading),
   c.in-Ok.ensures.fresh.0,
-  (λ some. rw (c.in-Ok.ensures.fresh.1) at some),
+  rw (c.in-Ok.ensures.fresh.1) tt,
   refl,
   refl,
-  omega (arith, room_most c.in-Ok.reader.cut.cutter),
-  (λ none. refl),
   (λ reads. c.in-Ok-new.ensures),
   (λ none. c.in-Ok-new.ensures),
 )
 
+pub open-requires : goal.open-requires
+open-requires g c =
+    let placed = rw (c.in-Ok-Head.field-0-is) at (c.in-Ok-Head.ensures.placed c.items.invariant.1) in
+    line_config _ _ placed.0
+
+pub make-requires-room : goal.make-requires-room
+make-requires-room g c =
+    let placed = rw (c.in-Ok-Entry.field-0-is) at (c.in-Ok-Entry.ensures.placed c.items.invariant.1) in
+    room_at _ _ _ _ c.items.invariant.2 placed.1
+
+pub make-requires-some : goal.make-requires-some
+make-requires-some g c =
+    let placed = rw (c.in-Ok-Entry.field-0-is) at (c.in-Ok-Entry.ensures.placed c.items.invariant.1) in
+    (line_sized _ _ _ placed.0).0
+
+pub make-requires-most : goal.make-requires-most
+make-requires-most g c =
+    let placed = rw (c.in-Ok-Entry.field-0-is) at (c.in-Ok-Entry.ensures.placed c.items.invariant.1) in
+    (line_sized _ _ _ placed.0).1
+
 pub returns-in-Err-clause-text : goal.returns-in-Err-clause-text
 returns-in-Err-clause-text g c =
     let reads = c.in-Err.ensures.reads in
-    said ReadFault _ _ _ _ (ended_read _ _ _ _ _ _ _ _ (turned _ _ _ _ _ _ _ _ _ _ reads.0 c.items.invariant.0 reads.1 c.in-Err.ensures.sticky) (none_waits _ _ _ c.items.invariant.7 c.in-Err.ensures.quiet) c.in-Err.ensures.held)
+    said ReadFault _ _ _ _ (ended_read _ _ _ _ _ _ _ _ (turned _ _ _ _ _ _ _ _ _ _ reads.0 c.items.invariant.0 reads.1 c.in-Err.ensures.sticky) (none_waits _ _ _ c.items.invariant.5 c.in-Err.ensures.quiet) c.in-Err.ensures.held)
 
 pub items-preserved-in-Ok-open : goal.items-preserved-in-Ok-open
 items-preserved-in-Ok-open g c =
     let reads = rw (c.in-Ok-Head.field-0-is) at c.in-Ok-Head.ensures.reads in
     let goes = rw (c.in-Ok-Head.field-0-is) at c.in-Ok-Head.ensures.goes in
-    let none : c.items.calls ≡ 0 = c.items.invariant.6 goes.0 in (
-      rw (c.in-Ok-open.ensures, none) (with_head _ _ _ _ _ _ _ c.in-Ok-Head.config (turned _ _ _ _ _ _ _ _ _ _ reads.0 c.items.invariant.0 reads.1 c.in-Ok-Head.ensures.sticky) none),
+    let placed = rw (c.in-Ok-Head.field-0-is) at (c.in-Ok-Head.ensures.placed c.items.invariant.1) in
+    let none = progress_at _ _ c.items.invariant.2 goes.0 in (
+      rw (progress_head _ _ c.in-Ok-open.ensures) (with_head _ _ _ _ _ _ _ c.in-Ok-Head.config (turned _ _ _ _ _ _ _ _ _ _ reads.0 c.items.invariant.0 reads.1 c.in-Ok-Head.ensures.sticky) none),
       goes.2,
-      (λ some. refl),
+      at_head _ _ _ c.in-Ok-open.ensures placed.1,
       c.in-Ok-Head.ensures.cause.quiet ∙ c.items.invariant.3,
       c.items.invariant.4,
-      omega (arith, c.items.invariant.5, goes.3),
-      (λ absent. none),
-      (λ reads. c.items.invariant.8 goes.0),
-      (λ absent. c.items.invariant.8 goes.0),
+      (λ reads. c.items.invariant.6 goes.0),
+      (λ absent. c.items.invariant.6 goes.0),
     )
 
 pub returns-in-Err-open-clause-text : goal.returns-in-Err-open-clause-text
@@ -58,15 +80,15 @@ returns-in-Err-make-clause-text g c =
 pub items-preserved : goal.items-preserved
 items-preserved g c =
     let reads = rw (c.in-Ok-Entry.field-0-is) at c.in-Ok-Entry.ensures.reads in
-    let goes = rw (c.in-Ok-Entry.field-0-is) at c.in-Ok-Entry.ensures.goes in (
-      rw (c.in-Ok-make.ensures.world) (with_entry _ _ _ _ _ _ _ _ _ c.in-Ok-Entry.caller c.in-Ok-Entry.note c.octets.result.now (turned _ _ _ _ _ _ _ _ _ _ reads.0 c.items.invariant.0 reads.1 c.in-Ok-Entry.ensures.sticky)
+    let goes = rw (c.in-Ok-Entry.field-0-is) at c.in-Ok-Entry.ensures.goes in
+    let placed = rw (c.in-Ok-Entry.field-0-is) at (c.in-Ok-Entry.ensures.placed c.items.invariant.1) in
+    let room = room_at _ _ _ _ c.items.invariant.2 placed.1 in (
+      rw (progress_on _ _ _ _ room c.in-Ok-make.ensures.past) (with_entry _ _ _ _ _ _ _ _ _ c.in-Ok-Entry.caller c.in-Ok-Entry.note c.octets.result.now (turned _ _ _ _ _ _ _ _ _ _ reads.0 c.items.invariant.0 reads.1 c.in-Ok-Entry.ensures.sticky)
           (c.octets.ensures ∙ c.in-Ok-make.ensures.line) c.in-Ok-put.ensures.leaves),
       goes.2,
-      (λ some. c.in-Ok-make.ensures.some),
+      at_entry _ _ _ _ _ _ c.items.invariant.2 room c.in-Ok-make.ensures.past placed.2,
       c.in-Ok-Entry.ensures.cause.quiet ∙ c.items.invariant.3,
       c.in-Ok-put.ensures.cause.quiet ∙ c.items.invariant.4,
-      omega (arith, c.items.invariant.5, goes.3),
-      (λ absent. absurd (let here = rw absent at goes.1 in cc)),
       (λ reads. c.in-Ok-put.ensures.none (c.will_read.ensures ∙ reads)),
       (λ absent. absurd (let here = rw absent at goes.1 in cc)),
     )
@@ -83,15 +105,10 @@ returns-in-Ok-finish-clause-text g c =
     let over = rw (c.in-Ok-Finish.field-0-is) at c.in-Ok-Finish.ensures.over in
     said Done _ _ _ _ (ended_done _ _ _ _ _ _ _ _ _ (turned _ _ _ _ _ _ _ _ _ _ reads.0 c.items.invariant.0 reads.1 c.in-Ok-Finish.ensures.sticky) refl c.in-Ok-finish.ensures.written (over c.items.invariant.1 refl))
 
-pub returns-in-Err-Sink-clause-text : goal.returns-in-Err-Sink-clause-text
-returns-in-Err-Sink-clause-text g c =
+pub returns-in-Err-finish-clause-text : goal.returns-in-Err-finish-clause-text
+returns-in-Err-finish-clause-text g c =
     let reads = rw (c.in-Ok-Finish.field-0-is) at c.in-Ok-Finish.ensures.reads in
-    said WriteFault _ _ _ _ (ended_write _ _ _ _ _ _ _ _ Finish _ (turned _ _ _ _ _ _ _ _ _ _ reads.0 c.items.invariant.0 reads.1 c.in-Ok-Finish.ensures.sticky) refl c.in-Err-Sink.ensures.front)
-
-pub returns-in-Err-Machine-clause-text : goal.returns-in-Err-Machine-clause-text
-returns-in-Err-Machine-clause-text g c =
-    let reads = rw (c.in-Ok-Finish.field-0-is) at c.in-Ok-Finish.ensures.reads in
-    said NoMemory _ _ _ _ (ended_unwritten _ _ _ _ _ _ _ _ Finish _ (turned _ _ _ _ _ _ _ _ _ _ reads.0 c.items.invariant.0 reads.1 c.in-Ok-Finish.ensures.sticky) refl c.in-Err-Machine.ensures.front)
+    said WriteFault _ _ _ _ (ended_write _ _ _ _ _ _ _ _ Finish _ (turned _ _ _ _ _ _ _ _ _ _ reads.0 c.items.invariant.0 reads.1 c.in-Ok-Finish.ensures.sticky) refl c.in-Err-finish.ensures.front)
 
 pub returns-in-Ok-put-2-clause-text : goal.returns-in-Ok-put-2-clause-text
 returns-in-Ok-put-2-clause-text g c =

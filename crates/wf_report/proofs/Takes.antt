@@ -1,0 +1,7 @@
+-- No more can be taken than there is.
+use Rattle.std.proofs.Common.{◌≡◌, ℕ, zero, suc, ◌≤◌, List, [], ◌∷◌, length, take, min, refl, ap}
+
+pub take_least : {X : Type 0} → (n : ℕ) (xs : List X) → take (min n (length xs)) xs ≡ take n xs
+take_least zero xs = refl
+take_least (suc n) [] = refl
+take_least (suc n) (x ∷ xs) = ap (λ l. x ∷ l) (take_least n xs)

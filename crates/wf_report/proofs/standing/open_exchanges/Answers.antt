@@ -1,0 +1,7 @@
+use Rattle.wf_world.specs.Run.{world_of}
+use Rattle.wf_report.proofs.standing.open_exchanges.Goals as goal
+
+pub returns-clause : goal.returns-clause
+returns-clause c =
+    let stands = c.path.ensures.stands in
+    c.open_count.ensures.world (world_of c.args.cell.now.past) stands.0 (rw (c.path.ensures.value) stands.1)
