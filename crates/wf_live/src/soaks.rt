@@ -3,6 +3,7 @@
 ghost use Rattle.std.specs.Prelude.{◌≡◌, ◌+◌, ◌-◌, ◌≤◌, ◌<◌, IfOk, OnOk, Option, Some, None, Err, length, if◌then◌else◌, true, false};
 ghost use Rattle.wf_frame.specs.Answers.{reply_of};
 ghost use Rattle.wf_frame.specs.Settings.{standard};
+ghost use Rattle.wf_frame.specs.declared.notes.Ask.TheVariants.{Pull, Reap};
 ghost use Rattle.wf_frame.specs.declared.notes.Note.TheVariants.{Asked};
 ghost use Rattle.wf_path.specs.Jobs.{note_of};
 ghost use Rattle.wf_live.specs.Lengths.{HaveSoakLengths};
@@ -255,14 +256,36 @@ impl SoakRun {
         }
     }
 
+    /// A pull of a class, where a call is left: the exchange that it begins, and how many transmissions that has.
+    fn pull(&mut self, class: Class, answer: &mut Answer) -> Option<(u64, u16)>
+        ensures made { self.new ≡ call (Asked (Pull class)) self.old }
+        ensures sending { result ≡ sending (reply_to (Asked (Pull class)) self.old) }
+        ensures later { IsLater self.old self.new }
+    {
+        if self.ask(Ask::Pull { class }, answer) {
+            sending(answer)
+        } else {
+            None
+        }
+    }
+
     /// A pull of a class, and the exchange that it begins.
     fn pulled(&mut self, class: Class, answer: &mut Answer)
         ensures made { self.new ≡ after_pull class self.old }
         ensures later { IsLater self.old self.new }
     {
-        if self.ask(Ask::Pull { class }, answer) {
-            self.sending_played(sending(answer), answer);
-        }
+        let sending = self.pull(class, answer);
+        self.sending_played(sending, answer);
+    }
+
+    /// A reap, where a call is left. Tells whether nothing was left to reap.
+    fn reap(&mut self, answer: &mut Answer) -> bool
+        ensures made { self.new ≡ call (Asked Reap) self.old }
+        ensures nothing { result ≡ is_nothing (reply_to (Asked Reap) self.old) }
+        ensures later { IsLater self.old self.new }
+        ensures left { self.new.left ≡ self.old.left - 1 }
+    {
+        self.ask(Ask::Reap, answer) && is_nothing(answer)
     }
 
     /// Reaps until nothing is left to reap, or no call is left.
@@ -271,8 +294,7 @@ impl SoakRun {
         ensures later { IsLater self.old self.new }
     {
         for _ in 0..self.left {
-            let reaped = self.ask(Ask::Reap, answer);
-            if reaped && is_nothing(answer) {
+            if self.reap(answer) {
                 return;
             }
         }

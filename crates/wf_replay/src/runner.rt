@@ -25,7 +25,7 @@ use wf_status::Status;
 use wf_trace::{Item, TraceReader, print_fault};
 
 // A cell with the settings of a head.
-fn open(alloc: Global, config: Config) -> Result<Cell, AllocError>
+fn cell_for(alloc: Global, config: Config) -> Result<Cell, AllocError>
     requires { IsInRange config }
     ensures { IfOk result (λ cell. cell.past ≡ record { config = config; history = [] }) }
 {
@@ -135,7 +135,7 @@ pub fn play<S: Source, K: Sink>(alloc: Global, source: &mut S, sink: &mut K) -> 
         line.clear();
         match reader.next(source) {
             Err(_) => return Status::ReadFault,
-            Ok(Item::Head(config)) => match open(alloc, config) {
+            Ok(Item::Head(config)) => match cell_for(alloc, config) {
                 Ok(opened) => cell = Some(opened),
                 Err(_) => return Status::NoMemory,
             },

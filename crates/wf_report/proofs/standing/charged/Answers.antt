@@ -3,12 +3,12 @@ use Rattle.wf_world.specs.Run.{world_of}
 use Rattle.wf_transmit_refines.proofs.Readers.{live_same}
 use Rattle.wf_report.proofs.standing.charged.Goals as goal
 
-pub charged-requires-live : goal.charged-requires-live
-charged-requires-live c =
+pub charged-requires : goal.charged-requires
+charged-requires c =
     let stands = c.path.ensures.stands in
     rw (c.path.ensures.value) (live_same _ _ stands.0 c.args.station stands.1.parts ∙ c.requires)
 
-pub returns-clause : goal.returns-clause
-returns-clause c =
+pub returns : goal.returns
+returns c =
     let stands = c.path.ensures.stands in
     c.charged.ensures.world (world_of c.args.cell.now.past) stands.0 (rw (c.path.ensures.value) stands.1)
