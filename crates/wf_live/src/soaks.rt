@@ -1,6 +1,6 @@
 //! The soak: a large history made from a number.
 
-ghost use Rattle.std.specs.Prelude.{◌≡◌, ◌+◌, ◌-◌, ◌≤◌, ◌<◌, IfOk, OnOk, Option, Some, None, Err, length, if◌then◌else◌, true, false};
+ghost use Rattle.std.specs.Prelude.{◌≡◌, ◌-◌, ◌%◌, ◌≤◌, ◌<◌, IfOk, OnOk, Some, None, length, if◌then◌else◌};
 ghost use Rattle.wf_frame.specs.Answers.{reply_of};
 ghost use Rattle.wf_frame.specs.Settings.{standard};
 ghost use Rattle.wf_frame.specs.declared.notes.Ask.TheVariants.{Pull, Reap};
@@ -368,7 +368,9 @@ fn sending(answer: &Answer) -> Option<(u64, u16)>
 {
     match answer.brief {
         Brief::Send {
-            exchange, request, ..
+            exchange,
+            request,
+            ..
         } => match request {
             Some(_) => Some((exchange, 1)),
             None => Some((exchange, answer.pairs.len() as u16)),

@@ -1,6 +1,6 @@
 //! A replay: the calls of a trace, made to a cell one after the other.
 
-ghost use Rattle.std.specs.Prelude.{◌≡◌, ◌≢◌, ◌<◌, ◌≤◌, ◌×◌, ◌++◌, [], ℕ, List, Some, None, IsSomeAnd, Option, IfOk, OnOk, option_map};
+ghost use Rattle.std.specs.Prelude.{◌≡◌, ◌≢◌, ◌<◌, ◌≤◌, ◌++◌, [], ℕ, List, Some, None, IsSomeAnd, IfOk, OnOk, option_map};
 ghost use Rattle.std.specs.Io.KnownBytes.{prepend_known, append_known};
 ghost use Rattle.wf_cell.specs.Cells.{room_in, with_entry};
 ghost use Rattle.wf_frame.specs.Settings.{IsInRange};
@@ -96,11 +96,7 @@ fn close<K: Sink>(cell: &Option<Cell>, sink: &mut K) -> Result<(), Failed>
 }
 
 // Writes the answers that wait, and the summary behind them.
-fn finish<K: Sink>(
-    cell: &Option<Cell>,
-    outgoing: &mut Outgoing,
-    sink: &mut K,
-) -> Result<(), Failed>
+fn finish<K: Sink>(cell: &Option<Cell>, outgoing: &mut Outgoing, sink: &mut K) -> Result<(), Failed>
     ensures written { OnOk result (K.held sink.new ≡ append_known (K.held sink.old) (outgoing.old ++ closing_of cell.now)) }
     ensures front { HoldsFront (K.held sink.old) (K.held sink.new) (outgoing.old ++ closing_of cell.now) }
     ensures cause { CountsFaults (K.faults sink.old) (K.faults sink.new) result }
