@@ -201,5 +201,8 @@ fn write_parts<K: Sink>(cell: &Cell, counts: &Line, last: &Line, sink: &mut K) -
         Ok(()) => {}
         Err(failed) => return Err(failed),
     }
-    write_line(sink, last)
+    match write_line(sink, last) {
+        Ok(()) => Ok(()),
+        Err(failed) => Err(failed),
+    }
 }

@@ -6,7 +6,7 @@ use Rattle.wf_report.proofs.standing.received.Goals as goal
 pub received-requires : goal.received-requires
 received-requires c =
     let stands = c.path.ensures.stands in
-    rw (c.path.ensures.value) (live_same _ _ stands.0 c.args.station stands.1.parts ∙ c.requires)
+    record { live = rw (c.path.ensures.value) (live_same _ _ stands.0 c.args.station stands.1.parts ∙ c.requires) }
 
 pub returns : goal.returns
 returns c =
