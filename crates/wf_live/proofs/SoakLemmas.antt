@@ -1,8 +1,10 @@
 -- What a call does to a soak, and what a loop has still to do.
-use Rattle.std.proofs.Common.{◌≡◌, ℕ, zero, suc, ◌+◌, ◌-◌, ◌<◌, ◌≤◌, ◌==◌, ◌||◌, Bool, true, false, List, [], ◌∷◌, ◌++◌, length, Some, None, refl, ap, sym, ◌∙◌, arith}
+use Rattle.std.proofs.Common.{◌≡◌, ℕ, zero, suc, ◌+◌, ◌-◌, ◌%◌, ◌<◌, ◌≤◌, ◌==◌, ◌||◌, Bool, true, false, List, [], ◌∷◌, ◌++◌, length, Some, None, refl, ap, sym, ◌∙◌, arith}
 use Rattle.std.proofs.lemmas.List.{length-append}
 use Rattle.wf_cell.specs.Cells.{room_in, with_entry}
-use Rattle.wf_frame.specs.Settings.{standard}
+use Rattle.wf_frame.specs.Frames.{sample_body}
+use Rattle.wf_frame.specs.Settings.{standard, first_out_of_range}
+use Rattle.wf_frame.specs.declared.settings.Field.{Field}
 use Rattle.wf_frame.specs.declared.settings.Config.{Config}
 use Rattle.wf_frame.specs.declared.notes.Note.{Note}
 use Rattle.wf_world.specs.World.{World, opening}
@@ -22,7 +24,19 @@ unfolding world_after
 one_more [] w e = refl
 one_more (x ∷ es) w e = one_more es (step w x.1).world e
 
+-- a frame of a trace has the length that its line names
+pub sample_len : (flow n : ℕ) → length (sample_body flow n) ≡ n
+sample_len flow zero = refl
+sample_len flow (suc n) =
+    let before = sample_len flow n in
+    let more = length-append (sample_body flow n) (((flow + n) % 256) ∷ []) in
+    omega (arith, before, more)
+
 -- ---- the cell of a soak
+
+-- the standard settings are in their ranges
+pub none_out : (f : Field) → first_out_of_range standard ≡ Some f → ⊥
+none_out f found = let none : first_out_of_range standard ≡ None = refl in absurd (cc)
 
 pub has_room : (p : Past) (left : ℕ) → p.config ≡ standard → length p.history + left ≤ 1000000 → 0 < left → 0 < room_in p
 has_room p left is few some =
