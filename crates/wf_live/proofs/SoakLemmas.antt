@@ -1,9 +1,15 @@
 -- What a call does to a soak, and what a loop has still to do.
-use Rattle.std.proofs.Common.{◌≡◌, ℕ, zero, suc, ◌+◌, ◌-◌, ◌<◌, ◌≤◌, ◌==◌, ◌||◌, Bool, true, false, List, [], ◌∷◌, ◌++◌, Some, None, refl, ap, sym, ◌∙◌, arith}
+use Rattle.std.proofs.Common.{◌≡◌, ℕ, zero, suc, ◌+◌, ◌-◌, ◌%◌, ◌<◌, ◌≤◌, ◌==◌, ◌||◌, Bool, true, false, List, [], ◌∷◌, ◌++◌, length, Some, None, refl, ap, sym, ◌∙◌, arith}
+use Rattle.std.proofs.lemmas.List.{length-append}
+use Rattle.wf_cell.specs.Cells.{room_in, with_entry}
+use Rattle.wf_frame.specs.Frames.{sample_body}
+use Rattle.wf_frame.specs.Settings.{standard, first_out_of_range}
+use Rattle.wf_frame.specs.declared.settings.Field.{Field}
+use Rattle.wf_frame.specs.declared.settings.Config.{Config}
 use Rattle.wf_frame.specs.declared.notes.Note.{Note}
-use Rattle.wf_world.specs.World.{World}
+use Rattle.wf_world.specs.World.{World, opening}
 use Rattle.wf_world.specs.Step.{step}
-use Rattle.wf_world.specs.Run.{Entry, by, world_after}
+use Rattle.wf_world.specs.Run.{Entry, Past, by, world_after, world_of}
 use Rattle.wf_frame.specs.declared.notes.Note.TheVariants.{Asked}
 use Rattle.wf_frame.specs.declared.notes.Ask.TheVariants.{Reap}
 use Rattle.wf_live.specs.Soak.{Soak, machine_of, call, reply_to, stations_join, station_joins, all_sent, transmission_sent, some_arrive, lets_arrive, is_nothing, after_reaps, rounds_played, round_played}
@@ -17,6 +23,36 @@ pub one_more : (es : List Entry) (w : World) (e : Entry) → world_after w (es +
 unfolding world_after
 one_more [] w e = refl
 one_more (x ∷ es) w e = one_more es (step w x.1).world e
+
+-- a frame of a trace has the length that its line names
+pub sample_len : (flow n : ℕ) → length (sample_body flow n) ≡ n
+sample_len flow zero = refl
+sample_len flow (suc n) =
+    let before = sample_len flow n in
+    let more = length-append (sample_body flow n) (((flow + n) % 256) ∷ []) in
+    omega (arith, before, more)
+
+-- ---- the cell of a soak
+
+-- the standard settings are in their ranges
+pub none_out : (f : Field) → first_out_of_range standard ≡ Some f → ⊥
+none_out f found = let none : first_out_of_range standard ≡ None = refl in absurd (cc)
+
+pub has_room : (p : Past) (left : ℕ) → p.config ≡ standard → length p.history + left ≤ 1000000 → 0 < left → 0 < room_in p
+has_room p left is few some =
+    let calls : p.config.calls ≡ 1048576 = ap (λ (c : Config). c.calls) is in
+    omega (arith, calls, few, some)
+
+pub goes_on : (p q : Past) (left caller : ℕ) (note : Note) → p.config ≡ standard → length p.history + left ≤ 1000000 → 0 < left → q ≡ with_entry (by caller note) p →
+    (q.config ≡ standard) × (length q.history + (left - 1) ≤ 1000000)
+goes_on p q left caller note is few some past =
+    let sized : length q.history ≡ length p.history + 1 = ap (λ (x : Past). length x.history) past ∙ length-append p.history (by caller note ∷ []) in
+    (ap (λ (x : Past). x.config) past ∙ is, omega (arith, sized, few, some))
+
+pub as_standard : (p : Past) → p.config ≡ standard → world_of p ≡ world_after (opening standard) p.history
+as_standard p is = ap (λ (c : Config). world_after (opening c) p.history) is
+
+-- ---- a call
 
 -- no call is left
 pub call_none : (note : Note) (k : Soak) → k.left ≡ 0 → call note k ≡ k

@@ -8,16 +8,18 @@ pub use soaks::soak;
 #[cfg(test)]
 mod tests {
     use super::*;
-    use wf_plain::Fault;
+    use std::alloc::AllocError;
 
     #[test]
-    fn a_soak_is_a_function_of_its_seed(rt: HostRuntime) -> Result<(), Fault> {
+    fn a_soak_is_a_function_of_its_seed(rt: HostRuntime) -> Result<(), AllocError> {
         let first = soak(rt.alloc(), 1, 3000)?;
         let again = soak(rt.alloc(), 1, 3000)?;
         let other = soak(rt.alloc(), 2, 3000)?;
-        assert!(rt; first.exchanges() == again.exchanges() && first.accepted() == again.accepted());
-        assert!(rt; first.exchanges() != other.exchanges() || first.accepted() != other.accepted());
-        assert!(rt; first.clock() > 0 && first.clock() % 1000 == 0);
+        let (first, again, other) = (first.path(), again.path(), other.path());
+        assert_eq!(rt; first.exchanges(), again.exchanges());
+        assert_eq!(rt; first.tally(), again.tally());
+        assert!(rt; first.tally() != other.tally());
+        assert!(rt; first.now() > 0 && first.now() % 1000 == 0);
         Ok(())
     }
 }

@@ -27,6 +27,7 @@ use Rattle.wf_trace.specs.Pieces.{Numbered, pieces}
 use Rattle.wf_trace.specs.Words.{words, number_of, in_range}
 use Rattle.wf_trace.specs.Settings.{worse, placed, set_one, read_words, value_read, was_seen, named_field, split_once, place_of}
 use Rattle.wf_trace.specs.Meanings.{read_head, allowed, entry_of, against, caller_of, caller_first, headed, finished, named, meant}
+use Rattle.wf_trace.specs.Reader.{IsLine}
 use Rattle.wf_trace.specs.Reading.{Reading, told, stopped, read_behind, place_behind, reading}
 use Rattle.wf_replay.specs.Texts.{settings_among, history_among}
 use Rattle.wf_laws.specs.Lengths.{HasLengths}
@@ -183,6 +184,13 @@ meant_in : (place : Option Place) (ws : List (List ℕ)) → HeadIn (meant place
 meant_in place [] = tt
 meant_in place ([] ∷ ws) = tt
 meant_in place ((octet ∷ octets) ∷ ws) = first_in place octet octets ws (octet == 64)
+
+-- what a line says in its place
+pub line_config : (place : Option Place) (config : Config) → IsLine place (meaning.Head config) → IsInRange config
+line_config place config line = subst HeadIn line.1 (meant_in place line.0)
+
+pub line_sized : (place : Option Place) (caller : ℕ) (note : Note) → IsLine place (meaning.Entry caller note) → HasLength note × IsAtMost greatest_body note
+line_sized place caller note line = subst HeadIn line.1 (meant_in place line.0)
 
 -- ---- a trace
 

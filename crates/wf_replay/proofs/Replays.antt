@@ -19,7 +19,7 @@ use Rattle.wf_status.specs.declared.status.Status.TheVariants.{Done, Usage, BadT
 use Rattle.wf_world.specs.World.{World, opening}
 use Rattle.wf_trace.specs.Faults.{fault_line}
 use Rattle.wf_replay.specs.Texts.{history_among, text}
-use Rattle.wf_report.specs.Fronts.{HoldsFront}
+use Rattle.wf_status.specs.Fronts.{HoldsFront}
 use Rattle.wf_replay.specs.Running.{Progress, behind_item, text_of_item, closing}
 use Rattle.wf_replay.specs.Sending.{Leaves}
 use Rattle.wf_status.specs.Fronts.{IsFrontOf}
@@ -341,10 +341,6 @@ pub ended_write : (new : Reader) (m : Progress) (left left_new held held_now hel
     Turned (Ok item) new m left left_new held held_now waiting → line ≡ line_at m item → HoldsFront held_now held_new (waiting ++ line) → Ended WriteFault left left_new held held_new
 ended_write new m left left_new held held_now held_new waiting item line t is some = ended_front new m left left_new held held_now held_new waiting item line t is some
 
-pub ended_unwritten : (new : Reader) (m : Progress) (left left_new held held_now held_new : Option (List ℕ)) (waiting : List ℕ) (item : Item) (line : List ℕ) →
-    Turned (Ok item) new m left left_new held held_now waiting → line ≡ line_at m item → HoldsFront held_now held_new (waiting ++ line) → Ended NoMemory left left_new held held_new
-ended_unwritten new m left left_new held held_now held_new waiting item line t is some = ended_front new m left left_new held held_now held_new waiting item line t is some
-
 -- all that waits was written, and a line behind it
 all_written : (held held_now held_new : Option (List ℕ)) (written waiting line answers : List ℕ) → held_now ≡ append_known held written → answers ≡ written ++ waiting →
     held_new ≡ append_known held_now (waiting ++ line) → held_new ≡ append_known held (answers ++ line)
@@ -398,11 +394,3 @@ ended_bad new m left left_new held held_now held_new waiting fault line t is wro
 pub said : (status : Status) (left left_new held held_new : Option (List ℕ)) → Ended status left left_new held held_new →
     (taken written : List ℕ) × (left ≡ prepend_known taken left_new) × (held_new ≡ append_known held written) × ((input : List ℕ) → left ≡ Some input → StatusSays status input taken written)
 said status left left_new held held_new ended = (ended.0, ended.1, ended.2, ended.3, λ input is. outcome status input ended.0 ended.1 (ended.4 input is))
-
--- a fresh reader has room for any trace
-room_at_most : (looked : ℕ) (end : Option End) → room_of looked end ≤ longest_trace + 1
-room_at_most looked None = omega arith
-room_at_most looked (Some end) = omega arith
-
-pub room_most : (c : Cutting) → room c ≤ longest_trace + 1
-room_most c = room_at_most c.scanner.looked c.ended

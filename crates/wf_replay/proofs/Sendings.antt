@@ -2,7 +2,7 @@
 use Rattle.std.proofs.Common.{◌≡◌, ℕ, List, [], ◌++◌, refl, sym, ◌∙◌, ap, append_assoc, append-nil}
 use Rattle.std.specs.Prelude.{Option, Result, Ok, Err, OnOk}
 use Rattle.std.specs.Io.KnownBytes.{append_known}
-use Rattle.wf_report.specs.Fronts.{HoldsFront}
+use Rattle.wf_status.specs.Fronts.{HoldsFront}
 use Rattle.wf_replay.specs.Sending.{Leaves}
 use Rattle.wf_replay.proofs.Replays.{append_known-nil, append_known-append}
 

@@ -1,5 +1,5 @@
 -- What is written of a soak, and how long its frames are.
-use Rattle.std.proofs.Common.{◌≡◌, ℕ, List, [], ◌∷◌, ap₂, arith}
+use Rattle.std.proofs.Common.{◌≡◌, ℕ, List, [], ◌∷◌, length, ap, ap₂, arith}
 use Rattle.wf_frame.specs.declared.notes.Note.{Note}
 use Rattle.wf_frame.specs.declared.notes.Note.TheVariants.{Enqueue, Asked}
 use Rattle.wf_rules.specs.Lengths.{greatest_body}
@@ -11,15 +11,16 @@ use Rattle.wf_live.specs.Lengths.{HasSoakLength, HaveSoakLengths}
 use Rattle.wf_live.proofs.SoakLengths.{soak_lengths as of_soak}
 use Rattle.wf_live.specs.Soak.{soak_history}
 use Rattle.wf_world.specs.World.{World, opening}
-use Rattle.wf_world.specs.Run.{Entry, world_after}
+use Rattle.wf_world.specs.Run.{Entry, Past, world_of, world_after}
 use Rattle.wf_world.specs.Text.{summary}
 use Rattle.wf_laws.specs.Lengths.{HasLengths}
 use Rattle.wf_replay.specs.Outcome.{soak_text}
 use Rattle.wf_replay.proofs.Ranges.{standard_in}
 
-pub is_soak_text : (w : World) (n seed calls : ℕ) → w ≡ world_after (opening standard) (soak_history seed calls) → n ≡ calls → summary w n ≡ soak_text seed calls
+pub is_soak_text : (p : Past) (seed calls : ℕ) → p ≡ record { config = standard; history = soak_history seed calls } → length (soak_history seed calls) ≡ calls →
+    summary (world_of p) (length p.history) ≡ soak_text seed calls
 unfolding soak_text
-is_soak_text w n seed calls played counted = ap₂ summary played counted
+is_soak_text p seed calls played counted = ap₂ summary (ap world_of played) (ap (λ (q : Past). length q.history) played ∙ counted)
 
 pub soak_laws : (seed calls : ℕ) → Laws standard (soak_history seed calls)
 soak_laws seed calls = laws standard (soak_history seed calls) standard_in

@@ -1,5 +1,5 @@
 -- The commands, by the words of the command line.
-use Rattle.std.specs.Prelude.{ℕ, ◌^◌, ◌-◌, nat_le, ◌&&◌, List, [], ◌∷◌, codes, Option, Some, None, if◌then◌else◌}
+use Rattle.std.specs.Prelude.{ℕ, ◌≤◌, ◌^◌, ◌-◌, nat_le, ◌&&◌, List, [], ◌∷◌, codes, Option, Some, None, if◌then◌else◌}
 use Rattle.std.specs.Str.{bytes_eq}
 use Rattle.wf_trace.specs.Words.{is_plain_number, value_from}
 use Rattle.wf_replay.specs.declared.words.Command.{Command}
@@ -14,6 +14,11 @@ abbrev pub soak_of : Option ℕ → Option ℕ → Option Command
 soak_of (Some seed) (Some calls) = Some (Soak seed calls)
 soak_of (Some seed) None = None
 soak_of None calls = None
+
+-- a soak has 1 to 1,000,000 calls
+abbrev pub HasCalls : Command → Type 0
+HasCalls (Soak seed calls) = (1 ≤ calls) × (calls ≤ 1000000)
+HasCalls command = Unit {0}
 
 -- a command of one word
 abbrev pub word_command : List ℕ → Option Command

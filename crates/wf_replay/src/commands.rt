@@ -1,6 +1,6 @@
 //! The commands, by their words.
 
-ghost use Rattle.std.specs.Prelude.{◌≡◌, ◌≢◌, ◌↔◌, ℕ, List, Some, None, map, string_bytes, true};
+ghost use Rattle.std.specs.Prelude.{◌≡◌, ◌≢◌, ◌≤◌, ◌↔◌, ℕ, List, Some, None, map, string_bytes, true};
 ghost use Rattle.std.specs.Io.KnownBytes.{prepend_known, append_known};
 ghost use Rattle.wf_io.specs.Faults.{HasRisen};
 ghost use Rattle.wf_trace.specs.Reading.{reading};
@@ -16,8 +16,7 @@ ghost use Rattle.wf_uplink_run.specs.Outcome.{UplinkOutcome, UplinkAnswered, Upl
 ghost use Rattle.wf_frames_run.specs.Outcome.{FramesOutcome, FramesAnswered};
 ghost use Rattle.wf_frames_run.specs.Law.{FramesLaw};
 
-use crate::plain::Plain;
-use crate::runner::replay_on;
+use crate::runner::play;
 use crate::words::{Command, command_from};
 use std::alloc::Global;
 use std::sync::Wait;
@@ -25,7 +24,7 @@ use std::thread::Threads;
 use wf_frames_run::frames;
 use wf_io::{Sink, Source};
 use wf_live::soak;
-use wf_report::{Unwritten, summary};
+use wf_report::summary;
 use wf_session_run::session;
 use wf_status::Status;
 use wf_turnstile::Turnstile;
@@ -47,22 +46,22 @@ pub fn replay<S: Source, K: Sink>(alloc: Global, source: &mut S, sink: &mut K) -
     ensures complete { (HasRisen (S.faults source.old) (S.faults source.new) → ⊥) → (HasRisen (K.faults sink.old) (K.faults sink.new) → ⊥) →
         (input : List ℕ) → S.left source.old ≡ Some input → FitsEnding (reading true input).ending result }
 {
-    replay_on::<Plain, S, K>(alloc, source, sink)
+    play(alloc, source, sink)
 }
 
 /// Writes the summary of the soak of a seed and a number of calls, 1 to 1,000,000.
 pub fn soaked<K: Sink>(alloc: Global, seed: u64, calls: u32, sink: &mut K) -> Status
+    requires { (1 ≤ calls) × (calls ≤ 1000000) }
     ensures text { (written : List ℕ) × (K.held sink.new ≡ append_known (K.held sink.old) written) × SoakStatusSays result seed calls written }
     ensures write { result ≡ Status.WriteFault → HasRisen (K.faults sink.old) (K.faults sink.new) }
     ensures sink_quiet { result ≢ Status.WriteFault → K.faults sink.new ≡ K.faults sink.old }
 {
-    let Ok(machine) = soak(alloc, seed, calls) else {
+    let Ok(cell) = soak(alloc, seed, calls) else {
         return Status::NoMemory;
     };
-    match summary(&Plain::from(machine), u64::from(calls), sink) {
+    match summary(&cell, sink) {
         Ok(()) => Status::Done,
-        Err(Unwritten::Sink) => Status::WriteFault,
-        Err(Unwritten::Machine) => Status::NoMemory,
+        Err(_) => Status::WriteFault,
     }
 }
 

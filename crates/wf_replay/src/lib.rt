@@ -4,7 +4,6 @@
 
 mod commands;
 mod outgoing;
-mod plain;
 mod runner;
 mod words;
 

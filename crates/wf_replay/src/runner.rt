@@ -1,77 +1,114 @@
-//! A replay over any machine.
+//! A replay: the calls of a trace, made to a cell one after the other.
 
-ghost use Rattle.std.specs.Prelude.{◌≡◌, ◌≢◌, ◌≤◌, ◌+◌, ◌++◌, [], ℕ, List, Some, None, IsSome, Option, OnOk, Err, option_map};
+ghost use Rattle.std.specs.Prelude.{◌≡◌, ◌≢◌, ◌<◌, ◌≤◌, ◌++◌, [], ℕ, List, Some, None, IsSomeAnd, IfOk, OnOk, option_map};
 ghost use Rattle.std.specs.Io.KnownBytes.{prepend_known, append_known};
-ghost use Rattle.wf_io.specs.Faults.{HasRisen};
+ghost use Rattle.wf_cell.specs.Cells.{room_in, with_entry};
+ghost use Rattle.wf_frame.specs.Settings.{IsInRange};
+ghost use Rattle.wf_io.specs.Faults.{HasRisen, CountsFaults};
+ghost use Rattle.wf_laws.specs.Queues.{HasLength, IsAtMost};
+ghost use Rattle.wf_path.specs.Jobs.{note_of};
+ghost use Rattle.wf_rules.specs.Lengths.{greatest_body};
+ghost use Rattle.wf_status.specs.Fronts.{HoldsFront};
 ghost use Rattle.wf_trace.specs.declared.reader.Item.TheVariants as item;
-ghost use Rattle.wf_report.specs.Fronts.{HoldsFront};
-ghost use Rattle.wf_replay.specs.Running.{text_of_item as answer_to, behind_item, closing};
+ghost use Rattle.wf_world.specs.Run.{by};
+ghost use Rattle.wf_replay.specs.Running.{text_of_item as answer_to, closing_of, world_in};
 ghost use Rattle.wf_replay.specs.Outcome.{StatusSays};
 
 use crate::outgoing::Outgoing;
-use std::alloc::Global;
-use wf_frame::{Answer, Note};
-use wf_io::{Line, Sink, Source};
-use wf_report::{Runs, Stopped, Unwritten, print_reply, summary};
+use std::alloc::{AllocError, Global};
+use wf_cell::{Cell, Job, NewFault};
+use wf_chain::Parcel;
+use wf_frame::{Answer, Config, Frame, Note};
+use wf_io::{Failed, Line, Sink, Source};
+use wf_report::{print_reply, summary};
 use wf_status::Status;
 use wf_trace::{Item, TraceReader, print_fault};
 
-// Makes a call, and its answer line.
-fn make<M: Runs>(
-    machine: &mut Option<M>,
+// A cell with the settings of a head.
+fn cell_for(alloc: Global, config: Config) -> Result<Cell, AllocError>
+    requires { IsInRange config }
+    ensures { IfOk result (λ cell. cell.past ≡ record { config = config; history = [] }) }
+{
+    match Cell::new(alloc, config) {
+        Ok(cell) => Ok(cell),
+        Err(NewFault::NoMemory) => Err(AllocError),
+        Err(NewFault::BadConfig(_)) => unreachable!(),
+    }
+}
+
+// The call that a line names, with the frame that it brings.
+fn job_of(alloc: Global, note: Note) -> Result<Job, AllocError>
+    requires some { HasLength note }
+    requires most { IsAtMost greatest_body note }
+    ensures { IfOk result (λ job. note_of job ≡ note) }
+{
+    match note {
+        Note::Enqueue {
+            station,
+            tid,
+            flow,
+            len,
+        } => {
+            let frame = Frame::sample(alloc, station, tid, flow, len)?;
+            match Parcel::new(alloc, frame) {
+                Ok(parcel) => Ok(Job::Give(parcel)),
+                Err((refused, _)) => Err(refused),
+            }
+        }
+        Note::Asked(ask) => Ok(Job::Call(ask)),
+    }
+}
+
+// Makes a call, and its answer line. A frame that comes back is dropped.
+fn make(
+    alloc: Global,
+    cell: &mut Option<Cell>,
     caller: u32,
     note: Note,
     answer: &mut Answer,
     line: &mut Line,
-) -> Result<(), Stopped>
-    requires some { IsSome machine.old }
+) -> Result<(), AllocError>
+    requires room { IsSomeAnd cell.old (λ c. 0 < room_in c.past) }
+    requires some { HasLength note }
+    requires most { IsAtMost greatest_body note }
     requires empty { line.old ≡ [] }
-    ensures some { OnOk result (IsSome machine.new) }
-    ensures world { OnOk result (option_map M.world machine.new ≡ behind_item (option_map M.world machine.old) (item.Entry caller note)) }
-    ensures line { OnOk result (line.new ≡ answer_to (option_map M.world machine.old) (item.Entry caller note)) }
+    ensures past { OnOk result (option_map (λ c. c.past) cell.new ≡ option_map (λ c. with_entry (by caller note) c.past) cell.old) }
+    ensures line { OnOk result (line.new ≡ answer_to (world_in cell.old) (item.Entry caller note)) }
 {
-    if let Some(machine) = machine {
-        machine.step(caller, &note, answer)?;
+    let job = job_of(alloc, note)?;
+    if let Some(cell) = cell {
+        let _ = cell.step(caller, job, answer);
         print_reply(answer, line);
     }
     Ok(())
 }
 
-// Writes the summary, if there is a machine.
-fn close<M: Runs, K: Sink>(machine: &Option<M>, calls: u64, sink: &mut K) -> Result<(), Unwritten>
-    ensures written { OnOk result (K.held sink.new ≡ append_known (K.held sink.old) (closing (option_map M.world machine.now) calls (Some item.Finish))) }
-    ensures front { HoldsFront (K.held sink.old) (K.held sink.new) (closing (option_map M.world machine.now) calls (Some item.Finish)) }
-    ensures counted { K.faults sink.old ≤ K.faults sink.new }
-    ensures cause { result ≡ Err Unwritten.Sink → HasRisen (K.faults sink.old) (K.faults sink.new) }
-    ensures quiet { result ≢ Err Unwritten.Sink → K.faults sink.new ≡ K.faults sink.old }
+// Writes the summary, if there is a cell.
+fn close<K: Sink>(cell: &Option<Cell>, sink: &mut K) -> Result<(), Failed>
+    ensures written { OnOk result (K.held sink.new ≡ append_known (K.held sink.old) (closing_of cell.now)) }
+    ensures front { HoldsFront (K.held sink.old) (K.held sink.new) (closing_of cell.now) }
+    ensures cause { CountsFaults (K.faults sink.old) (K.faults sink.new) result }
 {
-    match machine {
-        Some(machine) => summary(machine, calls, sink),
+    match cell {
+        Some(cell) => summary(cell, sink),
         None => Ok(()),
     }
 }
 
 // Writes the answers that wait, and the summary behind them.
-fn finish<M: Runs, K: Sink>(
-    machine: &Option<M>,
-    calls: u64,
-    outgoing: &mut Outgoing,
-    sink: &mut K,
-) -> Result<(), Unwritten>
-    ensures written { OnOk result (K.held sink.new ≡ append_known (K.held sink.old) (outgoing.old ++ closing (option_map M.world machine.now) calls (Some item.Finish))) }
-    ensures front { HoldsFront (K.held sink.old) (K.held sink.new) (outgoing.old ++ closing (option_map M.world machine.now) calls (Some item.Finish)) }
-    ensures counted { K.faults sink.old ≤ K.faults sink.new }
-    ensures cause { result ≡ Err Unwritten.Sink → HasRisen (K.faults sink.old) (K.faults sink.new) }
-    ensures quiet { result ≢ Err Unwritten.Sink → K.faults sink.new ≡ K.faults sink.old }
+fn finish<K: Sink>(cell: &Option<Cell>, outgoing: &mut Outgoing, sink: &mut K) -> Result<(), Failed>
+    ensures written { OnOk result (K.held sink.new ≡ append_known (K.held sink.old) (outgoing.old ++ closing_of cell.now)) }
+    ensures front { HoldsFront (K.held sink.old) (K.held sink.new) (outgoing.old ++ closing_of cell.now) }
+    ensures cause { CountsFaults (K.faults sink.old) (K.faults sink.new) result }
 {
     match outgoing.send(sink) {
-        Ok(()) => close(machine, calls, sink),
-        Err(_) => Err(Unwritten::Sink),
+        Ok(()) => close(cell, sink),
+        Err(failed) => Err(failed),
     }
 }
 
-/// Reads a trace from the source and writes what a machine answers, and the summary or the line of the fault.
-pub fn replay_on<M: Runs, S: Source, K: Sink>(alloc: Global, source: &mut S, sink: &mut K) -> Status
+/// Reads a trace from the source and writes what a cell answers, and the summary or the line of the fault.
+pub fn play<S: Source, K: Sink>(alloc: Global, source: &mut S, sink: &mut K) -> Status
     ensures text { (taken written : List ℕ) × (S.left source.old ≡ prepend_known taken (S.left source.new))
         × (K.held sink.new ≡ append_known (K.held sink.old) written)
         × ((input : List ℕ) → S.left source.old ≡ Some input → StatusSays result input taken written) }
@@ -87,20 +124,19 @@ pub fn replay_on<M: Runs, S: Source, K: Sink>(alloc: Global, source: &mut S, sin
     let Ok(mut outgoing) = Outgoing::new(alloc) else {
         return Status::NoMemory;
     };
-    let mut machine: Option<M> = None;
-    let mut calls = 0;
+    let mut cell: Option<Cell> = None;
     let mut answer = Answer::new();
     let mut line = Line::new();
     'items: loop {
         line.clear();
         match reader.next(source) {
             Err(_) => return Status::ReadFault,
-            Ok(Item::Head(config)) => match M::open(alloc, config) {
-                Ok(opened) => machine = Some(opened),
+            Ok(Item::Head(config)) => match cell_for(alloc, config) {
+                Ok(opened) => cell = Some(opened),
                 Err(_) => return Status::NoMemory,
             },
             Ok(Item::Entry(caller, note)) => {
-                match make(&mut machine, caller, note, &mut answer, &mut line) {
+                match make(alloc, &mut cell, caller, note, &mut answer, &mut line) {
                     Ok(()) => {}
                     Err(_) => return Status::NoMemory,
                 }
@@ -108,12 +144,10 @@ pub fn replay_on<M: Runs, S: Source, K: Sink>(alloc: Global, source: &mut S, sin
                     Ok(()) => {}
                     Err(_) => return Status::WriteFault,
                 }
-                calls += 1;
             }
-            Ok(Item::Finish) => match finish(&machine, calls, &mut outgoing, sink) {
+            Ok(Item::Finish) => match finish(&cell, &mut outgoing, sink) {
                 Ok(()) => return Status::Done,
-                Err(Unwritten::Sink) => return Status::WriteFault,
-                Err(Unwritten::Machine) => return Status::NoMemory,
+                Err(_) => return Status::WriteFault,
             },
             Ok(Item::Bad(fault)) => {
                 print_fault(fault, &mut line);

@@ -1,9 +1,9 @@
 //! The commands, by the words of the command line.
 
-ghost use Rattle.std.specs.Prelude.{◌≡◌, ◌≤◌, ◌^◌, IsTrue, true, MatchOption, map, string_bytes};
+ghost use Rattle.std.specs.Prelude.{◌≡◌, ◌≤◌, ◌^◌, IsTrue, MatchOption, IfSome, map, string_bytes};
 ghost use Rattle.std.specs.List.{list_all};
 ghost use Rattle.wf_trace.specs.Words.{is_digit, value_from};
-ghost use Rattle.wf_replay.specs.Commands.{number_within, soak_of, command_of};
+ghost use Rattle.wf_replay.specs.Commands.{number_within, soak_of, command_of, HasCalls};
 
 use wf_trace::is_plain_number;
 
@@ -40,7 +40,8 @@ fn value_of(digits: &[u8]) -> Option<u64>
 
 /// The number that a word is, where it lies between two.
 fn number_within(low: u64, high: u64, word: &[u8]) -> Option<u64>
-    ensures { result ≡ number_within low high word.now }
+    ensures value { result ≡ number_within low high word.now }
+    ensures within { IfSome result (λ n. (low ≤ n) × (n ≤ high)) }
 {
     if !is_plain_number(word) {
         return None;
@@ -58,8 +59,9 @@ fn number_within(low: u64, high: u64, word: &[u8]) -> Option<u64>
 }
 
 fn soak_of(seed: Option<u64>, calls: Option<u64>) -> Option<Command>
-    requires { MatchOption calls (IsTrue true) (λ n. n ≤ 1000000) }
-    ensures { result ≡ soak_of seed calls }
+    requires { IfSome calls (λ n. (1 ≤ n) × (n ≤ 1000000)) }
+    ensures command { result ≡ soak_of seed calls }
+    ensures calls { IfSome result HasCalls }
 {
     match (seed, calls) {
         (Some(seed), Some(calls)) => Some(Command::Soak {
@@ -72,7 +74,8 @@ fn soak_of(seed: Option<u64>, calls: Option<u64>) -> Option<Command>
 
 /// The command that the words are, if they are one.
 pub fn command_from(words: &[String]) -> Option<Command>
-    ensures { result ≡ command_of (map string_bytes words.now) }
+    ensures command { result ≡ command_of (map string_bytes words.now) }
+    ensures calls { IfSome result HasCalls }
 {
     match words {
         [word] if word.as_str() == "replay" => Some(Command::Replay),

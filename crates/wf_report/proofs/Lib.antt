@@ -1,2 +1,4 @@
 pub mod Rows
-pub mod FrontLaws
+pub mod ShareLaws
+pub mod Counted
+pub mod Takes

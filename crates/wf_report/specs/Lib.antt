@@ -1,2 +1,2 @@
 pub mod Replies
-pub mod Fronts
+pub mod Parts

@@ -1,14 +1,13 @@
-//! What is written of a run: the answer line of each reply, and the summary of a machine.
+//! What is written of a run: the answer line of each answer, and the summary of a cell.
 #![tactic(auto)]
 
 mod parts;
 mod reply;
 mod report;
-mod runs;
+mod standing;
 
 pub use reply::print_reply;
-pub use report::{Unwritten, summary};
-pub use runs::{Runs, ShareNote, Stopped};
+pub use report::summary;
 
 #[cfg(test)]
 mod tests;

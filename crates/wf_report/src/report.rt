@@ -1,28 +1,22 @@
-//! The summary of a machine.
+//! The summary of a cell.
 
-ghost use Rattle.std.specs.Prelude.{◌≡◌, ◌≢◌, ◌+◌, ◌<◌, ◌≤◌, ◌++◌, ◌∷◌, [], ℕ, List, length, map, filter, decimal, sum_by, codes, OnOk, Err, ◌*◌};
+ghost use Rattle.std.specs.Prelude.{◌≡◌, ◌+◌, ◌<◌, ◌≤◌, ◌++◌, ◌∷◌, [], length, map, sum_by, OnOk, ◌*◌, true};
 ghost use Rattle.std.specs.List.{concat};
 ghost use Rattle.std.specs.Io.KnownBytes.{append_known};
-ghost use Rattle.wf_io.specs.Faults.{HasRisen, CountsFaults};
+ghost use Rattle.wf_io.specs.Faults.{CountsFaults};
 ghost use Rattle.wf_io.specs.Words.{text_of, width_of};
-ghost use Rattle.wf_world.specs.World.{live_stations, share};
+ghost use Rattle.wf_world.specs.World.{is_live, share};
+ghost use Rattle.wf_world.specs.Run.{world_of};
 ghost use Rattle.wf_frame.specs.Words.{line};
 ghost use Rattle.wf_world.specs.Text.{summary as summary_of, share_line, share_lines, hex};
-ghost use Rattle.wf_report.specs.Fronts.{HoldsFront, counts_of, lines_of, shares_of, map_line};
+ghost use Rattle.wf_status.specs.Fronts.{HoldsFront};
+ghost use Rattle.wf_report.specs.Parts.{counts_of, lines_of, shares_of, map_line};
 
 use crate::parts::push_hex;
-use crate::runs::{Runs, Stopped};
-use wf_frame::{Cause, Class, Fate};
+use crate::standing;
+use wf_cell::Cell;
+use wf_frame::Class;
 use wf_io::{Failed, Line, Sink, Word, write_all};
-
-/// Why a summary was not written whole.
-#[derive(Clone, Copy, Debug, PartialEq, Eq)]
-pub enum Unwritten {
-    /// The sink failed.
-    Sink,
-    /// The machine could not say what it is.
-    Machine,
-}
 
 // A line of words.
 fn push_line(out: &mut Line, word: &'static [u8], words: &[Word])
@@ -48,56 +42,53 @@ fn write_line<K: Sink>(sink: &mut K, line: &Line) -> Result<(), Failed>
 }
 
 // The lines of calls, clock, frames and exchanges.
-fn push_counts<M: Runs>(machine: &M, calls: u64, out: &mut Line)
+fn push_counts(cell: &Cell, out: &mut Line)
     requires { out.old ≡ [] }
-    ensures { out.new ≡ counts_of (M.world machine.now) calls }
+    ensures { out.new ≡ counts_of (world_of cell.now.past) (length cell.now.past.history) }
 {
-    let acked = machine.tally(Fate::Acked);
-    let overlimit = machine.tally(Fate::Dropped(Cause::Overlimit));
-    let codel = machine.tally(Fate::Dropped(Cause::Codel));
-    let retries = machine.tally(Fate::Dropped(Cause::Retries));
-    let left = machine.tally(Fate::Dropped(Cause::Left));
-    let held = machine.tally(Fate::Held);
-    push_line(out, b"calls", &[Word::Number(calls)]);
-    push_line(out, b"now", &[Word::Number(machine.clock())]);
+    let tally = standing::tally(cell);
+    push_line(out, b"calls", &[Word::Number(cell.len())]);
+    push_line(out, b"now", &[Word::Number(standing::clock(cell))]);
     push_line(
         out,
         b"frames",
         &[
-            Word::Number(machine.accepted()),
+            Word::Number(tally.accepted),
             Word::Text(b"acked"),
-            Word::Number(acked),
+            Word::Number(tally.acked),
             Word::Text(b"overlimit"),
-            Word::Number(overlimit),
+            Word::Number(tally.overlimit),
             Word::Text(b"codel"),
-            Word::Number(codel),
+            Word::Number(tally.codel),
             Word::Text(b"retries"),
-            Word::Number(retries),
+            Word::Number(tally.retries),
             Word::Text(b"left"),
-            Word::Number(left),
+            Word::Number(tally.left),
             Word::Text(b"held"),
-            Word::Number(held),
+            Word::Number(tally.held()),
         ],
     );
     push_line(
         out,
         b"exchanges",
         &[
-            Word::Number(machine.exchanges()),
+            Word::Number(standing::exchanges(cell)),
             Word::Text(b"open"),
-            Word::Number(machine.open_exchanges()),
+            Word::Number(standing::open_exchanges(cell)),
         ],
     );
 }
 
-// The line of what a station has in a class, if it used any airtime.
-fn push_share<M: Runs>(machine: &M, station: u32, class: Class, out: &mut Line)
-    requires { length out.old ≤ 4096 }
-    ensures text { out.new ≡ out.old ++ share_line station class (share (M.world machine.now) station class) }
+// The line of what a live station has in a class, if it used any airtime.
+fn push_share(cell: &Cell, station: u16, class: Class, out: &mut Line)
+    requires live { is_live (world_of cell.now.past) station ≡ true }
+    requires room { length out.old ≤ 4096 }
+    ensures text { out.new ≡ out.old ++ share_line station class (share (world_of cell.now.past) station class) }
     ensures len { length out.new ≤ length out.old + 150 }
 {
-    let share = machine.share(station, class);
-    if share.charged == 0 && share.received == 0 {
+    let charged = standing::charged(cell, station, class);
+    let received = standing::received(cell, station, class);
+    if charged == 0 && received == 0 {
         return;
     }
     push_line(
@@ -107,47 +98,48 @@ fn push_share<M: Runs>(machine: &M, station: u32, class: Class, out: &mut Line)
             Word::Number(u64::from(station)),
             Word::Text(class.word()),
             Word::Text(b"charged"),
-            Word::Number(share.charged),
+            Word::Number(charged),
             Word::Text(b"rx"),
-            Word::Number(share.received),
+            Word::Number(received),
             Word::Text(b"deficit"),
-            Word::Signed(share.deficit),
+            Word::Signed(standing::deficit(cell, station, class)),
         ],
     );
 }
 
-// The lines of a station, class by class.
-fn push_shares<M: Runs>(machine: &M, station: u32, out: &mut Line)
-    requires { out.old ≡ [] }
-    ensures { out.new ≡ share_lines (M.world machine.now) station }
+// The lines of a live station, class by class.
+fn push_shares(cell: &Cell, station: u16, out: &mut Line)
+    requires live { is_live (world_of cell.now.past) station ≡ true }
+    requires empty { out.old ≡ [] }
+    ensures { out.new ≡ share_lines (world_of cell.now.past) station }
 {
-    push_share(machine, station, Class::Bk, out);
-    push_share(machine, station, Class::Be, out);
-    push_share(machine, station, Class::Vi, out);
-    push_share(machine, station, Class::Vo, out);
+    push_share(cell, station, Class::Bk, out);
+    push_share(cell, station, Class::Be, out);
+    push_share(cell, station, Class::Vi, out);
+    push_share(cell, station, Class::Vo, out);
 }
 
 // Writes the lines of a station, if it is live.
-fn write_station<M: Runs, K: Sink>(machine: &M, station: u32, sink: &mut K) -> Result<(), Failed>
-    ensures written { OnOk result (K.held sink.new ≡ append_known (K.held sink.old) (lines_of (M.world machine.now) station)) }
-    ensures front { HoldsFront (K.held sink.old) (K.held sink.new) (lines_of (M.world machine.now) station) }
+fn write_station<K: Sink>(cell: &Cell, station: u16, sink: &mut K) -> Result<(), Failed>
+    ensures written { OnOk result (K.held sink.new ≡ append_known (K.held sink.old) (lines_of (world_of cell.now.past) station)) }
+    ensures front { HoldsFront (K.held sink.old) (K.held sink.new) (lines_of (world_of cell.now.past) station) }
     ensures cause { CountsFaults (K.faults sink.old) (K.faults sink.new) result }
 {
     let mut line = Line::new();
-    if machine.is_live(station) {
-        push_shares(machine, station, &mut line);
+    if standing::live(cell, station) {
+        push_shares(cell, station, &mut line);
     }
     write_line(sink, &line)
 }
 
 // Writes the lines of the live stations, by number.
-fn write_shares<M: Runs, K: Sink>(machine: &M, sink: &mut K) -> Result<(), Failed>
-    ensures written { OnOk result (K.held sink.new ≡ append_known (K.held sink.old) (shares_of (M.world machine.now))) }
-    ensures front { HoldsFront (K.held sink.old) (K.held sink.new) (shares_of (M.world machine.now)) }
+fn write_shares<K: Sink>(cell: &Cell, sink: &mut K) -> Result<(), Failed>
+    ensures written { OnOk result (K.held sink.new ≡ append_known (K.held sink.old) (shares_of (world_of cell.now.past))) }
+    ensures front { HoldsFront (K.held sink.old) (K.held sink.new) (shares_of (world_of cell.now.past)) }
     ensures cause { CountsFaults (K.faults sink.old) (K.faults sink.new) result }
 {
-    for station in 0..machine.stations() {
-        match write_station(machine, station, sink) {
+    for station in 0..standing::stations(cell) {
+        match write_station(cell, station, sink) {
             Ok(()) => {}
             Err(failed) => return Err(failed),
         }
@@ -168,61 +160,49 @@ fn push_octets(out: &mut Line, octets: &[u8])
 }
 
 // The line of the TIM element.
-fn push_map<M: Runs>(machine: &M, out: &mut Line) -> Result<(), Stopped>
+fn push_map(cell: &Cell, out: &mut Line)
     requires { out.old ≡ [] }
-    ensures { OnOk result (out.new ≡ map_line (M.world machine.now)) }
+    ensures { out.new ≡ map_line (world_of cell.now.past) }
 {
     let mut octets = [0; 256];
-    let count = machine.traffic_map(&mut octets)?;
+    let count = standing::traffic(cell, &mut octets);
     out.push_all(b"tim ");
     push_octets(out, &octets[..count]);
     out.push(b'\n');
-    Ok(())
 }
 
-/// Writes the summary of a machine that has made so many calls. After a fault, some of it from its front has been written.
-pub fn summary<M: Runs, K: Sink>(machine: &M, calls: u64, sink: &mut K) -> Result<(), Unwritten>
-    ensures written { OnOk result (K.held sink.new ≡ append_known (K.held sink.old) (summary_of (M.world machine.now) calls)) }
-    ensures front { HoldsFront (K.held sink.old) (K.held sink.new) (summary_of (M.world machine.now) calls) }
-    ensures counted { K.faults sink.old ≤ K.faults sink.new }
-    ensures cause { result ≡ Err Unwritten.Sink → HasRisen (K.faults sink.old) (K.faults sink.new) }
-    ensures quiet { result ≢ Err Unwritten.Sink → K.faults sink.new ≡ K.faults sink.old }
+/// Writes the summary of the world in which a cell is, after the calls of its history. After a fault, some of it from its front has
+/// been written.
+pub fn summary<K: Sink>(cell: &Cell, sink: &mut K) -> Result<(), Failed>
+    ensures written { OnOk result (K.held sink.new ≡ append_known (K.held sink.old) (summary_of (world_of cell.now.past) (length cell.now.past.history))) }
+    ensures front { HoldsFront (K.held sink.old) (K.held sink.new) (summary_of (world_of cell.now.past) (length cell.now.past.history)) }
+    ensures cause { CountsFaults (K.faults sink.old) (K.faults sink.new) result }
 {
     let mut counts = Line::new();
     let mut last = Line::new();
-    push_counts(machine, calls, &mut counts);
-    match push_map(machine, &mut last) {
-        Ok(()) => write_parts(machine, calls, &counts, &last, sink),
-        Err(_) => Err(Unwritten::Machine),
-    }
+    push_counts(cell, &mut counts);
+    push_map(cell, &mut last);
+    write_parts(cell, &counts, &last, sink)
 }
 
 // Writes the summary, whose first and last lines are at hand.
-fn write_parts<M: Runs, K: Sink>(
-    machine: &M,
-    calls: u64,
-    counts: &Line,
-    last: &Line,
-    sink: &mut K,
-) -> Result<(), Unwritten>
-    requires counts { counts.now ≡ counts_of (M.world machine.now) calls }
-    requires last { last.now ≡ map_line (M.world machine.now) }
-    ensures written { OnOk result (K.held sink.new ≡ append_known (K.held sink.old) (summary_of (M.world machine.now) calls)) }
-    ensures front { HoldsFront (K.held sink.old) (K.held sink.new) (summary_of (M.world machine.now) calls) }
-    ensures counted { K.faults sink.old ≤ K.faults sink.new }
-    ensures cause { result ≡ Err Unwritten.Sink → HasRisen (K.faults sink.old) (K.faults sink.new) }
-    ensures quiet { result ≢ Err Unwritten.Sink → K.faults sink.new ≡ K.faults sink.old }
+fn write_parts<K: Sink>(cell: &Cell, counts: &Line, last: &Line, sink: &mut K) -> Result<(), Failed>
+    requires counts { counts.now ≡ counts_of (world_of cell.now.past) (length cell.now.past.history) }
+    requires last { last.now ≡ map_line (world_of cell.now.past) }
+    ensures written { OnOk result (K.held sink.new ≡ append_known (K.held sink.old) (summary_of (world_of cell.now.past) (length cell.now.past.history))) }
+    ensures front { HoldsFront (K.held sink.old) (K.held sink.new) (summary_of (world_of cell.now.past) (length cell.now.past.history)) }
+    ensures cause { CountsFaults (K.faults sink.old) (K.faults sink.new) result }
 {
     match write_line(sink, counts) {
         Ok(()) => {}
-        Err(_) => return Err(Unwritten::Sink),
+        Err(failed) => return Err(failed),
     }
-    match write_shares(machine, sink) {
+    match write_shares(cell, sink) {
         Ok(()) => {}
-        Err(_) => return Err(Unwritten::Sink),
+        Err(failed) => return Err(failed),
     }
     match write_line(sink, last) {
         Ok(()) => Ok(()),
-        Err(_) => Err(Unwritten::Sink),
+        Err(failed) => Err(failed),
     }
 }

@@ -10,7 +10,7 @@ use Rattle.wf_trace.specs.Numbering.{Numbering, HasNoLine, pieces_left}
 use Rattle.wf_trace.specs.Pieces.{Pieces, pieces}
 use Rattle.wf_trace.proofs.Taking.{prepend_known-nil, prepend_known-append}
 use Rattle.wf_trace.proofs.CutLaws.{fits_back}
-use Rattle.wf_report.specs.Fronts.{HoldsFront}
+use Rattle.wf_status.specs.Fronts.{HoldsFront}
 use Rattle.wf_trace.specs.Faults.{fault_line}
 use Rattle.wf_status.specs.Fronts.{IsFrontOf}
 use Rattle.wf_status.specs.declared.status.Status.{Status}

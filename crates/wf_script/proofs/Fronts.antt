@@ -3,7 +3,7 @@ use Rattle.std.proofs.Common.{◌≡◌, ℕ, ◌≤◌, List, [], ◌∷◌, �
 use Rattle.std.specs.Prelude.{Option, Some, None}
 use Rattle.std.specs.Io.KnownBytes.{prepend_known, append_known}
 use Rattle.std.proofs.lemmas.List.{take-append-drop}
-use Rattle.wf_report.specs.Fronts.{HoldsFront}
+use Rattle.wf_status.specs.Fronts.{HoldsFront}
 
 pub append_known-nil : (held : Option (List ℕ)) → held ≡ append_known held []
 append_known-nil None = refl

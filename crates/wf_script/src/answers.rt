@@ -4,7 +4,7 @@ ghost use Rattle.std.specs.Prelude.{◌≡◌, ◌≢◌, ℕ, ◌≤◌, List, 
 ghost use Rattle.std.specs.Io.KnownBytes.{append_known};
 ghost use Rattle.wf_io.specs.Faults.{HasRisen};
 ghost use Rattle.wf_trace.specs.Words.{words};
-ghost use Rattle.wf_report.specs.Fronts.{HoldsFront};
+ghost use Rattle.wf_status.specs.Fronts.{HoldsFront};
 ghost use Rattle.wf_script.specs.Scripts.{Grammar};
 ghost use Rattle.wf_script.specs.Texts.{Manner};
 

@@ -12,7 +12,7 @@ use Rattle.wf_trace.specs.declared.reader.Item.TheVariants.{Head, Entry, Finish,
 use Rattle.wf_trace.specs.Pieces.{Numbered, Pieces}
 use Rattle.wf_trace.specs.Numbering.{Numbering, HasNoLine, pieces_left, will_read as will_cut}
 use Rattle.wf_trace.specs.Words.{words}
-use Rattle.wf_trace.specs.Meanings.{meant}
+use Rattle.wf_trace.specs.Meanings.{meant, HasRoom}
 use Rattle.wf_trace.specs.Reading.{Reading, with_item, reading_that_ends, bad, stopped}
 use Rattle.wf_trace.specs.Cutting.{Fits, room}
 
@@ -87,6 +87,20 @@ Places (Head config) old new = (old ≡ None) × IsSome new.place × (new.ended 
 Places (Entry caller note) old new = IsSome old × IsSome new.place × (new.ended ≡ None)
 Places Finish old new = Unit {0}
 Places (Bad fault) old new = Unit {0}
+
+-- some line says this in its place
+abbrev pub IsLine : Option Place → Meaning → Type 0
+IsLine place meaning = (ws : List (List ℕ)) × (meant place ws ≡ Ok meaning)
+
+-- how an item stands in its place: some line says it there; a head begins the count of calls, and a call is one more of those that the
+-- head allows
+abbrev pub IsPlaced : Result Item Failed → Option Place → Option Place → Type 0
+IsPlaced (Ok (Head config)) old new = IsLine old (meaning.Head config) × (new ≡ Some (record { limit = config.calls; count = 0 }))
+IsPlaced (Ok (Entry caller note)) old new =
+    IsLine old (meaning.Entry caller note) × HasRoom (Ok (meaning.Entry caller note)) old × (new ≡ next_place old)
+IsPlaced (Ok Finish) old new = Unit {0}
+IsPlaced (Ok (Bad fault)) old new = Unit {0}
+IsPlaced (Err failed) old new = new ≡ old
 
 -- whether the next call reads the source: it does not where the ending is known, or where a whole line waits that is not skipped
 abbrev pub will_read_of : Option Item → Numbering → Bool

@@ -77,7 +77,7 @@ impl TraceReader {
     ghost use Rattle.wf_trace.specs.Words.{words};
     ghost use Rattle.wf_trace.specs.Meanings.{meant};
     ghost use Rattle.wf_trace.specs.Reading.{reading};
-    ghost use Rattle.wf_trace.specs.Reader.{Reads, IsHeld, Goes, Places, Gives, rest, rest_of, said, read_lines, will_read};
+    ghost use Rattle.wf_trace.specs.Reader.{Reads, IsHeld, IsPlaced, Goes, Places, Gives, rest, rest_of, said, read_lines, will_read};
 
     /// A reader at the front of a trace. It takes its buffer of 4096 octets here, and no memory later.
     pub fn new(alloc: Global) -> Result<Self, AllocError>
@@ -121,6 +121,7 @@ impl TraceReader {
             (rest_of self.new.ended self.new.place p) }
         ensures stays { self.new.cut ≡ self.old.cut }
         ensures places { Places result self.old.place self.new }
+        ensures placed { IsPlaced (Ok result) self.old.place self.new.place }
     {
         match meaning_of(self.place, self.cut.octets()) {
             Ok(Meaning::Head(config)) => {
@@ -151,6 +152,7 @@ impl TraceReader {
             Reads self.old (S.left source.old) result self.new (S.left source.new) octets }
         ensures held { OnErr result (IsHeld self.new) }
         ensures goes { Goes result self.old self.new }
+        ensures placed { self.old.ended ≡ None → IsPlaced result self.old.place self.new.place }
         ensures over { self.old.ended ≡ None → result ≡ Ok Item.Finish → IsSome self.new.cut.cutter.ended →
             IsAtEnd (S.left source.new) }
         ensures sticky { IsSome self.old.cut.cutter.ended → IsSome self.new.cut.cutter.ended }

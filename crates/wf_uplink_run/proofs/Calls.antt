@@ -2,8 +2,8 @@
 use Rattle.std.proofs.Common.{◌≡◌, ℕ, zero, suc, ◌*◌, List, [], ◌∷◌, ◌++◌, true, false, refl, sym, ◌∙◌, ap, subst, append_assoc, append-nil, arith}
 use Rattle.std.specs.Prelude.{Option, Some, None, IfSome, is_some, replicate}
 use Rattle.std.specs.Io.KnownBytes.{append_known}
-use Rattle.wf_report.specs.Fronts.{HoldsFront}
-use Rattle.wf_report.proofs.FrontLaws.{append_known-nil}
+use Rattle.wf_status.specs.Fronts.{HoldsFront}
+use Rattle.wf_status.proofs.FrontLaws.{append_known-nil}
 use Rattle.wf_uplink.specs.declared.up.Up.{Up}
 use Rattle.wf_uplink.specs.Shown.{up_of}
 use Rattle.wf_uplink.specs.World.{World, Call, Tick, Expire, first_due, timeout_of, after_call, after_calls, answer, answers, tids}

@@ -3,13 +3,13 @@ use Rattle.std.proofs.Common.{◌≡◌, ℕ, ◌+◌, ◌≤◌, List, [], ◌�
 use Rattle.std.specs.Prelude.{Option, Some, Result, Ok, Err, OnOk, OnErr, slice_get, codes, decimal, flat_map}
 use Rattle.std.specs.List.{join_with_byte}
 use Rattle.std.specs.Io.KnownBytes.{append_known}
-use Rattle.std.proofs.lemmas.List.{take_all, take-append-drop}
+use Rattle.std.proofs.lemmas.List.{take_all, take_more, take-append-drop}
 use Rattle.std.proofs.lemmas.List.Concat.{flat_map-append}
+use Rattle.std.proofs.lemmas.Option.{slice_get_within, get_or_from_slice_get}
 use Rattle.wf_io.specs.Words.{spaced}
 use Rattle.wf_io.proofs.Spaces.{join-spaced, spaced-append}
-use Rattle.wf_report.specs.Fronts.{HoldsFront}
-use Rattle.wf_report.proofs.FrontLaws.{append_known-nil, append_known-append, front_first, front_next}
-use Rattle.wf_report.proofs.Rows.{take_got}
+use Rattle.wf_status.specs.Fronts.{HoldsFront}
+use Rattle.wf_status.proofs.FrontLaws.{append_known-nil, append_known-append, front_first, front_next}
 use Rattle.wf_uplink.specs.declared.items.UpItem.{UpItem}
 use Rattle.wf_uplink.specs.declared.up.Up.{Up}
 use Rattle.wf_uplink_run.specs.Answers.{item_words, air_words, old_words, up_line}
@@ -26,6 +26,10 @@ pub no_item : (is_frame : Bool) (u : Up) → head_text is_frame u ≡ text_to is
 no_item is_frame u = sym (append-nil (head_text is_frame u))
 
 -- one item more
+take_got : (items : List UpItem) (i : ℕ) (item : UpItem) → slice_get items i ≡ Some item → take (i + 1) items ≡ take i items ++ item ∷ []
+take_got items i item at =
+    take_more items i item (slice_get_within items i item at) ∙ ap (λ (x : UpItem). take i items ++ x ∷ []) (get_or_from_slice_get items i item item at)
+
 pub item_more : (is_frame : Bool) (u : Up) (i : ℕ) (item : UpItem) → slice_get u.items i ≡ Some item → text_to is_frame u i ++ spaced (item_words item) ≡ text_to is_frame u (i + 1)
 item_more is_frame u i item at =
     rw (take_got u.items i item at, flat_map-append item_words (take i u.items) (item ∷ []), append-nil (item_words item), spaced-append (flat_map item_words (take i u.items)) (item_words item))

@@ -3,7 +3,7 @@
 ghost use Rattle.std.specs.Prelude.{◌≡◌, ◌≢◌, ℕ, ◌+◌, ◌*◌, ◌^◌, ◌<◌, ◌≤◌, ◌∷◌, [], true, replicate, IfOk, OnOk, OnErr, Err};
 ghost use Rattle.std.specs.Io.KnownBytes.{append_known};
 ghost use Rattle.wf_io.specs.Faults.{HasRisen};
-ghost use Rattle.wf_report.specs.Fronts.{HoldsFront};
+ghost use Rattle.wf_status.specs.Fronts.{HoldsFront};
 ghost use Rattle.wf_rules.specs.Bounds.{greatest_tick};
 ghost use Rattle.wf_uplink.specs.Shown.{totals_of};
 ghost use Rattle.wf_uplink.specs.World.{Open, SetRate, Receive, Tick, Expire, tids, after_call, after_calls};

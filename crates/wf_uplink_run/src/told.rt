@@ -5,7 +5,7 @@ ghost use Rattle.std.specs.List.{join_with_byte};
 ghost use Rattle.std.specs.Io.KnownBytes.{append_known};
 ghost use Rattle.wf_io.specs.Faults.{HasRisen};
 ghost use Rattle.wf_io.specs.Words.{spaced};
-ghost use Rattle.wf_report.specs.Fronts.{HoldsFront};
+ghost use Rattle.wf_status.specs.Fronts.{HoldsFront};
 ghost use Rattle.wf_uplink_run.specs.Answers.{item_words, old_words, up_line};
 ghost use Rattle.wf_uplink_run.specs.Pieces.{IsBegun, head_text};
 

@@ -1,4 +1,4 @@
-use Rattle.wf_report.proofs.FrontLaws.{front_partly}
+use Rattle.wf_status.proofs.FrontLaws.{front_partly}
 use Rattle.wf_report.proofs.report.write_line.Goals as goal
 
 pub returns-in-Err-clause-front : goal.returns-in-Err-clause-front

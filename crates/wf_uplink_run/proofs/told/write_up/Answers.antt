@@ -1,6 +1,6 @@
 use Rattle.std.proofs.Common.{◌+◌, ◌∙◌, ap, sym, subst, arith}
 use Rattle.std.specs.Io.KnownBytes.{append_known}
-use Rattle.wf_report.specs.Fronts.{HoldsFront}
+use Rattle.wf_status.specs.Fronts.{HoldsFront}
 use Rattle.wf_uplink_run.specs.Pieces.{IsBegun}
 use Rattle.wf_uplink_run.proofs.Writing.{text_to, item_begun, item_front, end_written, end_front, on_ok, on_err}
 use Rattle.wf_uplink_run.proofs.told.write_up.Goals as goal

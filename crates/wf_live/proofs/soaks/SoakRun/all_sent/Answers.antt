@@ -11,19 +11,19 @@ loop-index-preserved c =
     let others : Bool → Soak → Bool = λ arrived k. arrived || some_arrive e (i + 1) rest k in (
       search rules,
       (search rules, search rules),
-      ap (λ (k : Soak). all_sent e (i + 1) rest k) c.in_ok-next.ensures.made ∙ sent_on e i c.args.count c.loop-index.soak (search rules) ∙ c.loop-index.invariant.2,
-      or_either c.loop-index.some c.in_ok-next.arrived (some_arrive e (i + 1) rest c.in_ok-next.next)
+      ap (λ (k : Soak). all_sent e (i + 1) rest k) c.transmission_sent.ensures.made ∙ sent_on e i c.args.count c.loop-index.self (search rules) ∙ c.loop-index.invariant.2,
+      or_either c.loop-index.some c.transmission_sent.result (some_arrive e (i + 1) rest c.transmission_sent.new.self)
           ∙ ap (λ (b : Bool). c.loop-index.some || b)
-          (ap (λ (b : Bool). others b c.in_ok-next.next) c.in_ok-next.ensures.arrived
-          ∙ ap (λ (k : Soak). others (lets_arrive c.loop-index.soak) k) c.in_ok-next.ensures.made
-          ∙ arrive_on e i c.args.count c.loop-index.soak (search rules))
+          (ap (λ (b : Bool). others b c.transmission_sent.new.self) c.transmission_sent.ensures.arrived
+          ∙ ap (λ (k : Soak). others (lets_arrive c.loop-index.self) k) c.transmission_sent.ensures.made
+          ∙ arrive_on e i c.args.count c.loop-index.self (search rules))
           ∙ c.loop-index.invariant.3,
     )
 
 pub returns-clause-made : goal.returns-clause-made
 returns-clause-made c =
-    sym (sent_over c.args.exchange c.loop-index.index c.args.count c.loop-index.soak (search rules)) ∙ c.loop-index.invariant.2
+    sym (sent_over c.args.exchange c.loop-index.index c.args.count c.loop-index.self (search rules)) ∙ c.loop-index.invariant.2
 
 pub returns-clause-arrived : goal.returns-clause-arrived
 returns-clause-arrived c =
-    sym (or_false c.loop-index.some) ∙ sym (ap (λ (b : Bool). c.loop-index.some || b) (arrive_over c.args.exchange c.loop-index.index c.args.count c.loop-index.soak (search rules))) ∙ c.loop-index.invariant.3
+    sym (or_false c.loop-index.some) ∙ sym (ap (λ (b : Bool). c.loop-index.some || b) (arrive_over c.args.exchange c.loop-index.index c.args.count c.loop-index.self (search rules))) ∙ c.loop-index.invariant.3

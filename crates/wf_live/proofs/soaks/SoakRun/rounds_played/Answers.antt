@@ -5,17 +5,17 @@ use Rattle.wf_live.proofs.soaks.SoakRun.rounds_played.Goals as goal
 
 pub returns-then-soak-eq0-clause-made : goal.returns-then-soak-eq0-clause-made
 returns-then-soak-eq0-clause-made c =
-    sym (rounds_end (c.args.most - c.loop-round.round) c.loop-round.round c.loop-round.soak (ap (λ (k : Soak). k.left) (sym c.soak.view_is) ∙ c.if-soak-eq0.true)) ∙ c.loop-round.invariant.3
+    sym (rounds_end (c.args.most - c.loop-round.round) c.loop-round.round c.loop-round.self (ap (λ (k : Soak). k.left) (sym c.soak.view_is) ∙ c.if-soak-eq0.true)) ∙ c.loop-round.invariant.3
 
 pub loop-round-preserved : goal.loop-round-preserved
 loop-round-preserved c =
-    let some : 0 < c.loop-round.soak.left = omega (arith, c.if-soak-eq0.false, ap (λ (k : Soak). k.left) c.soak.view_is) in (
+    let some : 0 < c.loop-round.self.left = omega (arith, c.if-soak-eq0.false, ap (λ (k : Soak). k.left) c.soak.view_is) in (
       search rules,
       (search rules, search rules),
       search rules,
-      ap (λ (k : Soak). rounds_played (c.args.most - (c.loop-round.round + 1)) (c.loop-round.round + 1) k) c.in_ok-soak.ensures.made
-          ∙ rounds_on c.loop-round.round c.args.most c.loop-round.soak (search rules) some ∙ c.loop-round.invariant.3,
+      ap (λ (k : Soak). rounds_played (c.args.most - (c.loop-round.round + 1)) (c.loop-round.round + 1) k) c.in_ok-round_played.ensures.made
+          ∙ rounds_on c.loop-round.round c.args.most c.loop-round.self (search rules) some ∙ c.loop-round.invariant.3,
     )
 
 pub returns-clause-made : goal.returns-clause-made
-returns-clause-made c = sym (rounds_over c.loop-round.round c.args.most c.loop-round.soak (search rules)) ∙ c.loop-round.invariant.3
+returns-clause-made c = sym (rounds_over c.loop-round.round c.args.most c.loop-round.self (search rules)) ∙ c.loop-round.invariant.3

@@ -7,9 +7,9 @@ pub loop-station-preserved : goal.loop-station-preserved
 loop-station-preserved c = (
   search rules,
   (search rules, search rules),
-  ap (λ (k : Soak). stations_join (c.loop-station.station + 1) (16 - (c.loop-station.station + 1)) k) c.in_ok-soak.ensures.made
-      ∙ joins_on c.loop-station.station c.loop-station.soak (search rules) ∙ c.loop-station.invariant.2,
+  ap (λ (k : Soak). stations_join (c.loop-station.station + 1) (16 - (c.loop-station.station + 1)) k) c.station_joins.ensures.made
+      ∙ joins_on c.loop-station.station c.loop-station.self (search rules) ∙ c.loop-station.invariant.2,
 )
 
 pub returns-clause-made : goal.returns-clause-made
-returns-clause-made c = sym (joins_over c.loop-station.station c.loop-station.soak (search rules)) ∙ c.loop-station.invariant.2
+returns-clause-made c = sym (joins_over c.loop-station.station c.loop-station.self (search rules)) ∙ c.loop-station.invariant.2

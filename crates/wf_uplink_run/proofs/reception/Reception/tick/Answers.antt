@@ -1,7 +1,7 @@
 use Rattle.std.proofs.Common.{◌*◌, replicate, sym, ◌∙◌, ap, subst}
 use Rattle.std.specs.Io.KnownBytes.{append_known}
-use Rattle.wf_report.specs.Fronts.{HoldsFront}
-use Rattle.wf_report.proofs.FrontLaws.{front_first, front_next, two_written}
+use Rattle.wf_status.specs.Fronts.{HoldsFront}
+use Rattle.wf_status.proofs.FrontLaws.{front_first, front_next, two_written}
 use Rattle.wf_uplink.specs.World.{World, Tick, Now, Expire, tids, after_calls}
 use Rattle.wf_uplink_run.specs.Answers.{stations, answer_text, calls_text}
 use Rattle.wf_uplink_run.proofs.Calls.{after_one, tick_text}

@@ -1,3 +1,0 @@
-mod Chosen
-mod Charges
-mod Fresh

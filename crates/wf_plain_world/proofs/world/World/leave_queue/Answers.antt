@@ -1,5 +1,0 @@
-use Rattle.wf_plain_world.proofs.Changes.{queue_done}
-use Rattle.wf_plain_world.proofs.world.World.leave_queue.Goals as goal
-
-pub returns : goal.returns
-returns c = queue_done _ _ _ _ _ _ _ c.in_ok-take_queue.ensures.queue c.in_ok-take_queue.ensures.world c.in_ok-put_queue.ensures c.in_ok-changed.ensures

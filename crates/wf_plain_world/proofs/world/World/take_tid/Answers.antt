@@ -1,7 +1,0 @@
-use Rattle.wf_world.specs.World.{on_tid}
-use Rattle.wf_plain_world.proofs.Changes.{station_done}
-use Rattle.wf_plain_world.proofs.world.World.take_tid.Goals as goal
-
-pub returns-clause-world : goal.returns-clause-world
-unfolding on_tid
-returns-clause-world c = station_done _ _ _ _ _ _ _ c.in_ok-take_station.ensures.station c.in_ok-take_station.ensures.world c.in_ok-put_station.ensures c.in_ok-changed.ensures.station

@@ -1,0 +1,18 @@
+use Rattle.std.proofs.Common.{◌≡◌, [], true, None}
+use Rattle.wf_trace.specs.Cutting.{room}
+use Rattle.wf_trace.specs.Reader.{will_read}
+use Rattle.wf_replay.specs.Running.{progress_of, IsAt}
+use Rattle.wf_replay.proofs.Replays.{Replaying}
+use Rattle.wf_replay.proofs.runner.play.Given as goal
+
+abbrev pub invariant-items : goal.invariant-items
+invariant-items g l = Replaying l.reader (progress_of l.cell) (g.S.Source.left l.fn.source) (g.S.Source.left l.source) (g.K.Sink.held l.fn.sink) (g.K.Sink.held l.sink) l.outgoing
+    × (l.reader.ended ≡ None)
+    × IsAt l.cell l.reader.place
+    × (g.S.Source.faults l.source ≡ g.S.Source.faults l.fn.source)
+    × (g.K.Sink.faults l.sink ≡ g.K.Sink.faults l.fn.sink)
+    × (will_read l.reader ≡ true → l.outgoing ≡ [])
+    × (l.reader.place ≡ None → l.outgoing ≡ [])
+
+abbrev pub decreases-items : goal.decreases-items
+decreases-items g l = room l.reader.cut.cutter

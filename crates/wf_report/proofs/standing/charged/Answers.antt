@@ -1,0 +1,14 @@
+use Rattle.std.proofs.Common.{◌∙◌}
+use Rattle.wf_world.specs.Run.{world_of}
+use Rattle.wf_transmit_refines.proofs.Readers.{live_same}
+use Rattle.wf_report.proofs.standing.charged.Goals as goal
+
+pub charged-requires : goal.charged-requires
+charged-requires c =
+    let stands = c.path.ensures.stands in
+    record { live = rw (c.path.ensures.value) (live_same _ _ stands.0 c.args.station stands.1.parts ∙ c.requires) }
+
+pub returns : goal.returns
+returns c =
+    let stands = c.path.ensures.stands in
+    c.charged.ensures.world (world_of c.args.cell.now.past) stands.0 (rw (c.path.ensures.value) stands.1)

@@ -1,0 +1,7 @@
+use Rattle.wf_world.specs.Run.{world_of}
+use Rattle.wf_report.proofs.standing.live.Goals as goal
+
+pub returns : goal.returns
+returns c =
+    let stands = c.path.ensures.stands in
+    c.live.ensures.world (world_of c.args.cell.now.past) stands.0 (rw (c.path.ensures.value) stands.1)

@@ -1,0 +1,10 @@
+use Rattle.std.proofs.Common.{rules, ◌∙◌, take, ap}
+use Rattle.wf_world.specs.Run.{world_of}
+use Rattle.wf_report.proofs.Takes.{take_within}
+use Rattle.wf_report.proofs.standing.traffic.Goals as goal
+
+pub returns-clause-octets : goal.returns-clause-octets
+returns-clause-octets c =
+    let stands = c.path.ensures.stands in
+    ap (λ n. take n c.tim.new.out) c.min.ensures ∙ take_within c.tim.result 256 c.tim.new.out (search rules)
+    ∙ c.tim.ensures.octets (world_of c.args.cell.now.past) stands.0 (rw (c.path.ensures.value) stands.1)

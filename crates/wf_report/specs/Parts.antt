@@ -1,0 +1,21 @@
+-- The parts of a summary.
+use Rattle.std.specs.Prelude.{ℕ, List, [], ◌∷◌, ◌++◌, if◌then◌else◌, codes, decimal, length, map}
+use Rattle.std.specs.List.{concat}
+use Rattle.wf_world.specs.World.{World, is_live, live_stations}
+use Rattle.wf_frame.specs.Words.{line}
+use Rattle.wf_world.specs.Text.{share_lines, tally_words, traffic_map, with_traffic, hex}
+
+-- the first four lines of a summary, those of a station and of all stations, and the last
+abbrev pub counts_of : World → ℕ → List ℕ
+counts_of w calls =
+    line (codes "calls" ∷ decimal calls ∷ []) ++ line (codes "now" ∷ decimal w.clock ∷ []) ++ line (tally_words w)
+    ++ line (codes "exchanges" ∷ decimal w.exchanges ∷ codes "open" ∷ decimal (length w.opened) ∷ [])
+
+abbrev pub lines_of : World → ℕ → List ℕ
+lines_of w s = if is_live w s then share_lines w s else []
+
+abbrev pub shares_of : World → List ℕ
+shares_of w = concat (map (share_lines w) (live_stations w))
+
+abbrev pub map_line : World → List ℕ
+map_line w = line (codes "tim" ∷ concat (map (hex 2) (traffic_map (with_traffic w))) ∷ [])

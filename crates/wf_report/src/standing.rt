@@ -1,0 +1,93 @@
+//! What a summary asks of a cell: its path says where the world is after the history.
+
+ghost use Rattle.std.specs.Prelude.{◌≡◌, ◌≤◌, length, take, true};
+ghost use Rattle.wf_fate.specs.Tally.{held_in, counts_of};
+ghost use Rattle.wf_frame.specs.declared.classes.Cause.TheVariants.{Overlimit, Codel, Retries, Left};
+ghost use Rattle.wf_frame.specs.declared.classes.Fate.TheVariants.{Held, Acked, Dropped};
+ghost use Rattle.wf_world.specs.World.{accepted_count, is_live, share};
+ghost use Rattle.wf_world.specs.Run.{world_of};
+ghost use Rattle.wf_world.specs.Text.{tally as tally_in, traffic_map, with_traffic};
+
+use wf_cell::Cell;
+use wf_fate::Tally;
+use wf_frame::Class;
+
+/// How many station numbers there are, 1 to 256.
+pub fn stations(cell: &Cell) -> u16
+    ensures { result ≡ (world_of cell.now.past).config.stations }
+{
+    cell.path().config().stations as u16
+}
+
+/// The clock, in microseconds.
+pub fn clock(cell: &Cell) -> u64
+    ensures { result ≡ (world_of cell.now.past).clock }
+{
+    cell.path().now()
+}
+
+/// How many exchanges were opened.
+pub fn exchanges(cell: &Cell) -> u64
+    ensures { result ≡ (world_of cell.now.past).exchanges }
+{
+    cell.path().exchanges()
+}
+
+/// How many of them are open.
+pub fn open_exchanges(cell: &Cell) -> u64
+    ensures { result ≡ length (world_of cell.now.past).opened }
+{
+    u64::from(cell.path().open_count())
+}
+
+/// The accepted frames by what became of them.
+pub fn tally(cell: &Cell) -> Tally
+    ensures accepted { result.accepted ≡ accepted_count (world_of cell.now.past) }
+    ensures acked { result.acked ≡ tally_in (world_of cell.now.past) Acked }
+    ensures overlimit { result.overlimit ≡ tally_in (world_of cell.now.past) (Dropped Overlimit) }
+    ensures codel { result.codel ≡ tally_in (world_of cell.now.past) (Dropped Codel) }
+    ensures retries { result.retries ≡ tally_in (world_of cell.now.past) (Dropped Retries) }
+    ensures left { result.left ≡ tally_in (world_of cell.now.past) (Dropped Left) }
+    ensures held { held_in (counts_of result) ≡ tally_in (world_of cell.now.past) Held }
+{
+    cell.path().tally()
+}
+
+/// Whether a station is live.
+pub fn live(cell: &Cell, station: u16) -> bool
+    ensures { result ≡ is_live (world_of cell.now.past) station }
+{
+    cell.path().live(station)
+}
+
+/// The deficit of a live station in a class, in microseconds.
+pub fn deficit(cell: &Cell, station: u16, class: Class) -> i64
+    requires { is_live (world_of cell.now.past) station ≡ true }
+    ensures { result ≡ (share (world_of cell.now.past) station class).deficit }
+{
+    cell.path().deficit(station, class)
+}
+
+/// The airtime of a live station's exchanges in a class since its join, in microseconds.
+pub fn charged(cell: &Cell, station: u16, class: Class) -> u64
+    requires { is_live (world_of cell.now.past) station ≡ true }
+    ensures { result ≡ (share (world_of cell.now.past) station class).charged }
+{
+    cell.path().charged(station, class)
+}
+
+/// The airtime that a live station itself used in a class since its join, in microseconds.
+pub fn received(cell: &Cell, station: u16, class: Class) -> u64
+    requires { is_live (world_of cell.now.past) station ≡ true }
+    ensures { result ≡ (share (world_of cell.now.past) station class).received }
+{
+    cell.path().received(station, class)
+}
+
+/// Writes the TIM element (IEEE 802.11-2012, 8.4.2.7), and gives how many octets it has.
+pub fn traffic(cell: &Cell, out: &mut [u8; 256]) -> usize
+    ensures count { result ≤ length out.new }
+    ensures octets { take result out.new ≡ traffic_map (with_traffic (world_of cell.now.past)) }
+{
+    cell.path().tim(out).min(out.len())
+}
