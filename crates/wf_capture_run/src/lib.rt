@@ -1,0 +1,13 @@
+//! The command that replays a trace as a capture file: each transmission that the access point sends and each BlockAck of
+//! its stations is a packet.
+#![tactic(auto)]
+
+mod air;
+mod command;
+mod frame;
+mod play;
+
+pub use command::capture;
+
+#[cfg(test)]
+mod tests;
