@@ -1,26 +1,25 @@
--- A cell whose frames are those that the calls of its history brought.
-use Rattle.std.specs.Prelude.{◌≡◌, ◌<◌, ℕ, Option, option_map}
-use Rattle.wf_frame.specs.Frames.{FrameValue}
-use Rattle.wf_world.specs.World.{World, accepted_count}
+-- A cell whose frames are those that the calls of a trace bring.
+use Rattle.std.specs.Prelude.{◌≡◌, ℕ, length}
+use Rattle.wf_frame.specs.Frames.{FrameValue, sample_body}
+use Rattle.wf_world.specs.World.{World}
 use Rattle.wf_world.specs.Run.{world_of}
 use Rattle.wf_transmit_refines.specs.Half.{TransmitValue}
 use Rattle.wf_transmit_refines.specs.Standing.{StandsFor}
 use Rattle.wf_cell.specs.Cells.{CellValue}
-use Rattle.wf_capture_run.specs.Captures.{samples}
 
 -- the world behind a cell's history
 abbrev pub world_in : CellValue → World
 world_in c = world_of c.past
 
--- the body of each accepted frame is the one that its call brought
-abbrev pub AreSamples : World → (ℕ → FrameValue) → Type 0
-AreSamples w bodies = (id : ℕ) → id < accepted_count w → (bodies id).body ≡ (samples w id).body
+-- a frame has the body that a call of a trace brings, of its flow
+abbrev pub IsSample : FrameValue → Type 0
+IsSample f = f.body ≡ sample_body f.flow (length f.body)
 
 -- a half stands for a world, with such frames
 pub record HasSamples (half : TransmitValue) (w : World) : Type 0 where
   pub bodies : ℕ → FrameValue
   pub stands : StandsFor half w bodies
-  pub samples_are : AreSamples w bodies
+  pub samples : (id : ℕ) → IsSample (bodies id)
 
 abbrev pub IsSampled : CellValue → Type 0
 IsSampled c = HasSamples c.half (world_in c)

@@ -6,6 +6,7 @@ ghost use Rattle.wf_frame.specs.Answers.{reply_of};
 ghost use Rattle.wf_frame.specs.Frames.{FrameValue};
 ghost use Rattle.wf_io.specs.Faults.{CountsFaults};
 ghost use Rattle.wf_status.specs.Fronts.{HoldsFront};
+ghost use Rattle.wf_transmit.specs.Half.{HasWorld};
 ghost use Rattle.wf_transmit_refines.specs.Standing.{StandsFor};
 ghost use Rattle.wf_world.specs.World.{World, exchange as exchange_in};
 ghost use Rattle.wf_capture_run.specs.Packets.{frames_sent, block_acks, exchange_answered, frames_by, packets_at, octets_of};
@@ -28,6 +29,7 @@ fn exchange_answered(note: &Note) -> Option<u64>
 
 /// Writes a packet for each transmission of an exchange, in order.
 fn write_sent<K: Sink>(path: &Path, exchange: u64, sink: &mut K) -> Result<(), Failed>
+    requires stands { HasWorld path.now }
     requires time { path.now.clock < 2 ^ 32 * 1000000 }
     ensures written { OnOk result ((w : World) (bodies : ℕ → FrameValue) → StandsFor path.now w bodies →
         K.held sink.new ≡ append_known (K.held sink.old) (octets_of (packets_at w.clock (frames_sent w bodies exchange)))) }
@@ -35,10 +37,12 @@ fn write_sent<K: Sink>(path: &Path, exchange: u64, sink: &mut K) -> Result<(), F
         HoldsFront (K.held sink.old) (K.held sink.new) (octets_of (packets_at w.clock (frames_sent w bodies exchange))) }
     ensures cause { CountsFaults (K.faults sink.old) (K.faults sink.new) result }
 {
-    let mut octets = [0; LONGEST];
+    let Some(sent) = path.sent(exchange) else {
+        return Ok(());
+    };
     let at = path.now();
-    let count = path.sent(exchange).map_or(0, |sent| sent.count);
-    for index in 0..count {
+    let mut octets = [0; LONGEST];
+    for index in 0..sent.count {
         let len = transmission(path, exchange, index, &mut octets);
         write_packet(sink, at, &octets[..len])?;
     }
@@ -55,6 +59,7 @@ fn write_block_ack<K: Sink>(
     wide: bool,
     sink: &mut K,
 ) -> Result<(), Failed>
+    requires stands { HasWorld path.now }
     requires time { path.now.clock < 2 ^ 32 * 1000000 }
     ensures written { OnOk result ((w : World) (bodies : ℕ → FrameValue) → StandsFor path.now w bodies →
         K.held sink.new ≡ append_known (K.held sink.old) (octets_of (packets_at w.clock (block_acks start words wide (exchange_in w exchange))))) }
@@ -79,6 +84,7 @@ pub(crate) fn write_packets<K: Sink>(
     answer: &Answer,
     sink: &mut K,
 ) -> Result<(), Failed>
+    requires stands { HasWorld path.now }
     requires time { path.now.clock < 2 ^ 32 * 1000000 }
     ensures written { OnOk result ((w : World) (bodies : ℕ → FrameValue) → StandsFor path.now w bodies →
         K.held sink.new ≡ append_known (K.held sink.old) (octets_of (packets_at w.clock (frames_by w bodies note.now (reply_of answer.now))))) }

@@ -3,7 +3,7 @@
 ghost use Rattle.std.specs.Prelude.{◌≡◌, ◌≢◌, ℕ, List, Some};
 ghost use Rattle.std.specs.Io.KnownBytes.{prepend_known, append_known};
 ghost use Rattle.wf_io.specs.Faults.{HasRisen};
-ghost use Rattle.wf_capture_run.specs.Outcome.{CaptureOutcome, CaptureAnswered, CaptureLaw};
+ghost use Rattle.wf_capture_run.specs.Outcome.{CaptureOutcome, CaptureAnswered};
 
 use crate::play::{Unplayed, make, open};
 use std::alloc::Global;
@@ -26,7 +26,6 @@ pub fn capture<S: Source, K: Sink>(alloc: Global, source: &mut S, sink: &mut K) 
     ensures write { result ≡ Status.WriteFault → HasRisen (K.faults sink.old) (K.faults sink.new) }
     ensures sink_quiet { result ≢ Status.WriteFault → K.faults sink.new ≡ K.faults sink.old }
     ensures command { result ≢ Status.Usage }
-    ensures law { (input : List ℕ) → CaptureLaw input }
     ensures complete { (HasRisen (S.faults source.old) (S.faults source.new) → ⊥) → (HasRisen (K.faults sink.old) (K.faults sink.new) → ⊥) →
         (input : List ℕ) → S.left source.old ≡ Some input → CaptureAnswered input result }
 {

@@ -5,9 +5,11 @@
 mod air;
 mod command;
 mod frame;
+mod law;
 mod play;
 
 pub use command::capture;
+pub use law::captured_run_is_listed;
 
 #[cfg(test)]
 mod tests;

@@ -9,9 +9,9 @@ ghost use Rattle.wf_trace.specs.declared.reader.Item.TheVariants as item;
 ghost use Rattle.wf_world.specs.World.{opening};
 ghost use Rattle.wf_world.specs.Step.{step};
 ghost use Rattle.wf_capture_run.specs.Packets.{octets_of};
-ghost use Rattle.wf_capture_run.specs.Captures.{sample_of, packets_by};
+ghost use Rattle.wf_capture_run.specs.Captures.{packets_by};
 ghost use Rattle.wf_capture_run.specs.Running.{behind_item, octets_of_item};
-ghost use Rattle.wf_capture_run.specs.Samples.{IsSampled, world_in};
+ghost use Rattle.wf_capture_run.specs.Samples.{IsSample, IsSampled, world_in};
 
 use crate::air::write_packets;
 use std::alloc::{AllocError, Global};
@@ -34,7 +34,7 @@ pub(crate) enum Unplayed {
 /// it has no octet or more than 2304; no trace has such a call.
 fn job_of(alloc: Global, note: Note) -> Result<Job, AllocError>
     ensures call { IfOk result (λ job. note_of job ≡ note) }
-    ensures frame { IfOk result (λ job. IfSome (frame_of job) (λ f. f ≡ sample_of note)) }
+    ensures frame { IfOk result (λ job. IfSome (frame_of job) IsSample) }
 {
     match note {
         Note::Asked(ask) => Ok(Job::Call(ask)),

@@ -53,3 +53,25 @@ fn a_frame_and_its_block_ack(rt: HostRuntime) -> Result<(), Fail> {
     assert_eq!(rt; octets.get(1566..), Some(BLOCK_ACK.as_slice()));
     Ok(())
 }
+
+#[test]
+fn a_call_without_a_head_gives_the_file_header(rt: HostRuntime) -> Result<(), Fail> {
+    let (status, written) = captured(&rt, b"tick 5\n", 3, &[], &[])?;
+    assert!(rt; status == Status::BadTrace);
+    assert_eq!(rt; written.as_slice(), HEAD.as_slice());
+    Ok(())
+}
+
+#[test]
+fn sources_and_sinks_that_fail(rt: HostRuntime) -> Result<(), Fail> {
+    let (_, whole) = captured(&rt, ONE_FRAME, 4096, &[], &[])?;
+    for call in 0..7 {
+        let (status, written) = captured(&rt, ONE_FRAME, 300, &[], &[call])?;
+        assert!(rt; status == Status::WriteFault && written.len() < whole.len());
+        assert!(rt; whole.starts_with(written.as_slice()));
+    }
+    let (status, written) = captured(&rt, ONE_FRAME, 50, &[1], &[])?;
+    assert!(rt; status == Status::ReadFault);
+    assert_eq!(rt; written.len(), 1566);
+    Ok(())
+}

@@ -1,0 +1,6 @@
+pub mod Shapes
+pub mod Capturing
+pub mod Sampled
+pub mod Writing
+pub mod Law
+pub mod Played
