@@ -1,5 +1,5 @@
 -- The packets of a run are ones that a capture can have, so `frames` lists each of them.
-use Rattle.std.proofs.Common.{◌≡◌, refl, ap, sym, ◌∙◌, subst, ℕ, ◌+◌, ◌*◌, ◌^◌, ◌<◌, ◌≤◌, Bool, true, false, List, [], ◌∷◌, ◌++◌, length, map, take, Option, Some, None, arith, length-append, append_assoc}
+use Rattle.std.proofs.Common.{◌≡◌, refl, ap, sym, ◌∙◌, subst, ℕ, ◌+◌, ◌*◌, ◌^◌, ◌<◌, ◌≤◌, Bool, true, false, List, [], ◌∷◌, ◌++◌, length, map, take, Option, Some, None, lit≤, arith, length-append, append_assoc}
 use Rattle.std.specs.Prelude.{option_and_then}
 use Rattle.std.proofs.lemmas.List.{take_all}
 use Rattle.wf_frame.specs.Frames.{FrameValue, sample_body}
@@ -53,7 +53,7 @@ data_short w x all (m ∷ mpdus) = (
 
 content_short : (w : World) (x : Exchange) → IsStocked greatest_body w → (c : Content) → AreShort (octets_of_content w (samples w) x c)
 content_short w x all (Frames mpdus) = data_short w x all mpdus
-content_short w x all (Request start) = (omega arith, tt)
+content_short w x all (Request start) = (lit≤ tt, tt)
 
 sent_short : (w : World) → IsStocked greatest_body w → (e : ℕ) → AreShort (frames_sent w (samples w) e)
 sent_short w all e = of (exchange w e) refl
@@ -64,8 +64,8 @@ sent_short w all e = of (exchange w e) refl
 
 acks_short : (start b0 b1 b2 b3 : ℕ) (wide : Bool) (o : Option Exchange) → AreShort (block_acks start (b0 ∷ b1 ∷ b2 ∷ b3 ∷ []) wide o)
 acks_short start b0 b1 b2 b3 wide None = tt
-acks_short start b0 b1 b2 b3 true (Some x) = (omega arith, tt)
-acks_short start b0 b1 b2 b3 false (Some x) = (omega arith, tt)
+acks_short start b0 b1 b2 b3 true (Some x) = (lit≤ tt, tt)
+acks_short start b0 b1 b2 b3 false (Some x) = (lit≤ tt, tt)
 
 frames_short : (w : World) → IsStocked greatest_body w → (note : Note) (answered : ReplyNote) → AreShort (frames_by w (samples w) note answered)
 frames_short w all note (reply.Send e s t air part more) = sent_short w all e

@@ -4,3 +4,4 @@ pub mod Sampled
 pub mod Writing
 pub mod Law
 pub mod Played
+pub mod Acks

@@ -1,5 +1,6 @@
 -- A cell after a call of a trace: where it stands, and what the call puts on the air.
-use Rattle.std.proofs.Common.{◌≡◌, refl, ap, ap₂, sym, ◌∙◌, subst, ℕ, ◌+◌, ◌-◌, ◌*◌, ◌^◌, ◌<◌, ◌≤◌, List, [], ◌∷◌, ◌++◌, length, Option, Some, None, arith, length-append}
+use Rattle.std.proofs.Common.{◌≡◌, refl, ap, ap₂, sym, ◌∙◌, subst, ℕ, ◌+◌, ◌-◌, ◌*◌, ◌^◌, ◌<◌, ◌≤◌, List, [], ◌∷◌, ◌++◌, length, Option, Some, None, arith, length-append, append-nil}
+use Rattle.std.specs.Prelude.{Result, Ok, Err, IfOk}
 use Rattle.std.specs.Io.KnownBytes.{append_known}
 use Rattle.wf_frame.specs.Frames.{FrameValue, new_frame}
 use Rattle.wf_frame.specs.Settings.{IsInRange}
@@ -13,6 +14,7 @@ use Rattle.wf_world.specs.Step.{step}
 use Rattle.wf_transmit.specs.Half.{HasWorld}
 use Rattle.wf_transmit_refines.specs.Half.{TransmitValue}
 use Rattle.wf_transmit_refines.specs.Standing.{StandsFor}
+use Rattle.wf_path.specs.declared.faults.NewFault.{NewFault}
 use Rattle.wf_path.specs.declared.job.Job.{Job}
 use Rattle.wf_path.specs.Jobs.{note_of, frame_of, bodies_after}
 use Rattle.wf_cell.specs.Cells.{CellValue, room_in, with_entry}
@@ -37,6 +39,23 @@ new_sampled c config is stands = record {
   stands = subst (λ (w : World). StandsFor c.half w no_frames) (sym (new_is c config is)) (stands no_frames);
   samples = λ id. no_sample;
 }
+
+pub open_is : (r : Result CellValue NewFault) (config : Config) → IfOk r (λ c. c.past ≡ record { config = config; history = [] }) → IfOk r (λ c. world_in c ≡ opening config)
+open_is (Ok c) config is = new_is c config is
+open_is (Err fault) config is = tt
+
+pub open_sampled : (r : Result CellValue NewFault) (config : Config) → IfOk r (λ c. c.past ≡ record { config = config; history = [] }) →
+    IfOk r (λ c. (bodies : ℕ → FrameValue) → StandsFor c.half (opening config) bodies) → IfOk r IsSampled
+open_sampled (Ok c) config is stands = new_sampled c config is stands
+open_sampled (Err fault) config is stands = tt
+
+append_none : (held : Option (List ℕ)) → held ≡ append_known held []
+append_none None = refl
+append_none (Some xs) = ap Some (sym (append-nil xs))
+
+-- nothing was written
+pub no_front : (held : Option (List ℕ)) (octets : List ℕ) → HoldsFront held held octets
+no_front held octets = record { written = []; rest = octets; is = refl; holds = append_none held }
 
 -- ---- a call
 

@@ -29,6 +29,20 @@ pub fn capture<S: Source, K: Sink>(alloc: Global, source: &mut S, sink: &mut K) 
     ensures complete { (HasRisen (S.faults source.old) (S.faults source.new) → ⊥) → (HasRisen (K.faults sink.old) (K.faults sink.new) → ⊥) →
         (input : List ℕ) → S.left source.old ≡ Some input → CaptureAnswered input result }
 {
+    write_capture(alloc, source, sink)
+}
+
+// The same: what each status says of the octets taken and written, and the cause of each.
+fn write_capture<S: Source, K: Sink>(alloc: Global, source: &mut S, sink: &mut K) -> Status
+    ensures text { (taken written : List ℕ) × (S.left source.old ≡ prepend_known taken (S.left source.new))
+        × (K.held sink.new ≡ append_known (K.held sink.old) written)
+        × ((input : List ℕ) → S.left source.old ≡ Some input → CaptureOutcome result input taken written) }
+    ensures read { result ≡ Status.ReadFault → HasRisen (S.faults source.old) (S.faults source.new) }
+    ensures source_quiet { result ≢ Status.ReadFault → S.faults source.new ≡ S.faults source.old }
+    ensures write { result ≡ Status.WriteFault → HasRisen (K.faults sink.old) (K.faults sink.new) }
+    ensures sink_quiet { result ≢ Status.WriteFault → K.faults sink.new ≡ K.faults sink.old }
+    ensures command { result ≢ Status.Usage }
+{
     let Ok(mut reader) = TraceReader::new(alloc) else {
         return Status::NoMemory;
     };

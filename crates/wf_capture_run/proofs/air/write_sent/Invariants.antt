@@ -8,5 +8,5 @@ use Rattle.wf_capture_run.proofs.air.write_sent.Given as goal
 
 abbrev pub invariant-loop-index : goal.invariant-loop-index
 invariant-loop-index g l = ((w : World) (bodies : ℕ → FrameValue) → StandsFor l.path w bodies →
-        g.K.Sink.held l.sink ≡ append_known (g.K.Sink.held l.fn.sink) (octets_of (packets_at w.clock (take l.index (frames_sent w bodies l.exchange)))))
+    g.K.Sink.held l.sink ≡ append_known (g.K.Sink.held l.fn.sink) (octets_of (packets_at w.clock (take l.index (frames_sent w bodies l.exchange)))))
     × (g.K.Sink.faults l.sink ≡ g.K.Sink.faults l.fn.sink)

@@ -3,7 +3,7 @@ use Rattle.std.specs.Prelude.{IsSome, IfSome, option_map}
 use Rattle.wf_trace.specs.Cutting.{room}
 use Rattle.wf_capture_run.specs.Samples.{IsSampled, world_in}
 use Rattle.wf_capture_run.proofs.Capturing.{Capturing}
-use Rattle.wf_capture_run.proofs.command.capture.Given as goal
+use Rattle.wf_capture_run.proofs.command.write_capture.Given as goal
 
 abbrev pub invariant-items : goal.invariant-items
 invariant-items g l = Capturing l.reader (option_map world_in l.cell) (g.S.Source.left l.fn.source) (g.S.Source.left l.source) (g.K.Sink.held l.fn.sink) (g.K.Sink.held l.sink)
