@@ -111,7 +111,7 @@ data_of (Request start) i m is = absurd (cc is)
 
 module _ (v : TransmitValue) (w : World) (bodies : ℕ → FrameValue) (h : StandsFor v w bodies) (e : ℕ) (x : Exchange) (known : exchange w e ≡ Some x) where
   -- the frame of a transmission is accepted
-  is_accepted : (k : ℕ) (m : Mpdu) → slice_get (mpdus_of x.content) k ≡ Some m → m.id < accepted_count w
+  pub is_accepted : (k : ℕ) (m : Mpdu) → slice_get (mpdus_of x.content) k ≡ Some m → m.id < accepted_count w
   is_accepted k m among =
       let sends : IsData x.content (numbers_on_air (mpdus_of x.content)) = data_sent v w bodies h e x known (numbers_on_air (mpdus_of x.content)) (data_of x.content k m among) in
       let ending = begun v w bodies h e x known (numbers_on_air (mpdus_of x.content)) (data_of x.content k m among) (λ n. false) in

@@ -9,6 +9,7 @@ ghost use Rattle.wf_frame.specs.declared.notes.Refusal.TheVariants.{HistoryFull}
 ghost use Rattle.wf_frame.specs.declared.notes.ReplyNote.TheVariants.{Reaped, Refused};
 ghost use Rattle.wf_frame.specs.declared.settings.Field.{Field};
 ghost use Rattle.wf_world.specs.Run.{by, world_of};
+ghost use Rattle.wf_world.specs.World.{opening};
 ghost use Rattle.wf_world.specs.Step.{step};
 ghost use Rattle.wf_laws.specs.Laws.{Laws};
 ghost use Rattle.wf_laws.specs.Lengths.{HasLengths};
@@ -75,6 +76,7 @@ impl Cell {
     pub fn new(alloc: Global, config: Config) -> Result<Cell, NewFault>
         ensures bad { (f : Field) → (result ≡ Err (NewFault.BadConfig f)) ↔ (first_out_of_range config ≡ Some f) }
         ensures past { IfOk result (λ made. made.past ≡ record { config = config; history = [] }) }
+        ensures stands { IfOk result (λ made. (bodies : ℕ → FrameValue) → StandsFor made.half (opening config) bodies) }
     {
         match Engine::new(alloc, config) {
             Err(fault) => Err(fault),

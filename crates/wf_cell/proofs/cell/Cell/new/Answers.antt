@@ -29,3 +29,6 @@ pub returns-in-Ok-with_capacity-clause-past : goal.returns-in-Ok-with_capacity-c
 returns-in-Ok-with_capacity-clause-past c =
     ap₂ (λ (k : Config) (h : List Entry). let p : Past = record { config = k; history = h } in p)
     ((c.in-Ok.ensures.is_in no_frames).half.parts.others.config) c.in-Ok-with_capacity.ensures.items
+
+pub returns-in-Ok-with_capacity-clause-stands : goal.returns-in-Ok-with_capacity-clause-stands
+returns-in-Ok-with_capacity-clause-stands c = λ bodies. (c.in-Ok.ensures.is_in bodies).half

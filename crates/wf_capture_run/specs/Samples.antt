@@ -1,0 +1,25 @@
+-- A cell whose frames are those that the calls of a trace bring.
+use Rattle.std.specs.Prelude.{◌≡◌, ℕ, length}
+use Rattle.wf_frame.specs.Frames.{FrameValue, sample_body}
+use Rattle.wf_world.specs.World.{World}
+use Rattle.wf_world.specs.Run.{world_of}
+use Rattle.wf_transmit_refines.specs.Half.{TransmitValue}
+use Rattle.wf_transmit_refines.specs.Standing.{StandsFor}
+use Rattle.wf_cell.specs.Cells.{CellValue}
+
+-- the world behind a cell's history
+abbrev pub world_in : CellValue → World
+world_in c = world_of c.past
+
+-- a frame has the body that a call of a trace brings, of its flow
+abbrev pub IsSample : FrameValue → Type 0
+IsSample f = f.body ≡ sample_body f.flow (length f.body)
+
+-- a half stands for a world, with such frames
+pub record HasSamples (half : TransmitValue) (w : World) : Type 0 where
+  pub bodies : ℕ → FrameValue
+  pub stands : StandsFor half w bodies
+  pub samples : (id : ℕ) → IsSample (bodies id)
+
+abbrev pub IsSampled : CellValue → Type 0
+IsSampled c = HasSamples c.half (world_in c)
