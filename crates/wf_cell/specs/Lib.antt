@@ -1,3 +1,4 @@
 pub mod Engines
 pub mod Cells
 pub mod Octets
+pub mod Rights

@@ -16,6 +16,7 @@ ghost use Rattle.wf_rules.specs.Lengths.{greatest_body};
 ghost use Rattle.wf_transmit_refines.specs.Standing.{StandsFor};
 ghost use Rattle.wf_path.specs.Jobs.{bodies_after, frame_of, given_back, note_of};
 ghost use Rattle.wf_cell.specs.Cells.{room_in, with_entry};
+ghost use Rattle.wf_cell.specs.Rights.{IsRight};
 
 use crate::engine::Engine;
 use std::alloc::Global;
@@ -92,6 +93,9 @@ impl Cell {
             result ≡ given_back bodies job (reply_of answer.new) }
         ensures stands { 0 < room_in self.old.past → (bodies : ℕ → FrameValue) → StandsFor self.old.half (world_of self.old.past) bodies →
             StandsFor self.new.half (world_of self.new.past) (bodies_after self.old.half job (reply_of answer.new) bodies) }
+
+        // so the answer is right, as a gate asks it of a machine
+        ensures right { 0 < room_in self.old.past → IsRight self.old.past.config self.old.past.history job (reply_of answer.new) result }
 
         // where there is none, nothing changes
         ensures full { room_in self.old.past ≡ 0 → reply_of answer.new ≡ Refused HistoryFull }

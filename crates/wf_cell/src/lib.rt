@@ -7,8 +7,11 @@
 
 mod air;
 mod cell;
+mod crossing;
 mod engine;
+mod machine;
 mod peers;
 
 pub use cell::Cell;
+pub use machine::{Answered, Asking};
 pub use wf_path::{Job, NewFault, Path};

@@ -10,7 +10,9 @@ use Rattle.wf_transmit_refines.specs.Standing.{StandsFor}
 use Rattle.wf_path.specs.Jobs.{note_of, bodies_after}
 use Rattle.wf_cell.specs.Engines.{EngineValue}
 use Rattle.wf_cell.specs.Cells.{CellValue, room_in, with_entry}
-use Rattle.wf_cell.proofs.Steps.{all_laws, is_small, past_grown, still_stands, next_cell}
+use Rattle.wf_cell.specs.Rights.{IsRight}
+use Rattle.wf_cell.proofs.Rights.{is_right}
+use Rattle.wf_cell.proofs.Steps.{all_laws, is_small, replied, came_back, past_grown, still_stands, next_cell}
 use Rattle.wf_cell.proofs.cell.Cell.step.Goals as goal
 
 pub returns-then-room-eq0-clause-laws : goal.returns-then-room-eq0-clause-laws
@@ -51,6 +53,19 @@ returns-clause-past c = λ some.
     let grown : history ≡ p.history ++ e ∷ [] = c.push_reserved.ensures.items ∙ ap (λ (n : Note). p.history ++ by c.args.caller n ∷ []) c.note_of_job.ensures.value in
     past_grown p engine (vec_capacity c.self.inside.past) c.self.invariant refl room c.args.caller c.args.job c.step.new.self answered c.step.result c.step.ensures history grown
     ∙ ap (λ (u : CellValue). with_entry e u.past) c.self.view_is
+
+pub returns-clause-right : goal.returns-clause-right
+returns-clause-right c = λ some.
+    let engine : EngineValue = c.self.inside.engine in
+    let p : Past = record { config = engine.half.config; history = c.self.inside.past.items } in
+    let is = c.self.invariant in
+    let answered : ReplyNote = reply_of c.step.new.answer in
+    let left : c.room.result ≡ room_in p = c.room.ensures ∙ ap (λ (u : CellValue). room_in u.past) (sym c.self.view_is) in
+    let room : 0 < room_in p = omega (arith, left, c.if-room-eq0.false) in
+    subst (λ (u : CellValue). IsRight u.past.config u.past.history c.args.job answered c.step.result) c.self.view_is
+    (is_right engine.half p is.bodies c.args.job answered c.step.result is.is_in.half
+    (replied p engine (vec_capacity c.self.inside.past) is refl room c.args.caller c.args.job c.step.new.self answered c.step.result c.step.ensures)
+    (came_back p engine (vec_capacity c.self.inside.past) is refl room c.args.caller c.args.job c.step.new.self answered c.step.result c.step.ensures is.bodies is.is_in.half))
 
 pub returns-clause-stands : goal.returns-clause-stands
 returns-clause-stands c = λ some bodies stands.
