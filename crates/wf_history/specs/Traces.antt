@@ -1,0 +1,45 @@
+-- The trace of a history, and what it says.
+use Rattle.std.specs.Prelude.{◌≤◌, ℕ, List, [], ◌∷◌, ◌++◌, Some, codes}
+use Rattle.wf_frame.specs.Words.{line}
+use Rattle.wf_frame.specs.Settings.{standard}
+use Rattle.wf_trace.specs.declared.reader.Item.{Item}
+use Rattle.wf_trace.specs.declared.reader.Item.TheVariants.{Head, Entry as EntryItem, Finish}
+use Rattle.wf_trace.specs.Meanings.{greatest_caller}
+use Rattle.wf_trace.specs.Printing.{note_line, IsInRange, IsPrintable}
+use Rattle.wf_trace.specs.Reading.{Reading}
+use Rattle.wf_world.specs.Run.{Entry}
+
+-- the line of the standard settings, and the last line
+abbrev pub head_line : List ℕ
+head_line = line (codes "cell" ∷ [])
+
+abbrev pub end_line : List ℕ
+end_line = line (codes "end" ∷ [])
+
+-- the canonical lines of entries, in order
+abbrev pub entry_lines : List Entry → List ℕ
+entry_lines [] = []
+entry_lines (e ∷ es) = note_line e.0 e.1 ++ entry_lines es
+
+-- the trace of a history with the standard settings
+abbrev pub trace_of : List Entry → List ℕ
+trace_of history = head_line ++ entry_lines history ++ end_line
+
+-- the entries as items of a trace
+abbrev pub entry_items : List Entry → List Item
+entry_items [] = []
+entry_items (e ∷ es) = EntryItem e.0 e.1 ∷ entry_items es
+
+-- what the trace says: the standard settings, the entries in order, and the end
+abbrev pub trace_items : List Entry → Reading
+trace_items history = record { items = Head standard ∷ entry_items history; ending = Some Finish }
+
+-- a line can name each entry: its caller and the numbers of its call are in their ranges
+abbrev pub AreInRange : List Entry → Type 0
+AreInRange [] = Unit {0}
+AreInRange (e ∷ es) = ((e.0 ≤ greatest_caller) × IsInRange e.1) × AreInRange es
+
+-- a line has room for the numbers of each entry
+abbrev pub ArePrintable : List Entry → Type 0
+ArePrintable [] = Unit {0}
+ArePrintable (e ∷ es) = ((e.0 ≤ greatest_caller) × IsPrintable e.1) × ArePrintable es

@@ -1,0 +1,3 @@
+pub mod Walks
+pub mod Words
+pub mod Sendings
