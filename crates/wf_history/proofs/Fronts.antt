@@ -7,8 +7,7 @@ use Rattle.wf_trace.specs.Meanings.{greatest_caller}
 use Rattle.wf_trace.specs.Printing.{note_text, note_line, IsInRange, IsPrintable}
 use Rattle.wf_world.specs.Run.{Entry}
 use Rattle.wf_status.specs.Fronts.{HoldsFront}
-use Rattle.wf_report.proofs.Rows.{take_got}
-use Rattle.wf_status.proofs.FrontLaws.{front_first}
+use Rattle.wf_status.proofs.FrontLaws.{front_first, take_got}
 use Rattle.wf_history.specs.Traces.{entry_lines, AreInRange, ArePrintable}
 
 lines-append : (one two : List Entry) → entry_lines (one ++ two) ≡ entry_lines one ++ entry_lines two

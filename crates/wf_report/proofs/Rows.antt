@@ -6,13 +6,7 @@ use Rattle.wf_rules.specs.Table.{count_from, upto}
 use Rattle.std.proofs.lemmas.List.{map-append}
 use Rattle.wf_io.specs.Words.{spaced}
 use Rattle.wf_io.proofs.Spaces.{join-spaced, spaced-append}
-
-pub take_got : {X : Type 0} → (xs : List X) (i : ℕ) (x : X) → slice_get xs i ≡ Some x → take (i + 1) xs ≡ take i xs ++ x ∷ []
-take_got [] i x is = absurd (cc)
-take_got (y ∷ ys) zero x is = let same : y ≡ x = (cc) in ap (λ z. z ∷ []) same
-take_got (y ∷ ys) (suc i) x is =
-    let next : suc i + 1 ≡ suc (i + 1) = omega arith in
-    rw next (ap (λ l. y ∷ l) (take_got ys i x is))
+use Rattle.wf_status.proofs.FrontLaws.{take_got}
 
 -- one more word
 pub more_spaced : {X : Type 0} → (f : X → List ℕ) (xs : List X) (i : ℕ) (x : X) (front : List ℕ) → slice_get xs i ≡ Some x →

@@ -1,9 +1,16 @@
 -- Texts that are written piece by piece.
-use Rattle.std.proofs.Common.{◌≡◌, ℕ, ◌≤◌, List, [], ◌++◌, length, take, drop, refl, sym, ◌∙◌, ap, append_assoc, append-nil}
-use Rattle.std.specs.Prelude.{Option, None, Some}
+use Rattle.std.proofs.Common.{◌≡◌, ℕ, zero, suc, ◌+◌, ◌≤◌, List, [], ◌∷◌, ◌++◌, length, take, drop, refl, sym, ◌∙◌, ap, append_assoc, append-nil, arith}
+use Rattle.std.specs.Prelude.{Option, None, Some, slice_get}
 use Rattle.std.specs.Io.KnownBytes.{append_known}
 use Rattle.std.proofs.lemmas.List.{take-append-drop}
 use Rattle.wf_status.specs.Fronts.{HoldsFront}
+
+pub take_got : {X : Type 0} → (xs : List X) (i : ℕ) (x : X) → slice_get xs i ≡ Some x → take (i + 1) xs ≡ take i xs ++ x ∷ []
+take_got [] i x is = absurd (cc)
+take_got (y ∷ ys) zero x is = let same : y ≡ x = (cc) in ap (λ z. z ∷ []) same
+take_got (y ∷ ys) (suc i) x is =
+    let next : suc i + 1 ≡ suc (i + 1) = omega arith in
+    rw next (ap (λ l. y ∷ l) (take_got ys i x is))
 
 pub append_known-nil : (held : Option (List ℕ)) → append_known held [] ≡ held
 append_known-nil None = refl
