@@ -1,4 +1,5 @@
 use Rattle.std.proofs.Common.{sym, refl}
+use Rattle.wf_trace.specs.Words.{words}
 use Rattle.wf_trace.proofs.ItemLaws.{room_for}
 use Rattle.wf_trace.proofs.reader.TraceReader.say.Goals as goal
 
@@ -10,10 +11,10 @@ counted-self-inside-requires c =
 pub returns-in-Ok-Head-clause-placed : goal.returns-in-Ok-Head-clause-placed
 returns-in-Ok-Head-clause-placed c =
     let says = rw (c.in-Ok-Head.field-0-is) at c.in-Ok-Head.ensures.says in
-    rw (← c.self.view_is) ((_, sym says), refl)
+    rw (← c.self.view_is) ((words c.octets.result.now, sym says), refl)
 
 pub returns-in-Ok-Entry-clause-placed : goal.returns-in-Ok-Entry-clause-placed
 returns-in-Ok-Entry-clause-placed c =
     let says = rw (c.in-Ok-Entry.field-0-is) at c.in-Ok-Entry.ensures.says in
     let room = rw (c.in-Ok-Entry.field-0-is) at c.in-Ok-Entry.ensures.room in
-    rw (← c.self.view_is) ((_, sym says), room, c.counted-self-inside.ensures.next)
+    rw (← c.self.view_is) ((words c.octets.result.now, sym says), room, c.counted-self-inside.ensures.next)
