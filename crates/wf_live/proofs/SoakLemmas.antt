@@ -2,7 +2,9 @@
 use Rattle.std.proofs.Common.{◌≡◌, ℕ, zero, suc, ◌+◌, ◌-◌, ◌%◌, ◌<◌, ◌≤◌, ◌==◌, ◌||◌, Bool, true, false, List, [], ◌∷◌, ◌++◌, length, Some, None, refl, ap, sym, ◌∙◌, arith}
 use Rattle.std.proofs.lemmas.List.{length-append}
 use Rattle.wf_cell.specs.Cells.{room_in, with_entry}
-use Rattle.wf_frame.specs.Frames.{sample_body}
+use Rattle.wf_frame.specs.Frames.{FrameValue, new_frame, sample_body}
+use Rattle.wf_path.specs.Jobs.{note_of}
+use Rattle.wf_path.specs.declared.job.Job.TheVariants.{Give}
 use Rattle.wf_frame.specs.Settings.{standard, first_out_of_range}
 use Rattle.wf_frame.specs.declared.settings.Field.{Field}
 use Rattle.wf_frame.specs.declared.settings.Config.{Config}
@@ -10,7 +12,7 @@ use Rattle.wf_frame.specs.declared.notes.Note.{Note}
 use Rattle.wf_world.specs.World.{World, opening}
 use Rattle.wf_world.specs.Step.{step}
 use Rattle.wf_world.specs.Run.{Entry, Past, by, world_after, world_of}
-use Rattle.wf_frame.specs.declared.notes.Note.TheVariants.{Asked}
+use Rattle.wf_frame.specs.declared.notes.Note.TheVariants.{Asked, Enqueue}
 use Rattle.wf_frame.specs.declared.notes.Ask.TheVariants.{Reap}
 use Rattle.wf_live.specs.Soak.{Soak, machine_of, call, reply_to, stations_join, station_joins, all_sent, transmission_sent, some_arrive, lets_arrive, is_nothing, after_reaps, rounds_played, round_played}
 
@@ -31,6 +33,10 @@ sample_len flow (suc n) =
     let before = sample_len flow n in
     let more = length-append (sample_body flow n) (((flow + n) % 256) ∷ []) in
     omega (arith, before, more)
+
+pub frame_named : (f : FrameValue) (station tid flow len : ℕ) → f ≡ new_frame station tid flow (sample_body flow len) → note_of (Give f) ≡ Enqueue station tid flow len
+frame_named f station tid flow len is =
+    ap (λ (x : FrameValue). note_of (Give x)) is ∙ ap (λ (n : ℕ). Enqueue station tid flow n) (sample_len flow len)
 
 -- ---- the cell of a soak
 

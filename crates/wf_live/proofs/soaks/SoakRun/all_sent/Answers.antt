@@ -11,11 +11,11 @@ loop-index-preserved c =
     let others : Bool → Soak → Bool = λ arrived k. arrived || some_arrive e (i + 1) rest k in (
       search rules,
       (search rules, search rules),
-      ap (λ (k : Soak). all_sent e (i + 1) rest k) c.transmission_sent.ensures.made ∙ sent_on e i c.args.count c.loop-index.self (search rules) ∙ c.loop-index.invariant.2,
-      or_either c.loop-index.some c.transmission_sent.result (some_arrive e (i + 1) rest c.transmission_sent.new.self)
+      ap (λ (k : Soak). all_sent e (i + 1) rest k) c.transmission_sent-arrived.ensures.made ∙ sent_on e i c.args.count c.loop-index.self (search rules) ∙ c.loop-index.invariant.2,
+      or_either c.loop-index.some c.transmission_sent-arrived.result (some_arrive e (i + 1) rest c.transmission_sent-arrived.new.self)
           ∙ ap (λ (b : Bool). c.loop-index.some || b)
-          (ap (λ (b : Bool). others b c.transmission_sent.new.self) c.transmission_sent.ensures.arrived
-          ∙ ap (λ (k : Soak). others (lets_arrive c.loop-index.self) k) c.transmission_sent.ensures.made
+          (ap (λ (b : Bool). others b c.transmission_sent-arrived.new.self) c.transmission_sent-arrived.ensures.arrived
+          ∙ ap (λ (k : Soak). others (lets_arrive c.loop-index.self) k) c.transmission_sent-arrived.ensures.made
           ∙ arrive_on e i c.args.count c.loop-index.self (search rules))
           ∙ c.loop-index.invariant.3,
     )

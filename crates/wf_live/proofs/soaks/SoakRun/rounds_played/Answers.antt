@@ -3,13 +3,13 @@ use Rattle.wf_live.specs.Soak.{Soak, rounds_played}
 use Rattle.wf_live.proofs.SoakLemmas.{rounds_on, rounds_end, rounds_over}
 use Rattle.wf_live.proofs.soaks.SoakRun.rounds_played.Goals as goal
 
-pub returns-then-soak-eq0-clause-made : goal.returns-then-soak-eq0-clause-made
-returns-then-soak-eq0-clause-made c =
-    sym (rounds_end (c.args.most - c.loop-round.round) c.loop-round.round c.loop-round.self (ap (λ (k : Soak). k.left) (sym c.soak.view_is) ∙ c.if-soak-eq0.true)) ∙ c.loop-round.invariant.3
+pub returns-then-self-eq0-clause-made : goal.returns-then-self-eq0-clause-made
+returns-then-self-eq0-clause-made c =
+    sym (rounds_end (c.args.most - c.loop-round.round) c.loop-round.round c.loop-round.self (ap (λ (k : Soak). k.left) (sym c.self.view_is) ∙ c.if-self-eq0.true)) ∙ c.loop-round.invariant.3
 
 pub loop-round-preserved : goal.loop-round-preserved
 loop-round-preserved c =
-    let some : 0 < c.loop-round.self.left = omega (arith, c.if-soak-eq0.false, ap (λ (k : Soak). k.left) c.soak.view_is) in (
+    let some : 0 < c.loop-round.self.left = omega (arith, c.if-self-eq0.false, ap (λ (k : Soak). k.left) c.self.view_is) in (
       search rules,
       (search rules, search rules),
       search rules,
