@@ -1,25 +1,24 @@
 -- The frames that a transmit half has are those that are inside, each with its body.
-use Rattle.std.proofs.Common.{◌≡◌, refl, ap, sym, ◌∙◌, subst, arith, ℕ, zero, suc, ◌+◌, ◌-◌, ◌*◌, ◌/◌, ◌%◌, ◌<◌, ◌≤◌, ◌==◌, nat_lt, Bool, true, false, ◌&&◌, ◌||◌, cond, if◌then◌else◌, ◌⊎◌, inl, inr, List, [], ◌∷◌, ◌++◌, length, get_or, map, Option, None, Some, is_some, unwrap_or}
+use Rattle.std.proofs.Common.{◌≡◌, refl, ap, sym, ◌∙◌, subst, arith, ℕ, zero, suc, ◌+◌, ◌-◌, ◌/◌, ◌%◌, ◌<◌, ◌==◌, nat_lt, Bool, true, false, ◌&&◌, ◌||◌, cond, if◌then◌else◌, inl, inr, List, [], ◌∷◌, ◌++◌, length, get_or, map, Option, None, Some, is_some, unwrap_or}
 use Rattle.std.specs.Prelude.{All, find, option_map}
 use Rattle.wf_frame.specs.Frames.{FrameValue}
 use Rattle.wf_frame.specs.declared.classes.Fate.TheVariants.{Held}
 use Rattle.wf_rule_laws.proofs.Lemmas.Members.{has_head}
 use Rattle.wf_rule_laws.proofs.Lemmas.Numbers.{on_bool, either, yes_lt, lt_yes, eq_yes}
 use Rattle.wf_rules.specs.Codel.{Item}
-use Rattle.wf_rules.specs.Session.{Session, Slot, State, no_slot, slot, is_settled, start_of, next_number}
+use Rattle.wf_rules.specs.Session.{Session, Slot, State, no_slot, slot, is_settled, start_of}
 use Rattle.wf_rules.specs.Table.{at, has}
-use Rattle.wf_world.specs.World.{World, Station, Tid, no_station, no_tid, is_live, session, queue, frame, accepted_count, is_held}
+use Rattle.wf_world.specs.World.{World, Station, no_station, no_tid, is_live, session, queue, frame, accepted_count, is_held}
 use Rattle.wf_laws.specs.Places.{Place, Queued, Numbered, StandsAt, StandsOnce, KeepsPlaces, IsNumbered}
 use Rattle.wf_laws.proofs.Frames.Owners.{IsOwned}
 use Rattle.wf_laws.proofs.Frames.Places.{standing}
-use Rattle.wf_codel_queues.specs.Backlog.{frames_at, item_of}
+use Rattle.wf_codel_queues.specs.Backlog.{frames_at}
 use Rattle.wf_flowq.specs.Flows.{tid_number}
-use Rattle.wf_flowq_refines.specs.Frames.{IsBody, IsBodySettled}
 use Rattle.wf_flowq_refines.specs.Standing.{ids}
 use Rattle.wf_flowq_refines.proofs.Purges.{item_ids}
 use Rattle.wf_origwin.specs.declared.place.Place.{Place as Spot}
 use Rattle.wf_origwin.specs.Places.{place_of, place_as, slot_state, front}
-use Rattle.wf_origwin.specs.Window.{WindowValue, StandsFor as WindowStandsFor, slots_from_start}
+use Rattle.wf_origwin.specs.Window.{WindowValue, slots_from_start}
 use Rattle.wf_origwin.proofs.Fronts.{at_is, at_rest}
 use Rattle.wf_origwin.proofs.Laws.{start_of_is, next_is}
 use Rattle.wf_origwin.proofs.Numbers.{open_number}

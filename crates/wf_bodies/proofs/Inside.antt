@@ -1,5 +1,5 @@
 -- Which frames are inside after a call.
-use Rattle.std.proofs.Common.{◌≡◌, ◌≢◌, refl, ap, sym, ◌∙◌, subst, arith, ℕ, suc, ◌+◌, ◌<◌, ◌==◌, nat_lt, Bool, true, false, not, ◌&&◌, ◌||◌, if◌then◌else◌, ◌⊎◌, inl, inr, List, [], ◌∷◌, ◌++◌, length, take, append-nil, append_assoc, Option, None, Some, is_none}
+use Rattle.std.proofs.Common.{◌≡◌, ◌≢◌, refl, ap, sym, ◌∙◌, subst, arith, ℕ, suc, ◌+◌, ◌==◌, nat_lt, Bool, true, false, not, ◌&&◌, ◌||◌, if◌then◌else◌, inl, inr, List, [], ◌∷◌, ◌++◌, length, take, append-nil, append_assoc, Option, None, Some, is_none}
 use Rattle.wf_frame.specs.declared.classes.Fate.{Fate}
 use Rattle.wf_frame.specs.declared.classes.Fate.TheVariants.{Held, Acked, Dropped}
 use Rattle.wf_frame.specs.declared.notes.Ask.{Ask}
@@ -18,9 +18,9 @@ use Rattle.wf_world.specs.World.{World, frame, accepted_count, is_held, opening}
 use Rattle.wf_world.specs.FlowQueues.{dropped_for_limit}
 use Rattle.wf_world.specs.Refusals.{refusal}
 use Rattle.wf_world.specs.Run.{Entry, by, world_after}
-use Rattle.wf_world.specs.Step.{Outcome, outcome_of, enqueue_outcome, judged_outcome, step}
+use Rattle.wf_world.specs.Step.{outcome_of, enqueue_outcome, judged_outcome, step}
 use Rattle.wf_laws.specs.Finished.{KeepsFinished, reaped_id, reaped_ids}
-use Rattle.wf_laws.proofs.Frames.Fates.{brought, Steady, steady_first, steady_run, counted_step, world_after-append}
+use Rattle.wf_laws.proofs.Frames.Fates.{brought, steady_first, steady_run, counted_step, world_after-append}
 use Rattle.wf_laws.proofs.Frames.FinishedLaw.{finished_law}
 use Rattle.wf_transmit_refines.specs.Standing.{IsReached}
 use Rattle.wf_bodies.specs.Inside.{is_inside, inside_after}

@@ -1,22 +1,20 @@
 -- What each call of an engine leads to, by what its path, its receive halves and its marks make of it.
-use Rattle.std.proofs.Common.{◌≡◌, refl, ap, sym, ◌∙◌, subst, ℕ, ◌+◌, ◌<◌, ◌≤◌, ◌++◌, ◌⊎◌, inl, inr, Bool, true, false, List, [], ◌∷◌, Option, Some, None, IfSome, length, arith}
-use Rattle.std.specs.Prelude.{◌==◌, not, filter, option_map, is_none, nat_le, nat_lt, All}
-use Rattle.wf_frame.specs.Answers.{reply_of, reply_with, part_of}
+use Rattle.std.proofs.Common.{◌≡◌, refl, ap, sym, ◌∙◌, subst, ℕ, ◌<◌, ◌++◌, Bool, false, List, [], ◌∷◌, Option, Some, None, length}
+use Rattle.std.specs.Prelude.{is_none, All}
+use Rattle.wf_frame.specs.Answers.{reply_with}
 use Rattle.wf_frame.specs.Frames.{FrameValue}
-use Rattle.wf_frame.specs.declared.answers.Answer.{Answer}
 use Rattle.wf_frame.specs.declared.answers.Brief.{Brief}
 use Rattle.wf_frame.specs.declared.answers.Brief.TheVariants as brief
 use Rattle.wf_frame.specs.declared.classes.Class.{Class}
 use Rattle.wf_frame.specs.declared.notes.Ask.{Ask}
 use Rattle.wf_frame.specs.declared.notes.Ask.TheVariants as ask
 use Rattle.wf_frame.specs.declared.notes.Note.{Note}
-use Rattle.wf_frame.specs.declared.notes.Note.TheVariants.{Enqueue, Asked}
+use Rattle.wf_frame.specs.declared.notes.Note.TheVariants.{Asked}
 use Rattle.wf_frame.specs.declared.notes.Part.{Part}
 use Rattle.wf_frame.specs.declared.notes.Refusal.{Refusal}
-use Rattle.wf_frame.specs.declared.notes.Refusal.TheVariants.{Idle, Full}
 use Rattle.wf_frame.specs.declared.notes.ReplyNote.{ReplyNote}
 use Rattle.wf_frame.specs.declared.notes.ReplyNote.TheVariants as reply
-use Rattle.wf_world.specs.World.{World, Exchange, exchange}
+use Rattle.wf_world.specs.World.{World, Exchange}
 use Rattle.wf_world.specs.Exchanges.{picked_station, after_pick, after_tid_turn, sending_tid, prepared_exchange, exchange_of, Prepared, part_of as world_part_of}
 use Rattle.wf_world.specs.Refusals.{refusal, refusals}
 use Rattle.wf_world.specs.Step.{Outcome, outcome_of, join_outcome, pull_outcome, pull_outcome_for, send_outcome, step}
@@ -28,13 +26,13 @@ use Rattle.wf_transmit_refines.specs.Half.{TransmitValue}
 use Rattle.wf_transmit_refines.specs.Standing.{StandsFor, IsReached, Meets as PathMeets}
 use Rattle.wf_transmit_refines.proofs.Reached.{step_done, step_refused}
 use Rattle.wf_path.specs.declared.job.Job.{Job}
-use Rattle.wf_path.specs.declared.job.Job.TheVariants.{Give, Call}
+use Rattle.wf_path.specs.declared.job.Job.TheVariants.{Call}
 use Rattle.wf_path.specs.Jobs.{IsHeard, note_of, bodies_after, given_back}
 use Rattle.wf_receive_refines.specs.Arriving.{IsUntold}
 use Rattle.wf_receive_refines.specs.Hearing.{Hears, with_peer, peer_of}
 use Rattle.wf_cell.specs.Engines.{EngineValue, IsIn, IsDone, Meets}
 use Rattle.wf_receive_refines.proofs.Keeping.{untold_hears, refused_hears}
-use Rattle.wf_receive_refines.proofs.Joining.{joined_hears, station_in_range, window_in_range, start_in_range}
+use Rattle.wf_receive_refines.proofs.Joining.{joined_hears, station_in_range}
 use Rattle.wf_receive_refines.proofs.Opening.{opened_hears, opened_number, marks_within, marks_below}
 
 -- ---- what the path makes of a job, and what comes back

@@ -1,6 +1,6 @@
 -- Open exchanges: what arrives of them, what is answered, and their ends, by the marks and by what the path tells of them.
-use Rattle.std.proofs.Common.{◌≡◌, refl, ap, sym, ◌∙◌, subst, ℕ, ◌<◌, ◌≤◌, Bool, true, false, List, [], ◌∷◌, Option, Some, None, IfSome, length, arith}
-use Rattle.std.specs.Prelude.{◌==◌, IfNone, not, filter, option_map, option_and_then, is_none, is_some, nat_le, nat_lt, ◌&&◌, if◌then◌else◌}
+use Rattle.std.proofs.Common.{◌≡◌, refl, ap, sym, ◌∙◌, subst, ℕ, ◌<◌, ◌≤◌, Bool, true, false, List, Option, Some, None, IfSome, length, arith}
+use Rattle.std.specs.Prelude.{◌==◌, IfNone, not, filter, option_map, option_and_then, is_none, nat_le, nat_lt, ◌&&◌, if◌then◌else◌}
 use Rattle.std.proofs.lemmas.Bool.{leb-false}
 use Rattle.wf_frame.specs.Frames.{FrameValue}
 use Rattle.wf_frame.specs.Answers.{reply_with}
@@ -36,7 +36,7 @@ use Rattle.wf_transmit_refines.proofs.Whole.{arrive_stands, answer_stands}
 use Rattle.wf_transmissions.specs.declared.reading.Sent.{Sent}
 use Rattle.wf_transmissions.specs.Transmissions.{sent_of}
 use Rattle.wf_receive_refines.specs.Arriving.{CarriesId, peer_after, buffer_outcome}
-use Rattle.wf_receive_refines.specs.Hearing.{Hears, with_peer, peer_of, agreement_of, mark_of, kept_of}
+use Rattle.wf_receive_refines.specs.Hearing.{with_peer, peer_of, agreement_of, mark_of, kept_of}
 use Rattle.wf_receive_refines.specs.Refusing.{mark_in, arrive_refusal, answer_refusal, done_refusal}
 use Rattle.wf_cell.specs.Engines.{EngineValue, IsIn, Meets}
 use Rattle.wf_receive_refines.proofs.Keeping.{refused_hears, ended_hears}

@@ -1,5 +1,5 @@
 -- Receive halves: new ones, and one that takes octets.
-use Rattle.std.proofs.Common.{◌≡◌, refl, ap, sym, ◌∙◌, subst, ℕ, ◌+◌, ◌<◌, List, [], ◌∷◌, ◌++◌, length, get_or, Option, Some, None, Result, Ok, Err, zero, suc, true, inl, inr, arith, length-append}
+use Rattle.std.proofs.Common.{◌≡◌, refl, ap, ◌∙◌, subst, ℕ, ◌+◌, ◌<◌, List, [], ◌∷◌, ◌++◌, length, Option, Result, Ok, Err, zero, suc, true, inl, inr, arith, length-append}
 use Rattle.std.specs.Prelude.{IsOk, OnOk, slice_index_or, slice_set, ◌%◌}
 use Rattle.std.proofs.lemmas.Bool.{cases_lt}
 use Rattle.std.specs.Result.{is_err}
@@ -13,9 +13,9 @@ use Rattle.wf_score.specs.Board.{after_number as board_arrived, after_start as b
 use Rattle.wf_reorder.specs.Buffer.{number_outcome as buffer_arrived, request_outcome as buffer_requested}
 use Rattle.wf_peer.specs.Agreements.{PeerValue, new_peer, agreement}
 use Rattle.wf_peer.specs.Frames.{IsDataFor, IsRequestFor}
-use Rattle.wf_receive_refines.specs.Hearing.{AreNew, peer_of}
+use Rattle.wf_receive_refines.specs.Hearing.{AreNew}
 use Rattle.wf_receive_refines.specs.Arriving.{peer_after, buffer_outcome}
-use Rattle.wf_cell.specs.Octets.{SaysData, SaysRequest, IsSentTo}
+use Rattle.wf_cell.specs.Octets.{IsSentTo}
 
 -- ---- new ones
 

@@ -1,12 +1,11 @@
 -- What is made new: a path, an engine and a cell.
-use Rattle.std.proofs.Common.{◌≡◌, refl, ap, sym, ◌∙◌, subst, ℕ, zero, suc, ◌<◌, ◌≤◌, List, [], ◌∷◌, Option, Some, None, Result, Ok, Err, length, arith}
-use Rattle.std.specs.Prelude.{◌↔◌, option_map, unwrap_or, slice_get}
+use Rattle.std.proofs.Common.{◌≡◌, ap, sym, ◌∙◌, subst, ℕ, ◌<◌, ◌≤◌, List, [], Option, Result, Ok, Err, arith}
+use Rattle.std.specs.Prelude.{◌↔◌, option_map, unwrap_or}
 use Rattle.wf_frame.specs.Frames.{FrameValue, new_frame}
 use Rattle.wf_frame.specs.declared.settings.Config.{Config}
 use Rattle.wf_frame.specs.declared.settings.Field.{Field}
-use Rattle.wf_rules.specs.Table.{at}
-use Rattle.wf_world.specs.World.{World, Mpdu, Exchange, Content, Frames, Request, opening}
-use Rattle.wf_world.specs.Exchanges.{no_mpdu, transmissions}
+use Rattle.wf_world.specs.World.{Mpdu, Exchange, Content, Frames, Request, opening}
+use Rattle.wf_world.specs.Exchanges.{transmissions}
 use Rattle.wf_marks.specs.declared.marks.Mark.{Mark}
 use Rattle.wf_peer.specs.Agreements.{PeerValue}
 use Rattle.wf_transmit_refines.specs.Half.{TransmitValue}

@@ -1,21 +1,18 @@
 -- A history with one entry more, and what the laws of runs say of the world after a history.
-use Rattle.std.proofs.Common.{◌≡◌, refl, ap, sym, ◌∙◌, subst, ℕ, ◌+◌, ◌*◌, ◌<◌, ◌≤◌, ◌^◌, List, [], ◌∷◌, ◌++◌, length, take, Option, Some, None, IfSome, true, is_some, unwrap_or, arith}
+use Rattle.std.proofs.Common.{◌≡◌, refl, ap, ◌∙◌, subst, ℕ, ◌<◌, ◌≤◌, ◌^◌, List, [], ◌∷◌, ◌++◌, length, take, Option, Some, None, IfSome, is_some, unwrap_or, arith}
 use Rattle.wf_frame.specs.Frames.{FrameValue}
 use Rattle.wf_frame.specs.declared.classes.Class.{Class}
 use Rattle.wf_frame.specs.declared.settings.Config.{Config}
-use Rattle.wf_frame.specs.declared.notes.Note.{Note}
 use Rattle.wf_frame.specs.Settings.{IsInRange}
-use Rattle.wf_rules.specs.Bounds.{greatest_tick, greatest_air}
 use Rattle.wf_rules.specs.Lengths.{greatest_body}
 use Rattle.wf_rules.specs.Table.{at}
 use Rattle.wf_world.specs.World.{World, Station, no_station, opening}
-use Rattle.wf_world.specs.Run.{Entry, Past, by, world_after, world_of}
+use Rattle.wf_world.specs.Run.{Entry, Past, world_after, world_of}
 use Rattle.wf_world.specs.Step.{step}
 use Rattle.wf_world.specs.Stretches.{world_at}
 use Rattle.wf_laws.specs.Queues.{HasLength, IsAtMost, HaveLengths, AreAtMost}
 use Rattle.wf_laws.specs.Lengths.{HasLengths}
-use Rattle.wf_laws.specs.Numbers.{greatest_charge}
-use Rattle.wf_laws.specs.Sums.{AreSums, IsSum, SumLaw}
+use Rattle.wf_laws.specs.Sums.{AreSums, IsSum}
 use Rattle.wf_laws.specs.Laws.{Laws}
 use Rattle.wf_laws.proofs.AllLaws.{laws}
 use Rattle.wf_fate.specs.Tally.{Counts}
@@ -24,9 +21,8 @@ use Rattle.wf_members.specs.declared.members.Member.{Member}
 use Rattle.wf_members.specs.Members.{member, charged_in, received_in}
 use Rattle.wf_sched_refines.specs.Standing.{share_in}
 use Rattle.wf_transmit_refines.specs.Half.{TransmitValue}
-use Rattle.wf_transmit_refines.specs.Standing.{StandsFor, IsMember, AreBoth, HasStations}
+use Rattle.wf_transmit_refines.specs.Standing.{StandsFor, IsMember, AreBoth}
 use Rattle.wf_path.specs.Paths.{IsSmall}
-use Rattle.wf_cell.specs.Cells.{with_entry}
 
 -- ---- one entry more
 

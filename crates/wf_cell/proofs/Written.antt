@@ -1,15 +1,14 @@
 -- The octets of a transmission say to its station what they are to say, and there is room for them.
-use Rattle.std.proofs.Common.{◌≡◌, refl, ap, sym, ◌∙◌, subst, ℕ, zero, suc, ◌+◌, ◌*◌, ◌%◌, ◌<◌, ◌≤◌, true, false, inl, lit≤, List, [], ◌∷◌, ◌++◌, length, map, Option, Some, None, length-append, arith}
-use Rattle.std.specs.Prelude.{slice_get, Bool, option_map, option_and_then, nat_lt, if◌then◌else◌, Result, Ok, Err}
+use Rattle.std.proofs.Common.{◌≡◌, refl, ap, sym, ◌∙◌, subst, ℕ, zero, suc, ◌*◌, ◌%◌, ◌<◌, ◌≤◌, true, false, inl, lit≤, List, [], ◌∷◌, length, Option, Some, None, length-append, arith}
+use Rattle.std.specs.Prelude.{slice_get, option_map, option_and_then, if◌then◌else◌, Result, Ok, Err}
 use Rattle.std.proofs.lemmas.Bool.{le-ltb}
 use Rattle.std.specs.Result.{is_err}
 use Rattle.std.proofs.lemmas.Option.{slice_get-map}
 use Rattle.wf_frame.specs.Frames.{FrameValue}
 use Rattle.wf_rules.specs.Lengths.{greatest_body}
 use Rattle.wf_rules.specs.Table.{at}
-use Rattle.wf_world.specs.World.{World, Exchange, Mpdu, Content, Frames, Request, frame, accepted_count, len_of, opening, exchange, without_exchange, on_share, on_station, with_station}
-use Rattle.wf_world.specs.Run.{world_after}
-use Rattle.wf_world.specs.Exchanges.{mpdus_of, transmissions, no_mpdu, after_charge, with_all_settled}
+use Rattle.wf_world.specs.World.{World, Exchange, Mpdu, Content, Frames, Request, accepted_count, len_of, exchange, without_exchange, on_share, on_station, with_station}
+use Rattle.wf_world.specs.Exchanges.{mpdus_of, transmissions, no_mpdu, after_charge}
 use Rattle.wf_laws.specs.Windows.{EachMpdu}
 use Rattle.wf_laws.proofs.Sent.Lengths.{IsStocked, stocked}
 use Rattle.wf_fields.specs.Fields.{number_at, two_octets}

@@ -1,8 +1,7 @@
 -- A cell as its callers see it, and what is true of every one.
-use Rattle.std.specs.Prelude.{◌≡◌, ℕ, ◌+◌, ◌-◌, ◌<◌, ◌≤◌, List, [], ◌∷◌, ◌++◌, length}
+use Rattle.std.specs.Prelude.{ℕ, ◌-◌, ◌≤◌, [], ◌∷◌, ◌++◌, length}
 use Rattle.wf_frame.specs.Frames.{FrameValue}
-use Rattle.wf_frame.specs.declared.notes.Note.{Note}
-use Rattle.wf_world.specs.Run.{Entry, Past, by, world_of}
+use Rattle.wf_world.specs.Run.{Entry, Past, world_of}
 use Rattle.wf_laws.specs.Lengths.{HasLengths}
 use Rattle.wf_transmit_refines.specs.Half.{TransmitValue}
 use Rattle.wf_cell.specs.Engines.{EngineValue, IsIn}

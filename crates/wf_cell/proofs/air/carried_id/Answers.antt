@@ -1,6 +1,5 @@
-use Rattle.std.proofs.Common.{◌≡◌, ap, sym, ◌∙◌, ℕ, Option, Some}
+use Rattle.std.proofs.Common.{ap, ◌∙◌, ℕ, Option}
 use Rattle.std.specs.Prelude.{unwrap_or, option_and_then}
-use Rattle.wf_world.specs.World.{Exchange}
 use Rattle.wf_transmissions.specs.Transmissions.{transmission_id}
 use Rattle.wf_cell.proofs.News.{carries}
 use Rattle.wf_cell.proofs.air.carried_id.Goals as goal

@@ -1,7 +1,7 @@
-use Rattle.std.proofs.Common.{◌≡◌, ap, sym, ◌∙◌, subst, ℕ, arith, length}
-use Rattle.wf_transmissions.specs.Writing.{path_fault_of, write_fault}
+use Rattle.std.proofs.Common.{◌≡◌, ap, ◌∙◌, arith, length}
+use Rattle.wf_transmissions.specs.Writing.{write_fault}
 use Rattle.wf_receive_refines.proofs.Sent.{tid_now}
-use Rattle.wf_cell.proofs.Written.{octets_say, no_write_fault, never_fails}
+use Rattle.wf_cell.proofs.Written.{octets_say, no_write_fault}
 use Rattle.wf_cell.proofs.air.written.Goals as goal
 
 pub unreachable-requires : goal.unreachable-requires

@@ -1,4 +1,4 @@
-use Rattle.std.proofs.Common.{◌≡◌, ap, ap₂, sym, ◌∙◌, subst, List, vec_capacity, arith}
+use Rattle.std.proofs.Common.{◌≡◌, ap, ap₂, sym, subst, List, vec_capacity, arith}
 use Rattle.wf_frame.specs.declared.settings.Config.{Config}
 use Rattle.wf_world.specs.World.{opening}
 use Rattle.wf_world.specs.Run.{Entry, Past}

@@ -1,4 +1,4 @@
-use Rattle.std.proofs.Common.{◌≡◌, ap, sym, ◌∙◌, subst, ℕ, vec_capacity, is_some}
+use Rattle.std.proofs.Common.{◌≡◌, subst, is_some}
 use Rattle.wf_transmit_refines.specs.Half.{body_of}
 use Rattle.wf_world.specs.Run.{Past, world_of}
 use Rattle.wf_bodies.specs.Inside.{is_inside}

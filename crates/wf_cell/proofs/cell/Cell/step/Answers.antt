@@ -1,4 +1,4 @@
-use Rattle.std.proofs.Common.{IfSome, Some, ◌≡◌, ap, sym, ◌∙◌, subst, ℕ, ◌<◌, List, [], ◌∷◌, ◌++◌, refl, vec_capacity, arith}
+use Rattle.std.proofs.Common.{IfSome, Some, ◌≡◌, ap, sym, ◌∙◌, subst, ◌<◌, List, [], ◌∷◌, ◌++◌, refl, vec_capacity, arith}
 use Rattle.wf_frame.specs.Answers.{reply_of}
 use Rattle.wf_frame.specs.declared.notes.Note.{Note}
 use Rattle.wf_frame.specs.declared.notes.ReplyNote.{ReplyNote}
@@ -6,9 +6,7 @@ use Rattle.wf_rules.specs.Lengths.{greatest_body}
 use Rattle.wf_world.specs.Run.{Entry, Past, by, world_of}
 use Rattle.wf_laws.specs.Laws.{Laws}
 use Rattle.wf_laws.specs.Queues.{HasLength, IsAtMost}
-use Rattle.wf_frame.specs.declared.classes.Fate.{Fate}
-use Rattle.wf_frame.specs.declared.notes.ReplyNote.TheVariants.{Reaped}
-use Rattle.wf_transmit_refines.specs.Half.{TransmitValue, body_of}
+use Rattle.wf_transmit_refines.specs.Half.{body_of}
 use Rattle.wf_transmit_refines.specs.Standing.{StandsFor}
 use Rattle.wf_path.specs.Jobs.{note_of, bodies_after}
 use Rattle.wf_cell.specs.Engines.{EngineValue}

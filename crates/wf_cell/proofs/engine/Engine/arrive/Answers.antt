@@ -1,5 +1,4 @@
-use Rattle.std.proofs.Common.{◌≡◌, ap, sym, ◌∙◌, subst, ℕ, List, Option, Some, None, refl, arith}
-use Rattle.wf_cell.specs.Engines.{EngineValue, IsIn, Meets}
+use Rattle.std.proofs.Common.{sym}
 use Rattle.wf_cell.proofs.Exchanges.{arrive_refused}
 use Rattle.wf_cell.proofs.engine.Engine.arrive.Goals as goal
 

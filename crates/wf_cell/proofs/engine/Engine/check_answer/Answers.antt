@@ -1,5 +1,5 @@
-use Rattle.std.proofs.Common.{◌≡◌, ap, sym, ◌∙◌, subst, ℕ, List, Option, Some, None, refl, arith}
-use Rattle.wf_cell.specs.Engines.{EngineValue, IsIn, Meets}
+use Rattle.std.proofs.Common.{sym, ◌∙◌, subst}
+use Rattle.wf_cell.specs.Engines.{EngineValue, IsIn}
 use Rattle.wf_cell.proofs.Exchanges.{answer_not_open, none_open, none_sent, answer_open}
 use Rattle.wf_cell.proofs.engine.Engine.check_answer.Goals as goal
 

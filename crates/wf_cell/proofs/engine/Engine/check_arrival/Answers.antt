@@ -1,5 +1,5 @@
-use Rattle.std.proofs.Common.{◌≡◌, ap, sym, ◌∙◌, subst, ℕ, List, Option, Some, None, refl, arith}
-use Rattle.wf_cell.specs.Engines.{EngineValue, IsIn, Meets}
+use Rattle.std.proofs.Common.{sym, ◌∙◌, subst}
+use Rattle.wf_cell.specs.Engines.{EngineValue, IsIn}
 use Rattle.wf_cell.proofs.Exchanges.{arrive_not_open, none_open, none_sent, arrive_open, told_few}
 use Rattle.wf_cell.proofs.engine.Engine.check_arrival.Goals as goal
 

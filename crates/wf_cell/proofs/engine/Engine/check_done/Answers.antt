@@ -1,5 +1,5 @@
-use Rattle.std.proofs.Common.{◌≡◌, ap, sym, ◌∙◌, subst, ℕ, List, Option, Some, None, refl, arith}
-use Rattle.wf_cell.specs.Engines.{EngineValue, IsIn, Meets}
+use Rattle.std.proofs.Common.{sym, ◌∙◌, subst, Some, None}
+use Rattle.wf_cell.specs.Engines.{EngineValue, IsIn}
 use Rattle.wf_cell.proofs.Exchanges.{done_marked}
 use Rattle.wf_cell.proofs.engine.Engine.check_done.Goals as goal
 

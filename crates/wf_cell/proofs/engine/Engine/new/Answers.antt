@@ -1,4 +1,3 @@
-use Rattle.std.proofs.Common.{◌≡◌, refl}
 use Rattle.wf_cell.proofs.News.{stations_few, engine_is_in, not_bad, same_fault}
 use Rattle.wf_cell.proofs.engine.Engine.new.Goals as goal
 

@@ -1,4 +1,4 @@
-use Rattle.std.proofs.Common.{◌≡◌, ap, sym, ◌∙◌, subst, ℕ, ◌<◌, List, Option, Some, None, refl, take, arith}
+use Rattle.std.proofs.Common.{◌≡◌, ap, sym, ◌∙◌, subst, ℕ, ◌<◌, List, take, arith}
 use Rattle.wf_frame.specs.Frames.{FrameValue}
 use Rattle.wf_world.specs.World.{World, Exchange}
 use Rattle.wf_world.specs.Exchanges.{transmissions}

@@ -1,4 +1,4 @@
-use Rattle.std.proofs.Common.{◌≡◌, ap, sym, ◌∙◌, subst, ℕ, List, Option, Some, None, refl, arith}
+use Rattle.std.proofs.Common.{ap, sym, subst, List}
 use Rattle.wf_cell.specs.Engines.{EngineValue, IsIn, Meets}
 use Rattle.wf_frame.specs.Answers.{reply_of, reply_with, part_of}
 use Rattle.wf_frame.specs.declared.answers.Answer.{Answer}

@@ -1,11 +1,8 @@
-use Rattle.std.proofs.Common.{◌≡◌, ap, sym, ◌∙◌, subst, ℕ, List, Option, Some, None, refl}
+use Rattle.std.proofs.Common.{sym, subst}
 use Rattle.wf_frame.specs.Answers.{reply_of}
-use Rattle.wf_frame.specs.Frames.{FrameValue}
-use Rattle.wf_frame.specs.declared.notes.Ask.{Ask}
-use Rattle.wf_frame.specs.declared.notes.Ask.TheVariants.{Arrive, Answer, Done, Join, Pull}
 use Rattle.wf_path.specs.declared.job.Job.{Job}
-use Rattle.wf_path.specs.declared.job.Job.TheVariants.{Give, Call}
-use Rattle.wf_cell.specs.Engines.{EngineValue, IsIn, IsDone, Meets}
+use Rattle.wf_path.specs.declared.job.Job.TheVariants.{Give}
+use Rattle.wf_cell.specs.Engines.{EngineValue, IsIn, IsDone}
 use Rattle.wf_cell.proofs.Calls.{untold_done}
 use Rattle.wf_cell.proofs.engine.Engine.step.Goals as goal
 

@@ -1,7 +1,6 @@
-use Rattle.std.proofs.Common.{◌≡◌, ap, sym, ◌∙◌, subst, ℕ, List}
+use Rattle.std.proofs.Common.{◌≡◌, ap, sym, ◌∙◌, subst, ℕ}
 use Rattle.std.specs.Prelude.{slice_index_or}
 use Rattle.std.proofs.lemmas.List.{get_or_read}
-use Rattle.wf_world.specs.World.{Content}
 use Rattle.wf_peer.specs.Agreements.{PeerValue, new_peer, agreement, after_frame, outcome_of_frame}
 use Rattle.wf_receive_refines.specs.Arriving.{peer_after, buffer_outcome}
 use Rattle.wf_receive_refines.specs.Hearing.{peer_of}
