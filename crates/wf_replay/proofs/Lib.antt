@@ -6,4 +6,3 @@ pub mod Complete
 pub mod Ranges
 pub mod Numerals
 pub mod SoakText
-pub mod CaptureLaws

@@ -1,7 +1,0 @@
-pub mod Shapes
-pub mod Capturing
-pub mod Sampled
-pub mod Writing
-pub mod Law
-pub mod Played
-pub mod Acks
