@@ -79,3 +79,8 @@ pub room_at : (c : Option CellValue) (place : Option Place) (caller : ℕ) (note
 room_at c None caller note at room = absurd room
 room_at None (Some place) caller note at room = absurd at
 room_at (Some c) (Some place) caller note at room = omega (arith, at.0, at.1, room)
+
+-- ---- a cell of a head
+
+pub never_both : {X : Type 0} → (o : Option X) (x : X) → o ≡ None → o ≡ Some x → ⊥
+never_both o x none some = absurd (cc)
