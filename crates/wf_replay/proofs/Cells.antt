@@ -1,8 +1,8 @@
--- The cell of a run: where it is in the trace, and how far the run has come.
+-- The history of a run: where it is in the trace, and how far the run has come.
 use Rattle.std.proofs.Common.{◌≡◌, ℕ, ◌+◌, ◌-◌, ◌<◌, List, [], ◌∷◌, ◌++◌, length, refl, sym, ◌∙◌, ap, ap₂, subst, arith}
 use Rattle.std.specs.Prelude.{Option, Some, None, Ok, IsSomeAnd, option_map}
 use Rattle.std.proofs.lemmas.List.{length-append}
-use Rattle.wf_cell.specs.Cells.{CellValue, room_in, with_entry}
+use Rattle.wf_cell.specs.Cells.{room_in, with_entry}
 use Rattle.wf_frame.specs.declared.settings.Config.{Config}
 use Rattle.wf_frame.specs.declared.notes.Note.{Note}
 use Rattle.wf_live.proofs.SoakLemmas.{nothing_past, one_more}
@@ -18,22 +18,22 @@ use Rattle.wf_replay.specs.Running.{Progress, progress_of, IsAt}
 use Rattle.wf_replay.proofs.Replays.{begun, gone_on}
 
 -- one entry more
-abbrev pub IsOneMore : ℕ → Note → Option CellValue → Option CellValue → Type 0
-IsOneMore caller note old new = option_map (λ (c : CellValue). c.past) new ≡ option_map (λ (c : CellValue). with_entry (by caller note) c.past) old
+abbrev pub IsOneMore : ℕ → Note → Option Past → Option Past → Type 0
+IsOneMore caller note old new = new ≡ option_map (λ (p : Past). with_entry (by caller note) p) old
 
 -- ---- how far the run has come
 
-pub progress_none : (c : Option CellValue) → IsAt c None → (progress_of c).calls ≡ 0
+pub progress_none : (p : Option Past) → IsAt p None → (progress_of p).calls ≡ 0
 progress_none None at = refl
-progress_none (Some c) at = absurd at
+progress_none (Some p) at = absurd at
 
-pub progress_at : (c : Option CellValue) (place : Option Place) → IsAt c place → place ≡ None → (progress_of c).calls ≡ 0
-progress_at c place at none = progress_none c (subst (λ (p : Option Place). IsAt c p) none at)
+pub progress_at : (p : Option Past) (place : Option Place) → IsAt p place → place ≡ None → (progress_of p).calls ≡ 0
+progress_at p place at none = progress_none p (subst (λ (x : Option Place). IsAt p x) none at)
 
-pub progress_head : (c : CellValue) (config : Config) → c.past ≡ record { config = config; history = [] } → progress_of (Some c) ≡ begun config
-progress_head c config is =
-    ap₂ (λ (w : World) (n : ℕ). let p : Progress = record { world = Some w; calls = n } in p)
-    (ap world_of is ∙ nothing_past (opening config)) (ap (λ (p : Past). length p.history) is)
+pub progress_head : (p : Past) (config : Config) → p ≡ record { config = config; history = [] } → progress_of (Some p) ≡ begun config
+progress_head p config is =
+    ap₂ (λ (w : World) (n : ℕ). let x : Progress = record { world = Some w; calls = n } in x)
+    (ap world_of is ∙ nothing_past (opening config)) (ap (λ (x : Past). length x.history) is)
 
 progress_one : (p q : Past) (caller : ℕ) (note : Note) → q ≡ with_entry (by caller note) p →
     (world_of q ≡ (step (world_of p) note).world) × (length q.history ≡ length p.history + 1)
@@ -42,43 +42,43 @@ progress_one p q caller note is = (
   ap (λ (x : Past). length x.history) is ∙ length-append p.history (by caller note ∷ []),
 )
 
-pub progress_on : (old new : Option CellValue) (caller : ℕ) (note : Note) → IsSomeAnd old (λ c. 0 < room_in c.past) → IsOneMore caller note old new →
+pub progress_on : (old new : Option Past) (caller : ℕ) (note : Note) → IsSomeAnd old (λ p. 0 < room_in p) → IsOneMore caller note old new →
     progress_of new ≡ gone_on (progress_of old) caller note
 progress_on None new caller note some is = absurd some
-progress_on (Some c) None caller note some is = absurd (cc)
-progress_on (Some c) (Some d) caller note some is =
-    let past : d.past ≡ with_entry (by caller note) c.past = cc in
-    let one = progress_one c.past d.past caller note past in
-    ap₂ (λ (w : World) (n : ℕ). let p : Progress = record { world = Some w; calls = n } in p) one.0 one.1
+progress_on (Some p) None caller note some is = absurd (cc)
+progress_on (Some p) (Some q) caller note some is =
+    let past : q ≡ with_entry (by caller note) p = cc in
+    let one = progress_one p q caller note past in
+    ap₂ (λ (w : World) (n : ℕ). let x : Progress = record { world = Some w; calls = n } in x) one.0 one.1
 
--- ---- where the cell is
+-- ---- where it is
 
-pub at_head : (c : CellValue) (config : Config) (place : Option Place) → c.past ≡ record { config = config; history = [] } →
-    place ≡ Some (record { limit = config.calls; count = 0 }) → IsAt (Some c) place
-at_head c config place is placed =
-    subst (λ (p : Option Place). IsAt (Some c) p) (sym placed) (ap (λ (p : Past). p.config.calls) is, ap (λ (p : Past). length p.history) is)
+pub at_head : (p : Past) (config : Config) (place : Option Place) → p ≡ record { config = config; history = [] } →
+    place ≡ Some (record { limit = config.calls; count = 0 }) → IsAt (Some p) place
+at_head p config place is placed =
+    subst (λ (x : Option Place). IsAt (Some p) x) (sym placed) (ap (λ (x : Past). x.config.calls) is, ap (λ (x : Past). length x.history) is)
 
-at_one : (c d : CellValue) (place : Place) (caller : ℕ) (note : Note) → d.past ≡ with_entry (by caller note) c.past → IsAt (Some c) (Some place) → IsAt (Some d) (next_place (Some place))
-at_one c d place caller note past at = (
-  ap (λ (p : Past). p.config.calls) past ∙ at.0,
-  (progress_one c.past d.past caller note past).1 ∙ ap (λ (n : ℕ). n + 1) at.1,
+at_one : (p q : Past) (place : Place) (caller : ℕ) (note : Note) → q ≡ with_entry (by caller note) p → IsAt (Some p) (Some place) → IsAt (Some q) (next_place (Some place))
+at_one p q place caller note past at = (
+  ap (λ (x : Past). x.config.calls) past ∙ at.0,
+  (progress_one p q caller note past).1 ∙ ap (λ (n : ℕ). n + 1) at.1,
 )
 
-at_next : (old new : Option CellValue) (place : Option Place) (caller : ℕ) (note : Note) → IsAt old place → IsSomeAnd old (λ c. 0 < room_in c.past) → IsOneMore caller note old new → IsAt new (next_place place)
+at_next : (old new : Option Past) (place : Option Place) (caller : ℕ) (note : Note) → IsAt old place → IsSomeAnd old (λ p. 0 < room_in p) → IsOneMore caller note old new → IsAt new (next_place place)
 at_next None new place caller note at some is = absurd some
-at_next (Some c) new None caller note at some is = absurd at
-at_next (Some c) None (Some place) caller note at some is = absurd (cc)
-at_next (Some c) (Some d) (Some place) caller note at some is = at_one c d place caller note (cc) at
+at_next (Some p) new None caller note at some is = absurd at
+at_next (Some p) None (Some place) caller note at some is = absurd (cc)
+at_next (Some p) (Some q) (Some place) caller note at some is = at_one p q place caller note (cc) at
 
-pub at_entry : (old new : Option CellValue) (place next : Option Place) (caller : ℕ) (note : Note) → IsAt old place → IsSomeAnd old (λ c. 0 < room_in c.past) → IsOneMore caller note old new →
+pub at_entry : (old new : Option Past) (place next : Option Place) (caller : ℕ) (note : Note) → IsAt old place → IsSomeAnd old (λ p. 0 < room_in p) → IsOneMore caller note old new →
     next ≡ next_place place → IsAt new next
-at_entry old new place next caller note at some is placed = subst (λ (p : Option Place). IsAt new p) (sym placed) (at_next old new place caller note at some is)
+at_entry old new place next caller note at some is placed = subst (λ (x : Option Place). IsAt new x) (sym placed) (at_next old new place caller note at some is)
 
 -- the head allows one call more, so there is room for it
-pub room_at : (c : Option CellValue) (place : Option Place) (caller : ℕ) (note : Note) → IsAt c place → HasRoom (Ok (meaning.Entry caller note)) place → IsSomeAnd c (λ c. 0 < room_in c.past)
-room_at c None caller note at room = absurd room
+pub room_at : (p : Option Past) (place : Option Place) (caller : ℕ) (note : Note) → IsAt p place → HasRoom (Ok (meaning.Entry caller note)) place → IsSomeAnd p (λ p. 0 < room_in p)
+room_at p None caller note at room = absurd room
 room_at None (Some place) caller note at room = absurd at
-room_at (Some c) (Some place) caller note at room = omega (arith, at.0, at.1, room)
+room_at (Some p) (Some place) caller note at room = omega (arith, at.0, at.1, room)
 
 -- ---- a cell of a head
 

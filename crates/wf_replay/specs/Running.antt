@@ -1,12 +1,11 @@
 -- The machine behind the items so far, and what is answered to each.
 use Rattle.std.specs.Prelude.{◌≡◌, ℕ, List, [], Option, Some, None, length}
-use Rattle.wf_cell.specs.Cells.{CellValue}
 use Rattle.wf_trace.specs.declared.meaning.Place.{Place}
 use Rattle.wf_trace.specs.declared.reader.Item.{Item}
 use Rattle.wf_trace.specs.declared.reader.Item.TheVariants.{Head, Entry, Finish, Bad}
 use Rattle.wf_world.specs.World.{World, opening}
 use Rattle.wf_world.specs.Step.{Outcome, step}
-use Rattle.wf_world.specs.Run.{world_of}
+use Rattle.wf_world.specs.Run.{Past, world_of}
 use Rattle.wf_world.specs.Text.{answer_line, summary}
 use Rattle.wf_trace.specs.Faults.{fault_line}
 
@@ -38,21 +37,21 @@ pub record Progress : Type 0 where
   pub world : Option World
   pub calls : ℕ
 
--- the same of a cell, once there is one
-abbrev pub progress_of : Option CellValue → Progress
+-- the same of a history, once a head began one
+abbrev pub progress_of : Option Past → Progress
 progress_of None = record { world = None; calls = 0 }
-progress_of (Some c) = record { world = Some (world_of c.past); calls = length c.past.history }
+progress_of (Some p) = record { world = Some (world_of p); calls = length p.history }
 
--- the world in which a cell is
-abbrev pub world_in : Option CellValue → Option World
-world_in c = (progress_of c).world
+-- the world to which it leads
+abbrev pub world_in : Option Past → Option World
+world_in p = (progress_of p).world
 
 -- its last lines, where the trace ends
-abbrev pub closing_of : Option CellValue → List ℕ
-closing_of c = closing (progress_of c).world (progress_of c).calls (Some Finish)
+abbrev pub closing_of : Option Past → List ℕ
+closing_of p = closing (progress_of p).world (progress_of p).calls (Some Finish)
 
--- a cell has the settings of the head, and as many calls as stood behind it
-abbrev pub IsAt : Option CellValue → Option Place → Type 0
+-- it has the settings of the head, and as many calls as stood behind it
+abbrev pub IsAt : Option Past → Option Place → Type 0
 IsAt None None = Unit {0}
-IsAt (Some c) (Some place) = (c.past.config.calls ≡ place.limit) × (length c.past.history ≡ place.count)
+IsAt (Some p) (Some place) = (p.config.calls ≡ place.limit) × (length p.history ≡ place.count)
 IsAt _ _ = ⊥

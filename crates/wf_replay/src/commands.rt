@@ -17,6 +17,7 @@ ghost use Rattle.wf_frames_run.specs.Outcome.{FramesOutcome, FramesAnswered};
 ghost use Rattle.wf_frames_run.specs.Law.{FramesLaw};
 
 use crate::runner::play;
+use crate::stage::Stage;
 use crate::words::{Command, command_from};
 use std::alloc::Global;
 use std::sync::Wait;
@@ -46,7 +47,7 @@ pub fn replay<S: Source, K: Sink>(alloc: Global, source: &mut S, sink: &mut K) -
     ensures complete { (HasRisen (S.faults source.old) (S.faults source.new) → ⊥) → (HasRisen (K.faults sink.old) (K.faults sink.new) → ⊥) →
         (input : List ℕ) → S.left source.old ≡ Some input → FitsEnding (reading true input).ending result }
 {
-    play(alloc, source, sink)
+    play::<Stage, S, K>(alloc, source, sink)
 }
 
 /// Writes the summary of the soak of a seed and a number of calls, 1 to 1,000,000.
@@ -135,7 +136,7 @@ pub fn run<R: Threads + Wait + Sync, S: Source, K: Sink, T: Turnstile + Sync>(
     let _ = turnstile;
     match command_from(words) {
         None => Status::Usage,
-        Some(Command::Replay) => replay(alloc, source, sink),
+        Some(Command::Replay) => replay::<Stage, S, K>(alloc, source, sink),
         Some(Command::Soak { seed, calls }) => soaked(alloc, seed, calls, sink),
         Some(Command::Session) => session(alloc, source, sink),
         Some(Command::Uplink) => uplink(alloc, source, sink),

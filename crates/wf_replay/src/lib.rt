@@ -5,6 +5,7 @@
 mod commands;
 mod outgoing;
 mod runner;
+mod stage;
 mod words;
 
 pub use commands::{replay, run, soaked};

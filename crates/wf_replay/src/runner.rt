@@ -1,12 +1,10 @@
 //! A replay: the calls of a trace, made to a cell one after the other.
 
-ghost use Rattle.std.specs.Prelude.{◌≡◌, ◌≢◌, ◌<◌, ◌≤◌, ◌++◌, [], ℕ, List, Some, None, IsSomeAnd, IfOk, OnOk, option_map};
+ghost use Rattle.std.specs.Prelude.{◌≡◌, ◌≢◌, ◌<◌, ◌≤◌, ◌++◌, [], ℕ, List, Some, None, IsSomeAnd, OnOk, option_map};
 ghost use Rattle.std.specs.Io.KnownBytes.{prepend_known, append_known};
 ghost use Rattle.wf_cell.specs.Cells.{room_in, with_entry};
-ghost use Rattle.wf_frame.specs.Settings.{IsInRange};
 ghost use Rattle.wf_io.specs.Faults.{HasRisen, CountsFaults};
 ghost use Rattle.wf_laws.specs.Queues.{HasLength, IsAtMost};
-ghost use Rattle.wf_path.specs.Jobs.{note_of};
 ghost use Rattle.wf_rules.specs.Lengths.{greatest_body};
 ghost use Rattle.wf_status.specs.Fronts.{HoldsFront};
 ghost use Rattle.wf_trace.specs.declared.reader.Item.TheVariants as item;
@@ -15,100 +13,66 @@ ghost use Rattle.wf_replay.specs.Running.{text_of_item as answer_to, closing_of,
 ghost use Rattle.wf_replay.specs.Outcome.{StatusSays};
 
 use crate::outgoing::Outgoing;
+use crate::stage::Plays;
 use std::alloc::{AllocError, Global};
-use wf_cell::{Cell, Job, NewFault};
-use wf_chain::Parcel;
-use wf_frame::{Answer, Config, Frame, Note};
+use wf_frame::{Answer, Note};
 use wf_io::{Failed, Line, Sink, Source};
 use wf_report::{print_reply, summary};
 use wf_status::Status;
 use wf_trace::{Item, TraceReader, print_fault};
 
-// A cell with the settings of a head.
-fn cell_for(alloc: Global, config: Config) -> Result<Cell, AllocError>
-    requires { IsInRange config }
-    ensures { IfOk result (λ cell. cell.past ≡ record { config = config; history = [] }) }
-{
-    match Cell::new(alloc, config) {
-        Ok(cell) => Ok(cell),
-        Err(NewFault::NoMemory) => Err(AllocError),
-        Err(NewFault::BadConfig(_)) => unreachable!(),
-    }
-}
-
-// The call that a line names, with the frame that it brings.
-fn job_of(alloc: Global, note: Note) -> Result<Job, AllocError>
-    requires some { HasLength note }
-    requires most { IsAtMost greatest_body note }
-    ensures { IfOk result (λ job. note_of job ≡ note) }
-{
-    match note {
-        Note::Enqueue {
-            station,
-            tid,
-            flow,
-            len,
-        } => {
-            let frame = Frame::sample(alloc, station, tid, flow, len)?;
-            match Parcel::new(alloc, frame) {
-                Ok(parcel) => Ok(Job::Give(parcel)),
-                Err((refused, _)) => Err(refused),
-            }
-        }
-        Note::Asked(ask) => Ok(Job::Call(ask)),
-    }
-}
-
-// Makes a call, and its answer line. A frame that comes back is dropped.
-fn make(
-    alloc: Global,
-    cell: &mut Option<Cell>,
+// Makes a call, and its answer line.
+fn make<M: Plays>(
+    stage: &mut Option<M>,
     caller: u32,
     note: Note,
     answer: &mut Answer,
     line: &mut Line,
 ) -> Result<(), AllocError>
-    requires room { IsSomeAnd cell.old (λ c. 0 < room_in c.past) }
+    requires room { IsSomeAnd (option_map M.past stage.old) (λ p. 0 < room_in p) }
     requires some { HasLength note }
     requires most { IsAtMost greatest_body note }
     requires empty { line.old ≡ [] }
-    ensures past { OnOk result (option_map (λ c. c.past) cell.new ≡ option_map (λ c. with_entry (by caller note) c.past) cell.old) }
-    ensures line { OnOk result (line.new ≡ answer_to (world_in cell.old) (item.Entry caller note)) }
+    ensures past { OnOk result (option_map M.past stage.new ≡ option_map (λ p. with_entry (by caller note) p) (option_map M.past stage.old)) }
+    ensures line { OnOk result (line.new ≡ answer_to (world_in (option_map M.past stage.old)) (item.Entry caller note)) }
 {
-    let job = job_of(alloc, note)?;
-    if let Some(cell) = cell {
-        let _ = cell.step(caller, job, answer);
+    if let Some(stage) = stage {
+        stage.call(caller, note, answer)?;
         print_reply(answer, line);
     }
     Ok(())
 }
 
 // Writes the summary, if there is a cell.
-fn close<K: Sink>(cell: &Option<Cell>, sink: &mut K) -> Result<(), Failed>
-    ensures written { OnOk result (K.held sink.new ≡ append_known (K.held sink.old) (closing_of cell.now)) }
-    ensures front { HoldsFront (K.held sink.old) (K.held sink.new) (closing_of cell.now) }
+fn close<M: Plays, K: Sink>(stage: &Option<M>, sink: &mut K) -> Result<(), Failed>
+    ensures written { OnOk result (K.held sink.new ≡ append_known (K.held sink.old) (closing_of (option_map M.past stage.now))) }
+    ensures front { HoldsFront (K.held sink.old) (K.held sink.new) (closing_of (option_map M.past stage.now)) }
     ensures cause { CountsFaults (K.faults sink.old) (K.faults sink.new) result }
 {
-    match cell {
-        Some(cell) => summary(cell, sink),
+    match stage {
+        Some(stage) => summary(stage.cell(), sink),
         None => Ok(()),
     }
 }
 
 // Writes the answers that wait, and the summary behind them.
-fn finish<K: Sink>(cell: &Option<Cell>, outgoing: &mut Outgoing, sink: &mut K) -> Result<(), Failed>
-    ensures written { OnOk result (K.held sink.new ≡ append_known (K.held sink.old) (outgoing.old ++ closing_of cell.now)) }
-    ensures front { HoldsFront (K.held sink.old) (K.held sink.new) (outgoing.old ++ closing_of cell.now) }
+fn finish<M: Plays, K: Sink>(
+    stage: &Option<M>,
+    outgoing: &mut Outgoing,
+    sink: &mut K,
+) -> Result<(), Failed>
+    ensures written { OnOk result (K.held sink.new ≡ append_known (K.held sink.old) (outgoing.old ++ closing_of (option_map M.past stage.now))) }
+    ensures front { HoldsFront (K.held sink.old) (K.held sink.new) (outgoing.old ++ closing_of (option_map M.past stage.now)) }
     ensures cause { CountsFaults (K.faults sink.old) (K.faults sink.new) result }
 {
     match outgoing.send(sink) {
-        Ok(()) => close(cell, sink),
+        Ok(()) => close(stage, sink),
         Err(failed) => Err(failed),
     }
 }
 
-/// Reads a trace from the source and writes what a cell answers, and the summary or the line of the fault.
-pub fn play<S: Source, K: Sink>(alloc: Global, source: &mut S, sink: &mut K) -> Status
+/// Reads a trace from the source and writes what a stage answers, and the summary or the line of the fault.
+pub fn play<M: Plays, S: Source, K: Sink>(alloc: Global, source: &mut S, sink: &mut K) -> Status
     ensures text { (taken written : List ℕ) × (S.left source.old ≡ prepend_known taken (S.left source.new))
         × (K.held sink.new ≡ append_known (K.held sink.old) written)
         × ((input : List ℕ) → S.left source.old ≡ Some input → StatusSays result input taken written) }
@@ -124,19 +88,19 @@ pub fn play<S: Source, K: Sink>(alloc: Global, source: &mut S, sink: &mut K) -> 
     let Ok(mut outgoing) = Outgoing::new(alloc) else {
         return Status::NoMemory;
     };
-    let mut cell: Option<Cell> = None;
+    let mut stage: Option<M> = None;
     let mut answer = Answer::new();
     let mut line = Line::new();
     'items: loop {
         line.clear();
         match reader.next(source) {
             Err(_) => return Status::ReadFault,
-            Ok(Item::Head(config)) => match cell_for(alloc, config) {
-                Ok(opened) => cell = Some(opened),
+            Ok(Item::Head(config)) => match M::open(alloc, config) {
+                Ok(opened) => stage = Some(opened),
                 Err(_) => return Status::NoMemory,
             },
             Ok(Item::Entry(caller, note)) => {
-                match make(alloc, &mut cell, caller, note, &mut answer, &mut line) {
+                match make(&mut stage, caller, note, &mut answer, &mut line) {
                     Ok(()) => {}
                     Err(_) => return Status::NoMemory,
                 }
@@ -145,7 +109,7 @@ pub fn play<S: Source, K: Sink>(alloc: Global, source: &mut S, sink: &mut K) -> 
                     Err(_) => return Status::WriteFault,
                 }
             }
-            Ok(Item::Finish) => match finish(&cell, &mut outgoing, sink) {
+            Ok(Item::Finish) => match finish(&stage, &mut outgoing, sink) {
                 Ok(()) => return Status::Done,
                 Err(_) => return Status::WriteFault,
             },

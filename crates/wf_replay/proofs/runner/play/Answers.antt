@@ -27,8 +27,8 @@ items-init g c = (
   (λ none. c.in-Ok-new.ensures),
 )
 
-pub cell_for-requires : goal.cell_for-requires
-cell_for-requires g c =
+pub open-requires : goal.open-requires
+open-requires g c =
     let placed = rw (c.in-Ok-Head.field-0-is) at (c.in-Ok-Head.ensures.placed c.items.invariant.1) in
     line_config _ _ placed.0
 
@@ -52,23 +52,23 @@ returns-in-Err-clause-text g c =
     let reads = c.in-Err.ensures.reads in
     said ReadFault _ _ _ _ (ended_read _ _ _ _ _ _ _ _ (turned _ _ _ _ _ _ _ _ _ _ reads.0 c.items.invariant.0 reads.1 c.in-Err.ensures.sticky) (none_waits _ _ _ c.items.invariant.5 c.in-Err.ensures.quiet) c.in-Err.ensures.held)
 
-pub items-preserved-in-Ok-cell_for : goal.items-preserved-in-Ok-cell_for
-items-preserved-in-Ok-cell_for g c =
+pub items-preserved-in-Ok-open : goal.items-preserved-in-Ok-open
+items-preserved-in-Ok-open g c =
     let reads = rw (c.in-Ok-Head.field-0-is) at c.in-Ok-Head.ensures.reads in
     let goes = rw (c.in-Ok-Head.field-0-is) at c.in-Ok-Head.ensures.goes in
     let placed = rw (c.in-Ok-Head.field-0-is) at (c.in-Ok-Head.ensures.placed c.items.invariant.1) in
     let none = progress_at _ _ c.items.invariant.2 goes.0 in (
-      rw (progress_head _ _ c.in-Ok-cell_for.ensures) (with_head _ _ _ _ _ _ _ c.in-Ok-Head.config (turned _ _ _ _ _ _ _ _ _ _ reads.0 c.items.invariant.0 reads.1 c.in-Ok-Head.ensures.sticky) none),
+      rw (progress_head _ _ c.in-Ok-open.ensures) (with_head _ _ _ _ _ _ _ c.in-Ok-Head.config (turned _ _ _ _ _ _ _ _ _ _ reads.0 c.items.invariant.0 reads.1 c.in-Ok-Head.ensures.sticky) none),
       goes.2,
-      at_head _ _ _ c.in-Ok-cell_for.ensures placed.1,
+      at_head _ _ _ c.in-Ok-open.ensures placed.1,
       c.in-Ok-Head.ensures.cause.quiet ∙ c.items.invariant.3,
       c.items.invariant.4,
       (λ reads. c.items.invariant.6 goes.0),
       (λ absent. c.items.invariant.6 goes.0),
     )
 
-pub returns-in-Err-cell_for-clause-text : goal.returns-in-Err-cell_for-clause-text
-returns-in-Err-cell_for-clause-text g c =
+pub returns-in-Err-open-clause-text : goal.returns-in-Err-open-clause-text
+returns-in-Err-open-clause-text g c =
     let reads = c.in-Ok-Head.ensures.reads in
     said NoMemory _ _ _ _ (ended_no_memory _ _ _ _ _ _ _ _ (turned _ _ _ _ _ _ _ _ _ _ reads.0 c.items.invariant.0 reads.1 c.in-Ok-Head.ensures.sticky))
 

@@ -1,7 +1,7 @@
 use Rattle.std.proofs.Common.{refl}
 use Rattle.wf_frame.proofs.Ranges.{checked}
 use Rattle.wf_replay.proofs.Cells.{never_both}
-use Rattle.wf_replay.proofs.runner.cell_for.Goals as goal
+use Rattle.wf_replay.proofs.stage.cell_for.Goals as goal
 
 pub unreachable-requires : goal.unreachable-requires
 unreachable-requires c =

@@ -1,0 +1,123 @@
+//! What a trace is played on.
+
+ghost use Rattle.std.specs.Prelude.{◌≡◌, ◌<◌, [], IfOk, OnOk};
+ghost use Rattle.wf_cell.specs.Cells.{room_in, with_entry};
+ghost use Rattle.wf_frame.specs.Answers.{reply_of};
+ghost use Rattle.wf_frame.specs.Settings.{IsInRange};
+ghost use Rattle.wf_laws.specs.Queues.{HasLength, IsAtMost};
+ghost use Rattle.wf_path.specs.Jobs.{note_of};
+ghost use Rattle.wf_rules.specs.Lengths.{greatest_body};
+ghost use Rattle.wf_world.specs.Run.{Past, by, world_of};
+ghost use Rattle.wf_world.specs.Step.{step};
+
+use std::alloc::{AllocError, Global};
+use std::marker::Model;
+use wf_cell::{Cell, Job, NewFault};
+use wf_chain::Parcel;
+use wf_frame::{Answer, Config, Frame, Note};
+
+/// What the calls of a trace are made to. A replay is proved for whatever has these three calls, so its proof sees nothing of what a
+/// cell is made of.
+pub trait Plays: Drop {
+    /// The settings and the calls that were made.
+    ghost past: { Self → Past };
+
+    /// A stage with the settings of a head, on which no call was made.
+    fn open(alloc: Global, config: Config) -> Result<Self, AllocError>
+    where
+        Self: Sized,
+        requires { IsInRange config }
+        ensures { IfOk result (λ stage. past stage ≡ record { config = config; history = [] }) };
+
+    /// Makes the call that a line names. A frame that comes back is dropped.
+    fn call(&mut self, caller: u32, note: Note, answer: &mut Answer) -> Result<(), AllocError>
+        requires room { 0 < room_in (past self.old) }
+        requires some { HasLength note }
+        requires most { IsAtMost greatest_body note }
+        ensures past { OnOk result (past self.new ≡ with_entry (by caller note) (past self.old)) }
+        ensures reply { OnOk result (reply_of answer.new ≡ (step (world_of (past self.old)) note).reply) };
+
+    /// The cell that it is played on.
+    fn cell(&self) -> &Cell
+        ensures { result.now.past ≡ past self.now };
+}
+
+/// A cell, and the memory from which the frames of its calls are made.
+#[derive(Drop)]
+pub struct Stage {
+    cell: Cell,
+    alloc: Global,
+}
+
+impl Model for Stage {
+    ghost use Rattle.wf_world.specs.Run.{Past};
+
+    ghost Value = { Past };
+
+    ghost view = { λ s. s.cell.past };
+}
+
+// A cell with the settings of a head.
+fn cell_for(alloc: Global, config: Config) -> Result<Cell, AllocError>
+    requires { IsInRange config }
+    ensures { IfOk result (λ cell. cell.past ≡ record { config = config; history = [] }) }
+{
+    match Cell::new(alloc, config) {
+        Ok(cell) => Ok(cell),
+        Err(NewFault::NoMemory) => Err(AllocError),
+        Err(NewFault::BadConfig(_)) => unreachable!(),
+    }
+}
+
+// The call that a line names, with the frame that it brings.
+fn job_of(alloc: Global, note: Note) -> Result<Job, AllocError>
+    requires some { HasLength note }
+    requires most { IsAtMost greatest_body note }
+    ensures { IfOk result (λ job. note_of job ≡ note) }
+{
+    match note {
+        Note::Enqueue {
+            station,
+            tid,
+            flow,
+            len,
+        } => {
+            let frame = Frame::sample(alloc, station, tid, flow, len)?;
+            match Parcel::new(alloc, frame) {
+                Ok(parcel) => Ok(Job::Give(parcel)),
+                Err((refused, _)) => Err(refused),
+            }
+        }
+        Note::Asked(ask) => Ok(Job::Call(ask)),
+    }
+}
+
+impl Plays for Stage {
+    ghost past = { λ s. s };
+
+    fn open(alloc: Global, config: Config) -> Result<Self, AllocError>
+        requires { IsInRange config }
+        ensures { IfOk result (λ stage. stage ≡ record { config = config; history = [] }) }
+    {
+        let cell = cell_for(alloc, config)?;
+        Ok(Stage { cell, alloc })
+    }
+
+    fn call(&mut self, caller: u32, note: Note, answer: &mut Answer) -> Result<(), AllocError>
+        requires room { 0 < room_in self.old }
+        requires some { HasLength note }
+        requires most { IsAtMost greatest_body note }
+        ensures past { OnOk result (self.new ≡ with_entry (by caller note) self.old) }
+        ensures reply { OnOk result (reply_of answer.new ≡ (step (world_of self.old) note).reply) }
+    {
+        let job = job_of(self.alloc, note)?;
+        let _ = self.cell.step(caller, job, answer);
+        Ok(())
+    }
+
+    fn cell(&self) -> &Cell
+        ensures { result.now.past ≡ self.now }
+    {
+        &self.cell
+    }
+}
