@@ -136,7 +136,7 @@ pub fn run<R: Threads + Wait + Sync, S: Source, K: Sink, T: Turnstile + Sync>(
     let _ = turnstile;
     match command_from(words) {
         None => Status::Usage,
-        Some(Command::Replay) => replay::<Stage, S, K>(alloc, source, sink),
+        Some(Command::Replay) => replay(alloc, source, sink),
         Some(Command::Soak { seed, calls }) => soaked(alloc, seed, calls, sink),
         Some(Command::Session) => session(alloc, source, sink),
         Some(Command::Uplink) => uplink(alloc, source, sink),
