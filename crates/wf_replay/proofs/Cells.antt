@@ -14,7 +14,8 @@ use Rattle.wf_trace.specs.Reader.{next_place}
 use Rattle.wf_world.specs.World.{World, opening}
 use Rattle.wf_world.specs.Step.{step}
 use Rattle.wf_world.specs.Run.{Past, by, world_of}
-use Rattle.wf_replay.specs.Running.{Progress, progress_of, IsAt}
+use Rattle.wf_world.specs.Text.{summary}
+use Rattle.wf_replay.specs.Running.{Progress, progress_of, closing_of, IsAt}
 use Rattle.wf_replay.proofs.Replays.{begun, gone_on}
 
 -- one entry more
@@ -50,6 +51,13 @@ progress_on (Some p) (Some q) caller note some is =
     let past : q ≡ with_entry (by caller note) p = cc in
     let one = progress_one p q caller note past in
     ap₂ (λ (w : World) (n : ℕ). let x : Progress = record { world = Some w; calls = n } in x) one.0 one.1
+
+-- the last lines of a stage with this history
+pub closing_is : {T : Type 0} → (past : T → Past) (stage : Option T) (x : T) (p : Past) → stage ≡ Some x → p ≡ past x →
+    summary (world_of p) (length p.history) ≡ closing_of (option_map past stage)
+closing_is past stage x p some is =
+    subst (λ y. summary (world_of p) (length p.history) ≡ closing_of (option_map past y)) (sym some)
+    (ap (λ (q : Past). summary (world_of q) (length q.history)) is)
 
 -- ---- where it is
 

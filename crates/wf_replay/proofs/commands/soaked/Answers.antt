@@ -11,8 +11,8 @@ returns-in-Ok-summary-clause-text g c =
     let is : summary (world_of past) (length past.history) ≡ soak_text c.args.seed c.args.calls = is_soak_text past c.args.seed c.args.calls c.in-Ok.ensures.made c.in-Ok.ensures.counted in
     (summary (world_of past) (length past.history), c.in-Ok-summary.ensures.written, (is, c.in-Ok.ensures.counted))
 
-pub returns-in-Err-clause-text : goal.returns-in-Err-clause-text
-returns-in-Err-clause-text g c =
+pub returns-clause-text : goal.returns-clause-text
+returns-clause-text g c =
     let past : Past = c.in-Ok.cell.past in
     let is : summary (world_of past) (length past.history) ≡ soak_text c.args.seed c.args.calls = is_soak_text past c.args.seed c.args.calls c.in-Ok.ensures.made c.in-Ok.ensures.counted in
     let front = c.in-Err.ensures.front in

@@ -32,18 +32,18 @@ open-requires g c =
     let placed = rw (c.in-Ok-Head.field-0-is) at (c.in-Ok-Head.ensures.placed c.items.invariant.1) in
     line_config _ _ placed.0
 
-pub make-requires-room : goal.make-requires-room
-make-requires-room g c =
+pub make-requires-clause-room : goal.make-requires-clause-room
+make-requires-clause-room g c =
     let placed = rw (c.in-Ok-Entry.field-0-is) at (c.in-Ok-Entry.ensures.placed c.items.invariant.1) in
-    room_at _ _ _ _ c.items.invariant.2 placed.1
+    room_at _ _ c.in-Ok-Entry.caller c.in-Ok-Entry.note c.items.invariant.2 placed.1
 
-pub make-requires-some : goal.make-requires-some
-make-requires-some g c =
+pub make-requires-clause-some : goal.make-requires-clause-some
+make-requires-clause-some g c =
     let placed = rw (c.in-Ok-Entry.field-0-is) at (c.in-Ok-Entry.ensures.placed c.items.invariant.1) in
     (line_sized _ _ _ placed.0).0
 
-pub make-requires-most : goal.make-requires-most
-make-requires-most g c =
+pub make-requires-clause-most : goal.make-requires-clause-most
+make-requires-clause-most g c =
     let placed = rw (c.in-Ok-Entry.field-0-is) at (c.in-Ok-Entry.ensures.placed c.items.invariant.1) in
     (line_sized _ _ _ placed.0).1
 
@@ -82,7 +82,7 @@ items-preserved g c =
     let reads = rw (c.in-Ok-Entry.field-0-is) at c.in-Ok-Entry.ensures.reads in
     let goes = rw (c.in-Ok-Entry.field-0-is) at c.in-Ok-Entry.ensures.goes in
     let placed = rw (c.in-Ok-Entry.field-0-is) at (c.in-Ok-Entry.ensures.placed c.items.invariant.1) in
-    let room = room_at _ _ _ _ c.items.invariant.2 placed.1 in (
+    let room = room_at _ _ c.in-Ok-Entry.caller c.in-Ok-Entry.note c.items.invariant.2 placed.1 in (
       rw (progress_on _ _ _ _ room c.in-Ok-make.ensures.past) (with_entry _ _ _ _ _ _ _ _ _ c.in-Ok-Entry.caller c.in-Ok-Entry.note c.octets.result.now (turned _ _ _ _ _ _ _ _ _ _ reads.0 c.items.invariant.0 reads.1 c.in-Ok-Entry.ensures.sticky)
           (c.octets.ensures ∙ c.in-Ok-make.ensures.line) c.in-Ok-put.ensures.leaves),
       goes.2,
