@@ -3,7 +3,7 @@ use Rattle.std.specs.Prelude.{ℕ, ◌≤◌, ◌^◌, ◌-◌, nat_le, ◌&&◌
 use Rattle.std.specs.Str.{bytes_eq}
 use Rattle.wf_trace.specs.Words.{is_plain_number, value_from}
 use Rattle.wf_replay.specs.declared.words.Command.{Command}
-use Rattle.wf_replay.specs.declared.words.Command.TheVariants.{Replay, Soak, Session, Uplink, Frames}
+use Rattle.wf_replay.specs.declared.words.Command.TheVariants.{Replay, Soak, Live, Session, Uplink, Frames}
 
 -- the number that a word is, where it lies between two
 abbrev pub number_within : ℕ → ℕ → List ℕ → Option ℕ
@@ -15,9 +15,16 @@ soak_of (Some seed) (Some calls) = Some (Soak seed calls)
 soak_of (Some seed) None = None
 soak_of None calls = None
 
--- a soak has 1 to 1,000,000 calls
+abbrev pub live_of : Option ℕ → Option ℕ → Option ℕ → Option Command
+live_of (Some seed) (Some senders) (Some frames) = Some (Live seed senders frames)
+live_of (Some seed) (Some senders) None = None
+live_of (Some seed) None frames = None
+live_of None senders frames = None
+
+-- a soak has 1 to 1,000,000 calls; live has 1 to 8 senders, with 1 to 10,000 frames each
 abbrev pub HasCalls : Command → Type 0
 HasCalls (Soak seed calls) = (1 ≤ calls) × (calls ≤ 1000000)
+HasCalls (Live seed senders frames) = ((1 ≤ senders) × (senders ≤ 8)) × ((1 ≤ frames) × (frames ≤ 10000))
 HasCalls command = Unit {0}
 
 -- a command of one word
@@ -28,11 +35,14 @@ word_command word =
     else (if bytes_eq word (codes "uplink") then Some Uplink
     else (if bytes_eq word (codes "frames") then Some Frames else None)))
 
--- `replay`, `session`, `uplink`, `frames`, and `soak SEED CALLS`
+-- `replay`, `session`, `uplink`, `frames`, `soak SEED CALLS`, and `live SEED SENDERS FRAMES`
 abbrev pub command_of : List (List ℕ) → Option Command
 command_of [] = None
 command_of (word ∷ []) = word_command word
 command_of (word ∷ seed ∷ []) = None
 command_of (word ∷ seed ∷ calls ∷ []) =
     if bytes_eq word (codes "soak") then soak_of (number_within 0 (2 ^ 64 - 1) seed) (number_within 1 1000000 calls) else None
-command_of (word ∷ seed ∷ calls ∷ other ∷ words) = None
+command_of (word ∷ seed ∷ senders ∷ frames ∷ []) =
+    if bytes_eq word (codes "live") then live_of (number_within 0 (2 ^ 64 - 1) seed) (number_within 1 8 senders) (number_within 1 10000 frames)
+    else None
+command_of (word ∷ seed ∷ senders ∷ frames ∷ other ∷ words) = None

@@ -8,6 +8,10 @@ ghost use Rattle.wf_replay.specs.Outcome.{StatusSays, SoakStatusSays, FitsEnding
 ghost use Rattle.wf_frame.specs.Settings.{standard};
 ghost use Rattle.wf_laws.specs.Laws.{Laws};
 ghost use Rattle.wf_live.specs.Soak.{soak_history};
+ghost use Rattle.wf_live_run.specs.Lives.{IsLive, LiveStatusSays, TellsOf};
+ghost use Rattle.wf_replay.specs.Texts.{text};
+ghost use Rattle.wf_world.specs.Run.{Entry};
+ghost use Rattle.wf_world.specs.Text.{text_of};
 ghost use Rattle.wf_replay.specs.Commands.{command_of};
 ghost use Rattle.wf_laws.specs.Lengths.{HasLengths};
 ghost use Rattle.wf_replay.specs.Laws.{HasLaws};
@@ -25,6 +29,7 @@ use std::thread::Threads;
 use wf_frames_run::frames;
 use wf_io::{Sink, Source};
 use wf_live::soak;
+use wf_live_run::lived;
 use wf_report::summary;
 use wf_session_run::session;
 use wf_status::Status;
@@ -66,8 +71,8 @@ pub fn soaked<K: Sink>(alloc: Global, seed: u64, calls: u32, sink: &mut K) -> St
     }
 }
 
-/// Runs the command that the words are, on this source and sink: `replay`, `soak SEED CALLS`, `session`, `uplink` or
-/// `frames`.
+/// Runs the command that the words are, on this source and sink: `replay`, `soak SEED CALLS`, `live SEED SENDERS FRAMES`, `session`,
+/// `uplink` or `frames`. Only `live` makes threads and may wait; it calls the turnstile round each call at its gate.
 pub fn run<R: Threads + Wait + Sync, S: Source, K: Sink, T: Turnstile + Sync>(
     rt: &R,
     alloc: Global,
@@ -95,6 +100,14 @@ pub fn run<R: Threads + Wait + Sync, S: Source, K: Sink, T: Turnstile + Sync>(
         × ((written : List ℕ) × (K.held sink.new ≡ append_known (K.held sink.old) written) × SoakStatusSays result seed calls written) }
     ensures soak_laws { (seed calls : ℕ) → Laws standard (soak_history seed calls) }
     ensures soak_lengths { (seed calls : ℕ) → HasLengths (soak_history seed calls) }
+
+    // on `live SEED SENDERS FRAMES`; and a replay of the trace that it writes ends with the summary that it writes
+    ensures live { (seed senders frames : ℕ) → command_of (map string_bytes words.now) ≡ Some (Command.Live seed senders frames) →
+        (source.new ≡ source.old)
+        × ((written : List ℕ) × (K.held sink.new ≡ append_known (K.held sink.old) written) × LiveStatusSays result seed senders frames written) }
+    ensures live_again { (history : List Entry) (written : List ℕ) → TellsOf history written → text (reading true written) ≡ text_of standard history }
+    ensures live_laws { (seed senders frames : ℕ) (history : List Entry) → IsLive seed senders frames history → Laws standard history }
+    ensures live_lengths { (seed senders frames : ℕ) (history : List Entry) → senders ≤ 8 → IsLive seed senders frames history → HasLengths history }
 
     // on `session`
     ensures session { command_of (map string_bytes words.now) ≡ Some Command.Session →
@@ -132,12 +145,15 @@ pub fn run<R: Threads + Wait + Sync, S: Source, K: Sink, T: Turnstile + Sync>(
     ensures write { result ≡ Status.WriteFault → HasRisen (K.faults sink.old) (K.faults sink.new) }
     ensures sink_quiet { result ≢ Status.WriteFault → K.faults sink.new ≡ K.faults sink.old }
 {
-    let _ = rt;
-    let _ = turnstile;
     match command_from(words) {
         None => Status::Usage,
         Some(Command::Replay) => replay(alloc, source, sink),
         Some(Command::Soak { seed, calls }) => soaked(alloc, seed, calls, sink),
+        Some(Command::Live {
+            seed,
+            senders,
+            frames,
+        }) => lived(rt, alloc, seed, senders, frames, sink, turnstile),
         Some(Command::Session) => session(alloc, source, sink),
         Some(Command::Uplink) => uplink(alloc, source, sink),
         Some(Command::Frames) => frames(alloc, source, sink),

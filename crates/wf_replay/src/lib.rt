@@ -1,4 +1,4 @@
-//! The commands of the program over any source and sink: a replay of a trace, a soak, a session, an
+//! The commands of the program over any source and sink: a replay of a trace, a soak, a run on threads, a session, an
 //! uplink, and the list of a capture.
 #![tactic(auto)]
 

@@ -3,7 +3,7 @@
 ghost use Rattle.std.specs.Prelude.{◌≡◌, ◌≤◌, ◌^◌, IsTrue, MatchOption, IfSome, map, string_bytes};
 ghost use Rattle.std.specs.List.{list_all};
 ghost use Rattle.wf_trace.specs.Words.{is_digit, value_from};
-ghost use Rattle.wf_replay.specs.Commands.{number_within, soak_of, command_of, HasCalls};
+ghost use Rattle.wf_replay.specs.Commands.{number_within, soak_of, live_of, command_of, HasCalls};
 
 use wf_trace::is_plain_number;
 
@@ -14,6 +14,8 @@ pub enum Command {
     Replay,
     /// Play the soak of this seed, and of so many calls: 1 to 1,000,000.
     Soak { seed: u64, calls: u32 },
+    /// Run so many senders on threads, 1 to 8, each with so many frames: 1 to 10,000; and four drivers.
+    Live { seed: u64, senders: u32, frames: u32 },
     /// Play the script on standard input on two ends of an agreement.
     Session,
     /// Play the script on standard input on the uplink of 256 stations.
@@ -72,6 +74,22 @@ fn soak_of(seed: Option<u64>, calls: Option<u64>) -> Option<Command>
     }
 }
 
+fn live_of(seed: Option<u64>, senders: Option<u64>, frames: Option<u64>) -> Option<Command>
+    requires senders { IfSome senders (λ n. (1 ≤ n) × (n ≤ 8)) }
+    requires frames { IfSome frames (λ n. (1 ≤ n) × (n ≤ 10000)) }
+    ensures command { result ≡ live_of seed senders frames }
+    ensures calls { IfSome result HasCalls }
+{
+    match (seed, senders, frames) {
+        (Some(seed), Some(senders), Some(frames)) => Some(Command::Live {
+            seed,
+            senders: senders as u32,
+            frames: frames as u32,
+        }),
+        _ => None,
+    }
+}
+
 /// The command that the words are, if they are one.
 pub fn command_from(words: &[String]) -> Option<Command>
     ensures command { result ≡ command_of (map string_bytes words.now) }
@@ -85,6 +103,11 @@ pub fn command_from(words: &[String]) -> Option<Command>
         [word, seed, calls] if word.as_str() == "soak" => soak_of(
             number_within(0, u64::MAX, seed.as_bytes()),
             number_within(1, 1_000_000, calls.as_bytes()),
+        ),
+        [word, seed, senders, frames] if word.as_str() == "live" => live_of(
+            number_within(0, u64::MAX, seed.as_bytes()),
+            number_within(1, 8, senders.as_bytes()),
+            number_within(1, 10_000, frames.as_bytes()),
         ),
         _ => None,
     }

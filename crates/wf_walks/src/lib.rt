@@ -1,0 +1,19 @@
+//! What the calls of the workers of `live` come to in a history: each of them can be printed.
+//!
+//! Each law is a relation in specs/; a function without a body names it in its contract.
+#![tactic(auto)]
+
+ghost use Rattle.std.specs.Prelude.{ℕ, List};
+ghost use Rattle.wf_frame.specs.declared.settings.Config.{Config};
+ghost use Rattle.wf_world.specs.Run.{Entry};
+ghost use Rattle.wf_walks.specs.Walks.{SenderLaw, WalkLaw};
+
+/// Each call of a driver's walk in a history of at most 2^32 entries can be printed.
+pub fn walk_law()
+    ensures { (config : Config) → (past calls : List Entry) → WalkLaw config past calls }
+{}
+
+/// Each call of a sender can be printed.
+pub fn sender_law()
+    ensures { (seed s frames : ℕ) → SenderLaw seed s frames }
+{}
