@@ -13,6 +13,8 @@ pub use wf_status::Status;
 pub use words::Command;
 
 #[cfg(test)]
+mod meeting;
+#[cfg(test)]
 mod near_misses;
 #[cfg(test)]
 mod tests;

@@ -1,5 +1,5 @@
 -- The calls of workers can be printed.
-use Rattle.std.proofs.Common.{◌≡◌, ℕ, zero, suc, ◌+◌, ◌*◌, ◌/◌, ◌%◌, ◌<◌, ◌≤◌, ◌^◌, Bool, true, false, ◌||◌, if◌then◌else◌, List, [], ◌∷◌, ◌++◌, length, Option, Some, None, map, refl, sym, ◌∙◌, ap, subst, arith}
+use Rattle.std.proofs.Common.{◌≡◌, ℕ, zero, suc, ◌+◌, ◌<◌, ◌≤◌, ◌^◌, Bool, true, false, ◌||◌, if◌then◌else◌, List, [], ◌∷◌, length, Option, Some, None, map, sym, subst, arith}
 use Rattle.std.specs.Prelude.{All, ◌==◌}
 use Rattle.std.proofs.lemmas.List.Elements.{All-nil, All-cons, All-head, All-tail, All-append}
 use Rattle.rand_pcg.specs.Lcg.{Lcg}
@@ -15,7 +15,7 @@ use Rattle.wf_world.specs.World.{World, opening}
 use Rattle.wf_world.specs.Step.{Outcome, step}
 use Rattle.wf_world.specs.Run.{Entry, world_after}
 use Rattle.wf_laws.proofs.Sums.Counters.{counts_step}
-use Rattle.wf_workers.specs.Workloads.{Made, Driver, Phase, IsWalk, word_in, words_after, words_of, frame_from, frames_from, sender_calls, arrivals, last_calls, calls_left, some_of, call_in, next_call, shown_by, is_clock, sending, is_idle, is_nothing, playing, after_pull, after_reap, after_in, after, count_in}
+use Rattle.wf_workers.specs.Workloads.{Made, Driver, Phase, IsWalk, word_in, words_after, words_of, frame_from, frames_from, arrivals, last_calls, calls_left, some_of, call_in, sending, is_nothing, playing, after_in, after}
 use Rattle.wf_workers.specs.Workloads.Phase.{Ticks, Pulls, Owes, Ends}
 use Rattle.wf_walks.specs.Makings.{made_by}
 use Rattle.wf_walks.specs.Walks.{CanBePrinted, WalkLaw, SenderLaw}

@@ -4,7 +4,7 @@ use Rattle.wf_frame.specs.declared.settings.Config.{Config}
 use Rattle.wf_trace.specs.Printing.{IsPrintable}
 use Rattle.wf_world.specs.World.{opening}
 use Rattle.wf_world.specs.Run.{Entry, world_after}
-use Rattle.wf_workers.specs.Workloads.{Made, Driver, Phase, IsWalk, sender_calls}
+use Rattle.wf_workers.specs.Workloads.{Made, Driver, IsWalk, sender_calls}
 use Rattle.wf_workers.specs.Workloads.Phase.{Ticks}
 use Rattle.wf_walks.specs.Makings.{made_by}
 
