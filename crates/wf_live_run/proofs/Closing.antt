@@ -6,14 +6,14 @@ use mathlib.Core.List.{IsPrefix}
 use Rattle.wf_frame.specs.Settings.{standard}
 use Rattle.wf_world.specs.World.{World, opening}
 use Rattle.wf_world.specs.Run.{Entry, Past, world_of}
-use Rattle.wf_gate.specs.Seats.{AreAll, AreOfSeats, places_of}
+use Rattle.wf_gate.specs.Seats.{AreAll, AreOfSeats, HasCalls, places_of}
 use Rattle.wf_opening.specs.Opening.{opening_calls}
 use Rattle.wf_workers.specs.Workloads.{Made, Driver, Phase, IsWalk, walked, driver_of, sender_calls}
 use Rattle.wf_workers.specs.Workloads.Phase.{Ends}
 use Rattle.wf_walks.specs.Makings.{made_by}
 use Rattle.wf_crew.specs.Crew.{CellGate, CellSeat, StandAt, HasSent, HasDriven, IsWorked, class_of, driver_count, driver_quota, quotas_of}
 use Rattle.wf_live_run.specs.Lives.{opened_world, IsDriven, IsLive}
-use Rattle.wf_live_run.proofs.Places.{world_at_gate, stand_longer, all_made}
+use Rattle.wf_live_run.proofs.Places.{world_at_gate, stand_longer, all_made, all_called}
 
 count_of : (senders frames : ℕ) → length (quotas_of senders frames) ≡ senders + driver_count
 count_of senders frames =
@@ -64,8 +64,10 @@ module _ (g : CellGate) (seed senders frames : ℕ) (calls : List Entry) (seats 
   has_sent : (n : ℕ) → n < senders → map (λ (m : Made). m.0) (made_by n (opened_world senders) calls) ≡ sender_calls seed n frames
   has_sent n below =
       let h = seat_of n (omega (arith, below)) in
-      let sent = h.works.sender (omega (arith, h.numbered, below)) in
-      ap (map (λ (m : Made). m.0)) (sym (made_is n h sent.made sent.has_made.stand)) ∙ sent.whole ∙ ap (λ k. sender_calls seed k frames) h.numbered
+      let sent : HasCalls h.s.number h.s.seen (places_of h.s.number calls) (sender_calls seed h.s.number frames) =
+      subst (λ (own : List ℕ). HasCalls h.s.number h.s.seen own (sender_calls seed h.s.number frames)) h.owns (h.works.sender (omega (arith, h.numbered, below))) in
+      subst (λ k. map (λ (m : Made). m.0) (made_by k (opened_world senders) calls) ≡ sender_calls seed k frames) h.numbered
+      (sym (all_called h.s.seen calls (opened_world senders) h.s.number (sender_calls seed h.s.number frames) h.sees sent))
 
   has_driven : (driver : ℕ) → driver < driver_count → IsDriven (driver_of seed driver (class_of driver) senders) (made_by (senders + driver) (opened_world senders) calls)
   has_driven driver below =
@@ -73,7 +75,7 @@ module _ (g : CellGate) (seed senders frames : ℕ) (calls : List Entry) (seats 
       let h = seat_of n (omega (arith, below)) in
       let behind : h.s.number - senders ≡ driver = omega (arith, h.numbered) in
       let driven : HasDriven g seed senders driver h.s = subst (λ d. HasDriven g seed senders d h.s) behind (h.works.driver (omega (arith, h.numbered))) in
-      subst (IsDriven (driver_of seed driver (class_of driver) senders)) (made_is n h driven.made driven.has_made.stand)
+      subst (IsDriven (driver_of seed driver (class_of driver) senders)) (made_is n h driven.made driven.stand)
       (record { walk = driven.walk; ended = driven.ended })
 
   pub is_live : (history : List Entry) → history ≡ g.opening.machine.past.history ++ calls → length history ≤ standard.calls → AreOfSeats g calls → IsLive seed senders frames history

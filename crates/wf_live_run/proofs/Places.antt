@@ -1,5 +1,5 @@
 -- The calls of a caller, by the places at which they stand in the entries that were made since the gate was.
-use Rattle.std.proofs.Common.{◌≡◌, ℕ, zero, suc, ◌+◌, ◌<◌, ◌≤◌, Bool, true, false, cond, List, [], ◌∷◌, ◌++◌, length, take, Some, refl, sym, ◌∙◌, ap, ap₂, subst, append_assoc, length-append, arith}
+use Rattle.std.proofs.Common.{◌≡◌, ℕ, zero, suc, ◌+◌, ◌<◌, ◌≤◌, Bool, true, false, cond, List, [], ◌∷◌, ◌++◌, length, map, take, Some, refl, sym, ◌∙◌, ap, ap₂, subst, append_assoc, length-append, arith}
 use Rattle.std.specs.Prelude.{eqb, slice_get}
 use Rattle.std.proofs.Math.Seq.{take-append_seam}
 use Rattle.std.proofs.lemmas.List.{take-append-le}
@@ -15,7 +15,7 @@ use Rattle.wf_world.specs.Step.{step}
 use Rattle.wf_world.specs.Run.{Entry, world_after}
 use Rattle.wf_laws.proofs.Frames.Fates.{world_after-append}
 use Rattle.wf_gate.specs.Turns.{places}
-use Rattle.wf_gate.specs.Seats.{places_of}
+use Rattle.wf_gate.specs.Seats.{places_of, HasCalls}
 use Rattle.wf_gate.proofs.Elements.{at_get, get_at}
 use Rattle.wf_workers.specs.Workloads.{Made}
 use Rattle.wf_walks.specs.Makings.{made_by}
@@ -62,13 +62,13 @@ none_made : (g : CellGate) (caller : ℕ) (entries : List Entry) (made : List Ma
 none_made g caller entries [] stand = refl
 none_made g caller entries (m ∷ ms) stand = absurd stand
 
--- the entries that are left, with one of them gone
-shifted : (g : CellGate) (caller : ℕ) (done : List Entry) (e : Entry) (es : List Entry) (made : List Made) →
-    StandAt g caller (done ++ e ∷ es) (places caller (suc (length done)) es) made → StandAt g caller ((done ++ e ∷ []) ++ es) (places caller (length (done ++ e ∷ [])) es) made
-shifted g caller done e es made stand =
+-- a fact of the entries that are left, with one of them gone
+shifted : (P : List Entry → List ℕ → Type 0) (caller : ℕ) (done : List Entry) (e : Entry) (es : List Entry) →
+    P (done ++ e ∷ es) (places caller (suc (length done)) es) → P ((done ++ e ∷ []) ++ es) (places caller (length (done ++ e ∷ [])) es)
+shifted P caller done e es fact =
     let behind : suc (length done) ≡ length (done ++ e ∷ []) = omega (arith, length-append done (e ∷ [])) in
-    subst (λ (l : List Entry). StandAt g caller l (places caller (length (done ++ e ∷ [])) es) made) (sym (append_assoc done (e ∷ []) es))
-    (subst (λ k. StandAt g caller (done ++ e ∷ es) (places caller k es) made) behind stand)
+    subst (λ (l : List Entry). P l (places caller (length (done ++ e ∷ [])) es)) (sym (append_assoc done (e ∷ []) es))
+    (subst (λ k. P (done ++ e ∷ es) (places caller k es)) behind fact)
 
 first_made : (g : CellGate) (caller : ℕ) (done : List Entry) (e : Entry) (es : List Entry) (m : Made) → slice_get (done ++ e ∷ es) (length done) ≡ Some (caller, m.0) → m.1 ≡ reply_at g (done ++ e ∷ es) (length done) m.0 →
     m ≡ (e.1, (step (world_after (world_at_gate g) done) e.1).reply)
@@ -98,9 +98,43 @@ unfolding made_by
 made_from [] done g caller made stand = none_made g caller (done ++ []) made stand
 made_from (e ∷ es) done g caller made stand =
     made_if (eqb e.0 caller) g caller done e es made stand
-    (λ ms left. made_from es (done ++ e ∷ []) g caller ms (shifted g caller done e es ms left) ∙ ap (λ (w : World). made_by caller w es) (after_one done (world_at_gate g) e))
+    (λ ms left. made_from es (done ++ e ∷ []) g caller ms (shifted (λ entries own. StandAt g caller entries own ms) caller done e es left) ∙ ap (λ (w : World). made_by caller w es) (after_one done (world_at_gate g) e))
 
 -- what stands at the places of a caller is all that it made
 pub all_made : (entries : List Entry) (g : CellGate) (caller : ℕ) (made : List Made) → StandAt g caller entries (places_of caller entries) made → made ≡ made_by caller (world_at_gate g) entries
 unfolding world_after
 all_made entries g caller made stand = made_from entries [] g caller made stand
+
+-- ---- the same of calls whose replies are not told
+
+calls_longer : (caller : ℕ) (xs ys : List Entry) (own : List ℕ) (notes : List Note) → IsPrefix xs ys → HasCalls caller xs own notes → HasCalls caller ys own notes
+calls_longer caller xs ys [] [] p calls = calls
+calls_longer caller xs ys (place ∷ own) (note ∷ notes) p calls = (still_there xs ys place (caller, note) p calls.0, calls_longer caller xs ys own notes p calls.1)
+calls_longer caller xs ys [] (note ∷ notes) p calls = absurd calls
+calls_longer caller xs ys (place ∷ own) [] p calls = absurd calls
+
+none_called : (caller : ℕ) (entries : List Entry) (notes : List Note) → HasCalls caller entries [] notes → notes ≡ []
+none_called caller entries [] calls = refl
+none_called caller entries (note ∷ notes) calls = absurd calls
+
+first_called : (caller : ℕ) (done : List Entry) (e : Entry) (es : List Entry) (note : Note) → slice_get (done ++ e ∷ es) (length done) ≡ Some (caller, note) → note ≡ e.1
+first_called caller done e es note at = sym (ap (λ (x : Entry). x.1) (some_is e (caller, note) (sym (seam done e es) ∙ at)))
+
+called_if : (b : Bool) (w : World) (caller : ℕ) (done : List Entry) (e : Entry) (es : List Entry) (notes : List Note) →
+    HasCalls caller (done ++ e ∷ es) (cond b (length done ∷ places caller (suc (length done)) es) (places caller (suc (length done)) es)) notes →
+    ((ns : List Note) → HasCalls caller (done ++ e ∷ es) (places caller (suc (length done)) es) ns → ns ≡ map (λ (m : Made). m.0) (made_by caller (step w e.1).world es)) →
+    notes ≡ map (λ (m : Made). m.0) (cond b ((e.1, (step w e.1).reply) ∷ made_by caller (step w e.1).world es) (made_by caller (step w e.1).world es))
+called_if true w caller done e es [] calls later = absurd calls
+called_if true w caller done e es (note ∷ notes) calls later = ap₂ (λ (x : Note) (xs : List Note). x ∷ xs) (first_called caller done e es note calls.0) (later notes calls.1)
+called_if false w caller done e es notes calls later = later notes calls
+
+called_from : (rest done : List Entry) (w : World) (caller : ℕ) (notes : List Note) → HasCalls caller (done ++ rest) (places caller (length done) rest) notes → notes ≡ map (λ (m : Made). m.0) (made_by caller w rest)
+unfolding made_by
+called_from [] done w caller notes calls = none_called caller (done ++ []) notes calls
+called_from (e ∷ es) done w caller notes calls =
+    called_if (eqb e.0 caller) w caller done e es notes calls
+    (λ ns left. called_from es (done ++ e ∷ []) (step w e.1).world caller ns (shifted (λ entries own. HasCalls caller entries own ns) caller done e es left))
+
+-- the calls at the places of a caller, which a seat has seen, are all that it made
+pub all_called : (seen entries : List Entry) (w : World) (caller : ℕ) (notes : List Note) → IsPrefix seen entries → HasCalls caller seen (places_of caller entries) notes → notes ≡ map (λ (m : Made). m.0) (made_by caller w entries)
+all_called seen entries w caller notes p calls = called_from entries [] w caller notes (calls_longer caller seen entries (places_of caller entries) notes p calls)

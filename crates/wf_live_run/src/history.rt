@@ -16,6 +16,7 @@ use wf_io::{Failed, Sink};
 use wf_report::summary;
 
 /// The history that a cell keeps.
+#[derive(Drop)]
 pub(crate) struct Kept<'a> {
     cell: &'a Cell,
 }
