@@ -1,21 +1,16 @@
 -- What the workers of `live` have done at a gate before a cell, as their seats tell it.
-use Rattle.std.specs.Prelude.{◌≡◌, ◌⊎◌, ℕ, ◌+◌, ◌-◌, ◌<◌, ◌≤◌, List, [], ◌∷◌, ◌++◌, map, take, replicate, Option, Some, None, slice_get}
-use Rattle.std.specs.Global.{Box}
-use Rattle.wf_frame.specs.Answers.{reply_of}
-use Rattle.wf_frame.specs.declared.answers.Answer.{Answer}
+use Rattle.std.specs.Prelude.{◌≡◌, ◌⊎◌, ℕ, ◌+◌, ◌-◌, ◌<◌, ◌≤◌, List, [], ◌∷◌, ◌++◌, take, replicate, Some, slice_get}
 use Rattle.wf_frame.specs.declared.classes.Class.{Class}
 use Rattle.wf_frame.specs.declared.classes.Class.TheVariants.{Bk, Be, Vi, Vo}
 use Rattle.wf_frame.specs.declared.notes.Note.{Note}
-use Rattle.wf_frame.specs.declared.notes.Refusal.TheVariants.{Nothing}
 use Rattle.wf_frame.specs.declared.notes.ReplyNote.{ReplyNote}
-use Rattle.wf_frame.specs.declared.notes.ReplyNote.TheVariants.{Refused}
 use Rattle.wf_rules.specs.Table.{at}
 use Rattle.wf_world.specs.World.{opening}
 use Rattle.wf_world.specs.Step.{step}
 use Rattle.wf_world.specs.Run.{Entry, world_after}
-use Rattle.wf_gate.specs.Seats.{GateView, SeatView, IsOf, new_seat}
+use Rattle.wf_gate.specs.Seats.{GateView, SeatView, HasCalls}
 use Rattle.wf_cell.specs.Cells.{CellValue}
-use Rattle.wf_workers.specs.Workloads.{Made, Driver, IsWalk, walked, driver_of, sender_calls}
+use Rattle.wf_workers.specs.Workloads.{Made, IsWalk, walked, driver_of, sender_calls}
 use Rattle.wf_workers.specs.Workloads.Phase.{Ends}
 
 -- a gate before a cell, and a seat at it
@@ -42,10 +37,6 @@ driver_quota = 150000
 abbrev pub quotas_of : ℕ → ℕ → List ℕ
 quotas_of senders frames = replicate senders (frames + 1) ++ replicate driver_count driver_quota
 
--- a seat of this gate, of which nothing was made
-pub record IsUnused (g : CellGate) (s : CellSeat) : Type 0 where
-  pub is_new : s ≡ new_seat g s.number
-
 -- ---- what a seat has made
 
 -- the right reply to a call, where it stands at this place of the entries made since the gate was
@@ -60,34 +51,18 @@ StandAt g caller entries (place ∷ places) (m ∷ ms) =
     (slice_get entries place ≡ Some (caller, m.0)) × (m.1 ≡ reply_at g entries place m.0) × StandAt g caller entries places ms
 StandAt g caller entries _ _ = ⊥
 
--- all calls of a seat of this gate, with their replies
-pub record HasMade (s : CellSeat) (g : CellGate) (made : List Made) : Type 0 where
-  pub is_of : IsOf g s
-  pub stand : StandAt g s.number s.seen s.own made
+-- a sender's seat: at the places of its own calls stands its list, whole and in order
+abbrev pub HasSent : ℕ → ℕ → CellSeat → Type 0
+HasSent seed frames s = HasCalls s.number s.seen s.own (sender_calls seed s.number frames)
 
--- how many calls it may still make
-abbrev pub left_of : CellSeat → ℕ
-left_of s = s.quota - s.used
-
--- the reply that an answer's box has, where the box is there
-abbrev pub reply_in : Option (Box Answer) → ReplyNote
-reply_in (Some answer) = reply_of answer.value
-reply_in None = Refused Nothing
-
--- the calls of a sender, whole and in order
-pub record HasSent (g : CellGate) (seed frames : ℕ) (s : CellSeat) : Type 0 where
-  pub made : List Made
-  pub has_made : HasMade s g made
-  pub whole : map (λ m. m.0) made ≡ sender_calls seed s.number frames
-
--- the calls of a driver are a walk, which ended, or led on until no call was left
+-- a driver's seat: its calls, with the replies that are right there, are a walk, which ended, or led on until no call was left
 pub record HasDriven (g : CellGate) (seed senders driver : ℕ) (s : CellSeat) : Type 0 where
   pub made : List Made
-  pub has_made : HasMade s g made
+  pub stand : StandAt g s.number s.seen s.own made
   pub walk : IsWalk (driver_of seed driver (class_of driver) senders) made
   pub ended : ((walked (driver_of seed driver (class_of driver) senders) made).phase ≡ Ends) ⊎ (s.used ≡ s.quota)
 
--- the work of a seat is done: the first ones are the senders', and those behind them the drivers'
+-- the work of a seat is done: the first seats are the senders', and those behind them the drivers'
 pub record IsWorked (g : CellGate) (seed senders frames : ℕ) (s : CellSeat) : Type 0 where
-  pub sender : s.number < senders → HasSent g seed frames s
+  pub sender : s.number < senders → HasSent seed frames s
   pub driver : senders ≤ s.number → HasDriven g seed senders (s.number - senders) s

@@ -5,7 +5,7 @@ ghost use Rattle.wf_frame.specs.Answers.{reply_of};
 ghost use Rattle.wf_gate.specs.Seats.{IsOf, IsSameSeat};
 ghost use Rattle.wf_path.specs.Jobs.{note_of};
 ghost use Rattle.wf_workers.specs.Desks.{Adds, Refuses};
-ghost use Rattle.wf_crew.specs.Crew.{HasMade, left_of};
+ghost use Rattle.wf_crew.specs.Sitting.{HasMade, left_of};
 
 use std::alloc::Global;
 use std::sync::Wait;

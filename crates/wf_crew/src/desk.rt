@@ -4,7 +4,7 @@ ghost use Rattle.std.specs.Prelude.{◌≡◌, is_some, true, OnOk, OnErr, IfOk,
 ghost use Rattle.wf_gate.specs.Seats.{IsOf};
 ghost use Rattle.wf_path.specs.Jobs.{note_of};
 ghost use Rattle.wf_workers.specs.Desks.{Adds, Refuses};
-ghost use Rattle.wf_crew.specs.Crew.{HasMade, left_of, reply_in};
+ghost use Rattle.wf_crew.specs.Sitting.{HasMade, left_of, reply_in};
 
 use crate::calls::{Back, call_at, call_at_once};
 use std::alloc::Global;
@@ -76,7 +76,8 @@ impl<'a, R: Wait, T: Turnstile> GateDesk<'a, R, T> {
 }
 
 impl<'a, R: Wait, T: Turnstile> Desk for GateDesk<'a, R, T> {
-    type Place = Gate<Cell>;
+    // The gate, and the number of the seat.
+    type Place = (Gate<Cell>, u32);
 
     ghost has = { λ desk place made. HasMade desk.seat place made };
 

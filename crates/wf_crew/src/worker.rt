@@ -1,8 +1,9 @@
 //! One worker of a crew.
 
-ghost use Rattle.std.specs.Prelude.{◌≡◌, ◌-◌, ◌+◌, ◌<◌, ◌≤◌, OnOk, IfOk};
+ghost use Rattle.std.specs.Prelude.{◌≡◌, OnOk, IfOk};
 ghost use Rattle.wf_gate.specs.Seats.{IsOf};
-ghost use Rattle.wf_crew.specs.Crew.{IsUnused, IsWorked, HasSent, HasDriven, class_of, driver_count};
+ghost use Rattle.wf_crew.specs.Crew.{class_of};
+ghost use Rattle.wf_crew.specs.Sitting.{IsReady, IsDone};
 
 use crate::desk::GateDesk;
 use std::alloc::{AllocError, Global};
@@ -49,6 +50,7 @@ impl<'a, R: Wait, T: Turnstile> GateDesk<'a, R, T> {
     ) -> Result<GateDesk<'a, R, T>, AllocError>
         requires own { IsOf gate.now seat }
         ensures seat { IfOk result (λ desk. desk.seat ≡ seat) }
+        ensures gate { IfOk result (λ desk. desk.gate.now ≡ gate.now) }
     {
         let answer = Some(Box::new(alloc, Answer::new())?);
         Ok(GateDesk {
@@ -61,7 +63,25 @@ impl<'a, R: Wait, T: Turnstile> GateDesk<'a, R, T> {
     }
 }
 
-/// A worker makes its calls and gives its seat back: a sender where the seat is one of the first, and else a driver.
+// Makes a worker's calls: a sender's where the seat is one of the first, and else a driver's.
+fn make_calls<R: Wait, T: Turnstile>(
+    desk: &mut GateDesk<'_, R, T>,
+    alloc: Global,
+    plan: Plan,
+) -> Result<(), AllocError>
+    requires { IsReady desk.old.gate.now plan.senders plan.frames desk.old.seat }
+    ensures { OnOk result (IsDone desk.old.gate.now plan.seed plan.senders plan.frames desk.old.seat desk.new.seat) }
+{
+    let number = desk.seat.number();
+    if number < plan.senders {
+        return send(desk, alloc, plan.seed, number as u16, plan.frames);
+    }
+    let driver = (number - plan.senders) as u16;
+    drive(desk, plan.seed, driver, class_of(driver), plan.senders);
+    Ok(())
+}
+
+/// A worker makes its calls and gives its seat back. Where it finds no memory, the seat is dropped.
 pub(crate) fn run_worker<R: Wait, T: Turnstile>(
     rt: &R,
     alloc: Global,
@@ -70,22 +90,11 @@ pub(crate) fn run_worker<R: Wait, T: Turnstile>(
     seat: Seat<Cell>,
     plan: Plan,
 ) -> Result<Seat<Cell>, AllocError>
-    requires unused { IsUnused gate.now seat }
-    requires number { seat.number < plan.senders + driver_count }
-    requires few { plan.senders ≤ 8 }
-    requires quota { seat.number < plan.senders → plan.frames < seat.quota }
-    ensures own { IfOk result (IsOf gate.now) }
-    ensures same { IfOk result (λ s. s.number ≡ seat.number) }
-    ensures worked { IfOk result (IsWorked gate.now plan.seed plan.senders plan.frames) }
+    requires { IsReady gate.now plan.senders plan.frames seat }
+    ensures { IfOk result (IsDone gate.now plan.seed plan.senders plan.frames seat) }
 {
-    let number = seat.number();
     let mut desk = GateDesk::new(rt, alloc, gate, turnstile, seat)?;
-    if number < plan.senders {
-        send(&mut desk, alloc, plan.seed, number as u16, plan.frames)?;
-    } else {
-        let driver = (number - plan.senders) as u16;
-        drive(&mut desk, plan.seed, driver, class_of(driver), plan.senders);
-    }
+    make_calls(&mut desk, alloc, plan)?;
     let GateDesk {
         rt: _,
         gate: _,

@@ -1,0 +1,40 @@
+-- For the contracts of a worker's parts: what a seat is to a worker that sits there.
+use Rattle.std.specs.Prelude.{◌≡◌, ℕ, ◌+◌, ◌-◌, ◌<◌, ◌≤◌, List, Option, Some, None}
+use Rattle.std.specs.Global.{Box}
+use Rattle.wf_frame.specs.Answers.{reply_of}
+use Rattle.wf_frame.specs.declared.answers.Answer.{Answer}
+use Rattle.wf_frame.specs.declared.notes.Refusal.TheVariants.{Nothing}
+use Rattle.wf_frame.specs.declared.notes.ReplyNote.{ReplyNote}
+use Rattle.wf_frame.specs.declared.notes.ReplyNote.TheVariants.{Refused}
+use Rattle.wf_gate.specs.Seats.{IsOf, new_seat}
+use Rattle.wf_workers.specs.Workloads.{Made}
+use Rattle.wf_crew.specs.Crew.{CellGate, CellSeat, StandAt, IsWorked, driver_count}
+
+-- a seat at a gate has this number, and these are all its calls, each with the right reply
+pub record HasMade (s : CellSeat) (place : CellGate × ℕ) (made : List Made) : Type 0 where
+  pub is_of : IsOf place.0 s
+  pub number : s.number ≡ place.1
+  pub within : s.used ≤ s.quota
+  pub stand : StandAt place.0 s.number s.seen s.own made
+
+-- how many calls it may still make
+abbrev pub left_of : CellSeat → ℕ
+left_of s = s.quota - s.used
+
+-- the reply that an answer has, where its box is there
+abbrev pub reply_in : Option (Box Answer) → ReplyNote
+reply_in (Some answer) = reply_of answer.value
+reply_in None = Refused Nothing
+
+-- a seat of a crew as it came from a new gate: a sender's has a call for each frame, and one more
+pub record IsReady (g : CellGate) (senders frames : ℕ) (s : CellSeat) : Type 0 where
+  pub is_new : s ≡ new_seat g s.number
+  pub inside : s.number < senders + driver_count
+  pub few : senders ≤ 8
+  pub quota : s.number < senders → frames < s.quota
+
+-- the seat after its work
+pub record IsDone (g : CellGate) (seed senders frames : ℕ) (old new : CellSeat) : Type 0 where
+  pub is_of : IsOf g new
+  pub same : new.number ≡ old.number
+  pub worked : IsWorked g seed senders frames new
