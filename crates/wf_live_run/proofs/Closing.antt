@@ -1,7 +1,7 @@
 -- What the workers did, once all seats are back.
-use Rattle.std.proofs.Common.{◌≡◌, ℕ, ◌+◌, ◌-◌, ◌<◌, ◌≤◌, List, [], ◌∷◌, ◌++◌, length, map, replicate, refl, sym, ◌∙◌, ap, subst, length-append, arith}
+use Rattle.std.proofs.Common.{◌≡◌, ℕ, ◌+◌, ◌-◌, ◌<◌, ◌≤◌, List, [], ◌∷◌, ◌++◌, length, map, replicate, refl, sym, ◌∙◌, ap, subst, length-append, arith, inl, inr}
 use Rattle.std.specs.Prelude.{◌⊎◌, All, slice_index_or}
-use Rattle.std.proofs.lemmas.List.{length-replicate}
+use Rattle.std.proofs.lemmas.List.{length-replicate, get_or-append-add, get_or-replicate}
 use mathlib.Core.List.{IsPrefix}
 use Rattle.wf_frame.specs.Settings.{standard}
 use Rattle.wf_world.specs.World.{World, opening}
@@ -21,6 +21,16 @@ count_of senders frames =
     let first = length-replicate senders (frames + 1) in
     let last = length-replicate driver_count driver_quota in
     omega (arith, all, first, last)
+
+quota_behind : (n i a b d : ℕ) (m : ℕ) → i < m → slice_index_or (replicate n a ++ replicate m b) (n + i) d ≡ b
+quota_behind n i a b d m below =
+    let first = length-replicate n a in
+    let there : n + i ≡ length (replicate n a) + i = omega (arith, first) in
+    ap (λ k. slice_index_or (replicate n a ++ replicate m b) k d) there ∙ get_or-append-add (replicate n a) (replicate m b) i d ∙ get_or-replicate m i b d below
+
+ended_by : {q : ℕ} (P : Type 0) (made : List Made) → q ≡ driver_quota → P ⊎ (length made ≡ q) → P ⊎ (length made ≡ driver_quota)
+ended_by P made is (inl over) = inl over
+ended_by P made is (inr spent) = inr (spent ∙ is)
 
 module _ (g : CellGate) (seed senders frames : ℕ) (calls : List Entry) (seats : List CellSeat)
     (opened : g.opening.machine.past ≡ record { config = standard; history = opening_calls senders })
@@ -69,6 +79,11 @@ module _ (g : CellGate) (seed senders frames : ℕ) (calls : List Entry) (seats 
       subst (λ k. map (λ (m : Made). m.0) (made_by k (opened_world senders) calls) ≡ sender_calls seed k frames) h.numbered
       (sym (all_called h.s.seen calls (opened_world senders) h.s.number (sender_calls seed h.s.number frames) h.sees sent))
 
+  quota_is : (driver : ℕ) → driver < driver_count → (h : HasSeat (senders + driver)) → slice_index_or g.opening.quotas h.s.number 0 ≡ driver_quota
+  quota_is driver below h =
+      ap (λ (l : List ℕ). slice_index_or l h.s.number 0) quotas ∙ ap (λ k. slice_index_or (quotas_of senders frames) k 0) h.numbered
+      ∙ quota_behind senders driver (frames + 1) driver_quota 0 driver_count below
+
   has_driven : (driver : ℕ) → driver < driver_count → IsDriven (driver_of seed driver (class_of driver) senders) (made_by (senders + driver) (opened_world senders) calls)
   has_driven driver below =
       let n = senders + driver in
@@ -76,7 +91,7 @@ module _ (g : CellGate) (seed senders frames : ℕ) (calls : List Entry) (seats 
       let behind : h.s.number - senders ≡ driver = omega (arith, h.numbered) in
       let driven : HasDriven g seed senders driver h.s = subst (λ d. HasDriven g seed senders d h.s) behind (h.works.driver (omega (arith, h.numbered))) in
       subst (IsDriven (driver_of seed driver (class_of driver) senders)) (made_is n h driven.made driven.stand)
-      (record { walk = driven.walk; ended = driven.ended })
+      (record { walk = driven.walk; ended = ended_by ((walked (driver_of seed driver (class_of driver) senders) driven.made).phase ≡ Ends) driven.made (driven.allotted ∙ quota_is driver below h) driven.ended })
 
   pub is_live : (history : List Entry) → history ≡ g.opening.machine.past.history ++ calls → length history ≤ standard.calls → AreOfSeats g calls → IsLive seed senders frames history
   is_live history is few callers = record {

@@ -1,3 +1,3 @@
 mod Places
 mod Closing
-mod Printable
+pub mod Printable

@@ -6,3 +6,4 @@ pub mod Complete
 pub mod Ranges
 pub mod Numerals
 pub mod SoakText
+mod LiveText

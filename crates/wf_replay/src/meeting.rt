@@ -1,12 +1,12 @@
 //! The workers of `live` are inside at once, and the history that is written is made of their calls at the gate.
 
-use crate::{Status, run};
+use crate::{Status, replay, run};
 use std::alloc::{AllocError, Global};
 use std::sync::atomic::{AtomicU64, Ordering};
 use std::test::Fail;
 use std::thread;
 use wf_io::{Given, Kept};
-use wf_turnstile::Turnstile;
+use wf_turnstile::{Free, Turnstile};
 
 /// How often a worker turns at most while it waits for another.
 const TURNS: u64 = 100_000_000;
@@ -141,16 +141,45 @@ fn lines_of(trace: &[u8], worker: u32) -> (u64, u64) {
     (lines, dones)
 }
 
+/// What stands behind the trace.
+fn summary_in(text: &[u8]) -> &[u8] {
+    for place in 0..text.len() {
+        if let Some(summary) = text[place..].strip_prefix(b"\nend\n") {
+            return summary;
+        }
+    }
+    &[]
+}
+
+fn live_words(alloc: Global, senders: &str, frames: &str) -> Result<Vec<String>, AllocError> {
+    let mut words = Vec::new(alloc);
+    for word in ["live", "7", senders, frames] {
+        words.push(word.to_string(alloc)?)?;
+    }
+    Ok(words)
+}
+
+#[test]
+fn a_run_on_threads_is_replayed(rt: HostRuntime) -> Result<(), Fail> {
+    let mut source = Given::new(Vec::new(rt.alloc()), 16, Vec::new(rt.alloc()));
+    let mut sink = Kept::new(rt.alloc(), 1 << 24, 65_536, Vec::new(rt.alloc()))?;
+    let words = live_words(rt.alloc(), "4", "1000")?;
+    assert!(rt; run(&rt, rt.alloc(), &words, &mut source, &mut sink, &Free) == Status::Done);
+    let summary = summary_in(sink.octets());
+    assert!(rt; !summary.is_empty());
+    let mut trace = Given::new(sink.octets().to_vec(rt.alloc())?, 65_536, Vec::new(rt.alloc()));
+    let mut answers = Kept::new(rt.alloc(), 1 << 25, 65_536, Vec::new(rt.alloc()))?;
+    assert!(rt; replay(rt.alloc(), &mut trace, &mut answers) == Status::Done);
+    assert!(rt; answers.octets().ends_with(summary));
+    Ok(())
+}
+
 #[test]
 fn workers_meet(rt: HostRuntime) -> Result<(), Fail> {
     let meeting = Meeting::new(rt.alloc())?;
     let mut source = Given::new(Vec::new(rt.alloc()), 16, Vec::new(rt.alloc()));
     let mut sink = Kept::new(rt.alloc(), 1 << 24, 65_536, Vec::new(rt.alloc()))?;
-    let mut words = Vec::new(rt.alloc());
-    words.push("live".to_string(rt.alloc())?)?;
-    words.push("7".to_string(rt.alloc())?)?;
-    words.push("2".to_string(rt.alloc())?)?;
-    words.push("30".to_string(rt.alloc())?)?;
+    let words = live_words(rt.alloc(), "2", "30")?;
     assert!(rt; run(&rt, rt.alloc(), &words, &mut source, &mut sink, &meeting) == Status::Done);
     assert_eq!(rt; meeting.missed.load(Ordering::SeqCst), 0);
     for worker in 0..WORKERS {

@@ -1,6 +1,7 @@
 use Rattle.std.proofs.Common.{true}
 use Rattle.wf_replay.proofs.Ranges.{trace_laws}
 use Rattle.wf_replay.proofs.SoakText.{soak_laws, soak_lengths}
+use Rattle.wf_replay.proofs.LiveText.{live_again, live_laws, live_lengths}
 use Rattle.wf_session_run.proofs.Law.{session_law as law_of_session}
 use Rattle.wf_uplink_run.proofs.Scripts.{uplink_law as law_of_uplink}
 use Rattle.wf_frames_run.proofs.Captures.{frames_law as law_of_frames}
@@ -101,3 +102,84 @@ returns-in-Some-Frames-clause-session_law g c = λ input told. law_of_session in
 
 pub returns-in-Some-Frames-clause-uplink_law : goal.returns-in-Some-Frames-clause-uplink_law
 returns-in-Some-Frames-clause-uplink_law g c = λ input told. law_of_uplink input
+
+pub returns-in-None-clause-live_again : goal.returns-in-None-clause-live_again
+returns-in-None-clause-live_again g c = live_again
+
+pub returns-in-None-clause-live_laws : goal.returns-in-None-clause-live_laws
+returns-in-None-clause-live_laws g c = live_laws
+
+pub returns-in-None-clause-live_lengths : goal.returns-in-None-clause-live_lengths
+returns-in-None-clause-live_lengths g c = live_lengths
+
+pub returns-in-Some-Replay-clause-live_again : goal.returns-in-Some-Replay-clause-live_again
+returns-in-Some-Replay-clause-live_again g c = live_again
+
+pub returns-in-Some-Replay-clause-live_laws : goal.returns-in-Some-Replay-clause-live_laws
+returns-in-Some-Replay-clause-live_laws g c = live_laws
+
+pub returns-in-Some-Replay-clause-live_lengths : goal.returns-in-Some-Replay-clause-live_lengths
+returns-in-Some-Replay-clause-live_lengths g c = live_lengths
+
+pub returns-in-Some-Soak-clause-live_again : goal.returns-in-Some-Soak-clause-live_again
+returns-in-Some-Soak-clause-live_again g c = live_again
+
+pub returns-in-Some-Soak-clause-live_laws : goal.returns-in-Some-Soak-clause-live_laws
+returns-in-Some-Soak-clause-live_laws g c = live_laws
+
+pub returns-in-Some-Soak-clause-live_lengths : goal.returns-in-Some-Soak-clause-live_lengths
+returns-in-Some-Soak-clause-live_lengths g c = live_lengths
+
+pub returns-in-Some-Live-clause-live_again : goal.returns-in-Some-Live-clause-live_again
+returns-in-Some-Live-clause-live_again g c = live_again
+
+pub returns-in-Some-Live-clause-live_laws : goal.returns-in-Some-Live-clause-live_laws
+returns-in-Some-Live-clause-live_laws g c = live_laws
+
+pub returns-in-Some-Live-clause-live_lengths : goal.returns-in-Some-Live-clause-live_lengths
+returns-in-Some-Live-clause-live_lengths g c = live_lengths
+
+pub returns-in-Some-Session-clause-live_again : goal.returns-in-Some-Session-clause-live_again
+returns-in-Some-Session-clause-live_again g c = live_again
+
+pub returns-in-Some-Session-clause-live_laws : goal.returns-in-Some-Session-clause-live_laws
+returns-in-Some-Session-clause-live_laws g c = live_laws
+
+pub returns-in-Some-Session-clause-live_lengths : goal.returns-in-Some-Session-clause-live_lengths
+returns-in-Some-Session-clause-live_lengths g c = live_lengths
+
+pub returns-in-Some-Uplink-clause-live_again : goal.returns-in-Some-Uplink-clause-live_again
+returns-in-Some-Uplink-clause-live_again g c = live_again
+
+pub returns-in-Some-Uplink-clause-live_laws : goal.returns-in-Some-Uplink-clause-live_laws
+returns-in-Some-Uplink-clause-live_laws g c = live_laws
+
+pub returns-in-Some-Uplink-clause-live_lengths : goal.returns-in-Some-Uplink-clause-live_lengths
+returns-in-Some-Uplink-clause-live_lengths g c = live_lengths
+
+pub returns-in-Some-Frames-clause-live_again : goal.returns-in-Some-Frames-clause-live_again
+returns-in-Some-Frames-clause-live_again g c = live_again
+
+pub returns-in-Some-Frames-clause-live_laws : goal.returns-in-Some-Frames-clause-live_laws
+returns-in-Some-Frames-clause-live_laws g c = live_laws
+
+pub returns-in-Some-Frames-clause-live_lengths : goal.returns-in-Some-Frames-clause-live_lengths
+returns-in-Some-Frames-clause-live_lengths g c = live_lengths
+
+pub returns-in-Some-Live-clause-laws : goal.returns-in-Some-Live-clause-laws
+returns-in-Some-Live-clause-laws g c = λ input told. trace_laws true input
+
+pub returns-in-Some-Live-clause-soak_laws : goal.returns-in-Some-Live-clause-soak_laws
+returns-in-Some-Live-clause-soak_laws g c = soak_laws
+
+pub returns-in-Some-Live-clause-soak_lengths : goal.returns-in-Some-Live-clause-soak_lengths
+returns-in-Some-Live-clause-soak_lengths g c = soak_lengths
+
+pub returns-in-Some-Live-clause-session_law : goal.returns-in-Some-Live-clause-session_law
+returns-in-Some-Live-clause-session_law g c = λ input told. law_of_session input
+
+pub returns-in-Some-Live-clause-uplink_law : goal.returns-in-Some-Live-clause-uplink_law
+returns-in-Some-Live-clause-uplink_law g c = λ input told. law_of_uplink input
+
+pub returns-in-Some-Live-clause-frames_law : goal.returns-in-Some-Live-clause-frames_law
+returns-in-Some-Live-clause-frames_law g c = λ input told. law_of_frames input
