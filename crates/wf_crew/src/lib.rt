@@ -4,8 +4,6 @@
 mod calls;
 mod crew;
 mod desk;
-#[cfg(test)]
-mod tests;
 mod worker;
 
 pub use crew::work;
