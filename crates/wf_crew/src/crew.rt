@@ -15,7 +15,7 @@ use wf_gate::{Gate, Seat};
 use wf_turnstile::Turnstile;
 
 // All values, where there is no error among them.
-fn all_of<V: Drop>(alloc: Global, results: Vec<Result<V, AllocError>>) -> Result<Vec<V>, AllocError>
+pub(crate) fn all_of<V: Drop>(alloc: Global, results: Vec<Result<V, AllocError>>) -> Result<Vec<V>, AllocError>
     ensures { IfOk result (λ values. results.items ≡ map (λ v. Ok v) values.items) }
 {
     let mut values = Vec::with_capacity(alloc, results.len())?;
@@ -34,7 +34,7 @@ fn run_all<R: Threads + Wait + Sync, T: Turnstile + Sync>(
     seats: Vec<Seat<Cell>>,
     plan: Plan,
 ) -> Result<Vec<Result<Seat<Cell>, AllocError>>, AllocError>
-    requires { All (IsReady gate.now plan.senders plan.frames) seats.items }
+    requires ready { All (IsReady gate.now plan.senders plan.frames) seats.items }
     ensures count { IfOk result (λ back. length back.items ≡ length seats.items) }
     ensures each { IfOk result (λ back. AreDone gate.now plan.seed plan.senders plan.frames seats.items back.items) }
 {

@@ -4,6 +4,8 @@
 mod calls;
 mod crew;
 mod desk;
+#[cfg(test)]
+mod tests;
 mod worker;
 
 pub use crew::work;

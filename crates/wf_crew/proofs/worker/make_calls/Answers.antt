@@ -1,5 +1,5 @@
 use Rattle.std.proofs.Common.{rules}
-use Rattle.wf_crew.proofs.Workers.{on_ok, sent, driven, room_to_send}
+use Rattle.wf_crew.proofs.Workers.{on_ok, sent, driven}
 use Rattle.wf_crew.proofs.worker.make_calls.Goals as goal
 
 pub returns-then-number-plan : goal.returns-then-number-plan
