@@ -1,2 +1,2 @@
 mod Standing
-mod Work
+mod Workers

@@ -1,5 +1,5 @@
 -- For the contracts of a worker's parts: what a seat is to a worker that sits there.
-use Rattle.std.specs.Prelude.{◌≡◌, ℕ, ◌+◌, ◌-◌, ◌<◌, ◌≤◌, List, Option, Some, None}
+use Rattle.std.specs.Prelude.{◌≡◌, ℕ, ◌+◌, ◌-◌, ◌<◌, ◌≤◌, List, length, slice_index_or, Option, Some, None, Result, IfOk}
 use Rattle.std.specs.Global.{Box}
 use Rattle.wf_frame.specs.Answers.{reply_of}
 use Rattle.wf_frame.specs.declared.answers.Answer.{Answer}
@@ -38,3 +38,8 @@ pub record IsDone (g : CellGate) (seed senders frames : ℕ) (old new : CellSeat
   pub is_of : IsOf g new
   pub same : new.number ≡ old.number
   pub worked : IsWorked g seed senders frames new
+
+-- what the workers give back, each in its place: its seat after its work, where there was memory for it
+abbrev pub AreDone : {E : Type 0} → CellGate → ℕ → ℕ → ℕ → List CellSeat → List (Result CellSeat E) → Type 0
+AreDone {E} g seed senders frames seats back =
+    (k : ℕ) (s : CellSeat) (r : Result CellSeat E) → k < length seats → IfOk (slice_index_or back k r) (IsDone g seed senders frames (slice_index_or seats k s))

@@ -3,6 +3,7 @@
 ghost use Rattle.std.specs.Prelude.{◌≡◌, ◌-◌, ◌≤◌, map, length, All, EachIndex, slice_get, Some, Ok, IfOk};
 ghost use Rattle.wf_gate.specs.Seats.{AreAll, IsOf, new_seat};
 ghost use Rattle.wf_crew.specs.Crew.{IsWorked, driver_count, quotas_of};
+ghost use Rattle.wf_crew.specs.Sitting.{IsReady, AreDone};
 
 use crate::worker::{DRIVERS, Plan, run_worker};
 use std::alloc::{AllocError, Global};
@@ -14,14 +15,35 @@ use wf_gate::{Gate, Seat};
 use wf_turnstile::Turnstile;
 
 // All values, where there is no error among them.
-fn all_of<V: Drop>(alloc: Global, results: Vec<Result<V, AllocError>>) -> Result<Vec<V>, AllocError>
+pub(crate) fn all_of<V: Drop>(alloc: Global, results: Vec<Result<V, AllocError>>) -> Result<Vec<V>, AllocError>
     ensures { IfOk result (λ values. results.items ≡ map (λ v. Ok v) values.items) }
 {
     let mut values = Vec::with_capacity(alloc, results.len())?;
-    for result in results {
-        values.push_reserved(result?);
+    for outcome in results {
+        values.push(outcome?)?;
     }
     Ok(values)
+}
+
+// Each worker works at its seat, on a thread of its own where one can be made.
+fn run_all<R: Threads + Wait + Sync, T: Turnstile + Sync>(
+    rt: &R,
+    alloc: Global,
+    gate: &Gate<Cell>,
+    turnstile: &T,
+    seats: Vec<Seat<Cell>>,
+    plan: Plan,
+) -> Result<Vec<Result<Seat<Cell>, AllocError>>, AllocError>
+    requires ready { All (IsReady gate.now plan.senders plan.frames) seats.items }
+    ensures count { IfOk result (λ back. length back.items ≡ length seats.items) }
+    ensures each { IfOk result (λ back. AreDone gate.now plan.seed plan.senders plan.frames seats.items back.items) }
+{
+    let back = thread::map_vec(
+        rt,
+        seats,
+        &|seat| run_worker(rt, alloc, gate, turnstile, seat, plan),
+    )?;
+    Ok(back)
 }
 
 /// Runs the workers of `live` at the seats of a gate, each on a thread of its own where one can be made, and else on this one, and gives
@@ -58,10 +80,6 @@ pub fn work<R: Threads + Wait + Sync, T: Turnstile + Sync>(
         senders: seats.len() as u32 - DRIVERS,
         frames,
     };
-    let back = thread::map_vec(
-        rt,
-        seats,
-        &|seat| run_worker(rt, alloc, gate, turnstile, seat, plan),
-    )?;
+    let back = run_all(rt, alloc, gate, turnstile, seats, plan)?;
     all_of(alloc, back)
 }

@@ -1,7 +1,8 @@
 -- What a worker made, and what all of them give back.
 use Rattle.std.proofs.Common.{◌≡◌, ℕ, zero, suc, ◌+◌, ◌-◌, ◌<◌, ◌≤◌, List, [], ◌∷◌, ◌++◌, length, get_or, map, replicate, refl, sym, ◌∙◌, ap, subst, arith, inl, inr, Some}
-use Rattle.std.specs.Prelude.{◌⊎◌, All, EachIndex, Result, Ok, Err, IfOk, slice_get}
+use Rattle.std.specs.Prelude.{◌⊎◌, All, EachIndex, Result, Ok, Err, IfOk, OnOk, slice_get}
 use Rattle.std.proofs.lemmas.Option.{get_or_from_slice_get}
+use Rattle.wf_frame.specs.declared.classes.Class.{Class}
 use Rattle.wf_frame.specs.declared.notes.Note.{Note}
 use Rattle.wf_world.specs.Run.{Entry}
 use Rattle.wf_gate.specs.Seats.{IsOf, AreAll, HasCalls, new_seat}
@@ -10,7 +11,7 @@ use Rattle.wf_workers.specs.Workloads.{Made, Driver, IsWalk, walked, driver_of, 
 use Rattle.wf_workers.specs.Workloads.Phase.{Ends}
 use Rattle.wf_workers.specs.Desks.{Makes, Walks}
 use Rattle.wf_crew.specs.Crew.{CellGate, CellSeat, StandAt, HasDriven, IsWorked, class_of, driver_count, quotas_of}
-use Rattle.wf_crew.specs.Sitting.{HasMade, left_of, IsReady, IsDone}
+use Rattle.wf_crew.specs.Sitting.{HasMade, left_of, IsReady, IsDone, AreDone}
 
 -- ---- one worker
 
@@ -41,44 +42,51 @@ ended_of : (from to : Driver) (made : List Made) (s : CellSeat) → walked from 
 ended_of from to made s leads within (inl over) = inl (ap (λ (d : Driver). d.phase) leads ∙ over)
 ended_of from to made s leads within (inr none) = inr (omega arith)
 
-module _ {D : Type 0} (seat_of : D → CellSeat) where
-  pub sent : (g : CellGate) (seed senders frames : ℕ) (a b : D) → IsReady g senders frames (seat_of a) → (seat_of a).number < senders →
-      Makes (λ d place made. HasMade (seat_of d) place made) (λ d. left_of (seat_of d)) a b (sender_calls seed (seat_of a).number frames) → IsDone g seed senders frames (seat_of a) (seat_of b)
-  sent g seed senders frames a b ready below makes =
+-- a fact that goes with what was made
+pub on_ok : {T E P Q : Type 0} (r : Result T E) → OnOk r P → (P → Q) → OnOk r Q
+on_ok (Ok x) p f = f p
+on_ok (Err e) p f = tt
+
+module _ {D : Type 0} (seat_of : D → CellSeat) (g : CellGate) (seed senders frames : ℕ) (a b : D) (ready : IsReady g senders frames (seat_of a)) where
+  pub sent : (n : ℕ) → n ≡ (seat_of a).number → (seat_of a).number < senders → Makes (λ d place made. HasMade (seat_of d) place made) (λ d. left_of (seat_of d)) a b (sender_calls seed n frames) →
+      IsDone g seed senders frames (seat_of a) (seat_of b)
+  sent n is below makes =
       let old : CellSeat = seat_of a in
       let new : CellSeat = seat_of b in
       let had : HasMade new (g, old.number) makes.made = makes.has_them (g, old.number) [] (begun g senders frames old ready) in
-      let calls : HasCalls new.number new.seen new.own (sender_calls seed old.number frames) =
+      let calls : HasCalls new.number new.seen new.own (sender_calls seed n frames) =
       subst (λ (l : List Note). HasCalls new.number new.seen new.own l) makes.notes_are (calls_of g new.number new.seen new.own makes.made had.stand) in
       record {
         is_of = had.is_of;
         same = had.number;
         worked = record {
-          sender = λ _. subst (λ (n : ℕ). HasCalls new.number new.seen new.own (sender_calls seed n frames)) (sym had.number) calls;
+          sender = λ _. subst (λ (k : ℕ). HasCalls new.number new.seen new.own (sender_calls seed k frames)) (is ∙ sym had.number) calls;
           driver = λ above. absurd (let same : new.number ≡ old.number = had.number in omega arith);
         };
       }
 
-  pub driven : (g : CellGate) (seed senders frames : ℕ) (a b : D) → IsReady g senders frames (seat_of a) → senders ≤ (seat_of a).number →
-      ((to : Driver) × Walks (λ d place made. HasMade (seat_of d) place made) (λ d. left_of (seat_of d)) a b (driver_of seed ((seat_of a).number - senders) (class_of ((seat_of a).number - senders)) senders) to
-      × ((to.phase ≡ Ends) ⊎ (left_of (seat_of b) ≡ 0))) → IsDone g seed senders frames (seat_of a) (seat_of b)
-  driven g seed senders frames a b ready above walk =
+  pub driven : (n : ℕ) (class : Class) → n ≡ (seat_of a).number - senders → class ≡ class_of n → senders ≤ (seat_of a).number →
+      ((to : Driver) × Walks (λ d place made. HasMade (seat_of d) place made) (λ d. left_of (seat_of d)) a b (driver_of seed n class senders) to × ((to.phase ≡ Ends) ⊎ (left_of (seat_of b) ≡ 0))) →
+      IsDone g seed senders frames (seat_of a) (seat_of b)
+  driven n class is its above walk =
       let old : CellSeat = seat_of a in
       let new : CellSeat = seat_of b in
       let walks = walk.1 in
       let had : HasMade new (g, old.number) walks.made = walks.has_them (g, old.number) [] (begun g senders frames old ready) in
-      let drives : HasDriven g seed senders (old.number - senders) new = record {
+      let from : Driver = driver_of seed n class senders in
+      let same : from ≡ driver_of seed n (class_of n) senders = ap (λ (c : Class). driver_of seed n c senders) its in
+      let drives : HasDriven g seed senders n new = record {
         made = walks.made;
         stand = had.stand;
-        walk = walks.walk;
-        ended = ended_of (driver_of seed (old.number - senders) (class_of (old.number - senders)) senders) walk.0 walks.made new walks.leads had.within walk.2;
+        walk = subst (λ (d : Driver). IsWalk d walks.made) same walks.walk;
+        ended = ended_of (driver_of seed n (class_of n) senders) walk.0 walks.made new (ap (λ (d : Driver). walked d walks.made) (sym same) ∙ walks.leads) had.within walk.2;
       } in
       record {
         is_of = had.is_of;
         same = had.number;
         worked = record {
-          sender = λ below. absurd (let same : new.number ≡ old.number = had.number in omega arith);
-          driver = λ _. subst (λ (n : ℕ). HasDriven g seed senders (n - senders) new) (sym had.number) drives;
+          sender = λ below. absurd (let as_before : new.number ≡ old.number = had.number in omega arith);
+          driver = λ _. subst (λ (k : ℕ). HasDriven g seed senders k new) (is ∙ ap (λ (k : ℕ). k - senders) (sym had.number)) drives;
         };
       }
 
@@ -91,9 +99,10 @@ quota_at (suc n) (suc i) a d rest below = quota_at n i a d rest (omega arith)
 
 -- the seats of a new gate are ready
 module _ (g : CellGate) (frames : ℕ) (seats : List CellSeat) (new : EachIndex g.opening.quotas (λ k. slice_get seats k ≡ Some (new_seat g k))) (count : length seats ≡ length g.opening.quotas) where
-  pub ready : 5 ≤ length seats → length seats ≤ 12 → g.opening.quotas ≡ quotas_of (length seats - driver_count) frames → (i : ℕ) (s : CellSeat) → i < length seats → s ≡ get_or seats i s → IsReady g (length seats - driver_count) frames s
-  ready least most quotas i s below at =
-      let here : s ≡ new_seat g i = at ∙ get_or_from_slice_get seats i (new_seat g i) s (new i (omega arith)) in
+  pub all_ready : (senders : ℕ) → senders ≡ length seats - driver_count → 5 ≤ length seats → length seats ≤ 12 → g.opening.quotas ≡ quotas_of (length seats - driver_count) frames → All (IsReady g senders frames) seats
+  all_ready senders those least most quotas i d below =
+      let s : CellSeat = get_or seats i d in
+      let here : s ≡ new_seat g i = get_or_from_slice_get seats i (new_seat g i) d (new i (omega arith)) in
       let number : s.number ≡ i = ap (λ (x : CellSeat). x.number) here in
       record {
         is_new = here ∙ ap (new_seat g) (sym number);
@@ -140,9 +149,13 @@ numbers_same (x ∷ xs) (y ∷ ys) count same =
 numbers_same [] (y ∷ ys) count same = absurd (omega arith)
 numbers_same (x ∷ xs) [] count same = absurd (omega arith)
 
+pub if_ok : {T E : Type 0} {P Q : T → Type 0} (r : Result T E) → IfOk r P → ((x : T) → P x → Q x) → IfOk r Q
+if_ok (Ok x) p f = f x p
+if_ok (Err e) p f = tt
+
 -- what the seats that come back are, by what each worker made of its own
 module _ (g : CellGate) (seed senders frames : ℕ) (seats back : List CellSeat) {E : Type 0} (results : List (Result CellSeat E)) (whole : results ≡ map (λ v. Ok v) back) (count : length results ≡ length seats)
-    (each : (k : ℕ) (d : CellSeat) (r : Result CellSeat E) → k < length seats → IfOk (get_or results k r) (IsDone g seed senders frames (get_or seats k d))) where
+    (each : AreDone g seed senders frames seats results) where
   done_at : (k : ℕ) (d e : CellSeat) → k < length back → IsDone g seed senders frames (get_or seats k d) (get_or back k e)
   done_at k d e below = each_value (λ n s. IsDone g seed senders frames (get_or seats n d) s) back results whole (λ n r l. each n d r (omega arith)) k e below
 
@@ -161,5 +174,5 @@ module _ (g : CellGate) (seed senders frames : ℕ) (seats back : List CellSeat)
   pub back_all : AreAll g seats → AreAll g back
   back_all all = all_again g seats back same_count same_at all
 
-  pub back_worked : All (IsWorked g seed senders frames) back
-  back_worked k d below = (done_at k d d below).worked
+  pub back_worked : (n : ℕ) → senders ≡ n → All (IsWorked g seed n frames) back
+  back_worked n those k d below = subst (λ (m : ℕ). IsWorked g seed m frames (get_or back k d)) those (done_at k d d below).worked
