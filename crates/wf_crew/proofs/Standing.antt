@@ -1,6 +1,6 @@
 -- One call more of a seat.
 use Rattle.std.proofs.Common.{◌≡◌, ℕ, zero, suc, ◌+◌, ◌-◌, ◌<◌, List, [], ◌∷◌, ◌++◌, length, length-append, take, refl, sym, ◌∙◌, ap, subst, arith, Some}
-use Rattle.std.specs.Prelude.{slice_get}
+use Rattle.std.specs.Prelude.{slice_get, slice_index_or}
 use mathlib.Core.List.{IsPrefix}
 use Rattle.wf_frame.specs.declared.notes.Note.{Note}
 use Rattle.wf_frame.specs.declared.notes.ReplyNote.{ReplyNote}
@@ -86,6 +86,8 @@ one_more gate old new note reply own same below more pre ends grown right = reco
         is_of = (same.table ∙ had.is_of.0, same.opening ∙ had.is_of.1);
         number = same.number ∙ had.number;
         within = omega (arith, same.quota, more, below);
+        counted = omega (arith, more, had.counted, length-append made ((note, reply) ∷ []));
+        allotted = same.quota ∙ had.allotted ∙ ap (λ n. slice_index_or place.0.opening.quotas n 0) (sym same.number);
         stand = subst (λ (n : ℕ). StandAt place.0 n new.seen new.own (made ++ (note, reply) ∷ [])) (sym same.number) stands;
       };
 }

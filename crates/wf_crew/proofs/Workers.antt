@@ -25,6 +25,8 @@ begun g senders frames s ready =
       is_of = (ap (λ (x : CellSeat). x.table) ready.is_new, ap (λ (x : CellSeat). x.opening) ready.is_new);
       number = refl;
       within = omega arith;
+      counted = none;
+      allotted = ap (λ (x : CellSeat). x.quota) ready.is_new;
       stand = subst (λ (l : List ℕ). StandAt g s.number s.seen l []) (sym (ap (λ (x : CellSeat). x.own) ready.is_new)) tt;
     }
 
@@ -38,9 +40,9 @@ calls_of g caller entries (p ∷ ps) (m ∷ ms) r = (r.0, calls_of g caller entr
 calls_of g caller entries [] (m ∷ ms) r = r
 calls_of g caller entries (p ∷ ps) [] r = r
 
-ended_of : (from to : Driver) (made : List Made) (s : CellSeat) → walked from made ≡ to → s.used ≤ s.quota → (to.phase ≡ Ends) ⊎ (left_of s ≡ 0) → ((walked from made).phase ≡ Ends) ⊎ (s.used ≡ s.quota)
-ended_of from to made s leads within (inl over) = inl (ap (λ (d : Driver). d.phase) leads ∙ over)
-ended_of from to made s leads within (inr none) = inr (omega arith)
+ended_of : (from to : Driver) (made : List Made) (s : CellSeat) → walked from made ≡ to → s.used ≤ s.quota → s.used ≡ length made → (to.phase ≡ Ends) ⊎ (left_of s ≡ 0) → ((walked from made).phase ≡ Ends) ⊎ (length made ≡ s.quota)
+ended_of from to made s leads within count (inl over) = inl (ap (λ (d : Driver). d.phase) leads ∙ over)
+ended_of from to made s leads within count (inr none) = inr (omega arith)
 
 -- a fact that goes with what was made
 pub on_ok : {T E P Q : Type 0} (r : Result T E) → OnOk r P → (P → Q) → OnOk r Q
@@ -79,7 +81,8 @@ module _ {D : Type 0} (seat_of : D → CellSeat) (g : CellGate) (seed senders fr
         made = walks.made;
         stand = had.stand;
         walk = subst (λ (d : Driver). IsWalk d walks.made) same walks.walk;
-        ended = ended_of (driver_of seed n (class_of n) senders) walk.0 walks.made new (ap (λ (d : Driver). walked d walks.made) (sym same) ∙ walks.leads) had.within walk.2;
+        ended = ended_of (driver_of seed n (class_of n) senders) walk.0 walks.made new (ap (λ (d : Driver). walked d walks.made) (sym same) ∙ walks.leads) had.within had.counted walk.2;
+        allotted = had.allotted;
       } in
       record {
         is_of = had.is_of;

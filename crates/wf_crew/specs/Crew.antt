@@ -1,5 +1,5 @@
 -- What the workers of `live` have done at a gate before a cell, as their seats tell it.
-use Rattle.std.specs.Prelude.{◌≡◌, ◌⊎◌, ℕ, ◌+◌, ◌-◌, ◌<◌, ◌≤◌, List, [], ◌∷◌, ◌++◌, take, replicate, Some, slice_get}
+use Rattle.std.specs.Prelude.{◌≡◌, ◌⊎◌, ℕ, ◌+◌, ◌-◌, ◌<◌, ◌≤◌, List, [], ◌∷◌, ◌++◌, length, take, replicate, Some, slice_get, slice_index_or}
 use Rattle.wf_frame.specs.declared.classes.Class.{Class}
 use Rattle.wf_frame.specs.declared.classes.Class.TheVariants.{Bk, Be, Vi, Vo}
 use Rattle.wf_frame.specs.declared.notes.Note.{Note}
@@ -60,7 +60,8 @@ pub record HasDriven (g : CellGate) (seed senders driver : ℕ) (s : CellSeat) :
   pub made : List Made
   pub stand : StandAt g s.number s.seen s.own made
   pub walk : IsWalk (driver_of seed driver (class_of driver) senders) made
-  pub ended : ((walked (driver_of seed driver (class_of driver) senders) made).phase ≡ Ends) ⊎ (s.used ≡ s.quota)
+  pub ended : ((walked (driver_of seed driver (class_of driver) senders) made).phase ≡ Ends) ⊎ (length made ≡ s.quota)
+  pub allotted : s.quota ≡ slice_index_or g.opening.quotas s.number 0
 
 -- the work of a seat is done: the first seats are the senders', and those behind them the drivers'
 pub record IsWorked (g : CellGate) (seed senders frames : ℕ) (s : CellSeat) : Type 0 where

@@ -1,5 +1,5 @@
 -- For the contracts of a worker's parts: what a seat is to a worker that sits there.
-use Rattle.std.specs.Prelude.{◌≡◌, ℕ, ◌+◌, ◌-◌, ◌<◌, ◌≤◌, List, length, slice_index_or, Option, Some, None, Result, IfOk}
+use Rattle.std.specs.Prelude.{length, slice_index_or, ◌≡◌, ℕ, ◌+◌, ◌-◌, ◌<◌, ◌≤◌, List, length, slice_index_or, Option, Some, None, Result, IfOk}
 use Rattle.std.specs.Global.{Box}
 use Rattle.wf_frame.specs.Answers.{reply_of}
 use Rattle.wf_frame.specs.declared.answers.Answer.{Answer}
@@ -15,6 +15,8 @@ pub record HasMade (s : CellSeat) (place : CellGate × ℕ) (made : List Made) :
   pub is_of : IsOf place.0 s
   pub number : s.number ≡ place.1
   pub within : s.used ≤ s.quota
+  pub counted : s.used ≡ length made
+  pub allotted : s.quota ≡ slice_index_or place.0.opening.quotas s.number 0
   pub stand : StandAt place.0 s.number s.seen s.own made
 
 -- how many calls it may still make
