@@ -1,3 +1,5 @@
 mod Places
 mod Closing
+mod Quotas
+mod Texts
 pub mod Printable

@@ -4,10 +4,7 @@ use Rattle.std.specs.Prelude.{eqb, slice_get}
 use Rattle.std.proofs.Math.Seq.{take-append_seam}
 use Rattle.std.proofs.lemmas.List.{take-append-le}
 use Rattle.std.proofs.lemmas.Option.{slice_get_within}
-use mathlib.Core.Option.{some}
 use mathlib.Core.List.{IsPrefix}
-use lib.ListN.{get_elem?}
-use Rattle.atomic_table.proofs.Lists.{at_longer}
 use Rattle.wf_frame.specs.declared.notes.Note.{Note}
 use Rattle.wf_frame.specs.declared.notes.ReplyNote.{ReplyNote}
 use Rattle.wf_world.specs.World.{World, opening}
@@ -16,7 +13,6 @@ use Rattle.wf_world.specs.Run.{Entry, world_after}
 use Rattle.wf_laws.proofs.Frames.Fates.{world_after-append}
 use Rattle.wf_gate.specs.Turns.{places}
 use Rattle.wf_gate.specs.Seats.{places_of, HasCalls}
-use Rattle.wf_gate.proofs.Elements.{at_get, get_at}
 use Rattle.wf_workers.specs.Workloads.{Made}
 use Rattle.wf_walks.specs.Makings.{made_by}
 use Rattle.wf_crew.specs.Crew.{CellGate, StandAt, reply_at}
@@ -27,8 +23,13 @@ world_at_gate g = world_after (opening g.opening.machine.past.config) g.opening.
 
 -- ---- more entries
 
+get_longer : (xs zs : List Entry) (k : ℕ) (e : Entry) → slice_get xs k ≡ Some e → slice_get (xs ++ zs) k ≡ Some e
+get_longer [] zs k e at = absurd (cc)
+get_longer (x ∷ xs) zs zero e at = at
+get_longer (x ∷ xs) zs (suc k) e at = get_longer xs zs k e at
+
 still_there : (xs ys : List Entry) (k : ℕ) (e : Entry) → IsPrefix xs ys → slice_get xs k ≡ Some e → slice_get ys k ≡ Some e
-still_there xs ys k e p at = get_at ys k e (subst (λ (l : List Entry). get_elem? l k ≡ some e) p.1 (at_longer xs p.0 k e (at_get xs k e at)))
+still_there xs ys k e p at = subst (λ (l : List Entry). slice_get l k ≡ Some e) p.1 (get_longer xs p.0 k e at)
 
 same_before : (xs ys : List Entry) (k : ℕ) → IsPrefix xs ys → k < length xs → take k ys ≡ take k xs
 same_before xs ys k p below = ap (take k) (sym p.1) ∙ take-append-le k xs p.0 (omega arith)
@@ -40,7 +41,7 @@ stand_longer g caller xs ys (place ∷ own) (m ∷ ms) p stand =
     let below : place < length xs = slice_get_within xs place (caller, m.0) stand.0 in
     let right : m.1 ≡ reply_at g ys place m.0 =
         stand.1 ∙ ap (λ (h : List Entry). (step (world_after (opening g.opening.machine.past.config) (g.opening.machine.past.history ++ h)) m.0).reply) (sym (same_before xs ys place p below)) in
-    (still_there xs ys place (caller, m.0) p stand.0, (right, stand_longer g caller xs ys own ms p stand.2))
+    (still_there xs ys place (caller, m.0) p stand.0, right, stand_longer g caller xs ys own ms p stand.2)
 stand_longer g caller xs ys [] (m ∷ ms) p stand = absurd stand
 stand_longer g caller xs ys (place ∷ own) [] p stand = absurd stand
 

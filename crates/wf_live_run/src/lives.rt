@@ -1,12 +1,11 @@
 //! The workers at the gate before a new cell.
 
-ghost use Rattle.std.specs.Prelude.{◌≡◌, ◌≤◌, ◌+◌, map, length, All, IfOk};
+ghost use Rattle.std.specs.Prelude.{◌≡◌, ◌≤◌, ◌+◌, map, length, All, EachIndex, slice_get, Some, IfOk};
 ghost use Rattle.wf_frame.specs.Settings.{standard};
-ghost use Rattle.wf_gate.specs.Seats.{AreAll, IsOf};
+ghost use Rattle.wf_gate.specs.Seats.{AreAll, IsOf, new_seat};
 ghost use Rattle.wf_gate.specs.Turns.{count_from};
 ghost use Rattle.wf_opening.specs.Opening.{opening_calls};
 ghost use Rattle.wf_crew.specs.Crew.{IsWorked, quotas_of};
-ghost use Rattle.wf_live_run.specs.Lives.{IsLive};
 
 use crate::opened::{Opened, quotas};
 use std::alloc::{AllocError, Global};
@@ -26,6 +25,8 @@ fn open_gate(
     requires { (1 ≤ senders) × (senders ≤ 8) × (frames ≤ 10000) }
     ensures opening { IfOk result (λ r. r.0.opening.machine.past ≡ record { config = standard; history = opening_calls senders }) }
     ensures quotas { IfOk result (λ r. r.0.opening.quotas ≡ quotas_of senders frames) }
+    ensures count { IfOk result (λ r. length r.1.items ≡ length r.0.opening.quotas) }
+    ensures seats { IfOk result (λ r. EachIndex r.0.opening.quotas (λ k. slice_get r.1.items k ≡ Some (new_seat r.0 k))) }
 {
     let opened = Opened::with_stations(alloc, senders)?;
     let quotas = quotas(alloc, senders, frames)?;
