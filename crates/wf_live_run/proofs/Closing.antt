@@ -40,65 +40,65 @@ module _ (g : CellGate) (seed senders frames : ℕ) (calls : List Entry) (seats 
     (own : All (λ (s : CellSeat). s.own ≡ places_of s.number calls) seats)
     (worked : All (IsWorked g seed senders frames) seats)
   where
-  at_gate : world_at_gate g ≡ opened_world senders
-  at_gate = ap world_of opened
+    at_gate : world_at_gate g ≡ opened_world senders
+    at_gate = ap world_of opened
 
-  count : length g.opening.quotas ≡ senders + driver_count
-  count = ap length quotas ∙ count_of senders frames
+    count : length g.opening.quotas ≡ senders + driver_count
+    count = ap length quotas ∙ count_of senders frames
 
-  -- the seat with a number
-  record HasSeat (n : ℕ) : Type 0 where
-    s : CellSeat
-    numbered : s.number ≡ n
-    sees : IsPrefix s.seen calls
-    owns : s.own ≡ places_of s.number calls
-    works : IsWorked g seed senders frames s
+    -- the seat with a number
+    record HasSeat (n : ℕ) : Type 0 where
+      s : CellSeat
+      numbered : s.number ≡ n
+      sees : IsPrefix s.seen calls
+      owns : s.own ≡ places_of s.number calls
+      works : IsWorked g seed senders frames s
 
-  seat_of : (n : ℕ) → n < senders + driver_count → HasSeat n
-  seat_of n below =
-      let a = all n (omega (arith, count, below)) in
-      record {
-        s = a.1;
-        numbered = a.4;
-        sees = subst (λ (s : CellSeat). IsPrefix s.seen calls) a.3 (seen a.0 a.1 a.2);
-        owns = subst (λ (s : CellSeat). s.own ≡ places_of s.number calls) a.3 (own a.0 a.1 a.2);
-        works = subst (IsWorked g seed senders frames) a.3 (worked a.0 a.1 a.2);
-      }
+    seat_of : (n : ℕ) → n < senders + driver_count → HasSeat n
+    seat_of n below =
+        let a = all n (omega (arith, count, below)) in
+        record {
+          s = a.1;
+          numbered = a.4;
+          sees = subst (λ (s : CellSeat). IsPrefix s.seen calls) a.3 (seen a.0 a.1 a.2);
+          owns = subst (λ (s : CellSeat). s.own ≡ places_of s.number calls) a.3 (own a.0 a.1 a.2);
+          works = subst (IsWorked g seed senders frames) a.3 (worked a.0 a.1 a.2);
+        }
 
-  -- all calls of a seat
-  made_is : (n : ℕ) (h : HasSeat n) (made : List Made) → StandAt g h.s.number h.s.seen h.s.own made → made ≡ made_by n (opened_world senders) calls
-  made_is n h made stand =
-      all_made calls g h.s.number made (subst (λ (own : List ℕ). StandAt g h.s.number calls own made) h.owns (stand_longer g h.s.number h.s.seen calls h.s.own made h.sees stand))
-      ∙ ap (λ k. made_by k (world_at_gate g) calls) h.numbered ∙ ap (λ (w : World). made_by n w calls) at_gate
+    -- all calls of a seat
+    made_is : (n : ℕ) (h : HasSeat n) (made : List Made) → StandAt g h.s.number h.s.seen h.s.own made → made ≡ made_by n (opened_world senders) calls
+    made_is n h made stand =
+        all_made calls g h.s.number made (subst (λ (own : List ℕ). StandAt g h.s.number calls own made) h.owns (stand_longer g h.s.number h.s.seen calls h.s.own made h.sees stand))
+        ∙ ap (λ k. made_by k (world_at_gate g) calls) h.numbered ∙ ap (λ (w : World). made_by n w calls) at_gate
 
-  has_sent : (n : ℕ) → n < senders → map (λ (m : Made). m.0) (made_by n (opened_world senders) calls) ≡ sender_calls seed n frames
-  has_sent n below =
-      let h = seat_of n (omega (arith, below)) in
-      let sent : HasCalls h.s.number h.s.seen (places_of h.s.number calls) (sender_calls seed h.s.number frames) =
-      subst (λ (own : List ℕ). HasCalls h.s.number h.s.seen own (sender_calls seed h.s.number frames)) h.owns (h.works.sender (omega (arith, h.numbered, below))) in
-      subst (λ k. map (λ (m : Made). m.0) (made_by k (opened_world senders) calls) ≡ sender_calls seed k frames) h.numbered
-      (sym (all_called h.s.seen calls (opened_world senders) h.s.number (sender_calls seed h.s.number frames) h.sees sent))
+    has_sent : (n : ℕ) → n < senders → map (λ (m : Made). m.0) (made_by n (opened_world senders) calls) ≡ sender_calls seed n frames
+    has_sent n below =
+        let h = seat_of n (omega (arith, below)) in
+        let sent : HasCalls h.s.number h.s.seen (places_of h.s.number calls) (sender_calls seed h.s.number frames) =
+        subst (λ (own : List ℕ). HasCalls h.s.number h.s.seen own (sender_calls seed h.s.number frames)) h.owns (h.works.sender (omega (arith, h.numbered, below))) in
+        subst (λ k. map (λ (m : Made). m.0) (made_by k (opened_world senders) calls) ≡ sender_calls seed k frames) h.numbered
+        (sym (all_called h.s.seen calls (opened_world senders) h.s.number (sender_calls seed h.s.number frames) h.sees sent))
 
-  quota_is : (driver : ℕ) → driver < driver_count → (h : HasSeat (senders + driver)) → slice_index_or g.opening.quotas h.s.number 0 ≡ driver_quota
-  quota_is driver below h =
-      ap (λ (l : List ℕ). slice_index_or l h.s.number 0) quotas ∙ ap (λ k. slice_index_or (quotas_of senders frames) k 0) h.numbered
-      ∙ quota_behind senders driver (frames + 1) driver_quota 0 driver_count below
+    quota_is : (driver : ℕ) → driver < driver_count → (h : HasSeat (senders + driver)) → slice_index_or g.opening.quotas h.s.number 0 ≡ driver_quota
+    quota_is driver below h =
+        ap (λ (l : List ℕ). slice_index_or l h.s.number 0) quotas ∙ ap (λ k. slice_index_or (quotas_of senders frames) k 0) h.numbered
+        ∙ quota_behind senders driver (frames + 1) driver_quota 0 driver_count below
 
-  has_driven : (driver : ℕ) → driver < driver_count → IsDriven (driver_of seed driver (class_of driver) senders) (made_by (senders + driver) (opened_world senders) calls)
-  has_driven driver below =
-      let n = senders + driver in
-      let h = seat_of n (omega (arith, below)) in
-      let behind : h.s.number - senders ≡ driver = omega (arith, h.numbered) in
-      let driven : HasDriven g seed senders driver h.s = subst (λ d. HasDriven g seed senders d h.s) behind (h.works.driver (omega (arith, h.numbered))) in
-      subst (IsDriven (driver_of seed driver (class_of driver) senders)) (made_is n h driven.made driven.stand)
-      (record { walk = driven.walk; ended = ended_by ((walked (driver_of seed driver (class_of driver) senders) driven.made).phase ≡ Ends) driven.made (driven.allotted ∙ quota_is driver below h) driven.ended })
+    has_driven : (driver : ℕ) → driver < driver_count → IsDriven (driver_of seed driver (class_of driver) senders) (made_by (senders + driver) (opened_world senders) calls)
+    has_driven driver below =
+        let n = senders + driver in
+        let h = seat_of n (omega (arith, below)) in
+        let behind : h.s.number - senders ≡ driver = omega (arith, h.numbered) in
+        let driven : HasDriven g seed senders driver h.s = subst (λ d. HasDriven g seed senders d h.s) behind (h.works.driver (omega (arith, h.numbered))) in
+        subst (IsDriven (driver_of seed driver (class_of driver) senders)) (made_is n h driven.made driven.stand)
+        (record { walk = driven.walk; ended = ended_by ((walked (driver_of seed driver (class_of driver) senders) driven.made).phase ≡ Ends) driven.made (driven.allotted ∙ quota_is driver below h) driven.ended })
 
-  pub is_live : (history : List Entry) → history ≡ g.opening.machine.past.history ++ calls → length history ≤ standard.calls → AreOfSeats g calls → IsLive seed senders frames history
-  is_live history is few callers = record {
-    calls = calls;
-    is = is ∙ ap (λ (p : Past). p.history ++ calls) opened;
-    few = few;
-    callers = subst (λ k. All (λ (e : Entry). e.0 < k) calls) count callers;
-    sent = has_sent;
-    driven = has_driven;
-  }
+    pub is_live : (history : List Entry) → history ≡ g.opening.machine.past.history ++ calls → length history ≤ standard.calls → AreOfSeats g calls → IsLive seed senders frames history
+    is_live history is few callers = record {
+      calls = calls;
+      is = is ∙ ap (λ (p : Past). p.history ++ calls) opened;
+      few = few;
+      callers = subst (λ k. All (λ (e : Entry). e.0 < k) calls) count callers;
+      sent = has_sent;
+      driven = has_driven;
+    }

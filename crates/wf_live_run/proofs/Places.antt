@@ -40,7 +40,7 @@ stand_longer g caller xs ys [] [] p stand = stand
 stand_longer g caller xs ys (place ∷ own) (m ∷ ms) p stand =
     let below : place < length xs = slice_get_within xs place (caller, m.0) stand.0 in
     let right : m.1 ≡ reply_at g ys place m.0 =
-        stand.1 ∙ ap (λ (h : List Entry). (step (world_after (opening g.opening.machine.past.config) (g.opening.machine.past.history ++ h)) m.0).reply) (sym (same_before xs ys place p below)) in
+    stand.1 ∙ ap (λ (h : List Entry). (step (world_after (opening g.opening.machine.past.config) (g.opening.machine.past.history ++ h)) m.0).reply) (sym (same_before xs ys place p below)) in
     (still_there xs ys place (caller, m.0) p stand.0, right, stand_longer g caller xs ys own ms p stand.2)
 stand_longer g caller xs ys [] (m ∷ ms) p stand = absurd stand
 stand_longer g caller xs ys (place ∷ own) [] p stand = absurd stand
@@ -80,9 +80,9 @@ first_made g caller done e es m at right =
     let start : World = opening g.opening.machine.past.config in
     let past : List Entry = g.opening.machine.past.history in
     let reply : m.1 ≡ (step (world_after (world_at_gate g) done) e.1).reply =
-        right ∙ ap (λ (h : List Entry). (step (world_after start (past ++ h)) m.0).reply) before
-        ∙ ap (λ (w : World). (step w m.0).reply) (world_after-append past start done)
-        ∙ ap (λ (n : Note). (step (world_after (world_at_gate g) done) n).reply) note in
+    right ∙ ap (λ (h : List Entry). (step (world_after start (past ++ h)) m.0).reply) before
+    ∙ ap (λ (w : World). (step w m.0).reply) (world_after-append past start done)
+    ∙ ap (λ (n : Note). (step (world_after (world_at_gate g) done) n).reply) note in
     ap₂ (λ (n : Note) (r : ReplyNote). (n, r)) note reply
 
 -- the caller's calls, by whether it made the first entry

@@ -149,11 +149,13 @@ pub fn run<R: Threads + Wait + Sync, S: Source, K: Sink, T: Turnstile + Sync>(
         None => Status::Usage,
         Some(Command::Replay) => replay(alloc, source, sink),
         Some(Command::Soak { seed, calls }) => soaked(alloc, seed, calls, sink),
-        Some(Command::Live {
-            seed,
-            senders,
-            frames,
-        }) => lived(rt, alloc, seed, senders, frames, sink, turnstile),
+        Some(
+            Command::Live {
+                seed,
+                senders,
+                frames,
+            },
+        ) => lived(rt, alloc, seed, senders, frames, sink, turnstile),
         Some(Command::Session) => session(alloc, source, sink),
         Some(Command::Uplink) => uplink(alloc, source, sink),
         Some(Command::Frames) => frames(alloc, source, sink),

@@ -119,7 +119,9 @@ fn parts(line: &[u8]) -> (u32, &[u8]) {
         if *octet == b' ' {
             return (caller, &named[place + 1..]);
         }
-        caller = caller.saturating_mul(10).saturating_add(u32::from(octet.saturating_sub(b'0')));
+        caller = caller
+            .saturating_mul(10)
+            .saturating_add(u32::from(octet.saturating_sub(b'0')));
     }
     (caller, &[])
 }
@@ -167,7 +169,11 @@ fn a_run_on_threads_is_replayed(rt: HostRuntime) -> Result<(), Fail> {
     assert!(rt; run(&rt, rt.alloc(), &words, &mut source, &mut sink, &Free) == Status::Done);
     let summary = summary_in(sink.octets());
     assert!(rt; !summary.is_empty());
-    let mut trace = Given::new(sink.octets().to_vec(rt.alloc())?, 65_536, Vec::new(rt.alloc()));
+    let mut trace = Given::new(
+        sink.octets().to_vec(rt.alloc())?,
+        65_536,
+        Vec::new(rt.alloc()),
+    );
     let mut answers = Kept::new(rt.alloc(), 1 << 25, 65_536, Vec::new(rt.alloc()))?;
     assert!(rt; replay(rt.alloc(), &mut trace, &mut answers) == Status::Done);
     assert!(rt; answers.octets().ends_with(summary));

@@ -13,9 +13,16 @@ pub enum Command {
     /// Replay the trace on standard input.
     Replay,
     /// Play the soak of this seed, and of so many calls: 1 to 1,000,000.
-    Soak { seed: u64, calls: u32 },
+    Soak {
+        seed: u64,
+        calls: u32,
+    },
     /// Run so many senders on threads, 1 to 8, each with so many frames: 1 to 10,000; and four drivers.
-    Live { seed: u64, senders: u32, frames: u32 },
+    Live {
+        seed: u64,
+        senders: u32,
+        frames: u32,
+    },
     /// Play the script on standard input on two ends of an agreement.
     Session,
     /// Play the script on standard input on the uplink of 256 stations.
