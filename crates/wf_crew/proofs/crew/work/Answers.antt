@@ -20,7 +20,7 @@ pub returns-clause-all : goal.returns-clause-all
 returns-clause-all g c =
     if_ok c.all_of.result c.all_of.ensures
     (λ back whole. back_all c.args.gate.now c.args.seed _ c.args.frames c.args.seats.items back.items c.in_ok-back.back.items whole c.in_ok-back.ensures.count c.in_ok-back.ensures.each
-        (all_new c.args.gate.now c.args.frames c.args.seats.items c.requires.seats c.requires.count))
+    (all_new c.args.gate.now c.args.frames c.args.seats.items c.requires.seats c.requires.count))
 
 pub returns-clause-worked : goal.returns-clause-worked
 returns-clause-worked g c =
