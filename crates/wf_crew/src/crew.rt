@@ -15,7 +15,10 @@ use wf_gate::{Gate, Seat};
 use wf_turnstile::Turnstile;
 
 // All values, where there is no error among them.
-pub(crate) fn all_of<V: Drop>(alloc: Global, results: Vec<Result<V, AllocError>>) -> Result<Vec<V>, AllocError>
+pub(crate) fn all_of<V: Drop>(
+    alloc: Global,
+    results: Vec<Result<V, AllocError>>,
+) -> Result<Vec<V>, AllocError>
     ensures { IfOk result (λ values. results.items ≡ map (λ v. Ok v) values.items) }
 {
     let mut values = Vec::with_capacity(alloc, results.len())?;
