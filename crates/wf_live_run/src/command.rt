@@ -1,39 +1,20 @@
 //! The command.
 
-ghost use Rattle.std.specs.Prelude.{◌≡◌, ◌≢◌, ◌≤◌, ℕ, List, All, length, Some, None};
+ghost use Rattle.std.specs.Prelude.{◌≡◌, ◌≢◌, ◌≤◌, ℕ, List};
 ghost use Rattle.std.specs.Io.KnownBytes.{append_known};
 ghost use Rattle.wf_frame.specs.Settings.{standard};
-ghost use Rattle.wf_gate.specs.Seats.{AreAll, IsOf};
 ghost use Rattle.wf_io.specs.Faults.{HasRisen};
-ghost use Rattle.wf_opening.specs.Opening.{opening_calls};
-ghost use Rattle.wf_crew.specs.Crew.{IsWorked, quotas_of};
 ghost use Rattle.wf_live_run.specs.Lives.{IsLive, LiveStatusSays};
 
+use crate::closed::{Closed, Lives};
 use crate::history::write_history;
-use crate::lives::live;
 use std::alloc::Global;
 use std::sync::Wait;
 use std::thread::Threads;
 use wf_cell::Cell;
-use wf_gate::{Gate, Seat};
 use wf_io::Sink;
 use wf_status::Status;
 use wf_turnstile::Turnstile;
-
-// The cell, once all workers have given their seats back.
-fn close(gate: Gate<Cell>, seats: Vec<Seat<Cell>>) -> Cell
-    requires opening { (senders : ℕ) × (gate.opening.machine.past ≡ record { config = standard; history = opening_calls senders }) }
-    requires own { All (IsOf gate) seats.items }
-    requires all { AreAll gate seats.items }
-    ensures config { result.past.config ≡ standard }
-    ensures live { (seed senders frames : ℕ) → gate.opening.machine.past ≡ record { config = standard; history = opening_calls senders } →
-        gate.opening.quotas ≡ quotas_of senders frames → All (IsWorked gate seed senders frames) seats.items → IsLive seed senders frames result.past.history }
-{
-    let cell = gate.close(seats);
-    // A history has at most as many entries as the settings allow.
-    let _ = cell.len();
-    cell
-}
 
 // Writes the trace and the summary of what the workers did.
 fn tell<K: Sink>(cell: &Cell, sink: &mut K) -> Status
@@ -47,6 +28,28 @@ fn tell<K: Sink>(cell: &Cell, sink: &mut K) -> Status
     match write_history(cell, sink) {
         Ok(()) => Status::Done,
         Err(_) => Status::WriteFault,
+    }
+}
+
+// Runs the workers, and writes what they did.
+fn tell_of<L: Lives, R: Threads + Wait + Sync, K: Sink, T: Turnstile + Sync>(
+    rt: &R,
+    alloc: Global,
+    seed: u64,
+    senders: u32,
+    frames: u32,
+    sink: &mut K,
+    turnstile: &T,
+) -> Status
+    requires senders { (1 ≤ senders) × (senders ≤ 8) }
+    requires frames { (1 ≤ frames) × (frames ≤ 10000) }
+    ensures text { (written : List ℕ) × (K.held sink.new ≡ append_known (K.held sink.old) written) × LiveStatusSays result seed senders frames written }
+    ensures write { result ≡ Status.WriteFault → HasRisen (K.faults sink.old) (K.faults sink.new) }
+    ensures sink_quiet { result ≢ Status.WriteFault → K.faults sink.new ≡ K.faults sink.old }
+{
+    match L::run(rt, alloc, seed, senders, frames, turnstile) {
+        Ok(lived) => tell(lived.cell(), sink),
+        Err(_) => Status::NoMemory,
     }
 }
 
@@ -67,9 +70,5 @@ pub fn lived<R: Threads + Wait + Sync, K: Sink, T: Turnstile + Sync>(
     ensures write { result ≡ Status.WriteFault → HasRisen (K.faults sink.old) (K.faults sink.new) }
     ensures sink_quiet { result ≢ Status.WriteFault → K.faults sink.new ≡ K.faults sink.old }
 {
-    let Ok((gate, seats)) = live(rt, alloc, seed, senders, frames, turnstile) else {
-        return Status::NoMemory;
-    };
-    let cell = close(gate, seats);
-    tell(&cell, sink)
+    tell_of::<Closed, R, K, T>(rt, alloc, seed, senders, frames, sink, turnstile)
 }

@@ -1,6 +1,7 @@
 //! The command `live`: senders and drivers on threads, at one gate before one cell, whose history is written.
 #![tactic(auto)]
 
+mod closed;
 mod command;
 mod history;
 mod lives;
