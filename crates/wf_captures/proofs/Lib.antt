@@ -1,0 +1,6 @@
+pub mod Sampled
+pub mod Writing
+pub mod Law
+pub mod Acks
+pub mod Cells
+pub mod Entries
