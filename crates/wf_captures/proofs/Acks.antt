@@ -12,13 +12,6 @@ pub head_is : (s t start : ℕ) (ra ta : List ℕ) (first : ℕ) → ra ≡ base
     (let h : Bar = record { ra = ra; ta = ta; duration = 0; tid = t; start = first } in h) ≡ block_ack_head s t start
 head_is s t start ra ta first to from same = rw (to, from, same) refl
 
--- a head and one word
-pub narrow_is : (s t start word n : ℕ) (head : Bar) (written out : List ℕ) → head ≡ block_ack_head s t start → take 20 written ≡ head_octets answer narrow_form head → n ≡ 28 → length out ≡ 28 →
-    take n out ≡ take 20 written ++ little_bytes 8 word → out ≡ block_ack_octets s t start (word ∷ []) false
-narrow_is s t start word n head written out is begins end long put =
-    sym (take_all 28 out (omega (arith, long))) ∙ ap (λ k. take k out) (sym end) ∙ put
-    ∙ ap₂ (λ (a b : List ℕ). a ++ b) (begins ∙ ap (head_octets answer narrow_form) is) (sym (append-nil (little_bytes 8 word)))
-
 -- a head and four words
 pub wide_is : (s t start a b c d n m k l : ℕ) (head : Bar) (written one two three out : List ℕ) → head ≡ block_ack_head s t start → take 20 written ≡ head_octets answer wide_form head →
     n ≡ 28 → take n one ≡ take 20 written ++ little_bytes 8 a → m ≡ 36 → take m two ≡ take 28 one ++ little_bytes 8 b → k ≡ 44 → take k three ≡ take 36 two ++ little_bytes 8 c →

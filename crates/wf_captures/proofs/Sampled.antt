@@ -65,7 +65,7 @@ module _ (v : TransmitValue) (w : World) (bodies : ℕ → FrameValue) (stands :
       (λ k m among. ap (λ b. octets_of (header_of w x m) ++ b) (body_same e x known k m (ap (λ (c : Content). slice_get (mpdus_of c) k) is ∙ among)))
   content_same e x known (Request start) is = refl
 
-  sent_same : (e : ℕ) → frames_sent w bodies e ≡ frames_sent w (samples w) e
+  pub sent_same : (e : ℕ) → frames_sent w bodies e ≡ frames_sent w (samples w) e
   sent_same e = of (exchange w e) refl
     where
       of : (o : Option Exchange) → exchange w e ≡ o → frames_sent w bodies e ≡ frames_sent w (samples w) e

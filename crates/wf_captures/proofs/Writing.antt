@@ -13,7 +13,12 @@ use Rattle.wf_world.specs.World.{World, Mpdu, Exchange, Content, Frames, Request
 use Rattle.wf_world.specs.Exchanges.{transmissions}
 use Rattle.wf_transmissions.specs.declared.reading.Sent.{Sent as Told}
 use Rattle.wf_transmissions.specs.Transmissions.{sent_of, octets_sent, transmission_octets, frames_on_air, data_octets, header_of, octets_of_content}
+use Rattle.wf_transmit_refines.specs.Half.{TransmitValue}
+use Rattle.wf_transmit_refines.specs.Standing.{StandsFor}
 use Rattle.wf_captures.specs.Packets.{frames_sent, packets_at, octets_of}
+use Rattle.wf_captures.specs.Captures.{samples}
+use Rattle.wf_captures.specs.Samples.{IsSample}
+use Rattle.wf_captures.proofs.Sampled.{sent_same}
 use Rattle.wf_captures.proofs.Entries.{octets_of-append}
 
 -- ---- one by one
@@ -38,6 +43,11 @@ sent_by_index w bodies e k = of (exchange w e) refl
     of : (o : Option Exchange) → exchange w e ≡ o → slice_get (frames_sent w bodies e) k ≡ octets_sent w bodies e k
     of None none = rw none refl
     of (Some x) known = rw known refl
+
+pub octets_same : (v : TransmitValue) (w : World) (bodies : ℕ → FrameValue) → StandsFor v w bodies → ((id : ℕ) → IsSample (bodies id)) → (e k : ℕ) →
+    octets_sent w bodies e k ≡ octets_sent w (samples w) e k
+octets_same v w bodies stands all e k =
+    sym (sent_by_index w bodies e k) ∙ ap (λ l. slice_get l k) (sent_same v w bodies stands all e) ∙ sent_by_index w (samples w) e k
 
 -- one packet more
 pub packet_more : (w : World) (bodies : ℕ → FrameValue) (e k at : ℕ) (f : List ℕ) → octets_sent w bodies e k ≡ Some f →

@@ -39,44 +39,54 @@ pub(crate) fn transmission(
     }
 }
 
-/// The BlockAck of 64 numbers to what was sent, with this start and this word of its bitmap.
-pub(crate) fn narrow_ack(sent: Sent, start: u16, word: u64) -> [u8; 28]
+/// What a BlockAck shows: its start, 0 to 4095, and the words of its bitmap, the lowest offsets in the first. One of 64 numbers has
+/// the first word alone.
+#[derive(Clone, Copy)]
+pub(crate) struct Shown {
+    pub(crate) start: u16,
+    pub(crate) b0: u64,
+    pub(crate) b1: u64,
+    pub(crate) b2: u64,
+    pub(crate) b3: u64,
+}
+
+/// The BlockAck of 64 numbers to what was sent.
+pub(crate) fn narrow_ack(sent: Sent, shown: Shown) -> [u8; 28]
     requires { sent.tid < 8 }
-    ensures { result ≡ block_ack_octets sent.station sent.tid start (word ∷ []) false }
+    ensures { result ≡ block_ack_octets sent.station sent.tid shown.start (shown.b0 ∷ []) false }
 {
     let head = Ba {
         ra: base_address(),
         ta: station_address(sent.station),
         duration: 0,
         tid: sent.tid,
-        start: Seq12::of(u64::from(start)),
+        start: Seq12::of(u64::from(shown.start)),
         bits: Bits64::empty(),
     };
     let mut octets = [0; 28];
     encode_ba(&head, &mut octets);
-    put(&mut octets, BITMAP, &word.to_le_bytes());
+    put(&mut octets, BITMAP, &shown.b0.to_le_bytes());
     octets
 }
 
-/// The BlockAck of 256 numbers to what was sent, with this start and these words of its bitmap.
-pub(crate) fn wide_ack(sent: Sent, start: u16, words: [u64; 4]) -> [u8; 52]
+/// The BlockAck of 256 numbers to what was sent.
+pub(crate) fn wide_ack(sent: Sent, shown: Shown) -> [u8; 52]
     requires { sent.tid < 8 }
-    ensures { result ≡ block_ack_octets sent.station sent.tid start words true }
+    ensures { result ≡ block_ack_octets sent.station sent.tid shown.start (shown.b0 ∷ shown.b1 ∷ shown.b2 ∷ shown.b3 ∷ []) true }
 {
     let head = WideBa {
         ra: base_address(),
         ta: station_address(sent.station),
         duration: 0,
         tid: sent.tid,
-        start: Seq12::of(u64::from(start)),
+        start: Seq12::of(u64::from(shown.start)),
         bits: Bits256::empty(),
     };
     let mut octets = [0; 52];
     encode_wide(&head, &mut octets);
-    let [first, second, third, fourth] = words;
-    put(&mut octets, BITMAP, &first.to_le_bytes());
-    put(&mut octets, BITMAP + 8, &second.to_le_bytes());
-    put(&mut octets, BITMAP + 16, &third.to_le_bytes());
-    put(&mut octets, BITMAP + 24, &fourth.to_le_bytes());
+    put(&mut octets, BITMAP, &shown.b0.to_le_bytes());
+    put(&mut octets, BITMAP + 8, &shown.b1.to_le_bytes());
+    put(&mut octets, BITMAP + 16, &shown.b2.to_le_bytes());
+    put(&mut octets, BITMAP + 24, &shown.b3.to_le_bytes());
     octets
 }

@@ -1,6 +1,6 @@
 //! What goes on the air with a call, as packets, by the cell behind it and its answer.
 
-ghost use Rattle.std.specs.Prelude.{◌≡◌, OnOk};
+ghost use Rattle.std.specs.Prelude.{◌≡◌, [], ◌∷◌, OnOk};
 ghost use Rattle.std.specs.Io.KnownBytes.{append_known};
 ghost use Rattle.wf_frame.specs.Answers.{reply_of};
 ghost use Rattle.wf_io.specs.Faults.{CountsFaults};
@@ -10,7 +10,7 @@ ghost use Rattle.wf_captures.specs.Captures.{samples};
 ghost use Rattle.wf_captures.specs.Packets.{frames_sent, block_acks, exchange_answered, frames_by, packets_at, octets_of};
 ghost use Rattle.wf_captures.specs.Samples.{IsSampled, world_in};
 
-use crate::frames::{LONGEST, narrow_ack, transmission, wide_ack};
+use crate::frames::{LONGEST, Shown, narrow_ack, transmission, wide_ack};
 use crate::standing::{clock, sent};
 use wf_cell::Cell;
 use wf_frame::{Answer, Ask, Brief, Note};
@@ -48,20 +48,18 @@ fn write_sent<K: Sink>(cell: &Cell, exchange: u64, sink: &mut K) -> Result<(), F
     Ok(())
 }
 
-/// Writes a packet for the BlockAck to an exchange, with this start and these words of its bitmap; none where the exchange is
-/// not open.
+/// Writes a packet for the BlockAck to an exchange, of 64 numbers or of 256 (`wide`); none where the exchange is not open.
 fn write_block_ack<K: Sink>(
     cell: &Cell,
     exchange: u64,
-    start: u16,
-    words: [u64; 4],
+    shown: Shown,
     wide: bool,
     sink: &mut K,
 ) -> Result<(), Failed>
     ensures written { OnOk result (K.held sink.new ≡ append_known (K.held sink.old)
-        (octets_of (packets_at (world_in cell.now).clock (block_acks start words wide (exchange_in (world_in cell.now) exchange))))) }
+        (octets_of (packets_at (world_in cell.now).clock (block_acks shown.start (shown.b0 ∷ shown.b1 ∷ shown.b2 ∷ shown.b3 ∷ []) wide (exchange_in (world_in cell.now) exchange))))) }
     ensures front { HoldsFront (K.held sink.old) (K.held sink.new)
-        (octets_of (packets_at (world_in cell.now).clock (block_acks start words wide (exchange_in (world_in cell.now) exchange)))) }
+        (octets_of (packets_at (world_in cell.now).clock (block_acks shown.start (shown.b0 ∷ shown.b1 ∷ shown.b2 ∷ shown.b3 ∷ []) wide (exchange_in (world_in cell.now) exchange)))) }
     ensures cause { CountsFaults (K.faults sink.old) (K.faults sink.new) result }
 {
     let Some(sent) = sent(cell, exchange) else {
@@ -69,9 +67,9 @@ fn write_block_ack<K: Sink>(
     };
     let at = clock(cell);
     if wide {
-        write_packet(sink, at, &wide_ack(sent, start, words))
+        write_packet(sink, at, &wide_ack(sent, shown))
     } else {
-        write_packet(sink, at, &narrow_ack(sent, start, words[0]))
+        write_packet(sink, at, &narrow_ack(sent, shown))
     }
 }
 
@@ -100,7 +98,16 @@ pub(crate) fn write_frames<K: Sink>(
             wide,
         } => match exchange_answered(note) {
             None => Ok(()),
-            Some(exchange) => write_block_ack(cell, exchange, start, [b0, b1, b2, b3], wide, sink),
+            Some(exchange) => {
+                let shown = Shown {
+                    start,
+                    b0,
+                    b1,
+                    b2,
+                    b3,
+                };
+                write_block_ack(cell, exchange, shown, wide, sink)
+            }
         },
         _ => Ok(()),
     }
