@@ -4,3 +4,4 @@ pub mod Law
 pub mod Acks
 pub mod Cells
 pub mod Entries
+pub mod Answered

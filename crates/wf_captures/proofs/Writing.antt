@@ -17,7 +17,7 @@ use Rattle.wf_transmit_refines.specs.Half.{TransmitValue}
 use Rattle.wf_transmit_refines.specs.Standing.{StandsFor}
 use Rattle.wf_captures.specs.Packets.{frames_sent, packets_at, octets_of}
 use Rattle.wf_captures.specs.Captures.{samples}
-use Rattle.wf_captures.specs.Samples.{IsSample}
+use Rattle.wf_captures.specs.Samples.{IsSample, IsSending}
 use Rattle.wf_captures.proofs.Sampled.{sent_same}
 use Rattle.wf_captures.proofs.Entries.{octets_of-append}
 
@@ -98,6 +98,12 @@ is_open w e told is = of (exchange w e) refl
     of : (o : Option Exchange) → exchange w e ≡ o → (x : Exchange) × (exchange w e ≡ Some x) × (told ≡ sent_of x)
     of None none = absurd (let bad : Some told ≡ None = is ∙ ap (option_map sent_of) none in cc)
     of (Some x) known = let same : Some told ≡ Some (sent_of x) = is ∙ ap (option_map sent_of) known in (x, known, cc)
+
+-- and has the transmissions that are told of
+pub is_sending : (w : World) (e k : ℕ) (told : Told) → Some told ≡ option_map sent_of (exchange w e) → k < told.count → IsSending w e k
+is_sending w e k told is few =
+    let o = is_open w e told is in
+    record { sending = o.0; known = o.1; within = omega (arith, few, ap (λ (t : Told). t.count) o.2) }
 
 -- each transmission has an octet
 pub some_octets : (w : World) (bodies : ℕ → FrameValue) (e k : ℕ) (f : List ℕ) → octets_sent w bodies e k ≡ Some f → 0 < length f
