@@ -10,7 +10,7 @@ use Rattle.wf_transmissions.specs.declared.reading.Sent.{Sent as Told}
 use Rattle.wf_transmissions.specs.Transmissions.{sent_of}
 use Rattle.wf_captures.specs.BlockAcks.{block_ack_octets}
 use Rattle.wf_captures.specs.Packets.{block_acks, words_told, packets_at, octets_of}
-use Rattle.wf_captures.proofs.Writing.{is_open}
+use Rattle.wf_captures.proofs.SentPackets.{is_open}
 
 -- ---- which one it is
 

@@ -32,16 +32,16 @@ capture_more config h e =
     ∙ ap (λ l. head_octets ++ l) (octets_of-append (packets_from (opening config) h) (packets_by (world_after (opening config) h) e.1))
     ∙ sym (append_assoc head_octets (octets_of (packets_from (opening config) h)) (packets_of (world_after (opening config) h) e.1))
 
--- the packets of the calls so far begin the capture of more calls
+packets_split : (h rest : List Entry) (w : World) → packets_from w (h ++ rest) ≡ packets_from w h ++ packets_from (world_after w h) rest
+unfolding packets_from world_after
+packets_split [] rest w = refl
+packets_split (x ∷ xs) rest w =
+    ap (λ l. packets_by w x.1 ++ l) (packets_split xs rest (step w x.1).world)
+    ∙ sym (append_assoc (packets_by w x.1) (packets_from (step w x.1).world xs) (packets_from (world_after (step w x.1).world xs) rest))
+
+-- the capture of the calls so far begins that of more calls
 pub capture_front : (config : Config) (h rest : List Entry) → capture_of config (h ++ rest) ≡ capture_of config h ++ octets_of (packets_from (world_after (opening config) h) rest)
 capture_front config h rest =
-    ap (λ l. head_octets ++ octets_of l) (split h (opening config))
+    ap (λ l. head_octets ++ octets_of l) (packets_split h rest (opening config))
     ∙ ap (λ l. head_octets ++ l) (octets_of-append (packets_from (opening config) h) (packets_from (world_after (opening config) h) rest))
     ∙ sym (append_assoc head_octets (octets_of (packets_from (opening config) h)) (octets_of (packets_from (world_after (opening config) h) rest)))
-  where
-    split : (h : List Entry) (w : World) → packets_from w (h ++ rest) ≡ packets_from w h ++ packets_from (world_after w h) rest
-    unfolding packets_from world_after
-    split [] w = refl
-    split (x ∷ xs) w =
-        ap (λ l. packets_by w x.1 ++ l) (split xs (step w x.1).world)
-        ∙ sym (append_assoc (packets_by w x.1) (packets_from (step w x.1).world xs) (packets_from (world_after (step w x.1).world xs) rest))

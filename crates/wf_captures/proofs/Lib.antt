@@ -1,5 +1,5 @@
 pub mod Sampled
-pub mod Writing
+pub mod SentPackets
 pub mod Law
 pub mod Acks
 pub mod Cells

@@ -6,7 +6,7 @@ use Rattle.wf_transmissions.specs.Writing.{write_fault}
 use Rattle.wf_cell.proofs.Written.{no_write_fault}
 use Rattle.wf_world.specs.World.{World}
 use Rattle.wf_captures.specs.Samples.{world_in}
-use Rattle.wf_captures.proofs.Writing.{some_octets, octets_same}
+use Rattle.wf_captures.proofs.SentPackets.{some_octets, octets_same}
 use Rattle.wf_captures.proofs.frames.transmission.Goals as goal
 
 pub unreachable-requires : goal.unreachable-requires

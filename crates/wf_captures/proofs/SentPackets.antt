@@ -12,7 +12,7 @@ use Rattle.wf_frames_run.specs.Law.{Sent}
 use Rattle.wf_world.specs.World.{World, Mpdu, Exchange, Content, Frames, Request, exchange}
 use Rattle.wf_world.specs.Exchanges.{transmissions}
 use Rattle.wf_transmissions.specs.declared.reading.Sent.{Sent as Told}
-use Rattle.wf_transmissions.specs.Transmissions.{sent_of, octets_sent, transmission_octets, frames_on_air, data_octets, header_of, octets_of_content}
+use Rattle.wf_transmissions.specs.Transmissions.{sent_of, octets_sent, transmission_octets, frames_on_air, bar_octets, data_octets, header_of, octets_of_content}
 use Rattle.wf_transmit_refines.specs.Half.{TransmitValue}
 use Rattle.wf_transmit_refines.specs.Standing.{StandsFor}
 use Rattle.wf_captures.specs.Packets.{frames_sent, packets_at, octets_of}
@@ -54,7 +54,8 @@ pub packet_more : (w : World) (bodies : ℕ → FrameValue) (e k at : ℕ) (f : 
     octets_of (packets_at at (take (k + 1) (frames_sent w bodies e))) ≡ octets_of (packets_at at (take k (frames_sent w bodies e))) ++ packet_octets at f
 packet_more w bodies e k at f sent =
     let frames : List (List ℕ) = frames_sent w bodies e in
-    let more : take (k + 1) frames ≡ take k frames ++ f ∷ [] = ap (λ n. take n frames) (omega arith) ∙ take_next frames k f (sent_by_index w bodies e k ∙ sent) in
+    let next : k + 1 ≡ suc k = omega arith in
+    let more : take (k + 1) frames ≡ take k frames ++ f ∷ [] = ap (λ n. take n frames) next ∙ take_next frames k f (sent_by_index w bodies e k ∙ sent) in
     ap (λ l. octets_of (packets_at at l)) more ∙ packets_append at (take k frames) (f ∷ []) ∙ ap (λ l. octets_of (packets_at at (take k frames)) ++ l) (one_packet at f)
 
 -- the packets up to an index are the front of all
@@ -117,7 +118,7 @@ some_octets w bodies e k f sent = of (exchange w e) refl
 
     content_long : (x : Exchange) (c : Content) (k : ℕ) → slice_get (octets_of_content w bodies x c) k ≡ Some f → 0 < length f
     content_long x (Frames mpdus) k is = data_long x mpdus k is
-    content_long x (Request start) zero is = let same = cc is in omega (arith, ap length same)
+    content_long x (Request start) zero is = let same : bar_octets x start ≡ f = cc is in omega (arith, ap length same)
     content_long x (Request start) (suc k) is = absurd (cc is)
 
     of : (o : Option Exchange) → exchange w e ≡ o → 0 < length f
