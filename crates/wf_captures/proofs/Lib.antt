@@ -1,6 +1,6 @@
 pub mod Sampled
 pub mod SentPackets
-pub mod Law
+pub mod Listed
 pub mod Acks
 pub mod Cells
 pub mod Entries
