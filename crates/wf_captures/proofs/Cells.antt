@@ -24,7 +24,7 @@ use Rattle.wf_captures.specs.Samples.{world_in, IsSample, HasSamples, IsSampled}
 use Rattle.wf_captures.proofs.Listed.{time_after}
 use Rattle.wf_captures.proofs.Sampled.{no_sample, after_sample}
 
-no_frames : ℕ → FrameValue
+abbrev no_frames : ℕ → FrameValue
 no_frames id = new_frame 0 0 0 []
 
 -- ---- for callers: a new cell has such frames alone, and so has one after a call of a trace

@@ -16,7 +16,7 @@ unreachable-requires c =
     let w : World = world_in c.args.cell.now in
     let long : length c.args.octets.now ≡ 2330 = omega arith in
     let fault =
-    c.in-Err.ensures.fault w s.bodies s.stands ∙ ap (λ n. write_fault w s.bodies c.args.exchange c.args.index n) long
+    c.in-Err.ensures.fault w s.bodies (rw (c.path.ensures.value) s.stands) ∙ ap (λ n. write_fault w s.bodies c.args.exchange c.args.index n) long
     ∙ no_write_fault c.args.cell.now.half w s.bodies s.stands c.args.exchange r.sending r.known c.args.index r.within in
     cc
 
@@ -24,11 +24,11 @@ pub returns-clause-some : goal.returns-clause-some
 returns-clause-some c =
     let s = c.requires.samples in
     let w : World = world_in c.args.cell.now in
-    let some = some_octets w s.bodies c.args.exchange c.args.index _ (c.in-Ok.ensures.octets w s.bodies s.stands) in
+    let some = some_octets w s.bodies c.args.exchange c.args.index _ (c.in-Ok.ensures.octets w s.bodies (rw (c.path.ensures.value) s.stands)) in
     omega (arith, some, length-take c.in-Ok.len c.mpdu.new.out)
 
 pub returns-clause-octets : goal.returns-clause-octets
 returns-clause-octets c =
     let s = c.requires.samples in
     let w : World = world_in c.args.cell.now in
-    sym (octets_same c.args.cell.now.half w s.bodies s.stands s.samples c.args.exchange c.args.index) ∙ c.in-Ok.ensures.octets w s.bodies s.stands
+    sym (octets_same c.args.cell.now.half w s.bodies s.stands s.samples c.args.exchange c.args.index) ∙ c.in-Ok.ensures.octets w s.bodies (rw (c.path.ensures.value) s.stands)

@@ -12,4 +12,4 @@ pub returns-clause-small : goal.returns-clause-small
 returns-clause-small c =
     let stands = c.path.ensures.stands in
     let value = c.now.ensures.world (world_of c.args.cell.now.past) stands.0 (rw (c.path.ensures.value) stands.1) in
-    omega (arith, value, clock_small c.args.cell.now.half c.args.cell.now.past stands.0 stands.1 (omega (arith, c.len.ensures.count, c.len.ensures.most)))
+    omega (arith, value, clock_small c.args.cell.now.half c.args.cell.now.past stands.0 stands.1 (omega (arith, c.len-calls.ensures.count, c.len-calls.ensures.most)))
