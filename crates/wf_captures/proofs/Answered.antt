@@ -1,6 +1,6 @@
 -- The packet of a BlockAck.
 use Rattle.std.proofs.Common.{◌≡◌, refl, ap, sym, ◌∙◌, subst, ℕ, ◌≤◌, Bool, true, false, List, [], ◌∷◌, length, take, Option, Some, None, append-nil}
-use Rattle.std.specs.Prelude.{option_map}
+use Rattle.std.specs.Prelude.{option_map, Result, Ok, Err, OnOk}
 use Rattle.std.specs.Io.KnownBytes.{append_known}
 use Rattle.wf_pcap.specs.Capture.{packet_octets}
 use Rattle.wf_status.specs.Fronts.{HoldsFront}
@@ -50,3 +50,8 @@ pub one_front : (held new : Option (List ℕ)) (at clock : ℕ) (f g all : List 
 one_front held new at clock f g all time same is wrote =
     let whole : packet_octets at f ≡ all = ap (λ n. packet_octets n f) time ∙ ap (packet_octets clock) same ∙ sym is in
     subst (HoldsFront held new) whole (front_partly (packet_octets at f) held new wrote)
+
+-- what follows of a call that succeeded
+pub on_ok : {T E A B : Type 0} (result : Result T E) → (A → B) → OnOk result A → OnOk result B
+on_ok (Ok value) then is = then is
+on_ok (Err fault) then is = tt

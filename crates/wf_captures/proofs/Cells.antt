@@ -85,7 +85,14 @@ last_entry p q e f count is long got =
 
 -- ---- the packets of a call, by the world behind it
 
-pub packets_are : (c : CellValue) (p : Past) (caller : ℕ) (note : Note) (answered : ReplyNote) → c.past ≡ with_entry (by caller note) p → answered ≡ (step (world_of p) note).reply →
+packets_are : (c : CellValue) (p : Past) (caller : ℕ) (note : Note) (answered : ReplyNote) → c.past ≡ with_entry (by caller note) p → answered ≡ (step (world_of p) note).reply →
     octets_of (packets_at (world_in c).clock (frames_by (world_in c) (samples (world_in c)) note answered)) ≡ packets_of (world_of p) note
 packets_are c p caller note answered is reply =
     ap₂ (λ (w : World) (a : ReplyNote). octets_of (packets_at w.clock (frames_by w (samples w) note a))) (world_is p c.past (by caller note) is) reply
+
+pub call_is : (c : CellValue) (p : Past) (caller : ℕ) (note told : Note) (answered : ReplyNote) → Some told ≡ Some note → c.past ≡ with_entry (by caller note) p →
+    answered ≡ (step (world_of p) note).reply →
+    octets_of (packets_at (world_in c).clock (frames_by (world_in c) (samples (world_in c)) told answered)) ≡ packets_of (world_of p) note
+call_is c p caller note told answered known is reply =
+    let same : told ≡ note = cc in
+    ap (λ (n : Note). octets_of (packets_at (world_in c).clock (frames_by (world_in c) (samples (world_in c)) n answered))) same ∙ packets_are c p caller note answered is reply
