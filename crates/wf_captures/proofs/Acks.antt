@@ -1,9 +1,9 @@
 -- The octets of a BlockAck, head and bitmap.
-use Rattle.std.proofs.Common.{◌≡◌, refl, ap, ap₂, sym, ◌∙◌, ℕ, ◌+◌, ◌≤◌, Bool, true, false, List, [], ◌∷◌, ◌++◌, length, take, arith, append-nil, append_assoc}
+use Rattle.std.proofs.Common.{◌≡◌, refl, ap, sym, ◌∙◌, ℕ, true, List, [], ◌∷◌, ◌++◌, length, take, arith, append_assoc}
 use Rattle.std.proofs.lemmas.List.{take_all}
 use Rattle.byteorder.specs.Endian.{little_bytes}
 use Rattle.wf_header.specs.Addresses.{base, address_of_station}
-use Rattle.wf_blockack.specs.Layout.{head_octets, answer, narrow_form, wide_form}
+use Rattle.wf_blockack.specs.Layout.{head_octets, answer, wide_form}
 use Rattle.wf_blockack.specs.declared.frames.Bar.{Bar}
 use Rattle.wf_origwin.specs.Window.{on_air}
 use Rattle.wf_captures.specs.BlockAcks.{block_ack_head, block_ack_octets}

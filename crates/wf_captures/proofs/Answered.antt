@@ -1,5 +1,5 @@
 -- The packet of a BlockAck.
-use Rattle.std.proofs.Common.{◌≡◌, refl, ap, sym, ◌∙◌, subst, ℕ, ◌≤◌, Bool, true, false, List, [], ◌∷◌, length, take, Option, Some, None, append-nil}
+use Rattle.std.proofs.Common.{◌≡◌, refl, ap, sym, ◌∙◌, subst, ℕ, ◌≤◌, Bool, List, [], length, take, Option, Some, None, append-nil}
 use Rattle.std.specs.Prelude.{option_map, Result, Ok, Err, OnOk}
 use Rattle.std.specs.Io.KnownBytes.{append_known}
 use Rattle.wf_pcap.specs.Capture.{packet_octets}

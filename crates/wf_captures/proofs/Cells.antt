@@ -20,7 +20,7 @@ use Rattle.wf_cell.proofs.Exchanges.{told_tid}
 use Rattle.wf_cell.proofs.Runs.{world_then, config_after, opening_is}
 use Rattle.wf_captures.specs.Packets.{frames_by, packets_at, octets_of}
 use Rattle.wf_captures.specs.Captures.{samples, packets_of}
-use Rattle.wf_captures.specs.Samples.{world_in, IsSample, HasSamples, IsSampled}
+use Rattle.wf_captures.specs.Samples.{world_in, IsSample, IsSampled}
 use Rattle.wf_captures.proofs.Listed.{time_after}
 use Rattle.wf_captures.proofs.Sampled.{no_sample, after_sample}
 

@@ -1,5 +1,5 @@
 -- A capture grows by the packets of each call.
-use Rattle.std.proofs.Common.{◌≡◌, refl, ap, sym, ◌∙◌, ℕ, List, [], ◌∷◌, ◌++◌, append_assoc, append-nil}
+use Rattle.std.proofs.Common.{◌≡◌, refl, ap, sym, ◌∙◌, List, [], ◌∷◌, ◌++◌, append_assoc, append-nil}
 use Rattle.wf_frame.specs.declared.settings.Config.{Config}
 use Rattle.wf_pcap.specs.Capture.{head_octets, packet_octets}
 use Rattle.wf_frames_run.specs.Law.{Sent}

@@ -1,18 +1,16 @@
 -- The packets of a run are ones that a capture can have, so `frames` lists each of them.
-use Rattle.std.proofs.Common.{◌≡◌, refl, ap, sym, ◌∙◌, subst, ℕ, ◌+◌, ◌*◌, ◌^◌, ◌<◌, ◌≤◌, Bool, true, false, List, [], ◌∷◌, ◌++◌, length, map, take, Option, Some, None, lit≤, arith, length-append, append_assoc}
+use Rattle.std.proofs.Common.{◌≡◌, refl, ap, subst, ℕ, ◌+◌, ◌*◌, ◌^◌, ◌<◌, ◌≤◌, Bool, true, false, List, [], ◌∷◌, ◌++◌, length, map, take, Option, Some, None, lit≤, arith, length-append}
 use Rattle.std.specs.Prelude.{option_and_then}
 use Rattle.std.proofs.lemmas.List.{take_all}
-use Rattle.wf_frame.specs.Frames.{FrameValue, sample_body}
 use Rattle.wf_frame.specs.Settings.{IsInRange}
 use Rattle.wf_frame.specs.declared.notes.Note.{Note}
 use Rattle.wf_frame.specs.declared.notes.Note.TheVariants.{Enqueue, Asked}
 use Rattle.wf_frame.specs.declared.notes.ReplyNote.{ReplyNote}
 use Rattle.wf_frame.specs.declared.notes.ReplyNote.TheVariants as reply
 use Rattle.wf_frame.specs.declared.settings.Config.{Config}
-use Rattle.wf_rules.specs.Bounds.{greatest_tick}
 use Rattle.wf_rules.specs.Lengths.{greatest_body}
 use Rattle.wf_frames_run.specs.Packets.{most_octets}
-use Rattle.wf_frames_run.specs.Law.{Sent, IsWritable, AreWritable, IsListed}
+use Rattle.wf_frames_run.specs.Law.{Sent, AreWritable, IsListed}
 use Rattle.wf_frames_run.proofs.Captures.{written_law}
 use Rattle.wf_header.specs.Layout.{octets_of}
 use Rattle.wf_world.specs.World.{World, Mpdu, Exchange, Content, Frames, Request, exchange, frame, len_of, opening}

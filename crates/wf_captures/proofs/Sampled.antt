@@ -1,19 +1,18 @@
 -- The frames of a cell stay those that the calls of its trace brought, and what goes on the air has their bodies.
-use Rattle.std.proofs.Common.{◌≡◌, refl, ap, ap₂, sym, ◌∙◌, subst, ℕ, zero, suc, Bool, true, false, List, [], ◌∷◌, ◌++◌, ◌+◌, ◌%◌, length, map, Option, Some, None, arith, length-append}
+use Rattle.std.proofs.Common.{◌≡◌, refl, ap, ap₂, sym, ◌∙◌, ℕ, zero, suc, Bool, true, false, List, [], ◌∷◌, ◌++◌, ◌+◌, ◌%◌, length, map, Option, Some, None, arith, length-append}
 use Rattle.std.specs.Prelude.{◌==◌, slice_get, if◌then◌else◌}
 use Rattle.wf_frame.specs.Frames.{FrameValue, new_frame, sample_body}
 use Rattle.wf_frame.specs.declared.notes.Note.{Note}
 use Rattle.wf_frame.specs.declared.notes.ReplyNote.{ReplyNote}
 use Rattle.wf_frame.specs.declared.notes.ReplyNote.TheVariants as reply
-use Rattle.wf_frame.specs.declared.classes.Fate.TheVariants.{Held}
 use Rattle.wf_world.specs.World.{World, Mpdu, Exchange, Content, Frames, Request, exchange}
 use Rattle.wf_world.specs.Exchanges.{mpdus_of}
 use Rattle.wf_header.specs.Layout.{octets_of}
-use Rattle.wf_flowq_refines.specs.Frames.{notes, with_body}
+use Rattle.wf_flowq_refines.specs.Frames.{with_body}
 use Rattle.wf_transmit.specs.Enqueues.{as_accepted}
 use Rattle.wf_transmit_refines.specs.Half.{TransmitValue}
 use Rattle.wf_transmit_refines.specs.Standing.{StandsFor}
-use Rattle.wf_transmissions.specs.Transmissions.{header_of, data_octets, octets_of_content, frames_on_air}
+use Rattle.wf_transmissions.specs.Transmissions.{header_of, data_octets, octets_of_content}
 use Rattle.wf_path.specs.declared.job.Job.{Job}
 use Rattle.wf_path.specs.declared.job.Job.TheVariants.{Give, Call}
 use Rattle.wf_path.specs.Jobs.{bodies_after, frame_of}

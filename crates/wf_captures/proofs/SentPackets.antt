@@ -1,5 +1,5 @@
 -- Packets that are written one after another.
-use Rattle.std.proofs.Common.{◌≡◌, refl, ap, sym, ◌∙◌, subst, ℕ, zero, suc, ◌+◌, ◌<◌, ◌≤◌, Bool, true, false, List, [], ◌∷◌, ◌++◌, length, map, take, drop, Option, Some, None, arith, length-append, append_assoc, append-nil}
+use Rattle.std.proofs.Common.{◌≡◌, refl, ap, sym, ◌∙◌, subst, ℕ, zero, suc, ◌+◌, ◌<◌, ◌≤◌, List, [], ◌∷◌, ◌++◌, length, map, take, drop, Option, Some, None, arith, length-append, append_assoc, append-nil}
 use Rattle.std.specs.Prelude.{slice_get, option_map, option_and_then}
 use Rattle.std.specs.Io.KnownBytes.{append_known}
 use Rattle.std.proofs.lemmas.List.{take_all, take-append-drop}
@@ -7,19 +7,17 @@ use Rattle.wf_frame.specs.Frames.{FrameValue}
 use Rattle.wf_header.specs.Layout.{octets_of as header_octets}
 use Rattle.wf_pcap.specs.Capture.{packet_octets}
 use Rattle.wf_status.specs.Fronts.{HoldsFront}
-use Rattle.wf_status.proofs.FrontLaws.{append_known-append, front_partly, front_first, front_next, front_whole, two_written}
-use Rattle.wf_frames_run.specs.Law.{Sent}
+use Rattle.wf_status.proofs.FrontLaws.{front_partly, front_first, front_next, two_written}
 use Rattle.wf_world.specs.World.{World, Mpdu, Exchange, Content, Frames, Request, exchange}
 use Rattle.wf_world.specs.Exchanges.{transmissions}
 use Rattle.wf_transmissions.specs.declared.reading.Sent.{Sent as Told}
-use Rattle.wf_transmissions.specs.Transmissions.{sent_of, octets_sent, transmission_octets, frames_on_air, bar_octets, data_octets, header_of, octets_of_content}
+use Rattle.wf_transmissions.specs.Transmissions.{sent_of, octets_sent, transmission_octets, bar_octets, data_octets, header_of, octets_of_content}
 use Rattle.wf_transmit_refines.specs.Half.{TransmitValue}
 use Rattle.wf_transmit_refines.specs.Standing.{StandsFor}
 use Rattle.wf_captures.specs.Packets.{frames_sent, packets_at, octets_of}
 use Rattle.wf_captures.specs.Captures.{samples}
 use Rattle.wf_captures.specs.Samples.{IsSample, IsSending}
 use Rattle.wf_captures.proofs.Sampled.{sent_same}
-use Rattle.wf_captures.proofs.Entries.{octets_of-append}
 
 -- ---- one by one
 

@@ -1,5 +1,5 @@
 -- The octets of a BlockAck that a reply tells (IEEE 802.11-2012, 8.3.1.9).
-use Rattle.std.specs.Prelude.{ℕ, ◌%◌, Bool, List, [], ◌∷◌, ◌++◌, flat_map, if◌then◌else◌}
+use Rattle.std.specs.Prelude.{ℕ, Bool, List, ◌++◌, flat_map, if◌then◌else◌}
 use Rattle.byteorder.specs.Endian.{little_bytes}
 use Rattle.wf_header.specs.Addresses.{base, address_of_station}
 use Rattle.wf_blockack.specs.Layout.{head_octets, answer, narrow_form, wide_form}

@@ -1,7 +1,5 @@
-use Rattle.std.proofs.Common.{◌≡◌, ◌<◌, ap, sym, subst, ◌∙◌, ℕ, List, length, take, arith}
+use Rattle.std.proofs.Common.{◌≡◌, ap, sym, ◌∙◌, length, arith}
 use Rattle.std.proofs.lemmas.List.{length-take}
-use Rattle.wf_transmit_refines.specs.Half.{TransmitValue}
-use Rattle.wf_transmit_refines.specs.Standing.{StandsFor}
 use Rattle.wf_transmissions.specs.Writing.{write_fault}
 use Rattle.wf_cell.proofs.Written.{no_write_fault}
 use Rattle.wf_world.specs.World.{World}

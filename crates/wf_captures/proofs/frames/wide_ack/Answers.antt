@@ -1,4 +1,4 @@
-use Rattle.std.proofs.Common.{◌≡◌, refl, ap, sym, ◌∙◌, ℕ, List, ◌++◌, take, length, arith, ◌%◌}
+use Rattle.std.proofs.Common.{ap, ◌∙◌, ℕ, ◌++◌, take, arith, ◌%◌}
 use Rattle.wf_captures.proofs.Acks.{head_is, wide_is}
 use Rattle.wf_captures.proofs.frames.wide_ack.Goals as goal
 

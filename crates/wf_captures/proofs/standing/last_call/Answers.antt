@@ -1,6 +1,5 @@
-use Rattle.std.proofs.Common.{◌≡◌, ap, sym, arith, Some}
+use Rattle.std.proofs.Common.{ap, arith, Some}
 use Rattle.wf_world.specs.Run.{Entry, by}
-use Rattle.wf_frame.specs.declared.notes.Note.{Note}
 use Rattle.wf_captures.proofs.Cells.{not_empty, last_entry}
 use Rattle.wf_captures.proofs.standing.last_call.Goals as goal
 

@@ -1,4 +1,4 @@
-use Rattle.std.proofs.Common.{◌≡◌, ◌∙◌, ℕ, take}
+use Rattle.std.proofs.Common.{◌∙◌, take}
 use Rattle.wf_world.specs.World.{World}
 use Rattle.wf_captures.specs.Captures.{samples}
 use Rattle.wf_captures.specs.Samples.{world_in}

@@ -1,4 +1,4 @@
-use Rattle.std.proofs.Common.{◌≡◌, ℕ, take}
+use Rattle.std.proofs.Common.{◌≡◌, take}
 use Rattle.std.specs.Io.KnownBytes.{append_known}
 use Rattle.wf_captures.specs.Captures.{samples}
 use Rattle.wf_captures.specs.Packets.{frames_sent, packets_at, octets_of}
