@@ -5,7 +5,6 @@
 mod commands;
 mod outgoing;
 mod runner;
-mod stage;
 mod words;
 
 pub use commands::{replay, run, soaked};

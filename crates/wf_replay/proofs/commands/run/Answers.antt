@@ -1,5 +1,5 @@
 use Rattle.std.proofs.Common.{true}
-use Rattle.wf_replay.proofs.Ranges.{trace_laws}
+use Rattle.wf_reading.proofs.Ranges.{trace_laws}
 use Rattle.wf_replay.proofs.SoakText.{soak_laws, soak_lengths}
 use Rattle.wf_session_run.proofs.Law.{session_law as law_of_session}
 use Rattle.wf_uplink_run.proofs.Scripts.{uplink_law as law_of_uplink}

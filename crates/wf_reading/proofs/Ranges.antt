@@ -1,5 +1,5 @@
 -- The settings that a trace's head names are in their ranges, and so are the lengths of its frames.
-use Rattle.std.proofs.Common.{◌≡◌, ℕ, ◌≤◌, nat_le, Bool, true, false, ◌&&◌, ◌==◌, List, [], ◌∷◌, ◌++◌, ◌+◌, length, Option, Some, None, Result, Ok, Err, refl, subst, arith, codes, replicate, if◌then◌else◌, slice_set}
+use Rattle.std.proofs.Common.{◌≡◌, ℕ, ◌≤◌, nat_le, Bool, true, false, ◌&&◌, ◌==◌, List, [], ◌∷◌, ◌++◌, Option, Some, None, Result, Ok, Err, refl, subst, arith, codes, replicate, if◌then◌else◌, slice_set}
 use Rattle.std.specs.Str.{bytes_eq}
 use Rattle.wf_frame.specs.declared.settings.Config.{Config}
 use Rattle.wf_frame.specs.declared.settings.Field.{Field}
@@ -29,9 +29,9 @@ use Rattle.wf_trace.specs.Settings.{worse, placed, set_one, read_words, value_re
 use Rattle.wf_trace.specs.Meanings.{read_head, allowed, entry_of, against, caller_of, caller_first, headed, finished, named, meant}
 use Rattle.wf_trace.specs.Reader.{IsLine}
 use Rattle.wf_trace.specs.Reading.{Reading, told, stopped, read_behind, place_behind, reading}
-use Rattle.wf_replay.specs.Texts.{settings_among, history_among}
+use Rattle.wf_reading.specs.Histories.{settings_among, history_among}
 use Rattle.wf_laws.specs.Lengths.{HasLengths}
-use Rattle.wf_replay.specs.Laws.{HasLaws}
+use Rattle.wf_reading.specs.Laws.{HasLaws}
 use Rattle.wf_laws.specs.Queues.{HasLength, IsAtMost}
 use Rattle.wf_laws.proofs.AllLaws.{laws}
 use Rattle.wf_frame.specs.declared.notes.Note.{Note}

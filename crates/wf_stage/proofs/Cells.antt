@@ -1,11 +1,17 @@
 -- The history of a run: where it is in the trace, and how far the run has come.
 use Rattle.std.proofs.Common.{◌≡◌, ℕ, ◌+◌, ◌-◌, ◌<◌, List, [], ◌∷◌, ◌++◌, length, refl, sym, ◌∙◌, ap, ap₂, subst, arith}
-use Rattle.std.specs.Prelude.{Option, Some, None, Ok, IsSomeAnd, option_map}
+use Rattle.std.specs.Prelude.{Option, Some, None, Ok, IfSome, IsSomeAnd, option_map}
 use Rattle.std.proofs.lemmas.List.{length-append}
 use Rattle.wf_cell.specs.Cells.{room_in, with_entry}
 use Rattle.wf_frame.specs.declared.settings.Config.{Config}
+use Rattle.wf_captures.specs.Samples.{IsSample}
+use Rattle.wf_captures.proofs.Sampled.{is_sample, length_sample}
+use Rattle.wf_frame.specs.Frames.{FrameValue, new_frame, sample_body}
 use Rattle.wf_frame.specs.declared.notes.Note.{Note}
-use Rattle.wf_live.proofs.SoakLemmas.{nothing_past, one_more}
+use Rattle.wf_frame.specs.declared.notes.Note.TheVariants.{Enqueue}
+use Rattle.wf_path.specs.Jobs.{note_of}
+use Rattle.wf_path.specs.declared.job.Job.TheVariants.{Give}
+use Rattle.wf_cell.proofs.Runs.{opening_is, world_then}
 use Rattle.wf_trace.specs.declared.meaning.Meaning.TheVariants as meaning
 use Rattle.wf_trace.specs.declared.meaning.Place.{Place}
 use Rattle.wf_trace.specs.declared.reader.Item.TheVariants.{Entry}
@@ -14,9 +20,8 @@ use Rattle.wf_trace.specs.Reader.{next_place}
 use Rattle.wf_world.specs.World.{World, opening}
 use Rattle.wf_world.specs.Step.{step}
 use Rattle.wf_world.specs.Run.{Past, by, world_of}
-use Rattle.wf_world.specs.Text.{summary}
-use Rattle.wf_replay.specs.Running.{Progress, progress_of, closing_of, IsAt}
-use Rattle.wf_replay.proofs.Replays.{begun, gone_on}
+use Rattle.wf_reading.specs.Running.{Progress, progress_of, IsAt}
+use Rattle.wf_reading.proofs.Tellings.{headed, gone_on}
 
 -- one entry more
 abbrev pub IsOneMore : ℕ → Note → Option Past → Option Past → Type 0
@@ -31,15 +36,15 @@ progress_none (Some p) at = absurd at
 pub progress_at : (p : Option Past) (place : Option Place) → IsAt p place → place ≡ None → (progress_of p).calls ≡ 0
 progress_at p place at none = progress_none p (subst (λ (x : Option Place). IsAt p x) none at)
 
-pub progress_head : (p : Past) (config : Config) → p ≡ record { config = config; history = [] } → progress_of (Some p) ≡ begun config
+pub progress_head : (p : Past) (config : Config) → p ≡ record { config = config; history = [] } → progress_of (Some p) ≡ headed config
 progress_head p config is =
     ap₂ (λ (w : World) (n : ℕ). let x : Progress = record { world = Some w; calls = n } in x)
-    (ap world_of is ∙ nothing_past (opening config)) (ap (λ (x : Past). length x.history) is)
+    (ap world_of is ∙ opening_is config) (ap (λ (x : Past). length x.history) is)
 
 progress_one : (p q : Past) (caller : ℕ) (note : Note) → q ≡ with_entry (by caller note) p →
     (world_of q ≡ (step (world_of p) note).world) × (length q.history ≡ length p.history + 1)
 progress_one p q caller note is = (
-  ap world_of is ∙ one_more p.history (opening p.config) (by caller note),
+  ap world_of is ∙ world_then p.history (opening p.config) (by caller note),
   ap (λ (x : Past). length x.history) is ∙ length-append p.history (by caller note ∷ []),
 )
 
@@ -51,13 +56,6 @@ progress_on (Some p) (Some q) caller note some is =
     let past : q ≡ with_entry (by caller note) p = cc in
     let one = progress_one p q caller note past in
     ap₂ (λ (w : World) (n : ℕ). let x : Progress = record { world = Some w; calls = n } in x) one.0 one.1
-
--- the last lines of a stage with this history
-pub closing_is : {T : Type 0} → (past : T → Past) (stage : Option T) (x : T) (p : Past) → stage ≡ Some x → p ≡ past x →
-    summary (world_of p) (length p.history) ≡ closing_of (option_map past stage)
-closing_is past stage x p some is =
-    subst (λ y. summary (world_of p) (length p.history) ≡ closing_of (option_map past y)) (sym some)
-    (ap (λ (q : Past). summary (world_of q) (length q.history)) is)
 
 -- ---- where it is
 
@@ -92,3 +90,17 @@ room_at (Some p) (Some place) caller note at room = omega (arith, at.0, at.1, ro
 
 pub never_both : {X : Type 0} → (o : Option X) (x : X) → o ≡ None → o ≡ Some x → ⊥
 never_both o x none some = absurd (cc)
+
+-- what holds of a value, if there is one
+pub some_is : {X : Type 0} (P : X → Type 0) (o : Option X) → IfSome o P → (x : X) → o ≡ Some x → P x
+some_is P None all x is = absurd (cc)
+some_is P (Some y) all x is = let same : y ≡ x = cc in subst P same all
+
+-- a frame of a trace has the length that its line names
+pub frame_named : (f : FrameValue) (station tid flow len : ℕ) → f ≡ new_frame station tid flow (sample_body flow len) → note_of (Give f) ≡ Enqueue station tid flow len
+frame_named f station tid flow len is =
+    ap (λ (x : FrameValue). note_of (Give x)) is ∙ ap (λ (n : ℕ). Enqueue station tid flow n) (length_sample flow len)
+
+-- and the body that the calls of a trace bring
+pub sample_named : (f : FrameValue) (station tid flow len : ℕ) → f ≡ new_frame station tid flow (sample_body flow len) → IsSample f
+sample_named f station tid flow len is = subst IsSample (sym is) (is_sample station tid flow len)

@@ -1,4 +1,4 @@
--- The ending of a trace is finish or a fault, and without a fault of its source and sink a replay ends as its trace does.
+-- The ending of a trace is finish or a fault, and without a fault of its source and sink a run ends as its trace does.
 use Rattle.std.proofs.Common.{◌≡◌, ℕ, List, [], ◌∷◌, ◌++◌, true, refl, inl, inr, sym, subst}
 use Rattle.std.specs.Prelude.{Option, Some, None, Result, Ok, Err}
 use Rattle.wf_trace.specs.declared.cut.Piece.{Piece}
@@ -16,15 +16,8 @@ use Rattle.wf_trace.specs.Reading.{Reading, reading, read_behind, place_behind, 
 use Rattle.wf_script.proofs.Known.{EndsInput, pieces_known}
 use Rattle.wf_status.specs.declared.status.Status.{Status}
 use Rattle.wf_status.specs.declared.status.Status.TheVariants.{Done, Usage, BadTrace, ReadFault, WriteFault, NoMemory}
-use Rattle.wf_replay.specs.Outcome.{StatusSays, FitsEnding}
-
--- finish or a fault
-abbrev pub EndsTrace : Option Item → Type 0
-EndsTrace None = ⊥
-EndsTrace (Some Finish) = Unit {0}
-EndsTrace (Some (Bad fault)) = Unit {0}
-EndsTrace (Some (Head config)) = ⊥
-EndsTrace (Some (Entry caller note)) = ⊥
+use Rattle.wf_reading.specs.Endings.{FitsEnding, EndsTrace}
+use Rattle.wf_reading.specs.Outcomes.{TraceOutcome}
 
 stopped_ends : (place : Option Place) (end : Option Piece) → EndsInput end → EndsTrace (stopped place end).ending
 stopped_ends place None is = absurd is
@@ -53,10 +46,11 @@ without_memory (Some (Bad fault)) ends = inr refl
 without_memory (Some (Head config)) ends = absurd ends
 without_memory (Some (Entry caller note)) ends = absurd ends
 
-pub answered : (status : Status) (input taken written : List ℕ) → StatusSays status input taken written → (status ≡ ReadFault → ⊥) → (status ≡ WriteFault → ⊥) → (status ≡ Usage → ⊥) → FitsEnding (reading true input).ending status
-answered Done input taken written outcome read write usage = subst (λ (e : Option Item). FitsEnding e Done) (sym outcome.0) (inl refl)
-answered BadTrace input taken written outcome read write usage = subst (λ (e : Option Item). FitsEnding e BadTrace) (sym outcome.1) (inl refl)
-answered ReadFault input taken written outcome read write usage = absurd (read refl)
-answered WriteFault input taken written outcome read write usage = absurd (write refl)
-answered NoMemory input taken written outcome read write usage = without_memory (reading true input).ending (reading_ends input)
-answered Usage input taken written outcome read write usage = absurd (usage refl)
+pub answered : (calls text : Reading → List ℕ) (status : Status) (input taken written : List ℕ) → TraceOutcome calls text status input taken written →
+    (status ≡ ReadFault → ⊥) → (status ≡ WriteFault → ⊥) → (status ≡ Usage → ⊥) → FitsEnding (reading true input).ending status
+answered calls text Done input taken written outcome read write usage = subst (λ (e : Option Item). FitsEnding e Done) (sym outcome.0) (inl refl)
+answered calls text BadTrace input taken written outcome read write usage = subst (λ (e : Option Item). FitsEnding e BadTrace) (sym outcome.1) (inl refl)
+answered calls text ReadFault input taken written outcome read write usage = absurd (read refl)
+answered calls text WriteFault input taken written outcome read write usage = absurd (write refl)
+answered calls text NoMemory input taken written outcome read write usage = without_memory (reading true input).ending (reading_ends input)
+answered calls text Usage input taken written outcome read write usage = absurd (usage refl)
