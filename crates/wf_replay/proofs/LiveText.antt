@@ -15,8 +15,9 @@ use Rattle.wf_trace.specs.Printing.{IsPrintable}
 use Rattle.wf_trace.specs.Reading.{reading}
 use Rattle.wf_world.specs.Run.{Entry}
 use Rattle.wf_world.specs.Text.{text_of}
-use Rattle.wf_replay.specs.Texts.{history_among, text}
-use Rattle.wf_replay.proofs.Ranges.{standard_in}
+use Rattle.wf_reading.specs.Histories.{history_among}
+use Rattle.wf_replay.specs.Texts.{text}
+use Rattle.wf_reading.proofs.Ranges.{standard_in}
 
 same_history : (history : List Entry) → history_among (entry_items history) ≡ history
 same_history [] = refl
