@@ -1,6 +1,6 @@
 -- What is written of a history.
 use Rattle.std.proofs.Common.{◌≡◌, ℕ, ◌≤◌, List, ◌++◌, length, Bool, refl, sym, ◌∙◌, ap, subst, arith}
-use Rattle.std.specs.Prelude.{Option}
+use Rattle.std.specs.Prelude.{Option, Result, Ok, Err, OnOk}
 use Rattle.std.specs.Io.KnownBytes.{append_known}
 use Rattle.wf_frame.specs.Settings.{standard}
 use Rattle.wf_frame.specs.declared.settings.Config.{Config}
@@ -21,6 +21,11 @@ summary_is p is = ap (λ (c : Config). summary (world_after (opening c) p.histor
 pub text_written : (p : Past) → p.config ≡ standard → (old now new : Option (List ℕ)) → now ≡ append_known old (trace_of p.history) → new ≡ append_known now (summary (world_of p) (length p.history)) → new ≡ append_known old (live_text p.history)
 text_written p is old now new first second =
     two_written old now new (trace_of p.history) (history_summary standard p.history) first (second ∙ ap (append_known now) (summary_is p is))
+
+-- what follows of a fact where a call succeeded
+pub on_ok : {T E P Q : Type 0} (r : Result T E) → OnOk r P → (P → Q) → OnOk r Q
+on_ok (Ok x) p follows = follows p
+on_ok (Err e) p follows = tt
 
 pub trace_front : (p : Past) (old new : Option (List ℕ)) → HoldsFront old new (trace_of p.history) → HoldsFront old new (live_text p.history)
 trace_front p old new front = front_first old new (trace_of p.history) (history_summary standard p.history) front
