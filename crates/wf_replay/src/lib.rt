@@ -13,6 +13,4 @@ pub use wf_status::Status;
 pub use words::Command;
 
 #[cfg(test)]
-mod near_misses;
-#[cfg(test)]
 mod tests;
