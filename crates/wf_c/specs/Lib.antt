@@ -1,0 +1,5 @@
+pub mod Calls
+pub mod Making
+pub mod Numbers
+pub mod Shares
+pub mod Slots

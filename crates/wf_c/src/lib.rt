@@ -1,0 +1,21 @@
+//! The transmit path for drivers and simulators in C and C++: `include/wf.h` is the header.
+//!
+//! A handle, `PathSlot`, is a struct of the caller's that is empty or holds a path. Each export but `wf_path_make` asks that it
+//! holds one; a C program has to see to that, and to the other conditions that a `requires` says.
+#![tactic(auto)]
+
+mod asks;
+mod held;
+mod make;
+mod readers;
+mod reply;
+mod settings;
+mod slot;
+mod unboxed;
+
+pub use asks::{wf_path_join, wf_path_leave, wf_path_poll, wf_path_pull, wf_path_rate, wf_path_receive, wf_path_sleep, wf_path_tick, wf_path_wake};
+pub use make::{wf_path_free, wf_path_make};
+pub use readers::{Share, Tally, wf_path_exchanges, wf_path_live, wf_path_now, wf_path_open_count, wf_path_share, wf_path_tally, wf_path_tim};
+pub use reply::Reply;
+pub use settings::{Settings, wf_settings_standard};
+pub use slot::PathSlot;
