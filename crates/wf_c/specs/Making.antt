@@ -1,5 +1,6 @@
 -- How a path is made.
-use Rattle.std.specs.Prelude.{◌≡◌, ℕ, Option, Some, None, ◌+◌}
+use Rattle.std.specs.Prelude.{◌≡◌, ◌⊎◌, ℕ, ℤ, pos, Option, Some, None, ◌+◌}
+use Rattle.wf_frame.specs.Settings.{first_out_of_range}
 use Rattle.wf_frame.specs.declared.settings.Field.{Field}
 use Rattle.wf_frame.specs.declared.settings.Field.TheVariants.{Stations, Flows, Limit, Room, FlowQuantum, Quantum, Inflight, Attempts, Agg, Cap, Sleeping, Calls}
 use Rattle.wf_frame.specs.declared.settings.Config.{Config}
@@ -41,6 +42,15 @@ config_of s = record {
   calls = s.calls;
 }
 
+-- the first of them that is out of its range, if any
+unfoldable pub bad_field : Settings → Option Field
+bad_field s = first_out_of_range (config_of s)
+
 -- the code of want of memory
 abbrev pub no_memory : ℕ
 no_memory = 40
+
+-- the code of a path that is to be made, by the setting that is out of its range, if any
+abbrev pub IsMadeCode : Option Field → ℤ → Type 0
+IsMadeCode (Some f) code = code ≡ pos (bad_setting f)
+IsMadeCode None code = (code ≡ pos 0) ⊎ (code ≡ pos no_memory)

@@ -2,14 +2,16 @@
 //!
 //! Each answers in the caller's `Reply`, and gives its refusal: 0 where it was not refused.
 
-ghost use Rattle.std.specs.Prelude.{◌≡◌, true, false, is_some, pos};
+ghost use Rattle.std.specs.Prelude.{◌≡◌, true, is_some, pos, IfSome};
 ghost use Rattle.wf_frame.specs.Classes.{all_classes, class_among};
 ghost use Rattle.wf_frame.specs.declared.notes.Ask.TheVariants.{Join, Leave, Rate, Tick, Pull, Sleep, Wake, Poll, Rx};
 ghost use Rattle.wf_path.specs.Jobs.{IsHeard};
 ghost use Rattle.wf_path.specs.declared.job.Job.TheVariants.{Call};
 ghost use Rattle.wf_c.specs.Calls.{Becomes, HoldsSmall, IsCalled};
 ghost use Rattle.wf_c.specs.Numbers.{is_set};
+ghost use Rattle.wf_c.specs.Pulled.{ShowsAggregate};
 
+use crate::pulled::Frames;
 use crate::reply::Reply;
 use crate::slot::PathSlot;
 use std::alloc::Global;
@@ -198,19 +200,25 @@ pub extern "C" fn wf_path_receive(
     path.ask(alloc, ask, reply)
 }
 
-/// The driver asks for the next exchange of a class.
+/// The driver asks for the next exchange of a class. Where it sends an aggregate, `frames` has its frames, and else none.
 #[unsafe(no_mangle)]
 pub extern "C" fn wf_path_pull(
     alloc: Global,
     path: &mut PathSlot,
     class: u8,
     reply: &mut Reply,
+    frames: &mut Frames,
 ) -> i32
     requires open { is_some path.old.value ≡ true }
     requires small { HoldsSmall path.old.value }
     ensures called { Becomes (λ h k. IsCalled h (Pull (class_among all_classes class)) k reply.new) path.old.value path.new.value }
+    ensures frames { IfSome path.new.value (λ k. ShowsAggregate frames.new k.answer.brief k.answer.pairs) }
     ensures code { result ≡ pos reply.new.refusal }
 {
+    let mut held = path.take(alloc);
     let class = class_of_number(class);
-    path.ask(alloc, Ask::Pull { class }, reply)
+    *reply = held.ask(Ask::Pull { class });
+    frames.show(&held.answer);
+    path.put(held);
+    i32::from(reply.refusal)
 }

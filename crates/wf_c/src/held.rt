@@ -1,9 +1,7 @@
 //! What lies behind a handle, and the calls of it.
 
-ghost use Rattle.std.specs.Prelude.{◌≡◌, ◌↔◌, ℕ, Some, Err, IfOk};
+ghost use Rattle.std.specs.Prelude.{◌≡◌, ℕ, IfSome};
 ghost use Rattle.wf_frame.specs.Frames.{FrameValue};
-ghost use Rattle.wf_frame.specs.Settings.{first_out_of_range};
-ghost use Rattle.wf_frame.specs.declared.settings.Field.{Field as FieldName};
 ghost use Rattle.wf_world.specs.World.{opening};
 ghost use Rattle.wf_transmit_refines.specs.Standing.{StandsFor};
 ghost use Rattle.wf_path.specs.Jobs.{IsHeard};
@@ -14,7 +12,7 @@ ghost use Rattle.wf_c.specs.Calls.{IsCalled};
 use crate::reply::Reply;
 use std::alloc::Global;
 use wf_frame::{Answer, Ask, Config};
-use wf_path::{Job, NewFault, Path};
+use wf_path::{Job, Path};
 
 /// A path, and its answer to the last call, which is lent to one call after another.
 #[derive(Drop)]
@@ -24,17 +22,25 @@ pub struct Held {
 }
 
 impl Held {
-    // A path of these settings, in a block of its own.
-    pub(crate) fn made(alloc: Global, config: Config) -> Result<Box<Held, Global>, NewFault>
-        ensures bad { (f : FieldName) → (result ≡ Err (NewFault.BadConfig f)) ↔ (first_out_of_range config ≡ Some f) }
-        ensures stands { IfOk result (λ made. (bodies : ℕ → FrameValue) → StandsFor made.value.path (opening config) bodies) }
-        ensures small { IfOk result (λ made. IsSmall made.value.path) }
+    // A path of these settings, in a block of its own. None where a setting is out of its range, or there is no memory.
+    pub(crate) fn made(alloc: Global, config: Config) -> Option<Box<Held, Global>>
+        ensures stands { IfSome result (λ made. (bodies : ℕ → FrameValue) → StandsFor made.value.path (opening config) bodies) }
+        ensures small { IfSome result (λ made. IsSmall made.value.path) }
     {
-        let path = Path::new(alloc, config)?;
+        match Path::new(alloc, config) {
+            Ok(path) => Held::boxed(alloc, path),
+            Err(_) => None,
+        }
+    }
+
+    // A path in a block of its own.
+    fn boxed(alloc: Global, path: Path) -> Option<Box<Held, Global>>
+        ensures { IfSome result (λ made. made.value.path ≡ path) }
+    {
         let answer = Answer::new();
         match Box::new(alloc, Held { path, answer }) {
-            Ok(boxed) => Ok(boxed),
-            Err(_) => Err(NewFault::NoMemory),
+            Ok(boxed) => Some(boxed),
+            Err(_) => None,
         }
     }
 

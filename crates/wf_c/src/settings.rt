@@ -2,7 +2,7 @@
 
 ghost use Rattle.std.specs.Prelude.{◌≡◌};
 ghost use Rattle.wf_frame.specs.Settings.{standard};
-ghost use Rattle.wf_c.specs.Making.{config_of, field_number};
+ghost use Rattle.wf_c.specs.Making.{bad_field, config_of, field_number};
 
 use wf_frame::{Config, Field};
 
@@ -55,6 +55,14 @@ impl Settings {
             sleeping: self.sleeping,
             calls: self.calls,
         }
+    }
+
+    // The first setting that is out of its range.
+    #[tactic(auto, unfolding(crate::specs::Making::bad_field))]
+    pub(crate) fn fault(&self) -> Option<Field>
+        ensures { result ≡ bad_field self.now }
+    {
+        self.config().check()
     }
 }
 
