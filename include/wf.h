@@ -12,8 +12,8 @@
  * memory is freed when it is reaped, when it is refused, or with the path. Memory comes from malloc, realloc and free of the
  * program, which have to align a block to each power of two up to 16 that divides its size.
  *
- * Threads. A handle is one thread's at a time. It may move to another thread, where that is ordered by a lock, or by the start
- * or the join of a thread. Two handles have nothing in common. No function may be called from a signal handler.
+ * Threads. A handle stays on the thread that made it. Two handles have nothing in common, so each thread may have its own. No
+ * function may be called from a signal handler, nor in the child of a fork of a process with threads.
  *
  * Buffers. A pointer must not be null, and what a function writes to must not overlap anything else that it is given. Every
  * struct and buffer must be initialized, as by `= {0}`, before it is handed in. The library keeps no pointer of the caller's.

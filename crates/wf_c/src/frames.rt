@@ -1,6 +1,6 @@
 //! A frame comes in, and a finished one is taken back.
 
-ghost use Rattle.std.specs.Prelude.{◌≡◌, ◌⊎◌, ◌≤◌, true, is_some, pos, take, length, IfOk};
+ghost use Rattle.std.specs.Prelude.{◌≡◌, ◌⊎◌, ◌≤◌, true, is_some, pos, take, length, IfOk, IfSome};
 ghost use Rattle.wf_frame.specs.Frames.{new_frame};
 ghost use Rattle.wf_rules.specs.Lengths.{greatest_body};
 ghost use Rattle.wf_path.specs.Paths.{IsSmall};
@@ -63,10 +63,18 @@ impl Held {
         ensures { IsReaped self.old self.new result taken.new body.new }
     {
         let back = self.path.call(Job::Call(Ask::Reap), &mut self.answer);
-        if let Some(parcel) = back {
-            taken.show(&parcel, body);
-        }
+        show_back(back, taken, body);
         Reply::of(self.answer.brief)
+    }
+}
+
+// Shows a frame that came back, if any, and frees it.
+fn show_back(back: Option<Parcel>, taken: &mut Taken, body: &mut [u8])
+    requires room { greatest_body ≤ length body.old }
+    ensures { IfSome back (λ f. ShowsFrame f taken.new body.new) }
+{
+    if let Some(parcel) = back {
+        taken.show(&parcel, body);
     }
 }
 
@@ -91,11 +99,12 @@ impl Taken {
         ensures { ShowsFrame parcel.now self.new body.new }
     {
         let frame = parcel.frame();
+        let length = frame.len();
         copy_to_front(frame.body(), body);
         *self = Taken {
             flow: frame.flow(),
             station: frame.station(),
-            length: frame.len(),
+            length,
             tid: frame.tid(),
         };
     }

@@ -69,7 +69,9 @@ impl PathSlot {
         ensures taken { self.old.value ≡ Some result.value }
         ensures emptied { self.new.value ≡ None }
     {
-        replace(self, PathSlot::empty(alloc)).into_unboxed().into_box()
+        replace(self, PathSlot::empty(alloc))
+            .into_unboxed()
+            .into_box()
     }
 
     // Puts this into a handle that holds nothing.

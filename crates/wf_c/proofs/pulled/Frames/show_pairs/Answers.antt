@@ -11,7 +11,7 @@ pub returns : goal.returns
 returns c = record {
   count = c.len-count.ensures.count;
   each = λ k pair is.
-    let low : k < c.loop-i.i = omega (arith, c.loop-i-test.false, slice_get_within c.args.pairs.now k pair is, c.len-count.ensures.count) in
-    let shown : ShowsPair c.loop-i.self k pair = c.loop-i.invariant k pair low is in
-    record { id = shown.id; number = shown.number };
+      let low : k < c.loop-i.i = omega (arith, c.loop-i-test.false, slice_get_within c.args.pairs.now k pair is, c.len-count.ensures.count) in
+      let shown : ShowsPair c.loop-i.self k pair = c.loop-i.invariant k pair low is in
+      record { id = shown.id; number = shown.number };
 }
