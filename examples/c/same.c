@@ -284,7 +284,11 @@ static void call_other(uint16_t s) {
       code = wf_path_receive(&path, s, class_, number, &reply);
       fprintf(trace, "rx %u %s %lu\n", (unsigned)s, CLASSES[class_], (unsigned long)number);
       break;
-    default: code = wf_path_tick(&path, number, &reply), fprintf(trace, "tick %lu\n", (unsigned long)number); break;
+    default:
+      number *= 10;
+      code = wf_path_tick(&path, number, &reply);
+      fprintf(trace, "tick %lu\n", (unsigned long)number);
+      break;
   }
   write_answer(code, NULL);
 }
@@ -336,12 +340,12 @@ static void open_path(void) {
   settings.flows = 5000;
   if (wf_path_make(&path, &settings) != WF_BAD_SETTING + 2) fail("5000 flows are taken");
   settings.flows = 32;
-  settings.limit = 200;
+  settings.limit = 40;
   settings.room = 400;
   settings.attempts = 4;
   settings.sleeping = 8;
   if (wf_path_make(&path, &settings)) fail("there is no path");
-  fprintf(trace, "cell stations=%d flows=32 limit=200 room=400 attempts=4 sleeping=8\n", STATIONS);
+  fprintf(trace, "cell stations=%d flows=32 limit=40 room=400 attempts=4 sleeping=8\n", STATIONS);
 }
 
 int main(int count, char **words) {
