@@ -23,7 +23,7 @@ fn message(status: Status) -> &'static str {
     match status {
         Status::Done | Status::BadTrace => "",
         Status::Usage =>
-            "usage: wf replay | wf soak SEED CALLS | wf session | wf frames | wf uplink",
+            "usage: wf replay | wf soak SEED CALLS | wf session | wf replay --pcap | wf frames | wf uplink",
         Status::ReadFault => "wf: read fault",
         Status::WriteFault => "wf: write fault",
         Status::NoMemory => "wf: no memory",

@@ -1,8 +1,4 @@
-pub mod Shapes
-pub mod Replays
+pub mod Texts
 pub mod Sendings
-pub mod Cells
-pub mod Complete
-pub mod Ranges
 pub mod Numerals
 pub mod SoakText

@@ -3,14 +3,11 @@ use Rattle.std.proofs.Common.{◌≡◌, ℕ, List, [], ◌++◌, refl, sym, ◌
 use Rattle.std.specs.Prelude.{Option, Result, Ok, Err, OnOk}
 use Rattle.std.specs.Io.KnownBytes.{append_known}
 use Rattle.wf_status.specs.Fronts.{HoldsFront}
-use Rattle.wf_replay.specs.Sending.{Leaves}
-use Rattle.wf_replay.proofs.Replays.{append_known-nil, append_known-append}
+use Rattle.wf_reading.specs.Leaving.{Leaves}
+use Rattle.wf_reading.proofs.Octets.{append_known-nil, append_known-append}
 
 pub leaves_all : (held : Option (List ℕ)) (text : List ℕ) → Leaves held held text text
 leaves_all held text = record { written = []; is = refl; holds = append_known-nil held }
-
-pub leaves_none : (held held_new : Option (List ℕ)) (text : List ℕ) → held_new ≡ append_known held text → Leaves held held_new text []
-leaves_none held held_new text wrote = record { written = text; is = sym (append-nil text); holds = wrote }
 
 pub leaves_more : (held held_new : Option (List ℕ)) (text rest line : List ℕ) → Leaves held held_new text rest → Leaves held held_new (text ++ line) (rest ++ line)
 leaves_more held held_new text rest line some = record {

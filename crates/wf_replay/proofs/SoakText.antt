@@ -15,7 +15,7 @@ use Rattle.wf_world.specs.Run.{Entry, Past, world_of, world_after}
 use Rattle.wf_world.specs.Text.{summary}
 use Rattle.wf_laws.specs.Lengths.{HasLengths}
 use Rattle.wf_replay.specs.Outcome.{soak_text}
-use Rattle.wf_replay.proofs.Ranges.{standard_in}
+use Rattle.wf_reading.proofs.Ranges.{standard_in}
 
 pub is_soak_text : (p : Past) (seed calls : ℕ) → p ≡ record { config = standard; history = soak_history seed calls } → length (soak_history seed calls) ≡ calls →
     summary (world_of p) (length p.history) ≡ soak_text seed calls

@@ -3,7 +3,7 @@ use Rattle.std.specs.Prelude.{ℕ, ◌≤◌, ◌^◌, ◌-◌, nat_le, ◌&&◌
 use Rattle.std.specs.Str.{bytes_eq}
 use Rattle.wf_trace.specs.Words.{is_plain_number, value_from}
 use Rattle.wf_replay.specs.declared.words.Command.{Command}
-use Rattle.wf_replay.specs.declared.words.Command.TheVariants.{Replay, Soak, Session, Uplink, Frames}
+use Rattle.wf_replay.specs.declared.words.Command.TheVariants.{Replay, Capture, Soak, Session, Uplink, Frames}
 
 -- the number that a word is, where it lies between two
 abbrev pub number_within : ℕ → ℕ → List ℕ → Option ℕ
@@ -28,11 +28,15 @@ word_command word =
     else (if bytes_eq word (codes "uplink") then Some Uplink
     else (if bytes_eq word (codes "frames") then Some Frames else None)))
 
--- `replay`, `session`, `uplink`, `frames`, and `soak SEED CALLS`
+-- a command of two words
+abbrev pub two_words_command : List ℕ → List ℕ → Option Command
+two_words_command word option = if bytes_eq word (codes "replay") && bytes_eq option (codes "--pcap") then Some Capture else None
+
+-- `replay`, `session`, `uplink`, `frames`, `replay --pcap`, and `soak SEED CALLS`
 abbrev pub command_of : List (List ℕ) → Option Command
 command_of [] = None
 command_of (word ∷ []) = word_command word
-command_of (word ∷ seed ∷ []) = None
+command_of (word ∷ option ∷ []) = two_words_command word option
 command_of (word ∷ seed ∷ calls ∷ []) =
     if bytes_eq word (codes "soak") then soak_of (number_within 0 (2 ^ 64 - 1) seed) (number_within 1 1000000 calls) else None
 command_of (word ∷ seed ∷ calls ∷ other ∷ words) = None

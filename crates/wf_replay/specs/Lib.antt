@@ -2,5 +2,4 @@ pub mod Texts
 pub mod Running
 pub mod Sending
 pub mod Outcome
-pub mod Laws
 pub mod Commands

@@ -1,13 +1,6 @@
--- What is written of octets that wait, and what is left of them.
-use Rattle.std.specs.Prelude.{◌≡◌, ℕ, List, ◌++◌, Option}
-use Rattle.std.specs.Io.KnownBytes.{append_known}
+-- Octets that wait to be written.
+use Rattle.std.specs.Prelude.{ℕ}
 
 -- how many octets may wait
 abbrev pub room : ℕ
 room = 65536
-
--- the octets of a text's front were written, and these are left of it
-pub record Leaves (old new : Option (List ℕ)) (text rest : List ℕ) : Type 0 where
-  pub written : List ℕ
-  pub is : text ≡ written ++ rest
-  pub holds : new ≡ append_known old written

@@ -4,29 +4,32 @@ ghost use Rattle.std.specs.Prelude.{◌≡◌, ◌≢◌, ◌≤◌, ◌↔◌, 
 ghost use Rattle.std.specs.Io.KnownBytes.{prepend_known, append_known};
 ghost use Rattle.wf_io.specs.Faults.{HasRisen};
 ghost use Rattle.wf_trace.specs.Reading.{reading};
-ghost use Rattle.wf_replay.specs.Outcome.{StatusSays, SoakStatusSays, FitsEnding};
+ghost use Rattle.wf_reading.specs.Endings.{FitsEnding};
+ghost use Rattle.wf_replay.specs.Outcome.{StatusSays, SoakStatusSays};
 ghost use Rattle.wf_frame.specs.Settings.{standard};
 ghost use Rattle.wf_laws.specs.Laws.{Laws};
 ghost use Rattle.wf_live.specs.Soak.{soak_history};
 ghost use Rattle.wf_replay.specs.Commands.{command_of};
 ghost use Rattle.wf_laws.specs.Lengths.{HasLengths};
-ghost use Rattle.wf_replay.specs.Laws.{HasLaws};
+ghost use Rattle.wf_reading.specs.Laws.{HasLaws};
 ghost use Rattle.wf_session_run.specs.Outcome.{SessionOutcome, SessionAnswered, SessionLaw};
 ghost use Rattle.wf_uplink_run.specs.Outcome.{UplinkOutcome, UplinkAnswered, UplinkLaw};
 ghost use Rattle.wf_frames_run.specs.Outcome.{FramesOutcome, FramesAnswered};
 ghost use Rattle.wf_frames_run.specs.Law.{FramesLaw};
+ghost use Rattle.wf_capture_run.specs.Outcome.{CaptureOutcome, CaptureLaw};
 
 use crate::runner::play;
-use crate::stage::Stage;
 use crate::words::{Command, command_from};
 use std::alloc::Global;
 use std::sync::Wait;
 use std::thread::Threads;
+use wf_capture_run::capture;
 use wf_frames_run::frames;
 use wf_io::{Sink, Source};
 use wf_live::soak;
 use wf_report::summary;
 use wf_session_run::session;
+use wf_stage::Stage;
 use wf_status::Status;
 use wf_turnstile::Turnstile;
 use wf_uplink_run::uplink;
@@ -66,8 +69,8 @@ pub fn soaked<K: Sink>(alloc: Global, seed: u64, calls: u32, sink: &mut K) -> St
     }
 }
 
-/// Runs the command that the words are, on this source and sink: `replay`, `soak SEED CALLS`, `session`, `uplink` or
-/// `frames`.
+/// Runs the command that the words are, on this source and sink: `replay`, `replay --pcap`, `soak SEED CALLS`, `session`,
+/// `uplink` or `frames`.
 pub fn run<R: Threads + Wait + Sync, S: Source, K: Sink, T: Turnstile + Sync>(
     rt: &R,
     alloc: Global,
@@ -88,6 +91,16 @@ pub fn run<R: Threads + Wait + Sync, S: Source, K: Sink, T: Turnstile + Sync>(
         (HasRisen (S.faults source.old) (S.faults source.new) → ⊥) → (HasRisen (K.faults sink.old) (K.faults sink.new) → ⊥) →
         (input : List ℕ) → S.left source.old ≡ Some input → FitsEnding (reading true input).ending result }
     ensures laws { (input : List ℕ) → S.left source.old ≡ Some input → HasLaws (reading true input) }
+
+    // on `replay --pcap`
+    ensures capture { command_of (map string_bytes words.now) ≡ Some Command.Capture →
+        (taken written : List ℕ) × (S.left source.old ≡ prepend_known taken (S.left source.new))
+        × (K.held sink.new ≡ append_known (K.held sink.old) written)
+        × ((input : List ℕ) → S.left source.old ≡ Some input → CaptureOutcome result input taken written) }
+    ensures capture_complete { command_of (map string_bytes words.now) ≡ Some Command.Capture →
+        (HasRisen (S.faults source.old) (S.faults source.new) → ⊥) → (HasRisen (K.faults sink.old) (K.faults sink.new) → ⊥) →
+        (input : List ℕ) → S.left source.old ≡ Some input → FitsEnding (reading true input).ending result }
+    ensures capture_law { (input : List ℕ) → S.left source.old ≡ Some input → CaptureLaw input }
 
     // on `soak SEED CALLS`
     ensures soak { (seed calls : ℕ) → command_of (map string_bytes words.now) ≡ Some (Command.Soak seed calls) →
@@ -137,6 +150,7 @@ pub fn run<R: Threads + Wait + Sync, S: Source, K: Sink, T: Turnstile + Sync>(
     match command_from(words) {
         None => Status::Usage,
         Some(Command::Replay) => replay(alloc, source, sink),
+        Some(Command::Capture) => capture(alloc, source, sink),
         Some(Command::Soak { seed, calls }) => soaked(alloc, seed, calls, sink),
         Some(Command::Session) => session(alloc, source, sink),
         Some(Command::Uplink) => uplink(alloc, source, sink),

@@ -1,11 +1,10 @@
-//! The commands of the program over any source and sink: a replay of a trace, a soak, a session, an
-//! uplink, and the list of a capture.
+//! The commands of the program over any source and sink: a replay of a trace, and its capture, a soak,
+//! a session, an uplink, and the list of a capture.
 #![tactic(auto)]
 
 mod commands;
 mod outgoing;
 mod runner;
-mod stage;
 mod words;
 
 pub use commands::{replay, run, soaked};

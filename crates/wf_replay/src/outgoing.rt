@@ -4,7 +4,8 @@ ghost use Rattle.std.specs.Prelude.{◌≡◌, ◌+◌, ◌<◌, ◌≤◌, ◌+
 ghost use Rattle.std.specs.Io.KnownBytes.{append_known};
 ghost use Rattle.wf_io.specs.Faults.{CountsFaults};
 ghost use Rattle.wf_status.specs.Fronts.{HoldsFront};
-ghost use Rattle.wf_replay.specs.Sending.{Leaves, room};
+ghost use Rattle.wf_reading.specs.Leaving.{Leaves};
+ghost use Rattle.wf_replay.specs.Sending.{room};
 
 use std::alloc::{AllocError, Global};
 use std::marker::Model;

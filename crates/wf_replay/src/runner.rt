@@ -9,15 +9,16 @@ ghost use Rattle.wf_rules.specs.Lengths.{greatest_body};
 ghost use Rattle.wf_status.specs.Fronts.{HoldsFront};
 ghost use Rattle.wf_trace.specs.declared.reader.Item.TheVariants as item;
 ghost use Rattle.wf_world.specs.Run.{by};
-ghost use Rattle.wf_replay.specs.Running.{text_of_item as answer_to, closing_of, world_in};
+ghost use Rattle.wf_reading.specs.Running.{world_in};
+ghost use Rattle.wf_replay.specs.Running.{answer_to, closing_of};
 ghost use Rattle.wf_replay.specs.Outcome.{StatusSays};
 
 use crate::outgoing::Outgoing;
-use crate::stage::Plays;
 use std::alloc::{AllocError, Global};
 use wf_frame::{Answer, Note};
 use wf_io::{Failed, Line, Sink, Source};
 use wf_report::{print_reply, summary};
+use wf_stage::Plays;
 use wf_status::Status;
 use wf_trace::{Item, TraceReader, print_fault};
 

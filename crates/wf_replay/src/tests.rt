@@ -197,3 +197,17 @@ fn a_capture_is_listed(rt: HostRuntime) -> Result<(), Fail> {
     );
     Ok(())
 }
+
+#[test]
+fn a_capture_of_a_trace_that_is_cut_off(rt: HostRuntime) -> Result<(), Fail> {
+    let octets = b"cell\ntick 5\n".to_vec(rt.alloc())?;
+    let mut source = Given::new(octets, 16, Vec::new(rt.alloc()));
+    let mut sink = Kept::new(rt.alloc(), 65_536, 4096, Vec::new(rt.alloc()))?;
+    let mut words = Vec::new(rt.alloc());
+    words.push("replay".to_string(rt.alloc())?)?;
+    words.push("--pcap".to_string(rt.alloc())?)?;
+    assert!(rt; run(&rt, rt.alloc(), &words, &mut source, &mut sink, &Free) == Status::BadTrace);
+    assert_eq!(rt; sink.octets().len(), 24);
+    assert!(rt; sink.octets().starts_with(&[0xd4, 0xc3, 0xb2, 0xa1]));
+    Ok(())
+}

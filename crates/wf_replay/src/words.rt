@@ -12,6 +12,8 @@ use wf_trace::is_plain_number;
 pub enum Command {
     /// Replay the trace on standard input.
     Replay,
+    /// Replay the trace on standard input as a capture file.
+    Capture,
     /// Play the soak of this seed, and of so many calls: 1 to 1,000,000.
     Soak { seed: u64, calls: u32 },
     /// Play the script on standard input on two ends of an agreement.
@@ -82,6 +84,9 @@ pub fn command_from(words: &[String]) -> Option<Command>
         [word] if word.as_str() == "session" => Some(Command::Session),
         [word] if word.as_str() == "uplink" => Some(Command::Uplink),
         [word] if word.as_str() == "frames" => Some(Command::Frames),
+        [word, option] if word.as_str() == "replay" && option.as_str() == "--pcap" => {
+            Some(Command::Capture)
+        }
         [word, seed, calls] if word.as_str() == "soak" => soak_of(
             number_within(0, u64::MAX, seed.as_bytes()),
             number_within(1, 1_000_000, calls.as_bytes()),

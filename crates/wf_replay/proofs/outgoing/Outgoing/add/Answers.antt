@@ -1,6 +1,6 @@
 use Rattle.std.proofs.Common.{◌≡◌, [], arith}
-use Rattle.wf_replay.proofs.Replays.{partly}
-use Rattle.wf_replay.proofs.Sendings.{leaves_none, leaves_more, leaves_then, front_then, on_both}
+use Rattle.wf_reading.proofs.Octets.{partly, leaves_none}
+use Rattle.wf_replay.proofs.Sendings.{leaves_more, leaves_then, front_then, on_both}
 use Rattle.wf_replay.proofs.outgoing.Outgoing.add.Goals as goal
 
 pub returns-then-line-gt-ROOM-clause-leaves : goal.returns-then-line-gt-ROOM-clause-leaves

@@ -1,4 +1,5 @@
-use Rattle.wf_replay.proofs.Sendings.{leaves_none, leaves_then, front_then, on_both}
+use Rattle.wf_reading.proofs.Octets.{leaves_none}
+use Rattle.wf_replay.proofs.Sendings.{leaves_then, front_then, on_both}
 use Rattle.wf_replay.proofs.outgoing.Outgoing.put.Goals as goal
 
 pub returns-clause-leaves : goal.returns-clause-leaves

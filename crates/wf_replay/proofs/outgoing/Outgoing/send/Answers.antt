@@ -1,4 +1,4 @@
-use Rattle.wf_replay.proofs.Replays.{partly}
+use Rattle.wf_reading.proofs.Octets.{partly}
 use Rattle.wf_replay.proofs.outgoing.Outgoing.send.Goals as goal
 
 pub returns-in_err-write_all-clause-front : goal.returns-in_err-write_all-clause-front

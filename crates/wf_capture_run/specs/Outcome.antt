@@ -1,0 +1,17 @@
+-- What the status of `replay --pcap` says.
+use Rattle.std.specs.Prelude.{◌≤◌, ℕ, List, length, true}
+use Rattle.wf_trace.specs.Reading.{reading}
+use Rattle.wf_status.specs.declared.status.Status.{Status}
+use Rattle.wf_frames_run.specs.Packets.{most_octets}
+use Rattle.wf_frames_run.specs.Law.{IsListed}
+use Rattle.wf_reading.specs.Outcomes.{TraceOutcome}
+use Rattle.wf_capture_run.specs.Captured.{packets_captured, captured}
+
+-- By the octets of the input, those of them that were taken, and those that were written: the capture of the calls. A trace with a
+-- fault has that of the calls before it.
+abbrev pub CaptureOutcome : Status → List ℕ → List ℕ → List ℕ → Type 0
+CaptureOutcome status input taken written = TraceOutcome captured captured status input taken written
+
+-- the law of `frames` over it: a capture that is not too big lists each of its packets in order, with its fields, and no fault
+abbrev pub CaptureLaw : List ℕ → Type 0
+CaptureLaw input = length (captured (reading true input)) ≤ most_octets → IsListed (packets_captured (reading true input))

@@ -1,0 +1,4 @@
+pub mod BlockAcks
+pub mod Packets
+pub mod Captures
+pub mod Samples

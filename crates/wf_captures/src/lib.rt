@@ -1,0 +1,16 @@
+//! What a trace sends, as packets of a capture file: each transmission of the access point, and each BlockAck of its stations
+//! (IEEE 802.11-2012, 8.3.1.8, 8.3.1.9 and 8.3.2.1).
+#![tactic(auto)]
+
+mod frames;
+mod law;
+mod packets;
+mod standing;
+mod writing;
+
+pub use law::captured_run_is_listed;
+pub use packets::write_packets;
+pub use wf_pcap::write_head;
+
+#[cfg(test)]
+mod tests;

@@ -1,0 +1,7 @@
+pub mod Histories
+pub mod Laws
+pub mod Endings
+pub mod Tellings
+pub mod Running
+pub mod Leaving
+pub mod Outcomes

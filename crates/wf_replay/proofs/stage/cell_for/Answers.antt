@@ -1,9 +1,0 @@
-use Rattle.std.proofs.Common.{refl}
-use Rattle.wf_frame.proofs.Ranges.{checked}
-use Rattle.wf_replay.proofs.Cells.{never_both}
-use Rattle.wf_replay.proofs.stage.cell_for.Goals as goal
-
-pub unreachable-requires : goal.unreachable-requires
-unreachable-requires c =
-    let bad = rw (c.in-Err-BadConfig.field-0-is) at c.in-Err-BadConfig.ensures.bad in
-    never_both _ _ ((checked c.args.config).1 c.requires) ((bad _).0 refl)
