@@ -14,6 +14,4 @@ pub use words::Command;
 #[cfg(test)]
 mod meeting;
 #[cfg(test)]
-mod near_misses;
-#[cfg(test)]
 mod tests;

@@ -1,0 +1,6 @@
+pub mod Makings
+pub mod Pairs
+pub mod Reaps
+pub mod Slots
+pub mod Values
+pub mod Words

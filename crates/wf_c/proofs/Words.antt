@@ -1,0 +1,7 @@
+-- A value of two words.
+use Rattle.std.proofs.Common.{[]}
+use mir.Val.{Val, vstruct, vcons, vnil}
+
+-- the value of two fields
+abbrev pub both : Val → Val → Val
+both v w = vstruct (vcons v (vcons w vnil))

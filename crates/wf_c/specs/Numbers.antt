@@ -1,0 +1,126 @@
+-- What the fields of an answer show.
+use Rattle.std.specs.Prelude.{ℕ, ◌==◌, not, Bool, true, false, Option, Some, None, pos}
+use Rattle.wf_frame.specs.Classes.{class_number}
+use Rattle.wf_frame.specs.declared.answers.Brief.{Brief}
+use Rattle.wf_frame.specs.declared.answers.Brief.TheVariants.{Joined, Gone, RateSet, Ticked, Accepted, Send, Released, Ba, Ended, Slept, Woken, Credited, Charged, Reaped, Refused}
+use Rattle.wf_frame.specs.declared.classes.Cause.TheVariants.{Overlimit, Codel, Retries, Left}
+use Rattle.wf_frame.specs.declared.classes.Fate.{Fate}
+use Rattle.wf_frame.specs.declared.classes.Fate.TheVariants.{Held, Acked, Dropped}
+use Rattle.wf_frame.specs.declared.notes.Refusal.{Refusal}
+use Rattle.wf_frame.specs.declared.notes.Refusal.TheVariants as refusal
+use Rattle.wf_c.specs.declared.reply.Reply.{Reply}
+
+-- ---- numbers
+
+-- a refusal by its place
+abbrev pub refusal_number : Refusal → ℕ
+refusal_number refusal.BadStation = 1
+refusal_number refusal.BadWindow = 2
+refusal_number refusal.BadStart = 3
+refusal_number refusal.BadExponent = 4
+refusal_number refusal.BadRate = 5
+refusal_number refusal.BadTick = 6
+refusal_number refusal.BadTid = 7
+refusal_number refusal.BadAir = 8
+refusal_number refusal.BadIndex = 9
+refusal_number refusal.Live = 10
+refusal_number refusal.NoStation = 11
+refusal_number refusal.NoExchange = 12
+refusal_number refusal.NoAnswer = 13
+refusal_number (refusal.StillOpen count) = 14
+refusal_number (refusal.Room inside) = 15
+refusal_number (refusal.Sleeping queued) = 16
+refusal_number (refusal.Full count) = 17
+refusal_number refusal.Idle = 18
+refusal_number refusal.Answered = 19
+refusal_number refusal.Arrived = 20
+refusal_number refusal.Nothing = 21
+refusal_number refusal.Asleep = 22
+refusal_number refusal.Awake = 23
+refusal_number refusal.Polled = 24
+refusal_number (refusal.Debt deficit) = 25
+refusal_number refusal.HistoryFull = 26
+refusal_number refusal.BadWeight = 27
+
+-- a fate, and of a dropped frame its cause
+abbrev pub fate_number : Fate → ℕ
+fate_number Held = 0
+fate_number Acked = 1
+fate_number (Dropped Overlimit) = 2
+fate_number (Dropped Codel) = 3
+fate_number (Dropped Retries) = 4
+fate_number (Dropped Left) = 5
+
+-- a flag is 0 or 1
+abbrev pub flag_of : Bool → ℕ
+flag_of false = 0
+flag_of true = 1
+
+-- ---- answers
+
+-- nothing is shown
+abbrev pub blank : Reply
+blank = record {
+  exchange = 0;
+  id = 0;
+  dropped = 0;
+  now = 0;
+  deficit = pos 0;
+  air = 0;
+  count = 0;
+  station = 0;
+  start = 0;
+  acked = 0;
+  waiting = 0;
+  failed = 0;
+  kind = 0;
+  refusal = 0;
+  tid = 0;
+  class = 0;
+  fate = 0;
+  has_dropped = 0;
+  request = 0;
+  more = 0;
+}
+
+-- with the frame that was dropped, if any
+abbrev pub with_dropped : Option ℕ → Reply → Reply
+with_dropped None r = r
+with_dropped (Some id) r = record r { dropped = id; has_dropped = 1 }
+
+-- with the start of the request, if any
+abbrev pub with_request : Option ℕ → Reply → Reply
+with_request None r = r
+with_request (Some start) r = record r { start = start; request = 1 }
+
+-- with the number that a refusal has, if any
+abbrev pub with_refusal : Refusal → Reply → Reply
+with_refusal (refusal.StillOpen count) r = record r { count = count }
+with_refusal (refusal.Room inside) r = record r { count = inside }
+with_refusal (refusal.Sleeping queued) r = record r { count = queued }
+with_refusal (refusal.Full count) r = record r { count = count }
+with_refusal (refusal.Debt deficit) r = record r { deficit = deficit }
+with_refusal _ r = r
+
+-- the fields of an answer; a transmit path releases nothing and answers with no BlockAck
+abbrev pub numbers_of : Brief → Reply
+numbers_of Joined = record blank { kind = 0 }
+numbers_of (Gone dropped) = record blank { kind = 1; count = dropped }
+numbers_of RateSet = record blank { kind = 2 }
+numbers_of (Ticked now) = record blank { kind = 3; now = now }
+numbers_of (Accepted id dropped) = with_dropped dropped (record blank { kind = 4; id = id })
+numbers_of (Send exchange station tid air request more) =
+    record (with_request request (record blank { kind = 5 })) { exchange = exchange; station = station; tid = tid; air = air; more = flag_of more }
+numbers_of Released = record blank { kind = 6 }
+numbers_of (Ba start b0 b1 b2 b3 wide) = record blank { kind = 7 }
+numbers_of (Ended acked waiting failed) = record blank { kind = 8; acked = acked; waiting = waiting; failed = failed }
+numbers_of Slept = record blank { kind = 9 }
+numbers_of Woken = record blank { kind = 10 }
+numbers_of (Credited class) = record blank { kind = 11; class = class_number class }
+numbers_of (Charged deficit) = record blank { kind = 12; deficit = deficit }
+numbers_of (Reaped id fate) = record blank { kind = 13; id = id; fate = fate_number fate }
+numbers_of (Refused reason) = with_refusal reason (record blank { kind = 14; refusal = refusal_number reason })
+
+-- whether a flag of the caller's is up: any number but 0
+abbrev pub is_set : ℕ → Bool
+is_set n = not (n == 0)

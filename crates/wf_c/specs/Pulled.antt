@@ -1,0 +1,20 @@
+-- The frames of an aggregate in a struct of the caller's.
+use Rattle.std.specs.Prelude.{◌≡◌, ℕ, List, length, slice_get, slice_index, Some, None}
+use Rattle.wf_frame.specs.declared.answers.Brief.{Brief}
+use Rattle.wf_frame.specs.declared.answers.Brief.TheVariants.{Send}
+use Rattle.wf_c.specs.declared.pulled.Frames.{Frames}
+
+-- entry i is this frame: its id and its sequence number
+pub record ShowsPair (f : Frames) (i : ℕ) (pair : ℕ × ℕ) : Type 0 where
+  pub id : slice_index f.ids i ≡ pair.0
+  pub number : slice_index f.numbers i ≡ pair.1
+
+-- the entries are these frames, in their order
+pub record ShowsPairs (f : Frames) (pairs : List (ℕ × ℕ)) : Type 0 where
+  pub count : f.count ≡ length pairs
+  pub each : (i : ℕ) (pair : ℕ × ℕ) → slice_get pairs i ≡ Some pair → ShowsPair f i pair
+
+-- the entries are the frames that an answer sends, or it sends none
+abbrev pub ShowsAggregate : Frames → Brief → List (ℕ × ℕ) → Type 0
+ShowsAggregate f (Send exchange station tid air None more) pairs = ShowsPairs f pairs
+ShowsAggregate f _ pairs = f.count ≡ 0

@@ -1,0 +1,14 @@
+-- What a handle owns.
+use Rattle.std.specs.Prelude.{Option, Some, None}
+use base.Fml.{Fml, ftrue}
+use denote.RawPtr.{Ptr}
+use Rattle.std_alloc.specs.Box.Ownership.{box_owns}
+use Rattle.std_heap.specs.declared.Global.{Global}
+use Rattle.std_heap.specs.contracts.GlobalAllocator.TheImpl.{ghosts}
+use Rattle.wf_c.specs.declared.held.Held.{Held}
+use Rattle.wf_c.specs.contracts.held.Held.{the_row}
+
+-- the block of what the handle holds, with the right to free it, or nothing
+abbrev pub slot_owns : Global → Ptr → Option Held → Fml
+slot_owns alloc p None = ftrue
+slot_owns alloc p (Some held) = box_owns (ghosts.dealloc_token alloc) the_row p held

@@ -1,0 +1,224 @@
+//! The calls that bring no frame and take none.
+//!
+//! Each answers in the caller's `Reply`, and gives its refusal: 0 where it was not refused.
+
+ghost use Rattle.std.specs.Prelude.{◌≡◌, true, is_some, pos, IfSome};
+ghost use Rattle.wf_frame.specs.Classes.{all_classes, class_among};
+ghost use Rattle.wf_frame.specs.declared.notes.Ask.TheVariants.{Join, Leave, Rate, Tick, Pull, Sleep, Wake, Poll, Rx};
+ghost use Rattle.wf_path.specs.Jobs.{IsHeard};
+ghost use Rattle.wf_path.specs.declared.job.Job.TheVariants.{Call};
+ghost use Rattle.wf_c.specs.Calls.{Becomes, HoldsSmall, IsCalled};
+ghost use Rattle.wf_c.specs.Numbers.{is_set};
+ghost use Rattle.wf_c.specs.Pulled.{ShowsAggregate};
+
+use crate::pulled::Frames;
+use crate::reply::Reply;
+use crate::slot::PathSlot;
+use std::alloc::Global;
+use wf_frame::{Ask, Class};
+
+impl PathSlot {
+    // Makes a call that brings no frame, but for a reap.
+    fn ask(&mut self, alloc: Global, ask: Ask, reply: &mut Reply) -> i32
+        requires open { is_some self.old.value ≡ true }
+        requires small { HoldsSmall self.old.value }
+        requires heard { IsHeard (Call ask) }
+        ensures called { Becomes (λ h k. IsCalled h ask k reply.new) self.old.value self.new.value }
+        ensures code { result ≡ pos reply.new.refusal }
+    {
+        let mut held = self.take(alloc);
+        *reply = held.ask(ask);
+        self.put(held);
+        i32::from(reply.refusal)
+    }
+}
+
+// The class of a number, 0 to 3; a greater one is of the last.
+pub(crate) fn class_of_number(number: u8) -> Class
+    ensures { result ≡ class_among all_classes number }
+{
+    match number {
+        0 => Class::Bk,
+        1 => Class::Be,
+        2 => Class::Vi,
+        _ => Class::Vo,
+    }
+}
+
+/// A station joins (`wf_path::Path::call` with `Ask::Join`).
+#[unsafe(no_mangle)]
+pub extern "C" fn wf_path_join(
+    alloc: Global,
+    path: &mut PathSlot,
+    station: u16,
+    window: u16,
+    start: u16,
+    exponent: u8,
+    weight: u8,
+    reply: &mut Reply,
+) -> i32
+    requires open { is_some path.old.value ≡ true }
+    requires small { HoldsSmall path.old.value }
+    ensures called { Becomes (λ h k. IsCalled h (Join station window start exponent weight) k reply.new) path.old.value path.new.value }
+    ensures code { result ≡ pos reply.new.refusal }
+{
+    let ask = Ask::Join {
+        station,
+        window,
+        start,
+        exponent,
+        weight,
+    };
+    path.ask(alloc, ask, reply)
+}
+
+/// A station leaves, and its frames are dropped.
+#[unsafe(no_mangle)]
+pub extern "C" fn wf_path_leave(
+    alloc: Global,
+    path: &mut PathSlot,
+    station: u16,
+    reply: &mut Reply,
+) -> i32
+    requires open { is_some path.old.value ≡ true }
+    requires small { HoldsSmall path.old.value }
+    ensures called { Becomes (λ h k. IsCalled h (Leave station) k reply.new) path.old.value path.new.value }
+    ensures code { result ≡ pos reply.new.refusal }
+{
+    path.ask(alloc, Ask::Leave { station }, reply)
+}
+
+/// A station is sent to at another rate; `short` other than 0 is the short guard interval.
+#[unsafe(no_mangle)]
+pub extern "C" fn wf_path_rate(
+    alloc: Global,
+    path: &mut PathSlot,
+    station: u16,
+    mcs: u8,
+    mhz: u8,
+    short: u8,
+    reply: &mut Reply,
+) -> i32
+    requires open { is_some path.old.value ≡ true }
+    requires small { HoldsSmall path.old.value }
+    ensures called { Becomes (λ h k. IsCalled h (Rate station mcs mhz (is_set short)) k reply.new) path.old.value path.new.value }
+    ensures code { result ≡ pos reply.new.refusal }
+{
+    let ask = Ask::Rate {
+        station,
+        mcs,
+        mhz,
+        short: short != 0,
+    };
+    path.ask(alloc, ask, reply)
+}
+
+/// The clock moves on.
+#[unsafe(no_mangle)]
+pub extern "C" fn wf_path_tick(
+    alloc: Global,
+    path: &mut PathSlot,
+    by: u32,
+    reply: &mut Reply,
+) -> i32
+    requires open { is_some path.old.value ≡ true }
+    requires small { HoldsSmall path.old.value }
+    ensures called { Becomes (λ h k. IsCalled h (Tick by) k reply.new) path.old.value path.new.value }
+    ensures code { result ≡ pos reply.new.refusal }
+{
+    path.ask(alloc, Ask::Tick { by }, reply)
+}
+
+/// A station goes to sleep.
+#[unsafe(no_mangle)]
+pub extern "C" fn wf_path_sleep(
+    alloc: Global,
+    path: &mut PathSlot,
+    station: u16,
+    reply: &mut Reply,
+) -> i32
+    requires open { is_some path.old.value ≡ true }
+    requires small { HoldsSmall path.old.value }
+    ensures called { Becomes (λ h k. IsCalled h (Sleep station) k reply.new) path.old.value path.new.value }
+    ensures code { result ≡ pos reply.new.refusal }
+{
+    path.ask(alloc, Ask::Sleep { station }, reply)
+}
+
+/// A station wakes.
+#[unsafe(no_mangle)]
+pub extern "C" fn wf_path_wake(
+    alloc: Global,
+    path: &mut PathSlot,
+    station: u16,
+    reply: &mut Reply,
+) -> i32
+    requires open { is_some path.old.value ≡ true }
+    requires small { HoldsSmall path.old.value }
+    ensures called { Becomes (λ h k. IsCalled h (Wake station) k reply.new) path.old.value path.new.value }
+    ensures code { result ≡ pos reply.new.refusal }
+{
+    path.ask(alloc, Ask::Wake { station }, reply)
+}
+
+/// A sleeping station asks for one frame (PS-Poll).
+#[unsafe(no_mangle)]
+pub extern "C" fn wf_path_poll(
+    alloc: Global,
+    path: &mut PathSlot,
+    station: u16,
+    reply: &mut Reply,
+) -> i32
+    requires open { is_some path.old.value ≡ true }
+    requires small { HoldsSmall path.old.value }
+    ensures called { Becomes (λ h k. IsCalled h (Poll station) k reply.new) path.old.value path.new.value }
+    ensures code { result ≡ pos reply.new.refusal }
+{
+    path.ask(alloc, Ask::Poll { station }, reply)
+}
+
+/// A station used airtime to send.
+#[unsafe(no_mangle)]
+pub extern "C" fn wf_path_receive(
+    alloc: Global,
+    path: &mut PathSlot,
+    station: u16,
+    class: u8,
+    air: u32,
+    reply: &mut Reply,
+) -> i32
+    requires open { is_some path.old.value ≡ true }
+    requires small { HoldsSmall path.old.value }
+    ensures called { Becomes (λ h k. IsCalled h (Rx station (class_among all_classes class) air) k reply.new) path.old.value path.new.value }
+    ensures code { result ≡ pos reply.new.refusal }
+{
+    let ask = Ask::Rx {
+        station,
+        class: class_of_number(class),
+        air,
+    };
+    path.ask(alloc, ask, reply)
+}
+
+/// The driver asks for the next exchange of a class. Where it sends an aggregate, `frames` has its frames, and else none.
+#[unsafe(no_mangle)]
+pub extern "C" fn wf_path_pull(
+    alloc: Global,
+    path: &mut PathSlot,
+    class: u8,
+    reply: &mut Reply,
+    frames: &mut Frames,
+) -> i32
+    requires open { is_some path.old.value ≡ true }
+    requires small { HoldsSmall path.old.value }
+    ensures called { Becomes (λ h k. IsCalled h (Pull (class_among all_classes class)) k reply.new) path.old.value path.new.value }
+    ensures frames { IfSome path.new.value (λ k. ShowsAggregate frames.new k.answer.brief k.answer.pairs) }
+    ensures code { result ≡ pos reply.new.refusal }
+{
+    let mut held = path.take(alloc);
+    let class = class_of_number(class);
+    *reply = held.ask(Ask::Pull { class });
+    frames.show(&held.answer);
+    path.put(held);
+    i32::from(reply.refusal)
+}

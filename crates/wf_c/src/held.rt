@@ -1,0 +1,56 @@
+//! What lies behind a handle, and the calls of it.
+
+ghost use Rattle.std.specs.Prelude.{◌≡◌, ℕ, IfSome};
+ghost use Rattle.wf_frame.specs.Frames.{FrameValue};
+ghost use Rattle.wf_world.specs.World.{opening};
+ghost use Rattle.wf_transmit_refines.specs.Standing.{StandsFor};
+ghost use Rattle.wf_path.specs.Jobs.{IsHeard};
+ghost use Rattle.wf_path.specs.Paths.{IsSmall};
+ghost use Rattle.wf_path.specs.declared.job.Job.TheVariants.{Call};
+ghost use Rattle.wf_c.specs.Calls.{IsCalled};
+
+use crate::reply::Reply;
+use std::alloc::Global;
+use wf_frame::{Answer, Ask, Config};
+use wf_path::{Job, Path};
+
+/// A path, and its answer to the last call, which is lent to one call after another.
+#[derive(Drop)]
+pub struct Held {
+    pub(crate) path: Path,
+    pub(crate) answer: Answer,
+}
+
+impl Held {
+    // A path of these settings, in a block of its own. None where a setting is out of its range, or there is no memory.
+    pub(crate) fn made(alloc: Global, config: Config) -> Option<Box<Held, Global>>
+        ensures stands { IfSome result (λ made. (bodies : ℕ → FrameValue) → StandsFor made.value.path (opening config) bodies) }
+        ensures small { IfSome result (λ made. IsSmall made.value.path) }
+    {
+        match Path::new(alloc, config) {
+            Ok(path) => Held::boxed(alloc, path),
+            Err(_) => None,
+        }
+    }
+
+    // A path in a block of its own.
+    fn boxed(alloc: Global, path: Path) -> Option<Box<Held, Global>>
+        ensures { IfSome result (λ made. made.value.path ≡ path) }
+    {
+        let answer = Answer::new();
+        match Box::new(alloc, Held { path, answer }) {
+            Ok(boxed) => Some(boxed),
+            Err(_) => None,
+        }
+    }
+
+    // Makes a call that brings no frame, but for a reap.
+    pub(crate) fn ask(&mut self, ask: Ask) -> Reply
+        requires heard { IsHeard (Call ask) }
+        requires small { IsSmall self.old.path }
+        ensures { IsCalled self.old ask self.new result }
+    {
+        let _ = self.path.call(Job::Call(ask), &mut self.answer);
+        Reply::of(self.answer.brief)
+    }
+}

@@ -1,0 +1,50 @@
+//! A path is made, and freed.
+
+ghost use Rattle.std.specs.Prelude.{◌≡◌, ◌⊎◌, ℕ, None, true, is_some, pos};
+ghost use Rattle.wf_frame.specs.Frames.{FrameValue};
+ghost use Rattle.wf_world.specs.World.{opening};
+ghost use Rattle.wf_c.specs.Calls.{HoldsFor, HoldsSmall};
+ghost use Rattle.wf_c.specs.Making.{IsMadeCode, bad_field, config_of};
+
+use crate::held::Held;
+use crate::settings::{Settings, number_of_field};
+use crate::slot::PathSlot;
+use std::alloc::Global;
+
+/// There is no memory.
+const NO_MEMORY: i32 = 40;
+
+/// What is added to the number of a setting that is out of its range.
+const BAD_SETTING: i32 = 100;
+
+/// Makes a path of these settings in a handle that holds nothing: no station is live, and no frame was accepted. Gives 0, or
+/// 100 and the place of the first setting that is out of its range, or 40 where there is no memory; then the handle holds
+/// nothing still.
+#[unsafe(no_mangle)]
+pub extern "C" fn wf_path_make(alloc: Global, path: &mut PathSlot, settings: &Settings) -> i32
+    requires empty { path.old.value ≡ None }
+    ensures code { IsMadeCode (bad_field settings.now) result }
+    ensures stands { result ≡ pos 0 → (bodies : ℕ → FrameValue) → HoldsFor path.new.value (opening (config_of settings.now)) bodies }
+    ensures small { result ≡ pos 0 → HoldsSmall path.new.value }
+    ensures nothing { (result ≡ pos 0) ⊎ (path.new.value ≡ None) }
+{
+    if let Some(field) = settings.fault() {
+        return BAD_SETTING + i32::from(number_of_field(field));
+    }
+    match Held::made(alloc, settings.config()) {
+        Some(held) => {
+            path.put(held);
+            0
+        }
+        None => NO_MEMORY,
+    }
+}
+
+/// Frees a path with all frames that it holds; the handle then holds nothing.
+#[unsafe(no_mangle)]
+pub extern "C" fn wf_path_free(alloc: Global, path: &mut PathSlot)
+    requires open { is_some path.old.value ≡ true }
+    ensures { path.new.value ≡ None }
+{
+    drop(path.take(alloc));
+}

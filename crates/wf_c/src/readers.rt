@@ -1,0 +1,181 @@
+//! What a path tells without a call of the machine.
+
+ghost use Rattle.std.specs.Prelude.{◌≡◌, ℕ, true, is_some, pos, length, take, drop, IfSome, IsNone, if◌then◌else◌};
+ghost use Rattle.wf_frame.specs.Classes.{all_classes, class_among};
+ghost use Rattle.wf_frame.specs.Frames.{FrameValue};
+ghost use Rattle.wf_world.specs.Text.{traffic_map, with_traffic};
+ghost use Rattle.wf_world.specs.World.{World, is_live};
+ghost use Rattle.wf_transmit_refines.specs.Standing.{StandsFor, counts_in};
+ghost use Rattle.wf_c.specs.Calls.{HoldsFor};
+ghost use Rattle.wf_c.specs.Numbers.{flag_of};
+ghost use Rattle.wf_c.specs.Shares.{ShowsShare, counts_shown, no_station};
+
+use crate::asks::class_of_number;
+use crate::held::Held;
+use crate::slot::PathSlot;
+use std::alloc::Global;
+use wf_frame::Class;
+
+/// No such station.
+const NO_STATION: i32 = 11;
+
+/// The accepted frames by what became of them.
+#[repr(C)]
+#[derive(Clone, Copy)]
+pub struct Tally {
+    /// All accepted frames.
+    pub accepted: u64,
+    /// Acknowledged.
+    pub acked: u64,
+    /// Dropped since the flow queues were full.
+    pub overlimit: u64,
+    /// Dropped by CoDel.
+    pub codel: u64,
+    /// Dropped after their last transmission.
+    pub retries: u64,
+    /// Dropped since their station left.
+    pub left: u64,
+}
+
+/// A station's airtime in a class since its join, in microseconds.
+#[repr(C)]
+#[derive(Clone, Copy)]
+pub struct Share {
+    /// What it may still use, or has used too much where it is below 0.
+    pub deficit: i64,
+    /// What its exchanges took.
+    pub charged: u64,
+    /// What it used itself.
+    pub received: u64,
+}
+
+/// The clock, in microseconds.
+#[unsafe(no_mangle)]
+pub extern "C" fn wf_path_now(alloc: Global, path: &mut PathSlot) -> u64
+    requires open { is_some path.old.value ≡ true }
+    ensures world { (w : World) (bodies : ℕ → FrameValue) → HoldsFor path.old.value w bodies → result ≡ w.clock }
+    ensures unchanged { path.new.value ≡ path.old.value }
+{
+    let held = path.take(alloc);
+    let now = held.path.now();
+    path.put(held);
+    now
+}
+
+/// How many exchanges were opened.
+#[unsafe(no_mangle)]
+pub extern "C" fn wf_path_exchanges(alloc: Global, path: &mut PathSlot) -> u64
+    requires open { is_some path.old.value ≡ true }
+    ensures world { (w : World) (bodies : ℕ → FrameValue) → HoldsFor path.old.value w bodies → result ≡ w.exchanges }
+    ensures unchanged { path.new.value ≡ path.old.value }
+{
+    let held = path.take(alloc);
+    let exchanges = held.path.exchanges();
+    path.put(held);
+    exchanges
+}
+
+/// How many exchanges are open, at most 32.
+#[unsafe(no_mangle)]
+pub extern "C" fn wf_path_open_count(alloc: Global, path: &mut PathSlot) -> u32
+    requires open { is_some path.old.value ≡ true }
+    ensures world { (w : World) (bodies : ℕ → FrameValue) → HoldsFor path.old.value w bodies → result ≡ length w.opened }
+    ensures unchanged { path.new.value ≡ path.old.value }
+{
+    let held = path.take(alloc);
+    let count = held.path.open_count();
+    path.put(held);
+    count
+}
+
+/// Whether a station is live: 1 or 0.
+#[unsafe(no_mangle)]
+pub extern "C" fn wf_path_live(alloc: Global, path: &mut PathSlot, station: u16) -> i32
+    requires open { is_some path.old.value ≡ true }
+    ensures world { (w : World) (bodies : ℕ → FrameValue) → HoldsFor path.old.value w bodies → result ≡ pos (flag_of (is_live w station)) }
+    ensures unchanged { path.new.value ≡ path.old.value }
+{
+    let held = path.take(alloc);
+    let live = held.path.live(station);
+    path.put(held);
+    i32::from(live)
+}
+
+/// Writes the accepted frames by what became of them.
+#[unsafe(no_mangle)]
+pub extern "C" fn wf_path_tally(alloc: Global, path: &mut PathSlot, tally: &mut Tally)
+    requires open { is_some path.old.value ≡ true }
+    ensures world { (w : World) (bodies : ℕ → FrameValue) → HoldsFor path.old.value w bodies → counts_shown tally.new ≡ counts_in w }
+    ensures unchanged { path.new.value ≡ path.old.value }
+{
+    let held = path.take(alloc);
+    let counts = held.path.tally();
+    path.put(held);
+    *tally = Tally {
+        accepted: counts.accepted,
+        acked: counts.acked,
+        overlimit: counts.overlimit,
+        codel: counts.codel,
+        retries: counts.retries,
+        left: counts.left,
+    };
+}
+
+impl Held {
+    // The airtime of a station in a class. None where the station is not live.
+    fn share(&self, station: u16, class: Class) -> Option<Share>
+        ensures live { (w : World) (bodies : ℕ → FrameValue) → StandsFor self.now.path w bodies → is_some result ≡ is_live w station }
+        ensures shown { IfSome result (λ shown. (w : World) (bodies : ℕ → FrameValue) → StandsFor self.now.path w bodies → ShowsShare w station class shown) }
+    {
+        if !self.path.live(station) {
+            return None;
+        }
+        Some(Share {
+            deficit: self.path.deficit(station, class),
+            charged: self.path.charged(station, class),
+            received: self.path.received(station, class),
+        })
+    }
+}
+
+/// Writes a live station's airtime in a class, and gives 0; gives 11 where it is not live.
+#[unsafe(no_mangle)]
+pub extern "C" fn wf_path_share(
+    alloc: Global,
+    path: &mut PathSlot,
+    station: u16,
+    class: u8,
+    share: &mut Share,
+) -> i32
+    requires open { is_some path.old.value ≡ true }
+    ensures code { (w : World) (bodies : ℕ → FrameValue) → HoldsFor path.old.value w bodies →
+        result ≡ pos (if is_live w station then 0 else no_station) }
+    ensures shown { (w : World) (bodies : ℕ → FrameValue) → HoldsFor path.old.value w bodies → is_live w station ≡ true →
+        ShowsShare w station (class_among all_classes class) share.new }
+    ensures unchanged { path.new.value ≡ path.old.value }
+{
+    let held = path.take(alloc);
+    let shown = held.share(station, class_of_number(class));
+    path.put(held);
+    match shown {
+        Some(shown) => {
+            *share = shown;
+            0
+        }
+        None => NO_STATION,
+    }
+}
+
+/// Writes the TIM element of the live stations that sleep and have traffic, and gives how many octets it has.
+#[unsafe(no_mangle)]
+pub extern "C" fn wf_path_tim(alloc: Global, path: &mut PathSlot, out: &mut [u8; 256]) -> usize
+    requires open { is_some path.old.value ≡ true }
+    ensures octets { (w : World) (bodies : ℕ → FrameValue) → HoldsFor path.old.value w bodies → take result out.new ≡ traffic_map (with_traffic w) }
+    ensures rest { drop result out.new ≡ drop result out.old }
+    ensures unchanged { path.new.value ≡ path.old.value }
+{
+    let held = path.take(alloc);
+    let size = held.path.tim(out);
+    path.put(held);
+    size
+}

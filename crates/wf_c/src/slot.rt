@@ -1,0 +1,84 @@
+//! The handle that a C program keeps.
+
+ghost use Rattle.std.specs.Prelude.{◌≡◌, Option, Some, None, true, is_some};
+ghost use Rattle.wf_c.specs.Slots.{slot_owns};
+ghost use Rattle.wf_c.specs.declared.held.Held.{Held as HeldValue};
+
+use crate::held::Held;
+use crate::unboxed::Unboxed;
+use std::alloc::Global;
+use std::marker::Model;
+use std::mem::replace;
+
+/// A path's handle: the caller's own struct, which is empty or holds a path.
+#[repr(C)]
+pub struct PathSlot {
+    at: *mut u8,
+    alloc: Global,
+    ghost value: { Option HeldValue },
+}
+
+impl Model for PathSlot {
+    ghost also_owns = { λ s. slot_owns s.alloc s.at s.value };
+}
+
+impl PathSlot {
+    // A handle that holds nothing.
+    pub(crate) fn empty(alloc: Global) -> PathSlot
+        ensures { result.value ≡ None }
+    {
+        PathSlot {
+            at: std::ptr::null_mut(),
+            alloc,
+        }
+    }
+
+    // A handle that holds this.
+    pub(crate) fn full(owned: Unboxed<Held, Global>) -> PathSlot
+        ensures { result.value ≡ Some owned.value }
+    {
+        let Unboxed { at, alloc } = owned;
+        PathSlot {
+            at: at as *mut u8,
+            alloc,
+        }
+    }
+
+    // What a handle holds.
+    pub(crate) fn into_unboxed(self) -> Unboxed<Held, Global>
+        requires { is_some self.value ≡ true }
+        ensures { self.value ≡ Some result.value }
+    {
+        let PathSlot { at, alloc } = self;
+        Unboxed {
+            at: at as *mut Held,
+            alloc,
+        }
+    }
+
+    // Ends a handle that holds nothing.
+    pub(crate) fn end(self)
+        requires { self.value ≡ None }
+    {
+        let PathSlot { at: _, alloc: _ } = self;
+    }
+
+    // Takes out what a handle holds.
+    pub(crate) fn take(&mut self, alloc: Global) -> Box<Held, Global>
+        requires { is_some self.old.value ≡ true }
+        ensures taken { self.old.value ≡ Some result.value }
+        ensures emptied { self.new.value ≡ None }
+    {
+        replace(self, PathSlot::empty(alloc))
+            .into_unboxed()
+            .into_box()
+    }
+
+    // Puts this into a handle that holds nothing.
+    pub(crate) fn put(&mut self, held: Box<Held, Global>)
+        requires { self.old.value ≡ None }
+        ensures { self.new.value ≡ Some held.value }
+    {
+        replace(self, PathSlot::full(Unboxed::of(held))).end();
+    }
+}

@@ -1,0 +1,366 @@
+/*
+ * Makes random calls through libwf, and writes the trace of them and what the library answered, in the words of docs/TRACE.md. What
+ * `wf replay` writes for the trace must be the same; checks/c-library compares them.
+ *
+ *   same CALLS SEED TRACE ANSWERS
+ *
+ * A replay knows of receivers, and a transmit path does not: what arrives at a station is kept here, and told to the library by
+ * BlockAcks. The answers to `arrive` and `answer` are the receivers' own, so the line of the answers is `?` there.
+ */
+#include <stdint.h>
+#include <stdio.h>
+#include <stdlib.h>
+#include <string.h>
+
+#include "wf.h"
+
+enum { STATIONS = 6, NUMBERS = 4096, OPEN = 32 };
+
+/* An open exchange. */
+struct exchange {
+  uint64_t number;
+  uint16_t station;
+  uint8_t tid;
+  uint8_t request;
+  uint16_t start; /* of its request */
+  struct wf_frames frames;
+};
+
+/* What arrived of one TID of a station: the frame that each number stands for, and whether it arrived. */
+struct session {
+  uint64_t ids[NUMBERS];
+  uint8_t arrived[NUMBERS];
+};
+
+static struct wf_path path;
+static struct wf_reply reply;
+static struct exchange exchanges[OPEN];
+static int open_count;
+static struct session sessions[STATIONS][8];
+static uint16_t windows[STATIONS];
+static uint32_t seed;
+static long lines;
+static FILE *trace, *answers;
+
+static uint32_t below(uint32_t n) {
+  seed = seed * 1664525u + 1013904223u;
+  return (seed >> 8) % n;
+}
+
+static void fail(const char *what) {
+  fprintf(stderr, "same: %s\n", what);
+  exit(1);
+}
+
+static const char *const CLASSES[] = {"bk", "be", "vi", "vo"};
+static const char *const FATES[] = {"held", "acked", "overlimit", "codel", "retries", "left"};
+static const char *const REFUSALS[] = {
+    "", "bad-station", "bad-window", "bad-start", "bad-exponent", "bad-rate", "bad-tick", "bad-tid", "bad-air", "bad-index", "live",
+    "no-station", "no-exchange", "no-answer", "open", "room", "sleeping", "full", "idle", "answered", "arrived", "nothing", "asleep",
+    "awake", "polled", "debt", "history-full", "bad-weight"};
+
+static void write_frames(const struct wf_frames *frames) {
+  uint16_t i;
+  for (i = 0; i < frames->count; i++) fprintf(answers, " %llu:%u", (unsigned long long)frames->ids[i], (unsigned)frames->numbers[i]);
+}
+
+static void write_send(const struct wf_frames *frames) {
+  fprintf(answers, "send %llu sta %u tid %u air %lu ", (unsigned long long)reply.exchange, (unsigned)reply.station, (unsigned)reply.tid,
+          (unsigned long)reply.air);
+  if (reply.request) {
+    fprintf(answers, "bar %u", (unsigned)reply.start);
+  } else {
+    fprintf(answers, "data");
+    write_frames(frames);
+  }
+  fprintf(answers, "%s\n", reply.more ? " more" : "");
+}
+
+static void write_refusal(void) {
+  fprintf(answers, "refused %s", REFUSALS[reply.refusal]);
+  if (reply.refusal == WF_DEBT) fprintf(answers, " %lld", (long long)reply.deficit);
+  if (reply.refusal >= WF_STILL_OPEN && reply.refusal <= WF_FULL) fprintf(answers, " %lu", (unsigned long)reply.count);
+  fprintf(answers, "\n");
+}
+
+/* Writes the answer to the last call, and counts its line. */
+static void write_answer(int32_t code, const struct wf_frames *frames) {
+  lines++;
+  if (code != reply.refusal) fail("a code that is not the reply's");
+  switch (reply.kind) {
+    case WF_JOINED: fprintf(answers, "joined\n"); break;
+    case WF_GONE: fprintf(answers, "left %lu\n", (unsigned long)reply.count); break;
+    case WF_RATE_SET: fprintf(answers, "set\n"); break;
+    case WF_TICKED: fprintf(answers, "now %llu\n", (unsigned long long)reply.now); break;
+    case WF_ACCEPTED:
+      fprintf(answers, "accepted %llu", (unsigned long long)reply.id);
+      if (reply.has_dropped) fprintf(answers, " dropped %llu", (unsigned long long)reply.dropped);
+      fprintf(answers, "\n");
+      break;
+    case WF_SEND: write_send(frames); break;
+    case WF_ENDED:
+      fprintf(answers, "done acked %u waiting %u failed %u\n", (unsigned)reply.acked, (unsigned)reply.waiting, (unsigned)reply.failed);
+      break;
+    case WF_SLEPT: fprintf(answers, "slept\n"); break;
+    case WF_WOKEN: fprintf(answers, "woken\n"); break;
+    case WF_CREDITED: fprintf(answers, "polled %s\n", CLASSES[reply.class_]); break;
+    case WF_CHARGED: fprintf(answers, "charged %lld\n", (long long)reply.deficit); break;
+    case WF_REAPED: fprintf(answers, "reaped %llu %s\n", (unsigned long long)reply.id, FATES[reply.fate]); break;
+    case WF_REFUSED: write_refusal(); break;
+    default: fail("an answer of no path");
+  }
+}
+
+/* A line of the trace that only the receivers answer. */
+static void receivers_line(const char *word, uint64_t exchange, int index) {
+  fprintf(trace, index < 0 ? "%s %llu\n" : "%s %llu %d\n", word, (unsigned long long)exchange, index);
+  fprintf(answers, "?\n");
+  lines++;
+}
+
+static void call_join(uint16_t s) {
+  uint16_t window = (uint16_t)(below(4) ? 1 + below(64) : 1 + below(257)), start = (uint16_t)below(4100);
+  uint8_t exponent = (uint8_t)below(5), weight = (uint8_t)below(18);
+  int32_t code = wf_path_join(&path, s, window, start, exponent, weight, &reply);
+  fprintf(trace, "join %u %u %u %u %u\n", (unsigned)s, (unsigned)window, (unsigned)start, (unsigned)exponent, (unsigned)weight);
+  if (code == WF_OK) windows[s] = window;
+  write_answer(code, NULL);
+}
+
+static void call_rate(uint16_t s) {
+  uint8_t mcs = (uint8_t)below(17), mhz = (uint8_t)(below(9) ? 20 + 20 * below(2) : 30), guard = (uint8_t)below(2);
+  int32_t code = wf_path_rate(&path, s, mcs, mhz, guard, &reply);
+  fprintf(trace, "rate %u %u %u %s\n", (unsigned)s, (unsigned)mcs, (unsigned)mhz, guard ? "short" : "long");
+  write_answer(code, NULL);
+}
+
+static void call_enqueue(uint16_t s) {
+  uint8_t tid = (uint8_t)below(below(50) ? 8 : 10), body[WF_GREATEST_BODY];
+  uint32_t flow = below(20);
+  size_t length = 1 + below(below(4) ? 200 : WF_GREATEST_BODY), j;
+  int32_t code;
+  for (j = 0; j < length; j++) body[j] = (uint8_t)(flow + j);
+  code = wf_path_enqueue(&path, s, tid, flow, body, length, &reply);
+  if (code == WF_NO_MEMORY) fail("out of memory");
+  fprintf(trace, "enq %u %u %lu %lu\n", (unsigned)s, (unsigned)tid, (unsigned long)flow, (unsigned long)length);
+  write_answer(code, NULL);
+}
+
+/* Compares what is told of a new exchange in many ways. */
+static void look_at(const struct exchange *x) {
+  struct wf_sent sent = {0};
+  uint64_t id = 0;
+  uint16_t i;
+  if (wf_path_sent(&path, x->number, &sent)) fail("an exchange that is not open");
+  if (sent.station != x->station || sent.tid != x->tid || sent.request != x->request) fail("another exchange");
+  if (sent.count != (x->request ? 1 : x->frames.count)) fail("another count");
+  for (i = 0; i < x->frames.count; i++) {
+    if (wf_path_frame_id(&path, x->number, i, &id) || id != x->frames.ids[i]) fail("another frame");
+  }
+  if (wf_path_frame_id(&path, x->number, x->frames.count, &id) != WF_BAD_INDEX) fail("a frame too many");
+}
+
+static void call_pull(void) {
+  struct exchange *x = &exchanges[open_count];
+  struct session *session;
+  uint8_t class_ = (uint8_t)below(4);
+  uint16_t i;
+  int32_t code;
+  if (open_count == OPEN) return;
+  memset(&x->frames, 0, sizeof x->frames);
+  code = wf_path_pull(&path, class_, &reply, &x->frames);
+  fprintf(trace, "pull %s\n", CLASSES[class_]);
+  write_answer(code, &x->frames);
+  if (code) return;
+  x->number = reply.exchange;
+  x->station = reply.station;
+  x->tid = reply.tid;
+  x->request = reply.request;
+  x->start = reply.start;
+  session = &sessions[x->station][x->tid];
+  for (i = 0; i < x->frames.count; i++) {
+    uint16_t n = x->frames.numbers[i];
+    if (session->ids[n] == x->frames.ids[i] + 1) continue;
+    session->ids[n] = x->frames.ids[i] + 1;
+    session->arrived[n] = 0;
+  }
+  open_count++;
+  look_at(x);
+}
+
+/* Some transmissions of an exchange arrive, and its station may answer. Gives whether it answered. */
+static int arrive(const struct exchange *x) {
+  struct session *session = &sessions[x->station][x->tid];
+  int i, count = x->request ? 1 : x->frames.count, any = 0;
+  for (i = 0; i < count; i++) {
+    if (below(4) == 0) continue;
+    receivers_line("arrive", x->number, i);
+    if (!x->request) session->arrived[x->frames.numbers[i]] = 1;
+    any = 1;
+  }
+  if (!any) return 0;
+  receivers_line("answer", x->number, -1);
+  return 1;
+}
+
+/* The bitmap of what a station has of an exchange, from its first number on. */
+static uint16_t shown(const struct exchange *x, uint8_t bits[32]) {
+  struct session *session = &sessions[x->station][x->tid];
+  uint16_t i, start = x->request ? x->start : x->frames.numbers[0];
+  memset(bits, 0, 32);
+  for (i = 0; i < x->frames.count; i++) {
+    unsigned offset = (unsigned)(x->frames.numbers[i] - start) & 4095;
+    if (session->arrived[x->frames.numbers[i]]) bits[offset / 8] |= (uint8_t)(1 << offset % 8);
+  }
+  return start;
+}
+
+/* Ends an exchange by the octets of a BlockAck. */
+static int32_t done_octets(const struct exchange *x, uint16_t start, const uint8_t bits[32]) {
+  uint8_t frame[WF_GREATEST_MPDU] = {0}, ack[52] = {0};
+  size_t size = 0, need = 0, length = windows[x->station] > 64 ? 52 : 28;
+  if (wf_path_mpdu(&path, x->number, 0, frame, 15, &need) != WF_SMALL_BUFFER) fail("room for a frame in 15 octets");
+  if (wf_path_mpdu(&path, x->number, 0, frame, sizeof frame, &size) || size != need) fail("a frame of another size");
+  ack[0] = 0x94;
+  memcpy(ack + 4, frame + 10, 6);
+  memcpy(ack + 10, frame + 4, 6);
+  ack[16] = length == 52 ? 0x0c : 0x04;
+  ack[17] = (uint8_t)((x->tid + 1) % 8 << 4);
+  ack[18] = (uint8_t)(start << 4);
+  ack[19] = (uint8_t)(start >> 4);
+  memcpy(ack + 20, bits, length - 20);
+  if (wf_path_done_octets(&path, x->number, ack, length, &reply) != WF_WRONG_TID) fail("another TID is taken");
+  if (wf_path_done_octets(&path, x->number, ack, length - 1, &reply) != WF_BLOCK_LENGTH) fail("a BlockAck cut short is taken");
+  ack[17] = (uint8_t)(x->tid << 4);
+  return wf_path_done_octets(&path, x->number, ack, length, &reply);
+}
+
+static void call_done(void) {
+  struct exchange x;
+  uint8_t bits[32];
+  uint16_t start;
+  int which, heard;
+  int32_t code;
+  if (open_count == 0) return;
+  which = (int)below((uint32_t)open_count);
+  x = exchanges[which];
+  exchanges[which] = exchanges[--open_count];
+  heard = arrive(&x) && below(4);
+  if (heard) {
+    start = shown(&x, bits);
+    code = below(2) ? done_octets(&x, start, bits) : wf_path_done_bits(&path, x.number, start, bits, &reply);
+  } else {
+    code = wf_path_done_lost(&path, x.number, &reply);
+  }
+  fprintf(trace, "done %llu %s\n", (unsigned long long)x.number, heard ? "heard" : "lost");
+  write_answer(code, NULL);
+  if (wf_path_done_lost(&path, x.number, &reply) != WF_NO_EXCHANGE) fail("an exchange that ends twice");
+}
+
+static void call_reap(void) {
+  static uint8_t body[WF_GREATEST_BODY];
+  struct wf_taken taken = {0};
+  int32_t code = wf_path_reap(&path, &reply, &taken, body, sizeof body);
+  uint16_t j;
+  fprintf(trace, "reap\n");
+  write_answer(code, NULL);
+  if (code) return;
+  if (taken.station >= STATIONS || taken.tid > 7 || taken.flow >= 20 || taken.length == 0) fail("a frame that never came");
+  for (j = 0; j < taken.length; j++) {
+    if (body[j] != (uint8_t)(taken.flow + j)) fail("another body");
+  }
+}
+
+static void call_other(uint16_t s) {
+  uint8_t class_ = (uint8_t)below(4);
+  uint32_t number = below(50) ? below(2000) : 10000000 + below(2);
+  int32_t code;
+  switch (below(6)) {
+    case 0: code = wf_path_leave(&path, s, &reply), fprintf(trace, "leave %u\n", (unsigned)s); break;
+    case 1: code = wf_path_sleep(&path, s, &reply), fprintf(trace, "sleep %u\n", (unsigned)s); break;
+    case 2: code = wf_path_wake(&path, s, &reply), fprintf(trace, "wake %u\n", (unsigned)s); break;
+    case 3: code = wf_path_poll(&path, s, &reply), fprintf(trace, "poll %u\n", (unsigned)s); break;
+    case 4:
+      code = wf_path_receive(&path, s, class_, number, &reply);
+      fprintf(trace, "rx %u %s %lu\n", (unsigned)s, CLASSES[class_], (unsigned long)number);
+      break;
+    default:
+      number *= 10;
+      code = wf_path_tick(&path, number, &reply);
+      fprintf(trace, "tick %lu\n", (unsigned long)number);
+      break;
+  }
+  write_answer(code, NULL);
+}
+
+static void call(void) {
+  uint16_t s = (uint16_t)below(below(100) ? STATIONS : STATIONS + 1);
+  uint32_t which = below(100);
+  if (which < 40) call_enqueue(s);
+  else if (which < 58) call_pull();
+  else if (which < 76) call_done();
+  else if (which < 90) call_reap();
+  else if (which < 93) call_join(s);
+  else if (which < 95) call_rate(s);
+  else call_other(s);
+}
+
+/* The summary of docs/TRACE.md. */
+static void summary(void) {
+  struct wf_tally t = {0};
+  struct wf_share share = {0};
+  uint8_t tim[256] = {0};
+  size_t i, size;
+  uint16_t s;
+  uint8_t c;
+  wf_path_tally(&path, &t);
+  fprintf(answers, "calls %ld\nnow %llu\n", lines, (unsigned long long)wf_path_now(&path));
+  fprintf(answers, "frames %llu acked %llu overlimit %llu codel %llu retries %llu left %llu held %llu\n", (unsigned long long)t.accepted,
+          (unsigned long long)t.acked, (unsigned long long)t.overlimit, (unsigned long long)t.codel, (unsigned long long)t.retries,
+          (unsigned long long)t.left, (unsigned long long)(t.accepted - t.acked - t.overlimit - t.codel - t.retries - t.left));
+  fprintf(answers, "exchanges %llu open %lu\n", (unsigned long long)wf_path_exchanges(&path), (unsigned long)wf_path_open_count(&path));
+  for (s = 0; s < STATIONS; s++) {
+    for (c = 0; c < 4; c++) {
+      if ((wf_path_share(&path, s, c, &share) == WF_OK) != (wf_path_live(&path, s) == 1)) fail("live, and not live");
+      if (!wf_path_live(&path, s) || (share.charged == 0 && share.received == 0)) continue;
+      fprintf(answers, "sta %u %s charged %llu rx %llu deficit %lld\n", (unsigned)s, CLASSES[c], (unsigned long long)share.charged,
+              (unsigned long long)share.received, (long long)share.deficit);
+    }
+  }
+  size = wf_path_tim(&path, tim);
+  fprintf(answers, "tim ");
+  for (i = 0; i < size; i++) fprintf(answers, "%02x", tim[i]);
+  fprintf(answers, "\n");
+}
+
+static void open_path(void) {
+  struct wf_settings settings = {0};
+  wf_settings_standard(&settings);
+  settings.stations = STATIONS;
+  settings.flows = 5000;
+  if (wf_path_make(&path, &settings) != WF_BAD_SETTING + 2) fail("5000 flows are taken");
+  settings.flows = 32;
+  settings.limit = 40;
+  settings.room = 400;
+  settings.attempts = 4;
+  settings.sleeping = 8;
+  if (wf_path_make(&path, &settings)) fail("there is no path");
+  fprintf(trace, "cell stations=%d flows=32 limit=40 room=400 attempts=4 sleeping=8\n", STATIONS);
+}
+
+int main(int count, char **words) {
+  long calls;
+  if (count != 5) fail("same CALLS SEED TRACE ANSWERS");
+  calls = atol(words[1]);
+  seed = (uint32_t)atol(words[2]);
+  trace = fopen(words[3], "w");
+  answers = fopen(words[4], "w");
+  if (!trace || !answers) fail("no file");
+  open_path();
+  while (calls-- > 0) call();
+  fprintf(trace, "end\n");
+  summary();
+  wf_path_free(&path);
+  if (fclose(trace) || fclose(answers)) fail("a file that cannot be written");
+  return 0;
+}

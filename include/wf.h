@@ -1,0 +1,304 @@
+/*
+ * The transmit path of a Wi-Fi access point, for drivers and simulators in C and C++.
+ *
+ * Every function is proved against its contract (crates/wf_c); this page says in words what the contracts say, and what a
+ * caller has to see to, which nothing checks in C.
+ *
+ * Handles. A `struct wf_path` belongs to the caller. It holds nothing while it is all zero, `wf_path_make` puts a path into it, and
+ * `wf_path_free` takes the path out and frees it. In between every other function may be called on it. Do not copy it, and do
+ * not look into it. A function that is given a handle in the other state has no defined behaviour.
+ *
+ * Memory. `wf_path_make` takes memory for the path, and `wf_path_enqueue` for one frame; no other function takes any. A frame's
+ * memory is freed when it is reaped, when it is refused, or with the path. Memory comes from malloc, realloc and free of the
+ * program, which have to align a block to each power of two up to 16 that divides its size.
+ *
+ * Threads. A handle stays on the thread that made it. Two handles have nothing in common, so each thread may have its own. No
+ * function may be called from a signal handler, nor in the child of a fork of a process with threads.
+ *
+ * Buffers. A pointer must not be null, and what a function writes to must not overlap anything else that it is given. Every
+ * struct and buffer must be initialized, as by `= {0}`, before it is handed in. The library keeps no pointer of the caller's.
+ *
+ * Times are in microseconds, stations are 0 to `stations` - 1, TIDs 0 to 7. Counts must stay below 2^62, which they do for the
+ * first 2^38 calls of a handle.
+ */
+#ifndef WF_H
+#define WF_H
+
+#include <stddef.h>
+#include <stdint.h>
+
+#ifdef __cplusplus
+extern "C" {
+#endif
+
+/* What functions of type int32_t give back. 0 is well, and each other number says why nothing has changed. */
+enum wf_code {
+  WF_OK = 0,
+  /* refusals; `reply` then has kind WF_REFUSED */
+  WF_BAD_STATION = 1,   /* the station number is not below `stations` */
+  WF_BAD_WINDOW = 2,    /* the window is not 1 to 256 */
+  WF_BAD_START = 3,     /* the first sequence number is above 4095 */
+  WF_BAD_EXPONENT = 4,  /* the A-MPDU length exponent is above 3 */
+  WF_BAD_RATE = 5,      /* the MCS is above 15, or the width neither 20 nor 40 MHz */
+  WF_BAD_TICK = 6,      /* the clock would move by more than 10,000,000 microseconds */
+  WF_BAD_TID = 7,       /* the TID is above 7 */
+  WF_BAD_AIR = 8,       /* the airtime is 0 or above 65,535 microseconds */
+  WF_BAD_INDEX = 9,     /* the exchange has no transmission of that index */
+  WF_LIVE = 10,         /* the station is live already */
+  WF_NO_STATION = 11,   /* the station is not live */
+  WF_NO_EXCHANGE = 12,  /* no open exchange has that number */
+  WF_STILL_OPEN = 14,   /* the station has `count` open exchanges */
+  WF_ROOM = 15,         /* `count` frames are accepted and not yet reaped: as many as `room` */
+  WF_SLEEPING = 16,     /* the station sleeps, and `count` frames of the class are queued for it: `sleeping` or more */
+  WF_FULL = 17,         /* `count` exchanges of the class are open: as many as `inflight` */
+  WF_IDLE = 18,         /* no station of the class is ready; the only refusal after which something may have changed */
+  WF_NOTHING = 21,      /* there is nothing to send or to reap */
+  WF_ASLEEP = 22,       /* the station is asleep already */
+  WF_AWAKE = 23,        /* the station is awake */
+  WF_POLLED = 24,       /* the station has a credit that is not spent yet */
+  WF_DEBT = 25,         /* the deficit, which stays at `deficit`, would fall below -1,000,000 microseconds */
+  WF_BAD_WEIGHT = 27,   /* the weight is not 1 to 16 */
+  /* beside the machine's */
+  WF_NO_MEMORY = 40,    /* there is no memory */
+  WF_BAD_LENGTH = 41,   /* a body has no octet, or more than WF_GREATEST_BODY */
+  WF_SMALL_BUFFER = 42, /* the buffer is too small */
+  /* octets that are no BlockAck to the exchange */
+  WF_BLOCK_LENGTH = 51, /* not 28 octets, or 52 where the window is above 64 */
+  WF_BLOCK_KIND = 52,   /* not a BlockAck */
+  WF_BLOCK_BASIC = 53,  /* not compressed */
+  WF_BLOCK_MULTI = 54,  /* of many TIDs */
+  WF_BLOCK_FRAGMENT = 55, /* its fragment number is not 0 */
+  WF_BLOCK_NARROW = 56, /* not of 256 bits, and the window is above 64 */
+  WF_NOT_MINE = 57,     /* not to the access point, or not from the exchange's station */
+  WF_WRONG_TID = 58,    /* of another TID */
+  /* wf_path_make: 100 and the place of the first setting that is out of its range, 1 to 12 */
+  WF_BAD_SETTING = 100
+};
+
+/* Access classes. A greater number counts as WF_VO. */
+enum wf_class { WF_BK = 0, WF_BE = 1, WF_VI = 2, WF_VO = 3 };
+
+/* What became of a frame. */
+enum wf_fate {
+  WF_HELD = 0,      /* it is inside; no reaped frame is */
+  WF_ACKED = 1,     /* acknowledged */
+  WF_OVERLIMIT = 2, /* dropped since the flow queues were full */
+  WF_CODEL = 3,     /* dropped by CoDel */
+  WF_RETRIES = 4,   /* dropped after its last transmission */
+  WF_LEFT = 5       /* dropped since its station left */
+};
+
+/* What a call answers: which fields of a `struct wf_reply` mean something. All others are 0. */
+enum wf_kind {
+  WF_JOINED = 0,
+  WF_GONE = 1,      /* count: how many frames were dropped */
+  WF_RATE_SET = 2,
+  WF_TICKED = 3,    /* now */
+  WF_ACCEPTED = 4,  /* id; dropped, where has_dropped is 1 */
+  WF_SEND = 5,      /* exchange, station, tid, air, more; start, where request is 1 */
+  WF_ENDED = 8,     /* acked, waiting, failed */
+  WF_SLEPT = 9,
+  WF_WOKEN = 10,
+  WF_CREDITED = 11, /* class_ */
+  WF_CHARGED = 12,  /* deficit */
+  WF_REAPED = 13,   /* id, fate */
+  WF_REFUSED = 14   /* refusal; count or deficit, where the refusal has one */
+};
+
+/* The greatest body of a frame, and the greatest transmission, in octets. */
+#define WF_GREATEST_BODY 2304
+#define WF_GREATEST_MPDU 2330
+
+/* A handle. */
+struct wf_path {
+  void *at;
+};
+
+/* Settings; ranges in brackets. */
+struct wf_settings {
+  uint32_t stations;     /* station numbers [1..256] */
+  uint32_t flows;        /* shared flow queues [1..4096] */
+  uint32_t limit;        /* frames in flow queues [1..65535] */
+  uint32_t room;         /* frames accepted and not yet reaped [1..131072] */
+  uint32_t flow_quantum; /* octets per flow visit [64..65535] */
+  uint32_t quantum;      /* microseconds per station visit, for weight 1 [100..10000] */
+  uint32_t inflight;     /* open exchanges per class [1..8] */
+  uint32_t attempts;     /* transmissions of one frame [1..64] */
+  uint32_t agg;          /* frames in one aggregate [1..256] */
+  uint32_t cap;          /* data time of one aggregate, microseconds [3000..5400] */
+  uint32_t sleeping;     /* frames queued per sleeping station and class [1..65535] */
+  uint32_t calls;        /* entries of a history, which a path does not keep [1..1048576] */
+};
+
+/* An answer (enum wf_kind). */
+struct wf_reply {
+  uint64_t exchange;    /* the exchange to send */
+  uint64_t id;          /* the frame that was accepted or reaped; ids run from 0 */
+  uint64_t dropped;     /* the frame that was dropped for the limit */
+  uint64_t now;         /* the clock */
+  int64_t deficit;      /* the deficit after the charge */
+  uint32_t air;         /* what the exchange takes of the air */
+  uint32_t count;
+  uint16_t station;     /* the station to send to */
+  uint16_t start;       /* the start of the BlockAckReq: 0 to 4095 */
+  uint16_t acked;       /* frames of the exchange that are acknowledged, */
+  uint16_t waiting;     /* wait again, */
+  uint16_t failed;      /* or are dropped */
+  uint8_t kind;         /* enum wf_kind */
+  uint8_t refusal;      /* enum wf_code, 0 to 27: what the function gave back */
+  uint8_t tid;
+  uint8_t class_;       /* enum wf_class */
+  uint8_t fate;         /* enum wf_fate */
+  uint8_t has_dropped;  /* 0 or 1 */
+  uint8_t request;      /* 0 or 1 */
+  uint8_t more;         /* 0 or 1: the station has more to be sent */
+};
+
+/* The frames of an aggregate: the id and the sequence number (0 to 4095) of each, of `count`. */
+struct wf_frames {
+  uint64_t ids[256];
+  uint16_t numbers[256];
+  uint16_t count;
+};
+
+/* What an open exchange sends, and to whom. */
+struct wf_sent {
+  uint16_t station;
+  uint16_t count;  /* transmissions: one for each frame, or the one BlockAckReq */
+  uint8_t tid;
+  uint8_t request; /* 1 where it sends a BlockAckReq */
+};
+
+/* A frame that was reaped. */
+struct wf_taken {
+  uint32_t flow;
+  uint16_t station;
+  uint16_t length; /* of its body, 1 to WF_GREATEST_BODY octets */
+  uint8_t tid;
+};
+
+/* The accepted frames by what became of them; the rest of them are inside. */
+struct wf_tally {
+  uint64_t accepted;
+  uint64_t acked;
+  uint64_t overlimit; /* dropped since the flow queues were full */
+  uint64_t codel;     /* dropped by CoDel */
+  uint64_t retries;   /* dropped after their last transmission */
+  uint64_t left;      /* dropped since their station left */
+};
+
+/* A station's airtime in a class since its join, in microseconds. */
+struct wf_share {
+  int64_t deficit;   /* what it may use before it is not picked again; below 0 it used too much */
+  uint64_t charged;  /* what its exchanges took */
+  uint64_t received; /* what it used itself (wf_path_receive) */
+};
+
+/* ---- making and freeing */
+
+/* Writes the standard settings. */
+void wf_settings_standard(struct wf_settings *settings);
+
+/* Puts a path of these settings into a handle that holds nothing. WF_BAD_SETTING + n where the nth setting is out of its range,
+ * WF_NO_MEMORY where there is no memory; the handle then holds nothing still. The settings are copied. */
+int32_t wf_path_make(struct wf_path *path, const struct wf_settings *settings);
+
+/* Frees the path of a handle with all frames inside; the handle then holds nothing. */
+void wf_path_free(struct wf_path *path);
+
+/* ---- calls of the machine. Each writes its answer to `reply`, and gives the refusal: WF_OK where it was not refused. */
+
+/* A station becomes live: its window in frames (1 to 256), its first sequence number (0 to 4095), its A-MPDU length exponent (0 to
+ * 3) and its weight in airtime (1 to 16). WF_BAD_STATION, WF_BAD_WINDOW, WF_BAD_START, WF_BAD_EXPONENT, WF_BAD_WEIGHT, WF_LIVE. */
+int32_t wf_path_join(struct wf_path *path, uint16_t station, uint16_t window, uint16_t start, uint8_t exponent, uint8_t weight,
+                     struct wf_reply *reply);
+
+/* A station is no longer live; its frames are dropped. WF_BAD_STATION, WF_NO_STATION, WF_STILL_OPEN. */
+int32_t wf_path_leave(struct wf_path *path, uint16_t station, struct wf_reply *reply);
+
+/* A live station is sent to at this rate: MCS 0 to 15, 20 or 40 MHz, the short guard interval where `short_guard` is not 0.
+ * WF_BAD_STATION, WF_BAD_RATE, WF_NO_STATION. */
+int32_t wf_path_rate(struct wf_path *path, uint16_t station, uint8_t mcs, uint8_t mhz, uint8_t short_guard,
+                     struct wf_reply *reply);
+
+/* The clock moves on by 0 to 10,000,000 microseconds. WF_BAD_TICK. */
+int32_t wf_path_tick(struct wf_path *path, uint32_t by, struct wf_reply *reply);
+
+/* A live station goes to sleep, and wakes. WF_BAD_STATION, WF_NO_STATION, WF_ASLEEP; WF_AWAKE. */
+int32_t wf_path_sleep(struct wf_path *path, uint16_t station, struct wf_reply *reply);
+int32_t wf_path_wake(struct wf_path *path, uint16_t station, struct wf_reply *reply);
+
+/* A sleeping station asks for one frame (PS-Poll). WF_BAD_STATION, WF_NO_STATION, WF_AWAKE, WF_POLLED, WF_NOTHING. */
+int32_t wf_path_poll(struct wf_path *path, uint16_t station, struct wf_reply *reply);
+
+/* A live station used 1 to 65,535 microseconds of airtime to send in a class. WF_BAD_STATION, WF_BAD_AIR, WF_NO_STATION, WF_DEBT. */
+int32_t wf_path_receive(struct wf_path *path, uint16_t station, uint8_t class_, uint32_t air, struct wf_reply *reply);
+
+/* A frame comes for a station: its TID, its flow, and its body of 1 to WF_GREATEST_BODY octets, which is copied.
+ * WF_BAD_STATION, WF_BAD_TID, WF_NO_STATION, WF_ROOM, WF_SLEEPING; also WF_NO_MEMORY and WF_BAD_LENGTH, and then `reply` is as it
+ * was. */
+int32_t wf_path_enqueue(struct wf_path *path, uint16_t station, uint8_t tid, uint32_t flow, const uint8_t *body, size_t length,
+                        struct wf_reply *reply);
+
+/* The driver asks for the next exchange of a class. Where it sends an aggregate, `frames` says of what frames; else their count is
+ * 0. WF_FULL, WF_IDLE. */
+int32_t wf_path_pull(struct wf_path *path, uint8_t class_, struct wf_reply *reply, struct wf_frames *frames);
+
+/* Takes the first finished frame: its id and fate, what it was, and its body of `taken->length` octets. The buffer must have room
+ * for WF_GREATEST_BODY octets; the rest of it stays. WF_NOTHING, and then `taken` and `body` are as they were. */
+int32_t wf_path_reap(struct wf_path *path, struct wf_reply *reply, struct wf_taken *taken, uint8_t *body, size_t room);
+
+/* ---- an open exchange */
+
+/* Writes what an exchange sends, and to whom. WF_NO_EXCHANGE. */
+int32_t wf_path_sent(struct wf_path *path, uint64_t exchange, struct wf_sent *sent);
+
+/* Writes the id of the frame of a transmission, from index 0 on. WF_BAD_INDEX where there is none: the exchange is not open, is a
+ * request, or has no such transmission. */
+int32_t wf_path_frame_id(struct wf_path *path, uint64_t exchange, uint16_t index, uint64_t *id);
+
+/* Writes the octets of a transmission (a QoS data frame of IEEE 802.11-2012, or a BlockAckReq) and how many they are, at most
+ * WF_GREATEST_MPDU. WF_NO_EXCHANGE, WF_BAD_INDEX, WF_SMALL_BUFFER; then `out` is as it was, and where there is too little room
+ * `size` says how much is needed. */
+int32_t wf_path_mpdu(struct wf_path *path, uint64_t exchange, uint16_t index, uint8_t *out, size_t room, size_t *size);
+
+/* An exchange ends: its station pays for it, and its frames are acknowledged, wait again or are dropped. WF_NO_EXCHANGE.
+ * Nothing was heard; */
+int32_t wf_path_done_lost(struct wf_path *path, uint64_t exchange, struct wf_reply *reply);
+
+/* or a BlockAck was heard of this start (modulo 4096) and this bitmap, the least significant bit of the first octet first: 64 bits
+ * count, or 256 where the window is above 64; */
+int32_t wf_path_done_bits(struct wf_path *path, uint64_t exchange, uint16_t start, const uint8_t bits[32], struct wf_reply *reply);
+
+/* or the octets of a BlockAck were heard. WF_BLOCK_LENGTH to WF_WRONG_TID say why they are none to this exchange: it is then open
+ * still, and `reply` as it was, as also after WF_NO_EXCHANGE here. */
+int32_t wf_path_done_octets(struct wf_path *path, uint64_t exchange, const uint8_t *octets, size_t length,
+                            struct wf_reply *reply);
+
+/* ---- what a path tells */
+
+/* The clock, in microseconds. */
+uint64_t wf_path_now(struct wf_path *path);
+
+/* How many exchanges were opened, and how many are open (at most 32). */
+uint64_t wf_path_exchanges(struct wf_path *path);
+uint32_t wf_path_open_count(struct wf_path *path);
+
+/* 1 where a station is live, else 0. */
+int32_t wf_path_live(struct wf_path *path, uint16_t station);
+
+/* Writes the accepted frames by what became of them. */
+void wf_path_tally(struct wf_path *path, struct wf_tally *tally);
+
+/* Writes a live station's airtime in a class. WF_NO_STATION. */
+int32_t wf_path_share(struct wf_path *path, uint16_t station, uint8_t class_, struct wf_share *share);
+
+/* Writes the TIM element (IEEE 802.11-2012, 8.4.2.7) of the stations that sleep and have traffic, and gives how many octets it has.
+ * The rest of `out` stays. */
+size_t wf_path_tim(struct wf_path *path, uint8_t out[256]);
+
+#ifdef __cplusplus
+}
+#endif
+
+#endif
