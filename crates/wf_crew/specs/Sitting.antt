@@ -1,5 +1,5 @@
 -- For the contracts of a worker's parts: what a seat is to a worker that sits there.
-use Rattle.std.specs.Prelude.{length, slice_index_or, ◌≡◌, ℕ, ◌+◌, ◌-◌, ◌<◌, ◌≤◌, List, length, slice_index_or, Option, Some, None, Result, IfOk}
+use Rattle.std.specs.Prelude.{◌≡◌, ℕ, ◌+◌, ◌-◌, ◌<◌, ◌≤◌, List, length, slice_index_or, Option, Some, None, Result, IfOk}
 use Rattle.std.specs.Global.{Box}
 use Rattle.wf_frame.specs.Answers.{reply_of}
 use Rattle.wf_frame.specs.declared.answers.Answer.{Answer}

@@ -1,7 +1,7 @@
 -- What the workers did, once all seats are back.
-use Rattle.std.proofs.Common.{◌≡◌, ℕ, ◌+◌, ◌-◌, ◌<◌, ◌≤◌, List, [], ◌∷◌, ◌++◌, length, map, replicate, refl, sym, ◌∙◌, ap, subst, length-append, arith, inl, inr}
+use Rattle.std.proofs.Common.{◌≡◌, ℕ, ◌+◌, ◌-◌, ◌<◌, ◌≤◌, List, [], ◌∷◌, ◌++◌, length, map, replicate, refl, sym, ◌∙◌, ap, subst, arith, inl, inr}
 use Rattle.std.specs.Prelude.{◌⊎◌, All, slice_index_or}
-use Rattle.std.proofs.lemmas.List.{length-replicate, get_or-append-add, get_or-replicate}
+use Rattle.std.proofs.lemmas.List.{get_or-append-add, get_or-replicate}
 use mathlib.Core.List.{IsPrefix}
 use Rattle.wf_frame.specs.Settings.{standard}
 use Rattle.wf_world.specs.World.{World, opening}
@@ -13,14 +13,8 @@ use Rattle.wf_workers.specs.Workloads.Phase.{Ends}
 use Rattle.wf_walks.specs.Makings.{made_by}
 use Rattle.wf_crew.specs.Crew.{CellGate, CellSeat, StandAt, HasSent, HasDriven, IsWorked, class_of, driver_count, driver_quota, quotas_of}
 use Rattle.wf_live_run.specs.Lives.{opened_world, IsDriven, IsLive}
+use Rattle.wf_live_run.proofs.Quotas.{count_of}
 use Rattle.wf_live_run.proofs.Places.{world_at_gate, stand_longer, all_made, all_called}
-
-count_of : (senders frames : ℕ) → length (quotas_of senders frames) ≡ senders + driver_count
-count_of senders frames =
-    let all = length-append (replicate senders (frames + 1)) (replicate driver_count driver_quota) in
-    let first = length-replicate senders (frames + 1) in
-    let last = length-replicate driver_count driver_quota in
-    omega (arith, all, first, last)
 
 quota_behind : (n i a b d : ℕ) (m : ℕ) → i < m → slice_index_or (replicate n a ++ replicate m b) (n + i) d ≡ b
 quota_behind n i a b d m below =

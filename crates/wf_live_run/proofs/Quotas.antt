@@ -1,6 +1,7 @@
 -- What the quotas add up to, and the numbers of the seats.
-use Rattle.std.proofs.Common.{◌≡◌, ℕ, zero, suc, ◌+◌, ◌*◌, ◌-◌, ◌<◌, ◌≤◌, List, [], ◌∷◌, ◌++◌, length, map, replicate, Some, refl, sym, ◌∙◌, ap, ap₂, subst, arith}
+use Rattle.std.proofs.Common.{◌≡◌, ℕ, zero, suc, ◌+◌, ◌*◌, ◌-◌, ◌<◌, ◌≤◌, List, [], ◌∷◌, ◌++◌, length, map, replicate, Some, refl, sym, ◌∙◌, ap, ap₂, subst, length-append, arith}
 use Rattle.std.specs.Prelude.{EachIndex, slice_get, sum}
+use Rattle.std.proofs.lemmas.List.{length-replicate}
 use Rattle.std.proofs.lemmas.List.Sums.{sum_by-cons}
 use Rattle.wf_frame.specs.Settings.{standard}
 use Rattle.wf_world.specs.Run.{Past}
@@ -25,6 +26,22 @@ has_room senders frames p few short is =
     let opened = opening_length senders in
     let room : room_in p ≡ 1048576 - length (opening_calls senders) = ap room_in is in
     omega (arith, all, drivers, opened, room, few)
+
+-- there is a quota for each sender and each driver
+pub count_of : (senders frames : ℕ) → length (quotas_of senders frames) ≡ senders + driver_count
+count_of senders frames =
+    let all = length-append (replicate senders (frames + 1)) (replicate driver_count driver_quota) in
+    let first = length-replicate senders (frames + 1) in
+    let last = length-replicate driver_count driver_quota in
+    omega (arith, all, first, last)
+
+-- and so many seats
+pub seat_count : (senders frames : ℕ) (quotas : List ℕ) (seats : List CellSeat) → length seats ≡ length quotas → quotas ≡ quotas_of senders frames → length seats ≡ senders + driver_count
+seat_count senders frames quotas seats count is = count ∙ ap length is ∙ count_of senders frames
+
+-- the senders are those that are no drivers
+pub sender_count : (senders frames : ℕ) (quotas : List ℕ) (seats : List CellSeat) → length seats ≡ length quotas → quotas ≡ quotas_of senders frames → senders ≡ length seats - driver_count
+sender_count senders frames quotas seats count is = let all = seat_count senders frames quotas seats count is in omega (arith, all)
 
 -- the seats of a new gate have the numbers of their places
 numbered : (g : CellGate) (quotas : List ℕ) (seats : List CellSeat) (from : ℕ) → length seats ≡ length quotas → ((k : ℕ) → k < length quotas → slice_get seats k ≡ Some (new_seat g (from + k))) →

@@ -28,8 +28,8 @@ fn open_gate(
     ensures count { IfOk result (λ r. length r.1.items ≡ length r.0.opening.quotas) }
     ensures seats { IfOk result (λ r. EachIndex r.0.opening.quotas (λ k. slice_get r.1.items k ≡ Some (new_seat r.0 k))) }
 {
-    let opened = Opened::with_stations(alloc, senders)?;
     let quotas = quotas(alloc, senders, frames)?;
+    let opened = Opened::with_stations(alloc, senders)?;
     Gate::new(alloc, opened.into_cell(), quotas.as_slice())
 }
 
