@@ -4,59 +4,16 @@ ghost use Rattle.std.specs.Prelude.{◌≡◌, ◌≤◌, ℕ, All, IfOk};
 ghost use Rattle.wf_frame.specs.Settings.{standard};
 ghost use Rattle.wf_gate.specs.Seats.{AreAll, IsOf};
 ghost use Rattle.wf_opening.specs.Opening.{opening_calls};
-ghost use Rattle.wf_world.specs.Run.{Past};
 ghost use Rattle.wf_crew.specs.Crew.{IsWorked, quotas_of};
 ghost use Rattle.wf_live_run.specs.Lives.{IsLive};
 
 use crate::lives::live;
 use std::alloc::{AllocError, Global};
-use std::marker::Model;
 use std::sync::Wait;
 use std::thread::Threads;
 use wf_cell::Cell;
 use wf_gate::{Gate, Seat};
 use wf_turnstile::Turnstile;
-
-/// What the workers leave. What is written of it is proved for whatever has these two calls, so that proof sees nothing of what a gate and
-/// a cell are made of.
-pub(crate) trait Lives: Drop {
-    /// The settings, and the calls that were made.
-    ghost past: { Self → Past };
-
-    /// Runs so many senders, 1 to 8, each with so many frames, 1 to 10,000, and four drivers at one gate before one cell.
-    fn run<R: Threads + Wait + Sync, T: Turnstile + Sync>(
-        rt: &R,
-        alloc: Global,
-        seed: u64,
-        senders: u32,
-        frames: u32,
-        turnstile: &T,
-    ) -> Result<Self, AllocError>
-    where
-        Self: Sized,
-        requires senders { (1 ≤ senders) × (senders ≤ 8) }
-        requires frames { (1 ≤ frames) × (frames ≤ 10000) }
-        ensures config { IfOk result (λ it. (past it).config ≡ standard) }
-        ensures live { IfOk result (λ it. IsLive seed senders frames (past it).history) };
-
-    /// The cell that they were at.
-    fn cell(&self) -> &Cell
-        ensures { result.now.past ≡ past self.now };
-}
-
-/// The cell behind a gate that is closed.
-#[derive(Drop)]
-pub(crate) struct Closed {
-    cell: Cell,
-}
-
-impl Model for Closed {
-    ghost use Rattle.wf_world.specs.Run.{Past};
-
-    ghost Value = { Past };
-
-    ghost view = { λ c. c.cell.past };
-}
 
 // The cell, once all workers have given their seats back.
 fn close(gate: Gate<Cell>, seats: Vec<Seat<Cell>>) -> Cell
@@ -73,31 +30,21 @@ fn close(gate: Gate<Cell>, seats: Vec<Seat<Cell>>) -> Cell
     cell
 }
 
-impl Lives for Closed {
-    ghost past = { λ c. c };
-
-    fn run<R: Threads + Wait + Sync, T: Turnstile + Sync>(
-        rt: &R,
-        alloc: Global,
-        seed: u64,
-        senders: u32,
-        frames: u32,
-        turnstile: &T,
-    ) -> Result<Self, AllocError>
-        requires senders { (1 ≤ senders) × (senders ≤ 8) }
-        requires frames { (1 ≤ frames) × (frames ≤ 10000) }
-        ensures config { IfOk result (λ it. it.config ≡ standard) }
-        ensures live { IfOk result (λ it. IsLive seed senders frames it.history) }
-    {
-        let (gate, seats) = live(rt, alloc, seed, senders, frames, turnstile)?;
-        Ok(Closed {
-            cell: close(gate, seats),
-        })
-    }
-
-    fn cell(&self) -> &Cell
-        ensures { result.now.past ≡ self.now }
-    {
-        &self.cell
-    }
+/// The cell, after so many senders, 1 to 8, each with so many frames, 1 to 10,000, and four drivers were run at one gate before it. Fails
+/// only for want of memory.
+pub(crate) fn run<R: Threads + Wait + Sync, T: Turnstile + Sync>(
+    rt: &R,
+    alloc: Global,
+    seed: u64,
+    senders: u32,
+    frames: u32,
+    turnstile: &T,
+) -> Result<Cell, AllocError>
+    requires senders { (1 ≤ senders) × (senders ≤ 8) }
+    requires frames { (1 ≤ frames) × (frames ≤ 10000) }
+    ensures config { IfOk result (λ cell. cell.past.config ≡ standard) }
+    ensures live { IfOk result (λ cell. IsLive seed senders frames cell.past.history) }
+{
+    let (gate, seats) = live(rt, alloc, seed, senders, frames, turnstile)?;
+    Ok(close(gate, seats))
 }

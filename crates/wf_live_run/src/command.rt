@@ -6,7 +6,7 @@ ghost use Rattle.wf_frame.specs.Settings.{standard};
 ghost use Rattle.wf_io.specs.Faults.{HasRisen};
 ghost use Rattle.wf_live_run.specs.Lives.{IsLive, LiveStatusSays};
 
-use crate::closed::{Closed, Lives};
+use crate::closed::run;
 use crate::history::write_history;
 use std::alloc::Global;
 use std::sync::Wait;
@@ -31,28 +31,6 @@ fn tell<K: Sink>(cell: &Cell, sink: &mut K) -> Status
     }
 }
 
-// Runs the workers, and writes what they did.
-fn tell_of<L: Lives, R: Threads + Wait + Sync, K: Sink, T: Turnstile + Sync>(
-    rt: &R,
-    alloc: Global,
-    seed: u64,
-    senders: u32,
-    frames: u32,
-    sink: &mut K,
-    turnstile: &T,
-) -> Status
-    requires senders { (1 ≤ senders) × (senders ≤ 8) }
-    requires frames { (1 ≤ frames) × (frames ≤ 10000) }
-    ensures text { (written : List ℕ) × (K.held sink.new ≡ append_known (K.held sink.old) written) × LiveStatusSays result seed senders frames written }
-    ensures write { result ≡ Status.WriteFault → HasRisen (K.faults sink.old) (K.faults sink.new) }
-    ensures sink_quiet { result ≢ Status.WriteFault → K.faults sink.new ≡ K.faults sink.old }
-{
-    match L::run(rt, alloc, seed, senders, frames, turnstile) {
-        Ok(lived) => tell(lived.cell(), sink),
-        Err(_) => Status::NoMemory,
-    }
-}
-
 /// Runs so many senders, 1 to 8, each with so many frames, 1 to 10,000, and four drivers on threads at one gate before one cell, and writes
 /// the trace of the history that they made, and its summary.
 pub fn lived<R: Threads + Wait + Sync, K: Sink, T: Turnstile + Sync>(
@@ -70,5 +48,8 @@ pub fn lived<R: Threads + Wait + Sync, K: Sink, T: Turnstile + Sync>(
     ensures write { result ≡ Status.WriteFault → HasRisen (K.faults sink.old) (K.faults sink.new) }
     ensures sink_quiet { result ≢ Status.WriteFault → K.faults sink.new ≡ K.faults sink.old }
 {
-    tell_of::<Closed, R, K, T>(rt, alloc, seed, senders, frames, sink, turnstile)
+    match run(rt, alloc, seed, senders, frames, turnstile) {
+        Ok(cell) => tell(&cell, sink),
+        Err(_) => Status::NoMemory,
+    }
 }
