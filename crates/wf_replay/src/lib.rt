@@ -12,6 +12,4 @@ pub use wf_status::Status;
 pub use words::Command;
 
 #[cfg(test)]
-mod meeting;
-#[cfg(test)]
 mod tests;
