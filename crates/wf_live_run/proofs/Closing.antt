@@ -1,7 +1,7 @@
 -- What the workers did, once all seats are back.
 use Rattle.std.proofs.Common.{◌≡◌, ℕ, ◌+◌, ◌-◌, ◌<◌, ◌≤◌, List, [], ◌∷◌, ◌++◌, length, map, replicate, refl, sym, ◌∙◌, ap, subst, arith, inl, inr}
 use Rattle.std.specs.Prelude.{◌⊎◌, All, slice_index_or}
-use Rattle.std.proofs.lemmas.List.{get_or-append-add, get_or-replicate}
+use Rattle.std.proofs.lemmas.List.{length-replicate, get_or-append-add, get_or-replicate}
 use mathlib.Core.List.{IsPrefix}
 use Rattle.wf_frame.specs.Settings.{standard}
 use Rattle.wf_world.specs.World.{World, opening}
