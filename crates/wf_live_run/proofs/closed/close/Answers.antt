@@ -7,10 +7,10 @@ use Rattle.wf_live_run.proofs.Closing.{is_live}
 use Rattle.wf_live_run.proofs.closed.close.Goals as goal
 
 pub returns-clause-config : goal.returns-clause-config
-returns-clause-config g c = λ senders opened. c.close-cell.ensures.settings ∙ ap (λ (p : Past). p.config) opened
+returns-clause-config c = λ senders opened. c.close-cell.ensures.settings ∙ ap (λ (p : Past). p.config) opened
 
 pub returns-clause-live : goal.returns-clause-live
-returns-clause-live g c = λ seed senders frames opened quotas worked.
+returns-clause-live c = λ seed senders frames opened quotas worked.
     let closed = c.close-cell.ensures in
     let settings = closed.settings ∙ ap (λ (p : Past). p.config) opened in
     let few = subst (λ (s : Config). length c.close-cell.result.past.history ≤ s.calls) settings (subst (λ n. n ≤ c.close-cell.result.past.config.calls) c.len.ensures.count c.len.ensures.most) in
