@@ -1,6 +1,6 @@
 //! The workers at the gate before a new cell.
 
-ghost use Rattle.std.specs.Prelude.{◌≡◌, ◌≤◌, ◌+◌, map, length, All, EachIndex, slice_get, Some, IfOk};
+ghost use Rattle.std.specs.Prelude.{◌≡◌, ◌≤◌, ◌+◌, map, length, All, EachIndex, slice_get, Some, Ok, IfOk};
 ghost use Rattle.wf_frame.specs.Settings.{standard};
 ghost use Rattle.wf_gate.specs.Seats.{AreAll, IsOf, new_seat};
 ghost use Rattle.wf_gate.specs.Turns.{count_from};
@@ -33,6 +33,16 @@ fn open_gate(
     Gate::new(alloc, opened.into_cell(), quotas.as_slice())
 }
 
+// The gate, and the seats where they came back. Else it is let go.
+fn with_seats<G: Drop, S>(gate: G, seats: Result<S, AllocError>) -> Result<(G, S), AllocError>
+    ensures { IfOk result (λ r. (r.0 ≡ gate) × (seats ≡ Ok r.1)) }
+{
+    match seats {
+        Ok(seats) => Ok((gate, seats)),
+        Err(fault) => Err(fault),
+    }
+}
+
 /// Runs so many senders, 1 to 8, each with so many frames, 1 to 10,000, and four drivers at one gate before one cell: the gate, and all its
 /// seats in their order. The cell has the standard settings and the opening calls when the gate is made. Round each call at the gate the
 /// turnstile is called. Fails only for want of memory; then gate and seats are dropped.
@@ -60,6 +70,6 @@ pub fn live<R: Threads + Wait + Sync, T: Turnstile + Sync>(
     ensures worked { IfOk result (λ r. All (IsWorked r.0 seed senders frames) r.1.items) }
 {
     let (gate, seats) = open_gate(alloc, senders, frames)?;
-    let seats = work(rt, alloc, &gate, seats, seed, frames, turnstile)?;
-    Ok((gate, seats))
+    let seats = work(rt, alloc, &gate, seats, seed, frames, turnstile);
+    with_seats(gate, seats)
 }
