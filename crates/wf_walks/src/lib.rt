@@ -1,4 +1,4 @@
-//! What the calls of the workers of `live` come to in a history: each of them can be printed.
+//! What the calls of the workers of `live` come to in a history: a line can be printed for each of them.
 //!
 //! Each law is a relation in specs/; a function without a body names it in its contract.
 #![tactic(auto)]
