@@ -3,16 +3,18 @@
 
 use std::alloc::AllocError;
 use std::env;
+use std::io::ErrorKind;
 use std::process::ExitCode;
 use wf_io::{StdSink, StdSource};
 use wf_replay::{Status, run};
 use wf_turnstile::Free;
 
-// The words after the program's name.
+// The words after the program's name. One that is not UTF-8 is no word of a command.
 fn words(rt: &HostRuntime) -> Result<Vec<String>, Status> {
-    let Ok(args) = env::args(rt) else {
-        return Err(Status::Usage);
-    };
+    let args = env::args(rt).map_err(|error| match error.kind() {
+        ErrorKind::OutOfMemory => Status::NoMemory,
+        _ => Status::Usage,
+    })?;
     args.skip(1)
         .collect(rt.alloc())
         .map_err(|_: AllocError| Status::NoMemory)

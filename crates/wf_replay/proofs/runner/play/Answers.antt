@@ -1,9 +1,9 @@
 use Rattle.std.proofs.Common.{◌≡◌, ◌∙◌, refl, subst, sym}
-use Rattle.std.specs.Prelude.{Option}
+use Rattle.std.specs.Prelude.{Option, option_map}
 use Rattle.wf_trace.specs.declared.meaning.Place.{Place}
 use Rattle.wf_trace.specs.declared.reader.Item.TheVariants.{Entry, Finish, Bad}
 use Rattle.wf_status.specs.declared.status.Status.TheVariants.{Done, BadTrace, ReadFault, WriteFault, NoMemory}
-use Rattle.wf_reading.specs.Running.{IsAt}
+use Rattle.wf_reading.specs.Running.{IsAt, progress_of}
 use Rattle.wf_stage.proofs.Cells.{progress_at, progress_head, progress_on, at_head, at_entry, room_at}
 use Rattle.wf_reading.proofs.Ranges.{line_config, line_sized}
 use Rattle.wf_reading.proofs.Octets.{append_known-nil}
@@ -115,12 +115,14 @@ returns-in-Err-finish-clause-text g c =
 
 pub returns-in-Ok-put-2-clause-text : goal.returns-in-Ok-put-2-clause-text
 returns-in-Ok-put-2-clause-text g c =
+    let at = progress_of (option_map g.M.Plays.past c.items.stage) in
     let reads = rw (c.in-Ok-Bad.field-0-is) at c.in-Ok-Bad.ensures.reads in
     said BadTrace _ _ _ _ (ended_bad telling _ _ _ _ _ _ _ _ c.in-Ok-Bad.fault c.octets-in-Ok-Bad.result.now (turned telling _ _ _ _ _ _ _ _ _ _ reads.0 c.items.invariant.0 reads.1 c.in-Ok-Bad.ensures.sticky)
-    (c.octets-in-Ok-Bad.ensures ∙ c.print_fault.ensures ∙ fault_closes _ _ _) (all_sent _ _ _ c.in-Ok-put-2.ensures.leaves (c.in-Ok-put-2.ensures.none refl)))
+    (c.octets-in-Ok-Bad.ensures ∙ c.print_fault.ensures ∙ fault_closes at.world at.calls c.in-Ok-Bad.fault) (all_sent _ _ _ c.in-Ok-put-2.ensures.leaves (c.in-Ok-put-2.ensures.none refl)))
 
 pub returns-in-Err-put-2-clause-text : goal.returns-in-Err-put-2-clause-text
 returns-in-Err-put-2-clause-text g c =
+    let at = progress_of (option_map g.M.Plays.past c.items.stage) in
     let reads = rw (c.in-Ok-Bad.field-0-is) at c.in-Ok-Bad.ensures.reads in
     said WriteFault _ _ _ _ (ended_write telling _ _ _ _ _ _ _ _ (Bad c.in-Ok-Bad.fault) c.octets-in-Ok-Bad.result.now (turned telling _ _ _ _ _ _ _ _ _ _ reads.0 c.items.invariant.0 reads.1 c.in-Ok-Bad.ensures.sticky)
-    (c.octets-in-Ok-Bad.ensures ∙ c.print_fault.ensures ∙ fault_closes _ _ _) c.in-Err-put-2.ensures.front)
+    (c.octets-in-Ok-Bad.ensures ∙ c.print_fault.ensures ∙ fault_closes at.world at.calls c.in-Ok-Bad.fault) c.in-Err-put-2.ensures.front)
