@@ -1,17 +1,17 @@
 -- What the workers did, once all seats are back.
-use Rattle.std.proofs.Common.{◌≡◌, ℕ, ◌+◌, ◌-◌, ◌<◌, ◌≤◌, List, [], ◌∷◌, ◌++◌, length, map, replicate, refl, sym, ◌∙◌, ap, subst, arith, inl, inr}
+use Rattle.std.proofs.Common.{◌≡◌, ℕ, ◌+◌, ◌-◌, ◌<◌, ◌≤◌, List, ◌++◌, length, map, replicate, sym, ◌∙◌, ap, subst, arith, inl, inr}
 use Rattle.std.specs.Prelude.{◌⊎◌, All, slice_index_or}
 use Rattle.std.proofs.lemmas.List.{length-replicate, get_or-append-add, get_or-replicate}
 use mathlib.Core.List.{IsPrefix}
 use Rattle.wf_frame.specs.Settings.{standard}
-use Rattle.wf_world.specs.World.{World, opening}
+use Rattle.wf_world.specs.World.{World}
 use Rattle.wf_world.specs.Run.{Entry, Past, world_of}
 use Rattle.wf_gate.specs.Seats.{AreAll, AreOfSeats, HasCalls, places_of}
 use Rattle.wf_opening.specs.Opening.{opening_calls}
-use Rattle.wf_workers.specs.Workloads.{Made, Driver, Phase, IsWalk, walked, driver_of, sender_calls}
+use Rattle.wf_workers.specs.Workloads.{Made, walked, driver_of, sender_calls}
 use Rattle.wf_workers.specs.Workloads.Phase.{Ends}
 use Rattle.wf_walks.specs.Makings.{made_by}
-use Rattle.wf_crew.specs.Crew.{CellGate, CellSeat, StandAt, HasSent, HasDriven, IsWorked, class_of, driver_count, driver_quota, quotas_of}
+use Rattle.wf_crew.specs.Crew.{CellGate, CellSeat, StandAt, HasDriven, IsWorked, class_of, driver_count, driver_quota, quotas_of}
 use Rattle.wf_live_run.specs.Lives.{opened_world, IsDriven, IsLive}
 use Rattle.wf_live_run.proofs.Quotas.{count_of}
 use Rattle.wf_live_run.proofs.Places.{world_at_gate, stand_longer, all_made, all_called}

@@ -1,18 +1,16 @@
 -- A line has room for each entry of a history of `live`.
-use Rattle.std.proofs.Common.{◌≡◌, ℕ, zero, suc, ◌+◌, ◌*◌, ◌-◌, ◌<◌, ◌≤◌, ◌^◌, Bool, true, false, cond, List, [], ◌∷◌, ◌++◌, length, map, refl, sym, ◌∙◌, ap, subst, length-append, arith, nat_lt}
+use Rattle.std.proofs.Common.{◌≡◌, ℕ, zero, suc, ◌+◌, ◌-◌, ◌<◌, ◌≤◌, ◌^◌, Bool, true, false, cond, List, [], ◌∷◌, ◌++◌, length, map, refl, sym, ◌∙◌, ap, subst, length-append, arith, nat_lt}
 use Rattle.std.specs.Prelude.{All, ◌==◌}
 use Rattle.std.proofs.lemmas.List.Elements.{All-nil, All-cons, All-head, All-tail}
 use Rattle.wf_frame.specs.Settings.{standard}
-use Rattle.wf_frame.specs.declared.notes.Note.{Note}
 use Rattle.wf_history.specs.Traces.{ArePrintable}
-use Rattle.wf_opening.specs.Opening.{opener, station_calls, opening_calls}
-use Rattle.wf_opening.proofs.Openings.{opening_length}
+use Rattle.wf_opening.specs.Opening.{station_calls, opening_calls}
 use Rattle.wf_trace.specs.Meanings.{greatest_caller}
 use Rattle.wf_trace.specs.Printing.{IsPrintable}
 use Rattle.wf_walks.proofs.Prints.{sender_law, walk_law}
 use Rattle.wf_walks.specs.Makings.{made_by}
 use Rattle.wf_walks.specs.Walks.{CanBePrinted}
-use Rattle.wf_workers.specs.Workloads.{Made, Driver, driver_of, sender_calls}
+use Rattle.wf_workers.specs.Workloads.{Made, driver_of}
 use Rattle.wf_world.specs.World.{World}
 use Rattle.wf_world.specs.Step.{Outcome, step}
 use Rattle.wf_world.specs.Run.{Entry}

@@ -1,14 +1,13 @@
 -- What is written of a history.
-use Rattle.std.proofs.Common.{◌≡◌, ℕ, ◌≤◌, List, ◌++◌, length, Bool, refl, sym, ◌∙◌, ap, subst, arith}
+use Rattle.std.proofs.Common.{◌≡◌, ℕ, List, length, refl, ◌∙◌, ap, subst}
 use Rattle.std.specs.Prelude.{Option, Result, Ok, Err, OnOk}
 use Rattle.std.specs.Io.KnownBytes.{append_known}
 use Rattle.wf_frame.specs.Settings.{standard}
 use Rattle.wf_frame.specs.declared.settings.Config.{Config}
-use Rattle.wf_history.specs.Traces.{AreInRange, trace_of, trace_items}
+use Rattle.wf_history.specs.Traces.{AreInRange, trace_of}
 use Rattle.wf_history.proofs.TraceLaws.{trace_read}
-use Rattle.wf_status.specs.Fronts.{HoldsFront, IsFrontOf}
+use Rattle.wf_status.specs.Fronts.{HoldsFront}
 use Rattle.wf_status.proofs.FrontLaws.{front_first, front_next, two_written}
-use Rattle.wf_trace.specs.Reading.{reading}
 use Rattle.wf_world.specs.World.{opening}
 use Rattle.wf_world.specs.Run.{Entry, Past, world_of, world_after}
 use Rattle.wf_world.specs.Text.{summary, history_summary}

@@ -1,8 +1,6 @@
-use Rattle.std.proofs.Common.{◌≡◌, ◌∙◌, ◌≤◌, length, ap, subst}
-use Rattle.wf_frame.specs.Settings.{standard}
+use Rattle.std.proofs.Common.{◌∙◌, ◌≤◌, length, ap, subst}
 use Rattle.wf_frame.specs.declared.settings.Config.{Config}
-use Rattle.wf_world.specs.Run.{Entry, Past}
-use Rattle.wf_gate.specs.Seats.{made_since}
+use Rattle.wf_world.specs.Run.{Past}
 use Rattle.wf_live_run.proofs.Closing.{is_live}
 use Rattle.wf_live_run.proofs.closed.close.Goals as goal
 
