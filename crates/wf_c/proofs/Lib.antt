@@ -1,3 +1,4 @@
+pub mod CellSlots
 pub mod Makings
 pub mod Pairs
 pub mod Reaps

@@ -1,4 +1,6 @@
 pub mod Bodies
+pub mod CellCalls
+pub mod CellSlots
 pub mod Calls
 pub mod Ends
 pub mod Making

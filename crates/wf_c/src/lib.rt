@@ -5,6 +5,7 @@
 #![tactic(auto)]
 
 mod asks;
+mod cell;
 mod exchanges;
 mod frames;
 mod held;
@@ -20,6 +21,8 @@ pub use asks::{
     wf_path_join, wf_path_leave, wf_path_poll, wf_path_pull, wf_path_rate, wf_path_receive,
     wf_path_sleep, wf_path_tick, wf_path_wake,
 };
+pub use cell::readers::wf_cell_len;
+pub use cell::slot::CellSlot;
 pub use exchanges::{
     Sent, wf_path_done_bits, wf_path_done_lost, wf_path_done_octets, wf_path_frame_id,
     wf_path_mpdu, wf_path_sent,
