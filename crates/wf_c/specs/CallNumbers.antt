@@ -1,5 +1,5 @@
 -- What the fields of a call show.
-use Rattle.std.specs.Prelude.{ℕ, ◌==◌, Option, Some, None, if◌then◌else◌}
+use Rattle.std.specs.Prelude.{◌==◌, Option, Some, None, if◌then◌else◌}
 use Rattle.wf_frame.specs.Classes.{all_classes, class_among, class_number}
 use Rattle.wf_frame.specs.declared.notes.Ask.{Ask}
 use Rattle.wf_frame.specs.declared.notes.Ask.TheVariants.{Join, Leave, Rate, Tick, Pull, Arrive, Answer, Done, Sleep, Wake, Poll, Rx, Reap}

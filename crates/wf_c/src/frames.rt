@@ -31,7 +31,13 @@ impl From<AllocError> for NoFrame {
 }
 
 // A frame with this body.
-pub(crate) fn frame_of(alloc: Global, station: u16, tid: u8, flow: u32, body: &[u8]) -> Result<Parcel, NoFrame>
+pub(crate) fn frame_of(
+    alloc: Global,
+    station: u16,
+    tid: u8,
+    flow: u32,
+    body: &[u8],
+) -> Result<Parcel, NoFrame>
     ensures { IfOk result (λ made. made ≡ new_frame station tid flow body.now) }
 {
     let octets = Vec::from_slice(alloc, body)?;

@@ -20,9 +20,7 @@ impl HeldCell {
     fn give(&mut self, caller: u32, parcel: Parcel) -> Reply
         ensures { IsStepped self.old caller (Give parcel) self.new result }
     {
-        let _ = self
-            .cell
-            .step(caller, Job::Give(parcel), &mut self.answer);
+        let _ = self.cell.step(caller, Job::Give(parcel), &mut self.answer);
         Reply::of(self.answer.brief)
     }
 

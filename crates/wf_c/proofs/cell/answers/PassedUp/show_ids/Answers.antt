@@ -1,4 +1,4 @@
-use Rattle.std.proofs.Common.{◌<◌, ℕ, arith}
+use Rattle.std.proofs.Common.{◌<◌, arith}
 use Rattle.std.proofs.lemmas.Option.{slice_get_within}
 use Rattle.wf_c.proofs.Ids.{one_more_id}
 use Rattle.wf_c.proofs.cell.answers.PassedUp.show_ids.Goals as goal
