@@ -1,5 +1,6 @@
 /*
- * The transmit path of a Wi-Fi access point, for drivers and simulators in C and C++.
+ * The transmit path of a Wi-Fi access point, for drivers and simulators in C and C++; and a cell, which is a transmit path with the
+ * receive halves of its stations and the history of all calls, for test benches.
  *
  * Every function is proved against its contract (crates/wf_c); this page says in words what the contracts say, and what a
  * caller has to see to, which nothing checks in C.
@@ -8,9 +9,9 @@
  * `wf_path_free` takes the path out and frees it. In between every other function may be called on it. Do not copy it, and do
  * not look into it. A function that is given a handle in the other state has no defined behaviour.
  *
- * Memory. `wf_path_make` takes memory for the path, and `wf_path_enqueue` for one frame; no other function takes any. A frame's
- * memory is freed when it is reaped, when it is refused, or with the path. Memory comes from malloc, realloc and free of the
- * program, which have to align a block to each power of two up to 16 that divides its size.
+ * Memory. `wf_path_make` takes memory for the path, and `wf_path_enqueue` for one frame, and so do these functions of a cell; no
+ * other function takes any. A frame's memory is freed when it is reaped, when it is refused, or with the path. Memory comes from
+ * malloc, realloc and free of the program, which have to align a block to each power of two up to 16 that divides its size.
  *
  * Threads. A handle stays on the thread that made it. Two handles have nothing in common, so each thread may have its own. No
  * function may be called from a signal handler, nor in the child of a fork of a process with threads.
@@ -47,21 +48,26 @@ enum wf_code {
   WF_LIVE = 10,         /* the station is live already */
   WF_NO_STATION = 11,   /* the station is not live */
   WF_NO_EXCHANGE = 12,  /* no open exchange has that number */
+  WF_NO_ANSWER = 13,    /* the exchange was to be heard, but its station never answered */
   WF_STILL_OPEN = 14,   /* the station has `count` open exchanges */
   WF_ROOM = 15,         /* `count` frames are accepted and not yet reaped: as many as `room` */
   WF_SLEEPING = 16,     /* the station sleeps, and `count` frames of the class are queued for it: `sleeping` or more */
   WF_FULL = 17,         /* `count` exchanges of the class are open: as many as `inflight` */
   WF_IDLE = 18,         /* no station of the class is ready; the only refusal after which something may have changed */
-  WF_NOTHING = 21,      /* there is nothing to send or to reap */
+  WF_ANSWERED = 19,     /* the exchange was answered already */
+  WF_ARRIVED = 20,      /* that transmission arrived already */
+  WF_NOTHING = 21,      /* there is nothing to answer, to send or to reap */
   WF_ASLEEP = 22,       /* the station is asleep already */
   WF_AWAKE = 23,        /* the station is awake */
   WF_POLLED = 24,       /* the station has a credit that is not spent yet */
   WF_DEBT = 25,         /* the deficit, which stays at `deficit`, would fall below -1,000,000 microseconds */
+  WF_HISTORY_FULL = 26, /* the history has `calls` entries; the call is none */
   WF_BAD_WEIGHT = 27,   /* the weight is not 1 to 16 */
   /* beside the machine's */
   WF_NO_MEMORY = 40,    /* there is no memory */
   WF_BAD_LENGTH = 41,   /* a body has no octet, or more than WF_GREATEST_BODY */
   WF_SMALL_BUFFER = 42, /* the buffer is too small */
+  WF_BAD_CALL = 43,     /* the numbers show no call, or one that brings a frame or takes one */
   /* octets that are no BlockAck to the exchange */
   WF_BLOCK_LENGTH = 51, /* not 28 octets, or 52 where the window is above 64 */
   WF_BLOCK_KIND = 52,   /* not a BlockAck */
@@ -71,7 +77,7 @@ enum wf_code {
   WF_BLOCK_NARROW = 56, /* not of 256 bits, and the window is above 64 */
   WF_NOT_MINE = 57,     /* not to the access point, or not from the exchange's station */
   WF_WRONG_TID = 58,    /* of another TID */
-  /* wf_path_make: 100 and the place of the first setting that is out of its range, 1 to 12 */
+  /* wf_path_make, wf_cell_make: 100 and the place of the first setting that is out of its range, 1 to 12 */
   WF_BAD_SETTING = 100
 };
 
@@ -96,6 +102,8 @@ enum wf_kind {
   WF_TICKED = 3,    /* now */
   WF_ACCEPTED = 4,  /* id; dropped, where has_dropped is 1 */
   WF_SEND = 5,      /* exchange, station, tid, air, more; start, where request is 1 */
+  WF_RELEASED = 6,  /* of a cell alone: wf_cell_released says of what frames */
+  WF_BA = 7,        /* of a cell alone: wf_cell_block says what is in it */
   WF_ENDED = 8,     /* acked, waiting, failed */
   WF_SLEPT = 9,
   WF_WOKEN = 10,
@@ -103,6 +111,25 @@ enum wf_kind {
   WF_CHARGED = 12,  /* deficit */
   WF_REAPED = 13,   /* id, fate */
   WF_REFUSED = 14   /* refusal; count or deficit, where the refusal has one */
+};
+
+/* The calls of a cell: which fields of a `struct wf_call` mean something. All others are 0 where an entry is read, and are not looked
+ * at where a call is made. A call has the number of the answer that it may have. */
+enum wf_call_kind {
+  WF_CALL_JOIN = 0,    /* station, window, start, exponent, weight */
+  WF_CALL_LEAVE = 1,   /* station */
+  WF_CALL_RATE = 2,    /* station, mcs, mhz, short_guard */
+  WF_CALL_TICK = 3,    /* by */
+  WF_CALL_ENQUEUE = 4, /* station, tid, flow, length; made by wf_cell_enqueue */
+  WF_CALL_PULL = 5,    /* class_ */
+  WF_CALL_ARRIVE = 6,  /* exchange, index */
+  WF_CALL_ANSWER = 7,  /* exchange */
+  WF_CALL_DONE = 8,    /* exchange, heard */
+  WF_CALL_SLEEP = 9,   /* station */
+  WF_CALL_WAKE = 10,   /* station */
+  WF_CALL_POLL = 11,   /* station */
+  WF_CALL_RX = 12,     /* station, class_, air */
+  WF_CALL_REAP = 13    /* made by wf_cell_reap */
 };
 
 /* The greatest body of a frame, and the greatest transmission, in octets. */
@@ -192,6 +219,46 @@ struct wf_share {
   int64_t deficit;   /* what it may use before it is not picked again; below 0 it used too much */
   uint64_t charged;  /* what its exchanges took */
   uint64_t received; /* what it used itself (wf_path_receive) */
+};
+
+/* The handle of a cell. */
+struct wf_cell {
+  void *at;
+};
+
+/* A call of a cell (enum wf_call_kind). */
+struct wf_call {
+  uint64_t exchange;
+  uint32_t flow;
+  uint32_t by;         /* what the clock moves by, in microseconds */
+  uint32_t air;        /* what the station used, in microseconds */
+  uint16_t station;
+  uint16_t window;     /* in frames */
+  uint16_t start;      /* the first sequence number */
+  uint16_t index;      /* of a transmission of the exchange, from 0 on */
+  uint16_t length;     /* of the frame's body, in octets */
+  uint8_t kind;        /* enum wf_call_kind */
+  uint8_t tid;
+  uint8_t class_;      /* enum wf_class */
+  uint8_t exponent;    /* of the A-MPDU length */
+  uint8_t weight;
+  uint8_t mcs;
+  uint8_t mhz;
+  uint8_t short_guard; /* 1, or any number but 0, for the short guard interval */
+  uint8_t heard;       /* 1, or any number but 0, where the exchange ends with its answer heard */
+};
+
+/* The frames that a station passes up, in order: the id of each, of `count`. */
+struct wf_passed_up {
+  uint64_t ids[256];
+  uint16_t count;
+};
+
+/* A station's BlockAck: bit n of the bitmap, the least significant bit of bits[0] first, tells of the number n past the start. */
+struct wf_block {
+  uint64_t bits[4];
+  uint16_t start; /* 0 to 4095 */
+  uint8_t wide;   /* 1 where it tells of 256 numbers, 0 where of 64 */
 };
 
 /* ---- making and freeing */
@@ -296,6 +363,47 @@ int32_t wf_path_share(struct wf_path *path, uint16_t station, uint8_t class_, st
 /* Writes the TIM element (IEEE 802.11-2012, 8.4.2.7) of the stations that sleep and have traffic, and gives how many octets it has.
  * The rest of `out` stays. */
 size_t wf_path_tim(struct wf_path *path, uint8_t out[256]);
+
+/* ---- a cell: both halves, and the history of its calls. A transmission crosses the air as octets inside: the cell writes each one
+ * that arrives, gives it to the station, and reads the station's BlockAck. What a handle of a path asks of its caller a handle of
+ * a cell asks too. Each call names its caller by a number, which the history keeps and the machine does not look at. */
+
+/* Puts a cell of these settings into a handle that holds nothing. WF_BAD_SETTING + n, WF_NO_MEMORY; the handle then holds nothing
+ * still. It takes memory for the path, for the receive halves and for a history of `calls` entries. */
+int32_t wf_cell_make(struct wf_cell *cell, const struct wf_settings *settings);
+
+/* Frees the cell of a handle with all frames inside; the handle then holds nothing. */
+void wf_cell_free(struct wf_cell *cell);
+
+/* Makes a call that brings no frame and takes none: all kinds but WF_CALL_ENQUEUE and WF_CALL_REAP. It writes its answer to `reply`,
+ * and gives the refusal. The call is one entry of the history, refused or not. WF_HISTORY_FULL where the history has `calls`
+ * entries, and WF_BAD_CALL where the numbers show no such call, and then `reply` is as it was; after both nothing has changed. */
+int32_t wf_cell_ask(struct wf_cell *cell, uint32_t caller, const struct wf_call *call, struct wf_reply *reply);
+
+/* A frame comes for a station, as in wf_path_enqueue; it takes memory for the frame. Also WF_HISTORY_FULL. */
+int32_t wf_cell_enqueue(struct wf_cell *cell, uint32_t caller, uint16_t station, uint8_t tid, uint32_t flow, const uint8_t *body,
+                        size_t length, struct wf_reply *reply);
+
+/* Takes the first finished frame, as in wf_path_reap. Also WF_HISTORY_FULL. */
+int32_t wf_cell_reap(struct wf_cell *cell, uint32_t caller, struct wf_reply *reply, struct wf_taken *taken, uint8_t *body,
+                     size_t room);
+
+/* What the last call was answered beside `reply`. Where it sends an aggregate, of what frames; else their count is 0. */
+void wf_cell_frames(struct wf_cell *cell, struct wf_frames *frames);
+
+/* Where a transmission arrived, what frames its station passed up; else their count is 0. */
+void wf_cell_released(struct wf_cell *cell, struct wf_passed_up *up);
+
+/* Where a station answered, its BlockAck; else all is 0. */
+void wf_cell_block(struct wf_cell *cell, struct wf_block *block);
+
+/* How many entries the history has, and how many it may still take. */
+uint64_t wf_cell_len(struct wf_cell *cell);
+uint64_t wf_cell_room(struct wf_cell *cell);
+
+/* Writes an entry of the history, from place 0 on: who called, and the call. WF_BAD_INDEX where the history is shorter, and then both
+ * are as they were. */
+int32_t wf_cell_entry(struct wf_cell *cell, uint64_t place, uint32_t *caller, struct wf_call *call);
 
 #ifdef __cplusplus
 }

@@ -12,6 +12,7 @@
 #include <stdlib.h>
 #include <string.h>
 
+#include "words.h"
 #include "wf.h"
 
 enum { STATIONS = 6, NUMBERS = 4096, OPEN = 32 };
@@ -52,63 +53,11 @@ static void fail(const char *what) {
   exit(1);
 }
 
-static const char *const CLASSES[] = {"bk", "be", "vi", "vo"};
-static const char *const FATES[] = {"held", "acked", "overlimit", "codel", "retries", "left"};
-static const char *const REFUSALS[] = {
-    "", "bad-station", "bad-window", "bad-start", "bad-exponent", "bad-rate", "bad-tick", "bad-tid", "bad-air", "bad-index", "live",
-    "no-station", "no-exchange", "no-answer", "open", "room", "sleeping", "full", "idle", "answered", "arrived", "nothing", "asleep",
-    "awake", "polled", "debt", "history-full", "bad-weight"};
-
-static void write_frames(const struct wf_frames *frames) {
-  uint16_t i;
-  for (i = 0; i < frames->count; i++) fprintf(answers, " %llu:%u", (unsigned long long)frames->ids[i], (unsigned)frames->numbers[i]);
-}
-
-static void write_send(const struct wf_frames *frames) {
-  fprintf(answers, "send %llu sta %u tid %u air %lu ", (unsigned long long)reply.exchange, (unsigned)reply.station, (unsigned)reply.tid,
-          (unsigned long)reply.air);
-  if (reply.request) {
-    fprintf(answers, "bar %u", (unsigned)reply.start);
-  } else {
-    fprintf(answers, "data");
-    write_frames(frames);
-  }
-  fprintf(answers, "%s\n", reply.more ? " more" : "");
-}
-
-static void write_refusal(void) {
-  fprintf(answers, "refused %s", REFUSALS[reply.refusal]);
-  if (reply.refusal == WF_DEBT) fprintf(answers, " %lld", (long long)reply.deficit);
-  if (reply.refusal >= WF_STILL_OPEN && reply.refusal <= WF_FULL) fprintf(answers, " %lu", (unsigned long)reply.count);
-  fprintf(answers, "\n");
-}
-
 /* Writes the answer to the last call, and counts its line. */
 static void write_answer(int32_t code, const struct wf_frames *frames) {
   lines++;
   if (code != reply.refusal) fail("a code that is not the reply's");
-  switch (reply.kind) {
-    case WF_JOINED: fprintf(answers, "joined\n"); break;
-    case WF_GONE: fprintf(answers, "left %lu\n", (unsigned long)reply.count); break;
-    case WF_RATE_SET: fprintf(answers, "set\n"); break;
-    case WF_TICKED: fprintf(answers, "now %llu\n", (unsigned long long)reply.now); break;
-    case WF_ACCEPTED:
-      fprintf(answers, "accepted %llu", (unsigned long long)reply.id);
-      if (reply.has_dropped) fprintf(answers, " dropped %llu", (unsigned long long)reply.dropped);
-      fprintf(answers, "\n");
-      break;
-    case WF_SEND: write_send(frames); break;
-    case WF_ENDED:
-      fprintf(answers, "done acked %u waiting %u failed %u\n", (unsigned)reply.acked, (unsigned)reply.waiting, (unsigned)reply.failed);
-      break;
-    case WF_SLEPT: fprintf(answers, "slept\n"); break;
-    case WF_WOKEN: fprintf(answers, "woken\n"); break;
-    case WF_CREDITED: fprintf(answers, "polled %s\n", CLASSES[reply.class_]); break;
-    case WF_CHARGED: fprintf(answers, "charged %lld\n", (long long)reply.deficit); break;
-    case WF_REAPED: fprintf(answers, "reaped %llu %s\n", (unsigned long long)reply.id, FATES[reply.fate]); break;
-    case WF_REFUSED: write_refusal(); break;
-    default: fail("an answer of no path");
-  }
+  if (!write_words(answers, &reply, frames)) fail("an answer of no path");
 }
 
 /* A line of the trace that only the receivers answer. */

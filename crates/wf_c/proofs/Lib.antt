@@ -1,3 +1,5 @@
+pub mod CellSlots
+pub mod Ids
 pub mod Makings
 pub mod Pairs
 pub mod Reaps

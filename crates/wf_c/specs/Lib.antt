@@ -1,4 +1,8 @@
 pub mod Bodies
+pub mod CallNumbers
+pub mod CellAnswers
+pub mod CellCalls
+pub mod CellSlots
 pub mod Calls
 pub mod Ends
 pub mod Making

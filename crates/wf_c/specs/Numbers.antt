@@ -102,7 +102,7 @@ with_refusal (refusal.Full count) r = record r { count = count }
 with_refusal (refusal.Debt deficit) r = record r { deficit = deficit }
 with_refusal _ r = r
 
--- the fields of an answer; a transmit path releases nothing and answers with no BlockAck
+-- the fields of an answer; what it lists, and what a BlockAck says, stand in structs of their own
 abbrev pub numbers_of : Brief → Reply
 numbers_of Joined = record blank { kind = 0 }
 numbers_of (Gone dropped) = record blank { kind = 1; count = dropped }

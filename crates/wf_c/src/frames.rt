@@ -31,7 +31,13 @@ impl From<AllocError> for NoFrame {
 }
 
 // A frame with this body.
-fn frame_of(alloc: Global, station: u16, tid: u8, flow: u32, body: &[u8]) -> Result<Parcel, NoFrame>
+pub(crate) fn frame_of(
+    alloc: Global,
+    station: u16,
+    tid: u8,
+    flow: u32,
+    body: &[u8],
+) -> Result<Parcel, NoFrame>
     ensures { IfOk result (λ made. made ≡ new_frame station tid flow body.now) }
 {
     let octets = Vec::from_slice(alloc, body)?;
@@ -69,7 +75,7 @@ impl Held {
 }
 
 // Shows a frame that came back, if any, and frees it.
-fn show_back(back: Option<Parcel>, taken: &mut Taken, body: &mut [u8])
+pub(crate) fn show_back(back: Option<Parcel>, taken: &mut Taken, body: &mut [u8])
     requires room { greatest_body ≤ length body.old }
     ensures { IfSome back (λ f. ShowsFrame f taken.new body.new) }
 {

@@ -1,10 +1,12 @@
-//! The transmit path for drivers and simulators in C and C++: `include/wf.h` is the header.
+//! The transmit path for drivers and simulators in C and C++, and the cell for test benches: `include/wf.h` is the header.
 //!
-//! A handle, `PathSlot`, is a struct of the caller's that is empty or holds a path. Each export but `wf_path_make` asks that it
-//! holds one; a C program has to see to that, and to the other conditions that a `requires` says.
+//! A handle, `PathSlot`, is a struct of the caller's that is empty or holds a path; a `CellSlot` is one that is empty or holds a
+//! cell. Each export but `wf_path_make` and `wf_cell_make` asks that it holds one; a C program has to see to that, and to the other
+//! conditions that a `requires` says.
 #![tactic(auto)]
 
 mod asks;
+mod cell;
 mod exchanges;
 mod frames;
 mod held;
@@ -20,6 +22,13 @@ pub use asks::{
     wf_path_join, wf_path_leave, wf_path_poll, wf_path_pull, wf_path_rate, wf_path_receive,
     wf_path_sleep, wf_path_tick, wf_path_wake,
 };
+pub use cell::answers::{Block, PassedUp, wf_cell_block, wf_cell_frames, wf_cell_released};
+pub use cell::asks::wf_cell_ask;
+pub use cell::calls::CallNumbers;
+pub use cell::frames::{wf_cell_enqueue, wf_cell_reap};
+pub use cell::make::{wf_cell_free, wf_cell_make};
+pub use cell::readers::{wf_cell_entry, wf_cell_len, wf_cell_room};
+pub use cell::slot::CellSlot;
 pub use exchanges::{
     Sent, wf_path_done_bits, wf_path_done_lost, wf_path_done_octets, wf_path_frame_id,
     wf_path_mpdu, wf_path_sent,

@@ -12,10 +12,10 @@ use crate::slot::PathSlot;
 use std::alloc::Global;
 
 /// There is no memory.
-const NO_MEMORY: i32 = 40;
+pub(crate) const NO_MEMORY: i32 = 40;
 
 /// What is added to the number of a setting that is out of its range.
-const BAD_SETTING: i32 = 100;
+pub(crate) const BAD_SETTING: i32 = 100;
 
 /// Makes a path of these settings in a handle that holds nothing: no station is live, and no frame was accepted. Gives 0, or
 /// 100 and the place of the first setting that is out of its range, or 40 where there is no memory; then the handle holds

@@ -233,7 +233,7 @@ pub(crate) fn number_of_refusal(refusal: Refusal) -> u8
 }
 
 // The number of a class, the least urgent first: 0 to 3.
-fn number_of_class(class: Class) -> u8
+pub(crate) fn number_of_class(class: Class) -> u8
     ensures { result ≡ class_number class }
 {
     match class {

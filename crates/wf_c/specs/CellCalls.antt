@@ -1,0 +1,87 @@
+-- What the calls of a cell's handle say of the cell that it holds.
+use Rattle.std.specs.Prelude.{◌≡◌, ◌<◌, ℕ, ℤ, pos, List, Option, Some, None}
+use Rattle.wf_frame.specs.Answers.{reply_of}
+use Rattle.wf_frame.specs.Frames.{FrameValue}
+use Rattle.wf_frame.specs.declared.classes.Fate.{Fate}
+use Rattle.wf_frame.specs.declared.notes.Ask.{Ask}
+use Rattle.wf_frame.specs.declared.notes.Ask.TheVariants.{Reap}
+use Rattle.wf_frame.specs.declared.notes.Refusal.TheVariants.{HistoryFull}
+use Rattle.wf_frame.specs.declared.notes.ReplyNote.TheVariants.{Reaped, Refused}
+use Rattle.wf_world.specs.Run.{Entry, Past, by, world_of}
+use Rattle.wf_world.specs.Step.{step}
+use Rattle.wf_world.specs.World.{World}
+use Rattle.wf_laws.specs.Laws.{Laws}
+use Rattle.wf_transmit_refines.specs.Half.{body_of}
+use Rattle.wf_transmit_refines.specs.Standing.{StandsFor}
+use Rattle.wf_path.specs.Jobs.{note_of, bodies_after}
+use Rattle.wf_path.specs.declared.job.Job.{Job}
+use Rattle.wf_path.specs.declared.job.Job.TheVariants.{Call}
+use Rattle.wf_cell.specs.Bodies.{body_after}
+use Rattle.wf_cell.specs.Cells.{room_in, with_entry}
+use Rattle.wf_c.specs.Bodies.{ShowsFrame}
+use Rattle.wf_c.specs.CallNumbers.{numbers_of_call}
+use Rattle.wf_c.specs.Numbers.{numbers_of}
+use Rattle.wf_c.specs.declared.cell.calls.CallNumbers.{CallNumbers}
+use Rattle.wf_c.specs.declared.cell.held.HeldCell.{HeldCell}
+use Rattle.wf_c.specs.declared.frames.Taken.{Taken}
+use Rattle.wf_c.specs.declared.reply.Reply.{Reply}
+
+-- the handle holds a cell that has been through this
+abbrev pub HasPast : Option HeldCell → Past → Type 0
+HasPast None p = ⊥
+HasPast (Some h) p = h.cell.past ≡ p
+
+-- the path of the cell that the handle holds stands for world w
+abbrev pub StandsIn : Option HeldCell → World → (ℕ → FrameValue) → Type 0
+StandsIn None w bodies = ⊥
+StandsIn (Some h) w bodies = StandsFor h.cell.half w bodies
+
+-- the handle holds something before and after, and R says what became of it
+abbrev pub TurnsInto : (HeldCell → HeldCell → Type 0) → Option HeldCell → Option HeldCell → Type 0
+TurnsInto R (Some h) (Some k) = R h k
+TurnsInto R _ _ = ⊥
+
+-- What a caller's call leaves of h, and what the caller's struct then shows.
+--
+--   past       where there is room, the history has the call,
+--   reply      and the answer is the machine's
+--   stands     for whatever frames the path stood for the world before, it stands for the world after the history
+--   bodies     an accepted frame brings the body of its id, and a reaped one takes it out; every other body stays, id by id
+--   full       where there is no room, the call is refused,
+--   unchanged  and nothing changes
+--   laws       all laws of runs hold of what was done
+--   shows      the struct shows the answer
+pub record IsStepped (h : HeldCell) (caller : ℕ) (job : Job) (k : HeldCell) (shown : Reply) : Type 0 where
+  pub past : 0 < room_in h.cell.past → k.cell.past ≡ with_entry (by caller (note_of job)) h.cell.past
+  pub reply : 0 < room_in h.cell.past → reply_of k.answer ≡ (step (world_of h.cell.past) (note_of job)).reply
+  pub stands : 0 < room_in h.cell.past → (bodies : ℕ → FrameValue) → StandsFor h.cell.half (world_of h.cell.past) bodies →
+      StandsFor k.cell.half (world_of k.cell.past) (bodies_after h.cell.half job (reply_of k.answer) bodies)
+  pub bodies : 0 < room_in h.cell.past → (id : ℕ) → body_of k.cell.half id ≡ body_after h.cell.half (reply_of k.answer) job id
+  pub full : room_in h.cell.past ≡ 0 → reply_of k.answer ≡ Refused HistoryFull
+  pub unchanged : room_in h.cell.past ≡ 0 → k.cell ≡ h.cell
+  pub laws : Laws k.cell.past.config k.cell.past.history
+  pub shows : shown ≡ numbers_of k.answer.brief
+
+-- the code of numbers that are no call without a frame
+abbrev pub bad_call : ℕ
+bad_call = 43
+
+-- What becomes of a handle and of the caller's struct by numbers, which show this call or none: it is made, or nothing changes.
+abbrev pub IsAsked : Option Ask → ℕ → Option HeldCell → Reply → Option HeldCell → Reply → ℤ → Type 0
+IsAsked (Some ask) caller old before new shown code = TurnsInto (λ h k. IsStepped h caller (Call ask) k shown) old new × (code ≡ pos shown.refusal)
+IsAsked None caller old before new shown code = (new ≡ old) × ((shown ≡ before) × (code ≡ pos bad_call))
+
+-- What a reap leaves of h, and what the caller's structs then show: where a frame is reaped, the one that was accepted under its id.
+pub record IsTakenBack (h : HeldCell) (caller : ℕ) (k : HeldCell) (shown : Reply) (taken : Taken) (buffer : List ℕ) : Type 0 where
+  pub stepped : IsStepped h caller (Call Reap) k shown
+  pub frame : 0 < room_in h.cell.past → (bodies : ℕ → FrameValue) (id : ℕ) (fate : Fate) → StandsFor h.cell.half (world_of h.cell.past) bodies →
+      reply_of k.answer ≡ Reaped id fate → ShowsFrame (bodies id) taken buffer
+
+-- the code of an entry that the history does not have: that of a bad index
+abbrev pub no_entry : ℕ
+no_entry = 9
+
+-- the caller's numbers show an entry, or the code says that there is none
+abbrev pub ShowsEntry : Option Entry → ℤ → ℕ → CallNumbers → Type 0
+ShowsEntry (Some e) code caller shown = (code ≡ pos 0) × ((caller ≡ e.0) × (shown ≡ numbers_of_call e.1))
+ShowsEntry None code caller shown = code ≡ pos no_entry

@@ -1,0 +1,48 @@
+//! The calls of a cell that bring no frame and take none.
+
+ghost use Rattle.std.specs.Prelude.{◌≡◌, true, is_some, pos};
+ghost use Rattle.wf_path.specs.declared.job.Job.TheVariants.{Call};
+ghost use Rattle.wf_c.specs.CallNumbers.{asked};
+ghost use Rattle.wf_c.specs.CellCalls.{IsAsked, IsStepped, TurnsInto};
+
+use crate::cell::calls::CallNumbers;
+use crate::cell::slot::CellSlot;
+use crate::reply::Reply;
+use std::alloc::Global;
+use wf_frame::Ask;
+
+/// The numbers show no call, or one that brings a frame or takes one.
+const BAD_CALL: i32 = 43;
+
+impl CellSlot {
+    // Makes a call that brings no frame.
+    fn ask(&mut self, alloc: Global, caller: u32, ask: Ask, reply: &mut Reply) -> i32
+        requires open { is_some self.old.value ≡ true }
+        ensures called { TurnsInto (λ h k. IsStepped h caller (Call ask) k reply.new) self.old.value self.new.value }
+        ensures code { result ≡ pos reply.new.refusal }
+    {
+        let mut held = self.take(alloc);
+        *reply = held.ask(caller, ask);
+        self.put(held);
+        i32::from(reply.refusal)
+    }
+}
+
+/// Makes a caller's call that brings no frame and takes none, and gives its refusal; gives 43 where the numbers show no such call,
+/// and then nothing changes.
+#[unsafe(no_mangle)]
+pub extern "C" fn wf_cell_ask(
+    alloc: Global,
+    cell: &mut CellSlot,
+    caller: u32,
+    call: &CallNumbers,
+    reply: &mut Reply,
+) -> i32
+    requires open { is_some cell.old.value ≡ true }
+    ensures { IsAsked (asked call.now) caller cell.old.value reply.old cell.new.value reply.new result }
+{
+    match call.asked() {
+        Some(ask) => cell.ask(alloc, caller, ask, reply),
+        None => BAD_CALL,
+    }
+}

@@ -1,0 +1,52 @@
+//! What lies behind a cell's handle, and the calls of it.
+
+ghost use Rattle.std.specs.Prelude.{◌≡◌, ℕ, [], IfSome};
+ghost use Rattle.wf_frame.specs.Frames.{FrameValue};
+ghost use Rattle.wf_world.specs.World.{opening};
+ghost use Rattle.wf_transmit_refines.specs.Standing.{StandsFor};
+ghost use Rattle.wf_path.specs.declared.job.Job.TheVariants.{Call};
+ghost use Rattle.wf_c.specs.CellCalls.{IsStepped};
+
+use crate::reply::Reply;
+use std::alloc::Global;
+use wf_cell::{Cell, Job};
+use wf_frame::{Answer, Ask, Config};
+
+/// A cell, and its answer to the last call, which is lent to one call after another.
+#[derive(Drop)]
+pub struct HeldCell {
+    pub(crate) cell: Cell,
+    pub(crate) answer: Answer,
+}
+
+impl HeldCell {
+    // A cell of these settings, in a block of its own. None where a setting is out of its range, or there is no memory.
+    pub(crate) fn made(alloc: Global, config: Config) -> Option<Box<HeldCell, Global>>
+        ensures past { IfSome result (λ made. made.value.cell.past ≡ record { config = config; history = [] }) }
+        ensures stands { IfSome result (λ made. (bodies : ℕ → FrameValue) → StandsFor made.value.cell.half (opening config) bodies) }
+    {
+        match Cell::new(alloc, config) {
+            Ok(cell) => HeldCell::boxed(alloc, cell),
+            Err(_) => None,
+        }
+    }
+
+    // A cell in a block of its own.
+    fn boxed(alloc: Global, cell: Cell) -> Option<Box<HeldCell, Global>>
+        ensures { IfSome result (λ made. made.value.cell ≡ cell) }
+    {
+        let answer = Answer::new();
+        match Box::new(alloc, HeldCell { cell, answer }) {
+            Ok(boxed) => Some(boxed),
+            Err(_) => None,
+        }
+    }
+
+    // Makes a call that brings no frame.
+    pub(crate) fn ask(&mut self, caller: u32, ask: Ask) -> Reply
+        ensures { IsStepped self.old caller (Call ask) self.new result }
+    {
+        let _ = self.cell.step(caller, Job::Call(ask), &mut self.answer);
+        Reply::of(self.answer.brief)
+    }
+}

@@ -1,0 +1,80 @@
+//! What a cell tells of its history without a call of the machine.
+
+ghost use Rattle.std.specs.Prelude.{◌≡◌, true, is_some, length, slice_get, IfSome};
+ghost use Rattle.wf_world.specs.Run.{Past};
+ghost use Rattle.wf_cell.specs.Cells.{room_in};
+ghost use Rattle.wf_c.specs.CellCalls.{HasPast, ShowsEntry};
+
+use crate::cell::calls::CallNumbers;
+use crate::cell::held::HeldCell;
+use crate::cell::slot::CellSlot;
+use std::alloc::Global;
+use wf_frame::Note;
+
+/// The history has no such entry.
+const NO_ENTRY: i32 = 9;
+
+/// How many entries the history has.
+#[unsafe(no_mangle)]
+pub extern "C" fn wf_cell_len(alloc: Global, cell: &mut CellSlot) -> u64
+    requires open { is_some cell.old.value ≡ true }
+    ensures count { (p : Past) → HasPast cell.old.value p → result ≡ length p.history }
+    ensures unchanged { cell.new.value ≡ cell.old.value }
+{
+    let held = cell.take(alloc);
+    let len = held.cell.len();
+    cell.put(held);
+    len
+}
+
+/// How many entries the history may still take.
+#[unsafe(no_mangle)]
+pub extern "C" fn wf_cell_room(alloc: Global, cell: &mut CellSlot) -> u64
+    requires open { is_some cell.old.value ≡ true }
+    ensures room { (p : Past) → HasPast cell.old.value p → result ≡ room_in p }
+    ensures unchanged { cell.new.value ≡ cell.old.value }
+{
+    let held = cell.take(alloc);
+    let room = held.cell.room();
+    cell.put(held);
+    room
+}
+
+impl HeldCell {
+    // An entry of the history, counted from 0. None where the history is shorter.
+    fn entry(&self, place: u64) -> Option<(u32, Note)>
+        ensures { result ≡ slice_get self.now.cell.past.history place }
+    {
+        if place < self.cell.len() {
+            Some(self.cell.entry(place))
+        } else {
+            None
+        }
+    }
+}
+
+/// Writes an entry of the history, counted from 0: who called, and the call; gives 0, or 9 where the history is shorter.
+#[unsafe(no_mangle)]
+pub extern "C" fn wf_cell_entry(
+    alloc: Global,
+    cell: &mut CellSlot,
+    place: u64,
+    caller: &mut u32,
+    call: &mut CallNumbers,
+) -> i32
+    requires open { is_some cell.old.value ≡ true }
+    ensures entry { IfSome cell.old.value (λ h. ShowsEntry (slice_get h.cell.past.history place) result caller.new call.new) }
+    ensures unchanged { cell.new.value ≡ cell.old.value }
+{
+    let held = cell.take(alloc);
+    let found = held.entry(place);
+    cell.put(held);
+    match found {
+        Some((who, note)) => {
+            *caller = who;
+            *call = CallNumbers::of(note);
+            0
+        }
+        None => NO_ENTRY,
+    }
+}

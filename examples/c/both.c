@@ -1,0 +1,224 @@
+/*
+ * Makes random calls of a cell through libwf, both halves with the history, and writes what the library answered; then it writes the
+ * trace, entry by entry, from the history that the cell has kept. Both are in the words of docs/TRACE.md. What `wf replay` writes
+ * for the trace must begin with the answers; checks/c-library compares them.
+ *
+ *   both CALLS SEED TRACE ANSWERS
+ */
+#include <stdint.h>
+#include <stdio.h>
+#include <stdlib.h>
+#include <string.h>
+
+#include "words.h"
+#include "wf.h"
+
+enum { STATIONS = 6, OPEN = 32 };
+
+static struct wf_cell cell;
+static struct wf_reply reply;
+static uint64_t exchanges[OPEN]; /* the open ones */
+static uint32_t open_count;
+static uint64_t opened;
+static uint32_t seed;
+static FILE *trace, *answers;
+
+static uint32_t below(uint32_t n) {
+  seed = seed * 1664525u + 1013904223u;
+  return (seed >> 8) % n;
+}
+
+static void fail(const char *what) {
+  fprintf(stderr, "both: %s\n", what);
+  exit(1);
+}
+
+static void write_released(void) {
+  struct wf_passed_up up = {0};
+  uint16_t i;
+  wf_cell_released(&cell, &up);
+  fprintf(answers, "released");
+  for (i = 0; i < up.count; i++) fprintf(answers, " %llu", (unsigned long long)up.ids[i]);
+  fprintf(answers, "\n");
+}
+
+static void write_block(void) {
+  struct wf_block block = {0};
+  int i;
+  wf_cell_block(&cell, &block);
+  fprintf(answers, "ba %u ", (unsigned)block.start);
+  for (i = block.wide ? 3 : 0; i >= 0; i--) fprintf(answers, "%016llx", (unsigned long long)block.bits[i]);
+  fprintf(answers, "\n");
+}
+
+/* Writes the answer to the last call. */
+static void write_answer(int32_t code) {
+  struct wf_frames frames = {0};
+  if (code != reply.refusal) fail("a code that is not the reply's");
+  wf_cell_frames(&cell, &frames);
+  if (frames.count && (reply.kind != WF_SEND || reply.request)) fail("frames that nothing sends");
+  if (write_words(answers, &reply, &frames)) return;
+  if (reply.kind == WF_RELEASED) write_released();
+  else if (reply.kind == WF_BA) write_block();
+  else fail("an answer of no cell");
+}
+
+/* Which exchanges are open, by the last answer. */
+static void follow(uint64_t exchange) {
+  uint32_t i;
+  if (reply.kind == WF_SEND) {
+    exchanges[open_count++] = reply.exchange;
+    opened++;
+  }
+  if (reply.kind != WF_ENDED) return;
+  for (i = 0; i < open_count && exchanges[i] != exchange; i++) continue;
+  if (i == open_count) fail("an exchange that ends, and was not open");
+  exchanges[i] = exchanges[--open_count];
+}
+
+/* An open exchange, or now and then any other. */
+static uint64_t some_exchange(void) {
+  if (open_count == 0 || below(50) == 0) return below((uint32_t)opened + 2);
+  return exchanges[below(open_count)];
+}
+
+/* A kind of call that brings no frame, the common ones more often. */
+static uint8_t some_kind(void) {
+  static const uint8_t KINDS[] = {WF_CALL_PULL, WF_CALL_PULL, WF_CALL_PULL, WF_CALL_ARRIVE, WF_CALL_ARRIVE, WF_CALL_ARRIVE, WF_CALL_ARRIVE,
+                                  WF_CALL_ARRIVE, WF_CALL_ARRIVE, WF_CALL_ANSWER, WF_CALL_ANSWER, WF_CALL_DONE, WF_CALL_DONE};
+  if (below(8)) return KINDS[below(sizeof KINDS)];
+  return (uint8_t)below(WF_CALL_REAP);
+}
+
+static void call_ask(uint32_t caller, uint16_t station) {
+  struct wf_call call = {0};
+  int32_t code;
+  call.kind = some_kind();
+  if (call.kind == WF_CALL_ENQUEUE) call.kind = WF_CALL_JOIN;
+  call.station = station;
+  call.class_ = (uint8_t)below(4);
+  call.exchange = some_exchange();
+  call.index = (uint16_t)below(below(4) ? 4 : 40);
+  call.heard = (uint8_t)(below(4) != 0);
+  call.by = below(50) ? below(20000) : 10000000 + below(2);
+  call.air = below(50) ? below(2000) : 65535 + below(2);
+  call.window = (uint16_t)(below(4) ? 1 + below(64) : 1 + below(257));
+  call.start = (uint16_t)below(4100);
+  call.exponent = (uint8_t)below(5);
+  call.weight = (uint8_t)below(18);
+  call.mcs = (uint8_t)below(17);
+  call.mhz = (uint8_t)(below(9) ? 20 + 20 * below(2) : 30);
+  call.short_guard = (uint8_t)below(2);
+  code = wf_cell_ask(&cell, caller, &call, &reply);
+  follow(call.exchange);
+  write_answer(code);
+}
+
+static void call_enqueue(uint32_t caller, uint16_t station) {
+  uint8_t tid = (uint8_t)below(below(50) ? 8 : 10), body[WF_GREATEST_BODY];
+  uint32_t flow = below(20);
+  size_t length = 1 + below(below(4) ? 200 : WF_GREATEST_BODY), j;
+  int32_t code;
+  for (j = 0; j < length; j++) body[j] = (uint8_t)(flow + j);
+  code = wf_cell_enqueue(&cell, caller, station, tid, flow, body, length, &reply);
+  if (code == WF_NO_MEMORY) fail("out of memory");
+  write_answer(code);
+}
+
+static void call_reap(uint32_t caller) {
+  static uint8_t body[WF_GREATEST_BODY];
+  struct wf_taken taken = {0};
+  int32_t code = wf_cell_reap(&cell, caller, &reply, &taken, body, sizeof body);
+  uint16_t j;
+  write_answer(code);
+  if (code) return;
+  if (taken.station >= STATIONS || taken.tid > 7 || taken.flow >= 20 || taken.length == 0) fail("a frame that never came");
+  for (j = 0; j < taken.length; j++) {
+    if (body[j] != (uint8_t)(taken.flow + j)) fail("another body");
+  }
+}
+
+static void call(void) {
+  uint32_t caller = below(3), which = below(100);
+  uint16_t station = (uint16_t)below(below(100) ? STATIONS : STATIONS + 1);
+  if (which < 30) call_enqueue(caller, station);
+  else if (which < 42) call_reap(caller);
+  else call_ask(caller, station);
+}
+
+/* Writes an entry of the history as a line of the trace. */
+static void write_entry(uint64_t place) {
+  struct wf_call c = {0};
+  uint32_t caller = 0;
+  unsigned s;
+  if (wf_cell_entry(&cell, place, &caller, &c)) fail("an entry that is not there");
+  s = c.station;
+  fprintf(trace, "@%lu ", (unsigned long)caller);
+  switch (c.kind) {
+    case WF_CALL_JOIN:
+      fprintf(trace, "join %u %u %u %u %u\n", s, (unsigned)c.window, (unsigned)c.start, (unsigned)c.exponent, (unsigned)c.weight);
+      break;
+    case WF_CALL_LEAVE: fprintf(trace, "leave %u\n", s); break;
+    case WF_CALL_RATE: fprintf(trace, "rate %u %u %u %s\n", s, (unsigned)c.mcs, (unsigned)c.mhz, c.short_guard ? "short" : "long"); break;
+    case WF_CALL_TICK: fprintf(trace, "tick %lu\n", (unsigned long)c.by); break;
+    case WF_CALL_ENQUEUE: fprintf(trace, "enq %u %u %lu %u\n", s, (unsigned)c.tid, (unsigned long)c.flow, (unsigned)c.length); break;
+    case WF_CALL_PULL: fprintf(trace, "pull %s\n", CLASSES[c.class_]); break;
+    case WF_CALL_ARRIVE: fprintf(trace, "arrive %llu %u\n", (unsigned long long)c.exchange, (unsigned)c.index); break;
+    case WF_CALL_ANSWER: fprintf(trace, "answer %llu\n", (unsigned long long)c.exchange); break;
+    case WF_CALL_DONE: fprintf(trace, "done %llu %s\n", (unsigned long long)c.exchange, c.heard ? "heard" : "lost"); break;
+    case WF_CALL_SLEEP: fprintf(trace, "sleep %u\n", s); break;
+    case WF_CALL_WAKE: fprintf(trace, "wake %u\n", s); break;
+    case WF_CALL_POLL: fprintf(trace, "poll %u\n", s); break;
+    case WF_CALL_RX: fprintf(trace, "rx %u %s %lu\n", s, CLASSES[c.class_], (unsigned long)c.air); break;
+    case WF_CALL_REAP: fprintf(trace, "reap\n"); break;
+    default: fail("an entry of no kind");
+  }
+}
+
+static void open_cell(uint32_t calls) {
+  struct wf_settings settings = {0};
+  wf_settings_standard(&settings);
+  settings.stations = STATIONS;
+  settings.flows = 32;
+  settings.limit = 40;
+  settings.room = 400;
+  settings.attempts = 4;
+  settings.sleeping = 8;
+  settings.calls = 0;
+  if (wf_cell_make(&cell, &settings) != WF_BAD_SETTING + 12) fail("a history of no calls is taken");
+  settings.calls = calls;
+  if (wf_cell_make(&cell, &settings)) fail("there is no cell");
+  fprintf(trace, "cell stations=%d flows=32 limit=40 room=400 attempts=4 sleeping=8\n", STATIONS);
+}
+
+/* The history is full: each call is refused, and is no entry. */
+static void look_at_the_end(uint64_t calls) {
+  struct wf_call none = {0};
+  uint32_t caller = 0;
+  none.kind = WF_CALL_REAP;
+  if (wf_cell_ask(&cell, 0, &none, &reply) != WF_BAD_CALL) fail("a reap without a buffer is taken");
+  none.kind = WF_CALL_TICK;
+  if (wf_cell_ask(&cell, 0, &none, &reply) != WF_HISTORY_FULL) fail("a call past the end is taken");
+  if (wf_cell_len(&cell) != calls || wf_cell_room(&cell)) fail("another length");
+  if (wf_cell_entry(&cell, calls, &caller, &none) != WF_BAD_INDEX) fail("an entry too many");
+}
+
+int main(int count, char **words) {
+  uint64_t place;
+  long calls, i;
+  if (count != 5) fail("both CALLS SEED TRACE ANSWERS");
+  calls = atol(words[1]);
+  seed = (uint32_t)atol(words[2]);
+  trace = fopen(words[3], "w");
+  answers = fopen(words[4], "w");
+  if (!trace || !answers) fail("no file");
+  open_cell((uint32_t)calls);
+  for (i = 0; i < calls; i++) call();
+  look_at_the_end((uint64_t)calls);
+  for (place = 0; place < wf_cell_len(&cell); place++) write_entry(place);
+  fprintf(trace, "end\n");
+  fprintf(answers, "calls %llu\n", (unsigned long long)wf_cell_len(&cell));
+  wf_cell_free(&cell);
+  if (fclose(trace) || fclose(answers)) fail("a file that cannot be written");
+  return 0;
+}
