@@ -37,8 +37,8 @@ impl Flagged {
         requires { (1 ≤ queues) × (queues ≤ 65536) }
         ensures { IfOk result (λ b. b ≡ record { room = room; queues = replicate queues []; codels = replicate queues new_codel; finished = [] }) }
     {
-        let backlog = Backlog::new(alloc, queues, room)?;
         let ready = vec![in alloc; false; queues as usize]?;
+        let backlog = Backlog::new(alloc, queues, room)?;
         Ok(Flagged { backlog, ready })
     }
 

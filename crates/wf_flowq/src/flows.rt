@@ -83,9 +83,9 @@ impl Flows {
     {
         let tids = 8 * config.stations;
         let queues = config.flows + tids;
-        let waiting = Flagged::new(alloc, queues, config.room)?;
-        let rota = Rota::new(alloc, queues, tids, config.flow_quantum)?;
         let queued = vec![in alloc; 0; tids as usize]?;
+        let rota = Rota::new(alloc, queues, tids, config.flow_quantum)?;
+        let waiting = Flagged::new(alloc, queues, config.room)?;
         Ok(Flows {
             flows: config.flows,
             stations: config.stations,

@@ -53,8 +53,8 @@ impl Path {
         if let Some(field) = config.check() {
             return Err(NewFault::BadConfig(field));
         }
-        let half = Transmit::new(alloc, config)?;
         let ready = Ready::new(alloc, config.stations)?;
+        let half = Transmit::new(alloc, config)?;
         Ok(Path { half, ready })
     }
 

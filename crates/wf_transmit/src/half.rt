@@ -82,12 +82,12 @@ impl Transmit {
         ensures stands { IfOk result (λ made. (bodies : ℕ → FrameValue) → StandsFor made (opening config) bodies) }
         ensures some { IfOk result HasWorld }
     {
-        let flows = Flows::new(alloc, config)?;
-        let sched = Sched::new(alloc, config.stations, config.quantum)?;
-        let windows = Windows::new(alloc, config.stations)?;
-        let members = Members::new(alloc, config.stations)?;
-        let sleepers = Sleepers::new(alloc, config.stations)?;
         let opened = Opened::new(alloc)?;
+        let sleepers = Sleepers::new(alloc, config.stations)?;
+        let members = Members::new(alloc, config.stations)?;
+        let windows = Windows::new(alloc, config.stations)?;
+        let sched = Sched::new(alloc, config.stations, config.quantum)?;
+        let flows = Flows::new(alloc, config)?;
         Ok(Transmit {
             config,
             clock: 0,
