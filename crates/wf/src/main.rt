@@ -20,18 +20,6 @@ fn words(rt: &HostRuntime) -> Result<Vec<String>, Status> {
         .map_err(|_: AllocError| Status::NoMemory)
 }
 
-// The line for standard error.
-fn message(status: Status) -> &'static str {
-    match status {
-        Status::Done | Status::BadTrace => "",
-        Status::Usage =>
-            "usage: wf replay | wf soak SEED CALLS | wf live SEED SENDERS FRAMES | wf session | wf replay --pcap | wf frames | wf uplink",
-        Status::ReadFault => "wf: read fault",
-        Status::WriteFault => "wf: write fault",
-        Status::NoMemory => "wf: no memory",
-    }
-}
-
 fn main(rt: HostRuntime) -> ExitCode {
     let status = match words(&rt) {
         Ok(words) => {
@@ -41,9 +29,9 @@ fn main(rt: HostRuntime) -> ExitCode {
         }
         Err(status) => status,
     };
-    let text = message(status);
-    if !text.is_empty() {
-        let _ = eprintln!(rt; "{text}");
+    let message = status.message();
+    if !message.is_empty() {
+        let _ = eprintln!(rt; "{message}");
     }
     ExitCode::from(status.code())
 }

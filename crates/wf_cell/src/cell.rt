@@ -78,13 +78,12 @@ impl Cell {
         ensures past { IfOk result (λ made. made.past ≡ record { config = config; history = [] }) }
         ensures stands { IfOk result (λ made. (bodies : ℕ → FrameValue) → StandsFor made.half (opening config) bodies) }
     {
-        match Engine::new(alloc, config) {
-            Err(fault) => Err(fault),
-            Ok(engine) => match Vec::with_capacity(alloc, config.calls as usize) {
-                Ok(past) => Ok(Cell { engine, past }),
-                Err(_) => Err(NewFault::NoMemory),
-            },
+        if let Some(field) = config.check() {
+            return Err(NewFault::BadConfig(field));
         }
+        let past = Vec::with_capacity(alloc, config.calls as usize)?;
+        let engine = Engine::new(alloc, config)?;
+        Ok(Cell { engine, past })
     }
 
     /// Makes a call and answers it. The call is one entry of the history, refused or not, while the history has fewer entries than

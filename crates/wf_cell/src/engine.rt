@@ -1,12 +1,11 @@
 //! What a cell has beside its history: the path, the receive halves and the marks.
 
-ghost use Rattle.std.specs.Prelude.{◌≡◌, ◌≤◌, ◌↔◌, ℕ, Err, Some, IfOk};
+ghost use Rattle.std.specs.Prelude.{◌≡◌, ℕ, None, IfOk};
 ghost use Rattle.wf_frame.specs.Frames.{FrameValue};
 ghost use Rattle.wf_frame.specs.Answers.{reply_of};
 ghost use Rattle.wf_frame.specs.Settings.{first_out_of_range};
 ghost use Rattle.wf_frame.specs.declared.notes.Ask.TheVariants.{Join, Pull};
 ghost use Rattle.wf_frame.specs.declared.notes.Note.TheVariants.{Asked};
-ghost use Rattle.wf_frame.specs.declared.settings.Field.{Field};
 ghost use Rattle.wf_world.specs.World.{World, opening};
 ghost use Rattle.wf_transmit_refines.specs.Standing.{StandsFor};
 ghost use Rattle.wf_path.specs.Paths.{IsSmall};
@@ -44,34 +43,23 @@ impl Model for Engine {
 }
 
 impl Engine {
-    /// An engine of these settings, which stands for the opening world. Refused as `Path::new`.
-    pub(crate) fn new(alloc: Global, config: Config) -> Result<Engine, NewFault>
-        ensures bad { (f : Field) → (result ≡ Err (NewFault.BadConfig f)) ↔ (first_out_of_range config ≡ Some f) }
-        ensures is_in { IfOk result (λ made. (bodies : ℕ → FrameValue) → IsIn made (opening config) bodies) }
+    /// An engine of these settings, each of which must be in its range: it stands for the opening world.
+    pub(crate) fn new(alloc: Global, config: Config) -> Result<Engine, AllocError>
+        requires { first_out_of_range config ≡ None }
+        ensures { IfOk result (λ made. (bodies : ℕ → FrameValue) → IsIn made (opening config) bodies) }
     {
-        match Path::new(alloc, config) {
-            Err(fault) => Err(fault),
-            Ok(path) => match Engine::over(alloc, path) {
-                Ok(engine) => Ok(engine),
-                Err(_) => Err(NewFault::NoMemory),
-            },
-        }
-    }
-
-    // A new path, with new receive halves and no mark.
-    fn over(alloc: Global, path: Path) -> Result<Engine, AllocError>
-        requires { path.config.stations ≤ 256 }
-        ensures { IfOk result (λ made. (bodies : ℕ → FrameValue) → StandsFor path (opening path.config) bodies →
-            IsIn made (opening path.config) bodies) }
-    {
-        let peers = Peers::new(alloc, path.config().stations)?;
+        let peers = Peers::new(alloc, config.stations)?;
         let marks = Marks::new(alloc)?;
-        Ok(Engine {
-            path,
-            peers,
-            marks,
-            octets: [0; LONGEST],
-        })
+        match Path::new(alloc, config) {
+            Ok(path) => Ok(Engine {
+                path,
+                peers,
+                marks,
+                octets: [0; LONGEST],
+            }),
+            Err(NewFault::NoMemory) => Err(AllocError),
+            Err(NewFault::BadConfig(_)) => unreachable!(),
+        }
     }
 
     /// Makes a call and answers it. A frame comes back exactly where it was refused, or reaped.

@@ -34,9 +34,10 @@ fn push_entries<H: Entries>(history: &H, from: u64, to: u64, out: &mut Line)
     ensures lines { entry_lines (take from (H.entries history.now)) ++ out.new ≡ entry_lines (take to (H.entries history.now)) }
     ensures range { AreInRange (take from (H.entries history.now)) → AreInRange (take to (H.entries history.now)) }
 {
+    let mut line = Line::new();
     for i in from..to {
         let (caller, note) = history.entry(i);
-        let mut line = Line::new();
+        line.clear();
         print_note(caller, &note, &mut line);
         show_range(&note);
         out.push_all(line.octets());

@@ -1,5 +1,3 @@
-pub mod Texts
-pub mod Sendings
 pub mod Numerals
 pub mod SoakText
 mod LiveText

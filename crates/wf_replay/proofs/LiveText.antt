@@ -16,7 +16,7 @@ use Rattle.wf_trace.specs.Reading.{reading}
 use Rattle.wf_world.specs.Run.{Entry}
 use Rattle.wf_world.specs.Text.{text_of}
 use Rattle.wf_reading.specs.Histories.{history_among}
-use Rattle.wf_replay.specs.Texts.{text}
+use Rattle.wf_replay_run.specs.Texts.{text}
 use Rattle.wf_reading.proofs.Ranges.{standard_in}
 
 same_history : (history : List Entry) → history_among (entry_items history) ≡ history

@@ -1,5 +1,2 @@
-pub mod Texts
-pub mod Running
-pub mod Sending
 pub mod Outcome
 pub mod Commands

@@ -1,4 +1,4 @@
--- What the status of a run says.
+-- What the status of a soak says.
 use Rattle.std.specs.Prelude.{◌≡◌, ℕ, List, length}
 use Rattle.wf_frame.specs.Settings.{standard}
 use Rattle.wf_live.specs.Soak.{soak_history}
@@ -8,16 +8,10 @@ use Rattle.wf_world.specs.Text.{summary}
 use Rattle.wf_status.specs.declared.status.Status.{Status}
 use Rattle.wf_status.specs.declared.status.Status.TheVariants.{Done, Usage, BadTrace, ReadFault, WriteFault, NoMemory}
 use Rattle.wf_status.specs.Fronts.{IsFrontOf}
-use Rattle.wf_reading.specs.Outcomes.{TraceOutcome}
-use Rattle.wf_replay.specs.Texts.{text, answers}
 
 -- what is written of a soak: the summary of its history
 unfoldable pub soak_text : ℕ → ℕ → List ℕ
 soak_text seed calls = summary (world_after (opening standard) (soak_history seed calls)) calls
-
--- by the octets of the input, those of them that were taken, and those that were written: the text, or the answers to the calls so far
-abbrev pub StatusSays : Status → List ℕ → List ℕ → List ℕ → Type 0
-StatusSays status input taken written = TraceOutcome answers text status input taken written
 
 -- by the seed and the number of calls of a soak, and the octets that were written: its summary, or some of it
 abbrev pub SoakStatusSays : Status → ℕ → ℕ → List ℕ → Type 0

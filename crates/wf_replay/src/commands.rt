@@ -5,12 +5,13 @@ ghost use Rattle.std.specs.Io.KnownBytes.{prepend_known, append_known};
 ghost use Rattle.wf_io.specs.Faults.{HasRisen};
 ghost use Rattle.wf_trace.specs.Reading.{reading};
 ghost use Rattle.wf_reading.specs.Endings.{FitsEnding};
-ghost use Rattle.wf_replay.specs.Outcome.{StatusSays, SoakStatusSays};
+ghost use Rattle.wf_replay_run.specs.Outcome.{StatusSays};
+ghost use Rattle.wf_replay.specs.Outcome.{SoakStatusSays};
 ghost use Rattle.wf_frame.specs.Settings.{standard};
 ghost use Rattle.wf_laws.specs.Laws.{Laws};
 ghost use Rattle.wf_live.specs.Soak.{soak_history};
 ghost use Rattle.wf_live_run.specs.Lives.{IsLive, LiveStatusSays, TellsOf};
-ghost use Rattle.wf_replay.specs.Texts.{text};
+ghost use Rattle.wf_replay_run.specs.Texts.{text};
 ghost use Rattle.wf_world.specs.Run.{Entry};
 ghost use Rattle.wf_world.specs.Text.{text_of};
 ghost use Rattle.wf_replay.specs.Commands.{command_of};
@@ -22,7 +23,6 @@ ghost use Rattle.wf_frames_run.specs.Outcome.{FramesOutcome, FramesAnswered};
 ghost use Rattle.wf_frames_run.specs.Law.{FramesLaw};
 ghost use Rattle.wf_capture_run.specs.Outcome.{CaptureOutcome, CaptureLaw};
 
-use crate::runner::play;
 use crate::words::{Command, command_from};
 use std::alloc::Global;
 use std::sync::Wait;
@@ -32,31 +32,12 @@ use wf_frames_run::frames;
 use wf_io::{Sink, Source};
 use wf_live::soak;
 use wf_live_run::lived;
+use wf_replay_run::replay;
 use wf_report::summary;
 use wf_session_run::session;
-use wf_stage::Stage;
 use wf_status::Status;
 use wf_turnstile::Turnstile;
 use wf_uplink_run::uplink;
-
-/// Reads a trace from the source and writes the answer lines of the calls read before it reads the source again, and the
-/// summary after the `end` line; where the trace has a fault, the line of the fault in place of the summary. Octets after
-/// the `end` line are not looked at.
-pub fn replay<S: Source, K: Sink>(alloc: Global, source: &mut S, sink: &mut K) -> Status
-    ensures text { (taken written : List ℕ) × (S.left source.old ≡ prepend_known taken (S.left source.new))
-        × (K.held sink.new ≡ append_known (K.held sink.old) written)
-        × ((input : List ℕ) → S.left source.old ≡ Some input → StatusSays result input taken written) }
-    ensures read { result ≡ Status.ReadFault → HasRisen (S.faults source.old) (S.faults source.new) }
-    ensures source_quiet { result ≢ Status.ReadFault → S.faults source.new ≡ S.faults source.old }
-    ensures write { result ≡ Status.WriteFault → HasRisen (K.faults sink.old) (K.faults sink.new) }
-    ensures sink_quiet { result ≢ Status.WriteFault → K.faults sink.new ≡ K.faults sink.old }
-    ensures command { result ≢ Status.Usage }
-    ensures laws { (input : List ℕ) → S.left source.old ≡ Some input → HasLaws (reading true input) }
-    ensures complete { (HasRisen (S.faults source.old) (S.faults source.new) → ⊥) → (HasRisen (K.faults sink.old) (K.faults sink.new) → ⊥) →
-        (input : List ℕ) → S.left source.old ≡ Some input → FitsEnding (reading true input).ending result }
-{
-    play::<Stage, S, K>(alloc, source, sink)
-}
 
 /// Writes the summary of the soak of a seed and a number of calls, 1 to 1,000,000.
 pub fn soaked<K: Sink>(alloc: Global, seed: u64, calls: u32, sink: &mut K) -> Status

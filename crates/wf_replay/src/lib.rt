@@ -3,11 +3,10 @@
 #![tactic(auto)]
 
 mod commands;
-mod outgoing;
-mod runner;
 mod words;
 
-pub use commands::{replay, run, soaked};
+pub use commands::{run, soaked};
+pub use wf_replay_run::replay;
 pub use wf_status::Status;
 pub use words::Command;
 

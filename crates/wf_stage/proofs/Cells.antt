@@ -88,9 +88,6 @@ room_at (Some p) (Some place) caller note at room = omega (arith, at.0, at.1, ro
 
 -- ---- a cell of a head
 
-pub never_both : {X : Type 0} → (o : Option X) (x : X) → o ≡ None → o ≡ Some x → ⊥
-never_both o x none some = absurd (cc)
-
 -- what holds of a value, if there is one
 pub some_is : {X : Type 0} (P : X → Type 0) (o : Option X) → IfSome o P → (x : X) → o ≡ Some x → P x
 some_is P None all x is = absurd (cc)

@@ -27,4 +27,17 @@ impl Status {
     {
         self as u8
     }
+
+    /// The line that the program writes on standard error, without its end; empty where standard output has said all.
+    pub fn message(self) -> &'static str {
+        match self {
+            Status::Done | Status::BadTrace => "",
+            Status::Usage => {
+                "usage: wf replay | wf soak SEED CALLS | wf live SEED SENDERS FRAMES | wf session | wf replay --pcap | wf frames | wf uplink"
+            }
+            Status::ReadFault => "wf: read fault",
+            Status::WriteFault => "wf: write fault",
+            Status::NoMemory => "wf: no memory",
+        }
+    }
 }

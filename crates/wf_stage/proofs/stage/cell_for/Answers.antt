@@ -1,7 +1,7 @@
 use Rattle.std.proofs.Common.{refl}
 use Rattle.wf_frame.proofs.Ranges.{checked}
 use Rattle.wf_captures.proofs.Cells.{new_sampled}
-use Rattle.wf_stage.proofs.Cells.{never_both}
+use Rattle.wf_cell.proofs.News.{never_both}
 use Rattle.wf_stage.proofs.stage.cell_for.Goals as goal
 
 pub unreachable-requires : goal.unreachable-requires

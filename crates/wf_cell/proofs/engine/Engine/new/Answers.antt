@@ -1,17 +1,16 @@
-use Rattle.wf_cell.proofs.News.{stations_few, engine_is_in, not_bad, same_fault}
+use Rattle.std.proofs.Common.{refl}
+use Rattle.wf_frame.proofs.Ranges.{in_range}
+use Rattle.wf_cell.proofs.News.{new_engine, never_both}
 use Rattle.wf_cell.proofs.engine.Engine.new.Goals as goal
 
-pub returns-in-Err-clause-bad : goal.returns-in-Err-clause-bad
-returns-in-Err-clause-bad c = λ f. same_fault c.in-Err.fault f _ (c.in-Err.ensures.bad f)
+pub new-requires : goal.new-requires
+new-requires c = (in_range c.args.config c.requires).stations.1
 
-pub over-requires : goal.over-requires
-over-requires c = stations_few c.in-Ok.path c.args.config c.in-Ok.ensures.stands
+pub unreachable-requires : goal.unreachable-requires
+unreachable-requires c =
+    let bad = rw (c.in-Err-BadConfig.field-0-is) at c.in-Err-BadConfig.ensures.bad in
+    never_both _ _ c.requires ((bad _).0 refl)
 
-pub returns-in-Ok-over-clause-bad : goal.returns-in-Ok-over-clause-bad
-returns-in-Ok-over-clause-bad c = λ f. not_bad f c.in-Ok.path _ _ (c.in-Ok.ensures.bad f) (λ e. cc)
-
-pub returns-in-Ok-over-clause-is_in : goal.returns-in-Ok-over-clause-is_in
-returns-in-Ok-over-clause-is_in c = engine_is_in c.in-Ok.path c.args.config c.in-Ok-over.engine c.in-Ok.ensures.stands c.in-Ok-over.ensures
-
-pub returns-in-Err-over-clause-bad : goal.returns-in-Err-over-clause-bad
-returns-in-Err-over-clause-bad c = λ f. not_bad f c.in-Ok.path _ _ (c.in-Ok.ensures.bad f) (λ e. cc)
+pub returns-in-Ok : goal.returns-in-Ok
+returns-in-Ok c = λ bodies.
+    new_engine c.in-Ok.path c.args.config c.in_ok-peers.peers c.in_ok-marks.marks bodies c.in_ok-peers.ensures c.in_ok-marks.ensures (c.in-Ok.ensures.stands bodies)

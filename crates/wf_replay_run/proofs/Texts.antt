@@ -17,9 +17,9 @@ use Rattle.wf_world.specs.Text.{answer_line, summary}
 use Rattle.wf_reading.specs.Histories.{settings_among, history_among}
 use Rattle.wf_reading.specs.Tellings.{told_calls, begun, world_behind, told_so_far, told_whole}
 use Rattle.wf_reading.proofs.Tellings.{Ended, said_as}
-use Rattle.wf_replay.specs.Outcome.{StatusSays}
-use Rattle.wf_replay.specs.Running.{closing, closing_of, telling}
-use Rattle.wf_replay.specs.Texts.{answers_of, text_by, answers, text}
+use Rattle.wf_replay_run.specs.Outcome.{StatusSays}
+use Rattle.wf_replay_run.specs.Running.{closing, closing_of, telling}
+use Rattle.wf_replay_run.specs.Texts.{answers_of, text_by, answers, text}
 
 calls_are : (w : World) (es : List Called) → told_calls telling w es ≡ concat (map answer_line (replies w es))
 unfolding replies

@@ -1,6 +1,6 @@
 use Rattle.wf_reading.proofs.Octets.{leaves_none}
-use Rattle.wf_replay.proofs.Sendings.{leaves_then, front_then, on_both}
-use Rattle.wf_replay.proofs.outgoing.Outgoing.put.Goals as goal
+use Rattle.wf_replay_run.proofs.Sendings.{leaves_then, front_then, on_both}
+use Rattle.wf_replay_run.proofs.outgoing.Outgoing.put.Goals as goal
 
 pub returns-clause-leaves : goal.returns-clause-leaves
 returns-clause-leaves g c =

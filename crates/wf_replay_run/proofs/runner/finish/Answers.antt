@@ -1,5 +1,5 @@
-use Rattle.wf_replay.proofs.Sendings.{then_written, then_front, on_both}
-use Rattle.wf_replay.proofs.runner.finish.Goals as goal
+use Rattle.wf_replay_run.proofs.Sendings.{then_written, then_front, on_both}
+use Rattle.wf_replay_run.proofs.runner.finish.Goals as goal
 
 pub returns-in-Ok-clause-written : goal.returns-in-Ok-clause-written
 returns-in-Ok-clause-written g c =

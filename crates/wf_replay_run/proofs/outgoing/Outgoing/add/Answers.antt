@@ -1,7 +1,7 @@
 use Rattle.std.proofs.Common.{◌≡◌, [], arith}
 use Rattle.wf_reading.proofs.Octets.{partly, leaves_none}
-use Rattle.wf_replay.proofs.Sendings.{leaves_more, leaves_then, front_then, on_both}
-use Rattle.wf_replay.proofs.outgoing.Outgoing.add.Goals as goal
+use Rattle.wf_replay_run.proofs.Sendings.{leaves_more, leaves_then, front_then, on_both}
+use Rattle.wf_replay_run.proofs.outgoing.Outgoing.add.Goals as goal
 
 pub returns-then-line-gt-ROOM-clause-leaves : goal.returns-then-line-gt-ROOM-clause-leaves
 returns-then-line-gt-ROOM-clause-leaves g c =

@@ -4,8 +4,8 @@ use Rattle.wf_trace.specs.Cutting.{room}
 use Rattle.wf_trace.specs.Reader.{will_read}
 use Rattle.wf_reading.specs.Running.{progress_of, IsAt}
 use Rattle.wf_reading.proofs.Tellings.{Running}
-use Rattle.wf_replay.specs.Running.{telling}
-use Rattle.wf_replay.proofs.runner.play.Given as goal
+use Rattle.wf_replay_run.specs.Running.{telling}
+use Rattle.wf_replay_run.proofs.runner.play.Given as goal
 
 abbrev pub invariant-items : goal.invariant-items
 invariant-items g l = Running telling l.reader (progress_of (option_map g.M.Plays.past l.stage)) (g.S.Source.left l.fn.source) (g.S.Source.left l.source) (g.K.Sink.held l.fn.sink) (g.K.Sink.held l.sink) l.outgoing

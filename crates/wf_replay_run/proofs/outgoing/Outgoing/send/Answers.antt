@@ -1,5 +1,5 @@
 use Rattle.wf_reading.proofs.Octets.{partly}
-use Rattle.wf_replay.proofs.outgoing.Outgoing.send.Goals as goal
+use Rattle.wf_replay_run.proofs.outgoing.Outgoing.send.Goals as goal
 
 pub returns-in_err-write_all-clause-front : goal.returns-in_err-write_all-clause-front
 returns-in_err-write_all-clause-front g c =

@@ -5,7 +5,7 @@ ghost use Rattle.std.specs.Io.KnownBytes.{append_known};
 ghost use Rattle.wf_io.specs.Faults.{CountsFaults};
 ghost use Rattle.wf_status.specs.Fronts.{HoldsFront};
 ghost use Rattle.wf_reading.specs.Leaving.{Leaves};
-ghost use Rattle.wf_replay.specs.Sending.{room};
+ghost use Rattle.wf_replay_run.specs.Sending.{room};
 
 use std::alloc::{AllocError, Global};
 use std::marker::Model;
@@ -22,7 +22,7 @@ pub struct Outgoing {
 
 impl Model for Outgoing {
     ghost use Rattle.std.specs.Prelude.{◌≤◌, List, ℕ, vec_len, vec_capacity};
-    ghost use Rattle.wf_replay.specs.Sending.{room};
+    ghost use Rattle.wf_replay_run.specs.Sending.{room};
 
     ghost Value = { List ℕ };
 

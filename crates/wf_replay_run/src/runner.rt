@@ -10,8 +10,8 @@ ghost use Rattle.wf_status.specs.Fronts.{HoldsFront};
 ghost use Rattle.wf_trace.specs.declared.reader.Item.TheVariants as item;
 ghost use Rattle.wf_world.specs.Run.{by};
 ghost use Rattle.wf_reading.specs.Running.{world_in};
-ghost use Rattle.wf_replay.specs.Running.{answer_to, closing_of};
-ghost use Rattle.wf_replay.specs.Outcome.{StatusSays};
+ghost use Rattle.wf_replay_run.specs.Running.{answer_to, closing_of};
+ghost use Rattle.wf_replay_run.specs.Outcome.{StatusSays};
 
 use crate::outgoing::Outgoing;
 use std::alloc::{AllocError, Global};

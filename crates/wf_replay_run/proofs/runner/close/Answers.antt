@@ -1,8 +1,8 @@
 use Rattle.std.proofs.Common.{◌≡◌, OnOk, subst}
 use Rattle.std.specs.Io.KnownBytes.{append_known}
 use Rattle.wf_status.specs.Fronts.{HoldsFront}
-use Rattle.wf_replay.proofs.Texts.{closing_is}
-use Rattle.wf_replay.proofs.runner.close.Goals as goal
+use Rattle.wf_replay_run.proofs.Texts.{closing_is}
+use Rattle.wf_replay_run.proofs.runner.close.Goals as goal
 
 pub returns-in-Some-clause-written : goal.returns-in-Some-clause-written
 returns-in-Some-clause-written g c =

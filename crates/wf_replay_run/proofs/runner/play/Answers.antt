@@ -8,10 +8,10 @@ use Rattle.wf_stage.proofs.Cells.{progress_at, progress_head, progress_on, at_he
 use Rattle.wf_reading.proofs.Ranges.{line_config, line_sized}
 use Rattle.wf_reading.proofs.Octets.{append_known-nil}
 use Rattle.wf_reading.proofs.Tellings.{turned, running_none, none_waits, with_head, with_entry, ended_at_once, ended_no_memory, ended_read, ended_write, ended_done, ended_bad}
-use Rattle.wf_replay.specs.Running.{telling}
-use Rattle.wf_replay.proofs.Texts.{said, fault_closes}
-use Rattle.wf_replay.proofs.Sendings.{all_sent}
-use Rattle.wf_replay.proofs.runner.play.Goals as goal
+use Rattle.wf_replay_run.specs.Running.{telling}
+use Rattle.wf_replay_run.proofs.Texts.{said, fault_closes}
+use Rattle.wf_replay_run.proofs.Sendings.{all_sent}
+use Rattle.wf_replay_run.proofs.runner.play.Goals as goal
 
 pub returns-in_default-clause-text : goal.returns-in_default-clause-text
 returns-in_default-clause-text g c = said NoMemory _ _ _ _ (ended_at_once telling (g.S.Source.left c.args.source.now) (g.K.Sink.held c.args.sink.now))

@@ -1,0 +1,17 @@
+//! `wf replay` alone. It is compiled in less time than the whole program, so `./wf` runs it, unproved, until that one is proved.
+#![tactic(auto)]
+
+use std::process::ExitCode;
+use wf_io::{StdSink, StdSource};
+use wf_replay_run::replay;
+
+fn main(rt: HostRuntime) -> ExitCode {
+    let mut source = StdSource::new(rt.stdin());
+    let mut sink = StdSink::new(rt.stdout());
+    let status = replay(rt.alloc(), &mut source, &mut sink);
+    let message = status.message();
+    if !message.is_empty() {
+        let _ = eprintln!(rt; "{message}");
+    }
+    ExitCode::from(status.code())
+}
