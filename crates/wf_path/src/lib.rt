@@ -15,6 +15,3 @@ pub use faults::NewFault;
 pub use job::Job;
 pub use path::Path;
 pub use wf_transmissions::{DoneFault, PathFault, Sent};
-
-#[cfg(test)]
-mod tests;

@@ -9,6 +9,3 @@ pub use commands::{run, soaked};
 pub use wf_replay_run::replay;
 pub use wf_status::Status;
 pub use words::Command;
-
-#[cfg(test)]
-mod tests;

@@ -6,6 +6,3 @@ mod replay;
 mod runner;
 
 pub use replay::replay;
-
-#[cfg(test)]
-mod tests;

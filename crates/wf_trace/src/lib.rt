@@ -24,6 +24,3 @@ pub use print::print_note;
 pub use reader::{Item, TraceReader};
 pub use values::{end_at, long_at};
 pub use words::{in_range, is_plain_number, next_word, number};
-
-#[cfg(test)]
-mod tests;

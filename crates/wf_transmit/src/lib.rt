@@ -18,6 +18,3 @@ pub mod unheard;
 
 pub use finish::Ended;
 pub use half::Transmit;
-
-#[cfg(test)]
-mod tests;

@@ -18,6 +18,3 @@ pub use event::Event;
 pub use frame::Frame;
 pub use lines::event_from;
 pub use reception::Reception;
-
-#[cfg(test)]
-mod tests;

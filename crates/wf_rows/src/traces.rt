@@ -1,9 +1,9 @@
 //! The cutter and the reader on short traces, and the line of each call.
 
-use crate::{Cut, Fault, FaultKind, Item, Piece, TraceReader, print_note};
 use std::test::Fail;
 use wf_frame::{Ask, Class, Config, Note};
 use wf_io::{Given, Line, Source};
+use wf_trace::{Cut, Fault, FaultKind, Item, Piece, TraceReader, print_note};
 
 #[test]
 fn lines_that_say_something_come_with_their_numbers(rt: HostRuntime) -> Result<(), Fail> {

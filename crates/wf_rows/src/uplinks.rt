@@ -1,11 +1,11 @@
 //! Worked scripts, a line with its answer beside it, and sources and sinks that fail.
 
-use crate::{event_from, uplink};
 use std::alloc::{AllocError, Global};
 use std::test::Fail;
 use wf_io::{Given, Kept};
 use wf_status::Status;
 use wf_trace::FaultKind;
+use wf_uplink_run::{event_from, uplink};
 
 /// A line of a script, and what is written for it.
 type Row = (&'static str, &'static str);

@@ -1,8 +1,8 @@
 //! Worked rows, and sources and sinks that fail.
 
-use crate::replay;
 use std::test::Fail;
 use wf_io::{Given, Kept};
+use wf_replay_run::replay;
 use wf_status::Status;
 
 const ONE_FRAME: &[u8] =

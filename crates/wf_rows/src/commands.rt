@@ -1,8 +1,8 @@
 //! Words that are a command, and words that are none.
 
-use crate::{Status, run};
 use std::test::Fail;
 use wf_io::{Given, Kept};
+use wf_replay::{Status, run};
 use wf_turnstile::Free;
 
 const ONE_FRAME: &[u8] =

@@ -1,8 +1,8 @@
 //! A path is made, and a station joins.
 
-use super::{Job, NewFault, Path};
 use std::test::Fail;
 use wf_frame::{Answer, Ask, Brief, Config, Field};
+use wf_path::{Job, NewFault, Path};
 
 #[test]
 fn a_station_joins(rt: HostRuntime) -> Result<(), Fail> {

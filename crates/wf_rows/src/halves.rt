@@ -1,8 +1,8 @@
 //! A half is made, and a station joins.
 
-use super::Transmit;
 use std::alloc::AllocError;
 use wf_frame::{Config, Refusal};
+use wf_transmit::Transmit;
 
 #[test]
 fn a_station_joins(rt: HostRuntime) -> Result<(), AllocError> {

@@ -1,0 +1,16 @@
+//! Worked rows of the larger crates, through their public calls. They stand here, and not in those crates, so that
+//! no crate's own functions are proved twice, once for it and once for its tests.
+#![tactic(auto)]
+
+#[cfg(test)]
+mod commands;
+#[cfg(test)]
+mod halves;
+#[cfg(test)]
+mod paths;
+#[cfg(test)]
+mod replays;
+#[cfg(test)]
+mod traces;
+#[cfg(test)]
+mod uplinks;
