@@ -674,20 +674,23 @@ module _ {M N T : Type 0} (past : M → List (ℕ × N)) (settings : M → T) (s
   held_or d [] = d
   held_or d (x ∷ xs) = value_or d x.1
 
-  -- the machine was taken out of the slot, x, and x' was put in
   -- who has its turn at the ticket t has its turn
   pub takes_turn : (t : ℕ) (v : V) (m : Me (Option M) V) → HasTurn past settings spare o t v m → AtTurn past settings spare o m
   takes_turn t v m k = subst (AtTurn past settings spare o) (sym k.4) (t, refl, (k.1, refl, k.5), k.7)
 
-  pub swapped : (p0 p1 p2 : Me (Option M) V) (r : Option M) (x x' : M) → p0.1 ≡ (0, r) ∷ rest p0.1 → p1 ≡ (p0.0, (0, None) ∷ rest p0.1) → p2 ≡ (p1.0, (0, Some x') ∷ rest p1.1) → AtTurn past settings spare o p0 → r ≡ Some x
-      → (p2 ≡ (p0.0, (0, Some x') ∷ [])) × IsAt past settings spare o p0.0.face.seen x × (0 < spare x)
-  swapped p0 p1 p2 r x x' a b c turn is =
+  -- the same seat, once it has left x in the slot
+  abbrev leaving : Me (Option M) V → M → Me (Option M) V
+  leaving p x = (p.0, (0, Some x) ∷ rest p.1)
+
+  -- at its turn a seat was lent the slot, with x in it, and left x' there
+  pub lent : (p : Me (Option M) V) (r : Option M) (x x' : M) → p.1 ≡ (0, r) ∷ rest p.1 → AtTurn past settings spare o p → r ≡ Some x
+      → (leaving p x' ≡ (p.0, (0, Some x') ∷ [])) × IsAt past settings spare o p.0.face.seen x × (0 < spare x)
+  lent p r x x' holds turn is =
       let y = turn.2.0 in let has = turn.2.1 in
-      let none_more : rest p0.1 ≡ [] = ap rest has in
-      let same : y ≡ x = ap (held_or x) (sym has ∙ a) ∙ ap (value_or x) is in
-      let was : IsAt past settings spare o p0.0.face.seen x = subst (IsAt past settings spare o p0.0.face.seen) same turn.2.2 in
+      let same : y ≡ x = ap (held_or x) (sym has ∙ holds) ∙ ap (value_or x) is in
+      let was : IsAt past settings spare o p.0.face.seen x = subst (IsAt past settings spare o p.0.face.seen) same turn.2.2 in
       let left = was.left in let less = turn.3 in (
-        c ∙ (ap (λ (z : Me (Option M) V). (z.0, (0, Some x') ∷ rest z.1)) b ∙ ap (λ l. (p0.0, (0, Some x') ∷ l)) none_more),
+        ap (λ l. (p.0, (0, Some x') ∷ l)) (ap rest has),
         was,
         omega arith,
       )

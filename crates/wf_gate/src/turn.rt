@@ -59,7 +59,7 @@ pub(crate) fn attempt<M: Machine + Drop>(shared: &Shared<M>, pass: &mut Pass<M>)
     (serving, ticket)
 }
 
-/// Makes one step of the machine, by the seat whose turn has come, and serves the next number.
+/// Makes one step of the machine where it lies, by the seat whose turn has come, and serves the next number.
 pub(crate) fn serve<M: Machine + Drop>(
     shared: &Shared<M>,
     pass: &mut Pass<M>,
@@ -73,11 +73,10 @@ pub(crate) fn serve<M: Machine + Drop>(
     ensures seat { (pass.new.table_id ≡ pass.old.table_id) × (pass.new.id ≡ pass.old.id) × (pass.new.me ≡ (after_turn pass.old.me.0 (number, M.note call), [])) }
     ensures reply { let o = opening_of shared.now.key in M.right (M.settings o.machine) (M.past o.machine ++ pass.old.me.0.face.seen) number call result }
 {
-    let Some(mut machine) = shared.exchange(pass, MACHINE, None) else {
+    let Some(machine) = pass.slot_mut(shared, MACHINE) else {
         unreachable!()
     };
     let reply = machine.step(number, call);
-    drop(shared.exchange(pass, MACHINE, Some(machine)));
     shared.fetch_add::<Serve<M>>(pass, SERVING, 1);
     reply
 }
