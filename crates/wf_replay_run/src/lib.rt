@@ -1,8 +1,8 @@
 //! The command `replay`: a trace is played on a cell, and answered call by call.
 #![tactic(auto)]
 
+mod command;
 mod outgoing;
-mod replay;
 mod runner;
 
-pub use replay::replay;
+pub use command::replay;

@@ -1,9 +1,8 @@
-use Rattle.std.proofs.Common.{◌≡◌, ◌∙◌, refl, subst, sym}
-use Rattle.std.specs.Prelude.{Option, option_map}
-use Rattle.wf_trace.specs.declared.meaning.Place.{Place}
+use Rattle.std.proofs.Common.{◌∙◌, refl}
+use Rattle.std.specs.Prelude.{option_map}
 use Rattle.wf_trace.specs.declared.reader.Item.TheVariants.{Entry, Finish, Bad}
 use Rattle.wf_status.specs.declared.status.Status.TheVariants.{Done, BadTrace, ReadFault, WriteFault, NoMemory}
-use Rattle.wf_reading.specs.Running.{IsAt, progress_of}
+use Rattle.wf_reading.specs.Running.{progress_of}
 use Rattle.wf_stage.proofs.Cells.{progress_at, progress_head, progress_on, at_head, at_entry, room_at}
 use Rattle.wf_reading.proofs.Ranges.{line_config, line_sized}
 use Rattle.wf_reading.proofs.Octets.{append_known-nil}

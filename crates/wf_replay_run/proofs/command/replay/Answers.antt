@@ -2,7 +2,7 @@ use Rattle.std.proofs.Common.{true}
 use Rattle.wf_reading.proofs.Endings.{answered}
 use Rattle.wf_replay_run.specs.Texts.{text, answers}
 use Rattle.wf_reading.proofs.Ranges.{trace_laws}
-use Rattle.wf_replay_run.proofs.replay.replay.Goals as goal
+use Rattle.wf_replay_run.proofs.command.replay.Goals as goal
 
 pub returns-clause-complete : goal.returns-clause-complete
 returns-clause-complete g c = λ read write input told.
