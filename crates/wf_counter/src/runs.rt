@@ -1,0 +1,49 @@
+//! The same calls, to the machine itself and through a gate.
+ghost use Rattle.wf_gate.specs.Seats.{IsOf};
+
+use crate::counter::Counter;
+use anyhow::{Context, Result};
+use std::alloc::Global;
+use std::sync::Wait;
+use wf_gate::{Gate, Machine, Seat};
+
+/// The octets that the call of this number adds.
+fn octets(call: u32) -> u32 {
+    call % 1500
+}
+
+/// Makes so many calls to a counter, and gives the last sum.
+pub fn bare(calls: u32) -> u64 {
+    let mut counter = Counter::new(calls);
+    let mut sum = 0;
+    for call in 0..calls {
+        sum = counter.step(0, octets(call));
+    }
+    sum
+}
+
+/// Makes the same calls by the one seat at a gate before a counter.
+pub fn gated<R: Wait>(rt: &R, alloc: Global, calls: u32) -> Result<u64> {
+    let (gate, mut seats) = Gate::new(alloc, Counter::new(calls), &[calls])?;
+    let mut seat = seats.pop().context("the seat is missing")?;
+    call_all(rt, &gate, &mut seat, calls).context("too few calls are left")
+}
+
+/// Makes so many calls by the seat, and gives the last sum, or nothing where the seat has fewer calls left.
+fn call_all<R: Wait>(
+    rt: &R,
+    gate: &Gate<Counter>,
+    seat: &mut Seat<Counter>,
+    calls: u32,
+) -> Option<u64>
+    requires { IsOf gate.now seat.old }
+{
+    let mut sum = 0;
+    for call in 0..calls {
+        let Ok(next) = gate.call(rt, seat, octets(call)) else {
+            return None;
+        };
+        sum = next;
+    }
+    Some(sum)
+}
