@@ -1,13 +1,13 @@
-//! The program `wf`.
+//! The program: `main` has the words, the real source and sink, the status, and the line on standard error.
 #![tactic(auto)]
 
 use std::alloc::AllocError;
 use std::env;
 use std::io::ErrorKind;
 use std::process::ExitCode;
+use wf_gate::Free;
 use wf_io::{StdSink, StdSource};
-use wf_replay::{Status, run};
-use wf_turnstile::Free;
+use wf_run::{Status, run};
 
 // The words after the program's name. One that is not UTF-8 is no word of a command.
 fn words(rt: &HostRuntime) -> Result<Vec<String>, Status> {

@@ -3,8 +3,10 @@ use Rattle.std.proofs.Common.{◌≡◌, ◌∙◌, ◌<◌, ◌+◌, ℕ, List,
 use Rattle.std.specs.Prelude.{Option, IfSome}
 
 -- xs shows the ids below i, and ys shows what xs does and the id at i
-module _ (xs ys ids : List ℕ) (i id : ℕ) (before : (k j : ℕ) → k < i → slice_get ids k ≡ Some j → slice_index xs k ≡ j)
-    (is_at : slice_get ids i ≡ Some id) (put : slice_index ys i ≡ id) (others : (k : ℕ) → k < i → slice_index ys k ≡ slice_index xs k) where
+module _ (xs ys ids : List ℕ) (i id : ℕ) (before : (k j : ℕ) → k < i → slice_get ids k ≡ Some j →
+    slice_index xs k ≡ j)
+    (is_at : slice_get ids i ≡ Some id) (put : slice_index ys i ≡ id)
+    (others : (k : ℕ) → k < i → slice_index ys k ≡ slice_index xs k) where
   abbrev Shown : ℕ → Type 0
   Shown k = (j : ℕ) → slice_get ids k ≡ Some j → slice_index ys k ≡ j
 

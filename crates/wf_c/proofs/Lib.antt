@@ -1,8 +1,7 @@
-pub mod CellSlots
-pub mod Ids
-pub mod Makings
-pub mod Pairs
-pub mod Reaps
-pub mod Slots
-pub mod Values
-pub mod Words
+mod CellSlots
+mod Ids
+mod Makings
+mod Pairs
+mod Reaps
+mod Slots
+mod Words

@@ -5,8 +5,10 @@ use Rattle.wf_c.specs.Pulled.{ShowsPair}
 use Rattle.wf_c.specs.declared.pulled.Frames.{Frames}
 
 -- f shows the frames below i, and g shows what f does and the frame at i
-module _ (f g : Frames) (pairs : List (ℕ × ℕ)) (i : ℕ) (pair : ℕ × ℕ) (before : (k : ℕ) (p : ℕ × ℕ) → k < i → slice_get pairs k ≡ Some p → ShowsPair f k p)
-    (is_at : slice_get pairs i ≡ Some pair) (put : ShowsPair g i pair) (others : (k : ℕ) (p : ℕ × ℕ) → k < i → ShowsPair f k p → ShowsPair g k p) where
+module _ (f g : Frames) (pairs : List (ℕ × ℕ)) (i : ℕ) (pair : ℕ × ℕ)
+    (before : (k : ℕ) (p : ℕ × ℕ) → k < i → slice_get pairs k ≡ Some p → ShowsPair f k p)
+    (is_at : slice_get pairs i ≡ Some pair) (put : ShowsPair g i pair)
+    (others : (k : ℕ) (p : ℕ × ℕ) → k < i → ShowsPair f k p → ShowsPair g k p) where
   abbrev Shown : ℕ → Type 0
   Shown k = (p : ℕ × ℕ) → slice_get pairs k ≡ Some p → ShowsPair g k p
 

@@ -1,5 +1,4 @@
 -- A value of two words.
-use Rattle.std.proofs.Common.{[]}
 use mir.Val.{Val, vstruct, vcons, vnil}
 
 -- the value of two fields

@@ -5,7 +5,7 @@ use Rattle.wf_frame.specs.declared.notes.Ask.{Ask}
 use Rattle.wf_frame.specs.declared.notes.Ask.TheVariants.{Join, Leave, Rate, Tick, Pull, Arrive, Answer, Done, Sleep, Wake, Poll, Rx, Reap}
 use Rattle.wf_frame.specs.declared.notes.Note.{Note}
 use Rattle.wf_frame.specs.declared.notes.Note.TheVariants.{Enqueue, Asked}
-use Rattle.wf_c.specs.Numbers.{flag_of, is_set}
+use Rattle.wf_c.specs.Numbers.{flag_of, is_up}
 use Rattle.wf_c.specs.declared.cell.calls.CallNumbers.{CallNumbers}
 
 -- nothing is shown
@@ -33,21 +33,32 @@ blank_call = record {
 
 -- the fields of a call, which has the number of the answer that it may have
 abbrev pub numbers_of_call : Note → CallNumbers
-numbers_of_call (Enqueue station tid flow len) = record blank_call { kind = 4; station = station; tid = tid; flow = flow; length = len }
+numbers_of_call (Enqueue station tid flow len) =
+    record blank_call { kind = 4; station = station; tid = tid; flow = flow; length = len }
 numbers_of_call (Asked (Join station window start exponent weight)) =
-    record blank_call { kind = 0; station = station; window = window; start = start; exponent = exponent; weight = weight }
+    record blank_call {
+      kind = 0;
+      station = station;
+      window = window;
+      start = start;
+      exponent = exponent;
+      weight = weight;
+    }
 numbers_of_call (Asked (Leave station)) = record blank_call { kind = 1; station = station }
 numbers_of_call (Asked (Rate station mcs mhz short)) =
     record blank_call { kind = 2; station = station; mcs = mcs; mhz = mhz; short = flag_of short }
 numbers_of_call (Asked (Tick by)) = record blank_call { kind = 3; by = by }
 numbers_of_call (Asked (Pull class)) = record blank_call { kind = 5; class = class_number class }
-numbers_of_call (Asked (Arrive exchange index)) = record blank_call { kind = 6; exchange = exchange; index = index }
+numbers_of_call (Asked (Arrive exchange index)) =
+    record blank_call { kind = 6; exchange = exchange; index = index }
 numbers_of_call (Asked (Answer exchange)) = record blank_call { kind = 7; exchange = exchange }
-numbers_of_call (Asked (Done exchange heard)) = record blank_call { kind = 8; exchange = exchange; heard = flag_of heard }
+numbers_of_call (Asked (Done exchange heard)) =
+    record blank_call { kind = 8; exchange = exchange; heard = flag_of heard }
 numbers_of_call (Asked (Sleep station)) = record blank_call { kind = 9; station = station }
 numbers_of_call (Asked (Wake station)) = record blank_call { kind = 10; station = station }
 numbers_of_call (Asked (Poll station)) = record blank_call { kind = 11; station = station }
-numbers_of_call (Asked (Rx station class air)) = record blank_call { kind = 12; station = station; class = class_number class; air = air }
+numbers_of_call (Asked (Rx station class air)) =
+    record blank_call { kind = 12; station = station; class = class_number class; air = air }
 numbers_of_call (Asked Reap) = record blank_call { kind = 13 }
 
 -- the call that the fields show, where it brings no frame and takes none
@@ -55,13 +66,14 @@ unfoldable pub asked : CallNumbers → Option Ask
 asked c =
     if c.kind == 0 then Some (Join c.station c.window c.start c.exponent c.weight)
     else (if c.kind == 1 then Some (Leave c.station)
-    else (if c.kind == 2 then Some (Rate c.station c.mcs c.mhz (is_set c.short))
+    else (if c.kind == 2 then Some (Rate c.station c.mcs c.mhz (is_up c.short))
     else (if c.kind == 3 then Some (Tick c.by)
     else (if c.kind == 5 then Some (Pull (class_among all_classes c.class))
     else (if c.kind == 6 then Some (Arrive c.exchange c.index)
     else (if c.kind == 7 then Some (Answer c.exchange)
-    else (if c.kind == 8 then Some (Done c.exchange (is_set c.heard))
+    else (if c.kind == 8 then Some (Done c.exchange (is_up c.heard))
     else (if c.kind == 9 then Some (Sleep c.station)
     else (if c.kind == 10 then Some (Wake c.station)
     else (if c.kind == 11 then Some (Poll c.station)
-    else (if c.kind == 12 then Some (Rx c.station (class_among all_classes c.class) c.air) else None)))))))))))
+    else (if c.kind == 12 then Some (Rx c.station (class_among all_classes c.class) c.air)
+    else None)))))))))))

@@ -4,8 +4,8 @@ use Rattle.wf_frame.specs.Answers.{reply_of}
 use Rattle.wf_frame.specs.Frames.{FrameValue}
 use Rattle.wf_frame.specs.declared.notes.Ask.{Ask}
 use Rattle.wf_frame.specs.declared.notes.Note.TheVariants.{Asked}
-use Rattle.wf_world.specs.World.{World}
-use Rattle.wf_transmit_refines.specs.Standing.{StandsFor, Meets}
+use Rattle.wf_def_world.specs.World.{World}
+use Rattle.wf_send_half_refines.specs.Standing.{StandsFor, Meets}
 use Rattle.wf_path.specs.Jobs.{changes_nothing}
 use Rattle.wf_path.specs.Paths.{IsPath, IsSmall}
 use Rattle.wf_c.specs.Numbers.{numbers_of}
@@ -33,7 +33,8 @@ Becomes R _ _ = ⊥
 --   refused  a refused call changes nothing, but for a pull that finds nobody ready
 --   shows    the struct shows the reply
 pub record IsCalled (h : Held) (ask : Ask) (k : Held) (shown : Reply) : Type 0 where
-  pub meets : (w : World) (bodies : ℕ → FrameValue) → StandsFor h.path w bodies → Meets w bodies (Asked ask) k.path (reply_of k.answer)
+  pub meets : (w : World) (bodies : ℕ → FrameValue) → StandsFor h.path w bodies →
+      Meets w bodies (Asked ask) k.path (reply_of k.answer)
   pub refused : changes_nothing (reply_of k.answer) ≡ true → k.path ≡ h.path
   pub path : IsPath k.path
   pub shows : shown ≡ numbers_of k.answer.brief

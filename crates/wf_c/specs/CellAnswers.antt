@@ -18,5 +18,10 @@ ShowsPassedUp p _ ids = p.count ≡ 0
 
 -- the fields of the BlockAck that an answer says, or all 0
 abbrev pub block_of : Brief → Block
-block_of (Ba start b0 b1 b2 b3 wide) = record { bits = b0 ∷ b1 ∷ b2 ∷ b3 ∷ []; start = start; wide = flag_of wide }
+block_of (Ba start b0 b1 b2 b3 wide) = record {
+  bits = b0 ∷ b1 ∷ b2 ∷ b3 ∷ [];
+  start = start;
+  wide =
+      flag_of wide;
+}
 block_of _ = record { bits = 0 ∷ 0 ∷ 0 ∷ 0 ∷ []; start = 0; wide = 0 }

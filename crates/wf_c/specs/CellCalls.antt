@@ -7,12 +7,12 @@ use Rattle.wf_frame.specs.declared.notes.Ask.{Ask}
 use Rattle.wf_frame.specs.declared.notes.Ask.TheVariants.{Reap}
 use Rattle.wf_frame.specs.declared.notes.Refusal.TheVariants.{HistoryFull}
 use Rattle.wf_frame.specs.declared.notes.ReplyNote.TheVariants.{Reaped, Refused}
-use Rattle.wf_world.specs.Run.{Entry, Past, by, world_of}
-use Rattle.wf_world.specs.Step.{step}
-use Rattle.wf_world.specs.World.{World}
-use Rattle.wf_laws.specs.Laws.{Laws}
-use Rattle.wf_transmit_refines.specs.Half.{body_of}
-use Rattle.wf_transmit_refines.specs.Standing.{StandsFor}
+use Rattle.wf_def_world.specs.Run.{Entry, Past, by, world_of}
+use Rattle.wf_def_world.specs.Step.{step}
+use Rattle.wf_def_world.specs.World.{World}
+use Rattle.wf_law_runs.specs.Laws.{Laws}
+use Rattle.wf_send_half_refines.specs.Half.{body_of}
+use Rattle.wf_send_half_refines.specs.Standing.{StandsFor}
 use Rattle.wf_path.specs.Jobs.{note_of, bodies_after}
 use Rattle.wf_path.specs.declared.job.Job.{Job}
 use Rattle.wf_path.specs.declared.job.Job.TheVariants.{Call}
@@ -54,9 +54,11 @@ TurnsInto R _ _ = ⊥
 pub record IsStepped (h : HeldCell) (caller : ℕ) (job : Job) (k : HeldCell) (shown : Reply) : Type 0 where
   pub past : 0 < room_in h.cell.past → k.cell.past ≡ with_entry (by caller (note_of job)) h.cell.past
   pub reply : 0 < room_in h.cell.past → reply_of k.answer ≡ (step (world_of h.cell.past) (note_of job)).reply
-  pub stands : 0 < room_in h.cell.past → (bodies : ℕ → FrameValue) → StandsFor h.cell.half (world_of h.cell.past) bodies →
+  pub stands : 0 < room_in h.cell.past → (bodies : ℕ → FrameValue) →
+      StandsFor h.cell.half (world_of h.cell.past) bodies →
       StandsFor k.cell.half (world_of k.cell.past) (bodies_after h.cell.half job (reply_of k.answer) bodies)
-  pub bodies : 0 < room_in h.cell.past → (id : ℕ) → body_of k.cell.half id ≡ body_after h.cell.half (reply_of k.answer) job id
+  pub bodies : 0 < room_in h.cell.past → (id : ℕ) →
+      body_of k.cell.half id ≡ body_after h.cell.half (reply_of k.answer) job id
   pub full : room_in h.cell.past ≡ 0 → reply_of k.answer ≡ Refused HistoryFull
   pub unchanged : room_in h.cell.past ≡ 0 → k.cell ≡ h.cell
   pub laws : Laws k.cell.past.config k.cell.past.history
@@ -66,15 +68,20 @@ pub record IsStepped (h : HeldCell) (caller : ℕ) (job : Job) (k : HeldCell) (s
 abbrev pub bad_call : ℕ
 bad_call = 43
 
--- What becomes of a handle and of the caller's struct by numbers, which show this call or none: it is made, or nothing changes.
+-- What becomes of a handle and of the caller's struct by numbers, which show this call or none: it is made,
+-- or nothing changes.
 abbrev pub IsAsked : Option Ask → ℕ → Option HeldCell → Reply → Option HeldCell → Reply → ℤ → Type 0
-IsAsked (Some ask) caller old before new shown code = TurnsInto (λ h k. IsStepped h caller (Call ask) k shown) old new × (code ≡ pos shown.refusal)
+IsAsked (Some ask) caller old before new shown code =
+    TurnsInto (λ h k. IsStepped h caller (Call ask) k shown) old new × (code ≡ pos shown.refusal)
 IsAsked None caller old before new shown code = (new ≡ old) × ((shown ≡ before) × (code ≡ pos bad_call))
 
--- What a reap leaves of h, and what the caller's structs then show: where a frame is reaped, the one that was accepted under its id.
-pub record IsTakenBack (h : HeldCell) (caller : ℕ) (k : HeldCell) (shown : Reply) (taken : Taken) (buffer : List ℕ) : Type 0 where
+-- What a reap leaves of h, and what the caller's structs then show: where a frame is reaped, the one that was
+-- accepted under its id.
+pub record IsTakenBack (h : HeldCell) (caller : ℕ) (k : HeldCell) (shown : Reply) (taken : Taken)
+    (buffer : List ℕ) : Type 0 where
   pub stepped : IsStepped h caller (Call Reap) k shown
-  pub frame : 0 < room_in h.cell.past → (bodies : ℕ → FrameValue) (id : ℕ) (fate : Fate) → StandsFor h.cell.half (world_of h.cell.past) bodies →
+  pub frame : 0 < room_in h.cell.past → (bodies : ℕ → FrameValue) (id : ℕ) (fate : Fate) →
+      StandsFor h.cell.half (world_of h.cell.past) bodies →
       reply_of k.answer ≡ Reaped id fate → ShowsFrame (bodies id) taken buffer
 
 -- the code of an entry that the history does not have: that of a bad index

@@ -1,14 +1,14 @@
 -- What C is told of an open exchange, and of its end.
 use Rattle.std.specs.Prelude.{◌≡◌, ℕ, List, Option, Some, None}
-use Rattle.wf_blockack.specs.declared.decoding.BlockFault.TheVariants.{Length, Kind, NotCompressed, MultiTid, Fragment, NotWide}
-use Rattle.wf_world.specs.World.{Exchange}
-use Rattle.wf_transmissions.specs.declared.faults.DoneFault.{DoneFault}
-use Rattle.wf_transmissions.specs.declared.faults.DoneFault.TheVariants as done
-use Rattle.wf_transmissions.specs.declared.faults.PathFault.{PathFault}
-use Rattle.wf_transmissions.specs.declared.faults.PathFault.TheVariants as fault
-use Rattle.wf_transmissions.specs.declared.reading.Sent.{Sent as PathSent}
+use Rattle.wf_octets_block.specs.declared.decoding.BlockFault.TheVariants.{Length, Kind, NotCompressed, MultiTid, Fragment, NotWide}
+use Rattle.wf_def_world.specs.World.{Exchange}
+use Rattle.wf_path.specs.declared.faults.DoneFault.{DoneFault}
+use Rattle.wf_path.specs.declared.faults.DoneFault.TheVariants as done
+use Rattle.wf_path.specs.declared.faults.PathFault.{PathFault}
+use Rattle.wf_path.specs.declared.faults.PathFault.TheVariants as fault
+use Rattle.wf_path.specs.declared.reading.Sent.{Sent as PathSent}
 use Rattle.wf_path.specs.Driver.{IsEnded}
-use Rattle.wf_c.specs.Numbers.{numbers_of, is_set}
+use Rattle.wf_c.specs.Numbers.{numbers_of, is_up}
 use Rattle.wf_c.specs.declared.exchanges.Sent.{Sent}
 use Rattle.wf_c.specs.declared.held.Held.{Held}
 use Rattle.wf_c.specs.declared.reply.Reply.{Reply}
@@ -49,7 +49,7 @@ end_code (Some (done.WrongTid found)) = 58
 
 -- what the caller's struct shows of an exchange
 abbrev pub sent_shown : Sent → PathSent
-sent_shown s = record { station = s.station; tid = s.tid; count = s.count; request = is_set s.request }
+sent_shown s = record { station = s.station; tid = s.tid; count = s.count; request = is_up s.request }
 
 -- where there is too little room, n says how much is needed
 abbrev pub needs : Option PathFault → ℕ → Type 0
@@ -57,6 +57,7 @@ needs (Some (fault.SmallBuffer need)) n = n ≡ need
 needs _ n = Unit {0}
 
 -- What the end of exchange e leaves of h, by what was heard of it, and what the caller's struct then shows.
-pub record IsDone (h : Held) (e : ℕ) (heard : Option (ℕ × List ℕ)) (k : Held) (shown : Reply) : Type 0 where
+pub record IsExchangeEnded (h : Held) (e : ℕ) (heard : Option (ℕ × List ℕ)) (k : Held)
+    (shown : Reply) : Type 0 where
   pub ended : IsEnded h.path e heard k.path k.answer.brief
   pub shows : shown ≡ numbers_of k.answer.brief

@@ -89,9 +89,9 @@ with_dropped None r = r
 with_dropped (Some id) r = record r { dropped = id; has_dropped = 1 }
 
 -- with the start of the request, if any
-abbrev pub with_request : Option ℕ → Reply → Reply
-with_request None r = r
-with_request (Some start) r = record r { start = start; request = 1 }
+abbrev pub with_request_start : Option ℕ → Reply → Reply
+with_request_start None r = r
+with_request_start (Some start) r = record r { start = start; request = 1 }
 
 -- with the number that a refusal has, if any
 abbrev pub with_refusal : Refusal → Reply → Reply
@@ -110,17 +110,25 @@ numbers_of RateSet = record blank { kind = 2 }
 numbers_of (Ticked now) = record blank { kind = 3; now = now }
 numbers_of (Accepted id dropped) = with_dropped dropped (record blank { kind = 4; id = id })
 numbers_of (Send exchange station tid air request more) =
-    record (with_request request (record blank { kind = 5 })) { exchange = exchange; station = station; tid = tid; air = air; more = flag_of more }
+    record (with_request_start request (record blank { kind = 5 })) {
+      exchange = exchange;
+      station = station;
+      tid = tid;
+      air = air;
+      more = flag_of more;
+    }
 numbers_of Released = record blank { kind = 6 }
 numbers_of (Ba start b0 b1 b2 b3 wide) = record blank { kind = 7 }
-numbers_of (Ended acked waiting failed) = record blank { kind = 8; acked = acked; waiting = waiting; failed = failed }
+numbers_of (Ended acked waiting failed) = record
+    blank { kind = 8; acked = acked; waiting = waiting; failed = failed }
 numbers_of Slept = record blank { kind = 9 }
 numbers_of Woken = record blank { kind = 10 }
 numbers_of (Credited class) = record blank { kind = 11; class = class_number class }
 numbers_of (Charged deficit) = record blank { kind = 12; deficit = deficit }
 numbers_of (Reaped id fate) = record blank { kind = 13; id = id; fate = fate_number fate }
-numbers_of (Refused reason) = with_refusal reason (record blank { kind = 14; refusal = refusal_number reason })
+numbers_of (Refused reason) = with_refusal reason
+    (record blank { kind = 14; refusal = refusal_number reason })
 
 -- whether a flag of the caller's is up: any number but 0
-abbrev pub is_set : ℕ → Bool
-is_set n = not (n == 0)
+abbrev pub is_up : ℕ → Bool
+is_up n = not (n == 0)

@@ -1,18 +1,25 @@
 -- Counts and airtime in structs of the caller's.
 use Rattle.std.specs.Prelude.{◌≡◌, ℕ}
 use Rattle.wf_frame.specs.declared.classes.Class.{Class}
-use Rattle.wf_world.specs.World.{World, share}
-use Rattle.wf_fate.specs.Tally.{Counts}
+use Rattle.wf_def_world.specs.World.{World, share}
+use Rattle.wf_send_stations.specs.Tally.{Counts}
 use Rattle.wf_c.specs.declared.readers.Share.{Share}
 use Rattle.wf_c.specs.declared.readers.Tally.{Tally}
 
 -- the code of a station that is not live: that refusal's number
-abbrev pub no_station : ℕ
-no_station = 11
+abbrev pub no_station_code : ℕ
+no_station_code = 11
 
 -- the counts that the caller's struct shows
 abbrev pub counts_shown : Tally → Counts
-counts_shown t = record { accepted = t.accepted; acked = t.acked; overlimit = t.overlimit; codel = t.codel; retries = t.retries; left = t.left }
+counts_shown t = record {
+  accepted = t.accepted;
+  acked = t.acked;
+  overlimit = t.overlimit;
+  codel = t.codel;
+  retries = t.retries;
+  left = t.left;
+}
 
 -- the caller's struct shows the airtime of station s in class c
 pub record ShowsShare (w : World) (s : ℕ) (c : Class) (shown : Share) : Type 0 where

@@ -8,7 +8,7 @@ ghost use Rattle.wf_frame.specs.declared.notes.Ask.TheVariants.{Join, Leave, Rat
 ghost use Rattle.wf_path.specs.Jobs.{IsHeard};
 ghost use Rattle.wf_path.specs.declared.job.Job.TheVariants.{Call};
 ghost use Rattle.wf_c.specs.Calls.{Becomes, HoldsSmall, IsCalled};
-ghost use Rattle.wf_c.specs.Numbers.{is_set};
+ghost use Rattle.wf_c.specs.Numbers.{is_up};
 ghost use Rattle.wf_c.specs.Pulled.{ShowsAggregate};
 
 use crate::pulled::Frames;
@@ -59,7 +59,8 @@ pub extern "C" fn wf_path_join(
 ) -> i32
     requires open { is_some path.old.value ≡ true }
     requires small { HoldsSmall path.old.value }
-    ensures called { Becomes (λ h k. IsCalled h (Join station window start exponent weight) k reply.new) path.old.value path.new.value }
+    ensures called { Becomes (λ h k. IsCalled h
+        (Join station window start exponent weight) k reply.new) path.old.value path.new.value }
     ensures code { result ≡ pos reply.new.refusal }
 {
     let ask = Ask::Join {
@@ -101,7 +102,8 @@ pub extern "C" fn wf_path_rate(
 ) -> i32
     requires open { is_some path.old.value ≡ true }
     requires small { HoldsSmall path.old.value }
-    ensures called { Becomes (λ h k. IsCalled h (Rate station mcs mhz (is_set short)) k reply.new) path.old.value path.new.value }
+    ensures called { Becomes (λ h k. IsCalled h
+        (Rate station mcs mhz (is_up short)) k reply.new) path.old.value path.new.value }
     ensures code { result ≡ pos reply.new.refusal }
 {
     let ask = Ask::Rate {
@@ -189,7 +191,8 @@ pub extern "C" fn wf_path_receive(
 ) -> i32
     requires open { is_some path.old.value ≡ true }
     requires small { HoldsSmall path.old.value }
-    ensures called { Becomes (λ h k. IsCalled h (Rx station (class_among all_classes class) air) k reply.new) path.old.value path.new.value }
+    ensures called { Becomes (λ h k. IsCalled h
+        (Rx station (class_among all_classes class) air) k reply.new) path.old.value path.new.value }
     ensures code { result ≡ pos reply.new.refusal }
 {
     let ask = Ask::Rx {
@@ -200,7 +203,8 @@ pub extern "C" fn wf_path_receive(
     path.ask(alloc, ask, reply)
 }
 
-/// The driver asks for the next exchange of a class. Where it sends an aggregate, `frames` has its frames, and else none.
+/// The driver asks for the next exchange of a class. Where it sends an aggregate, `frames` has its frames,
+/// and else none.
 #[unsafe(no_mangle)]
 pub extern "C" fn wf_path_pull(
     alloc: Global,
@@ -211,7 +215,8 @@ pub extern "C" fn wf_path_pull(
 ) -> i32
     requires open { is_some path.old.value ≡ true }
     requires small { HoldsSmall path.old.value }
-    ensures called { Becomes (λ h k. IsCalled h (Pull (class_among all_classes class)) k reply.new) path.old.value path.new.value }
+    ensures called { Becomes (λ h k. IsCalled h
+        (Pull (class_among all_classes class)) k reply.new) path.old.value path.new.value }
     ensures frames { IfSome path.new.value (λ k. ShowsAggregate frames.new k.answer.brief k.answer.pairs) }
     ensures code { result ≡ pos reply.new.refusal }
 {

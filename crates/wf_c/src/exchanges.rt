@@ -1,26 +1,27 @@
 //! An open exchange: what it sends, and how it ends.
 
-ghost use Rattle.std.specs.Prelude.{◌≡◌, ◌⊎◌, ℕ, ◌%◌, true, is_some, pos, Option, Some, None, option_map, take, drop, length, IfOk, IfErr, OnErr};
+ghost use Rattle.std.specs.Prelude.{◌≡◌, ◌⊎◌, ℕ, ◌%◌, true, is_some, pos, Option, Some, None, option_map, take, drop, length, IfOk, OnErr};
 ghost use Rattle.wf_frame.specs.Frames.{FrameValue};
-ghost use Rattle.wf_world.specs.World.{World, exchange as exchange_in};
-ghost use Rattle.wf_bits.specs.Offsets.{offsets_in};
-ghost use Rattle.wf_transmit_refines.specs.Standing.{StandsFor};
-ghost use Rattle.wf_transmissions.specs.Answers.{done_fault_of, block_ack_in};
-ghost use Rattle.wf_transmissions.specs.Transmissions.{sent_of, id_sent, octets_sent};
-ghost use Rattle.wf_transmissions.specs.Writing.{write_fault};
+ghost use Rattle.wf_def_world.specs.World.{World, exchange as exchange_in};
+ghost use Rattle.wf_octets_bits.specs.Offsets.{offsets_in};
+ghost use Rattle.wf_send_half_refines.specs.Standing.{StandsFor};
+ghost use Rattle.std.specs.Result.{result_err};
+ghost use Rattle.wf_path.specs.Answers.{block_ack_in};
+ghost use Rattle.wf_path.specs.Transmissions.{sent_of, id_sent, octets_sent};
+ghost use Rattle.wf_path.specs.Writing.{write_fault};
 ghost use Rattle.wf_path.specs.Driver.{end_fault};
 ghost use Rattle.wf_path.specs.Paths.{IsSmall};
 ghost use Rattle.wf_c.specs.Calls.{Becomes, HoldsFor, HoldsSmall};
-ghost use Rattle.wf_c.specs.Ends.{IsDone, end_code, id_code, needs, sent_code, sent_shown, write_code};
+ghost use Rattle.wf_c.specs.Ends.{IsExchangeEnded, end_code, id_code, needs, sent_code, sent_shown, write_code};
 
 use crate::held::Held;
 use crate::reply::Reply;
 use crate::slot::PathSlot;
 use std::alloc::Global;
-use wf_bits::Bits256;
-use wf_blockack::BlockFault;
+use wf_octets_bits::Bits256;
+use wf_octets_block::BlockFault;
+use wf_octets_seq12::Seq12;
 use wf_path::{DoneFault, PathFault};
-use wf_seq12::Seq12;
 
 /// No such exchange, and no such transmission.
 const NO_EXCHANGE: i32 = 12;
@@ -50,8 +51,10 @@ pub extern "C" fn wf_path_sent(
     sent: &mut Sent,
 ) -> i32
     requires open { is_some path.old.value ≡ true }
-    ensures code { (w : World) (bodies : ℕ → FrameValue) → HoldsFor path.old.value w bodies → result ≡ pos (sent_code (exchange_in w exchange)) }
-    ensures shown { (w : World) (bodies : ℕ → FrameValue) → HoldsFor path.old.value w bodies → result ≡ pos 0 → option_map sent_of (exchange_in w exchange) ≡ Some (sent_shown sent.new) }
+    ensures code { (w : World) (bodies : ℕ → FrameValue) → HoldsFor path.old.value w bodies →
+        result ≡ pos (sent_code (exchange_in w exchange)) }
+    ensures shown { (w : World) (bodies : ℕ → FrameValue) → HoldsFor path.old.value w bodies →
+        result ≡ pos 0 → option_map sent_of (exchange_in w exchange) ≡ Some (sent_shown sent.new) }
     ensures unchanged { path.new.value ≡ path.old.value }
 {
     let held = path.take(alloc);
@@ -71,8 +74,8 @@ pub extern "C" fn wf_path_sent(
     }
 }
 
-/// Writes the id of the frame of a transmission, and gives 0; gives 9 where the exchange is not open, is a request, or has no
-/// transmission of that index.
+/// Writes the id of the frame of a transmission, and gives 0; gives 9 where the exchange is not open, is a
+/// request, or has no transmission of that index.
 #[unsafe(no_mangle)]
 pub extern "C" fn wf_path_frame_id(
     alloc: Global,
@@ -82,8 +85,10 @@ pub extern "C" fn wf_path_frame_id(
     id: &mut u64,
 ) -> i32
     requires open { is_some path.old.value ≡ true }
-    ensures code { (w : World) (bodies : ℕ → FrameValue) → HoldsFor path.old.value w bodies → result ≡ pos (id_code (id_sent w exchange index)) }
-    ensures shown { (w : World) (bodies : ℕ → FrameValue) → HoldsFor path.old.value w bodies → result ≡ pos 0 → id_sent w exchange index ≡ Some id.new }
+    ensures code { (w : World) (bodies : ℕ → FrameValue) → HoldsFor path.old.value w bodies →
+        result ≡ pos (id_code (id_sent w exchange index)) }
+    ensures shown { (w : World) (bodies : ℕ → FrameValue) → HoldsFor path.old.value w bodies →
+        result ≡ pos 0 → id_sent w exchange index ≡ Some id.new }
     ensures unchanged { path.new.value ≡ path.old.value }
 {
     let held = path.take(alloc);
@@ -98,8 +103,9 @@ pub extern "C" fn wf_path_frame_id(
     }
 }
 
-/// Writes the octets of one transmission, and how many they are, and gives 0; gives 12, 9 or 42 where there is no such exchange,
-/// no such transmission, or too little room: then `out` is as it was, and with 42 `size` says how much room is needed.
+/// Writes the octets of one transmission, and how many they are, and gives 0; gives 12, 9 or 42 where there
+/// is no such exchange, no such transmission, or too little room: then `out` is as it was, and with 42 `size`
+/// says how much room is needed.
 #[unsafe(no_mangle)]
 pub extern "C" fn wf_path_mpdu(
     alloc: Global,
@@ -112,11 +118,13 @@ pub extern "C" fn wf_path_mpdu(
     requires open { is_some path.old.value ≡ true }
     ensures code { (w : World) (bodies : ℕ → FrameValue) → HoldsFor path.old.value w bodies →
         result ≡ pos (write_code (write_fault w bodies exchange index (length out.old))) }
-    ensures octets { (w : World) (bodies : ℕ → FrameValue) → HoldsFor path.old.value w bodies → result ≡ pos 0 →
+    ensures octets { (w : World) (bodies : ℕ → FrameValue) → HoldsFor path.old.value w bodies →
+        result ≡ pos 0 →
         octets_sent w bodies exchange index ≡ Some (take size.new out.new) }
     ensures rest { result ≡ pos 0 → drop size.new out.new ≡ drop size.new out.old }
     ensures fault { (result ≡ pos 0) ⊎ (out.new ≡ out.old) }
-    ensures need { (w : World) (bodies : ℕ → FrameValue) → HoldsFor path.old.value w bodies → needs (write_fault w bodies exchange index (length out.old)) size.new }
+    ensures need { (w : World) (bodies : ℕ → FrameValue) → HoldsFor path.old.value w bodies →
+        needs (write_fault w bodies exchange index (length out.old)) size.new }
     ensures unchanged { path.new.value ≡ path.old.value }
 {
     let held = path.take(alloc);
@@ -143,7 +151,7 @@ impl Held {
     // An exchange ends.
     fn end(&mut self, exchange: u64, heard: Option<(Seq12, Bits256)>) -> Reply
         requires small { IsSmall self.old.path }
-        ensures { IsDone self.old exchange heard self.new result }
+        ensures { IsExchangeEnded self.old exchange heard self.new result }
     {
         self.answer.brief = self.path.done_bits(exchange, heard);
         Reply::of(self.answer.brief)
@@ -153,9 +161,10 @@ impl Held {
     fn end_by(&mut self, exchange: u64, octets: &[u8]) -> Result<Reply, DoneFault>
         requires small { IsSmall self.old.path }
         ensures fault { (w : World) (bodies : ℕ → FrameValue) → StandsFor self.old.path w bodies →
-            done_fault_of result ≡ end_fault w exchange (Some octets.now) }
+            result_err result ≡ end_fault w exchange (Some octets.now) }
         ensures unchanged { OnErr result (self.new.path ≡ self.old.path) }
-        ensures ended { IfOk result (λ shown. IsDone self.old exchange (Some (block_ack_in octets.now)) self.new shown) }
+        ensures ended { IfOk result (λ shown. IsExchangeEnded self.old exchange
+            (Some (block_ack_in octets.now)) self.new shown) }
     {
         self.answer.brief = self.path.done_bytes(exchange, Some(octets))?;
         Ok(Reply::of(self.answer.brief))
@@ -173,7 +182,7 @@ impl PathSlot {
     ) -> i32
         requires open { is_some self.old.value ≡ true }
         requires small { HoldsSmall self.old.value }
-        ensures ended { Becomes (λ h k. IsDone h exchange heard k reply.new) self.old.value self.new.value }
+        ensures ended { Becomes (λ h k. IsExchangeEnded h exchange heard k reply.new) self.old.value self.new.value }
         ensures code { result ≡ pos reply.new.refusal }
     {
         let mut held = self.take(alloc);
@@ -193,7 +202,7 @@ pub extern "C" fn wf_path_done_lost(
 ) -> i32
     requires open { is_some path.old.value ≡ true }
     requires small { HoldsSmall path.old.value }
-    ensures ended { Becomes (λ h k. IsDone h exchange None k reply.new) path.old.value path.new.value }
+    ensures ended { Becomes (λ h k. IsExchangeEnded h exchange None k reply.new) path.old.value path.new.value }
     ensures code { result ≡ pos reply.new.refusal }
 {
     path.end_exchange(alloc, exchange, None, reply)
@@ -211,15 +220,16 @@ pub extern "C" fn wf_path_done_bits(
 ) -> i32
     requires open { is_some path.old.value ≡ true }
     requires small { HoldsSmall path.old.value }
-    ensures ended { Becomes (λ h k. IsDone h exchange (Some (start % 4096, offsets_in bits.now)) k reply.new) path.old.value path.new.value }
+    ensures ended { Becomes (λ h k. IsExchangeEnded h exchange
+        (Some (start % 4096, offsets_in bits.now)) k reply.new) path.old.value path.new.value }
     ensures code { result ≡ pos reply.new.refusal }
 {
     let heard = (Seq12::of(u64::from(start)), Bits256::of_octets(*bits));
     path.end_exchange(alloc, exchange, Some(heard), reply)
 }
 
-/// An exchange ends, and the octets of a BlockAck were heard. Gives 0, or why they are none to this exchange, which then is open
-/// still; then `reply` is as it was.
+/// An exchange ends, and the octets of a BlockAck were heard. Gives 0, or why they are none to this exchange,
+/// which then is open still; then `reply` is as it was.
 #[unsafe(no_mangle)]
 pub extern "C" fn wf_path_done_octets(
     alloc: Global,
@@ -230,8 +240,11 @@ pub extern "C" fn wf_path_done_octets(
 ) -> i32
     requires open { is_some path.old.value ≡ true }
     requires small { HoldsSmall path.old.value }
-    ensures code { (w : World) (bodies : ℕ → FrameValue) → HoldsFor path.old.value w bodies → result ≡ pos (end_code (end_fault w exchange (Some octets.now))) }
-    ensures ended { (result ≡ pos 0 → Becomes (λ h k. IsDone h exchange (Some (block_ack_in octets.now)) k reply.new) path.old.value path.new.value) }
+    ensures code { (w : World) (bodies : ℕ → FrameValue) → HoldsFor path.old.value w bodies →
+        result ≡ pos (end_code (end_fault w exchange (Some octets.now))) }
+    ensures ended { (result ≡ pos 0 → Becomes
+        (λ h k. IsExchangeEnded h exchange (Some
+        (block_ack_in octets.now)) k reply.new) path.old.value path.new.value) }
     ensures fault { (result ≡ pos 0) ⊎ Becomes (λ h k. k.path ≡ h.path) path.old.value path.new.value }
 {
     let mut held = path.take(alloc);

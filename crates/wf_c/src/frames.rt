@@ -2,18 +2,18 @@
 
 ghost use Rattle.std.specs.Prelude.{◌≡◌, ◌⊎◌, ◌≤◌, true, is_some, pos, take, length, IfOk, IfSome};
 ghost use Rattle.wf_frame.specs.Frames.{new_frame};
-ghost use Rattle.wf_rules.specs.Lengths.{greatest_body};
+ghost use Rattle.wf_def_lists.specs.Lengths.{greatest_body};
 ghost use Rattle.wf_path.specs.Paths.{IsSmall};
 ghost use Rattle.wf_c.specs.Calls.{Becomes, HoldsSmall};
-ghost use Rattle.wf_c.specs.Bodies.{IsGiven, IsReaped, ShowsFrame};
+ghost use Rattle.wf_c.specs.Bodies.{IsGivenToC, IsReapedFromC, ShowsFrame};
 
 use crate::held::Held;
 use crate::reply::Reply;
 use crate::slot::PathSlot;
 use std::alloc::{AllocError, Global};
-use wf_chain::Parcel;
 use wf_frame::{Ask, Frame};
 use wf_path::Job;
+use wf_queue_chain::Parcel;
 
 /// Why no frame was made.
 #[derive(Clone, Copy)]
@@ -54,7 +54,7 @@ impl Held {
     // A frame comes in. Where it is refused it is freed.
     fn give(&mut self, parcel: Parcel) -> Reply
         requires small { IsSmall self.old.path }
-        ensures { IsGiven self.old parcel self.new result }
+        ensures { IsGivenToC self.old parcel self.new result }
     {
         let _ = self.path.call(Job::Give(parcel), &mut self.answer);
         Reply::of(self.answer.brief)
@@ -66,7 +66,7 @@ impl Held {
     fn reap(&mut self, taken: &mut Taken, body: &mut [u8]) -> Reply
         requires small { IsSmall self.old.path }
         requires room { greatest_body ≤ length body.old }
-        ensures { IsReaped self.old self.new result taken.new body.new }
+        ensures { IsReapedFromC self.old self.new result taken.new body.new }
     {
         let back = self.path.call(Job::Call(Ask::Reap), &mut self.answer);
         show_back(back, taken, body);
@@ -138,7 +138,8 @@ pub extern "C" fn wf_path_enqueue(
 ) -> i32
     requires open { is_some path.old.value ≡ true }
     requires small { HoldsSmall path.old.value }
-    ensures given { Becomes (λ h k. IsGiven h (new_frame station tid flow body.now) k reply.new × (result ≡ pos reply.new.refusal)) path.old.value path.new.value
+    ensures given { Becomes (λ h k. IsGivenToC h (new_frame station tid flow body.now) k reply.new ×
+        (result ≡ pos reply.new.refusal)) path.old.value path.new.value
         ⊎ ((path.new.value ≡ path.old.value) × ((result ≡ pos 40) ⊎ (result ≡ pos 41))) }
 {
     match frame_of(alloc, station, tid, flow, body) {
@@ -165,7 +166,7 @@ pub extern "C" fn wf_path_reap(
     requires open { is_some path.old.value ≡ true }
     requires small { HoldsSmall path.old.value }
     requires room { greatest_body ≤ length body.old }
-    ensures reaped { Becomes (λ h k. IsReaped h k reply.new taken.new body.new) path.old.value path.new.value }
+    ensures reaped { Becomes (λ h k. IsReapedFromC h k reply.new taken.new body.new) path.old.value path.new.value }
     ensures code { result ≡ pos reply.new.refusal }
 {
     let mut held = path.take(alloc);

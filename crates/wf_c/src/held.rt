@@ -2,8 +2,8 @@
 
 ghost use Rattle.std.specs.Prelude.{◌≡◌, ℕ, IfSome};
 ghost use Rattle.wf_frame.specs.Frames.{FrameValue};
-ghost use Rattle.wf_world.specs.World.{opening};
-ghost use Rattle.wf_transmit_refines.specs.Standing.{StandsFor};
+ghost use Rattle.wf_def_world.specs.World.{opening};
+ghost use Rattle.wf_send_half_refines.specs.Standing.{StandsFor};
 ghost use Rattle.wf_path.specs.Jobs.{IsHeard};
 ghost use Rattle.wf_path.specs.Paths.{IsSmall};
 ghost use Rattle.wf_path.specs.declared.job.Job.TheVariants.{Call};
@@ -22,9 +22,11 @@ pub struct Held {
 }
 
 impl Held {
-    // A path of these settings, in a block of its own. None where a setting is out of its range, or there is no memory.
+    // A path of these settings, in a block of its own. None where a setting is out of its range, or there is
+    // no memory.
     pub(crate) fn made(alloc: Global, config: Config) -> Option<Box<Held, Global>>
-        ensures stands { IfSome result (λ made. (bodies : ℕ → FrameValue) → StandsFor made.value.path (opening config) bodies) }
+        ensures stands { IfSome result (λ made. (bodies : ℕ → FrameValue) →
+            StandsFor made.value.path (opening config) bodies) }
         ensures small { IfSome result (λ made. IsSmall made.value.path) }
     {
         match Path::new(alloc, config) {

@@ -1,8 +1,10 @@
-//! The transmit path for drivers and simulators in C and C++, and the cell for test benches: `include/wf.h` is the header.
+//! The transmit path as a static library for drivers and simulators in C and C++, and the cell for test
+//! benches: `include/wf.h` is the header. Exports go over a handle of the caller's, `PathSlot` or `CellSlot`:
+//! a struct that is empty or owns a boxed path, or a boxed cell.
 //!
-//! A handle, `PathSlot`, is a struct of the caller's that is empty or holds a path; a `CellSlot` is one that is empty or holds a
-//! cell. Each export but `wf_path_make` and `wf_cell_make` asks that it holds one; a C program has to see to that, and to the other
-//! conditions that a `requires` says.
+//! Each export but `wf_path_make` and `wf_cell_make` asks that the handle holds one, and repeats the clauses
+//! of the call that it makes; what C must uphold stands in its `requires` and in the header. A call of a cell
+//! without a frame is a struct of numbers, and so is an entry of its history.
 #![tactic(auto)]
 
 mod asks;
@@ -16,7 +18,6 @@ mod readers;
 mod reply;
 mod settings;
 mod slot;
-mod unboxed;
 
 pub use asks::{
     wf_path_join, wf_path_leave, wf_path_poll, wf_path_pull, wf_path_rate, wf_path_receive,

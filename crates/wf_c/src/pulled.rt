@@ -1,6 +1,6 @@
 //! The frames of an aggregate, in a struct of the caller's.
 
-ghost use Rattle.std.specs.Prelude.{◌≡◌, ◌<◌, ℕ, length};
+ghost use Rattle.std.specs.Prelude.{◌<◌, ℕ};
 ghost use Rattle.wf_c.specs.Pulled.{ShowsPair, ShowsPairs, ShowsAggregate};
 
 use wf_frame::{Answer, Brief, Pairs};

@@ -1,14 +1,14 @@
 //! What a path tells without a call of the machine.
 
-ghost use Rattle.std.specs.Prelude.{◌≡◌, ℕ, true, is_some, pos, length, take, drop, IfSome, IsNone, if◌then◌else◌};
+ghost use Rattle.std.specs.Prelude.{◌≡◌, ℕ, true, is_some, pos, length, take, drop, IfSome, if◌then◌else◌};
 ghost use Rattle.wf_frame.specs.Classes.{all_classes, class_among};
 ghost use Rattle.wf_frame.specs.Frames.{FrameValue};
-ghost use Rattle.wf_world.specs.Text.{traffic_map, with_traffic};
-ghost use Rattle.wf_world.specs.World.{World, is_live};
-ghost use Rattle.wf_transmit_refines.specs.Standing.{StandsFor, counts_in};
+ghost use Rattle.wf_def_world.specs.Text.{traffic_map, with_traffic};
+ghost use Rattle.wf_def_world.specs.World.{World, is_live};
+ghost use Rattle.wf_send_half_refines.specs.Standing.{StandsFor, counts_in};
 ghost use Rattle.wf_c.specs.Calls.{HoldsFor};
 ghost use Rattle.wf_c.specs.Numbers.{flag_of};
-ghost use Rattle.wf_c.specs.Shares.{ShowsShare, counts_shown, no_station};
+ghost use Rattle.wf_c.specs.Shares.{ShowsShare, counts_shown, no_station_code};
 
 use crate::asks::class_of_number;
 use crate::held::Held;
@@ -53,7 +53,8 @@ pub struct Share {
 #[unsafe(no_mangle)]
 pub extern "C" fn wf_path_now(alloc: Global, path: &mut PathSlot) -> u64
     requires open { is_some path.old.value ≡ true }
-    ensures world { (w : World) (bodies : ℕ → FrameValue) → HoldsFor path.old.value w bodies → result ≡ w.clock }
+    ensures world { (w : World) (bodies : ℕ → FrameValue) → HoldsFor path.old.value w bodies →
+        result ≡ w.clock }
     ensures unchanged { path.new.value ≡ path.old.value }
 {
     let held = path.take(alloc);
@@ -66,7 +67,8 @@ pub extern "C" fn wf_path_now(alloc: Global, path: &mut PathSlot) -> u64
 #[unsafe(no_mangle)]
 pub extern "C" fn wf_path_exchanges(alloc: Global, path: &mut PathSlot) -> u64
     requires open { is_some path.old.value ≡ true }
-    ensures world { (w : World) (bodies : ℕ → FrameValue) → HoldsFor path.old.value w bodies → result ≡ w.exchanges }
+    ensures world { (w : World) (bodies : ℕ → FrameValue) → HoldsFor path.old.value w bodies →
+        result ≡ w.exchanges }
     ensures unchanged { path.new.value ≡ path.old.value }
 {
     let held = path.take(alloc);
@@ -79,7 +81,8 @@ pub extern "C" fn wf_path_exchanges(alloc: Global, path: &mut PathSlot) -> u64
 #[unsafe(no_mangle)]
 pub extern "C" fn wf_path_open_count(alloc: Global, path: &mut PathSlot) -> u32
     requires open { is_some path.old.value ≡ true }
-    ensures world { (w : World) (bodies : ℕ → FrameValue) → HoldsFor path.old.value w bodies → result ≡ length w.opened }
+    ensures world { (w : World) (bodies : ℕ → FrameValue) → HoldsFor path.old.value w bodies →
+        result ≡ length w.opened }
     ensures unchanged { path.new.value ≡ path.old.value }
 {
     let held = path.take(alloc);
@@ -92,7 +95,8 @@ pub extern "C" fn wf_path_open_count(alloc: Global, path: &mut PathSlot) -> u32
 #[unsafe(no_mangle)]
 pub extern "C" fn wf_path_live(alloc: Global, path: &mut PathSlot, station: u16) -> i32
     requires open { is_some path.old.value ≡ true }
-    ensures world { (w : World) (bodies : ℕ → FrameValue) → HoldsFor path.old.value w bodies → result ≡ pos (flag_of (is_live w station)) }
+    ensures world { (w : World) (bodies : ℕ → FrameValue) → HoldsFor path.old.value w bodies →
+        result ≡ pos (flag_of (is_live w station)) }
     ensures unchanged { path.new.value ≡ path.old.value }
 {
     let held = path.take(alloc);
@@ -105,7 +109,8 @@ pub extern "C" fn wf_path_live(alloc: Global, path: &mut PathSlot, station: u16)
 #[unsafe(no_mangle)]
 pub extern "C" fn wf_path_tally(alloc: Global, path: &mut PathSlot, tally: &mut Tally)
     requires open { is_some path.old.value ≡ true }
-    ensures world { (w : World) (bodies : ℕ → FrameValue) → HoldsFor path.old.value w bodies → counts_shown tally.new ≡ counts_in w }
+    ensures world { (w : World) (bodies : ℕ → FrameValue) → HoldsFor path.old.value w bodies →
+        counts_shown tally.new ≡ counts_in w }
     ensures unchanged { path.new.value ≡ path.old.value }
 {
     let held = path.take(alloc);
@@ -124,8 +129,10 @@ pub extern "C" fn wf_path_tally(alloc: Global, path: &mut PathSlot, tally: &mut 
 impl Held {
     // The airtime of a station in a class. None where the station is not live.
     fn share(&self, station: u16, class: Class) -> Option<Share>
-        ensures live { (w : World) (bodies : ℕ → FrameValue) → StandsFor self.now.path w bodies → is_some result ≡ is_live w station }
-        ensures shown { IfSome result (λ shown. (w : World) (bodies : ℕ → FrameValue) → StandsFor self.now.path w bodies → ShowsShare w station class shown) }
+        ensures live { (w : World) (bodies : ℕ → FrameValue) → StandsFor self.now.path w bodies →
+            is_some result ≡ is_live w station }
+        ensures shown { IfSome result (λ shown. (w : World) (bodies : ℕ → FrameValue) →
+            StandsFor self.now.path w bodies → ShowsShare w station class shown) }
     {
         if !self.path.live(station) {
             return None;
@@ -149,8 +156,9 @@ pub extern "C" fn wf_path_share(
 ) -> i32
     requires open { is_some path.old.value ≡ true }
     ensures code { (w : World) (bodies : ℕ → FrameValue) → HoldsFor path.old.value w bodies →
-        result ≡ pos (if is_live w station then 0 else no_station) }
-    ensures shown { (w : World) (bodies : ℕ → FrameValue) → HoldsFor path.old.value w bodies → is_live w station ≡ true →
+        result ≡ pos (if is_live w station then 0 else no_station_code) }
+    ensures shown { (w : World) (bodies : ℕ → FrameValue) → HoldsFor path.old.value w bodies →
+        is_live w station ≡ true →
         ShowsShare w station (class_among all_classes class) share.new }
     ensures unchanged { path.new.value ≡ path.old.value }
 {
@@ -170,7 +178,8 @@ pub extern "C" fn wf_path_share(
 #[unsafe(no_mangle)]
 pub extern "C" fn wf_path_tim(alloc: Global, path: &mut PathSlot, out: &mut [u8; 256]) -> usize
     requires open { is_some path.old.value ≡ true }
-    ensures octets { (w : World) (bodies : ℕ → FrameValue) → HoldsFor path.old.value w bodies → take result out.new ≡ traffic_map (with_traffic w) }
+    ensures octets { (w : World) (bodies : ℕ → FrameValue) → HoldsFor path.old.value w bodies →
+        take result out.new ≡ traffic_map (with_traffic w) }
     ensures rest { drop result out.new ≡ drop result out.old }
     ensures unchanged { path.new.value ≡ path.old.value }
 {

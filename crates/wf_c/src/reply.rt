@@ -2,7 +2,7 @@
 
 ghost use Rattle.std.specs.Prelude.{◌≡◌};
 ghost use Rattle.wf_frame.specs.Classes.{class_number};
-ghost use Rattle.wf_c.specs.Numbers.{blank, numbers_of, refusal_number, with_refusal, fate_number, with_dropped, with_request, flag_of};
+ghost use Rattle.wf_c.specs.Numbers.{blank, numbers_of, refusal_number, with_refusal, fate_number, with_dropped, with_request_start};
 
 use wf_frame::{Brief, Cause, Class, Fate, Refusal};
 
@@ -161,7 +161,7 @@ fn accepted(id: u64, dropped: Option<u64>) -> Reply
 
 // An exchange is to be sent, and maybe its BlockAckReq.
 fn requested(request: Option<u16>) -> Reply
-    ensures { result ≡ with_request request (record blank { kind = 5 }) }
+    ensures { result ≡ with_request_start request (record blank { kind = 5 }) }
 {
     match request {
         Some(start) => Reply {
@@ -236,12 +236,7 @@ pub(crate) fn number_of_refusal(refusal: Refusal) -> u8
 pub(crate) fn number_of_class(class: Class) -> u8
     ensures { result ≡ class_number class }
 {
-    match class {
-        Class::Bk => 0,
-        Class::Be => 1,
-        Class::Vi => 2,
-        Class::Vo => 3,
-    }
+    class.number() as u8
 }
 
 // The number of a fate: 0 to 5.

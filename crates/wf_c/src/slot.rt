@@ -5,10 +5,10 @@ ghost use Rattle.wf_c.specs.Slots.{slot_owns};
 ghost use Rattle.wf_c.specs.declared.held.Held.{Held as HeldValue};
 
 use crate::held::Held;
-use crate::unboxed::Unboxed;
 use std::alloc::Global;
 use std::marker::Model;
 use std::mem::replace;
+use wf_queue_chain::Unboxed;
 
 /// A path's handle: the caller's own struct, which is empty or holds a path.
 #[repr(C)]

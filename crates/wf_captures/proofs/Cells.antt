@@ -1,27 +1,24 @@
 -- A cell whose frames are samples: a new one, one after a call, and what its path says.
-use Rattle.std.proofs.Common.{◌≡◌, refl, ap, ap₂, sym, ◌∙◌, subst, ℕ, ◌+◌, ◌-◌, ◌*◌, ◌^◌, ◌<◌, ◌≤◌, List, [], ◌∷◌, ◌++◌, length, Option, Some, None, arith, length-append}
+use Rattle.std.proofs.Common.{◌≡◌, refl, ap, ap₂, sym, ◌∙◌, subst, ℕ, ◌+◌, ◌-◌, ◌<◌, List, [], ◌∷◌, ◌++◌, length, Option, Some, None, arith, length-append}
 use Rattle.std.specs.Prelude.{slice_get, option_map, IfSome}
 use Rattle.wf_frame.specs.Frames.{FrameValue, new_frame}
-use Rattle.wf_frame.specs.Settings.{IsInRange}
 use Rattle.wf_frame.specs.declared.notes.Note.{Note}
 use Rattle.wf_frame.specs.declared.notes.ReplyNote.{ReplyNote}
 use Rattle.wf_frame.specs.declared.settings.Config.{Config}
-use Rattle.wf_world.specs.World.{World, exchange, opening}
-use Rattle.wf_world.specs.Run.{Entry, Past, by, world_of}
-use Rattle.wf_world.specs.Step.{step}
-use Rattle.wf_transmit_refines.specs.Half.{TransmitValue}
-use Rattle.wf_transmit_refines.specs.Standing.{StandsFor, IsReached}
-use Rattle.wf_transmissions.specs.declared.reading.Sent.{Sent}
-use Rattle.wf_transmissions.specs.Transmissions.{sent_of}
+use Rattle.wf_def_world.specs.World.{World, exchange, opening}
+use Rattle.wf_def_world.specs.Run.{Entry, Past, by, world_of}
+use Rattle.wf_def_world.specs.Step.{step}
+use Rattle.wf_send_half_refines.specs.Standing.{StandsFor, IsReached}
+use Rattle.wf_path.specs.declared.reading.Sent.{Sent}
+use Rattle.wf_path.specs.Transmissions.{sent_of}
 use Rattle.wf_path.specs.declared.job.Job.{Job}
 use Rattle.wf_path.specs.Jobs.{frame_of, bodies_after}
 use Rattle.wf_cell.specs.Cells.{CellValue, with_entry}
 use Rattle.wf_cell.proofs.Exchanges.{told_tid}
-use Rattle.wf_cell.proofs.Runs.{world_then, config_after, opening_is}
-use Rattle.wf_captures.specs.Packets.{frames_by, packets_at, octets_of}
+use Rattle.wf_cell.proofs.Runs.{world_then, opening_is}
+use Rattle.wf_captures.specs.Packets.{frames_by, packets_at, octets_of_packets}
 use Rattle.wf_captures.specs.Captures.{samples, packets_of}
-use Rattle.wf_captures.specs.Samples.{world_in, IsSample, IsSampled}
-use Rattle.wf_captures.proofs.Listed.{time_after}
+use Rattle.wf_captures.specs.Samples.{world_behind, IsSample, IsSampled}
 use Rattle.wf_captures.proofs.Sampled.{no_sample, after_sample}
 
 abbrev no_frames : ℕ → FrameValue
@@ -29,18 +26,22 @@ no_frames id = new_frame 0 0 0 []
 
 -- ---- for callers: a new cell has such frames alone, and so has one after a call of a trace
 
-pub new_is : (c : CellValue) (config : Config) → c.past ≡ record { config = config; history = [] } → world_in c ≡ opening config
+pub new_is : (c : CellValue) (config : Config) → c.past ≡ record { config = config; history = [] } →
+    world_behind c ≡ opening config
 new_is c config is = ap world_of is ∙ opening_is config
 
-pub new_sampled : (c : CellValue) (config : Config) → c.past ≡ record { config = config; history = [] } → ((bodies : ℕ → FrameValue) → StandsFor c.half (opening config) bodies) → IsSampled c
+pub new_sampled : (c : CellValue) (config : Config) → c.past ≡ record { config = config; history = [] } →
+    ((bodies : ℕ → FrameValue) → StandsFor c.half (opening config) bodies) → IsSampled c
 new_sampled c config is stands = record {
   bodies = no_frames;
   stands = subst (λ (w : World). StandsFor c.half w no_frames) (sym (new_is c config is)) (stands no_frames);
   samples = λ id. no_sample;
 }
 
-pub then_sampled : (old new : CellValue) (job : Job) (answered : ReplyNote) → IsSampled old → ((f : FrameValue) → frame_of job ≡ Some f → IsSample f) →
-    ((bodies : ℕ → FrameValue) → StandsFor old.half (world_of old.past) bodies → StandsFor new.half (world_of new.past) (bodies_after old.half job answered bodies)) → IsSampled new
+pub then_sampled : (old new : CellValue) (job : Job) (answered : ReplyNote) → IsSampled old →
+    ((f : FrameValue) → frame_of job ≡ Some f → IsSample f) →
+    ((bodies : ℕ → FrameValue) → StandsFor old.half (world_of old.past) bodies →
+    StandsFor new.half (world_of new.past) (bodies_after old.half job answered bodies)) → IsSampled new
 then_sampled old new job answered s brought stands = record {
   bodies = bodies_after old.half job answered s.bodies;
   stands = stands s.bodies s.stands;
@@ -51,16 +52,10 @@ then_sampled old new job answered s brought stands = record {
 pub world_is : (p q : Past) (e : Entry) → q ≡ with_entry e p → world_of q ≡ (step (world_of p) e.1).world
 world_is p q e is = ap world_of is ∙ world_then p.history (opening p.config) e
 
--- ---- the clock is one that a packet can have
-
-pub clock_small : (v : TransmitValue) (p : Past) (bodies : ℕ → FrameValue) → StandsFor v (world_of p) bodies → length p.history ≤ p.config.calls → (world_of p).clock < 2 ^ 32 * 1000000
-clock_small v p bodies stands few =
-    let range : IsInRange p.config = subst IsInRange (config_after p.history (opening p.config)) stands.reached.in_range in
-    time_after p.config p.history range few
-
 -- ---- what an exchange sends is of a TID below 8
 
-pub told_low : (w : World) (e : ℕ) → IsReached w → (o : Option Sent) → o ≡ option_map sent_of (exchange w e) → IfSome o (λ sent. sent.tid < 8)
+pub told_low : (w : World) (e : ℕ) → IsReached w → (o : Option Sent) → o ≡ option_map sent_of (exchange w e) →
+    IfSome o (λ sent. sent.tid < 8)
 told_low w e reached None is = tt
 told_low w e reached (Some sent) is = told_tid w e sent reached (sym is)
 
@@ -76,23 +71,32 @@ last_is : (h : List Entry) (e : Entry) → slice_get (h ++ e ∷ []) (length h) 
 last_is [] e = refl
 last_is (x ∷ h) e = last_is h e
 
-pub last_entry : (p q : Past) (e f : Entry) (count : ℕ) → q ≡ with_entry e p → count ≡ length q.history → slice_get q.history (count - 1) ≡ Some f → f ≡ e
+pub last_entry : (p q : Past) (e f : Entry) (count : ℕ) → q ≡ with_entry e p → count ≡ length q.history →
+    slice_get q.history (count - 1) ≡ Some f → f ≡ e
 last_entry p q e f count is long got =
     let at : count - 1 ≡ length p.history = omega (arith, one_more p q e is, long) in
     let same : Some f ≡ Some e =
-    sym got ∙ ap (λ k. slice_get q.history k) at ∙ ap (λ (x : Past). slice_get x.history (length p.history)) is ∙ last_is p.history e in
+    sym got ∙ ap (λ k. slice_get q.history k) at ∙ ap
+    (λ (x : Past). slice_get x.history (length p.history)) is ∙ last_is p.history e in
     cc
 
 -- ---- the packets of a call, by the world behind it
 
-packets_are : (c : CellValue) (p : Past) (caller : ℕ) (note : Note) (answered : ReplyNote) → c.past ≡ with_entry (by caller note) p → answered ≡ (step (world_of p) note).reply →
-    octets_of (packets_at (world_in c).clock (frames_by (world_in c) (samples (world_in c)) note answered)) ≡ packets_of (world_of p) note
+packets_are : (c : CellValue) (p : Past) (caller : ℕ) (note : Note) (answered : ReplyNote) →
+    c.past ≡ with_entry (by caller note) p → answered ≡ (step (world_of p) note).reply →
+    octets_of_packets (packets_at (world_behind c).clock
+    (frames_by (world_behind c) (samples (world_behind c)) note answered)) ≡ packets_of (world_of p) note
 packets_are c p caller note answered is reply =
-    ap₂ (λ (w : World) (a : ReplyNote). octets_of (packets_at w.clock (frames_by w (samples w) note a))) (world_is p c.past (by caller note) is) reply
+    ap₂ (λ (w : World) (a : ReplyNote). octets_of_packets
+    (packets_at w.clock (frames_by w (samples w) note a))) (world_is p c.past (by caller note) is) reply
 
-pub call_is : (c : CellValue) (p : Past) (caller : ℕ) (note told : Note) (answered : ReplyNote) → Some told ≡ Some note → c.past ≡ with_entry (by caller note) p →
+pub call_is : (c : CellValue) (p : Past) (caller : ℕ) (note told : Note) (answered : ReplyNote) →
+    Some told ≡ Some note → c.past ≡ with_entry (by caller note) p →
     answered ≡ (step (world_of p) note).reply →
-    octets_of (packets_at (world_in c).clock (frames_by (world_in c) (samples (world_in c)) told answered)) ≡ packets_of (world_of p) note
+    octets_of_packets (packets_at (world_behind c).clock
+    (frames_by (world_behind c) (samples (world_behind c)) told answered)) ≡ packets_of (world_of p) note
 call_is c p caller note told answered known is reply =
     let same : told ≡ note = cc in
-    ap (λ (n : Note). octets_of (packets_at (world_in c).clock (frames_by (world_in c) (samples (world_in c)) n answered))) same ∙ packets_are c p caller note answered is reply
+    ap (λ (n : Note). octets_of_packets (packets_at (world_behind c).clock
+    (frames_by (world_behind c) (samples (world_behind c)) n answered))) same
+    ∙ packets_are c p caller note answered is reply

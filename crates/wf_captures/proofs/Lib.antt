@@ -1,7 +1,7 @@
 pub mod Sampled
-pub mod SentPackets
+mod SentPackets
 pub mod Listed
-pub mod Acks
+mod Acks
 pub mod Cells
 pub mod Entries
-pub mod Answered
+mod Answered

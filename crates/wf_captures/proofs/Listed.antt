@@ -1,29 +1,25 @@
 -- The packets of a run are ones that a capture can have, so `frames` lists each of them.
-use Rattle.std.proofs.Common.{◌≡◌, refl, ap, subst, ℕ, ◌+◌, ◌*◌, ◌^◌, ◌<◌, ◌≤◌, Bool, true, false, List, [], ◌∷◌, ◌++◌, length, map, take, Option, Some, None, lit≤, arith, length-append}
+use Rattle.std.proofs.Common.{◌≡◌, refl, subst, ℕ, ◌+◌, ◌*◌, ◌^◌, ◌<◌, ◌≤◌, Bool, true, false, List, [], ◌∷◌, ◌++◌, length, map, Option, Some, None, lit≤, arith, length-append}
 use Rattle.std.specs.Prelude.{option_and_then}
-use Rattle.std.proofs.lemmas.List.{take_all}
 use Rattle.wf_frame.specs.Settings.{IsInRange}
 use Rattle.wf_frame.specs.declared.notes.Note.{Note}
 use Rattle.wf_frame.specs.declared.notes.Note.TheVariants.{Enqueue, Asked}
 use Rattle.wf_frame.specs.declared.notes.ReplyNote.{ReplyNote}
 use Rattle.wf_frame.specs.declared.notes.ReplyNote.TheVariants as reply
 use Rattle.wf_frame.specs.declared.settings.Config.{Config}
-use Rattle.wf_rules.specs.Lengths.{greatest_body}
-use Rattle.wf_frames_run.specs.Packets.{most_octets}
-use Rattle.wf_frames_run.specs.Law.{Sent, AreWritable, IsListed}
-use Rattle.wf_frames_run.proofs.Captures.{written_law}
-use Rattle.wf_header.specs.Layout.{octets_of}
-use Rattle.wf_world.specs.World.{World, Mpdu, Exchange, Content, Frames, Request, exchange, frame, len_of, opening}
-use Rattle.wf_world.specs.Run.{Entry, world_after}
-use Rattle.wf_world.specs.Step.{step}
-use Rattle.wf_world.specs.Stretches.{world_at}
-use Rattle.wf_laws.specs.Lengths.{HasLengths}
-use Rattle.wf_laws.specs.Queues.{IsAtMost, AreAtMost}
-use Rattle.wf_laws.specs.Sums.{AreSums}
-use Rattle.wf_laws.proofs.AllLaws.{laws}
-use Rattle.wf_laws.proofs.Sent.Lengths.{IsStocked, stocked}
-use Rattle.wf_transmissions.specs.Transmissions.{header_of, data_octets, octets_of_content}
-use Rattle.wf_cell.proofs.Runs.{world_then}
+use Rattle.wf_def_lists.specs.Lengths.{greatest_body}
+use Rattle.wf_run_frames.specs.Packets.{most_octets_read}
+use Rattle.wf_run_frames.specs.Law.{Sent, AreWritable, IsListed}
+use Rattle.wf_run_frames.proofs.Captures.{written_law}
+use Rattle.wf_octets_header.specs.Layout.{header_as_octets}
+use Rattle.wf_def_world.specs.World.{World, Mpdu, Exchange, Content, Frames, Request, exchange, frame, len_of, opening}
+use Rattle.wf_def_world.specs.Run.{Entry, world_after}
+use Rattle.wf_def_world.specs.Step.{step}
+use Rattle.wf_law_runs.specs.Lengths.{HasLengths}
+use Rattle.wf_law_runs.specs.Queues.{IsAtMost, AreAtMost}
+use Rattle.wf_law_runs.proofs.Sent.Lengths.{IsStocked, stocked}
+use Rattle.wf_path.specs.Transmissions.{header_of, data_octets, octets_of_content}
+use Rattle.wf_cell.proofs.Runs.{world_then, time_after}
 use Rattle.wf_captures.specs.Captures.{sample_of, samples, packets_by, packets_from, packets_in, capture_of}
 use Rattle.wf_captures.specs.Packets.{frames_sent, frames_by, block_acks, exchange_answered, packets_at}
 use Rattle.wf_captures.proofs.Sampled.{length_sample}
@@ -42,14 +38,21 @@ sample_length : (note : Note) → length (sample_of note).body ≡ len_of note
 sample_length (Enqueue s t flow len) = length_sample flow len
 sample_length (Asked ask) = refl
 
-data_short : (w : World) (x : Exchange) → IsStocked greatest_body w → (mpdus : List Mpdu) → AreShort (map (data_octets w (samples w) x) mpdus)
+data_short : (w : World) (x : Exchange) → IsStocked greatest_body w → (mpdus : List Mpdu) →
+    AreShort (map (data_octets w (samples w) x) mpdus)
 data_short w x all [] = tt
 data_short w x all (m ∷ mpdus) = (
-  omega (arith, all.short m.id, sample_length (frame w m.id).note, length-append (octets_of (header_of w x m)) (samples w m.id).body),
+  omega (
+    arith,
+    all.short m.id,
+    sample_length (frame w m.id).note,
+    length-append (header_as_octets (header_of w x m)) (samples w m.id).body,
+  ),
   data_short w x all mpdus,
 )
 
-content_short : (w : World) (x : Exchange) → IsStocked greatest_body w → (c : Content) → AreShort (octets_of_content w (samples w) x c)
+content_short : (w : World) (x : Exchange) → IsStocked greatest_body w → (c : Content) →
+    AreShort (octets_of_content w (samples w) x c)
 content_short w x all (Frames mpdus) = data_short w x all mpdus
 content_short w x all (Request start) = (lit≤ tt, tt)
 
@@ -60,19 +63,26 @@ sent_short w all e = of (exchange w e) refl
     of None none = rw none tt
     of (Some x) known = rw known (content_short w x all x.content)
 
-acks_short : (start b0 b1 b2 b3 : ℕ) (wide : Bool) (o : Option Exchange) → AreShort (block_acks start (b0 ∷ b1 ∷ b2 ∷ b3 ∷ []) wide o)
+acks_short : (start b0 b1 b2 b3 : ℕ) (wide : Bool) (o : Option Exchange) →
+    AreShort (block_acks start (b0 ∷ b1 ∷ b2 ∷ b3 ∷ []) wide o)
 acks_short start b0 b1 b2 b3 wide None = tt
 acks_short start b0 b1 b2 b3 true (Some x) = (lit≤ tt, tt)
 acks_short start b0 b1 b2 b3 false (Some x) = (lit≤ tt, tt)
 
-frames_short : (w : World) → IsStocked greatest_body w → (note : Note) (answered : ReplyNote) → AreShort (frames_by w (samples w) note answered)
+frames_short : (w : World) → IsStocked greatest_body w → (note : Note) (answered : ReplyNote) →
+    AreShort (frames_by w (samples w) note answered)
 frames_short w all note (reply.Send e s t air part more) = sent_short w all e
-frames_short w all note (reply.Ba start b0 b1 b2 b3 wide) = acks_short start b0 b1 b2 b3 wide (option_and_then (exchange w) (exchange_answered note))
+frames_short w all note (reply.Ba start b0 b1 b2 b3 wide) =
+    acks_short start b0 b1 b2 b3 wide (option_and_then (exchange w) (exchange_answered note))
 frames_short w all note _ = tt
 
-writable_at : (at : ℕ) (frames : List (List ℕ)) → at < 2 ^ 32 * 1000000 → AreShort frames → AreWritable (packets_at at frames)
+writable_at : (at : ℕ) (frames : List (List ℕ)) → at < 2 ^ 32 * 1000000 → AreShort frames →
+    AreWritable (packets_at at frames)
 writable_at at [] time short = tt
-writable_at at (f ∷ frames) time short = (record { time = time; most = short.0 }, writable_at at frames time short.1)
+writable_at at (f ∷ frames) time short = (
+  record { time = time; most = short.0 },
+  writable_at at frames time short.1,
+)
 
 writable_both : (one two : List Sent) → AreWritable one → AreWritable two → AreWritable (one ++ two)
 writable_both [] two a b = b
@@ -80,18 +90,13 @@ writable_both (p ∷ one) two a b = (a.0, writable_both one two a.1 b)
 
 -- ---- a run
 
-most_then : (h : List Entry) (e : Entry) → AreAtMost greatest_body h → IsAtMost greatest_body e.1 → AreAtMost greatest_body (h ++ e ∷ [])
+most_then : (h : List Entry) (e : Entry) → AreAtMost greatest_body h → IsAtMost greatest_body e.1 →
+    AreAtMost greatest_body (h ++ e ∷ [])
 most_then [] e h k = (k, tt)
 most_then (x ∷ xs) e h k = (h.0, most_then xs e h.1 k)
 
--- the clock after so many calls
-pub time_after : (config : Config) (h : List Entry) → IsInRange config → length h ≤ config.calls → (world_after (opening config) h).clock < 2 ^ 32 * 1000000
-time_after config h range few =
-    let sums : AreSums config (take (length h) h) (length h) (world_at config h (length h)) = (laws config h range).sums (length h) in
-    let same : (world_at config h (length h)).clock ≡ (world_after (opening config) h).clock = ap (λ (l : List Entry). (world_after (opening config) l).clock) (take_all (length h) h (omega arith)) in
-    omega (arith, sums.clock, same, range.calls.1, few)
-
-writable_from : (config : Config) (past rest : List Entry) → IsInRange config → AreAtMost greatest_body past → AreAtMost greatest_body rest → length past + length rest ≤ config.calls →
+writable_from : (config : Config) (past rest : List Entry) → IsInRange config → AreAtMost greatest_body past →
+    AreAtMost greatest_body rest → length past + length rest ≤ config.calls →
     AreWritable (packets_from (world_after (opening config) past) rest)
 unfolding packets_from
 writable_from config past [] range old new few = tt
@@ -102,12 +107,19 @@ writable_from config past (e ∷ rest) range old new few =
     let w : World = world_after (opening config) past in
     let then : world_after (opening config) h ≡ (step w e.1).world = world_then past (opening config) e in
     writable_both (packets_by w e.1) (packets_from (step w e.1).world rest)
-    (writable_at (step w e.1).world.clock (frames_by (step w e.1).world (samples (step w e.1).world) e.1 (step w e.1).reply)
-    (subst (λ (v : World). v.clock < 2 ^ 32 * 1000000) then (time_after config h range (omega (arith, long, few))))
-    (frames_short (step w e.1).world (subst (IsStocked greatest_body) then (stocked greatest_body config h most)) e.1 (step w e.1).reply))
-    (subst (λ (v : World). AreWritable (packets_from v rest)) then (writable_from config h rest range most new.1 (omega (arith, long, few))))
+    (writable_at (step w e.1).world.clock (frames_by (step w e.1).world (samples (step w e.1).world) e.1
+    (step w e.1).reply)
+    (subst (λ (v : World). v.clock < 2 ^ 32 * 1000000)
+    then (time_after config h range (omega (arith, long, few))))
+    (frames_short (step w e.1).world (subst (IsStocked greatest_body)
+    then (stocked greatest_body config h most)) e.1 (step w e.1).reply))
+    (subst (λ (v : World). AreWritable (packets_from v rest))
+    then (writable_from config h rest range most new.1 (omega (arith, long, few))))
 
-pub run_listed : (config : Config) (history : List Entry) → IsInRange config → HasLengths history → length history ≤ config.calls →
-    length (capture_of config history) ≤ most_octets → IsListed (packets_in config history)
+pub run_listed : (config : Config) (history : List Entry) → IsInRange config → HasLengths history →
+    length history ≤ config.calls →
+    length (capture_of config history) ≤ most_octets_read → IsListed (packets_in config history)
 unfolding world_after
-run_listed config history range lengths few small = written_law (packets_in config history) (writable_from config [] history range tt lengths.1 (omega (arith, few))) small
+run_listed config history range lengths few small =
+    written_law (packets_in config history) (writable_from config [] history range tt lengths.1
+    (omega (arith, few))) small

@@ -1,18 +1,19 @@
--- The frames of a cell stay those that the calls of its trace brought, and what goes on the air has their bodies.
+-- The frames of a cell stay those that the calls of its trace brought, and what goes on the air has their
+-- bodies.
 use Rattle.std.proofs.Common.{◌≡◌, refl, ap, ap₂, sym, ◌∙◌, ℕ, zero, suc, Bool, true, false, List, [], ◌∷◌, ◌++◌, ◌+◌, ◌%◌, length, map, Option, Some, None, arith, length-append}
 use Rattle.std.specs.Prelude.{◌==◌, slice_get, if◌then◌else◌}
 use Rattle.wf_frame.specs.Frames.{FrameValue, new_frame, sample_body}
 use Rattle.wf_frame.specs.declared.notes.Note.{Note}
 use Rattle.wf_frame.specs.declared.notes.ReplyNote.{ReplyNote}
 use Rattle.wf_frame.specs.declared.notes.ReplyNote.TheVariants as reply
-use Rattle.wf_world.specs.World.{World, Mpdu, Exchange, Content, Frames, Request, exchange}
-use Rattle.wf_world.specs.Exchanges.{mpdus_of}
-use Rattle.wf_header.specs.Layout.{octets_of}
-use Rattle.wf_flowq_refines.specs.Frames.{with_body}
-use Rattle.wf_transmit.specs.Enqueues.{as_accepted}
-use Rattle.wf_transmit_refines.specs.Half.{TransmitValue}
-use Rattle.wf_transmit_refines.specs.Standing.{StandsFor}
-use Rattle.wf_transmissions.specs.Transmissions.{header_of, data_octets, octets_of_content}
+use Rattle.wf_def_world.specs.World.{World, Mpdu, Exchange, Content, Frames, Request, exchange}
+use Rattle.wf_def_world.specs.Exchanges.{mpdus_of}
+use Rattle.wf_octets_header.specs.Layout.{header_as_octets}
+use Rattle.wf_queue_flows_refines.specs.Frames.{with_body}
+use Rattle.wf_send_half.specs.Enqueues.{as_accepted}
+use Rattle.wf_send_half_refines.specs.Half.{TransmitValue}
+use Rattle.wf_send_half_refines.specs.Standing.{StandsFor}
+use Rattle.wf_path.specs.Transmissions.{header_of, data_octets, octets_of_content}
 use Rattle.wf_path.specs.declared.job.Job.{Job}
 use Rattle.wf_path.specs.declared.job.Job.TheVariants.{Give, Call}
 use Rattle.wf_path.specs.Jobs.{bodies_after, frame_of}
@@ -25,7 +26,11 @@ use Rattle.wf_captures.specs.Samples.{IsSample}
 
 pub length_sample : (flow n : ℕ) → length (sample_body flow n) ≡ n
 length_sample flow zero = refl
-length_sample flow (suc n) = omega (arith, length-append (sample_body flow n) ((flow + n) % 256 ∷ []), length_sample flow n)
+length_sample flow (suc n) = omega (
+  arith,
+  length-append (sample_body flow n) ((flow + n) % 256 ∷ []),
+  length_sample flow n,
+)
 
 pub is_sample : (s t flow n : ℕ) → IsSample (new_frame s t flow (sample_body flow n))
 is_sample s t flow n = ap (sample_body flow) (sym (length_sample flow n))
@@ -33,35 +38,43 @@ is_sample s t flow n = ap (sample_body flow) (sym (length_sample flow n))
 pub no_sample : IsSample (new_frame 0 0 0 [])
 no_sample = refl
 
-with_sample : (bodies : ℕ → FrameValue) (f : FrameValue) → ((id : ℕ) → IsSample (bodies id)) → IsSample f → (id : ℕ) → IsSample (with_body bodies f id)
+with_sample : (bodies : ℕ → FrameValue) (f : FrameValue) → ((id : ℕ) → IsSample (bodies id)) → IsSample f →
+    (id : ℕ) → IsSample (with_body bodies f id)
 with_sample bodies f all is id = of (id == f.id)
   where
     of : (b : Bool) → IsSample (if b then f else bodies id)
     of true = is
     of false = all id
 
-pub after_sample : (v : TransmitValue) (job : Job) (answered : ReplyNote) (bodies : ℕ → FrameValue) → ((id : ℕ) → IsSample (bodies id)) → ((f : FrameValue) → frame_of job ≡ Some f → IsSample f) →
+pub after_sample : (v : TransmitValue) (job : Job) (answered : ReplyNote) (bodies : ℕ → FrameValue) →
+    ((id : ℕ) → IsSample (bodies id)) → ((f : FrameValue) → frame_of job ≡ Some f → IsSample f) →
     (id : ℕ) → IsSample (bodies_after v job answered bodies id)
-after_sample v (Give f) (reply.Accepted given dropped) bodies all brought = with_sample bodies (as_accepted v f) all (brought f refl)
+after_sample v (Give f) (reply.Accepted given dropped) bodies all brought =
+    with_sample bodies (as_accepted v f) all (brought f refl)
 after_sample v (Give f) _ bodies all brought = all
 after_sample v (Call ask) answered bodies all brought = all
 
 -- ---- what goes on the air
 
-map_same : {A B : Type 0} (f g : A → B) (xs : List A) → ((k : ℕ) (x : A) → slice_get xs k ≡ Some x → f x ≡ g x) → map f xs ≡ map g xs
+map_same : {A B : Type 0} (f g : A → B) (xs : List A) →
+    ((k : ℕ) (x : A) → slice_get xs k ≡ Some x → f x ≡ g x) → map f xs ≡ map g xs
 map_same f g [] same = refl
 map_same f g (x ∷ xs) same = ap₂ (λ y ys. y ∷ ys) (same 0 x refl) (map_same f g xs (λ k. same (suc k)))
 
-module _ (v : TransmitValue) (w : World) (bodies : ℕ → FrameValue) (stands : StandsFor v w bodies) (all : (id : ℕ) → IsSample (bodies id)) where
-  body_same : (e : ℕ) (x : Exchange) → exchange w e ≡ Some x → (k : ℕ) (m : Mpdu) → slice_get (mpdus_of x.content) k ≡ Some m → (bodies m.id).body ≡ (samples w m.id).body
+module _ (v : TransmitValue) (w : World) (bodies : ℕ → FrameValue) (stands : StandsFor v w bodies)
+    (all : (id : ℕ) → IsSample (bodies id)) where
+  body_same : (e : ℕ) (x : Exchange) → exchange w e ≡ Some x → (k : ℕ) (m : Mpdu) →
+      slice_get (mpdus_of x.content) k ≡ Some m → (bodies m.id).body ≡ (samples w m.id).body
   body_same e x known k m among =
       let accepted = stands.parts.others.notes m.id (is_accepted v w bodies stands e x known k m among) in
       all m.id ∙ sym (ap (λ (n : Note). (sample_of n).body) accepted.note)
 
-  content_same : (e : ℕ) (x : Exchange) → exchange w e ≡ Some x → (c : Content) → x.content ≡ c → octets_of_content w bodies x c ≡ octets_of_content w (samples w) x c
+  content_same : (e : ℕ) (x : Exchange) → exchange w e ≡ Some x → (c : Content) → x.content ≡ c →
+      octets_of_content w bodies x c ≡ octets_of_content w (samples w) x c
   content_same e x known (Frames mpdus) is =
       map_same (data_octets w bodies x) (data_octets w (samples w) x) mpdus
-      (λ k m among. ap (λ b. octets_of (header_of w x m) ++ b) (body_same e x known k m (ap (λ (c : Content). slice_get (mpdus_of c) k) is ∙ among)))
+      (λ k m among. ap (λ b. header_as_octets (header_of w x m) ++ b)
+      (body_same e x known k m (ap (λ (c : Content). slice_get (mpdus_of c) k) is ∙ among)))
   content_same e x known (Request start) is = refl
 
   pub sent_same : (e : ℕ) → frames_sent w bodies e ≡ frames_sent w (samples w) e
@@ -71,7 +84,8 @@ module _ (v : TransmitValue) (w : World) (bodies : ℕ → FrameValue) (stands :
       of None none = rw none refl
       of (Some x) known = rw known (content_same e x known x.content refl)
 
-  pub frames_same : (note : Note) (answered : ReplyNote) → frames_by w bodies note answered ≡ frames_by w (samples w) note answered
+  pub frames_same : (note : Note) (answered : ReplyNote) →
+      frames_by w bodies note answered ≡ frames_by w (samples w) note answered
   frames_same note (reply.Send e s t air part more) = sent_same e
   frames_same note (reply.Ba start b0 b1 b2 b3 wide) = refl
   frames_same note _ = refl

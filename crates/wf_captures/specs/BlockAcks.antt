@@ -1,20 +1,28 @@
 -- The octets of a BlockAck that a reply tells (IEEE 802.11-2012, 8.3.1.9).
 use Rattle.std.specs.Prelude.{ℕ, Bool, List, ◌++◌, flat_map, if◌then◌else◌}
 use Rattle.byteorder.specs.Endian.{little_bytes}
-use Rattle.wf_header.specs.Addresses.{base, address_of_station}
-use Rattle.wf_blockack.specs.Layout.{head_octets, answer, narrow_form, wide_form}
-use Rattle.wf_blockack.specs.declared.frames.Bar.{Bar}
-use Rattle.wf_origwin.specs.Window.{on_air}
+use Rattle.wf_octets_header.specs.Addresses.{base, address_of_station}
+use Rattle.wf_octets_block.specs.Layout.{head_octets, answer, narrow_form, wide_form}
+use Rattle.wf_octets_block.specs.declared.frames.Bar.{Bar}
+use Rattle.wf_send_window.specs.Window.{on_air}
 
 -- all but its bitmap: to the access point, from station s, with Duration 0, of TID t, with this start
 abbrev pub block_ack_head : ℕ → ℕ → ℕ → Bar
-block_ack_head s t start = record { ra = base; ta = address_of_station s; duration = 0; tid = t; start = on_air start }
+block_ack_head s t start = record {
+  ra = base;
+  ta = address_of_station s;
+  duration = 0;
+  tid = t;
+  start =
+      on_air start;
+}
 
 -- a bitmap of words of 64 bits, the lowest octet of each first
 abbrev pub bitmap_octets : List ℕ → List ℕ
 bitmap_octets words = flat_map (little_bytes 8) words
 
 -- a BlockAck that tells of 64 numbers by one word, or a wide one that tells of 256 by four
-abbrev pub block_ack_octets : ℕ → ℕ → ℕ → List ℕ → Bool → List ℕ
-block_ack_octets s t start words wide =
-    head_octets answer (if wide then wide_form else narrow_form) (block_ack_head s t start) ++ bitmap_octets words
+abbrev pub block_ack_frame : ℕ → ℕ → ℕ → List ℕ → Bool → List ℕ
+block_ack_frame s t start words wide =
+    head_octets answer (if wide then wide_form else narrow_form) (block_ack_head s t start)
+    ++ bitmap_octets words

@@ -4,11 +4,11 @@ use Rattle.wf_frame.specs.Frames.{FrameValue, new_frame, sample_body}
 use Rattle.wf_frame.specs.declared.notes.Note.{Note}
 use Rattle.wf_frame.specs.declared.notes.Note.TheVariants.{Enqueue, Asked}
 use Rattle.wf_frame.specs.declared.settings.Config.{Config}
-use Rattle.wf_frames_run.specs.Law.{Sent, capture_of as file_of}
-use Rattle.wf_world.specs.World.{World, frame, opening}
-use Rattle.wf_world.specs.Run.{Entry}
-use Rattle.wf_world.specs.Step.{Outcome, step}
-use Rattle.wf_captures.specs.Packets.{frames_by, packets_at, octets_of}
+use Rattle.wf_run_frames.specs.Law.{Sent, capture_of_packets as file_of}
+use Rattle.wf_def_world.specs.World.{World, frame, opening}
+use Rattle.wf_def_world.specs.Run.{Entry}
+use Rattle.wf_def_world.specs.Step.{Outcome, step}
+use Rattle.wf_captures.specs.Packets.{frames_by, packets_at, octets_of_packets}
 
 -- the frame that a call brings: octet j of its body is the low octet of its flow's number plus j
 abbrev pub sample_of : Note → FrameValue
@@ -21,11 +21,12 @@ samples w id = sample_of (frame w id).note
 
 -- the packets of a call from a world, at the time of the clock
 abbrev pub packets_by : World → Note → List Sent
-packets_by w note = let o : Outcome = step w note in packets_at o.world.clock (frames_by o.world (samples o.world) note o.reply)
+packets_by w note = let o : Outcome = step w note in
+    packets_at o.world.clock (frames_by o.world (samples o.world) note o.reply)
 
 -- the octets that they add to a capture
 abbrev pub packets_of : World → Note → List ℕ
-packets_of w note = octets_of (packets_by w note)
+packets_of w note = octets_of_packets (packets_by w note)
 
 -- the packets of a history, call by call
 unfoldable pub packets_from : World → List Entry → List Sent

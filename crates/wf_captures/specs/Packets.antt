@@ -8,12 +8,13 @@ use Rattle.wf_frame.specs.declared.notes.Note.TheVariants.{Asked}
 use Rattle.wf_frame.specs.declared.notes.ReplyNote.{ReplyNote}
 use Rattle.wf_frame.specs.declared.notes.ReplyNote.TheVariants.{Send, Ba}
 use Rattle.wf_pcap.specs.Capture.{packet_octets}
-use Rattle.wf_frames_run.specs.Law.{Sent}
-use Rattle.wf_world.specs.World.{World, Exchange, exchange}
-use Rattle.wf_transmissions.specs.Transmissions.{frames_on_air}
-use Rattle.wf_captures.specs.BlockAcks.{block_ack_octets}
+use Rattle.wf_run_frames.specs.Law.{Sent}
+use Rattle.wf_def_world.specs.World.{World, Exchange, exchange}
+use Rattle.wf_path.specs.Transmissions.{frames_on_air}
+use Rattle.wf_captures.specs.BlockAcks.{block_ack_frame}
 
--- the octets of each transmission of exchange e, by index, where `bodies` has the frame of each id: none where it is not open
+-- the octets of each transmission of exchange e, by index, where `bodies` has the frame of each id: none
+-- where it is not open
 abbrev pub frames_sent : World → (ℕ → FrameValue) → ℕ → List (List ℕ)
 frames_sent w bodies e = option_map_or (λ x. frames_on_air w bodies x) (exchange w e) []
 
@@ -31,10 +32,10 @@ words_told false (word ∷ words) = word ∷ []
 -- the BlockAck to an exchange, from its station, of its TID
 abbrev pub block_acks : ℕ → List ℕ → Bool → Option Exchange → List (List ℕ)
 block_acks start words wide None = []
-block_acks start words wide (Some x) = block_ack_octets x.station x.tid start (words_told wide words) wide ∷ []
+block_acks start words wide (Some x) = block_ack_frame x.station x.tid start (words_told wide words) wide ∷ []
 
--- The frames that go on the air with a call, by the world behind it and its reply: each transmission of the exchange that opens, by
--- index, or the BlockAck to the exchange that it names.
+-- The frames that go on the air with a call, by the world behind it and its reply: each transmission of the
+-- exchange that opens, by index, or the BlockAck to the exchange that it names.
 abbrev pub frames_by : World → (ℕ → FrameValue) → Note → ReplyNote → List (List ℕ)
 frames_by w bodies note (Send e s t air part more) = frames_sent w bodies e
 frames_by w bodies note (Ba start b0 b1 b2 b3 wide) =
@@ -46,5 +47,5 @@ abbrev pub packets_at : ℕ → List (List ℕ) → List Sent
 packets_at at frames = map (λ octets. let p : Sent = record { at = at; octets = octets } in p) frames
 
 -- packets one behind the other
-abbrev pub octets_of : List Sent → List ℕ
-octets_of packets = flat_map (λ (p : Sent). packet_octets p.at p.octets) packets
+abbrev pub octets_of_packets : List Sent → List ℕ
+octets_of_packets packets = flat_map (λ (p : Sent). packet_octets p.at p.octets) packets

@@ -1,18 +1,18 @@
 //! The octets of one frame on the air.
 
 ghost use Rattle.std.specs.Prelude.{◌≡◌, ◌<◌, ◌≤◌, [], ◌∷◌, Some, take, true, false};
-ghost use Rattle.wf_transmissions.specs.Transmissions.{octets_sent};
-ghost use Rattle.wf_captures.specs.BlockAcks.{block_ack_octets};
+ghost use Rattle.wf_path.specs.Transmissions.{octets_sent};
+ghost use Rattle.wf_captures.specs.BlockAcks.{block_ack_frame};
 ghost use Rattle.wf_captures.specs.Captures.{samples};
-ghost use Rattle.wf_captures.specs.Samples.{IsSampled, IsSending, world_in};
+ghost use Rattle.wf_captures.specs.Samples.{IsSampled, HasTransmission, world_behind};
 
-use wf_bits::{Bits64, Bits256};
-use wf_blockack::{Ba, WideBa, encode_ba, encode_wide};
 use wf_cell::Cell;
-use wf_fields::put;
-use wf_header::{base_address, station_address};
+use wf_octets_bits::{Bits64, Bits256};
+use wf_octets_block::{Ba, WideBa, encode_ba, encode_wide};
+use wf_octets_fields::put;
+use wf_octets_header::{base_address, station_address};
+use wf_octets_seq12::Seq12;
 use wf_path::Sent;
-use wf_seq12::Seq12;
 
 /// The most octets of a frame: a header of 26 and a body of 2304.
 pub(crate) const LONGEST: usize = 2330;
@@ -28,10 +28,11 @@ pub(crate) fn transmission(
     octets: &mut [u8; LONGEST],
 ) -> usize
     requires samples { IsSampled cell.now }
-    requires sending { IsSending (world_in cell.now) exchange index }
+    requires sending { HasTransmission (world_behind cell.now) exchange index }
     ensures within { result ≤ 2330 }
     ensures some { 0 < result }
-    ensures octets { octets_sent (world_in cell.now) (samples (world_in cell.now)) exchange index ≡ Some (take result octets.new) }
+    ensures octets { octets_sent (world_behind cell.now) (samples (world_behind cell.now)) exchange index
+        ≡ Some (take result octets.new) }
 {
     match cell.path().mpdu(exchange, index, octets) {
         Ok(len) => len,
@@ -39,8 +40,8 @@ pub(crate) fn transmission(
     }
 }
 
-/// What a BlockAck shows: its start, 0 to 4095, and the words of its bitmap, the lowest offsets in the first. One of 64 numbers has
-/// the first word alone.
+/// What a BlockAck shows: its start, 0 to 4095, and the words of its bitmap, the lowest offsets in the first.
+/// One of 64 numbers has the first word alone.
 #[derive(Clone, Copy)]
 pub(crate) struct Shown {
     pub(crate) start: u16,
@@ -53,7 +54,7 @@ pub(crate) struct Shown {
 /// The BlockAck of 64 numbers to what was sent.
 pub(crate) fn narrow_ack(sent: Sent, shown: Shown) -> [u8; 28]
     requires { sent.tid < 8 }
-    ensures { result ≡ block_ack_octets sent.station sent.tid shown.start (shown.b0 ∷ []) false }
+    ensures { result ≡ block_ack_frame sent.station sent.tid shown.start (shown.b0 ∷ []) false }
 {
     let head = Ba {
         ra: base_address(),
@@ -72,7 +73,8 @@ pub(crate) fn narrow_ack(sent: Sent, shown: Shown) -> [u8; 28]
 /// The BlockAck of 256 numbers to what was sent.
 pub(crate) fn wide_ack(sent: Sent, shown: Shown) -> [u8; 52]
     requires { sent.tid < 8 }
-    ensures { result ≡ block_ack_octets sent.station sent.tid shown.start (shown.b0 ∷ shown.b1 ∷ shown.b2 ∷ shown.b3 ∷ []) true }
+    ensures { result ≡ block_ack_frame sent.station sent.tid shown.start
+        (shown.b0 ∷ shown.b1 ∷ shown.b2 ∷ shown.b3 ∷ []) true }
 {
     let head = WideBa {
         ra: base_address(),

@@ -1,29 +1,20 @@
 //! What a capture asks of a cell.
 
-ghost use Rattle.std.specs.Prelude.{◌≡◌, ◌<◌, ◌^◌, ◌*◌, ℕ, Some, option_map, IfSome};
+ghost use Rattle.std.specs.Prelude.{◌≡◌, ◌<◌, ℕ, Some, option_map, IfSome};
 ghost use Rattle.wf_cell.specs.Cells.{with_entry};
 ghost use Rattle.wf_frame.specs.declared.notes.Note.{Note as Call};
-ghost use Rattle.wf_transmissions.specs.Transmissions.{sent_of};
-ghost use Rattle.wf_world.specs.Run.{Past, by};
-ghost use Rattle.wf_world.specs.World.{exchange as exchange_in};
-ghost use Rattle.wf_captures.specs.Samples.{world_in};
+ghost use Rattle.wf_path.specs.Transmissions.{sent_of};
+ghost use Rattle.wf_def_world.specs.Run.{Past, by};
+ghost use Rattle.wf_def_world.specs.World.{exchange as exchange_in};
+ghost use Rattle.wf_captures.specs.Samples.{world_behind};
 
 use wf_cell::Cell;
 use wf_frame::Note;
 use wf_path::Sent;
 
-/// The clock, in microseconds: it goes by at most ten seconds in each of at most 1,048,576 calls.
-pub(crate) fn clock(cell: &Cell) -> u64
-    ensures value { result ≡ (world_in cell.now).clock }
-    ensures small { result < 2 ^ 32 * 1000000 }
-{
-    let _calls = cell.len();
-    cell.path().now()
-}
-
 /// What an open exchange sends, and to whom.
 pub(crate) fn sent(cell: &Cell, exchange: u64) -> Option<Sent>
-    ensures told { result ≡ option_map sent_of (exchange_in (world_in cell.now) exchange) }
+    ensures told { result ≡ option_map sent_of (exchange_in (world_behind cell.now) exchange) }
     ensures tid { IfSome result (λ sent. sent.tid < 8) }
 {
     cell.path().sent(exchange)
@@ -31,7 +22,8 @@ pub(crate) fn sent(cell: &Cell, exchange: u64) -> Option<Sent>
 
 /// The call that was made last.
 pub(crate) fn last_call(cell: &Cell) -> Option<Note>
-    ensures { (past : Past) (caller : ℕ) (note : Call) → cell.now.past ≡ with_entry (by caller note) past → result ≡ Some note }
+    ensures { (past : Past) (caller : ℕ) (note : Call) → cell.now.past ≡ with_entry (by caller note) past →
+        result ≡ Some note }
 {
     let count = cell.len();
     if count == 0 {

@@ -4,14 +4,14 @@ ghost use Rattle.std.specs.Prelude.{◌≡◌, [], ◌∷◌, OnOk};
 ghost use Rattle.std.specs.Io.KnownBytes.{append_known};
 ghost use Rattle.wf_frame.specs.Answers.{reply_of};
 ghost use Rattle.wf_io.specs.Faults.{CountsFaults};
-ghost use Rattle.wf_status.specs.Fronts.{HoldsFront};
-ghost use Rattle.wf_world.specs.World.{exchange as exchange_in};
+ghost use Rattle.wf_io.specs.Fronts.{HoldsFront};
+ghost use Rattle.wf_def_world.specs.World.{exchange as exchange_in};
 ghost use Rattle.wf_captures.specs.Captures.{samples};
-ghost use Rattle.wf_captures.specs.Packets.{frames_sent, block_acks, exchange_answered, frames_by, packets_at, octets_of};
-ghost use Rattle.wf_captures.specs.Samples.{IsSampled, world_in};
+ghost use Rattle.wf_captures.specs.Packets.{frames_sent, block_acks, exchange_answered, frames_by, packets_at, octets_of_packets};
+ghost use Rattle.wf_captures.specs.Samples.{IsSampled, world_behind};
 
 use crate::frames::{LONGEST, Shown, narrow_ack, transmission, wide_ack};
-use crate::standing::{clock, sent};
+use crate::standing::sent;
 use wf_cell::Cell;
 use wf_frame::{Answer, Ask, Brief, Note};
 use wf_io::{Failed, Sink};
@@ -31,15 +31,17 @@ fn exchange_answered(note: &Note) -> Option<u64>
 fn write_sent<K: Sink>(cell: &Cell, exchange: u64, sink: &mut K) -> Result<(), Failed>
     requires { IsSampled cell.now }
     ensures written { OnOk result (K.held sink.new ≡ append_known (K.held sink.old)
-        (octets_of (packets_at (world_in cell.now).clock (frames_sent (world_in cell.now) (samples (world_in cell.now)) exchange)))) }
+        (octets_of_packets (packets_at (world_behind cell.now).clock
+        (frames_sent (world_behind cell.now) (samples (world_behind cell.now)) exchange)))) }
     ensures front { HoldsFront (K.held sink.old) (K.held sink.new)
-        (octets_of (packets_at (world_in cell.now).clock (frames_sent (world_in cell.now) (samples (world_in cell.now)) exchange))) }
+        (octets_of_packets (packets_at (world_behind cell.now).clock
+        (frames_sent (world_behind cell.now) (samples (world_behind cell.now)) exchange))) }
     ensures cause { CountsFaults (K.faults sink.old) (K.faults sink.new) result }
 {
     let Some(sent) = sent(cell, exchange) else {
         return Ok(());
     };
-    let at = clock(cell);
+    let at = cell.clock();
     let mut octets = [0; LONGEST];
     for index in 0..sent.count {
         let len = transmission(cell, exchange, index, &mut octets);
@@ -48,7 +50,8 @@ fn write_sent<K: Sink>(cell: &Cell, exchange: u64, sink: &mut K) -> Result<(), F
     Ok(())
 }
 
-/// Writes a packet for the BlockAck to an exchange, of 64 numbers or of 256 (`wide`); none where the exchange is not open.
+/// Writes a packet for the BlockAck to an exchange, of 64 numbers or of 256 (`wide`); none where the exchange
+/// is not open.
 fn write_block_ack<K: Sink>(
     cell: &Cell,
     exchange: u64,
@@ -57,15 +60,19 @@ fn write_block_ack<K: Sink>(
     sink: &mut K,
 ) -> Result<(), Failed>
     ensures written { OnOk result (K.held sink.new ≡ append_known (K.held sink.old)
-        (octets_of (packets_at (world_in cell.now).clock (block_acks shown.start (shown.b0 ∷ shown.b1 ∷ shown.b2 ∷ shown.b3 ∷ []) wide (exchange_in (world_in cell.now) exchange))))) }
+        (octets_of_packets (packets_at (world_behind cell.now).clock
+        (block_acks shown.start (shown.b0 ∷ shown.b1 ∷ shown.b2 ∷ shown.b3 ∷ []) wide
+        (exchange_in (world_behind cell.now) exchange))))) }
     ensures front { HoldsFront (K.held sink.old) (K.held sink.new)
-        (octets_of (packets_at (world_in cell.now).clock (block_acks shown.start (shown.b0 ∷ shown.b1 ∷ shown.b2 ∷ shown.b3 ∷ []) wide (exchange_in (world_in cell.now) exchange)))) }
+        (octets_of_packets (packets_at (world_behind cell.now).clock
+        (block_acks shown.start (shown.b0 ∷ shown.b1 ∷ shown.b2 ∷ shown.b3 ∷ []) wide
+        (exchange_in (world_behind cell.now) exchange)))) }
     ensures cause { CountsFaults (K.faults sink.old) (K.faults sink.new) result }
 {
     let Some(sent) = sent(cell, exchange) else {
         return Ok(());
     };
-    let at = clock(cell);
+    let at = cell.clock();
     if wide {
         write_packet(sink, at, &wide_ack(sent, shown))
     } else {
@@ -82,9 +89,13 @@ pub(crate) fn write_frames<K: Sink>(
 ) -> Result<(), Failed>
     requires { IsSampled cell.now }
     ensures written { OnOk result (K.held sink.new ≡ append_known (K.held sink.old)
-        (octets_of (packets_at (world_in cell.now).clock (frames_by (world_in cell.now) (samples (world_in cell.now)) note.now (reply_of answer.now))))) }
+        (octets_of_packets (packets_at (world_behind cell.now).clock
+        (frames_by (world_behind cell.now) (samples (world_behind cell.now)) note.now
+        (reply_of answer.now))))) }
     ensures front { HoldsFront (K.held sink.old) (K.held sink.new)
-        (octets_of (packets_at (world_in cell.now).clock (frames_by (world_in cell.now) (samples (world_in cell.now)) note.now (reply_of answer.now)))) }
+        (octets_of_packets (packets_at (world_behind cell.now).clock
+        (frames_by (world_behind cell.now) (samples (world_behind cell.now)) note.now
+        (reply_of answer.now)))) }
     ensures cause { CountsFaults (K.faults sink.old) (K.faults sink.new) result }
 {
     match answer.brief {

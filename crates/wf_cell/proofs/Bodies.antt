@@ -6,21 +6,21 @@ use Rattle.wf_frame.specs.declared.notes.Ask.TheVariants as ask
 use Rattle.wf_frame.specs.declared.notes.Note.TheVariants.{Asked}
 use Rattle.wf_frame.specs.declared.notes.ReplyNote.{ReplyNote}
 use Rattle.wf_frame.specs.declared.notes.ReplyNote.TheVariants as reply
-use Rattle.wf_rule_laws.proofs.Lemmas.Numbers.{on_bool}
-use Rattle.wf_rules.specs.Table.{has}
-use Rattle.wf_world.specs.World.{World}
-use Rattle.wf_world.specs.Step.{step}
-use Rattle.wf_fate.specs.Tally.{Counts}
-use Rattle.wf_flowq_refines.specs.Frames.{with_body}
-use Rattle.wf_transmit.specs.Enqueues.{as_accepted}
-use Rattle.wf_transmit_refines.specs.Half.{TransmitValue, body_of}
-use Rattle.wf_transmit_refines.specs.Standing.{StandsFor}
-use Rattle.wf_bodies.specs.Inside.{is_held_id, is_inside, inside_after, body_inside}
-use Rattle.wf_bodies.proofs.Inside.{next_id, inside_reached}
-use Rattle.wf_bodies.proofs.Frames.{bodies_are}
+use Rattle.wf_law_rules.proofs.Lemmas.Numbers.{on_bool}
+use Rattle.wf_def_lists.specs.Table.{has}
+use Rattle.wf_def_world.specs.World.{World}
+use Rattle.wf_def_world.specs.Step.{step}
+use Rattle.wf_send_stations.specs.Tally.{Counts}
+use Rattle.wf_queue_flows_refines.specs.Frames.{with_body}
+use Rattle.wf_send_half.specs.Enqueues.{as_accepted}
+use Rattle.wf_send_half_refines.specs.Half.{TransmitValue, body_of}
+use Rattle.wf_send_half_refines.specs.Standing.{StandsFor}
+use Rattle.wf_send_half_refines.specs.Inside.{is_held_id, is_inside, inside_after, body_inside}
+use Rattle.wf_send_half_refines.proofs.Inside.{next_id, inside_reached}
+use Rattle.wf_send_half_refines.proofs.Frames.{bodies_are}
 use Rattle.wf_path.specs.declared.job.Job.{Job}
 use Rattle.wf_path.specs.declared.job.Job.TheVariants.{Give, Call}
-use Rattle.wf_path.specs.Jobs.{bodies_after, given_back, note_of}
+use Rattle.wf_path.specs.Jobs.{bodies_after, frame_given_back, note_of}
 use Rattle.wf_cell.specs.Bodies.{body_after}
 use Rattle.wf_cell.proofs.Rights.{on_the_list}
 
@@ -30,24 +30,40 @@ module _ (v : TransmitValue) (w : World) (bodies : ℕ → FrameValue) (stands :
   stays id = sym (bodies_are v w bodies stands id)
 
   -- the frame of a new id comes in
-  comes : (f : FrameValue) (new id : ℕ) → new ≡ v.tally.accepted → (if (if id == new then true else is_inside w id) then Some (with_body bodies (as_accepted v f) id).body else None) ≡ (if id == new then Some f.body else body_of v id)
+  comes : (f : FrameValue) (new id : ℕ) → new ≡ v.tally.accepted →
+      (if (if id == new then true else is_inside w id) then Some (with_body bodies (as_accepted v f) id).body
+      else None) ≡ (if id == new then Some f.body else body_of v id)
   comes f new id next =
-      subst (λ k. (if (if id == k then true else is_inside w id) then Some (with_body bodies (as_accepted v f) id).body else None) ≡ (if id == k then Some f.body else body_of v id)) (sym next) (of (id == v.tally.accepted) refl)
+      subst (λ k. (if (if id == k then true else is_inside w id)
+      then Some (with_body bodies (as_accepted v f) id).body else None)
+      ≡ (if id == k then Some f.body else body_of v id)) (sym next) (of (id == v.tally.accepted) refl)
     where
-      of : (b : Bool) → (id == v.tally.accepted) ≡ b → (if (if id == v.tally.accepted then true else is_inside w id) then Some (if id == v.tally.accepted then as_accepted v f else bodies id).body else None) ≡ (if id == v.tally.accepted then Some f.body else body_of v id)
-      of true e = subst (λ b. (if (if b then true else is_inside w id) then Some (if b then as_accepted v f else bodies id).body else None) ≡ (if b then Some f.body else body_of v id)) (sym e) refl
-      of false e = subst (λ b. (if (if b then true else is_inside w id) then Some (if b then as_accepted v f else bodies id).body else None) ≡ (if b then Some f.body else body_of v id)) (sym e) (stays id)
+      of : (b : Bool) → (id == v.tally.accepted) ≡ b →
+          (if (if id == v.tally.accepted then true else is_inside w id)
+          then Some (if id == v.tally.accepted then as_accepted v f else bodies id).body else None)
+          ≡ (if id == v.tally.accepted then Some f.body else body_of v id)
+      of true e = subst (λ b. (if (if b then true else is_inside w id)
+          then Some (if b then as_accepted v f else bodies id).body else None)
+          ≡ (if b then Some f.body else body_of v id)) (sym e) refl
+      of false e = subst (λ b. (if (if b then true else is_inside w id)
+          then Some (if b then as_accepted v f else bodies id).body else None)
+          ≡ (if b then Some f.body else body_of v id)) (sym e) (stays id)
 
   -- a reaped id goes out
-  goes : (gone id : ℕ) → (if (if id == gone then false else is_inside w id) then Some (bodies id).body else None) ≡ (if id == gone then None else body_of v id)
+  goes : (gone id : ℕ) → (if (if id == gone then false else is_inside w id) then Some (bodies id).body
+      else None) ≡ (if id == gone then None else body_of v id)
   goes gone id = of (id == gone)
     where
-      of : (b : Bool) → (if (if b then false else is_inside w id) then Some (bodies id).body else None) ≡ (if b then None else body_of v id)
+      of : (b : Bool) → (if (if b then false else is_inside w id) then Some (bodies id).body else None)
+          ≡ (if b then None else body_of v id)
       of true = refl
       of false = stays id
 
-  by_reply : (job : Job) (answered : ReplyNote) (id : ℕ) → ((f : FrameValue) (new : ℕ) (dropped : Option ℕ) → job ≡ Give f → answered ≡ reply.Accepted new dropped → new ≡ v.tally.accepted) →
-      (if inside_after w answered (note_of job) id then Some (bodies_after v job answered bodies id).body else None) ≡ body_after v answered job id
+  by_reply : (job : Job) (answered : ReplyNote) (id : ℕ) →
+      ((f : FrameValue) (new : ℕ) (dropped : Option ℕ) → job ≡ Give f →
+      answered ≡ reply.Accepted new dropped → new ≡ v.tally.accepted) →
+      (if inside_after w answered (note_of job) id then Some (bodies_after v job answered bodies id).body
+      else None) ≡ body_after v answered job id
   by_reply (Give f) reply.Joined id next = stays id
   by_reply (Give f) (reply.Gone dropped) id next = stays id
   by_reply (Give f) reply.RateSet id next = stays id
@@ -80,21 +96,29 @@ module _ (v : TransmitValue) (w : World) (bodies : ℕ → FrameValue) (stands :
   by_reply (Call ask) (reply.Refused reason) id next = stays id
 
 -- the body of each id after a call
-pub bodies_then : (v u : TransmitValue) (w : World) (bodies : ℕ → FrameValue) (job : Job) (answered : ReplyNote) → StandsFor v w bodies → answered ≡ (step w (note_of job)).reply → StandsFor u (step w (note_of job)).world (bodies_after v job answered bodies) →
+pub bodies_then : (v u : TransmitValue) (w : World) (bodies : ℕ → FrameValue) (job : Job)
+    (answered : ReplyNote) → StandsFor v w bodies → answered ≡ (step w (note_of job)).reply →
+    StandsFor u (step w (note_of job)).world (bodies_after v job answered bodies) →
     (id : ℕ) → body_of u id ≡ body_after v answered job id
 bodies_then v u w bodies job answered stands told after id =
     let inside : is_inside (step w (note_of job)).world id ≡ inside_after w answered (note_of job) id =
-    inside_reached w stands.reached (note_of job) id ∙ ap (λ (r : ReplyNote). inside_after w r (note_of job) id) (sym told) in
+    inside_reached w stands.reached (note_of job) id
+    ∙ ap (λ (r : ReplyNote). inside_after w r (note_of job) id) (sym told) in
     bodies_are u (step w (note_of job)).world (bodies_after v job answered bodies) after id
     ∙ ap (λ (b : Bool). if b then Some (bodies_after v job answered bodies id).body else None) inside
     ∙ by_reply v w bodies stands job answered id
-    (λ f new dropped is said. next_id w f.station f.tid f.flow _ new dropped (ap (λ (j : Job). (step w (note_of j)).reply) (sym is) ∙ sym told ∙ said) ∙ sym (ap (λ (c : Counts). c.accepted) stands.parts.others.tally))
+    (λ f new dropped is said. next_id w f.station f.tid f.flow _ new dropped
+    (ap (λ (j : Job). (step w (note_of j)).reply) (sym is) ∙ sym told ∙ said)
+    ∙ sym (ap (λ (c : Counts). c.accepted) stands.parts.others.tally))
 
 -- the frame that a reap hands back has the body that its id had
-pub reaped_body : (v : TransmitValue) (w : World) (bodies : ℕ → FrameValue) (job : Job) (answered : ReplyNote) (back : Option FrameValue) → StandsFor v w bodies → answered ≡ (step w (note_of job)).reply → back ≡ given_back bodies job answered →
+pub reaped_body : (v : TransmitValue) (w : World) (bodies : ℕ → FrameValue) (job : Job) (answered : ReplyNote)
+    (back : Option FrameValue) → StandsFor v w bodies → answered ≡ (step w (note_of job)).reply →
+    back ≡ frame_given_back bodies job answered →
     (id : ℕ) (fate : Fate) → answered ≡ reply.Reaped id fate → IfSome back (λ f. body_of v id ≡ Some f.body)
 reaped_body v w bodies job answered back stands told given id fate is =
-    subst (λ (b : Option FrameValue). IfSome b (λ f. body_of v id ≡ Some f.body)) (sym (given ∙ ap (given_back bodies job) is)) (of job (sym (sym is ∙ told)))
+    subst (λ (b : Option FrameValue). IfSome b (λ f. body_of v id ≡ Some f.body))
+    (sym (given ∙ ap (frame_given_back bodies job) is)) (of job (sym (sym is ∙ told)))
   where
     had : (step w (Asked ask.Reap)).reply ≡ reply.Reaped id fate → body_of v id ≡ Some (bodies id).body
     had e =
@@ -102,7 +126,8 @@ reaped_body v w bodies job answered back stands told given id fate is =
         let inside : is_inside w id ≡ true = on_bool (is_held_id w id) (λ b. cc b) (λ b. cc (b, there)) in
         bodies_are v w bodies stands id ∙ ap (λ (b : Bool). if b then Some (bodies id).body else None) inside
 
-    of : (j : Job) → (step w (note_of j)).reply ≡ reply.Reaped id fate → IfSome (given_back bodies j (reply.Reaped id fate)) (λ f. body_of v id ≡ Some f.body)
+    of : (j : Job) → (step w (note_of j)).reply ≡ reply.Reaped id fate →
+        IfSome (frame_given_back bodies j (reply.Reaped id fate)) (λ f. body_of v id ≡ Some f.body)
     of (Give f) e = tt
     of (Call ask.Reap) e = had e
     of (Call (ask.Join s window start exponent weight)) e = tt
@@ -119,7 +144,8 @@ reaped_body v w bodies job answered back stands told given id fate is =
     of (Call (ask.Rx s c air)) e = tt
 
 -- the ids that have a body are those inside
-pub ids_inside : (v : TransmitValue) (w : World) (bodies : ℕ → FrameValue) → StandsFor v w bodies → (id : ℕ) → is_some (body_of v id) ≡ is_inside w id
+pub ids_inside : (v : TransmitValue) (w : World) (bodies : ℕ → FrameValue) → StandsFor v w bodies → (id : ℕ) →
+    is_some (body_of v id) ≡ is_inside w id
 ids_inside v w bodies stands id = ap is_some (bodies_are v w bodies stands id) ∙ of (is_inside w id)
   where
     of : (b : Bool) → is_some (if b then Some (bodies id).body else None) ≡ b

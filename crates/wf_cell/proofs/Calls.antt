@@ -14,55 +14,68 @@ use Rattle.wf_frame.specs.declared.notes.Part.{Part}
 use Rattle.wf_frame.specs.declared.notes.Refusal.{Refusal}
 use Rattle.wf_frame.specs.declared.notes.ReplyNote.{ReplyNote}
 use Rattle.wf_frame.specs.declared.notes.ReplyNote.TheVariants as reply
-use Rattle.wf_world.specs.World.{World, Exchange}
-use Rattle.wf_world.specs.Exchanges.{picked_station, after_pick, after_tid_turn, sending_tid, prepared_exchange, exchange_of, Prepared, part_of as world_part_of}
-use Rattle.wf_world.specs.Refusals.{refusal, refusals}
-use Rattle.wf_world.specs.Step.{Outcome, outcome_of, join_outcome, pull_outcome, pull_outcome_for, send_outcome, step}
-use Rattle.wf_laws.proofs.Deficits.KeptStep.{no_row}
-use Rattle.wf_marks.specs.declared.marks.Mark.{Mark}
-use Rattle.wf_marks.specs.Marks.{new_mark}
-use Rattle.wf_peer.specs.Agreements.{PeerValue, new_peer}
-use Rattle.wf_transmit_refines.specs.Half.{TransmitValue}
-use Rattle.wf_transmit_refines.specs.Standing.{StandsFor, IsReached, Meets as PathMeets}
-use Rattle.wf_transmit_refines.proofs.Reached.{step_done, step_refused}
+use Rattle.wf_def_world.specs.World.{World, Exchange}
+use Rattle.wf_def_world.specs.Exchanges.{picked_station, after_pick, after_tid_turn, sending_tid, prepared_exchange, exchange_of, Prepared, part_of as world_part_of}
+use Rattle.wf_def_world.specs.Refusals.{refusal, refusals}
+use Rattle.wf_def_world.specs.Step.{Outcome, outcome_of, join_outcome, pull_outcome, pull_outcome_for, send_outcome, step}
+use Rattle.wf_law_runs.proofs.Deficits.KeptStep.{no_row}
+use Rattle.wf_send_exchanges.specs.declared.marks.Mark.{Mark}
+use Rattle.wf_send_exchanges.specs.Marks.{new_mark}
+use Rattle.wf_recv_peer.specs.Agreements.{PeerValue, new_peer}
+use Rattle.wf_send_half_refines.specs.Half.{TransmitValue}
+use Rattle.wf_send_half_refines.specs.Standing.{StandsFor, IsReached, Meets as PathMeets}
+use Rattle.wf_send_half_refines.proofs.Reached.{step_done, step_refused}
 use Rattle.wf_path.specs.declared.job.Job.{Job}
 use Rattle.wf_path.specs.declared.job.Job.TheVariants.{Call}
-use Rattle.wf_path.specs.Jobs.{IsHeard, note_of, bodies_after, given_back}
-use Rattle.wf_receive_refines.specs.Arriving.{IsUntold}
-use Rattle.wf_receive_refines.specs.Hearing.{Hears, with_peer, peer_of}
-use Rattle.wf_cell.specs.Engines.{EngineValue, IsIn, IsDone, Meets}
-use Rattle.wf_receive_refines.proofs.Keeping.{untold_hears, refused_hears}
-use Rattle.wf_receive_refines.proofs.Joining.{joined_hears, station_in_range}
-use Rattle.wf_receive_refines.proofs.Opening.{opened_hears, opened_number, marks_within, marks_below}
+use Rattle.wf_path.specs.Jobs.{IsHeard, note_of, bodies_after, frame_given_back}
+use Rattle.wf_recv_refines.specs.Arriving.{IsUntold}
+use Rattle.wf_recv_refines.specs.Hearing.{Hears, with_peer, peer_of}
+use Rattle.wf_cell.specs.Engines.{EngineValue, EngineIsIn, IsJobDone, EngineMeets}
+use Rattle.wf_recv_refines.proofs.Keeping.{untold_hears, refused_hears}
+use Rattle.wf_recv_refines.proofs.Joining.{joined_hears, station_in_range}
+use Rattle.wf_recv_refines.proofs.Opening.{opened_hears, opened_number, marks_within, marks_below}
 
 -- ---- what the path makes of a job, and what comes back
 
-pub record PathTakes (before : TransmitValue) (job : Job) (after : TransmitValue) (answered : ReplyNote) (back : Option FrameValue) : Type 0 where
-  pub meets : (w : World) (bodies : ℕ → FrameValue) → StandsFor before w bodies → PathMeets w (bodies_after before job answered bodies) (note_of job) after answered
-  pub parcel : (w : World) (bodies : ℕ → FrameValue) → StandsFor before w bodies → back ≡ given_back bodies job answered
+pub record PathTakes (before : TransmitValue) (job : Job) (after : TransmitValue) (answered : ReplyNote)
+    (back : Option FrameValue) : Type 0 where
+  pub meets : (w : World) (bodies : ℕ → FrameValue) → StandsFor before w bodies →
+      PathMeets w (bodies_after before job answered bodies) (note_of job) after answered
+  pub parcel : (w : World) (bodies : ℕ → FrameValue) → StandsFor before w bodies →
+      back ≡ frame_given_back bodies job answered
 
 -- a job that no receive half and no mark hears of
-pub untold_done : (v : EngineValue) (job : Job) (after : TransmitValue) (answered : ReplyNote) (back : Option FrameValue) → PathTakes v.half job after answered back → IsUntold (note_of job) →
-    (w : World) (bodies : ℕ → FrameValue) → IsIn v w bodies → IsDone w bodies job v.half (record v { half = after }) answered back
+pub untold_done : (v : EngineValue) (job : Job) (after : TransmitValue) (answered : ReplyNote)
+    (back : Option FrameValue) → PathTakes v.half job after answered back → IsUntold (note_of job) →
+    (w : World) (bodies : ℕ → FrameValue) → EngineIsIn v w bodies →
+    IsJobDone w bodies job v.half (record v { half = after }) answered back
 untold_done v job after answered back path untold w bodies i =
     let m = path.meets w bodies i.half in
     record {
-      is_in = record { half = m.stands; hears = untold_hears v.peers v.marks w (note_of job) i.half.reached i.hears untold };
+      is_in = record {
+        half = m.stands;
+        hears = untold_hears v.peers v.marks w
+            (note_of job) i.half.reached i.hears untold;
+      };
       reply = m.reply;
       back = path.parcel w bodies i.half;
     }
 
 -- a job without a frame, by what its call leads to; it is none that gives a frame back
-pub ask_done : (v u : EngineValue) (a : Ask) (answered : ReplyNote) → ((bodies : ℕ → FrameValue) → given_back bodies (Call a) answered ≡ None) →
-    ((w : World) (bodies : ℕ → FrameValue) → IsIn v w bodies → Meets w bodies (Asked a) u answered) →
-    (w : World) (bodies : ℕ → FrameValue) → IsIn v w bodies → IsDone w bodies (Call a) v.half u answered None
+pub ask_done : (v u : EngineValue) (a : Ask) (answered : ReplyNote) →
+    ((bodies : ℕ → FrameValue) → frame_given_back bodies (Call a) answered ≡ None) →
+    ((w : World) (bodies : ℕ → FrameValue) → EngineIsIn v w bodies →
+    EngineMeets w bodies (Asked a) u answered) →
+    (w : World) (bodies : ℕ → FrameValue) → EngineIsIn v w bodies →
+    IsJobDone w bodies (Call a) v.half u answered None
 ask_done v u a answered none meets w bodies i =
     let m = meets w bodies i in record { is_in = m.is_in; reply = m.reply; back = sym (none bodies) }
 
 -- ---- refusals and replies
 
 -- a call whose reply is no refusal is not refused
-pub not_refused : (w : World) (note : Note) → ((r : Refusal) → (step w note).reply ≡ reply.Refused r → ⊥) → refusal w note ≡ None
+pub not_refused : (w : World) (note : Note) → ((r : Refusal) → (step w note).reply ≡ reply.Refused r → ⊥) →
+    refusal w note ≡ None
 not_refused w note other = of (refusal w note) refl
   where
     of : (o : Option Refusal) → refusal w note ≡ o → refusal w note ≡ None
@@ -82,43 +95,65 @@ refused_else w note other = of (refusal w note) refl
     of None e = absurd (other e)
     of (Some r) e = record { reason = r; refused = e }
 
-done_reply : (w : World) (note : Note) → refusal w note ≡ None → (step w note).reply ≡ (outcome_of w note).reply
+done_reply : (w : World) (note : Note) → refusal w note ≡ None →
+    (step w note).reply ≡ (outcome_of w note).reply
 done_reply w note e = ap (λ (o : Outcome). o.reply) (step_done w note e)
 
 -- a refused call leads to where it was, with the same receive halves and marks
-pub refused_meets : (v : EngineValue) (after : TransmitValue) (note : Note) (answered : ReplyNote) (w : World) (bodies : ℕ → FrameValue) → IsIn v w bodies → PathMeets w bodies note after answered →
-    IsRefused w note → Meets w bodies note (record v { half = after }) answered
+pub refused_meets : (v : EngineValue) (after : TransmitValue) (note : Note) (answered : ReplyNote) (w : World)
+    (bodies : ℕ → FrameValue) → EngineIsIn v w bodies → PathMeets w bodies note after answered →
+    IsRefused w note → EngineMeets w bodies note (record v { half = after }) answered
 refused_meets v after note answered w bodies i m r = record {
-  is_in = record { half = m.stands; hears = refused_hears v.peers v.marks w note r.reason i.half.reached i.hears r.refused };
+  is_in = record {
+    half = m.stands;
+    hears = refused_hears v.peers v.marks w note r.reason i.half.reached
+        i.hears r.refused;
+  };
   reply = m.reply;
 }
 
 -- ---- a join
 
 module _ (w : World) (s window start exponent weight : ℕ) where
-  pub joined_reply : refusal w (Asked (ask.Join s window start exponent weight)) ≡ None → (step w (Asked (ask.Join s window start exponent weight))).reply ≡ reply.Joined
+  pub joined_reply : refusal w (Asked (ask.Join s window start exponent weight)) ≡ None →
+      (step w (Asked (ask.Join s window start exponent weight))).reply ≡ reply.Joined
   unfolding outcome_of join_outcome
   joined_reply e = done_reply w (Asked (ask.Join s window start exponent weight)) e
 
-  pub is_joined : (step w (Asked (ask.Join s window start exponent weight))).reply ≡ reply.Joined → refusal w (Asked (ask.Join s window start exponent weight)) ≡ None
-  is_joined e = not_refused w (Asked (ask.Join s window start exponent weight)) (λ r other. let two : reply.Joined ≡ reply.Refused r = sym e ∙ other in cc)
+  pub is_joined : (step w (Asked (ask.Join s window start exponent weight))).reply ≡ reply.Joined →
+      refusal w (Asked (ask.Join s window start exponent weight)) ≡ None
+  is_joined e = not_refused w (Asked (ask.Join s window start exponent weight))
+      (λ r other. let two : reply.Joined ≡ reply.Refused r = sym e ∙ other in cc)
 
-  pub not_joined : ((step w (Asked (ask.Join s window start exponent weight))).reply ≡ reply.Joined → ⊥) → IsRefused w (Asked (ask.Join s window start exponent weight))
-  not_joined other = refused_else w (Asked (ask.Join s window start exponent weight)) (λ e. other (joined_reply e))
+  pub not_joined : ((step w (Asked (ask.Join s window start exponent weight))).reply ≡ reply.Joined → ⊥) →
+      IsRefused w (Asked (ask.Join s window start exponent weight))
+  not_joined other = refused_else w (Asked (ask.Join s window start exponent weight))
+      (λ e. other (joined_reply e))
 
 -- a station that joins has a new receive half
-pub joined_meets : (v : EngineValue) (after : TransmitValue) (answered : ReplyNote) (w : World) (bodies : ℕ → FrameValue) (s window start exponent weight number : ℕ) →
-    IsIn v w bodies → PathMeets w bodies (Asked (ask.Join s window start exponent weight)) after answered → answered ≡ reply.Joined → number ≡ start →
-    Meets w bodies (Asked (ask.Join s window start exponent weight)) (record v { half = after; peers = with_peer s (new_peer (peer_of v.peers s).station number window) v.peers }) answered
+pub joined_meets : (v : EngineValue) (after : TransmitValue) (answered : ReplyNote) (w : World)
+    (bodies : ℕ → FrameValue) (s window start exponent weight number : ℕ) →
+    EngineIsIn v w bodies → PathMeets w bodies (Asked (ask.Join s window start exponent weight)) after
+    answered → answered ≡ reply.Joined → number ≡ start →
+    EngineMeets w bodies (Asked (ask.Join s window start exponent weight))
+    (record v {
+      half = after;
+      peers = with_peer s
+          (new_peer (peer_of v.peers s).station number window) v.peers;
+    }) answered
 joined_meets v after answered w bodies s window start exponent weight number i m is same =
-    let done : refusal w (Asked (ask.Join s window start exponent weight)) ≡ None = is_joined w s window start exponent weight (sym m.reply ∙ is) in
-    let own : (peer_of v.peers s).station ≡ s = i.hears.sized.station s (station_in_range w s window start exponent weight done) in
+    let done : refusal w (Asked (ask.Join s window start exponent weight)) ≡ None =
+    is_joined w s window start exponent weight (sym m.reply ∙ is) in
+    let own : (peer_of v.peers s).station ≡ s = i.hears.sized.station s
+    (station_in_range w s window start exponent weight done) in
     record {
       is_in = record {
         half = m.stands;
         hears =
-            subst (λ (p : PeerValue). Hears (with_peer s p v.peers) v.marks (step w (Asked (ask.Join s window start exponent weight))).world)
-            (ap (λ k. new_peer k start window) (sym own) ∙ ap (λ k. new_peer (peer_of v.peers s).station k window) (sym same))
+            subst (λ (p : PeerValue). Hears (with_peer s p v.peers) v.marks
+            (step w (Asked (ask.Join s window start exponent weight))).world)
+            (ap (λ k. new_peer k start window) (sym own) ∙ ap
+            (λ k. new_peer (peer_of v.peers s).station k window) (sym same))
             (joined_hears v.peers v.marks w s window start exponent weight i.half.reached i.hears done);
       };
       reply = m.reply;
@@ -140,41 +175,63 @@ send_is : (s t : ℕ) (c : Class) (p : Prepared) → IsSend (send_outcome s t c 
 unfolding send_outcome
 send_is s t c p =
     let x : Exchange = exchange_of s t c p in
-    record { number = x.number; station = s; tid = t; charge = x.charge; part = world_part_of x.content; more = x.more; is = refl }
+    record {
+      number = x.number;
+      station = s;
+      tid = t;
+      charge = x.charge;
+      part = world_part_of x.content;
+      more = x.more;
+      is = refl;
+    }
 
 picked_is : (w : World) (c : Class) (s : ℕ) → IsSend (pull_outcome_for w c (Some s)).reply
 unfolding pull_outcome_for
-picked_is w c s = send_is s (sending_tid w s c) c (prepared_exchange (after_tid_turn w s c (sending_tid w s c)) s (sending_tid w s c))
+picked_is w c s = send_is s (sending_tid w s c) c
+    (prepared_exchange (after_tid_turn w s c (sending_tid w s c)) s (sending_tid w s c))
 
-pulled_is : (w : World) (c : Class) (winner : Option ℕ) → is_none winner ≡ false → IsSend (pull_outcome_for w c winner).reply
+pulled_is : (w : World) (c : Class) (winner : Option ℕ) → is_none winner ≡ false →
+    IsSend (pull_outcome_for w c winner).reply
 pulled_is w c None some = absurd (cc)
 pulled_is w c (Some s) some = picked_is w c s
 
-pub pulled_reply : (w : World) (c : Class) → refusal w (Asked (ask.Pull c)) ≡ None → IsSend (step w (Asked (ask.Pull c))).reply
+pub pulled_reply : (w : World) (c : Class) → refusal w (Asked (ask.Pull c)) ≡ None →
+    IsSend (step w (Asked (ask.Pull c))).reply
 unfolding outcome_of pull_outcome
 pulled_reply w c e =
-    subst IsSend (sym (done_reply w (Asked (ask.Pull c)) e)) (pulled_is (after_pick w c) c (picked_station w c).winner (no_row (refusals w (Asked (ask.Pull c))) e).1.0)
+    subst IsSend (sym (done_reply w (Asked (ask.Pull c)) e))
+    (pulled_is (after_pick w c) c (picked_station w c).winner
+    (no_row (refusals w (Asked (ask.Pull c))) e).1.0)
 
-pub not_pulled : (w : World) (c : Class) → (IsSend (step w (Asked (ask.Pull c))).reply → ⊥) → IsRefused w (Asked (ask.Pull c))
+pub not_pulled : (w : World) (c : Class) → (IsSend (step w (Asked (ask.Pull c))).reply → ⊥) →
+    IsRefused w (Asked (ask.Pull c))
 not_pulled w c other = refused_else w (Asked (ask.Pull c)) (λ e. other (pulled_reply w c e))
 
-module _ (w : World) (c : Class) (r : IsReached w) (answered : ReplyNote) (same : answered ≡ (step w (Asked (ask.Pull c))).reply) (sent : IsSend answered) where
+module _ (w : World) (c : Class) (r : IsReached w) (answered : ReplyNote)
+    (same : answered ≡ (step w (Asked (ask.Pull c))).reply) (sent : IsSend answered) where
   pub is_pulled : refusal w (Asked (ask.Pull c)) ≡ None
-  is_pulled = not_refused w (Asked (ask.Pull c)) (λ r other. let two : reply.Send sent.number sent.station sent.tid sent.charge sent.part sent.more ≡ reply.Refused r = sym sent.is ∙ same ∙ other in cc)
+  is_pulled = not_refused w (Asked (ask.Pull c))
+      (λ r other. let two : reply.Send sent.number sent.station sent.tid sent.charge sent.part sent.more
+      ≡ reply.Refused r = sym sent.is ∙ same ∙ other in cc)
 
   pub number_is : sent.number ≡ w.exchanges
-  number_is = opened_number w c sent.number sent.station sent.tid sent.charge sent.part sent.more r (sym same ∙ sent.is)
+  number_is = opened_number w c sent.number sent.station sent.tid sent.charge sent.part sent.more r
+      (sym same ∙ sent.is)
 
 -- an exchange that opens has a mark, for which there is room
-pub pulled_meets : (v : EngineValue) (after : TransmitValue) (answered : ReplyNote) (w : World) (bodies : ℕ → FrameValue) (c : Class) → IsIn v w bodies →
+pub pulled_meets : (v : EngineValue) (after : TransmitValue) (answered : ReplyNote) (w : World)
+    (bodies : ℕ → FrameValue) (c : Class) → EngineIsIn v w bodies →
     PathMeets w bodies (Asked (ask.Pull c)) after answered → (sent : IsSend answered) →
-    Meets w bodies (Asked (ask.Pull c)) (record v { half = after; marks = v.marks ++ new_mark sent.number ∷ [] }) answered
+    EngineMeets w bodies (Asked (ask.Pull c)) (record
+    v { half = after; marks = v.marks ++ new_mark sent.number ∷ [] }) answered
 pulled_meets v after answered w bodies c i m sent = record {
   is_in = record {
     half = m.stands;
     hears =
-        subst (λ n. Hears v.peers (v.marks ++ new_mark n ∷ []) (step w (Asked (ask.Pull c))).world) (sym (number_is w c i.half.reached answered m.reply sent))
-        (opened_hears v.peers v.marks w c i.half.reached i.hears (is_pulled w c i.half.reached answered m.reply sent));
+        subst (λ n. Hears v.peers (v.marks ++ new_mark n ∷ []) (step w (Asked (ask.Pull c))).world)
+        (sym (number_is w c i.half.reached answered m.reply sent))
+        (opened_hears v.peers v.marks w c i.half.reached i.hears
+        (is_pulled w c i.half.reached answered m.reply sent));
   };
   reply = m.reply;
 }
@@ -184,16 +241,22 @@ pub record HasPlaceFor (marks : List Mark) (number : ℕ) : Type 0 where
   pub room : length marks < 32
   pub above : All (λ k. k.number < number) marks
 
-pub mark_fits : (v : EngineValue) (after : TransmitValue) (answered : ReplyNote) (w : World) (bodies : ℕ → FrameValue) (c : Class) → IsIn v w bodies →
-    PathMeets w bodies (Asked (ask.Pull c)) after answered → (sent : IsSend answered) → HasPlaceFor v.marks sent.number
+pub mark_fits : (v : EngineValue) (after : TransmitValue) (answered : ReplyNote) (w : World)
+    (bodies : ℕ → FrameValue) (c : Class) → EngineIsIn v w bodies →
+    PathMeets w bodies (Asked (ask.Pull c)) after answered → (sent : IsSend answered) →
+    HasPlaceFor v.marks sent.number
 mark_fits v after answered w bodies c i m sent = record {
-  room = marks_within v.peers v.marks w c i.half.reached i.hears (is_pulled w c i.half.reached answered m.reply sent);
-  above = subst (λ n. All (λ k. k.number < n) v.marks) (sym (number_is w c i.half.reached answered m.reply sent)) (marks_below v.peers v.marks w i.half.reached i.hears);
+  room = marks_within v.peers v.marks w c i.half.reached i.hears
+      (is_pulled w c i.half.reached answered m.reply sent);
+  above = subst (λ n. All (λ k. k.number < n) v.marks)
+      (sym (number_is w c i.half.reached answered m.reply sent))
+      (marks_below v.peers v.marks w i.half.reached i.hears);
 }
 
 -- ---- briefs
 
-pub joined_brief : (b : Brief) (pairs : List (ℕ × ℕ)) (ids : List ℕ) → reply_with b pairs ids ≡ reply.Joined → b ≡ brief.Joined
+pub joined_brief : (b : Brief) (pairs : List (ℕ × ℕ)) (ids : List ℕ) → reply_with b pairs ids ≡ reply.Joined →
+    b ≡ brief.Joined
 joined_brief brief.Joined pairs ids e = refl
 joined_brief _ pairs ids e = cc
 

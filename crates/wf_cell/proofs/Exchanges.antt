@@ -1,4 +1,5 @@
--- Open exchanges: what arrives of them, what is answered, and their ends, by the marks and by what the path tells of them.
+-- Open exchanges: what arrives of them, what is answered, and their ends, by the marks and by what the path
+-- tells of them.
 use Rattle.std.proofs.Common.{◌≡◌, refl, ap, sym, ◌∙◌, subst, ℕ, ◌<◌, ◌≤◌, Bool, true, false, List, Option, Some, None, IfSome, length, arith}
 use Rattle.std.specs.Prelude.{◌==◌, IfNone, not, filter, option_map, option_and_then, is_none, nat_le, nat_lt, ◌&&◌, if◌then◌else◌}
 use Rattle.std.proofs.lemmas.Bool.{leb-false}
@@ -12,39 +13,39 @@ use Rattle.wf_frame.specs.declared.notes.Refusal.{Refusal}
 use Rattle.wf_frame.specs.declared.notes.Refusal.TheVariants.{NoExchange, NoAnswer, Idle}
 use Rattle.wf_frame.specs.declared.notes.ReplyNote.{ReplyNote}
 use Rattle.wf_frame.specs.declared.notes.ReplyNote.TheVariants.{Refused, Released, Ba}
-use Rattle.wf_rules.specs.Receiver.{Score}
-use Rattle.wf_rules.specs.Table.{word_of}
-use Rattle.wf_world.specs.World.{World, Exchange, Content, Frames, Request, exchange}
-use Rattle.wf_world.specs.Exchanges.{transmissions, mpdus_of}
-use Rattle.wf_world.specs.Refusals.{refusal, refusals, exchange_has}
-use Rattle.wf_world.specs.Step.{Outcome, step}
-use Rattle.wf_laws.specs.Sent.{IsSent}
-use Rattle.wf_laws.specs.Windows.{EachOpen}
-use Rattle.wf_laws.proofs.Deficits.KeptStep.{no_row}
-use Rattle.wf_laws.proofs.Sent.Law.{sent_law}
-use Rattle.wf_marks.specs.declared.marks.Mark.{Mark}
-use Rattle.wf_marks.specs.Marks.{with_arrival, with_answer, with_changed}
-use Rattle.wf_score.specs.Board.{Board}
-use Rattle.wf_peer.specs.Agreements.{PeerValue}
-use Rattle.wf_transmit.specs.Bits.{AreShown}
-use Rattle.wf_transmit_refines.specs.Half.{TransmitValue}
-use Rattle.wf_transmit_refines.specs.Standing.{StandsFor, IsReached, Meets as PathMeets}
-use Rattle.wf_transmit_refines.proofs.Reached.{by_law, step_refused}
-use Rattle.wf_transmit_refines.proofs.Endings.{found}
-use Rattle.wf_transmit_refines.proofs.Meets.{refused_meets}
-use Rattle.wf_transmit_refines.proofs.Whole.{arrive_stands, answer_stands}
-use Rattle.wf_transmissions.specs.declared.reading.Sent.{Sent}
-use Rattle.wf_transmissions.specs.Transmissions.{sent_of}
-use Rattle.wf_receive_refines.specs.Arriving.{CarriesId, peer_after, buffer_outcome}
-use Rattle.wf_receive_refines.specs.Hearing.{with_peer, peer_of, agreement_of, mark_of, kept_of}
-use Rattle.wf_receive_refines.specs.Refusing.{mark_in, arrive_refusal, answer_refusal, done_refusal}
-use Rattle.wf_cell.specs.Engines.{EngineValue, IsIn, Meets}
-use Rattle.wf_receive_refines.proofs.Keeping.{refused_hears, ended_hears}
-use Rattle.wf_receive_refines.proofs.Sent.{station_now, tid_now}
-use Rattle.wf_receive_refines.proofs.Arriving.{arrived_hears, arrived_up}
-use Rattle.wf_receive_refines.proofs.Answering.{answered_hears, answer_reply}
-use Rattle.wf_receive_refines.proofs.Telling.{mark_told, arrive_told, answer_told, done_told}
-use Rattle.wf_receive_refines.proofs.Shown.{kept_shown as score_shown}
+use Rattle.wf_def_agreement.specs.Receiver.{Score}
+use Rattle.wf_def_lists.specs.Table.{bits_word}
+use Rattle.wf_def_world.specs.World.{World, Exchange, Content, Frames, Request, exchange}
+use Rattle.wf_def_world.specs.Exchanges.{transmissions, mpdus_of}
+use Rattle.wf_def_world.specs.Refusals.{refusal, refusals, exchange_has}
+use Rattle.wf_def_world.specs.Step.{Outcome, step}
+use Rattle.wf_law_runs.specs.Sent.{IsSent}
+use Rattle.wf_law_runs.specs.Windows.{EachOpen}
+use Rattle.wf_law_runs.proofs.Deficits.KeptStep.{no_row}
+use Rattle.wf_law_runs.proofs.Sent.Law.{sent_law}
+use Rattle.wf_send_exchanges.specs.declared.marks.Mark.{Mark}
+use Rattle.wf_send_exchanges.specs.Marks.{with_arrival, with_answer, with_changed}
+use Rattle.wf_recv_agreement.specs.Board.{Board}
+use Rattle.wf_recv_peer.specs.Agreements.{PeerValue}
+use Rattle.wf_send_half.specs.Bits.{AreShown}
+use Rattle.wf_send_half_refines.specs.Half.{TransmitValue}
+use Rattle.wf_send_half_refines.specs.Standing.{StandsFor, IsReached, Meets as PathMeets}
+use Rattle.wf_send_half_refines.proofs.Reached.{by_law, step_refused}
+use Rattle.wf_send_half_refines.proofs.Endings.{found}
+use Rattle.wf_send_half_refines.proofs.Meets.{refused_meets}
+use Rattle.wf_send_half_refines.proofs.Whole.{arrive_stands, answer_stands}
+use Rattle.wf_path.specs.declared.reading.Sent.{Sent}
+use Rattle.wf_path.specs.Transmissions.{sent_of}
+use Rattle.wf_recv_refines.specs.Arriving.{CarriesId, peer_after, buffer_outcome_of_transmission}
+use Rattle.wf_recv_refines.specs.Hearing.{with_peer, peer_of, agreement_of, mark_of, kept_of}
+use Rattle.wf_recv_refines.specs.Refusing.{mark_in, arrive_refusal, answer_refusal, done_refusal}
+use Rattle.wf_cell.specs.Engines.{EngineValue, EngineIsIn, EngineMeets}
+use Rattle.wf_recv_refines.proofs.Keeping.{refused_hears, ended_hears}
+use Rattle.wf_recv_refines.proofs.Sent.{station_now, tid_now}
+use Rattle.wf_recv_refines.proofs.Arriving.{arrived_hears, arrived_up}
+use Rattle.wf_recv_refines.proofs.Answering.{answered_hears, answer_reply}
+use Rattle.wf_recv_refines.proofs.Telling.{mark_told, arrive_told, answer_told, done_told}
+use Rattle.wf_recv_refines.proofs.Shown.{kept_shown as score_shown}
 
 -- ---- which are open
 
@@ -53,7 +54,8 @@ pub record IsOpen (w : World) (e : ℕ) : Type 0 where
   pub sending : Exchange
   pub known : exchange w e ≡ Some sending
 
-open_where : {X : Type 0} (f : Exchange → X) (o : Option Exchange) (y : X) → option_map f o ≡ Some y → (x : Exchange) × ((o ≡ Some x) × (f x ≡ y))
+open_where : {X : Type 0} (f : Exchange → X) (o : Option Exchange) (y : X) → option_map f o ≡ Some y →
+    (x : Exchange) × ((o ≡ Some x) × (f x ≡ y))
 open_where f None y e = absurd (cc)
 open_where f (Some x) y e = let same : f x ≡ y = cc in (x, (refl, same))
 
@@ -61,21 +63,26 @@ none_where : {X : Type 0} (f : Exchange → X) (o : Option Exchange) → option_
 none_where f None e = refl
 none_where f (Some x) e = absurd (cc)
 
-pub none_open : (v : EngineValue) (w : World) (bodies : ℕ → FrameValue) (e : ℕ) → IsIn v w bodies → mark_in v.marks e ≡ None → exchange w e ≡ None
-none_open v w bodies e i none = none_where mark_of (exchange w e) (sym (mark_told v.peers v.marks w e i.hears) ∙ none)
+pub none_open : (v : EngineValue) (w : World) (bodies : ℕ → FrameValue) (e : ℕ) → EngineIsIn v w bodies →
+    mark_in v.marks e ≡ None → exchange w e ≡ None
+none_open v w bodies e i none = none_where mark_of (exchange w e)
+    (sym (mark_told v.peers v.marks w e i.hears) ∙ none)
 
 pub none_sent : (w : World) (e : ℕ) → None ≡ option_map sent_of (exchange w e) → exchange w e ≡ None
 none_sent w e none = none_where sent_of (exchange w e) (sym none)
 
-pub no_mark : (v : EngineValue) (w : World) (bodies : ℕ → FrameValue) (e : ℕ) → IsIn v w bodies → exchange w e ≡ None → mark_in v.marks e ≡ None
+pub no_mark : (v : EngineValue) (w : World) (bodies : ℕ → FrameValue) (e : ℕ) → EngineIsIn v w bodies →
+    exchange w e ≡ None → mark_in v.marks e ≡ None
 no_mark v w bodies e i none = mark_told v.peers v.marks w e i.hears ∙ ap (option_map mark_of) none
 
 -- an open exchange has at most 256 transmissions
-pub transmissions_few : (w : World) (e : ℕ) (x : Exchange) → IsReached w → exchange w e ≡ Some x → transmissions x.content < 257
+pub transmissions_few : (w : World) (e : ℕ) (x : Exchange) → IsReached w → exchange w e ≡ Some x →
+    transmissions x.content < 257
 transmissions_few w e x r known = few x.content sent.most
   where
     sent : IsSent w x
-    sent = found (IsSent w) w.opened e x known (by_law (λ u. EachOpen (IsSent u) u.opened) w r (λ m. (sent_law w.config r.history m).opened))
+    sent = found (IsSent w) w.opened e x known (by_law (λ u. EachOpen (IsSent u) u.opened) w r
+        (λ m. (sent_law w.config r.history m).opened))
 
     few : (content : Content) → length (mpdus_of content) ≤ 256 → transmissions content < 257
     few (Frames mpdus) most = omega (arith, most)
@@ -84,8 +91,9 @@ transmissions_few w e x r known = few x.content sent.most
 -- ---- a call of an exchange that is refused
 
 -- it leads to where it was
-refused_in : (v : EngineValue) (note : Note) (r : Refusal) (w : World) (bodies : ℕ → FrameValue) → IsIn v w bodies → StandsFor v.half (step w note).world bodies → refusal w note ≡ Some r →
-    Meets w bodies note v (Refused r)
+refused_in : (v : EngineValue) (note : Note) (r : Refusal) (w : World) (bodies : ℕ → FrameValue) →
+    EngineIsIn v w bodies → StandsFor v.half (step w note).world bodies → refusal w note ≡ Some r →
+    EngineMeets w bodies note v (Refused r)
 refused_in v note r w bodies i stands e = record {
   is_in = record { half = stands; hears = refused_hears v.peers v.marks w note r i.half.reached i.hears e };
   reply = sym (ap (λ (o : Outcome). o.reply) (step_refused w note r e));
@@ -93,47 +101,73 @@ refused_in v note r w bodies i stands e = record {
 
 -- ---- what arrives
 
-module _ (v : EngineValue) (w : World) (bodies : ℕ → FrameValue) (e k : ℕ) (i : IsIn v w bodies) where
+module _ (v : EngineValue) (w : World) (bodies : ℕ → FrameValue) (e k : ℕ) (i : EngineIsIn v w bodies) where
   pub arrive_not_open : exchange w e ≡ None → Some NoExchange ≡ refusal w (Asked (Arrive e k))
   arrive_not_open none =
-      sym (arrive_told v.peers v.marks w e k 0 i.hears (subst (λ (o : Option Exchange). IfSome o (λ x. 0 ≡ transmissions x.content)) (sym none) tt)
+      sym (arrive_told v.peers v.marks w e k 0 i.hears
+      (subst (λ (o : Option Exchange). IfSome o (λ x. 0 ≡ transmissions x.content)) (sym none) tt)
       ∙ ap (λ (m : Option Mark). arrive_refusal m 0 k) (no_mark v w bodies e i none))
 
-  pub arrive_open : (sent : Sent) (m : Mark) → Some sent ≡ option_map sent_of (exchange w e) → mark_in v.marks e ≡ Some m → arrive_refusal (Some m) sent.count k ≡ refusal w (Asked (Arrive e k))
+  pub arrive_open : (sent : Sent) (m : Mark) → Some sent ≡ option_map sent_of (exchange w e) →
+      mark_in v.marks e ≡ Some m → arrive_refusal (Some m) sent.count k ≡ refusal w (Asked (Arrive e k))
   arrive_open sent m told marked =
       let o = open_where sent_of (exchange w e) sent (sym told) in
       sym (arrive_told v.peers v.marks w e k sent.count i.hears
-      (subst (λ (p : Option Exchange). IfSome p (λ x. sent.count ≡ transmissions x.content)) (sym o.1.0) (ap (λ (s : Sent). s.count) (sym o.1.1)))
+      (subst (λ (p : Option Exchange). IfSome p (λ x. sent.count ≡ transmissions x.content)) (sym o.1.0)
+      (ap (λ (s : Sent). s.count) (sym o.1.1)))
       ∙ ap (λ (p : Option Mark). arrive_refusal p sent.count k) marked)
 
-  pub arrive_refused : (r : Refusal) → Some r ≡ refusal w (Asked (Arrive e k)) → Meets w bodies (Asked (Arrive e k)) v (Refused r)
-  arrive_refused r is = refused_in v (Asked (Arrive e k)) r w bodies i (arrive_stands v.half w bodies e k i.half) (sym is)
+  pub arrive_refused : (r : Refusal) → Some r ≡ refusal w (Asked (Arrive e k)) →
+      EngineMeets w bodies (Asked (Arrive e k)) v (Refused r)
+  arrive_refused r is = refused_in v (Asked (Arrive e k)) r w bodies i
+      (arrive_stands v.half w bodies e k i.half) (sym is)
 
 -- of an exchange that is told of
 pub told_open : (w : World) (e : ℕ) (sent : Sent) → option_map sent_of (exchange w e) ≡ Some sent → IsOpen w e
-told_open w e sent told = let o = open_where sent_of (exchange w e) sent told in record { sending = o.0; known = o.1.0 }
+told_open w e sent told = let o = open_where sent_of (exchange w e) sent told in
+    record { sending = o.0; known = o.1.0 }
 
-pub told_is : (w : World) (e : ℕ) (sent : Sent) (x : Exchange) → option_map sent_of (exchange w e) ≡ Some sent → exchange w e ≡ Some x → sent ≡ sent_of x
-told_is w e sent x told known = let both : Some sent ≡ Some (sent_of x) = sym told ∙ ap (option_map sent_of) known in cc
+pub told_is : (w : World) (e : ℕ) (sent : Sent) (x : Exchange) →
+    option_map sent_of (exchange w e) ≡ Some sent → exchange w e ≡ Some x → sent ≡ sent_of x
+told_is w e sent x told known = let both : Some sent ≡ Some (sent_of x) =
+    sym told ∙ ap (option_map sent_of) known in cc
 
-pub told_few : (w : World) (e : ℕ) (sent : Sent) → IsReached w → option_map sent_of (exchange w e) ≡ Some sent → sent.count < 257
+pub told_few : (w : World) (e : ℕ) (sent : Sent) → IsReached w →
+    option_map sent_of (exchange w e) ≡ Some sent → sent.count < 257
 told_few w e sent r told =
     let o = told_open w e sent told in
-    omega (arith, transmissions_few w e o.sending r o.known, ap (λ (s : Sent). s.count) (told_is w e sent o.sending told o.known))
+    omega (
+      arith,
+      transmissions_few w e o.sending r o.known,
+      ap (λ (s : Sent). s.count) (told_is w e sent o.sending told o.known),
+    )
 
-pub told_station : (v : EngineValue) (w : World) (bodies : ℕ → FrameValue) (e : ℕ) (sent : Sent) → IsIn v w bodies → option_map sent_of (exchange w e) ≡ Some sent → sent.station < length v.peers
+pub told_station : (v : EngineValue) (w : World) (bodies : ℕ → FrameValue) (e : ℕ) (sent : Sent) →
+    EngineIsIn v w bodies → option_map sent_of (exchange w e) ≡ Some sent → sent.station < length v.peers
 told_station v w bodies e sent i told =
     let o = told_open w e sent told in
-    omega (arith, station_now w e o.sending i.half.reached o.known, ap (λ (s : Sent). s.station) (told_is w e sent o.sending told o.known), i.hears.sized.count)
+    omega (
+      arith,
+      station_now w e o.sending i.half.reached o.known,
+      ap (λ (s : Sent). s.station) (told_is w e sent o.sending told o.known),
+      i.hears.sized.count,
+    )
 
-pub told_tid : (w : World) (e : ℕ) (sent : Sent) → IsReached w → option_map sent_of (exchange w e) ≡ Some sent → sent.tid < 8
+pub told_tid : (w : World) (e : ℕ) (sent : Sent) → IsReached w →
+    option_map sent_of (exchange w e) ≡ Some sent → sent.tid < 8
 told_tid w e sent r told =
     let o = told_open w e sent told in
-    omega (arith, tid_now w r e o.sending o.known, ap (λ (s : Sent). s.tid) (told_is w e sent o.sending told o.known))
+    omega (
+      arith,
+      tid_now w r e o.sending o.known,
+      ap (λ (s : Sent). s.tid) (told_is w e sent o.sending told o.known),
+    )
 
 -- a transmission that may arrive is one of the exchange's
-pub arrives_within : (w : World) (e k : ℕ) (x : Exchange) → exchange w e ≡ Some x → refusal w (Asked (Arrive e k)) ≡ None → k < transmissions x.content
-arrives_within w e k x known done = below (transmissions x.content) (subst (λ (o : Option Exchange). HasNot o) known (no_row (refusals w (Asked (Arrive e k))) done).1.0)
+pub arrives_within : (w : World) (e k : ℕ) (x : Exchange) → exchange w e ≡ Some x →
+    refusal w (Asked (Arrive e k)) ≡ None → k < transmissions x.content
+arrives_within w e k x known done = below (transmissions x.content)
+    (subst (λ (o : Option Exchange). HasNot o) known (no_row (refusals w (Asked (Arrive e k))) done).1.0)
   where
     HasNot : Option Exchange → Type 0
     HasNot o = exchange_has o (λ y. nat_le (transmissions y.content) k) ≡ false
@@ -142,40 +176,64 @@ arrives_within w e k x known done = below (transmissions x.content) (subst (λ (
     below n above = leb-false n k above
 
 -- it arrives
-pub arrived_meets : (v : EngineValue) (w : World) (bodies : ℕ → FrameValue) (e k id : ℕ) (x : Exchange) → IsIn v w bodies → exchange w e ≡ Some x → refusal w (Asked (Arrive e k)) ≡ None →
+pub arrived_meets : (v : EngineValue) (w : World) (bodies : ℕ → FrameValue) (e k id : ℕ) (x : Exchange) →
+    EngineIsIn v w bodies → exchange w e ≡ Some x → refusal w (Asked (Arrive e k)) ≡ None →
     CarriesId id k x.content →
-    Meets w bodies (Asked (Arrive e k))
-    (record v { peers = with_peer x.station (peer_after x.tid k id x.content (peer_of v.peers x.station)) v.peers; marks = with_changed e (with_arrival k) v.marks })
-    (Released (buffer_outcome k id x.content (agreement_of v.peers x.station x.tid).buffer).up)
+    EngineMeets w bodies (Asked (Arrive e k))
+    (record v {
+      peers = with_peer x.station (peer_after x.tid k id x.content (peer_of v.peers x.station))
+          v.peers;
+      marks = with_changed e (with_arrival k) v.marks;
+    })
+    (Released (buffer_outcome_of_transmission k id x.content
+    (agreement_of v.peers x.station x.tid).buffer).up)
 arrived_meets v w bodies e k id x i known done carries = record {
-  is_in = record { half = arrive_stands v.half w bodies e k i.half; hears = arrived_hears v.peers v.marks w e k id x i.half.reached i.hears known done carries };
+  is_in = record {
+    half = arrive_stands v.half w bodies e k i.half;
+    hears =
+        arrived_hears v.peers v.marks w e k id x i.half.reached i.hears known done carries;
+  };
   reply = sym (arrived_up v.peers v.marks w e k id x i.half.reached i.hears known done carries);
 }
 
 -- ---- what is answered
 
-module _ (v : EngineValue) (w : World) (bodies : ℕ → FrameValue) (e : ℕ) (i : IsIn v w bodies) where
+module _ (v : EngineValue) (w : World) (bodies : ℕ → FrameValue) (e : ℕ) (i : EngineIsIn v w bodies) where
   pub answer_not_open : exchange w e ≡ None → Some NoExchange ≡ refusal w (Asked (Answer e))
-  answer_not_open none = sym (answer_told v.peers v.marks w e i.hears ∙ ap answer_refusal (no_mark v w bodies e i none))
+  answer_not_open none = sym (answer_told v.peers v.marks w e i.hears
+      ∙ ap answer_refusal (no_mark v w bodies e i none))
 
-  pub answer_open : (m : Mark) → mark_in v.marks e ≡ Some m → answer_refusal (Some m) ≡ refusal w (Asked (Answer e))
+  pub answer_open : (m : Mark) → mark_in v.marks e ≡ Some m →
+      answer_refusal (Some m) ≡ refusal w (Asked (Answer e))
   answer_open m marked = sym (answer_told v.peers v.marks w e i.hears ∙ ap answer_refusal marked)
 
-  pub answer_refused : (r : Refusal) → Some r ≡ refusal w (Asked (Answer e)) → Meets w bodies (Asked (Answer e)) v (Refused r)
-  answer_refused r is = refused_in v (Asked (Answer e)) r w bodies i (answer_stands v.half w bodies e i.half) (sym is)
+  pub answer_refused : (r : Refusal) → Some r ≡ refusal w (Asked (Answer e)) →
+      EngineMeets w bodies (Asked (Answer e)) v (Refused r)
+  answer_refused r is = refused_in v (Asked (Answer e)) r w bodies i (answer_stands v.half w bodies e i.half)
+      (sym is)
 
   -- it is answered
-  pub answered_meets : (sent : Sent) → option_map sent_of (exchange w e) ≡ Some sent → refusal w (Asked (Answer e)) ≡ None →
+  pub answered_meets : (sent : Sent) → option_map sent_of (exchange w e) ≡ Some sent →
+      refusal w (Asked (Answer e)) ≡ None →
       let b : Board = (agreement_of v.peers sent.station sent.tid).board in
-      Meets w bodies (Asked (Answer e)) (record v { marks = with_changed e (with_answer b.start b.offsets) v.marks })
-      (Ba b.start (word_of 0 b.offsets) (word_of 1 b.offsets) (word_of 2 b.offsets) (word_of 3 b.offsets) (nat_lt 64 b.size))
+      EngineMeets w bodies (Asked (Answer e)) (record
+      v { marks = with_changed e (with_answer b.start b.offsets) v.marks })
+      (Ba b.start (bits_word 0 b.offsets) (bits_word 1 b.offsets) (bits_word 2 b.offsets)
+      (bits_word 3 b.offsets) (nat_lt 64 b.size))
   answered_meets sent told done =
       let o = told_open w e sent told in
       subst (λ (s : Sent).
       let b : Board = (agreement_of v.peers s.station s.tid).board in
-      Meets w bodies (Asked (Answer e)) (record v { marks = with_changed e (with_answer b.start b.offsets) v.marks })
-      (Ba b.start (word_of 0 b.offsets) (word_of 1 b.offsets) (word_of 2 b.offsets) (word_of 3 b.offsets) (nat_lt 64 b.size))) (sym (told_is w e sent o.sending told o.known)) (record {
-        is_in = record { half = answer_stands v.half w bodies e i.half; hears = answered_hears v.peers v.marks w e o.sending i.half.reached i.hears o.known done };
+      EngineMeets w bodies (Asked (Answer e)) (record
+      v { marks = with_changed e (with_answer b.start b.offsets) v.marks })
+      (Ba b.start (bits_word 0 b.offsets) (bits_word 1 b.offsets) (bits_word 2 b.offsets)
+      (bits_word 3 b.offsets) (nat_lt 64 b.size))) (sym (told_is w e sent o.sending told o.known))
+      (record {
+        is_in = record {
+          half = answer_stands v.half w bodies e i.half;
+          hears =
+              answered_hears v.peers v.marks w e o.sending i.half.reached i.hears o.known done;
+        };
         reply = sym (answer_reply v.peers v.marks w e o.sending i.half.reached i.hears o.known done);
       })
 
@@ -193,20 +251,39 @@ not_idle (Some m) heard e = of (heard && is_none m.answer) e
     of true k = absurd (cc)
     of false k = absurd (cc)
 
-module _ (v : EngineValue) (w : World) (bodies : ℕ → FrameValue) (e : ℕ) (heard : Bool) (i : IsIn v w bodies) where
-  pub done_marked : (m : Option Mark) → mark_in v.marks e ≡ m → done_refusal m heard ≡ refusal w (Asked (Done e heard))
-  done_marked m marked = sym (done_told v.peers v.marks w e heard i.hears ∙ ap (λ (p : Option Mark). done_refusal p heard) marked)
+module _ (v : EngineValue) (w : World) (bodies : ℕ → FrameValue) (e : ℕ) (heard : Bool)
+    (i : EngineIsIn v w bodies) where
+  pub done_marked : (m : Option Mark) → mark_in v.marks e ≡ m →
+      done_refusal m heard ≡ refusal w (Asked (Done e heard))
+  done_marked m marked = sym (done_told v.peers v.marks w e heard i.hears
+      ∙ ap (λ (p : Option Mark). done_refusal p heard) marked)
 
-  pub done_refused : (r : Refusal) → Some r ≡ refusal w (Asked (Done e heard)) → Meets w bodies (Asked (Done e heard)) v (Refused r)
+  pub done_refused : (r : Refusal) → Some r ≡ refusal w (Asked (Done e heard)) →
+      EngineMeets w bodies (Asked (Done e heard)) v (Refused r)
   done_refused r is =
       let m = refused_meets v.half w bodies (Asked (Done e heard)) r i.half (sym is)
-      (λ idle. not_idle (mark_in v.marks e) heard (done_marked (mark_in v.marks e) refl ∙ sym is ∙ ap Some idle)) in
-      record { is_in = record { half = m.stands; hears = refused_hears v.peers v.marks w (Asked (Done e heard)) r i.half.reached i.hears (sym is) }; reply = m.reply }
+      (λ idle. not_idle (mark_in v.marks e) heard (done_marked (mark_in v.marks e) refl ∙ sym is
+      ∙ ap Some idle)) in
+      record {
+        is_in = record {
+          half = m.stands;
+          hears =
+              refused_hears v.peers v.marks w (Asked (Done e heard)) r i.half.reached i.hears (sym is);
+        };
+        reply =
+            m.reply;
+      }
 
-  pub ended_meets : (after : TransmitValue) (answered : ReplyNote) → refusal w (Asked (Done e heard)) ≡ None → PathMeets w bodies (Asked (Done e heard)) after answered →
-      Meets w bodies (Asked (Done e heard)) (record v { half = after; marks = filter (λ m. not (m.number == e)) v.marks }) answered
+  pub ended_meets : (after : TransmitValue) (answered : ReplyNote) → refusal w (Asked (Done e heard)) ≡ None →
+      PathMeets w bodies (Asked (Done e heard)) after answered →
+      EngineMeets w bodies (Asked (Done e heard)) (record
+      v { half = after; marks = filter (λ m. not (m.number == e)) v.marks }) answered
   ended_meets after answered done m = record {
-    is_in = record { half = m.stands; hears = ended_hears v.peers v.marks w e heard i.half.reached i.hears done };
+    is_in = record {
+      half = m.stands;
+      hears = ended_hears v.peers v.marks w e heard i.half.reached i.hears
+          done;
+    };
     reply = m.reply;
   }
 
@@ -218,10 +295,15 @@ pub record IsAnswered (w : World) (e : ℕ) (kept : ℕ × List ℕ) : Type 0 wh
   pub answered : sending.answer ≡ Some answer
   pub shown : AreShown w sending answer (Some kept)
 
-pub kept_shown : (v : EngineValue) (w : World) (bodies : ℕ → FrameValue) (e : ℕ) (kept : ℕ × List ℕ) → IsIn v w bodies → option_and_then (λ m. m.answer) (mark_in v.marks e) ≡ Some kept → IsAnswered w e kept
-kept_shown v w bodies e kept i is = of (exchange w e) refl (subst (λ (m : Option Mark). option_and_then (λ k. k.answer) m ≡ Some kept) (mark_told v.peers v.marks w e i.hears) is)
+pub kept_shown : (v : EngineValue) (w : World) (bodies : ℕ → FrameValue) (e : ℕ) (kept : ℕ × List ℕ) →
+    EngineIsIn v w bodies → option_and_then (λ m. m.answer) (mark_in v.marks e) ≡ Some kept →
+    IsAnswered w e kept
+kept_shown v w bodies e kept i is = of (exchange w e) refl
+    (subst (λ (m : Option Mark). option_and_then (λ k. k.answer) m ≡ Some kept)
+    (mark_told v.peers v.marks w e i.hears) is)
   where
-    of_answer : (x : Exchange) → exchange w e ≡ Some x → (b : Option Score) → x.answer ≡ b → option_map kept_of b ≡ Some kept → IsAnswered w e kept
+    of_answer : (x : Exchange) → exchange w e ≡ Some x → (b : Option Score) → x.answer ≡ b →
+        option_map kept_of b ≡ Some kept → IsAnswered w e kept
     of_answer x known None answered k = absurd (cc)
     of_answer x known (Some b) answered k =
         let same : kept_of b ≡ kept = cc in
@@ -230,10 +312,12 @@ kept_shown v w bodies e kept i is = of (exchange w e) refl (subst (λ (m : Optio
           answer = b;
           known = known;
           answered = answered;
-          shown = subst (λ (s : ℕ × List ℕ). AreShown w x b (Some s)) same (score_shown w e x b i.half.reached known answered);
+          shown = subst (λ (s : ℕ × List ℕ). AreShown w x b (Some s)) same
+              (score_shown w e x b i.half.reached known answered);
         }
 
-    of : (o : Option Exchange) → exchange w e ≡ o → option_and_then (λ m. m.answer) (option_map mark_of o) ≡ Some kept → IsAnswered w e kept
+    of : (o : Option Exchange) → exchange w e ≡ o →
+        option_and_then (λ m. m.answer) (option_map mark_of o) ≡ Some kept → IsAnswered w e kept
     of None none k = absurd (cc)
     of (Some x) known k = of_answer x known x.answer refl k
 
@@ -246,29 +330,44 @@ no_answer (Some m) none ends = of m.answer none ends
     of (Some x) n k = absurd (cc)
 
 -- what is made of an exchange by what was heard of it is what its Done makes
-pub end_met : (v : EngineValue) (w : World) (bodies : ℕ → FrameValue) (e : ℕ) (heard : Bool) (i : IsIn v w bodies) (kept : Option (ℕ × List ℕ)) (after : TransmitValue) (b : Brief) (pairs : List (ℕ × ℕ)) (ids : List ℕ) →
+pub end_met : (v : EngineValue) (w : World) (bodies : ℕ → FrameValue) (e : ℕ) (heard : Bool)
+    (i : EngineIsIn v w bodies) (kept : Option (ℕ × List ℕ)) (after : TransmitValue) (b : Brief)
+    (pairs : List (ℕ × ℕ)) (ids : List ℕ) →
     kept ≡ kept_answer v.marks e heard → refusal w (Asked (Done e heard)) ≡ None →
-    IfNone kept ((u : World) (frames : ℕ → FrameValue) (ps : List (ℕ × ℕ)) (is : List ℕ) → StandsFor v.half u frames → PathMeets u frames (Asked (Done e false)) after (reply_with b ps is)) →
-    IfSome kept (λ score. (u : World) (frames : ℕ → FrameValue) (x : Exchange) (a : Score) (ps : List (ℕ × ℕ)) (is : List ℕ) → StandsFor v.half u frames → exchange u e ≡ Some x → x.answer ≡ Some a →
+    IfNone kept ((u : World) (frames : ℕ → FrameValue) (ps : List (ℕ × ℕ)) (is : List ℕ) →
+    StandsFor v.half u frames → PathMeets u frames (Asked (Done e false)) after (reply_with b ps is)) →
+    IfSome kept (λ score. (u : World) (frames : ℕ → FrameValue) (x : Exchange) (a : Score) (ps : List (ℕ × ℕ))
+    (is : List ℕ) → StandsFor v.half u frames → exchange u e ≡ Some x → x.answer ≡ Some a →
     AreShown u x a (Some score) → PathMeets u frames (Asked (Done e true)) after (reply_with b ps is)) →
     PathMeets w bodies (Asked (Done e heard)) after (reply_with b pairs ids)
 end_met v w bodies e false i None after b pairs ids is done lost shown = lost w bodies pairs ids i.half
 end_met v w bodies e false i (Some score) after b pairs ids is done lost shown = absurd (cc)
 end_met v w bodies e true i None after b pairs ids is done lost shown =
-    absurd (no_answer (mark_in v.marks e) (sym is) (done_marked v w bodies e true i (mark_in v.marks e) refl ∙ done))
+    absurd (no_answer (mark_in v.marks e) (sym is)
+    (done_marked v w bodies e true i (mark_in v.marks e) refl ∙ done))
 end_met v w bodies e true i (Some score) after b pairs ids is done lost shown =
     let k = kept_shown v w bodies e score i (sym is) in
     shown w bodies k.sending k.answer pairs ids i.half k.known k.answered k.shown
 
--- what a transmission that arrived leaves, where the receive halves, the marks and what is passed up are known
-pub passed_on : (v : EngineValue) (w : World) (bodies : ℕ → FrameValue) (e k id : ℕ) (x : Exchange) → IsIn v w bodies → exchange w e ≡ Some x → refusal w (Asked (Arrive e k)) ≡ None →
+-- what a transmission that arrived leaves, where the receive halves, the marks and what is passed up are
+-- known
+pub passed_on : (v : EngineValue) (w : World) (bodies : ℕ → FrameValue) (e k id : ℕ) (x : Exchange) →
+    EngineIsIn v w bodies → exchange w e ≡ Some x → refusal w (Asked (Arrive e k)) ≡ None →
     CarriesId id k x.content → (peers : List PeerValue) (marks : List Mark) (up : List ℕ) →
-    peers ≡ with_peer x.station (peer_after x.tid k id x.content (peer_of v.peers x.station)) v.peers → marks ≡ with_changed e (with_arrival k) v.marks →
-    up ≡ (buffer_outcome k id x.content (agreement_of v.peers x.station x.tid).buffer).up →
-    Meets w bodies (Asked (Arrive e k)) (record v { peers = peers; marks = marks }) (Released up)
+    peers ≡ with_peer x.station (peer_after x.tid k id x.content (peer_of v.peers x.station)) v.peers →
+    marks ≡ with_changed e (with_arrival k) v.marks →
+    up ≡ (buffer_outcome_of_transmission k id x.content (agreement_of v.peers x.station x.tid).buffer).up →
+    EngineMeets w bodies (Asked (Arrive e k)) (record v { peers = peers; marks = marks }) (Released up)
 passed_on v w bodies e k id x i known done carries peers marks up peers_are marks_are up_is =
-    subst (λ (us : List ℕ). Meets w bodies (Asked (Arrive e k)) (record v { peers = peers; marks = marks }) (Released us)) (sym up_is)
-    (subst (λ (ms : List Mark). let u : EngineValue = record v { peers = peers; marks = ms } in Meets w bodies (Asked (Arrive e k)) u (Released (buffer_outcome k id x.content (agreement_of v.peers x.station x.tid).buffer).up)) (sym marks_are)
-    (subst (λ (ps : List PeerValue). let u : EngineValue = record v { peers = ps; marks = with_changed e (with_arrival k) v.marks } in
-    Meets w bodies (Asked (Arrive e k)) u (Released (buffer_outcome k id x.content (agreement_of v.peers x.station x.tid).buffer).up)) (sym peers_are)
+    subst (λ (us : List ℕ). EngineMeets w bodies (Asked (Arrive e k))
+    (record v { peers = peers; marks = marks }) (Released us)) (sym up_is)
+    (subst (λ (ms : List Mark). let u : EngineValue = record v { peers = peers; marks = ms } in
+    EngineMeets w bodies (Asked (Arrive e k)) u
+    (Released (buffer_outcome_of_transmission k id x.content
+    (agreement_of v.peers x.station x.tid).buffer).up)) (sym marks_are)
+    (subst (λ (ps : List PeerValue). let u : EngineValue =
+    record v { peers = ps; marks = with_changed e (with_arrival k) v.marks } in
+    EngineMeets w bodies (Asked (Arrive e k)) u (Released
+    (buffer_outcome_of_transmission k id x.content (agreement_of v.peers x.station x.tid).buffer).up))
+    (sym peers_are)
     (arrived_meets v w bodies e k id x i known done carries)))

@@ -3,18 +3,18 @@ use Rattle.std.proofs.Common.{◌≡◌, refl, ap, ◌∙◌, subst, ℕ, ◌+�
 use Rattle.std.specs.Prelude.{IsOk, OnOk, slice_index_or, slice_set, ◌%◌}
 use Rattle.std.proofs.lemmas.Bool.{cases_lt}
 use Rattle.std.specs.Result.{is_err}
-use Rattle.wf_header.specs.declared.header.Header.{Header}
-use Rattle.wf_blockack.specs.declared.frames.Bar.{Bar}
-use Rattle.wf_peer.specs.declared.fault.PeerFault.{PeerFault}
-use Rattle.wf_rules.specs.Table.{at}
-use Rattle.wf_world.specs.World.{Content, Frames, Request}
-use Rattle.wf_world.specs.Exchanges.{no_mpdu}
-use Rattle.wf_score.specs.Board.{after_number as board_arrived, after_start as board_requested}
-use Rattle.wf_reorder.specs.Buffer.{number_outcome as buffer_arrived, request_outcome as buffer_requested}
-use Rattle.wf_peer.specs.Agreements.{PeerValue, new_peer, agreement}
-use Rattle.wf_peer.specs.Frames.{IsDataFor, IsRequestFor}
-use Rattle.wf_receive_refines.specs.Hearing.{AreNew}
-use Rattle.wf_receive_refines.specs.Arriving.{peer_after, buffer_outcome}
+use Rattle.wf_octets_header.specs.declared.header.Header.{Header}
+use Rattle.wf_octets_block.specs.declared.frames.Bar.{Bar}
+use Rattle.wf_recv_peer.specs.declared.fault.PeerFault.{PeerFault}
+use Rattle.wf_def_lists.specs.Table.{at}
+use Rattle.wf_def_world.specs.World.{Content, Frames, Request}
+use Rattle.wf_def_world.specs.Exchanges.{no_mpdu}
+use Rattle.wf_recv_agreement.specs.Board.{after_number as board_arrived, after_start as board_requested}
+use Rattle.wf_recv_agreement.specs.Buffer.{number_outcome as buffer_arrived, request_outcome as buffer_requested}
+use Rattle.wf_recv_peer.specs.Agreements.{PeerValue, new_peer, agreement}
+use Rattle.wf_recv_peer.specs.Frames.{IsDataFor, IsRequestFor}
+use Rattle.wf_recv_refines.specs.Hearing.{AreNew}
+use Rattle.wf_recv_refines.specs.Arriving.{peer_after, buffer_outcome_of_transmission}
 use Rattle.wf_cell.specs.Octets.{IsSentTo}
 
 -- ---- new ones
@@ -24,19 +24,23 @@ at_end : (xs : List PeerValue) (x d : PeerValue) → slice_index_or (xs ++ x ∷
 at_end [] x d = refl
 at_end (y ∷ ys) x d = at_end ys x d
 
-before_end : (xs : List PeerValue) (x d : PeerValue) (k : ℕ) → k < length xs → slice_index_or (xs ++ x ∷ []) k d ≡ slice_index_or xs k d
+before_end : (xs : List PeerValue) (x d : PeerValue) (k : ℕ) → k < length xs →
+    slice_index_or (xs ++ x ∷ []) k d ≡ slice_index_or xs k d
 before_end [] x d k h = absurd (omega arith)
 before_end (y ∷ ys) x d zero h = refl
 before_end (y ∷ ys) x d (suc k) h = before_end ys x d k (omega arith)
 
-pub one_new : (n : ℕ) (peers : List PeerValue) → AreNew n peers → AreNew (n + 1) (peers ++ new_peer n 0 256 ∷ [])
+pub one_new : (n : ℕ) (peers : List PeerValue) → AreNew n peers →
+    AreNew (n + 1) (peers ++ new_peer n 0 256 ∷ [])
 one_new n peers new = record {
   count = omega (arith, length-append peers (new_peer n 0 256 ∷ []), new.count);
   each = λ s below. elim (cases_lt s n) [
-    | inl before ↦ before_end peers (new_peer n 0 256) (new_peer 0 0 256) s (omega (arith, new.count)) ∙ new.each s before
+    | inl before ↦ before_end peers (new_peer n 0 256) (new_peer 0 0 256) s (omega (arith, new.count))
+        ∙ new.each s before
     | inr last ↦
         let here : s ≡ length peers = omega (arith, new.count) in
-        ap (λ k. slice_index_or (peers ++ new_peer n 0 256 ∷ []) k (new_peer 0 0 256)) here ∙ at_end peers (new_peer n 0 256) (new_peer 0 0 256)
+        ap (λ k. slice_index_or (peers ++ new_peer n 0 256 ∷ []) k (new_peer 0 0 256)) here
+        ∙ at_end peers (new_peer n 0 256) (new_peer 0 0 256)
         ∙ ap (λ k. new_peer k 0 256) (omega (arith, new.count))
   ];
 }
@@ -50,7 +54,8 @@ pub record IsTaken (s : ℕ) (octets : List ℕ) (result : Result (Option ℕ) P
   pub of_data : (h : Header) → IsDataFor s octets h → IsOk result
   pub of_request : (b : Bar) → IsRequestFor s octets b → IsOk result
 
-pub is_ok_sent : (s : ℕ) (octets : List ℕ) (result : Result (Option ℕ) PeerFault) → IsTaken s octets result → (t i : ℕ) (content : Content) → IsSentTo s t i content octets → IsOk result
+pub is_ok_sent : (s : ℕ) (octets : List ℕ) (result : Result (Option ℕ) PeerFault) → IsTaken s octets result →
+    (t i : ℕ) (content : Content) → IsSentTo s t i content octets → IsOk result
 is_ok_sent s octets result takes t i (Frames mpdus) says = takes.of_data says.header says.is_for
 is_ok_sent s octets result takes t i (Request start) says = takes.of_request says.bar says.is_for
 
@@ -65,27 +70,63 @@ where_ok P (Err fault) ok here = absurd (cc)
 -- what a frame leads to, for a frame of whatever kind
 pub record LeadsTo (s : ℕ) (octets : List ℕ) (id : ℕ) (p after : PeerValue) (up : List ℕ) : Type 0 where
   pub of_data : (h : Header) → IsDataFor s octets h →
-      (after ≡ record p { agreements = slice_set p.agreements h.tid (record { board = board_arrived h.seq (agreement p h.tid).board; buffer = (buffer_arrived h.seq id (agreement p h.tid).buffer).after }) })
+      (after ≡ record p {
+        agreements = slice_set p.agreements h.tid
+            (record {
+              board = board_arrived h.seq (agreement p h.tid).board;
+              buffer =
+                  (buffer_arrived h.seq id (agreement p h.tid).buffer).after;
+            });
+      })
       × (up ≡ (buffer_arrived h.seq id (agreement p h.tid).buffer).up)
   pub of_request : (b : Bar) → IsRequestFor s octets b →
-      (after ≡ record p { agreements = slice_set p.agreements b.tid (record { board = board_requested b.start (agreement p b.tid).board; buffer = (buffer_requested b.start (agreement p b.tid).buffer).after }) })
+      (after ≡ record p {
+        agreements = slice_set p.agreements b.tid
+            (record {
+              board = board_requested b.start (agreement p b.tid).board;
+              buffer =
+                  (buffer_requested b.start (agreement p b.tid).buffer).after;
+            });
+      })
       × (up ≡ (buffer_requested b.start (agreement p b.tid).buffer).up)
 
-pub led_after : (s : ℕ) (octets : List ℕ) (id : ℕ) (p after : PeerValue) (up : List ℕ) → LeadsTo s octets id p after up → (t i : ℕ) (content : Content) → IsSentTo s t i content octets →
+pub led_after : (s : ℕ) (octets : List ℕ) (id : ℕ) (p after : PeerValue) (up : List ℕ) →
+    LeadsTo s octets id p after up → (t i : ℕ) (content : Content) → IsSentTo s t i content octets →
     after ≡ peer_after t i id content p
 led_after s octets id p after up leads t i (Frames mpdus) says =
     let n : ℕ = (at no_mpdu mpdus i).number % 4096 in
-    let Q : ℕ → ℕ → Type 0 = λ k m. after ≡ record p { agreements = slice_set p.agreements k (record { board = board_arrived m (agreement p k).board; buffer = (buffer_arrived m id (agreement p k).buffer).after }) } in
-    subst (λ m. Q t m) says.number_is (subst (λ k. Q k says.header.seq) says.tid_is (leads.of_data says.header says.is_for).0)
+    let Q : ℕ → ℕ → Type 0 = λ k m. after ≡ record
+    p {
+      agreements = slice_set p.agreements k
+          (record {
+            board = board_arrived m (agreement p k).board;
+            buffer =
+                (buffer_arrived m id (agreement p k).buffer).after;
+          });
+    } in
+    subst (λ m. Q t m) says.number_is (subst (λ k. Q k says.header.seq) says.tid_is
+    (leads.of_data says.header says.is_for).0)
 led_after s octets id p after up leads t i (Request start) says =
-    let Q : ℕ → ℕ → Type 0 = λ k m. after ≡ record p { agreements = slice_set p.agreements k (record { board = board_requested m (agreement p k).board; buffer = (buffer_requested m (agreement p k).buffer).after }) } in
-    subst (λ m. Q t m) says.start_is (subst (λ k. Q k says.bar.start) says.tid_is (leads.of_request says.bar says.is_for).0)
+    let Q : ℕ → ℕ → Type 0 = λ k m. after ≡ record
+    p {
+      agreements = slice_set p.agreements k
+          (record {
+            board = board_requested m (agreement p k).board;
+            buffer =
+                (buffer_requested m (agreement p k).buffer).after;
+          });
+    } in
+    subst (λ m. Q t m) says.start_is (subst (λ k. Q k says.bar.start) says.tid_is
+    (leads.of_request says.bar says.is_for).0)
 
-pub led_up : (s : ℕ) (octets : List ℕ) (id : ℕ) (p after : PeerValue) (up : List ℕ) → LeadsTo s octets id p after up → (t i : ℕ) (content : Content) → IsSentTo s t i content octets →
-    up ≡ (buffer_outcome i id content (agreement p t).buffer).up
+pub led_up : (s : ℕ) (octets : List ℕ) (id : ℕ) (p after : PeerValue) (up : List ℕ) →
+    LeadsTo s octets id p after up → (t i : ℕ) (content : Content) → IsSentTo s t i content octets →
+    up ≡ (buffer_outcome_of_transmission i id content (agreement p t).buffer).up
 led_up s octets id p after up leads t i (Frames mpdus) says =
     let Q : ℕ → ℕ → Type 0 = λ k m. up ≡ (buffer_arrived m id (agreement p k).buffer).up in
-    subst (λ m. Q t m) says.number_is (subst (λ k. Q k says.header.seq) says.tid_is (leads.of_data says.header says.is_for).1)
+    subst (λ m. Q t m) says.number_is (subst (λ k. Q k says.header.seq) says.tid_is
+    (leads.of_data says.header says.is_for).1)
 led_up s octets id p after up leads t i (Request start) says =
     let Q : ℕ → ℕ → Type 0 = λ k m. up ≡ (buffer_requested m (agreement p k).buffer).up in
-    subst (λ m. Q t m) says.start_is (subst (λ k. Q k says.bar.start) says.tid_is (leads.of_request says.bar says.is_for).1)
+    subst (λ m. Q t m) says.start_is (subst (λ k. Q k says.bar.start) says.tid_is
+    (leads.of_request says.bar says.is_for).1)

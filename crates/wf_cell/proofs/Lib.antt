@@ -1,9 +1,9 @@
 pub mod Runs
-pub mod Hearing
-pub mod Calls
+mod Hearing
+mod Calls
 pub mod Exchanges
 pub mod Written
-pub mod Rights
-pub mod Bodies
-pub mod Steps
-pub mod News
+mod Rights
+mod Bodies
+mod Steps
+mod News

@@ -7,55 +7,64 @@ use Rattle.wf_frame.specs.declared.notes.Note.TheVariants.{Asked}
 use Rattle.wf_frame.specs.declared.notes.Refusal.{Refusal}
 use Rattle.wf_frame.specs.declared.notes.ReplyNote.{ReplyNote}
 use Rattle.wf_frame.specs.declared.notes.ReplyNote.TheVariants as reply
-use Rattle.wf_rule_laws.proofs.Lemmas.Members.{has_head}
-use Rattle.wf_rule_laws.proofs.Lemmas.Joined.{has_second}
-use Rattle.wf_rules.specs.Table.{has}
-use Rattle.wf_world.specs.World.{World, accepted_count, opening}
-use Rattle.wf_world.specs.Refusals.{refusal}
-use Rattle.wf_world.specs.Run.{Past, world_of}
-use Rattle.wf_world.specs.Step.{Outcome, outcome_of, reap_outcome, step}
-use Rattle.wf_laws.specs.Finished.{KeepsFinished, reaped_ids}
-use Rattle.wf_laws.proofs.Frames.FinishedLaw.{finished_law}
-use Rattle.wf_transmit_refines.specs.Half.{TransmitValue}
-use Rattle.wf_transmit_refines.specs.Standing.{StandsFor, IsReached}
-use Rattle.wf_transmit_refines.proofs.Reached.{now_is, step_done, step_refused}
+use Rattle.wf_law_rules.proofs.Lemmas.Members.{has_head}
+use Rattle.wf_law_rules.proofs.Lemmas.Joined.{has_second}
+use Rattle.wf_def_lists.specs.Table.{has}
+use Rattle.wf_def_world.specs.World.{World, accepted_count, opening}
+use Rattle.wf_def_world.specs.Refusals.{refusal}
+use Rattle.wf_def_world.specs.Run.{Past, world_of}
+use Rattle.wf_def_world.specs.Step.{Outcome, outcome_of, reap_outcome, step}
+use Rattle.wf_law_runs.specs.Finished.{KeepsFinished, reaped_ids}
+use Rattle.wf_law_runs.proofs.Frames.FinishedLaw.{finished_law}
+use Rattle.wf_send_half_refines.specs.Half.{TransmitValue}
+use Rattle.wf_send_half_refines.specs.Standing.{StandsFor, IsReached}
+use Rattle.wf_send_half_refines.proofs.Reached.{now_is, step_done, step_refused}
 use Rattle.wf_path.specs.declared.job.Job.{Job}
 use Rattle.wf_path.specs.declared.job.Job.TheVariants.{Give, Call}
-use Rattle.wf_path.specs.Jobs.{given_back, note_of}
+use Rattle.wf_path.specs.Jobs.{frame_given_back, note_of}
 use Rattle.wf_cell.specs.Rights.{IsReaped, IsBack, IsRight}
 
 -- ---- a reap
 
 -- the id that a reap of a finished list tells of stands on it
-told_of : (ids : List ℕ) (w : World) (id : ℕ) (fate : Fate) → (reap_outcome w ids).reply ≡ reply.Reaped id fate → has ids id ≡ true
+told_of : (ids : List ℕ) (w : World) (id : ℕ) (fate : Fate) →
+    (reap_outcome w ids).reply ≡ reply.Reaped id fate → has ids id ≡ true
 unfolding reap_outcome
 told_of [] w id fate e = absurd (cc e)
-told_of (first ∷ ids) w id fate e = let same : first ≡ id = cc e in subst (λ k. has (first ∷ ids) k ≡ true) same (has_head first ids)
+told_of (first ∷ ids) w id fate e = let same : first ≡ id = cc e in
+    subst (λ k. has (first ∷ ids) k ≡ true) same (has_head first ids)
 
-pub on_the_list : (w : World) (id : ℕ) (fate : Fate) → (step w (Asked ask.Reap)).reply ≡ reply.Reaped id fate → has w.finished id ≡ true
+pub on_the_list : (w : World) (id : ℕ) (fate : Fate) →
+    (step w (Asked ask.Reap)).reply ≡ reply.Reaped id fate → has w.finished id ≡ true
 unfolding outcome_of
 on_the_list w id fate e = of (refusal w (Asked ask.Reap)) refl
   where
     of : (o : Option Refusal) → refusal w (Asked ask.Reap) ≡ o → has w.finished id ≡ true
-    of None is = told_of w.finished w id fate (sym (ap (λ (o : Outcome). o.reply) (step_done w (Asked ask.Reap) is)) ∙ e)
-    of (Some r) is = let other : reply.Refused r ≡ reply.Reaped id fate = sym (ap (λ (o : Outcome). o.reply) (step_refused w (Asked ask.Reap) r is)) ∙ e in absurd (cc other)
+    of None is = told_of w.finished w id fate (sym
+        (ap (λ (o : Outcome). o.reply) (step_done w (Asked ask.Reap) is)) ∙ e)
+    of (Some r) is = let other : reply.Refused r ≡ reply.Reaped id fate =
+        sym (ap (λ (o : Outcome). o.reply) (step_refused w (Asked ask.Reap) r is)) ∙ e in absurd (cc other)
 
 -- an id that is reaped was accepted
-pub reaped_known : (w : World) (r : IsReached w) (id : ℕ) (fate : Fate) → (step w (Asked ask.Reap)).reply ≡ reply.Reaped id fate → id < accepted_count w
+pub reaped_known : (w : World) (r : IsReached w) (id : ℕ) (fate : Fate) →
+    (step w (Asked ask.Reap)).reply ≡ reply.Reaped id fate → id < accepted_count w
 reaped_known w r id fate e =
     let reaped : List ℕ = reaped_ids (opening w.config) (take (length r.history) r.history) in
-    let keeps : KeepsFinished reaped w = subst (KeepsFinished reaped) (now_is w r) (finished_law w.config r.history (length r.history)) in
+    let keeps : KeepsFinished reaped w = subst (KeepsFinished reaped) (now_is w r)
+    (finished_law w.config r.history (length r.history)) in
     ((keeps.exactly id).0 (has_second reaped w.finished id (on_the_list w id fate e))).0
 
 -- ---- what comes back
 
 module _ (v : TransmitValue) (w : World) (bodies : ℕ → FrameValue) (stands : StandsFor v w bodies) where
-  reaped_back : (id : ℕ) (fate : Fate) → reply.Reaped id fate ≡ (step w (Asked ask.Reap)).reply → IsReaped w id fate (record (bodies id) { fate = fate })
+  reaped_back : (id : ℕ) (fate : Fate) → reply.Reaped id fate ≡ (step w (Asked ask.Reap)).reply →
+      IsReaped w id fate (record (bodies id) { fate = fate })
   reaped_back id fate e =
       let a = stands.parts.others.notes id (reaped_known w stands.reached id fate (sym e)) in
       record { id_is = a.id; fate_is = refl; note_is = a.note }
 
-  pub back_is : (job : Job) (answered : ReplyNote) → answered ≡ (step w (note_of job)).reply → IsBack w job answered (given_back bodies job answered)
+  pub back_is : (job : Job) (answered : ReplyNote) → answered ≡ (step w (note_of job)).reply →
+      IsBack w job answered (frame_given_back bodies job answered)
   back_is (Give f) reply.Joined e = refl
   back_is (Give f) (reply.Gone dropped) e = refl
   back_is (Give f) reply.RateSet e = refl
@@ -100,9 +109,12 @@ module _ (v : TransmitValue) (w : World) (bodies : ℕ → FrameValue) (stands :
   back_is (Call (ask.Rx s c air)) answered e = refl
 
 -- an answer is right where its reply is the run's and what comes back is what the path gives
-pub is_right : (v : TransmitValue) (p : Past) (bodies : ℕ → FrameValue) (job : Job) (answered : ReplyNote) (back : Option FrameValue) → StandsFor v (world_of p) bodies →
-    answered ≡ (step (world_of p) (note_of job)).reply → back ≡ given_back bodies job answered → IsRight p.config p.history job answered back
+pub is_right : (v : TransmitValue) (p : Past) (bodies : ℕ → FrameValue) (job : Job) (answered : ReplyNote)
+    (back : Option FrameValue) → StandsFor v (world_of p) bodies →
+    answered ≡ (step (world_of p) (note_of job)).reply → back ≡ frame_given_back bodies job answered →
+    IsRight p.config p.history job answered back
 is_right v p bodies job answered back stands replied given = record {
   reply = replied;
-  back_is = subst (IsBack (world_of p) job answered) (sym given) (back_is v (world_of p) bodies stands job answered replied);
+  back_is = subst (IsBack (world_of p) job answered) (sym given)
+      (back_is v (world_of p) bodies stands job answered replied);
 }

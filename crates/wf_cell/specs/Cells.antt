@@ -1,10 +1,10 @@
 -- A cell as its callers see it, and what is true of every one.
 use Rattle.std.specs.Prelude.{ℕ, ◌-◌, ◌≤◌, [], ◌∷◌, ◌++◌, length}
 use Rattle.wf_frame.specs.Frames.{FrameValue}
-use Rattle.wf_world.specs.Run.{Entry, Past, world_of}
-use Rattle.wf_laws.specs.Lengths.{HasLengths}
-use Rattle.wf_transmit_refines.specs.Half.{TransmitValue}
-use Rattle.wf_cell.specs.Engines.{EngineValue, IsIn}
+use Rattle.wf_def_world.specs.Run.{Entry, Past, world_of}
+use Rattle.wf_law_runs.specs.Lengths.{HasLengths}
+use Rattle.wf_send_half_refines.specs.Half.{TransmitValue}
+use Rattle.wf_cell.specs.Engines.{EngineValue, EngineIsIn}
 
 pub record CellValue : Type 0 where
   pub past : Past  -- the settings and the whole history, the first entry in front
@@ -18,11 +18,11 @@ room_in p = p.config.calls - length p.history
 abbrev pub with_entry : Entry → Past → Past
 with_entry e p = record p { history = p.history ++ e ∷ [] }
 
--- A cell stands for the final world of its own history, whose frames have 1 to 2304 octets each; the history is at most as long as
--- the setting `calls` says, and so much is reserved for it.
+-- A cell stands for the final world of its own history, whose frames have 1 to 2304 octets each; the history
+-- is at most as long as the setting `calls` says, and so much is reserved for it.
 pub record IsCell (past : Past) (engine : EngineValue) (capacity : ℕ) : Type 0 where
   pub bodies : ℕ → FrameValue
-  pub is_in : IsIn engine (world_of past) bodies
+  pub is_in : EngineIsIn engine (world_of past) bodies
   pub lengths : HasLengths past.history
   pub few : length past.history ≤ past.config.calls
   pub reserved : past.config.calls ≤ capacity

@@ -1,51 +1,55 @@
--- What a cell has beside its history: the transmit path, the receive halves of the stations, and the marks of the open exchanges.
+-- What a cell has beside its history: the transmit path, the receive halves of the stations, and the marks of
+-- the open exchanges.
 use Rattle.std.specs.Prelude.{◌≡◌, ℕ, ◌<◌, List, Option, None, Some, option_map}
 use Rattle.wf_frame.specs.Frames.{FrameValue}
 use Rattle.wf_frame.specs.declared.notes.Note.{Note}
 use Rattle.wf_frame.specs.declared.notes.ReplyNote.{ReplyNote}
 use Rattle.wf_frame.specs.declared.notes.Note.TheVariants.{Asked}
 use Rattle.wf_frame.specs.declared.notes.Ask.TheVariants.{Arrive}
-use Rattle.wf_world.specs.World.{World, Exchange, exchange}
-use Rattle.wf_world.specs.Exchanges.{transmissions}
-use Rattle.wf_world.specs.Refusals.{refusal}
-use Rattle.wf_world.specs.Step.{step}
-use Rattle.wf_marks.specs.declared.marks.Mark.{Mark}
-use Rattle.wf_peer.specs.Agreements.{PeerValue}
-use Rattle.wf_transmit_refines.specs.Half.{TransmitValue}
-use Rattle.wf_transmit_refines.specs.Standing.{StandsFor}
-use Rattle.wf_receive_refines.specs.Hearing.{Hears}
+use Rattle.wf_def_world.specs.World.{World, Exchange, exchange}
+use Rattle.wf_def_world.specs.Exchanges.{transmissions}
+use Rattle.wf_def_world.specs.Refusals.{refusal}
+use Rattle.wf_def_world.specs.Step.{step}
+use Rattle.wf_send_exchanges.specs.declared.marks.Mark.{Mark}
+use Rattle.wf_recv_peer.specs.Agreements.{PeerValue}
+use Rattle.wf_send_half_refines.specs.Half.{TransmitValue}
+use Rattle.wf_send_half_refines.specs.Standing.{StandsFor}
+use Rattle.wf_recv_refines.specs.Hearing.{Hears}
 use Rattle.wf_path.specs.declared.job.Job.{Job}
-use Rattle.wf_transmissions.specs.declared.reading.Sent.{Sent}
-use Rattle.wf_transmissions.specs.Transmissions.{sent_of}
-use Rattle.wf_path.specs.Jobs.{note_of, bodies_after, given_back}
+use Rattle.wf_path.specs.declared.reading.Sent.{Sent}
+use Rattle.wf_path.specs.Transmissions.{sent_of}
+use Rattle.wf_path.specs.Jobs.{note_of, bodies_after, frame_given_back}
 
 pub record EngineValue : Type 0 where
   pub half : TransmitValue
   pub peers : List PeerValue  -- by station
   pub marks : List Mark  -- in the order of the exchanges' numbers
 
--- It stands for a world: the path for its transmit half, the receive halves and the marks for what its receivers have.
-pub record IsIn (v : EngineValue) (w : World) (bodies : ℕ → FrameValue) : Type 0 where
+-- It stands for a world: the path for its transmit half, the receive halves and the marks for what its
+-- receivers have.
+pub record EngineIsIn (v : EngineValue) (w : World) (bodies : ℕ → FrameValue) : Type 0 where
   pub half : StandsFor v.half w bodies
   pub hears : Hears v.peers v.marks w
 
 -- it stands for some world
-pub record HasWorld (v : EngineValue) : Type 0 where
+pub record EngineHasWorld (v : EngineValue) : Type 0 where
   pub world : World
   pub bodies : ℕ → FrameValue
-  pub is_in : IsIn v world bodies
+  pub is_in : EngineIsIn v world bodies
 
 -- a call without a frame leads to v, and its reply is the machine's
-pub record Meets (w : World) (bodies : ℕ → FrameValue) (note : Note) (v : EngineValue) (answered : ReplyNote) : Type 0 where
-  pub is_in : IsIn v (step w note).world bodies
+pub record EngineMeets (w : World) (bodies : ℕ → FrameValue) (note : Note) (v : EngineValue)
+    (answered : ReplyNote) : Type 0 where
+  pub is_in : EngineIsIn v (step w note).world bodies
   pub reply : answered ≡ (step w note).reply
 
--- A job leads from `before` to v: the accepted frame joins the bodies, the reply is the machine's, and what comes back is the frame
--- that was refused or reaped.
-pub record IsDone (w : World) (bodies : ℕ → FrameValue) (job : Job) (before : TransmitValue) (v : EngineValue) (answered : ReplyNote) (given : Option FrameValue) : Type 0 where
-  pub is_in : IsIn v (step w (note_of job)).world (bodies_after before job answered bodies)
+-- A job leads from `before` to v: the accepted frame joins the bodies, the reply is the machine's, and what
+-- comes back is the frame that was refused or reaped.
+pub record IsJobDone (w : World) (bodies : ℕ → FrameValue) (job : Job) (before : TransmitValue)
+    (v : EngineValue) (answered : ReplyNote) (given : Option FrameValue) : Type 0 where
+  pub is_in : EngineIsIn v (step w (note_of job)).world (bodies_after before job answered bodies)
   pub reply : answered ≡ (step w (note_of job)).reply
-  pub back : given ≡ given_back bodies job answered
+  pub back : given ≡ frame_given_back bodies job answered
 
 -- the path has this transmission of an open exchange
 pub record IsOnAir (v : TransmitValue) (e i : ℕ) : Type 0 where
@@ -60,6 +64,7 @@ pub record IsOnAir (v : TransmitValue) (e i : ℕ) : Type 0 where
 pub record IsArriving (v : EngineValue) (e i : ℕ) (sent : Sent) : Type 0 where
   pub world : World
   pub bodies : ℕ → FrameValue
-  pub is_in : IsIn v world bodies
+  pub is_in : EngineIsIn v world bodies
   pub arrives : refusal world (Asked (Arrive e i)) ≡ None
-  pub told : (w : World) (frames : ℕ → FrameValue) → IsIn v w frames → option_map sent_of (exchange w e) ≡ Some sent
+  pub told : (w : World) (frames : ℕ → FrameValue) → EngineIsIn v w frames →
+      option_map sent_of (exchange w e) ≡ Some sent

@@ -1,11 +1,11 @@
 -- What octets on the air say to a station.
 use Rattle.std.specs.Prelude.{◌≡◌, ℕ, ◌%◌, List}
-use Rattle.wf_rules.specs.Table.{at}
-use Rattle.wf_world.specs.World.{Content, Frames, Request}
-use Rattle.wf_world.specs.Exchanges.{no_mpdu}
-use Rattle.wf_header.specs.declared.header.Header.{Header}
-use Rattle.wf_blockack.specs.declared.frames.Bar.{Bar}
-use Rattle.wf_peer.specs.Frames.{IsDataFor, IsRequestFor}
+use Rattle.wf_def_lists.specs.Table.{at}
+use Rattle.wf_def_world.specs.World.{Content, Frames, Request}
+use Rattle.wf_def_world.specs.Exchanges.{no_mpdu}
+use Rattle.wf_octets_header.specs.declared.header.Header.{Header}
+use Rattle.wf_octets_block.specs.declared.frames.Bar.{Bar}
+use Rattle.wf_recv_peer.specs.Frames.{IsDataFor, IsRequestFor}
 
 -- data for station s, of this TID and this number
 pub record SaysData (s tid number : ℕ) (octets : List ℕ) : Type 0 where
@@ -21,13 +21,14 @@ pub record SaysRequest (s tid start : ℕ) (octets : List ℕ) : Type 0 where
   pub tid_is : bar.tid ≡ tid
   pub start_is : bar.start ≡ start
 
--- octets that are transmission i of what is sent to this TID of station s: they say its number, or its start, modulo 4096
+-- octets that are transmission i of what is sent to this TID of station s: they say its number, or its start,
+-- modulo 4096
 abbrev pub IsSentTo : ℕ → ℕ → ℕ → Content → List ℕ → Type 0
 IsSentTo s tid i (Frames mpdus) octets = SaysData s tid ((at no_mpdu mpdus i).number % 4096) octets
 IsSentTo s tid i (Request start) octets = SaysRequest s tid (start % 4096) octets
 
 -- octets that are sent to station s
-pub record IsSent (s : ℕ) (octets : List ℕ) : Type 0 where
+pub record IsForStation (s : ℕ) (octets : List ℕ) : Type 0 where
   pub tid : ℕ
   pub index : ℕ
   pub content : Content

@@ -7,27 +7,27 @@ ghost use Rattle.wf_frame.specs.declared.answers.Brief.TheVariants.{Ba};
 ghost use Rattle.wf_frame.specs.declared.notes.Ask.TheVariants.{Arrive, Answer as Answers, Done};
 ghost use Rattle.wf_frame.specs.declared.notes.Note.TheVariants.{Asked};
 ghost use Rattle.wf_frame.specs.declared.notes.ReplyNote.TheVariants.{Released};
-ghost use Rattle.wf_rules.specs.Table.{word_of};
-ghost use Rattle.wf_world.specs.Refusals.{refusal};
-ghost use Rattle.wf_world.specs.Exchanges.{transmissions};
-ghost use Rattle.wf_world.specs.World.{World, Exchange, exchange as exchange_in};
-ghost use Rattle.wf_transmit.specs.Replies.{refusal_in};
-ghost use Rattle.wf_transmit_refines.specs.Standing.{StandsFor};
-ghost use Rattle.wf_marks.specs.Marks.{with_answer, with_changed};
-ghost use Rattle.wf_receive_refines.specs.Arriving.{CarriesId};
-ghost use Rattle.wf_receive_refines.specs.Hearing.{agreement_of};
-ghost use Rattle.wf_receive_refines.specs.Refusing.{arrive_refusal, answer_refusal, done_refusal, mark_in};
-ghost use Rattle.wf_transmissions.specs.Transmissions.{sent_of};
+ghost use Rattle.wf_def_lists.specs.Table.{bits_word};
+ghost use Rattle.wf_def_world.specs.Refusals.{refusal};
+ghost use Rattle.wf_def_world.specs.Exchanges.{transmissions};
+ghost use Rattle.wf_def_world.specs.World.{World, Exchange, exchange as exchange_in};
+ghost use Rattle.std.specs.Result.{result_err};
+ghost use Rattle.wf_send_half_refines.specs.Standing.{StandsFor};
+ghost use Rattle.wf_send_exchanges.specs.Marks.{with_answer, with_changed};
+ghost use Rattle.wf_recv_refines.specs.Arriving.{CarriesId};
+ghost use Rattle.wf_recv_refines.specs.Hearing.{agreement_of};
+ghost use Rattle.wf_recv_refines.specs.Refusing.{arrive_refusal, answer_refusal, done_refusal, mark_in};
+ghost use Rattle.wf_path.specs.Transmissions.{sent_of};
 ghost use Rattle.wf_path.specs.Paths.{IsSmall};
-ghost use Rattle.wf_cell.specs.Engines.{HasWorld, IsArriving, IsIn, IsOnAir, Meets};
+ghost use Rattle.wf_cell.specs.Engines.{EngineHasWorld, IsArriving, EngineIsIn, IsOnAir, EngineMeets};
 ghost use Rattle.wf_cell.specs.Octets.{IsSentTo};
 
 use crate::engine::{Engine, LONGEST};
-use wf_bits::Bits256;
 use wf_frame::{Answer, Brief, Ids, Refusal};
-use wf_marks::Mark;
+use wf_octets_bits::Bits256;
+use wf_octets_seq12::Seq12;
 use wf_path::{Path, Sent};
-use wf_seq12::Seq12;
+use wf_send_exchanges::Mark;
 
 // Why a transmission does not arrive, if it does not: of an exchange with this mark, which has so many.
 fn arrival_refusal(mark: &Mark, count: u16, index: u16) -> Option<Refusal>
@@ -73,7 +73,8 @@ fn ending_refusal(mark: &Mark, heard: bool) -> Option<Refusal>
 fn written(path: &Path, exchange: u64, index: u16, octets: &mut [u8; LONGEST]) -> usize
     requires { IsOnAir path.now exchange index }
     ensures within { result ≤ 2330 }
-    ensures says { (w : World) (bodies : ℕ → FrameValue) (x : Exchange) → StandsFor path.now w bodies → exchange_in w exchange ≡ Some x →
+    ensures says { (w : World) (bodies : ℕ → FrameValue) (x : Exchange) → StandsFor path.now w bodies →
+        exchange_in w exchange ≡ Some x →
         index < transmissions x.content → IsSentTo x.station x.tid index x.content (take result octets.new) }
 {
     match path.mpdu(exchange, index, octets) {
@@ -84,7 +85,8 @@ fn written(path: &Path, exchange: u64, index: u16, octets: &mut [u8; LONGEST]) -
 
 // The id of the frame that a transmission of an open exchange carries; 0 for a request.
 fn carried_id(path: &Path, exchange: u64, index: u16) -> u64
-    ensures { (w : World) (bodies : ℕ → FrameValue) (x : Exchange) → StandsFor path.now w bodies → exchange_in w exchange ≡ Some x →
+    ensures { (w : World) (bodies : ℕ → FrameValue) (x : Exchange) → StandsFor path.now w bodies →
+        exchange_in w exchange ≡ Some x →
         index < transmissions x.content → CarriesId result index x.content }
 {
     path.frame_id(exchange, index).unwrap_or(0)
@@ -93,9 +95,9 @@ fn carried_id(path: &Path, exchange: u64, index: u16) -> u64
 impl Engine {
     // A transmission of an open exchange reaches its station.
     pub(crate) fn arrive(&mut self, exchange: u64, index: u16, answer: &mut Answer)
-        requires { HasWorld self.old }
-        ensures { (w : World) (bodies : ℕ → FrameValue) → IsIn self.old w bodies →
-            Meets w bodies (Asked (Arrive exchange index)) self.new (reply_of answer.new) }
+        requires { EngineHasWorld self.old }
+        ensures { (w : World) (bodies : ℕ → FrameValue) → EngineIsIn self.old w bodies →
+            EngineMeets w bodies (Asked (Arrive exchange index)) self.new (reply_of answer.new) }
     {
         match self.check_arrival(exchange, index) {
             Err(reason) => answer.brief = Brief::Refused(reason),
@@ -108,10 +110,11 @@ impl Engine {
 
     // What an exchange sends, of which a transmission is to arrive, or why it does not.
     fn check_arrival(&self, exchange: u64, index: u16) -> Result<Sent, Refusal>
-        requires { HasWorld self.now }
-        ensures refused { (w : World) (bodies : ℕ → FrameValue) → IsIn self.now w bodies →
-            refusal_in result ≡ refusal w (Asked (Arrive exchange index)) }
-        ensures sent { IfOk result (λ sent. (w : World) (bodies : ℕ → FrameValue) → IsIn self.now w bodies →
+        requires { EngineHasWorld self.now }
+        ensures refused { (w : World) (bodies : ℕ → FrameValue) → EngineIsIn self.now w bodies →
+            result_err result ≡ refusal w (Asked (Arrive exchange index)) }
+        ensures sent { IfOk result (λ sent. (w : World) (bodies : ℕ → FrameValue) →
+            EngineIsIn self.now w bodies →
             option_map sent_of (exchange_in w exchange) ≡ Some sent) }
     {
         match self.marks.find(exchange) {
@@ -129,8 +132,9 @@ impl Engine {
     // A transmission of an open exchange reaches its station, which passes up the frames of `up`.
     fn pass_on(&mut self, sent: Sent, exchange: u64, index: u16, up: &mut Ids)
         requires { IsArriving self.old exchange index sent }
-        ensures { (w : World) (bodies : ℕ → FrameValue) → IsIn self.old w bodies → refusal w (Asked (Arrive exchange index)) ≡ None →
-            Meets w bodies (Asked (Arrive exchange index)) self.new (Released up.new) }
+        ensures { (w : World) (bodies : ℕ → FrameValue) → EngineIsIn self.old w bodies →
+            refusal w (Asked (Arrive exchange index)) ≡ None →
+            EngineMeets w bodies (Asked (Arrive exchange index)) self.new (Released up.new) }
     {
         let id = carried_id(&self.path, exchange, index);
         let len = written(&self.path, exchange, index, &mut self.octets);
@@ -142,9 +146,9 @@ impl Engine {
 
     // A station answers an open exchange with a BlockAck.
     pub(crate) fn answer(&mut self, exchange: u64, answer: &mut Answer)
-        requires { HasWorld self.old }
-        ensures { (w : World) (bodies : ℕ → FrameValue) → IsIn self.old w bodies →
-            Meets w bodies (Asked (Answers exchange)) self.new (reply_of answer.new) }
+        requires { EngineHasWorld self.old }
+        ensures { (w : World) (bodies : ℕ → FrameValue) → EngineIsIn self.old w bodies →
+            EngineMeets w bodies (Asked (Answers exchange)) self.new (reply_of answer.new) }
     {
         match self.check_answer(exchange) {
             Err(reason) => answer.brief = Brief::Refused(reason),
@@ -154,10 +158,11 @@ impl Engine {
 
     // What an exchange sends, that is to be answered, or why it is not.
     fn check_answer(&self, exchange: u64) -> Result<Sent, Refusal>
-        requires { HasWorld self.now }
-        ensures refused { (w : World) (bodies : ℕ → FrameValue) → IsIn self.now w bodies →
-            refusal_in result ≡ refusal w (Asked (Answers exchange)) }
-        ensures sent { IfOk result (λ sent. (w : World) (bodies : ℕ → FrameValue) → IsIn self.now w bodies →
+        requires { EngineHasWorld self.now }
+        ensures refused { (w : World) (bodies : ℕ → FrameValue) → EngineIsIn self.now w bodies →
+            result_err result ≡ refusal w (Asked (Answers exchange)) }
+        ensures sent { IfOk result (λ sent. (w : World) (bodies : ℕ → FrameValue) →
+            EngineIsIn self.now w bodies →
             option_map sent_of (exchange_in w exchange) ≡ Some sent) }
     {
         match self.marks.find(exchange) {
@@ -177,9 +182,13 @@ impl Engine {
         requires within { sent.station < length self.old.peers }
         requires tid { sent.tid < 8 }
         ensures kept { let board = (agreement_of self.old.peers sent.station sent.tid).board in
-            self.new ≡ record self.old { marks = with_changed exchange (with_answer board.start board.offsets) self.old.marks } }
+            self.new ≡ record self.old {
+              marks = with_changed exchange
+                  (with_answer board.start board.offsets) self.old.marks;
+            } }
         ensures brief { let board = (agreement_of self.old.peers sent.station sent.tid).board in
-            result ≡ Ba board.start (word_of 0 board.offsets) (word_of 1 board.offsets) (word_of 2 board.offsets) (word_of 3 board.offsets)
+            result ≡ Ba board.start (bits_word 0 board.offsets) (bits_word 1 board.offsets)
+            (bits_word 2 board.offsets) (bits_word 3 board.offsets)
             (nat_lt 64 board.size) }
     {
         let ba = self.peers.answer(sent.station, sent.tid);
@@ -196,10 +205,10 @@ impl Engine {
 
     // An exchange ends; where it was heard, by the answer that was kept.
     pub(crate) fn done(&mut self, exchange: u64, heard: bool, answer: &mut Answer)
-        requires some { HasWorld self.old }
+        requires some { EngineHasWorld self.old }
         requires small { IsSmall self.old.half }
-        ensures { (w : World) (bodies : ℕ → FrameValue) → IsIn self.old w bodies →
-            Meets w bodies (Asked (Done exchange heard)) self.new (reply_of answer.new) }
+        ensures { (w : World) (bodies : ℕ → FrameValue) → EngineIsIn self.old w bodies →
+            EngineMeets w bodies (Asked (Done exchange heard)) self.new (reply_of answer.new) }
     {
         match self.check_done(exchange, heard) {
             Err(reason) => answer.brief = Brief::Refused(reason),
@@ -212,9 +221,10 @@ impl Engine {
 
     // What was heard of an exchange that is to end, or why it does not end.
     fn check_done(&self, exchange: u64, heard: bool) -> Result<Option<(Seq12, Bits256)>, Refusal>
-        ensures refused { (w : World) (bodies : ℕ → FrameValue) → IsIn self.now w bodies →
-            refusal_in result ≡ refusal w (Asked (Done exchange heard)) }
-        ensures kept { IfOk result (λ kept. kept ≡ (if heard then option_and_then (λ m. m.answer) (mark_in self.now.marks exchange) else None)) }
+        ensures refused { (w : World) (bodies : ℕ → FrameValue) → EngineIsIn self.now w bodies →
+            result_err result ≡ refusal w (Asked (Done exchange heard)) }
+        ensures kept { IfOk result (λ kept. kept
+            ≡ (if heard then option_and_then (λ m. m.answer) (mark_in self.now.marks exchange) else None)) }
     {
         match self.marks.find(exchange) {
             None => Err(Refusal::NoExchange),

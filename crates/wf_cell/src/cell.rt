@@ -1,6 +1,6 @@
 //! The cell and its history.
 
-ghost use Rattle.std.specs.Prelude.{◌≡◌, ◌↔◌, ◌+◌, ◌<◌, ◌≤◌, ℕ, [], Err, Some, is_some, IfOk, IfSome, length, slice_get};
+ghost use Rattle.std.specs.Prelude.{◌≡◌, ◌↔◌, ◌<◌, ◌≤◌, ◌^◌, ◌*◌, ℕ, [], Err, Some, None, is_some, IfOk, IfSome, length, slice_get};
 ghost use Rattle.wf_frame.specs.Answers.{reply_of};
 ghost use Rattle.wf_frame.specs.Frames.{FrameValue};
 ghost use Rattle.wf_frame.specs.Settings.{first_out_of_range};
@@ -8,31 +8,28 @@ ghost use Rattle.wf_frame.specs.declared.classes.Fate.{Fate};
 ghost use Rattle.wf_frame.specs.declared.notes.Refusal.TheVariants.{HistoryFull};
 ghost use Rattle.wf_frame.specs.declared.notes.ReplyNote.TheVariants.{Reaped, Refused};
 ghost use Rattle.wf_frame.specs.declared.settings.Field.{Field};
-ghost use Rattle.wf_world.specs.Run.{by, world_of};
-ghost use Rattle.wf_world.specs.World.{opening};
-ghost use Rattle.wf_world.specs.Step.{step};
-ghost use Rattle.wf_laws.specs.Laws.{Laws};
-ghost use Rattle.wf_laws.specs.Lengths.{HasLengths};
-ghost use Rattle.wf_laws.specs.Queues.{HasLength, IsAtMost};
-ghost use Rattle.wf_rules.specs.Lengths.{greatest_body};
-ghost use Rattle.wf_transmit_refines.specs.Half.{body_of};
-ghost use Rattle.wf_transmit_refines.specs.Standing.{StandsFor};
-ghost use Rattle.wf_bodies.specs.Inside.{is_inside};
-ghost use Rattle.wf_path.specs.Jobs.{bodies_after, frame_of, given_back, note_of};
+ghost use Rattle.wf_def_world.specs.Run.{by, world_of};
+ghost use Rattle.wf_def_world.specs.World.{opening};
+ghost use Rattle.wf_def_world.specs.Step.{step};
+ghost use Rattle.wf_law_runs.specs.Laws.{Laws};
+ghost use Rattle.wf_send_half_refines.specs.Half.{body_of};
+ghost use Rattle.wf_send_half_refines.specs.Standing.{StandsFor};
+ghost use Rattle.wf_send_half_refines.specs.Inside.{is_inside};
+ghost use Rattle.wf_path.specs.Jobs.{bodies_after, frame_of, frame_given_back, note_of};
 ghost use Rattle.wf_cell.specs.Bodies.{body_after};
 ghost use Rattle.wf_cell.specs.Cells.{room_in, with_entry};
 ghost use Rattle.wf_cell.specs.Rights.{IsRight};
 
 use crate::engine::Engine;
-use std::alloc::Global;
+use std::alloc::{AllocError, Global};
 use std::marker::Model;
-use wf_chain::Parcel;
 use wf_frame::{Answer, Brief, Config, Note, Refusal};
 use wf_path::{Job, NewFault, Path};
+use wf_queue_chain::Parcel;
 
-/// A cell: the transmit path of an access point, the receive halves of its stations, and the history of the calls that were made.
-/// A contract sees the history and what the path keeps; the type keeps that they agree with the machine's run of that history
-/// (`wf_world`). Only `new` takes memory.
+/// A cell: the transmit path of an access point, the receive halves of its stations, and the history of the
+/// calls that were made. A contract sees the history and what the path keeps; the type keeps that they agree
+/// with the machine's run of that history (`wf_def_world`). Only `new` and `of` take memory.
 #[derive(Drop)]
 pub struct Cell {
     engine: Engine,
@@ -45,67 +42,77 @@ impl Model for Cell {
 
     ghost Value = { CellValue };
 
-    ghost view = { λ c. record { past = record { config = c.engine.half.config; history = c.past.items }; half = c.engine.half } };
+    ghost view = { λ c. record {
+      past = record { config = c.engine.half.config; history = c.past.items };
+      half = c.engine.half;
+    } };
 
-    ghost invariant = { λ c. IsCell (record { config = c.engine.half.config; history = c.past.items }) c.engine (vec_capacity c.past) };
-}
-
-// The call that a job is, as the history keeps it.
-fn note_of_job(job: &Job) -> Note
-    ensures value { result ≡ note_of job.now }
-    ensures some { HasLength result }
-    ensures most { IsAtMost greatest_body result }
-{
-    match job {
-        Job::Give(parcel) => {
-            let frame = parcel.frame();
-            Note::Enqueue {
-                station: frame.station(),
-                tid: frame.tid(),
-                flow: frame.flow(),
-                len: frame.len(),
-            }
-        }
-        Job::Call(ask) => Note::Asked(*ask),
-    }
+    ghost invariant = { λ c. IsCell (record {
+      config = c.engine.half.config;
+      history = c.past.items;
+    }) c.engine (vec_capacity c.past) };
 }
 
 impl Cell {
-    /// A cell of these settings: no station is live, and no call was made. Refused as BadConfig where a setting is out of its
-    /// range, with the first such setting, or as NoMemory.
+    /// A cell of these settings: no station is live, and no call was made. Refused as BadConfig where a
+    /// setting is out of its range, with the first such setting, or as NoMemory.
     pub fn new(alloc: Global, config: Config) -> Result<Cell, NewFault>
-        ensures bad { (f : Field) → (result ≡ Err (NewFault.BadConfig f)) ↔ (first_out_of_range config ≡ Some f) }
+        ensures bad { (f : Field) →
+            (result ≡ Err (NewFault.BadConfig f)) ↔ (first_out_of_range config ≡ Some f) }
         ensures past { IfOk result (λ made. made.past ≡ record { config = config; history = [] }) }
-        ensures stands { IfOk result (λ made. (bodies : ℕ → FrameValue) → StandsFor made.half (opening config) bodies) }
+        ensures stands { IfOk result
+            (λ made. (bodies : ℕ → FrameValue) → StandsFor made.half (opening config) bodies) }
     {
         if let Some(field) = config.check() {
             return Err(NewFault::BadConfig(field));
         }
+        let cell = Cell::of(alloc, config)?;
+        Ok(cell)
+    }
+
+    /// The same of settings that are in their ranges. Fails only for want of memory.
+    pub fn of(alloc: Global, config: Config) -> Result<Cell, AllocError>
+        requires { first_out_of_range config ≡ None }
+        ensures past { IfOk result (λ made. made.past ≡ record { config = config; history = [] }) }
+        ensures stands { IfOk result
+            (λ made. (bodies : ℕ → FrameValue) → StandsFor made.half (opening config) bodies) }
+    {
         let past = Vec::with_capacity(alloc, config.calls as usize)?;
         let engine = Engine::new(alloc, config)?;
         Ok(Cell { engine, past })
     }
 
-    /// Makes a call and answers it. The call is one entry of the history, refused or not, while the history has fewer entries than
-    /// the setting `calls`; from then on each call is refused as HistoryFull and is no entry.
+    /// Makes a call and answers it. The call is one entry of the history, refused or not, while the history
+    /// has fewer entries than the setting `calls`; from then on each call is refused as HistoryFull and is no
+    /// entry.
     pub fn step(&mut self, caller: u32, job: Job, answer: &mut Answer) -> Option<Parcel>
         // where there is room, the history has the call, and the answer is the machine's
-        ensures past { 0 < room_in self.old.past → self.new.past ≡ with_entry (by caller (note_of job)) self.old.past }
-        ensures reply { 0 < room_in self.old.past → reply_of answer.new ≡ (step (world_of self.old.past) (note_of job)).reply }
+        ensures past { 0 < room_in self.old.past →
+            self.new.past ≡ with_entry (by caller (note_of job)) self.old.past }
+        ensures reply { 0 < room_in self.old.past →
+            reply_of answer.new ≡ (step (world_of self.old.past) (note_of job)).reply }
 
-        // the frame that comes back is the one that was refused, or the one that was reaped, as it was accepted but for its fate
-        ensures parcel { 0 < room_in self.old.past → (bodies : ℕ → FrameValue) → StandsFor self.old.half (world_of self.old.past) bodies →
-            result ≡ given_back bodies job (reply_of answer.new) }
-        ensures stands { 0 < room_in self.old.past → (bodies : ℕ → FrameValue) → StandsFor self.old.half (world_of self.old.past) bodies →
-            StandsFor self.new.half (world_of self.new.past) (bodies_after self.old.half job (reply_of answer.new) bodies) }
+        // the frame that comes back is the one that was refused, or the one that was reaped, as it was
+        // accepted but for its fate
+        ensures parcel { 0 < room_in self.old.past → (bodies : ℕ → FrameValue) →
+            StandsFor self.old.half (world_of self.old.past) bodies →
+            result ≡ frame_given_back bodies job (reply_of answer.new) }
+        ensures stands { 0 < room_in self.old.past → (bodies : ℕ → FrameValue) →
+            StandsFor self.old.half (world_of self.old.past) bodies →
+            StandsFor self.new.half (world_of self.new.past)
+            (bodies_after self.old.half job (reply_of answer.new) bodies) }
 
-        // an accepted frame brings the body of its id, and a reaped one takes it out; every other body stays, id by id
-        ensures bodies { 0 < room_in self.old.past → (id : ℕ) → body_of self.new.half id ≡ body_after self.old.half (reply_of answer.new) job id }
-        ensures reaped { 0 < room_in self.old.past → (id : ℕ) (fate : Fate) → reply_of answer.new ≡ Reaped id fate →
+        // an accepted frame brings the body of its id, and a reaped one takes it out; every other body stays,
+        // id by id
+        ensures bodies { 0 < room_in self.old.past → (id : ℕ) →
+            body_of self.new.half id ≡ body_after self.old.half (reply_of answer.new) job id }
+        ensures reaped { 0 < room_in self.old.past → (id : ℕ) (fate : Fate) →
+            reply_of answer.new ≡ Reaped id fate →
             IfSome result (λ f. body_of self.old.half id ≡ Some f.body) }
 
         // so the answer is right, as a gate asks it of a machine
-        ensures right { 0 < room_in self.old.past → IsRight self.old.past.config self.old.past.history job (reply_of answer.new) result }
+        ensures right { 0 < room_in self.old.past →
+            IsRight self.old.past.config self.old.past.history job (reply_of answer.new) result }
 
         // where there is none, nothing changes
         ensures full { room_in self.old.past ≡ 0 → reply_of answer.new ≡ Refused HistoryFull }
@@ -119,7 +126,7 @@ impl Cell {
             answer.brief = Brief::Refused(Refusal::HistoryFull);
             return job.parcel();
         }
-        self.past.push_reserved((caller, note_of_job(&job)));
+        self.past.push_reserved((caller, job.note()));
         self.engine.step(job, answer)
     }
 
@@ -153,12 +160,24 @@ impl Cell {
         self.engine.path.config()
     }
 
-    /// The transmit path. It stands for the world after the history, and has a body for each frame that was accepted and is not
-    /// reaped: the held ones and those on the finished list.
+    /// The clock of the world after the history, in microseconds: it goes by at most ten seconds in each of
+    /// at most 1,048,576 calls.
+    pub fn clock(&self) -> u64
+        ensures value { result ≡ (world_of self.now.past).clock }
+        ensures small { result < 2 ^ 32 * 1000000 }
+    {
+        // by the length of the history the clock has its bound
+        let _calls = self.len();
+        self.path().now()
+    }
+
+    /// The transmit path. It stands for the world after the history, and has a body for each frame that was
+    /// accepted and is not reaped: the held ones and those on the finished list.
     pub fn path(&self) -> &Path
         ensures value { result.now ≡ self.now.half }
         ensures stands { (bodies : ℕ → FrameValue) × StandsFor self.now.half (world_of self.now.past) bodies }
-        ensures inside { (id : ℕ) → is_some (body_of self.now.half id) ≡ is_inside (world_of self.now.past) id }
+        ensures inside { (id : ℕ) →
+            is_some (body_of self.now.half id) ≡ is_inside (world_of self.now.past) id }
     {
         &self.engine.path
     }

@@ -6,25 +6,24 @@ ghost use Rattle.wf_frame.specs.Answers.{reply_of};
 ghost use Rattle.wf_frame.specs.Settings.{first_out_of_range};
 ghost use Rattle.wf_frame.specs.declared.notes.Ask.TheVariants.{Join, Pull};
 ghost use Rattle.wf_frame.specs.declared.notes.Note.TheVariants.{Asked};
-ghost use Rattle.wf_world.specs.World.{World, opening};
-ghost use Rattle.wf_transmit_refines.specs.Standing.{StandsFor};
+ghost use Rattle.wf_def_world.specs.World.{World, opening};
 ghost use Rattle.wf_path.specs.Paths.{IsSmall};
-ghost use Rattle.wf_cell.specs.Engines.{HasWorld, IsDone, IsIn, Meets};
+ghost use Rattle.wf_cell.specs.Engines.{EngineHasWorld, IsJobDone, EngineIsIn, EngineMeets};
 
 use crate::peers::Peers;
 use std::alloc::{AllocError, Global};
 use std::marker::Model;
-use wf_chain::Parcel;
 use wf_frame::{Answer, Ask, Brief, Class, Config};
-use wf_marks::Marks;
-use wf_path::{Job, NewFault, Path};
-use wf_seq12::Seq12;
+use wf_octets_seq12::Seq12;
+use wf_path::{Job, Path};
+use wf_queue_chain::Parcel;
+use wf_send_exchanges::Marks;
 
 /// The most octets of one transmission: a header of 26 and a body of 2304.
 pub(crate) const LONGEST: usize = 2330;
 
-/// The path, the receive half of each station and the marks of the open exchanges. A contract says of a call what it makes of each
-/// world that they stand for. Only `new` takes memory.
+/// The path, the receive half of each station and the marks of the open exchanges. A contract says of a call
+/// what it makes of each world that they stand for. Only `new` takes memory.
 #[derive(Drop)]
 pub(crate) struct Engine {
     pub(crate) path: Path,
@@ -46,7 +45,7 @@ impl Engine {
     /// An engine of these settings, each of which must be in its range: it stands for the opening world.
     pub(crate) fn new(alloc: Global, config: Config) -> Result<Engine, AllocError>
         requires { first_out_of_range config ≡ None }
-        ensures { IfOk result (λ made. (bodies : ℕ → FrameValue) → IsIn made (opening config) bodies) }
+        ensures { IfOk result (λ made. (bodies : ℕ → FrameValue) → EngineIsIn made (opening config) bodies) }
     {
         let peers = Peers::new(alloc, config.stations)?;
         let marks = Marks::new(alloc)?;
@@ -57,17 +56,17 @@ impl Engine {
                 marks,
                 octets: [0; LONGEST],
             }),
-            Err(NewFault::NoMemory) => Err(AllocError),
-            Err(NewFault::BadConfig(_)) => unreachable!(),
+            // the settings are in their ranges, so it is memory that there is none of
+            Err(_) => Err(AllocError),
         }
     }
 
     /// Makes a call and answers it. A frame comes back exactly where it was refused, or reaped.
     pub(crate) fn step(&mut self, job: Job, answer: &mut Answer) -> Option<Parcel>
-        requires some { HasWorld self.old }
+        requires some { EngineHasWorld self.old }
         requires small { IsSmall self.old.half }
-        ensures { (w : World) (bodies : ℕ → FrameValue) → IsIn self.old w bodies →
-            IsDone w bodies job self.old.half self.new (reply_of answer.new) result }
+        ensures { (w : World) (bodies : ℕ → FrameValue) → EngineIsIn self.old w bodies →
+            IsJobDone w bodies job self.old.half self.new (reply_of answer.new) result }
     {
         match job {
             Job::Give(parcel) => self.path.call(Job::Give(parcel), answer),
@@ -77,10 +76,10 @@ impl Engine {
 
     // A call that brings no frame.
     fn ask(&mut self, ask: Ask, answer: &mut Answer) -> Option<Parcel>
-        requires some { HasWorld self.old }
+        requires some { EngineHasWorld self.old }
         requires small { IsSmall self.old.half }
-        ensures { (w : World) (bodies : ℕ → FrameValue) → IsIn self.old w bodies →
-            IsDone w bodies (Job.Call ask) self.old.half self.new (reply_of answer.new) result }
+        ensures { (w : World) (bodies : ℕ → FrameValue) → EngineIsIn self.old w bodies →
+            IsJobDone w bodies (Job.Call ask) self.old.half self.new (reply_of answer.new) result }
     {
         match ask {
             Ask::Arrive { exchange, index } => {
@@ -123,10 +122,11 @@ impl Engine {
         weight: u8,
         answer: &mut Answer,
     )
-        requires some { HasWorld self.old }
+        requires some { EngineHasWorld self.old }
         requires small { IsSmall self.old.half }
-        ensures { (w : World) (bodies : ℕ → FrameValue) → IsIn self.old w bodies →
-            Meets w bodies (Asked (Join station window start exponent weight)) self.new (reply_of answer.new) }
+        ensures { (w : World) (bodies : ℕ → FrameValue) → EngineIsIn self.old w bodies →
+            EngineMeets w bodies (Asked (Join station window start exponent weight)) self.new
+            (reply_of answer.new) }
     {
         let ask = Ask::Join {
             station,
@@ -146,10 +146,10 @@ impl Engine {
 
     // The next exchange of a class opens: it has a mark.
     fn pull(&mut self, class: Class, answer: &mut Answer)
-        requires some { HasWorld self.old }
+        requires some { EngineHasWorld self.old }
         requires small { IsSmall self.old.half }
-        ensures { (w : World) (bodies : ℕ → FrameValue) → IsIn self.old w bodies →
-            Meets w bodies (Asked (Pull class)) self.new (reply_of answer.new) }
+        ensures { (w : World) (bodies : ℕ → FrameValue) → EngineIsIn self.old w bodies →
+            EngineMeets w bodies (Asked (Pull class)) self.new (reply_of answer.new) }
     {
         let _ = self.path.call(Job::Call(Ask::Pull { class }), answer);
         match answer.brief {

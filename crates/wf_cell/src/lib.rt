@@ -1,8 +1,11 @@
-//! A cell: the transmit path of an access point, the receive half of each of its stations, and the history of the calls.
+//! A cell, `Cell`: the transmit path of an access point, the receive half of each of its stations, and the
+//! history of the calls. `engine` has the path, a receive half for each station and the marks, and makes each
+//! call; `cell` adds the history, and its type keeps that a cell stands for the final world of its own one.
+//! Whatever calls are made, each answer is the machine's (`wf_def_world`).
 //!
-//! A transmission crosses the air as octets: the cell writes each one that arrives, gives it to the station, and reads the
-//! station's BlockAck. Whatever calls are made, a cell is where the machine (`wf_world`) is after them, and each answer is the
-//! machine's. No call takes memory but `Cell::new`.
+//! `air` is what crosses the air: a transmission that arrives is written as octets and read by the station,
+//! and so is its BlockAck. `machine` makes a cell a `Machine`: a call brings the answer that it fills, in a
+//! box that comes back with it. No call takes memory but `Cell::new`.
 #![tactic(auto)]
 
 mod air;

@@ -7,12 +7,13 @@ ghost use Rattle.wf_cell.specs.Rights.{IsRight};
 
 use crate::Cell;
 use std::alloc::Global;
-use wf_chain::Parcel;
 use wf_frame::{Answer, Config, Note};
 use wf_machine::Machine;
 use wf_path::Job;
+use wf_queue_chain::Parcel;
 
-/// A call of a cell, with the answer that it fills. Who calls makes the answer once, and has it back after each call.
+/// A call of a cell, with the answer that it fills. Who calls makes the answer once, and has it back after
+/// each call.
 #[derive(Drop)]
 pub struct Asking {
     /// The call.
@@ -30,8 +31,8 @@ pub struct Answered {
     pub parcel: Option<Parcel>,
 }
 
-/// A reply is right where it is that of the run of the history, and where the frame that comes back with it is the one that it
-/// tells of.
+/// A reply is right where it is that of the run of the history, and where the frame that comes back with it
+/// is the one that it tells of.
 impl Machine for Cell {
     type Call = Asking;
 

@@ -1,20 +1,20 @@
 //! The receive halves of all stations.
 
 ghost use Rattle.std.specs.Prelude.{◌≡◌, ℕ, ◌<◌, ◌≤◌, [], length, nat_lt, IfOk};
-ghost use Rattle.wf_peer.specs.Agreements.{new_peer};
-ghost use Rattle.wf_receive_refines.specs.Arriving.{buffer_outcome, peer_after};
-ghost use Rattle.wf_world.specs.World.{Content};
-ghost use Rattle.wf_receive_refines.specs.Hearing.{AreNew, agreement_of, peer_of, with_peer};
-ghost use Rattle.wf_cell.specs.Octets.{IsSent, IsSentTo};
+ghost use Rattle.wf_recv_peer.specs.Agreements.{new_peer};
+ghost use Rattle.wf_recv_refines.specs.Arriving.{buffer_outcome_of_transmission, peer_after};
+ghost use Rattle.wf_def_world.specs.World.{Content};
+ghost use Rattle.wf_recv_refines.specs.Hearing.{AreNew, agreement_of, peer_of, with_peer};
+ghost use Rattle.wf_cell.specs.Octets.{IsForStation, IsSentTo};
 
 use std::alloc::{AllocError, Global};
 use std::marker::Model;
-use wf_bits::Bits256;
-use wf_blockack::{decode_ba, decode_wide};
 use wf_frame::Ids;
-use wf_marks::widened;
-use wf_peer::Peer;
-use wf_seq12::Seq12;
+use wf_octets_bits::Bits256;
+use wf_octets_block::{decode_ba, decode_wide};
+use wf_octets_seq12::Seq12;
+use wf_recv_peer::Peer;
+use wf_send_exchanges::widened;
 
 /// The octets of a BlockAck of 256 numbers.
 const WIDE: usize = 52;
@@ -38,7 +38,7 @@ pub(crate) struct Peers {
 
 impl Model for Peers {
     ghost use Rattle.std.specs.Prelude.{List};
-    ghost use Rattle.wf_peer.specs.Agreements.{PeerValue};
+    ghost use Rattle.wf_recv_peer.specs.Agreements.{PeerValue};
 
     ghost Value = { List PeerValue };
 
@@ -62,20 +62,25 @@ impl Peers {
     pub(crate) fn reset(&mut self, station: u16, start: Seq12, size: u16)
         requires within { station < length self.old }
         requires size { (1 ≤ size) × (size ≤ 256) }
-        ensures { self.new ≡ with_peer station (new_peer (peer_of self.old station).station start size) self.old }
+        ensures { self.new ≡ with_peer station (new_peer
+            (peer_of self.old station).station start size) self.old }
     {
         self.list[usize::from(station)].reset(start, size);
     }
 
-    /// Octets that are for this station reach it. The ids of the frames that it passes up go into `up`, which must be empty.
+    /// Octets that are for this station reach it. The ids of the frames that it passes up go into `up`, which
+    /// must be empty.
     pub(crate) fn receive(&mut self, station: u16, octets: &[u8], id: u64, up: &mut Ids)
         requires within { station < length self.old }
-        requires sent { IsSent (peer_of self.old station).station octets.now }
+        requires sent { IsForStation (peer_of self.old station).station octets.now }
         requires empty { up.old ≡ [] }
-        ensures heard { (tid i : ℕ) (content : Content) → IsSentTo (peer_of self.old station).station tid i content octets.now →
+        ensures heard { (tid i : ℕ) (content : Content) →
+            IsSentTo (peer_of self.old station).station tid i content octets.now →
             self.new ≡ with_peer station (peer_after tid i id content (peer_of self.old station)) self.old }
-        ensures up { (tid i : ℕ) (content : Content) → IsSentTo (peer_of self.old station).station tid i content octets.now →
-            up.new ≡ (buffer_outcome i id content (agreement_of self.old station tid).buffer).up }
+        ensures up { (tid i : ℕ) (content : Content) →
+            IsSentTo (peer_of self.old station).station tid i content octets.now →
+            up.new ≡ (buffer_outcome_of_transmission i id content
+            (agreement_of self.old station tid).buffer).up }
     {
         if self.list[usize::from(station)]
             .receive(octets, id, up)

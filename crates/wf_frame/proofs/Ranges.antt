@@ -6,24 +6,29 @@ use Rattle.wf_frame.specs.declared.settings.Field.TheVariants.{Stations, Flows, 
 use Rattle.wf_frame.specs.Settings.{fields, is_in_range, first_out_of_range, IsInRange}
 
 -- nothing is found behind an item that passes
-past : {X : Type 0} (p : X → Bool) (x : X) (xs : List X) (b : Bool) → p x ≡ b → find p (x ∷ xs) ≡ None → (b ≡ false) × (find p xs ≡ None)
+past : {X : Type 0} (p : X → Bool) (x : X) (xs : List X) (b : Bool) → p x ≡ b → find p (x ∷ xs) ≡ None →
+    (b ≡ false) × (find p xs ≡ None)
 past p x xs true is none = absurd (cc)
 past p x xs false is none = (refl, cc)
 
 -- where nothing is found, no item of the list passes; and the other way round
-none_passes : {X : Type 0} (p : X → Bool) (xs : List X) → find p xs ≡ None → (k : ℕ) (d : X) → k < length xs → p (get_or xs k d) ≡ false
+none_passes : {X : Type 0} (p : X → Bool) (xs : List X) → find p xs ≡ None → (k : ℕ) (d : X) → k < length xs →
+    p (get_or xs k d) ≡ false
 none_passes p [] none k d inside = absurd (omega (arith, inside))
 none_passes p (x ∷ xs) none zero d inside = (past p x xs (p x) refl none).0
-none_passes p (x ∷ xs) none (suc k) d inside = none_passes p xs (past p x xs (p x) refl none).1 k d (omega (arith, inside))
+none_passes p (x ∷ xs) none (suc k) d inside =
+    none_passes p xs (past p x xs (p x) refl none).1 k d (omega (arith, inside))
 
 none_found : {X : Type 0} (p : X → Bool) (xs : List X) → ((x : X) → p x ≡ false) → find p xs ≡ None
 none_found p [] fails = refl
 none_found p (x ∷ xs) fails = ap (λ (b : Bool). cond b (Some x) (find p xs)) (fails x) ∙ none_found p xs fails
 
-bounds : (least value greatest : ℕ) → not (nat_le least value && nat_le value greatest) ≡ false → (least ≤ value) × (value ≤ greatest)
+bounds : (least value greatest : ℕ) → not (nat_le least value && nat_le value greatest) ≡ false →
+    (least ≤ value) × (value ≤ greatest)
 bounds least value greatest within = (grind arith, grind arith)
 
-within : (least value greatest : ℕ) → (least ≤ value) × (value ≤ greatest) → not (nat_le least value && nat_le value greatest) ≡ false
+within : (least value greatest : ℕ) → (least ≤ value) × (value ≤ greatest) →
+    not (nat_le least value && nat_le value greatest) ≡ false
 within least value greatest h = grind (arith, h.0, h.1)
 
 pub in_range : (c : Config) → first_out_of_range c ≡ None → IsInRange c

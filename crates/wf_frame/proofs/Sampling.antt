@@ -9,7 +9,8 @@ next_octet flow i octet is = omega (arith, is)
 more_is_next : (i : ℕ) → suc i ≡ i + 1
 more_is_next i = omega arith
 
-pub one_more : (flow i octet : ℕ) (octets : List ℕ) → i < length octets → octet ≡ (flow + i) % 256 → take i octets ≡ sample_body flow i → take (i + 1) (set octets i octet) ≡ sample_body flow (i + 1)
+pub one_more : (flow i octet : ℕ) (octets : List ℕ) → i < length octets → octet ≡ (flow + i) % 256 →
+    take i octets ≡ sample_body flow i → take (i + 1) (set octets i octet) ≡ sample_body flow (i + 1)
 one_more flow i octet octets inside is so =
     take_more_set octets i octet inside
     ∙ ap (λ (xs : List ℕ). xs ++ octet ∷ []) so

@@ -8,10 +8,11 @@ use Rattle.wf_frame.specs.declared.notes.Part.TheVariants.{Mpdus, Request}
 use Rattle.wf_frame.specs.declared.notes.ReplyNote.{ReplyNote}
 use Rattle.wf_frame.specs.declared.notes.ReplyNote.TheVariants as reply
 
--- what an exchange sends: a request where it has a start, else the frames, each by its id and its sequence number
-abbrev pub part_of : Option ℕ → List (ℕ × ℕ) → Part
-part_of (Some start) pairs = Request start
-part_of None pairs = Mpdus pairs
+-- what an exchange sends: a request where it has a start, else the frames, each by its id and its sequence
+-- number
+abbrev pub part_sent : Option ℕ → List (ℕ × ℕ) → Part
+part_sent (Some start) pairs = Request start
+part_sent None pairs = Mpdus pairs
 
 -- the reply that a brief is beside these frames sent and these ids passed up
 abbrev pub reply_with : Brief → List (ℕ × ℕ) → List ℕ → ReplyNote
@@ -21,7 +22,7 @@ reply_with brief.RateSet pairs ids = reply.RateSet
 reply_with (brief.Ticked now) pairs ids = reply.Ticked now
 reply_with (brief.Accepted id dropped) pairs ids = reply.Accepted id dropped
 reply_with (brief.Send exchange station tid air request more) pairs ids =
-    reply.Send exchange station tid air (part_of request pairs) more
+    reply.Send exchange station tid air (part_sent request pairs) more
 reply_with brief.Released pairs ids = reply.Released ids
 reply_with (brief.Ba start b0 b1 b2 b3 wide) pairs ids = reply.Ba start b0 b1 b2 b3 wide
 reply_with (brief.Ended acked waiting failed) pairs ids = reply.Ended acked waiting failed

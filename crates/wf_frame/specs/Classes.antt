@@ -1,5 +1,5 @@
 -- Access classes and their traffic identifiers (IEEE 802.11-2012, 9.2.4.2 and table 9-1).
-use Rattle.std.specs.Prelude.{ℕ, zero, suc, ◌==◌, Bool, List, [], ◌∷◌, codes, Option, find}
+use Rattle.std.specs.Prelude.{ℕ, zero, suc, ◌+◌, ◌*◌, ◌==◌, Bool, List, [], ◌∷◌, codes, Option, find}
 use Rattle.std.specs.Str.{bytes_eq}
 use Rattle.wf_frame.specs.declared.classes.Class.{Class}
 use Rattle.wf_frame.specs.declared.classes.Class.TheVariants.{Bk, Be, Vi, Vo}
@@ -34,6 +34,10 @@ class_among (c ∷ cs) (suc tid) = class_among cs tid
 -- the class of a TID
 abbrev pub class_of : ℕ → Class
 class_of tid = class_among (Be ∷ Bk ∷ Bk ∷ Be ∷ Vi ∷ Vi ∷ Vo ∷ Vo ∷ []) tid
+
+-- the number of TID t of station s among the TIDs of all stations: the eight of station 0 come first
+abbrev pub tid_number : ℕ → ℕ → ℕ
+tid_number s t = 8 * s + t
 
 -- whether two classes are one
 abbrev pub same_class : Class → Class → Bool

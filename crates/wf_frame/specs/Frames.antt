@@ -14,7 +14,15 @@ pub record FrameValue : Type 0 where
 
 -- a frame that is not accepted yet
 abbrev pub new_frame : ℕ → ℕ → ℕ → List ℕ → FrameValue
-new_frame station tid flow body = record { body = body; id = 0; stamp = 0; station = station; tid = tid; flow = flow; fate = Held }
+new_frame station tid flow body = record {
+  body = body;
+  id = 0;
+  stamp = 0;
+  station = station;
+  tid = tid;
+  flow = flow;
+  fate = Held;
+}
 
 -- the body that a trace's frame has: octet j is (flow + j) mod 256
 abbrev pub sample_body : ℕ → ℕ → List ℕ

@@ -5,11 +5,25 @@ use Rattle.wf_frame.specs.declared.settings.Field.{Field}
 use Rattle.wf_frame.specs.declared.settings.Field.TheVariants.{Stations, Flows, Limit, Room, FlowQuantum, Quantum, Inflight, Attempts, Agg, Cap, Sleeping, Calls}
 
 abbrev pub standard : Config
-standard = record { stations = 16; flows = 1024; limit = 8192; room = 65536; flow_quantum = 300; quantum = 300; inflight = 2; attempts = 10; agg = 32; cap = 4000; sleeping = 64; calls = 1048576 }
+standard = record {
+  stations = 16;
+  flows = 1024;
+  limit = 8192;
+  room = 65536;
+  flow_quantum = 300;
+  quantum = 300;
+  inflight = 2;
+  attempts = 10;
+  agg = 32;
+  cap = 4000;
+  sleeping = 64;
+  calls = 1048576;
+}
 
 -- in the order in which they are checked
 abbrev pub fields : List Field
-fields = Stations ∷ Flows ∷ Limit ∷ Room ∷ FlowQuantum ∷ Quantum ∷ Inflight ∷ Attempts ∷ Agg ∷ Cap ∷ Sleeping ∷ Calls ∷ []
+fields = Stations ∷ Flows ∷ Limit ∷ Room ∷ FlowQuantum ∷ Quantum ∷ Inflight ∷ Attempts ∷ Agg ∷ Cap ∷ Sleeping
+    ∷ Calls ∷ []
 
 abbrev pub lowest_of : Field → ℕ
 lowest_of Stations = 1
@@ -68,7 +82,8 @@ with_value c Sleeping value = record c { sleeping = value }
 with_value c Calls value = record c { calls = value }
 
 abbrev pub is_in_range : Config → Field → Bool
-is_in_range c field = nat_le (lowest_of field) (value_of c field) && nat_le (value_of c field) (greatest_of field)
+is_in_range c field = nat_le (lowest_of field) (value_of c field)
+    && nat_le (value_of c field) (greatest_of field)
 
 abbrev pub first_out_of_range : Config → Option Field
 first_out_of_range c = find (λ field. not (is_in_range c field)) fields

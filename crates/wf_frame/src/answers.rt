@@ -1,14 +1,13 @@
 //! An answer as it is handed out: a small note, and beside it the two lists that the note may name.
 //!
-//! A `ReplyNote` holds its list, of up to 4 kB, and whoever passes one on copies it. So a caller makes one `Answer` and
-//! lends it to each call.
+//! An answer by value would hold its list, of up to 4 kB, and whoever passes one on would copy it. So a
+//! caller makes one `Answer` and lends it to each call.
 
-ghost use Rattle.std.specs.Prelude.{◌≡◌, [], Some};
-ghost use Rattle.wf_frame.specs.Answers.{reply_of, part_of};
+ghost use Rattle.std.specs.Prelude.{◌≡◌, []};
 ghost use Rattle.wf_frame.specs.declared.notes.Refusal.TheVariants.{Nothing};
 ghost use Rattle.wf_frame.specs.declared.answers.Brief.TheVariants.{Refused};
 
-use crate::{Class, Fate, Ids, Pairs, Part, Refusal, ReplyNote};
+use crate::{Class, Fate, Ids, Pairs, Refusal};
 
 /// An answer without its lists.
 #[derive(Clone, Copy, Debug, PartialEq, Eq)]
@@ -30,8 +29,9 @@ pub enum Brief {
         id: u64,
         dropped: Option<u64>,
     },
-    /// The exchange to send: its number, station, TID (0 to 7) and charge in microseconds. It sends a BlockAckReq with the
-    /// start `request` (0 to 4095), or where there is none the frames of `Answer::pairs`; `more` is the More Data bit.
+    /// The exchange to send: its number, station, TID (0 to 7) and charge in microseconds. It sends a
+    /// BlockAckReq with the start `request` (0 to 4095), or where there is none the frames of
+    /// `Answer::pairs`; `more` is the More Data bit.
     Send {
         exchange: u64,
         station: u16,
@@ -42,8 +42,8 @@ pub enum Brief {
     },
     /// The receiver passed up the frames of `Answer::ids`, in order.
     Released,
-    /// The receiver's block acknowledgement: its start (0 to 4095) and its bits, offsets 0 to 63 in `b0`; a wide one has 256
-    /// of them.
+    /// The receiver's block acknowledgement: its start (0 to 4095) and its bits, offsets 0 to 63 in `b0`; a
+    /// wide one has 256 of them.
     Ba {
         start: u16,
         b0: u64,
@@ -79,8 +79,8 @@ pub enum Brief {
     Refused(Refusal),
 }
 
-/// The answer to a call, as a caller lends it to one call after another. Each call says all of what it answers: what an
-/// earlier one left does not show.
+/// The answer to a call, as a caller lends it to one call after another. Each call says all of what it
+/// answers: what an earlier one left does not show.
 #[derive(Drop)]
 pub struct Answer {
     /// What is answered. A list means something only where this names it.
@@ -100,77 +100,6 @@ impl Answer {
             brief: Brief::Refused(Refusal::Nothing),
             pairs: Pairs::new(),
             ids: Ids::new(),
-        }
-    }
-
-    /// The answer as one value. It copies the list that the brief names.
-    pub fn reply(&self) -> ReplyNote
-        ensures { result ≡ reply_of self.now }
-    {
-        match self.brief {
-            Brief::Joined => ReplyNote::Joined,
-            Brief::Gone { dropped } => ReplyNote::Gone { dropped },
-            Brief::RateSet => ReplyNote::RateSet,
-            Brief::Ticked { now } => ReplyNote::Ticked { now },
-            Brief::Accepted { id, dropped } => ReplyNote::Accepted { id, dropped },
-            Brief::Send {
-                exchange,
-                station,
-                tid,
-                air,
-                request,
-                more,
-            } => ReplyNote::Send {
-                exchange,
-                station,
-                tid,
-                air,
-                part: self.part(request),
-                more,
-            },
-            Brief::Released => ReplyNote::Released {
-                ids: self.ids.copied(),
-            },
-            Brief::Ba {
-                start,
-                b0,
-                b1,
-                b2,
-                b3,
-                wide,
-            } => ReplyNote::Ba {
-                start,
-                b0,
-                b1,
-                b2,
-                b3,
-                wide,
-            },
-            Brief::Ended {
-                acked,
-                waiting,
-                failed,
-            } => ReplyNote::Ended {
-                acked,
-                waiting,
-                failed,
-            },
-            Brief::Slept => ReplyNote::Slept,
-            Brief::Woken => ReplyNote::Woken,
-            Brief::Credited { class } => ReplyNote::Credited { class },
-            Brief::Charged { deficit } => ReplyNote::Charged { deficit },
-            Brief::Reaped { id, fate } => ReplyNote::Reaped { id, fate },
-            Brief::Refused(refusal) => ReplyNote::Refused(refusal),
-        }
-    }
-
-    /// What an exchange sends: the request with this start, or the frames of the list.
-    fn part(&self, request: Option<u16>) -> Part
-        ensures { result ≡ part_of request self.now.pairs }
-    {
-        match request {
-            Some(start) => Part::Request(start),
-            None => Part::Mpdus(self.pairs.copied()),
         }
     }
 }

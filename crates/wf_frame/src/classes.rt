@@ -1,7 +1,7 @@
 //! Access classes, and what becomes of a frame.
 
 ghost use Rattle.std.specs.Prelude.{◌≡◌, ◌<◌, [], ◌∷◌, length};
-ghost use Rattle.wf_frame.specs.Classes.{all_classes, class_of, lower_tid, upper_tid, class_named, class_word};
+ghost use Rattle.wf_frame.specs.Classes.{all_classes, class_number, class_of, lower_tid, upper_tid, class_named, class_word, tid_number};
 
 /// One of the four access categories of IEEE 802.11-2012 (9.2.4.2), the least urgent first.
 #[derive(Clone, Copy, Debug, PartialEq, Eq)]
@@ -22,6 +22,19 @@ impl Class {
         ensures { result ≡ all_classes }
     {
         [Class::Bk, Class::Be, Class::Vi, Class::Vo]
+    }
+
+    /// Its place among the four, the least urgent first: 0 to 3.
+    pub fn number(self) -> usize
+        ensures place { result ≡ class_number self }
+        ensures range { result < 4 }
+    {
+        match self {
+            Class::Bk => 0,
+            Class::Be => 1,
+            Class::Vi => 2,
+            Class::Vo => 3,
+        }
     }
 
     /// The class of a traffic identifier (TID), 0 to 7.
@@ -71,6 +84,13 @@ impl Class {
             .copied()
             .find(|class| class.word() == word)
     }
+}
+
+/// The number of a station's TID among the TIDs of all stations: the eight of station 0 come first.
+pub fn tid_number(station: u16, tid: u8) -> u32
+    ensures { result ≡ tid_number station tid }
+{
+    8 * u32::from(station) + u32::from(tid)
 }
 
 /// Why a frame was dropped.

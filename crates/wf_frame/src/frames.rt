@@ -1,7 +1,7 @@
 //! A frame with its body.
 
-ghost use Rattle.std.specs.Prelude.{◌≡◌, ◌<◌, ◌≤◌, ◌⊎◌, length, IfOk, IfErr, MatchResult};
-ghost use Rattle.wf_rules.specs.Lengths.{greatest_body};
+ghost use Rattle.std.specs.Prelude.{◌≡◌, ◌<◌, ◌≤◌, ◌⊎◌, length, IfOk, IfErr};
+ghost use Rattle.wf_def_lists.specs.Lengths.{greatest_body};
 ghost use Rattle.wf_frame.specs.Frames.{new_frame, sample_body};
 ghost use Rattle.wf_frame.specs.declared.classes.Fate.TheVariants.{Held};
 
@@ -26,19 +26,27 @@ pub struct Frame {
 
 impl Model for Frame {
     ghost use Rattle.std.specs.Prelude.{◌<◌, ◌≤◌, length};
-    ghost use Rattle.wf_rules.specs.Lengths.{greatest_body};
+    ghost use Rattle.wf_def_lists.specs.Lengths.{greatest_body};
     ghost use Rattle.wf_frame.specs.Frames.{FrameValue};
 
     ghost Value = { FrameValue };
 
-    ghost view = { λ f. record { body = f.body.items; id = f.id; stamp = f.stamp; station = f.station; tid = f.tid; flow = f.flow; fate = f.fate } };
+    ghost view = { λ f. record {
+      body = f.body.items;
+      id = f.id;
+      stamp = f.stamp;
+      station = f.station;
+      tid = f.tid;
+      flow = f.flow;
+      fate = f.fate;
+    } };
 
     ghost invariant = { λ f. (0 < length f.body.items) × (length f.body.items ≤ greatest_body) };
 }
 
 impl Frame {
-    /// A frame that is not accepted yet: id 0, stamp 0 and fate Held. Refused, with the body handed back, exactly where
-    /// the body has no octet or more than 2304 (the greatest MSDU, IEEE 802.11-2012, 8.2.3).
+    /// A frame that is not accepted yet: id 0, stamp 0 and fate Held. Refused, with the body handed back,
+    /// exactly where the body has no octet or more than 2304 (the greatest MSDU, IEEE 802.11-2012, 8.2.3).
     pub fn new(station: u16, tid: u8, flow: u32, body: Vec<u8>) -> Result<Frame, Vec<u8>>
         ensures made { IfOk result (λ f. f ≡ new_frame station tid flow body.items) }
         ensures within { IfOk result (λ f. (0 < length body.items) × (length body.items ≤ greatest_body)) }

@@ -9,7 +9,7 @@ mod notes;
 mod settings;
 
 pub use answers::{Answer, Brief};
-pub use classes::{Cause, Class, Fate};
+pub use classes::{Cause, Class, Fate, tid_number};
 pub use frames::{Frame, GREATEST_BODY};
 pub use lists::{FixedList, Ids, Pairs};
 pub use notes::{Ask, Note, Part, Refusal, ReplyNote};

@@ -65,13 +65,4 @@ impl<T: Copy + Default> FixedList<T> {
     {
         self.list.as_slice()[i]
     }
-
-    /// Another list of the same items.
-    pub(crate) fn copied(&self) -> FixedList<T>
-        ensures { result ≡ self.now }
-    {
-        let mut list = ArrayVec::new();
-        list.try_extend_from_slice(self.list.as_slice()).unwrap();
-        FixedList { list }
-    }
 }

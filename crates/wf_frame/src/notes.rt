@@ -7,8 +7,8 @@ use crate::{Class, Fate, Ids, Pairs};
 /// One of the thirteen calls that carry no frame. The ranges given are those that are not refused.
 #[derive(Clone, Copy, Debug, PartialEq, Eq)]
 pub enum Ask {
-    /// A station joins: its window size in frames (1 to 256), first sequence number (0 to 4095), A-MPDU length exponent
-    /// (0 to 3; IEEE 802.11-2012, 8.4.2.58.3) and weight (1 to 16).
+    /// A station joins: its window size in frames (1 to 256), first sequence number (0 to 4095), A-MPDU
+    /// length exponent (0 to 3; IEEE 802.11-2012, 8.4.2.58.3) and weight (1 to 16).
     Join {
         station: u16,
         window: u16,
@@ -20,7 +20,8 @@ pub enum Ask {
     Leave {
         station: u16,
     },
-    /// A station is sent to at this rate from now on: MCS 0 to 15, 20 or 40 MHz, long or short guard interval.
+    /// A station is sent to at this rate from now on: MCS 0 to 15, 20 or 40 MHz, long or short guard
+    /// interval.
     Rate {
         station: u16,
         mcs: u8,
@@ -85,7 +86,8 @@ pub enum Note {
     Asked(Ask),
 }
 
-/// What an exchange sends: frames with their sequence numbers, or a BlockAckReq with its start. Numbers are 0 to 4095.
+/// What an exchange sends: frames with their sequence numbers, or a BlockAckReq with its start. Numbers are 0
+/// to 4095.
 #[derive(Drop)]
 pub enum Part {
     /// The id and the sequence number of each frame of an aggregate.
@@ -153,7 +155,8 @@ pub enum Refusal {
     BadWeight,
 }
 
-/// The answer to a call as one value, of up to 4 kB. Definitions and contracts speak of it; calls fill an `Answer`.
+/// The answer to a call as one value. No code makes one, since it would have up to 4 kB: calls fill an
+/// `Answer`, and contracts say which of these it is.
 #[derive(Drop)]
 pub enum ReplyNote {
     /// The station is live.
@@ -173,8 +176,8 @@ pub enum ReplyNote {
         id: u64,
         dropped: Option<u64>,
     },
-    /// The exchange to send: its number, station, TID (0 to 7), charge in microseconds and transmissions; `more` is the More
-    /// Data bit.
+    /// The exchange to send: its number, station, TID (0 to 7), charge in microseconds and transmissions;
+    /// `more` is the More Data bit.
     Send {
         exchange: u64,
         station: u16,
@@ -187,8 +190,8 @@ pub enum ReplyNote {
     Released {
         ids: Ids,
     },
-    /// The receiver's block acknowledgement: its start (0 to 4095) and its bits, offsets 0 to 63 in `b0`; a wide one has 256
-    /// of them.
+    /// The receiver's block acknowledgement: its start (0 to 4095) and its bits, offsets 0 to 63 in `b0`; a
+    /// wide one has 256 of them.
     Ba {
         start: u16,
         b0: u64,

@@ -1,8 +1,6 @@
 //! Each call once, with ample memory.
 
-use crate::{
-    Answer, Brief, Cause, Class, Config, Fate, Field, Frame, Ids, Pairs, Part, Refusal, ReplyNote,
-};
+use crate::{Cause, Class, Config, Fate, Field, Frame, Ids, Pairs, tid_number};
 use std::alloc::AllocError;
 
 #[test]
@@ -63,15 +61,5 @@ fn fixed_lists_keep_what_is_pushed(rt: HostRuntime) {
     assert!(rt; ids.len() == 2 && ids.at(1) == 2);
     assert!(rt; pairs.len() == 1 && pairs.at(0) == (9, 4095));
     assert!(rt; Class::of_tid(3) == Class::Be && Class::Vi.tids() == [4, 5]);
-}
-
-#[test]
-fn an_answer_is_its_brief_with_the_list_it_names(rt: HostRuntime) {
-    let mut answer = Answer::new();
-    assert!(rt; matches!(answer.reply(), ReplyNote::Refused(Refusal::Nothing)));
-    answer.ids.push(7);
-    answer.brief = Brief::Released;
-    assert!(rt; matches!(answer.reply(), ReplyNote::Released { ids } if ids.len() == 1));
-    answer.ids.clear();
-    assert!(rt; matches!(answer.reply(), ReplyNote::Released { ids } if ids.len() == 0));
+    assert!(rt; Class::Vo.number() == 3 && tid_number(2, 5) == 21);
 }

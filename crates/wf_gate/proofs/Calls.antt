@@ -14,7 +14,7 @@ use Rattle.wf_gate.specs.declared.view.Opening.{Opening}
 use Rattle.wf_gate.specs.declared.view.View.{View}
 use Rattle.wf_gate.specs.declared.view.Stage.TheVariants.{Idle}
 use Rattle.wf_gate.specs.Turns.{AllSeats, Kept, after_turn, new_view, faces_of}
-use Rattle.wf_gate.specs.Passes.{HasTurn, IsIn, Ends}
+use Rattle.wf_gate.specs.Passes.{HasTurn, IsInGate, GateEnds}
 use Rattle.wf_gate.specs.Seats.{GateView, SeatView, view_of, IsAtGate, face_of, new_seat, AreAll, AreOfSeats, IsRecorded, made_since, places_of}
 use Rattle.wf_gate.proofs.Counts.{prefix_push, inside}
 use Rattle.wf_gate.proofs.Steps.{closes, ends_with, not_gone}
@@ -22,40 +22,73 @@ use Rattle.wf_gate.proofs.Elements.{at_here, all_of, get_at}
 
 module _ {M N T : Type 0} (past : M → List (ℕ × N)) (settings : M → T) (spare : M → ℕ) (o : Opening M) where
   -- after a turn the seat has seen more than before
-  pub sees_more : (ticket : ℕ) (v : View M N) (m m' : Me (Option M) (View M N)) (e : ℕ × N) → HasTurn past settings spare o ticket v m → m' ≡ (after_turn m.0 e, []) → IsPrefix v.face.seen m'.0.face.seen
+  pub sees_more : (ticket : ℕ) (v : View M N) (m m' : Me (Option M) (View M N)) (e : ℕ × N) →
+      HasTurn past settings spare o ticket v m → m' ≡ (after_turn m.0 e, []) →
+      IsPrefix v.face.seen m'.0.face.seen
   sees_more ticket v m m' e turn after =
-      subst (λ (z : Me (Option M) (View M N)). IsPrefix v.face.seen z.0.face.seen) (sym (after ∙ ap (λ (z : Me (Option M) (View M N)). (after_turn z.0 e, [])) turn.4)) (prefix_push v.face.seen turn.0 (e ∷ []) turn.3)
+      subst (λ (z : Me (Option M) (View M N)). IsPrefix v.face.seen z.0.face.seen)
+      (sym (after ∙ ap (λ (z : Me (Option M) (View M N)). (after_turn z.0 e, [])) turn.4))
+      (prefix_push v.face.seen turn.0 (e ∷ []) turn.3)
 
   -- and all that it has seen are calls of seats
-  pub sees_seats : (ticket : ℕ) (v : View M N) (m m' : Me (Option M) (View M N)) (e : ℕ × N) → HasTurn past settings spare o ticket v m → m' ≡ (after_turn m.0 e, []) → e.0 < length o.quotas
+  pub sees_seats : (ticket : ℕ) (v : View M N) (m m' : Me (Option M) (View M N)) (e : ℕ × N) →
+      HasTurn past settings spare o ticket v m → m' ≡ (after_turn m.0 e, []) → e.0 < length o.quotas
       → All (λ (x : ℕ × N). x.0 < length o.quotas) m'.0.face.seen
   sees_seats ticket v m m' e turn after mine =
-      subst (λ (z : Me (Option M) (View M N)). All (λ (x : ℕ × N). x.0 < length o.quotas) z.0.face.seen) (sym (after ∙ ap (λ (z : Me (Option M) (View M N)). (after_turn z.0 e, [])) turn.4))
-      (all_of (λ (x : ℕ × N). x.0 < length o.quotas) (turn.0 ++ e ∷ []) (λ k x d. ⊎_elim (λ (t : get_elem? turn.0 k ≡ some x). turn.6 k x t) (λ (t : e ≡ x). subst (λ (z : ℕ × N). z.0 < length o.quotas) t mine) (at_snoc turn.0 e x k d)))
+      subst (λ (z : Me (Option M) (View M N)). All (λ (x : ℕ × N). x.0 < length o.quotas) z.0.face.seen)
+      (sym (after ∙ ap (λ (z : Me (Option M) (View M N)). (after_turn z.0 e, [])) turn.4))
+      (all_of (λ (x : ℕ × N). x.0 < length o.quotas) (turn.0 ++ e ∷ [])
+      (λ k x d. ⊎_elim (λ (t : get_elem? turn.0 k ≡ some x). turn.6 k x t)
+      (λ (t : e ≡ x). subst (λ (z : ℕ × N). z.0 < length o.quotas) t mine) (at_snoc turn.0 e x k d)))
 
   -- the machine's history is the opening history and what was made since
-  pub ends_since : (table : TableId) (faces : List (Face N)) (m : M) → Ends past settings o faces m → let h = made_since past (record { table = table; opening = o }) m in
-      (past m ≡ past o.machine ++ h) × (settings m ≡ settings o.machine) × AllSeats o h × ((i : ℕ) (f : Face N) → get_elem? faces i ≡ some f → IsIn h f)
+  pub ends_since : (table : TableId) (faces : List (Face N)) (m : M) → GateEnds past settings o faces m →
+      let h = made_since past (record { table = table; opening = o }) m in
+      (past m ≡ past o.machine ++ h) × (settings m ≡ settings o.machine) × AllSeats o h ×
+      ((i : ℕ) (f : Face N) → get_elem? faces i ≡ some f → IsInGate h f)
   ends_since table faces m e =
-      let same : drop (length (past o.machine)) (past m) ≡ e.0 = ap (drop (length (past o.machine))) e.1 ∙ drop_at (past o.machine) e.0 (length (past o.machine)) refl in
-      subst (λ (h : List (ℕ × N)). (past m ≡ past o.machine ++ h) × (settings m ≡ settings o.machine) × AllSeats o h × ((i : ℕ) (f : Face N) → get_elem? faces i ≡ some f → IsIn h f)) (sym same) (e.1, e.2, e.3, e.4)
+      let same : drop (length (past o.machine)) (past m) ≡ e.0 =
+      ap (drop (length (past o.machine))) e.1 ∙ drop_at (past o.machine) e.0
+      (length (past o.machine)) refl in
+      subst (λ (h : List (ℕ × N)). (past m ≡ past o.machine ++ h) × (settings m ≡ settings o.machine) ×
+      AllSeats o h × ((i : ℕ) (f : Face N) → get_elem? faces i ≡ some f → IsInGate h f)) (sym same)
+      (e.1, e.2, e.3, e.4)
 
 -- a seat with calls left has its number within the quotas
-pub mine_inside : (quotas : List ℕ) (number quota used : ℕ) → quota ≡ get_or quotas number 0 → used < quota → number < length quotas
+pub mine_inside : (quotas : List ℕ) (number quota used : ℕ) → quota ≡ get_or quotas number 0 → used < quota →
+    number < length quotas
 mine_inside quotas number quota used is less = inside quotas number (omega arith)
 
 module _ {M N : Type 0} where
-  pub new_is : (g : GateView M) (k quota : ℕ) (p : Seat (Option M) (View M N)) → p.table_id ≡ g.table → p.me ≡ (new_view g.opening k [], []) → quota ≡ get_or g.opening.quotas k 0 → view_of k quota 0 p ≡ new_seat g k
+  pub new_is : (g : GateView M) (k quota : ℕ) (p : Seat (Option M) (View M N)) → p.table_id ≡ g.table →
+      p.me ≡ (new_view g.opening k [], []) → quota ≡ get_or g.opening.quotas k 0 →
+      view_of k quota 0 p ≡ new_seat g k
   new_is g k quota p table me is =
-      let seat : TableId → Me (Option M) (View M N) → ℕ → SeatView M N = λ t m q. record { table = t; opening = m.0.opening; number = k; quota = q; used = 0; seen = m.0.face.seen; own = m.0.face.own; looks = m.0.face.looks; stage = m.0.stage; read = m.0.read } in
-      ap (λ t. seat t p.me quota) table ∙ (ap (λ m. seat g.table m quota) me ∙ ap (λ q. seat g.table (new_view g.opening k [], []) q) is)
+      let seat : TableId → Me (Option M) (View M N) → ℕ →
+      SeatView M N = λ t m q. record {
+        table = t;
+        opening = m.0.opening;
+        number = k;
+        quota = q;
+        used = 0;
+        seen = m.0.face.seen;
+        own = m.0.face.own;
+        looks = m.0.face.looks;
+        stage = m.0.stage;
+        read =
+            m.0.read;
+      } in
+      ap (λ t. seat t p.me quota) table ∙ (ap (λ m. seat g.table m quota) me
+      ∙ ap (λ q. seat g.table (new_view g.opening k [], []) q) is)
 
-  pub new_at_gate : (o : Opening M) (k quota : ℕ) (p : Seat (Option M) (View M N)) → p.me ≡ (new_view o k [], []) → quota ≡ get_or o.quotas k 0 → IsAtGate k quota 0 p
+  pub new_at_gate : (o : Opening M) (k quota : ℕ) (p : Seat (Option M) (View M N)) →
+      p.me ≡ (new_view o k [], []) → quota ≡ get_or o.quotas k 0 → IsAtGate k quota 0 p
   new_at_gate o k quota p me is = record {
     numbered = sym (ap (λ m. m.0.face.number) me);
     counted = sym (ap (λ m. length m.0.face.own) me);
     within = omega arith;
-    allotted = λ o' e. subst (λ (z : Opening M). quota ≡ get_or z.quotas k 0) (opening_is o o' (sym (ap (λ m. m.0.opening) me) ∙ e)) is;
+    allotted = λ o' e. subst (λ (z : Opening M). quota ≡ get_or z.quotas k 0)
+        (opening_is o o' (sym (ap (λ m. m.0.opening) me) ∙ e)) is;
     idle = ap (λ m. m.0.stage) me;
     unread = ap (λ m. m.0.read) me;
     free = ap (λ m. m.1) me;
@@ -65,65 +98,89 @@ module _ {M N : Type 0} where
       opening_is a b e = cc
 
   -- the seats of a new gate, each by its number
-  pub each_new : (g : GateView M) (seats : List (SeatView M N)) (quotas : List ℕ) → length seats ≡ length quotas → ((k : ℕ) (s : SeatView M N) → get_elem? seats k ≡ some s → s ≡ new_seat g k)
+  pub each_new : (g : GateView M) (seats : List (SeatView M N)) (quotas : List ℕ) →
+      length seats ≡ length quotas → ((k : ℕ) (s : SeatView M N) → get_elem? seats k ≡ some s →
+      s ≡ new_seat g k)
       → EachIndex quotas (λ k. slice_get seats k ≡ Some (new_seat g k))
   each_new g seats quotas same new k l =
       let s : SeatView M N = get_or seats k (new_seat g k) in
       let at : get_elem? seats k ≡ some s = at_here seats k (new_seat g k) (omega arith) in
       get_at seats k (new_seat g k) (at ∙ ap some (new k s at))
 
-  pub face_is : (number quota used : ℕ) (p : Seat (Option M) (View M N)) → IsAtGate number quota used p → p.me.0.face ≡ face_of (view_of number quota used p)
+  pub face_is : (number quota used : ℕ) (p : Seat (Option M) (View M N)) → IsAtGate number quota used p →
+      p.me.0.face ≡ face_of (view_of number quota used p)
   face_is number quota used p a = ap (λ (n : ℕ). record p.me.0.face { number = n }) (sym a.numbered)
 
   -- what holds of each face that the view has, and so of each seat that is recorded
-  module _ (v : View M N) (seats : List (SeatView M N)) (h : List (ℕ × N)) (recorded : (k : ℕ) (s : SeatView M N) → get_elem? seats k ≡ some s → IsRecorded s v) (each : (i : ℕ) (f : Face N) → get_elem? (faces_of v) i ≡ some f → IsIn h f) where
+  module _ (v : View M N) (seats : List (SeatView M N)) (h : List (ℕ × N))
+      (recorded : (k : ℕ) (s : SeatView M N) → get_elem? seats k ≡ some s → IsRecorded s v)
+      (each : (i : ℕ) (f : Face N) → get_elem? (faces_of v) i ≡ some f → IsInGate h f) where
     pub all_seen : All (λ (s : SeatView M N). IsPrefix s.seen h) seats
-    all_seen = all_of (λ (s : SeatView M N). IsPrefix s.seen h) seats (λ k s at. let r = recorded k s at in (each r.0 (face_of s) r.1).0)
+    all_seen = all_of (λ (s : SeatView M N). IsPrefix s.seen h) seats
+        (λ k s at. let r = recorded k s at in (each r.0 (face_of s) r.1).0)
 
     pub all_own : All (λ (s : SeatView M N). s.own ≡ places_of s.number h) seats
-    all_own = all_of (λ (s : SeatView M N). s.own ≡ places_of s.number h) seats (λ k s at. let r = recorded k s at in (each r.0 (face_of s) r.1).1)
+    all_own = all_of (λ (s : SeatView M N). s.own ≡ places_of s.number h) seats
+        (λ k s at. let r = recorded k s at in (each r.0 (face_of s) r.1).1)
 
     pub all_looks : All (λ (s : SeatView M N). All (λ (look : ℕ × ℕ). look.1 ≤ length h) s.looks) seats
     all_looks = all_of (λ (s : SeatView M N). All (λ (look : ℕ × ℕ). look.1 ≤ length h) s.looks) seats
-        (λ k s at. let r = recorded k s at in all_of (λ (look : ℕ × ℕ). look.1 ≤ length h) s.looks (each r.0 (face_of s) r.1).2)
+        (λ k s at. let r = recorded k s at in all_of (λ (look : ℕ × ℕ). look.1 ≤ length h) s.looks
+        (each r.0 (face_of s) r.1).2)
 
   -- where all seats are recorded, each number has its face
-  pub all_faces : (g : GateView M) (v : View M N) (seats : List (SeatView M N)) → AreAll g seats → ((k : ℕ) (s : SeatView M N) → get_elem? seats k ≡ some s → IsRecorded s v)
-      → (n : ℕ) → n < length g.opening.quotas → (i : ℕ) × (f : Face N) × (get_elem? (faces_of v) i ≡ some f) × (f.number ≡ n)
+  pub all_faces : (g : GateView M) (v : View M N) (seats : List (SeatView M N)) → AreAll g seats →
+      ((k : ℕ) (s : SeatView M N) → get_elem? seats k ≡ some s → IsRecorded s v)
+      → (n : ℕ) → n < length g.opening.quotas → (i : ℕ) × (f : Face N) × (get_elem? (faces_of v) i ≡ some f) ×
+      (f.number ≡ n)
   all_faces g v seats all recorded n l =
       let a = all n l in
       let r = recorded a.0 a.1 (at_here seats a.0 a.1 a.2 ∙ ap some a.3) in (r.0, face_of a.1, r.1, a.4)
 
   -- and there is a seat
-  pub some_seat : (g : GateView M) (seats : List (SeatView M N)) → AreAll g seats → 0 < length g.opening.quotas → 0 < length seats
-  some_seat g seats all l = let a = all 0 l in let k : ℕ = a.0 in let b : k < length seats = a.2 in omega arith
+  pub some_seat : (g : GateView M) (seats : List (SeatView M N)) → AreAll g seats →
+      0 < length g.opening.quotas → 0 < length seats
+  some_seat g seats all l = let a = all 0 l in let k : ℕ = a.0 in let b : k < length seats = a.2 in
+      omega arith
 
 -- what a closed gate leaves
-pub record Closed {M N T : Type 0} (past : M → List (ℕ × N)) (settings : M → T) (g : GateView M) (seats : List (SeatView M N)) (m : M) : Type 0 where
+pub record Closed {M N T : Type 0} (past : M → List (ℕ × N)) (settings : M → T) (g : GateView M)
+    (seats : List (SeatView M N)) (m : M) : Type 0 where
   pub settled : settings m ≡ settings g.opening.machine
   pub history : past m ≡ past g.opening.machine ++ made_since past g m
   pub callers : AreOfSeats g (made_since past g m)
   pub seen : All (λ (s : SeatView M N). IsPrefix s.seen (made_since past g m)) seats
   pub own : All (λ (s : SeatView M N). s.own ≡ places_of s.number (made_since past g m)) seats
-  pub looks : All (λ (s : SeatView M N). All (λ (look : ℕ × ℕ). look.1 ≤ length (made_since past g m)) s.looks) seats
+  pub looks : All (λ (s : SeatView M N). All (λ (look : ℕ × ℕ). look.1 ≤ length (made_since past g m))
+      s.looks) seats
 
 -- all seats of the gate g were joined into one with the view v, and the table was closed
-module _ {M N T : Type 0} (past : M → List (ℕ × N)) (settings : M → T) (spare : M → ℕ) (g : GateView M) (seats : List (SeatView M N)) (id : ℕ) (v : View M N) (ws : List ℕ) (xs : List (Option M)) where
-  ended : v.opening ≡ Some g.opening → v.stage ≡ Idle → AreAll g seats → ((k : ℕ) (s : SeatView M N) → get_elem? seats k ≡ some s → IsRecorded s v) → Final (Seen (Kept past settings spare g.opening) id v) ws xs
-      → (m : M) × (get_elem? xs 0 ≡ some (Some m)) × Ends past settings g.opening (faces_of v) m
-  ended op idle all recorded end = closes past settings spare g.opening id v ws xs op idle (all_faces g v seats all recorded) end
+module _ {M N T : Type 0} (past : M → List (ℕ × N)) (settings : M → T) (spare : M → ℕ) (g : GateView M)
+    (seats : List (SeatView M N)) (id : ℕ) (v : View M N) (ws : List ℕ) (xs : List (Option M)) where
+  ended : v.opening ≡ Some g.opening → v.stage ≡ Idle → AreAll g seats →
+      ((k : ℕ) (s : SeatView M N) → get_elem? seats k ≡ some s → IsRecorded s v) →
+      Final (Seen (Kept past settings spare g.opening) id v) ws xs
+      → (m : M) × (get_elem? xs 0 ≡ some (Some m)) × GateEnds past settings g.opening (faces_of v) m
+  ended op idle all recorded end = closes past settings spare g.opening id v ws xs op idle
+      (all_faces g v seats all recorded) end
 
   -- the machine is there
-  pub not_out : (g' : GateView M) (x : Option M) → g ≡ g' → v.opening ≡ Some g.opening → v.stage ≡ Idle → AreAll g' seats → ((k : ℕ) (s : SeatView M N) → get_elem? seats k ≡ some s → IsRecorded s v)
+  pub not_out : (g' : GateView M) (x : Option M) → g ≡ g' → v.opening ≡ Some g.opening → v.stage ≡ Idle →
+      AreAll g' seats → ((k : ℕ) (s : SeatView M N) → get_elem? seats k ≡ some s → IsRecorded s v)
       → Final (Seen (Kept past settings spare g.opening) id v) ws xs → get_elem? xs 0 ≡ some x → x ≡ None → ⊥
   not_out g' x same op idle all recorded end at is =
-      let e = ended op idle (subst (λ (z : GateView M). AreAll z seats) (sym same) all) recorded end in not_gone past settings spare g.opening xs x e.0 at is e.1
+      let e = ended op idle (subst (λ (z : GateView M). AreAll z seats) (sym same) all) recorded end in
+      not_gone past settings spare g.opening xs x e.0 at is e.1
 
-  pub closed : (g' : GateView M) (x : Option M) (m : M) → g ≡ g' → v.opening ≡ Some g.opening → v.stage ≡ Idle → AreAll g' seats → ((k : ℕ) (s : SeatView M N) → get_elem? seats k ≡ some s → IsRecorded s v)
-      → Final (Seen (Kept past settings spare g.opening) id v) ws xs → get_elem? xs 0 ≡ some x → x ≡ Some m → Closed past settings g' seats m
+  pub closed : (g' : GateView M) (x : Option M) (m : M) → g ≡ g' → v.opening ≡ Some g.opening →
+      v.stage ≡ Idle → AreAll g' seats → ((k : ℕ) (s : SeatView M N) → get_elem? seats k ≡ some s →
+      IsRecorded s v)
+      → Final (Seen (Kept past settings spare g.opening) id v) ws xs → get_elem? xs 0 ≡ some x → x ≡ Some m →
+      Closed past settings g' seats m
   closed g' x m same op idle all recorded end at is =
       let e = ended op idle (subst (λ (z : GateView M). AreAll z seats) (sym same) all) recorded end in
-      let d = ends_since past settings spare g.opening g.table (faces_of v) m (ends_with past settings spare g.opening (faces_of v) xs x m at is e) in
+      let d = ends_since past settings spare g.opening g.table (faces_of v) m
+      (ends_with past settings spare g.opening (faces_of v) xs x m at is e) in
       let h = made_since past g m in
       let left : Closed past settings g seats m = record {
         settled = d.1;

@@ -10,7 +10,8 @@ module _ {A : Type 0} where
   at_here (x ∷ xs) zero d l = refl
   at_here (x ∷ xs) (suc k) d l = at_here xs k d (omega arith)
 
-  pub or_at : (xs : List A) (k : ℕ) (x d : A) → get_elem? xs k ≡ some x → (k < length xs) × (get_or xs k d ≡ x)
+  pub or_at : (xs : List A) (k : ℕ) (x d : A) → get_elem? xs k ≡ some x → (k < length xs) ×
+      (get_or xs k d ≡ x)
   or_at [] k x d e = absurd (some-ne-none x (sym e))
   or_at (y ∷ xs) zero x d e = (omega arith, some-injective y x e)
   or_at (y ∷ xs) (suc k) x d e = let r = or_at xs k x d e in ((let l = r.0 in omega arith), r.1)

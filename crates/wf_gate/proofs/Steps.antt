@@ -14,8 +14,8 @@ use Rattle.wf_gate.specs.declared.view.Face.{Face}
 use Rattle.wf_gate.specs.declared.view.Stage.{Stage}
 use Rattle.wf_gate.specs.declared.view.Stage.TheVariants.{Idle, Waits, Served}
 use Rattle.wf_gate.specs.declared.view.View.{View}
-use Rattle.wf_gate.specs.Turns.{one_if, times, total, places, has_turn, held, face_number, numbers_if, numbers, faces_of, FaceFits, InLine, Sits, FitsIf, Fits, IsAt, Home, Out, Kept, waiting, having_read, at_turn, after_turn, in_vain, AllSeats, drawn, TurnComes, looked, peeked, tried, GivesBack, served, deal_left, deal_right, joined, spent, tail, count_from, new_view, first_view}
-use Rattle.wf_gate.specs.Passes.{with_read, HasTurn, AtTurn, Ends}
+use Rattle.wf_gate.specs.Turns.{one_if, times, total, places, has_turn, tickets_held, face_number, numbers_if, numbers, faces_of, FaceFits, InLine, Sits, FitsIf, Fits, IsAt, Home, Out, Kept, waiting, having_read, at_turn, after_turn, in_vain, AllSeats, drawn, TurnComes, looked, peeked, tried, GivesBack, served, deal_left, deal_right, joined, spent, tail, numbers_from, new_view, first_view}
+use Rattle.wf_gate.specs.Passes.{with_read, HasTurn, AtTurn, GateEnds}
 use Rattle.wf_gate.proofs.Counts.{times-append, times_push_same, times_push_other, times_at, length_fits, total_set, total_push, total_one, total_two, places_push_other, places_push_same, prefix_self, prefix_push, push_injective, at_bound, set_self, length_prefix, at_append, count_drop, count_at, all_numbers, length_by_times, callers_of, length-places}
 use Rattle.std.proofs.lemmas.List.{append_assoc, append-nil, map-append, length-map, get_or_past}
 
@@ -24,11 +24,15 @@ at_most_one true = omega arith
 at_most_one false = omega arith
 
 module _ {M N : Type 0} (o : Opening M) where
-  pub dealt_left : (i n : ℕ) (v : View M N) (xs : List ℕ) → v ≡ new_view o n (drop i (count_from 0 xs)) → i < length xs → deal_left v ≡ new_view o n (drop (i + 1) (count_from 0 xs))
-  dealt_left i n v xs is l = ap deal_left is ∙ ap (λ (z : List ℕ). new_view o n (tail z)) (count_drop i 0 xs l)
+  pub dealt_left : (i n : ℕ) (v : View M N) (xs : List ℕ) → v ≡ new_view o n (drop i (numbers_from 0 xs)) →
+      i < length xs → deal_left v ≡ new_view o n (drop (i + 1) (numbers_from 0 xs))
+  dealt_left i n v xs is l = ap deal_left is ∙ ap (λ (z : List ℕ). new_view o n (tail z))
+      (count_drop i 0 xs l)
 
-  pub dealt_right : (i n : ℕ) (v : View M N) (xs : List ℕ) → v ≡ new_view o n (drop i (count_from 0 xs)) → i < length xs → deal_right v ≡ new_view o i []
-  dealt_right i n v xs is l = ap deal_right is ∙ ap (λ (z : ℕ). new_view o z []) (ap (λ (z : List ℕ). get_or z 0 0) (count_drop i 0 xs l) ∙ zero-add i)
+  pub dealt_right : (i n : ℕ) (v : View M N) (xs : List ℕ) → v ≡ new_view o n (drop i (numbers_from 0 xs)) →
+      i < length xs → deal_right v ≡ new_view o i []
+  dealt_right i n v xs is l = ap deal_right is ∙ ap (λ (z : ℕ). new_view o z [])
+      (ap (λ (z : List ℕ). get_or z 0 0) (count_drop i 0 xs l) ∙ zero-add i)
 
 module _ {M N T : Type 0} (past : M → List (ℕ × N)) (settings : M → T) (spare : M → ℕ) (o : Opening M) where
   abbrev V : Type 0
@@ -50,109 +54,183 @@ module _ {M N T : Type 0} (past : M → List (ℕ × N)) (settings : M → T) (s
   fits h line v is f = subst (λ (z : Option (Opening M)). FitsIf o h line z v) (sym is) (refl, f)
 
   -- who has a turn was not spent
-  turn_sits : (h : H) (line : List ℕ) (v : V) (z : Option (Opening M)) → has_turn v.stage ≡ true → FitsIf o h line z v → (z ≡ Some o) × Sits o h line v
+  turn_sits : (h : H) (line : List ℕ) (v : V) (z : Option (Opening M)) → has_turn v.stage ≡ true →
+      FitsIf o h line z v → (z ≡ Some o) × Sits o h line v
   turn_sits h line v (Some p) turn f = (ap Some f.0, f.1)
   turn_sits h line v None turn f = absurd (true≢false (sym turn ∙ ap has_turn f))
 
   own_number : (v : V) → v.opening ≡ Some o → 0 < times v.face.number (numbers v)
-  own_number v is = let one : one_if (eqb v.face.number v.face.number) ≡ 1 = ap one_if (eq-eqb v.face.number v.face.number refl) in
-      let all : times v.face.number (numbers v) ≡ times v.face.number (numbers_if (Some o) v) = ap (λ z. times v.face.number (numbers_if z v)) is in omega arith
+  own_number v is = let one : one_if (eqb v.face.number v.face.number) ≡ 1 =
+      ap one_if (eq-eqb v.face.number v.face.number refl) in
+      let all : times v.face.number (numbers v) ≡ times v.face.number (numbers_if (Some o) v) =
+      ap (λ z. times v.face.number (numbers_if z v)) is in omega arith
 
-  same_numbers : (v w : V) → v.opening ≡ Some o → w.opening ≡ Some o → numbers_if (Some o) w ≡ numbers_if (Some o) v → (n : ℕ) → times n (numbers w) ≡ times n (numbers v)
-  same_numbers v w op op' same n = ap (λ z. times n (numbers_if z w)) op' ∙ (ap (times n) same ∙ sym (ap (λ z. times n (numbers_if z v)) op))
+  same_numbers : (v w : V) → v.opening ≡ Some o → w.opening ≡ Some o →
+      numbers_if (Some o) w ≡ numbers_if (Some o) v → (n : ℕ) → times n (numbers w) ≡ times n (numbers v)
+  same_numbers v w op op' same n = ap (λ z. times n (numbers_if z w)) op'
+      ∙ (ap (times n) same ∙ sym (ap (λ z. times n (numbers_if z v)) op))
 
-  record_number : (v : V) → v.opening ≡ Some o → (k : ℕ) (f : Face N) → get_elem? v.records k ≡ some f → 0 < times f.number (numbers v)
-  record_number v is k f at = let all : times f.number (numbers v) ≡ times f.number (numbers_if (Some o) v) = ap (λ z. times f.number (numbers_if z v)) is in
-      let here : 0 < times f.number (map face_number v.records) = times_at f.number (map face_number v.records) k (at_map face_number v.records k f at) in
+  record_number : (v : V) → v.opening ≡ Some o → (k : ℕ) (f : Face N) → get_elem? v.records k ≡ some f →
+      0 < times f.number (numbers v)
+  record_number v is k f at = let all : times f.number (numbers v) ≡ times f.number (numbers_if (Some o) v) =
+      ap (λ z. times f.number (numbers_if z v)) is in
+      let here : 0 < times f.number (map face_number v.records) =
+      times_at f.number (map face_number v.records) k (at_map face_number v.records k f at) in
       omega (arith, times-append f.number (map face_number v.records) v.give)
 
-  give_number : (v : V) → v.opening ≡ Some o → (k n : ℕ) → get_elem? v.give k ≡ some n → 0 < times n (numbers v)
-  give_number v is k n at = let all : times n (numbers v) ≡ times n (numbers_if (Some o) v) = ap (λ z. times n (numbers_if z v)) is in
+  give_number : (v : V) → v.opening ≡ Some o → (k n : ℕ) → get_elem? v.give k ≡ some n →
+      0 < times n (numbers v)
+  give_number v is k n at = let all : times n (numbers v) ≡ times n (numbers_if (Some o) v) =
+      ap (λ z. times n (numbers_if z v)) is in
       let here : 0 < times n v.give = times_at n v.give k at in
       omega (arith, times-append n (map face_number v.records) v.give)
 
   -- a number belongs to one view
-  apart : (s : St) (r : Rule s) (i j : ℕ) (v w : V) (n : ℕ) → get_elem? s.views i ≡ some v → get_elem? s.views j ≡ some w → 0 < times n (numbers v) → 0 < times n (numbers w) → j ≡ i
+  apart : (s : St) (r : Rule s) (i j : ℕ) (v w : V) (n : ℕ) → get_elem? s.views i ≡ some v →
+      get_elem? s.views j ≡ some w → 0 < times n (numbers v) → 0 < times n (numbers w) → j ≡ i
   apart s r i j v w n e d a b = dite (ℕ_discrete j i) (λ same. same)
-      (λ other. absurd (omega (arith, total_two (λ (z : V). times n (numbers z)) s.views i j v w other e d, r.given n, at_most_one (ltb n (length o.quotas)))))
+      (λ other. absurd (omega (
+        arith,
+        total_two (λ (z : V). times n (numbers z)) s.views i j v w other e d,
+        r.given n,
+        at_most_one (ltb n (length o.quotas)),
+      )))
 
-  face_stays : (h h' : H) (line line' : List ℕ) (more : ℕ) (f : Face N) → ((xs : H) → IsPrefix xs h → IsPrefix xs h') → length h ≤ length h' → length line ≤ length line'
-      → times f.number line' ≡ times f.number line → places f.number 0 h' ≡ places f.number 0 h → FaceFits o h line more f → FaceFits o h' line' more f
+  face_stays : (h h' : H) (line line' : List ℕ) (more : ℕ) (f : Face N) →
+      ((xs : H) → IsPrefix xs h → IsPrefix xs h') → length h ≤ length h' → length line ≤ length line'
+      → times f.number line' ≡ times f.number line → places f.number 0 h' ≡ places f.number 0 h →
+      FaceFits o h line more f → FaceFits o h' line' more f
   face_stays h h' line line' more f longer hs ls same_times same_places k = record {
     inside = k.inside;
     seen = longer f.seen k.seen;
     own = k.own ∙ sym same_places;
     drawn = same_times ∙ k.drawn;
-    looks = λ i p at. let l = k.looks i p at in (l.0, (let x = l.1 in omega arith), (let x = l.2 in omega arith));
+    looks = λ i p at. let l = k.looks i p at in (
+      l.0,
+      (let x = l.1 in omega arith),
+      (let x = l.2 in omega arith),
+    );
   }
 
-  line_stays : (h h' : H) (line line' : List ℕ) (f : Face N) (st : Stage) → ((t n : ℕ) → get_elem? line t ≡ some n → get_elem? line' t ≡ some n)
-      → ((t : ℕ) → get_elem? line t ≡ some f.number → length h ≤ t → length h' ≤ t) → (has_turn st ≡ true → h ≡ h') → InLine o h line f st → InLine o h' line' f st
+  line_stays : (h h' : H) (line line' : List ℕ) (f : Face N) (st : Stage) →
+      ((t n : ℕ) → get_elem? line t ≡ some n → get_elem? line' t ≡ some n)
+      → ((t : ℕ) → get_elem? line t ≡ some f.number → length h ≤ t → length h' ≤ t) →
+      (has_turn st ≡ true → h ≡ h') → InLine o h line f st → InLine o h' line' f st
   line_stays h h' line line' f Idle kept before same k = tt
   line_stays h h' line line' f (Waits t) kept before same k = (kept t f.number k.0, before t k.0 k.1)
-  line_stays h h' line line' f (Served t) kept before same k = let is = same refl in (kept t f.number k.0, sym (ap length is) ∙ k.1, k.2 ∙ is)
+  line_stays h h' line line' f (Served t) kept before same k = let is = same refl in
+      (kept t f.number k.0, sym (ap length is) ∙ k.1, k.2 ∙ is)
 
-  stays : (h h' : H) (line line' : List ℕ) (v : V) (z : Option (Opening M)) → v.opening ≡ z → ((xs : H) → IsPrefix xs h → IsPrefix xs h') → length h ≤ length h' → length line ≤ length line'
-      → ((t n : ℕ) → get_elem? line t ≡ some n → get_elem? line' t ≡ some n) → (v.opening ≡ Some o → (t : ℕ) → get_elem? line t ≡ some v.face.number → length h ≤ t → length h' ≤ t) → (has_turn v.stage ≡ true → h ≡ h')
+  stays : (h h' : H) (line line' : List ℕ) (v : V) (z : Option (Opening M)) → v.opening ≡ z →
+      ((xs : H) → IsPrefix xs h → IsPrefix xs h') → length h ≤ length h' → length line ≤ length line'
+      → ((t n : ℕ) → get_elem? line t ≡ some n → get_elem? line' t ≡ some n) →
+      (v.opening ≡ Some o → (t : ℕ) → get_elem? line t ≡ some v.face.number → length h ≤ t →
+      length h' ≤ t) → (has_turn v.stage ≡ true → h ≡ h')
       → ((n : ℕ) → 0 < times n (numbers v) → (times n line' ≡ times n line) × (places n 0 h' ≡ places n 0 h))
       → FitsIf o h line z v → FitsIf o h' line' z v
-  stays h h' line line' v (Some p) op longer hs ls kept before same others f = let is : v.opening ≡ Some o = op ∙ ap Some f.0 in let k = f.1 in (
-    f.0,
-    record {
-      face = let t = others v.face.number (own_number v is) in face_stays h h' line line' (held v.stage) v.face longer hs ls t.0 t.1 k.face;
-      in_line = line_stays h h' line line' v.face v.stage kept (before is) same k.in_line;
-      read = λ s e. let x = k.read s e in omega arith;
-      records = λ i g at. let t = others g.number (record_number v is i g at) in face_stays h h' line line' 0 g longer hs ls t.0 t.1 (k.records i g at);
-      give = λ i n at. let t = others n (give_number v is i n at) in let x = k.give i n at in (x.0, t.1 ∙ x.1, t.0 ∙ x.2);
-    },
-  )
+  stays h h' line line' v (Some p) op longer hs ls kept before same others f = let is : v.opening ≡ Some o =
+      op ∙ ap Some f.0 in let k = f.1 in (
+        f.0,
+        record {
+          face = let t = others v.face.number (own_number v is) in
+              face_stays h h' line line' (tickets_held v.stage) v.face longer hs ls t.0 t.1 k.face;
+          in_line = line_stays h h' line line' v.face v.stage kept (before is) same k.in_line;
+          read = λ s e. let x = k.read s e in omega arith;
+          records = λ i g at. let t = others g.number (record_number v is i g at) in
+              face_stays h h' line line' 0 g longer hs ls t.0 t.1 (k.records i g at);
+          give = λ i n at. let t = others n (give_number v is i n at) in let x = k.give i n at in
+              (x.0, t.1 ∙ x.1, t.0 ∙ x.2);
+        },
+      )
   stays h h' line line' v None op longer hs ls kept before same others f = f
 
-  each_set : (h : H) (line : List ℕ) (vs : List V) (id : ℕ) (w : V) → Fits o h line w → ((j : ℕ) (v : V) → j ≢ id → get_elem? vs j ≡ some v → Fits o h line v)
+  each_set : (h : H) (line : List ℕ) (vs : List V) (id : ℕ) (w : V) → Fits o h line w →
+      ((j : ℕ) (v : V) → j ≢ id → get_elem? vs j ≡ some v → Fits o h line v)
       → (j : ℕ) (v : V) → get_elem? (set vs id w) j ≡ some v → Fits o h line v
-  each_set h line vs id w mine others j v e = ⊎_elim (λ (t : (j ≡ id) × (w ≡ v)). subst (Fits o h line) t.1 mine) (λ (t : (j ≢ id) × (get_elem? vs j ≡ some v)). others j v t.0 t.1) (at_set vs id j w v e)
+  each_set h line vs id w mine others j v e = ⊎_elim
+      (λ (t : (j ≡ id) × (w ≡ v)). subst (Fits o h line) t.1 mine)
+      (λ (t : (j ≢ id) × (get_elem? vs j ≡ some v)). others j v t.0 t.1) (at_set vs id j w v e)
 
-  given_set : (s : St) (r : Rule s) (id : ℕ) (v w : V) → get_elem? s.views id ≡ some v → ((n : ℕ) → times n (numbers w) ≡ times n (numbers v))
+  given_set : (s : St) (r : Rule s) (id : ℕ) (v w : V) → get_elem? s.views id ≡ some v →
+      ((n : ℕ) → times n (numbers w) ≡ times n (numbers v))
       → (n : ℕ) → total (λ (z : V). times n (numbers z)) (set s.views id w) ≡ one_if (ltb n (length o.quotas))
-  given_set s r id v w at same n = omega (arith, total_set (λ (z : V). times n (numbers z)) s.views id v w at, same n, r.given n)
+  given_set s r id v w at same n = omega (
+    arith,
+    total_set (λ (z : V). times n (numbers z)) s.views id v w at,
+    same n,
+    r.given n,
+  )
 
-  quiet_set : (vs : List V) (id : ℕ) (w : V) → has_turn w.stage ≡ false → ((j : ℕ) (v : V) → j ≢ id → get_elem? vs j ≡ some v → has_turn v.stage ≡ false)
+  quiet_set : (vs : List V) (id : ℕ) (w : V) → has_turn w.stage ≡ false →
+      ((j : ℕ) (v : V) → j ≢ id → get_elem? vs j ≡ some v → has_turn v.stage ≡ false)
       → (j : ℕ) (v : V) → get_elem? (set vs id w) j ≡ some v → has_turn v.stage ≡ false
-  quiet_set vs id w mine others j v e = ⊎_elim (λ (t : (j ≡ id) × (w ≡ v)). ap (λ (z : V). has_turn z.stage) (sym t.1) ∙ mine) (λ (t : (j ≢ id) × (get_elem? vs j ≡ some v)). others j v t.0 t.1) (at_set vs id j w v e)
+  quiet_set vs id w mine others j v e = ⊎_elim (λ (t : (j ≡ id) × (w ≡ v)).
+      ap (λ (z : V). has_turn z.stage) (sym t.1) ∙ mine)
+      (λ (t : (j ≢ id) × (get_elem? vs j ≡ some v)). others j v t.0 t.1) (at_set vs id j w v e)
 
   -- a step of a seat with no turn before or after leaves the slot as it is
-  slot_stays : (h : H) (s : St) (ws : List ℕ) (id : ℕ) (v w : V) → get_elem? s.views id ≡ some v → has_turn v.stage ≡ false → has_turn w.stage ≡ false → Home past settings spare o h s ⊎ Out s
-      → Home past settings spare o h record { words = ws; homes = s.homes; views = set s.views id w } ⊎ Out record { words = ws; homes = s.homes; views = set s.views id w }
+  slot_stays : (h : H) (s : St) (ws : List ℕ) (id : ℕ) (v w : V) → get_elem? s.views id ≡ some v →
+      has_turn v.stage ≡ false → has_turn w.stage ≡ false → Home past settings spare o h s ⊎ Out s
+      → Home past settings spare o h record { words = ws; homes = s.homes; views = set s.views id w } ⊎
+      Out record { words = ws; homes = s.homes; views = set s.views id w }
   slot_stays h s ws id v w at before after slot = ⊎_elim
-      (λ (t : Home past settings spare o h s). inl (t.0, t.1, t.2, quiet_set s.views id w after (λ j u _ e. t.3 j u e)))
+      (λ (t : Home past settings spare o h s). inl (
+        t.0,
+        t.1,
+        t.2,
+        quiet_set s.views id w after (λ j u _ e. t.3 j u e),
+      ))
       (λ (t : Out s). let j = t.1.0 in let u = t.1.1 in inr (
         t.0,
         (
           j,
           u,
           dite (ℕ_discrete j id)
-              (λ same. absurd (true≢false (sym t.1.3 ∙ (ap (λ (z : V). has_turn z.stage) (some-injective u v (sym t.1.2 ∙ (ap (get_elem? s.views) same ∙ at))) ∙ before))))
+              (λ same. absurd (true≢false (sym t.1.3 ∙ (ap (λ (z : V). has_turn z.stage)
+              (some-injective u v (sym t.1.2 ∙ (ap (get_elem? s.views) same ∙ at))) ∙ before))))
               (λ other. set_else s.views id j w other ∙ t.1.2),
           t.1.3,
         ),
       )) slot
 
   -- a view's own number is not among those of its records, nor among those that it may give
-  twice : (s : St) (r : Rule s) (id : ℕ) (v : V) → v.opening ≡ Some o → get_elem? s.views id ≡ some v → times v.face.number (map face_number v.records ++ v.give) ≡ 0
-  twice s r id v op at = let one : one_if (eqb v.face.number v.face.number) ≡ 1 = ap one_if (eq-eqb v.face.number v.face.number refl) in
-      let all : times v.face.number (numbers v) ≡ times v.face.number (numbers_if (Some o) v) = ap (λ z. times v.face.number (numbers_if z v)) op in
-      omega (arith, total_one (λ (z : V). times v.face.number (numbers z)) s.views id v at, r.given v.face.number, at_most_one (ltb v.face.number (length o.quotas)))
+  twice : (s : St) (r : Rule s) (id : ℕ) (v : V) → v.opening ≡ Some o → get_elem? s.views id ≡ some v →
+      times v.face.number (map face_number v.records ++ v.give) ≡ 0
+  twice s r id v op at = let one : one_if (eqb v.face.number v.face.number) ≡ 1 =
+      ap one_if (eq-eqb v.face.number v.face.number refl) in
+      let all : times v.face.number (numbers v) ≡ times v.face.number (numbers_if (Some o) v) =
+      ap (λ z. times v.face.number (numbers_if z v)) op in
+      omega (
+        arith,
+        total_one (λ (z : V). times v.face.number (numbers z)) s.views id v at,
+        r.given v.face.number,
+        at_most_one (ltb v.face.number (length o.quotas)),
+      )
 
-  not_mine : (s : St) (r : Rule s) (id : ℕ) (v : V) → v.opening ≡ Some o → get_elem? s.views id ≡ some v → (k : ℕ) (f : Face N) → get_elem? v.records k ≡ some f → v.face.number ≡ f.number → ⊥
-  not_mine s r id v op at k f e same = let here : 0 < times v.face.number (map face_number v.records) = times_at v.face.number (map face_number v.records) k (at_map face_number v.records k f e ∙ ap some (sym same)) in
-      absurd (omega (arith, times-append v.face.number (map face_number v.records) v.give, twice s r id v op at))
+  not_mine : (s : St) (r : Rule s) (id : ℕ) (v : V) → v.opening ≡ Some o → get_elem? s.views id ≡ some v →
+      (k : ℕ) (f : Face N) → get_elem? v.records k ≡ some f → v.face.number ≡ f.number → ⊥
+  not_mine s r id v op at k f e same = let here : 0 < times v.face.number (map face_number v.records) =
+      times_at v.face.number (map face_number v.records) k
+      (at_map face_number v.records k f e ∙ ap some (sym same)) in
+      absurd (omega (
+        arith,
+        times-append v.face.number (map face_number v.records) v.give,
+        twice s r id v op at,
+      ))
 
-  not_to_give : (s : St) (r : Rule s) (id : ℕ) (v : V) → v.opening ≡ Some o → get_elem? s.views id ≡ some v → (k m : ℕ) → get_elem? v.give k ≡ some m → v.face.number ≡ m → ⊥
-  not_to_give s r id v op at k m e same = let here : 0 < times v.face.number v.give = times_at v.face.number v.give k (e ∙ ap some (sym same)) in
-      absurd (omega (arith, times-append v.face.number (map face_number v.records) v.give, twice s r id v op at))
+  not_to_give : (s : St) (r : Rule s) (id : ℕ) (v : V) → v.opening ≡ Some o → get_elem? s.views id ≡ some v →
+      (k m : ℕ) → get_elem? v.give k ≡ some m → v.face.number ≡ m → ⊥
+  not_to_give s r id v op at k m e same = let here : 0 < times v.face.number v.give =
+      times_at v.face.number v.give k (e ∙ ap some (sym same)) in
+      absurd (omega (
+        arith,
+        times-append v.face.number (map face_number v.records) v.give,
+        twice s r id v op at,
+      ))
 
   -- The seat with the view v, which holds no ticket and has a call left, draws the next
-  module _ (s : St) (r : Rule s) (id : ℕ) (v : V) (op : v.opening ≡ Some o) (idle : v.stage ≡ Idle) (room : length v.face.own < get_or o.quotas v.face.number 0) (at : get_elem? s.views id ≡ some v) where
+  module _ (s : St) (r : Rule s) (id : ℕ) (v : V) (op : v.opening ≡ Some o) (idle : v.stage ≡ Idle)
+      (room : length v.face.own < get_or o.quotas v.face.number 0) (at : get_elem? s.views id ≡ some v) where
     abbrev more : List ℕ
     more = r.line ++ v.face.number ∷ []
 
@@ -160,12 +238,15 @@ module _ {M N T : Type 0} (past : M → List (ℕ × N)) (settings : M → T) (s
     its = sits r.history r.line v op (r.each id v at)
 
     drawn_before : times v.face.number r.line ≡ length v.face.own
-    drawn_before = let k : times v.face.number r.line ≡ length v.face.own + held v.stage = its.face.drawn in let none_held : held v.stage ≡ 0 = ap held idle in omega arith
+    drawn_before = let k : times v.face.number r.line ≡ length v.face.own + tickets_held v.stage =
+        its.face.drawn in let none_held : tickets_held v.stage ≡ 0 = ap tickets_held idle in omega arith
 
     allowed : (m : ℕ) → times m more ≤ get_or o.quotas m 0
     allowed m = let one_more = times_push_same v.face.number r.line in dite (ℕ_discrete m v.face.number)
-        (λ same. subst (λ (z : ℕ). times z more ≤ get_or o.quotas z 0) (sym same) (omega (arith, drawn_before)))
-        (λ other. let x = r.fits m in let y = times_push_other m v.face.number r.line (λ e. other (sym e)) in omega arith)
+        (λ same. subst (λ (z : ℕ). times z more ≤ get_or o.quotas z 0) (sym same)
+        (omega (arith, drawn_before)))
+        (λ other. let x = r.fits m in let y = times_push_other m v.face.number r.line (λ e. other (sym e)) in
+        omega arith)
 
     length-more : length more ≡ length r.line + 1
     length-more = omega (arith, length-append r.line (v.face.number ∷ []))
@@ -183,19 +264,35 @@ module _ {M N T : Type 0} (past : M → List (ℕ × N)) (settings : M → T) (s
     }
 
     records_more : (i : ℕ) (g : Face N) → get_elem? v.records i ≡ some g → FaceFits o r.history more 0 g
-    records_more i g e = face_stays r.history r.history r.line more 0 g (λ xs p. p) (omega arith) (omega (arith, length-more)) (times_push_other g.number v.face.number r.line (λ same. not_mine s r id v op at i g e same)) refl (its.records i g e)
+    records_more i g e = face_stays r.history r.history r.line more 0 g (λ xs p. p) (omega arith)
+        (omega (arith, length-more)) (times_push_other g.number v.face.number r.line
+        (λ same. not_mine s r id v op at i g e same)) refl (its.records i g e)
 
-    give_more : (i m : ℕ) → get_elem? v.give i ≡ some m → (m < length o.quotas) × (places m 0 r.history ≡ []) × (times m more ≡ 0)
-    give_more i m e = let x = its.give i m e in (x.0, x.1, times_push_other m v.face.number r.line (λ same. not_to_give s r id v op at i m e same) ∙ x.2)
+    give_more : (i m : ℕ) → get_elem? v.give i ≡ some m → (m < length o.quotas) ×
+        (places m 0 r.history ≡ []) × (times m more ≡ 0)
+    give_more i m e = let x = its.give i m e in (
+      x.0,
+      x.1,
+      times_push_other m v.face.number r.line (λ same. not_to_give s r id v op at i m e same) ∙ x.2,
+    )
 
     others_more : (j : ℕ) (u : V) → j ≢ id → get_elem? s.views j ≡ some u → Fits o r.history more u
-    others_more j u other e = stays r.history r.history r.line more u u.opening refl (λ xs p. p) (omega arith) (omega (arith, length-more)) (λ i m x. at_longer r.line (v.face.number ∷ []) i m x) (λ _ _ _ l. l) (λ _. refl)
-        (λ m has. (times_push_other m v.face.number r.line (λ same. other (apart s r id j v u v.face.number at e (own_number v op) (subst (λ (z : ℕ). 0 < times z (numbers u)) (sym same) has))), refl)) (r.each j u e)
+    others_more j u other e = stays r.history r.history r.line more u u.opening refl (λ xs p. p) (omega arith)
+        (omega (arith, length-more)) (λ i m x. at_longer r.line (v.face.number ∷ []) i m x) (λ _ _ _ l. l)
+        (λ _. refl)
+        (λ m has. (
+          times_push_other m v.face.number r.line
+              (λ same. other (apart s r id j v u v.face.number at e (own_number v op)
+              (subst (λ (z : ℕ). 0 < times z (numbers u)) (sym same) has))),
+          refl,
+        )) (r.each j u e)
 
-  pub draws : (slots id : ℕ) (me : Me (Option M) V) → me.0.opening ≡ Some o → me.0.stage ≡ Idle → length me.0.face.own < get_or o.quotas me.0.face.number 0
+  pub draws : (slots id : ℕ) (me : Me (Option M) V) → me.0.opening ≡ Some o → me.0.stage ≡ Idle →
+      length me.0.face.own < get_or o.quotas me.0.face.number 0
       → Allows Rule slots id me 0 (λ n. (n + 1) % 2 ^ 64) (drawn (step slots 0 1 0 none) me)
   draws slots id me op idle room s r _ at _ =
-      let v : V = me.0 in let h : H = r.history in let line : List ℕ = r.line ++ v.face.number ∷ [] in let t : ℕ = length r.line in let w : V = waiting v t in
+      let v : V = me.0 in let h : H = r.history in let line : List ℕ = r.line ++ v.face.number ∷ [] in
+      let t : ℕ = length r.line in let w : V = waiting v t in
       let k = its s r id v op idle room at in
       let longer : length line ≡ t + 1 = length-more s r id v op idle room at in
       let small : t + 1 < 2 ^ 64 = small_more s r id v op idle room at in
@@ -208,7 +305,8 @@ module _ {M N T : Type 0} (past : M → List (ℕ × N)) (settings : M → T) (s
         record {
           history = h;
           line = line;
-          words = ap (λ (ws : List ℕ). set ws 0 ((get_or ws 0 0 + 1) % 2 ^ 64)) r.words ∙ ap (λ (z : ℕ). z ∷ length h ∷ []) number;
+          words = ap (λ (ws : List ℕ). set ws 0 ((get_or ws 0 0 + 1) % 2 ^ 64)) r.words
+              ∙ ap (λ (z : ℕ). z ∷ length h ∷ []) number;
           order = omega arith;
           fits = allowed s r id v op idle room at;
           room = r.room;
@@ -224,31 +322,40 @@ module _ {M N T : Type 0} (past : M → List (ℕ × N)) (settings : M → T) (s
                 give = give_more s r id v op idle room at;
               })
               (others_more s r id v op idle room at);
-          slot = slot_stays h s (set s.words 0 ((get_or s.words 0 0 + 1) % 2 ^ 64)) id v w at (ap has_turn idle) refl r.slot;
+          slot = slot_stays h s (set s.words 0 ((get_or s.words 0 0 + 1) % 2 ^ 64)) id v w at
+              (ap has_turn idle) refl r.slot;
         },
         ap (λ (z : ℕ). (waiting v z, me.1)) (sym found),
       )
 
   -- who stands first in line
-  turn_first : (h : H) (line : List ℕ) (f : Face N) (st : Stage) → has_turn st ≡ true → InLine o h line f st → get_elem? line (length h) ≡ some f.number
+  turn_first : (h : H) (line : List ℕ) (f : Face N) (st : Stage) → has_turn st ≡ true → InLine o h line f st →
+      get_elem? line (length h) ≡ some f.number
   turn_first h line f Idle turn k = absurd (true≢false (sym turn))
   turn_first h line f (Waits t) turn k = absurd (true≢false (sym turn))
   turn_first h line f (Served t) turn k = ap (get_elem? line) k.1 ∙ k.0
 
-  only_turn : (s : St) (r : Rule s) (id : ℕ) (v : V) → v.opening ≡ Some o → get_elem? s.views id ≡ some v → get_elem? r.line (length r.history) ≡ some v.face.number
+  only_turn : (s : St) (r : Rule s) (id : ℕ) (v : V) → v.opening ≡ Some o → get_elem? s.views id ≡ some v →
+      get_elem? r.line (length r.history) ≡ some v.face.number
       → (j : ℕ) (u : V) → get_elem? s.views j ≡ some u → has_turn u.stage ≡ true → j ≡ id
-  only_turn s r id v op at first j u e turn = let k = turn_sits r.history r.line u u.opening turn (r.each j u e) in
-      let same : u.face.number ≡ v.face.number = some-injective _ _ (sym (turn_first r.history r.line u.face u.stage turn k.1.in_line) ∙ first) in
-      apart s r id j v u v.face.number at e (own_number v op) (subst (λ (z : ℕ). 0 < times z (numbers u)) same (own_number u k.0))
+  only_turn s r id v op at first j u e turn = let k =
+      turn_sits r.history r.line u u.opening turn (r.each j u e) in
+      let same : u.face.number ≡ v.face.number = some-injective _ _
+      (sym (turn_first r.history r.line u.face u.stage turn k.1.in_line) ∙ first) in
+      apart s r id j v u v.face.number at e (own_number v op)
+      (subst (λ (z : ℕ). 0 < times z (numbers u)) same (own_number u k.0))
 
   off : false ≡ true → ⊥
   off e = true≢false (sym e)
 
-  at_home : (s : St) (r : Rule s) (id : ℕ) (v : V) → v.opening ≡ Some o → get_elem? s.views id ≡ some v → has_turn v.stage ≡ false → get_elem? r.line (length r.history) ≡ some v.face.number
+  at_home : (s : St) (r : Rule s) (id : ℕ) (v : V) → v.opening ≡ Some o → get_elem? s.views id ≡ some v →
+      has_turn v.stage ≡ false → get_elem? r.line (length r.history) ≡ some v.face.number
       → Home past settings spare o r.history s
   at_home s r id v op at quiet first = ⊎_elim (λ (t : Home past settings spare o r.history s). t)
-      (λ (t : Out s). let j = t.1.0 in let u = t.1.1 in let here = only_turn s r id v op at first j u t.1.2 t.1.3 in
-      absurd (off (sym quiet ∙ (ap (λ (z : V). has_turn z.stage) (some-injective v u (sym at ∙ (ap (get_elem? s.views) (sym here) ∙ t.1.2))) ∙ t.1.3)))) r.slot
+      (λ (t : Out s). let j = t.1.0 in let u = t.1.1 in
+      let here = only_turn s r id v op at first j u t.1.2 t.1.3 in
+      absurd (off (sym quiet ∙ (ap (λ (z : V). has_turn z.stage)
+      (some-injective v u (sym at ∙ (ap (get_elem? s.views) (sym here) ∙ t.1.2))) ∙ t.1.3)))) r.slot
 
   some_same : (p : Opening M) (z : Option (Opening M)) → z ≡ Some o → z ≡ Some p → o ≡ p
   some_same p z a b = cc
@@ -259,22 +366,30 @@ module _ {M N T : Type 0} (past : M → List (ℕ × N)) (settings : M → T) (s
   ticket_of Idle = 0
 
   -- the turn of the ticket t came by: the seat has seen h, and has the machine
-  face_seen : (h : H) (line : List ℕ) (extra : ℕ) (f : Face N) → FaceFits o h line extra f → FaceFits o h line extra (record f { seen = h })
-  face_seen h line extra f k = record { inside = k.inside; seen = prefix_self h; own = k.own; drawn = k.drawn; looks = k.looks }
+  face_seen : (h : H) (line : List ℕ) (extra : ℕ) (f : Face N) → FaceFits o h line extra f →
+      FaceFits o h line extra (record f { seen = h })
+  face_seen h line extra f k = record {
+    inside = k.inside;
+    seen = prefix_self h;
+    own = k.own;
+    drawn = k.drawn;
+    looks = k.looks;
+  }
 
   pub looks : (slots id : ℕ) (me : Me (Option M) V) (t : ℕ) → me.0.opening ≡ Some o → me.0.stage ≡ Waits t
       → Allows Rule slots id me 1 (λ n. n) (looked past settings spare (step slots 1 0 0 none) me)
   looks slots id me t op waits s r _ at _ =
       let v : V = me.0 in let h : H = r.history in let n : ℕ = v.face.number in
       let k = sits h r.line v op (r.each id v at) in
-      let drawn : times n r.line ≡ length v.face.own + held v.stage = k.face.drawn in
-      let one_held : held v.stage ≡ 1 = ap held waits in
+      let drawn : times n r.line ≡ length v.face.own + tickets_held v.stage = k.face.drawn in
+      let one_held : tickets_held v.stage ≡ 1 = ap tickets_held waits in
       let waits_too = subst (InLine o h r.line v.face) waits k.in_line in
       let in_line : t < length r.line = at_bound r.line t n waits_too.0 in
       let most = length_fits r.line o.quotas r.fits in
       let enough = r.room in
       let found : get_or s.words 1 0 ≡ length h = ap (λ (ws : List ℕ). get_or ws 1 0) r.words in
-      let words : set s.words 1 (get_or s.words 1 0) ≡ length r.line ∷ length h ∷ [] = ap (λ (ws : List ℕ). set ws 1 (get_or ws 1 0)) r.words in
+      let words : set s.words 1 (get_or s.words 1 0) ≡ length r.line ∷ length h ∷ [] =
+      ap (λ (ws : List ℕ). set ws 1 (get_or ws 1 0)) r.words in
       dite (ℕ_discrete (get_or s.words 1 0) t)
       (λ hit. let here : length h ≡ t = sym found ∙ hit in
       let room : length h < spare o.machine = omega arith in
@@ -295,7 +410,8 @@ module _ {M N T : Type 0} (past : M → List (ℕ × N)) (settings : M → T) (s
           given = given_set s r id v w at (same_numbers v w op op refl);
           each = each_set h r.line s.views id w
               (fits h r.line w op record {
-                face = face_seen h r.line 1 v.face (subst (λ (z : ℕ). FaceFits o h r.line z v.face) one_held k.face);
+                face = face_seen h r.line 1 v.face (subst (λ (z : ℕ). FaceFits o h r.line z v.face) one_held
+                    k.face);
                 in_line = (waits_too.0, here, refl);
                 read = λ x e. let same : get_or s.words 1 0 ≡ x = cc in omega arith;
                 records = k.records;
@@ -310,7 +426,8 @@ module _ {M N T : Type 0} (past : M → List (ℕ × N)) (settings : M → T) (s
             home.0,
             k.face.seen,
             (ap (λ (z : ℕ). (at_turn v z (Some (get_or s.words 1 0)) h, (0, Some home.0) ∷ me.1)) same),
-            λ p is_p. subst (λ (z : Opening M). IsAt past settings spare z h home.0 × AllSeats z h × (length h < spare z.machine)) (some_same p v.opening op is_p) (home.2, r.callers, room),
+            λ p is_p. subst (λ (z : Opening M). IsAt past settings spare z h home.0 × AllSeats z h ×
+                (length h < spare z.machine)) (some_same p v.opening op is_p) (home.2, r.callers, room),
           )),
           (λ miss. absurd (miss (hit ∙ same))),
         ),
@@ -338,13 +455,16 @@ module _ {M N T : Type 0} (past : M → List (ℕ × N)) (settings : M → T) (s
                 give = k.give;
               })
               (λ j u other e. r.each j u e);
-          slot = slot_stays h s (set s.words 1 (get_or s.words 1 0)) id v w at (ap has_turn waits) (ap has_turn waits) r.slot;
+          slot = slot_stays h s (set s.words 1 (get_or s.words 1 0)) id v w at (ap has_turn waits)
+              (ap has_turn waits) r.slot;
         },
-        λ t' is. let same : t ≡ t' = ap ticket_of (sym waits ∙ is) in ((λ hit. absurd (miss (hit ∙ sym same))), (λ _. refl)),
+        λ t' is. let same : t ≡ t' = ap ticket_of (sym waits ∙ is) in
+            ((λ hit. absurd (miss (hit ∙ sym same))), (λ _. refl)),
       ))
 
   -- a load of serving by a seat that has no ticket
-  pub peeks : (slots id : ℕ) (me : Me (Option M) V) → me.0.opening ≡ Some o → me.0.stage ≡ Idle → length me.0.face.own < get_or o.quotas me.0.face.number 0
+  pub peeks : (slots id : ℕ) (me : Me (Option M) V) → me.0.opening ≡ Some o → me.0.stage ≡ Idle →
+      length me.0.face.own < get_or o.quotas me.0.face.number 0
       → Allows Rule slots id me 1 (λ n. n) (peeked (step slots 1 0 0 none) me)
   peeks slots id me op idle room s r _ at _ =
       let v : V = me.0 in let h : H = r.history in
@@ -375,14 +495,18 @@ module _ {M N T : Type 0} (past : M → List (ℕ × N)) (settings : M → T) (s
                 give = k.give;
               })
               (λ j u other e. r.each j u e);
-          slot = slot_stays h s (set s.words 1 (get_or s.words 1 0)) id v w at (ap has_turn idle) (ap has_turn idle) r.slot;
+          slot = slot_stays h s (set s.words 1 (get_or s.words 1 0)) id v w at (ap has_turn idle)
+              (ap has_turn idle) r.slot;
         },
         (refl, (let front = k.face.seen in omega (arith, length_prefix v.face.seen h front)), omega arith),
       )
 
   -- the exchange of the ticket word, which takes the slot with the ticket
-  pub tries : (slots id : ℕ) (me : Me (Option M) V) (old new : ℕ) → me.0.opening ≡ Some o → me.0.stage ≡ Idle → length me.0.face.own < get_or o.quotas me.0.face.number 0 → me.0.read ≡ Some old → new ≡ old + 1
-      → Allows Rule slots id me 0 (λ n. either (eqb n old) new n) (tried past settings spare (step slots 0 old new none) me)
+  pub tries : (slots id : ℕ) (me : Me (Option M) V) (old new : ℕ) → me.0.opening ≡ Some o →
+      me.0.stage ≡ Idle → length me.0.face.own < get_or o.quotas me.0.face.number 0 → me.0.read ≡ Some old →
+      new ≡ old + 1
+      → Allows Rule slots id me 0 (λ n. either (eqb n old) new n)
+      (tried past settings spare (step slots 0 old new none) me)
   tries slots id me old new op idle room had up s r _ at _ =
       let v : V = me.0 in let h : H = r.history in let n : ℕ = v.face.number in
       let k = its s r id v op idle room at in
@@ -400,9 +524,12 @@ module _ {M N T : Type 0} (past : M → List (ℕ × N)) (settings : M → T) (s
       let enough : length h < spare o.machine = (let q = r.room in omega arith) in
       let home : Home past settings spare o h s = ⊎_elim (λ (t : Home past settings spare o h s). t)
       (λ (t : Out s). let u = t.1.1 in let k' = turn_sits h r.line u u.opening t.1.3 (r.each t.1.0 u t.1.2) in
-      let far = at_bound r.line (length h) u.face.number (turn_first h r.line u.face u.stage t.1.3 k'.1.in_line) in absurd (omega arith)) r.slot in
+      let far = at_bound r.line (length h) u.face.number
+      (turn_first h r.line u.face u.stage t.1.3 k'.1.in_line) in absurd (omega arith)) r.slot in
       let w : V = at_turn v old None h in
-      let yes_hit : either (eqb (get_or s.words 0 0) old) new (get_or s.words 0 0) ≡ length line = subst (λ b. either b new (get_or s.words 0 0) ≡ length line) (sym (eq-eqb (get_or s.words 0 0) old hit)) (omega arith) in (
+      let yes_hit : either (eqb (get_or s.words 0 0) old) new (get_or s.words 0 0) ≡ length line =
+      subst (λ b. either b new (get_or s.words 0 0) ≡ length line)
+      (sym (eq-eqb (get_or s.words 0 0) old hit)) (omega arith) in (
         w,
         takes 0 (Some home.0),
         ap (λ hs. get_elem? hs 0) home.1,
@@ -428,14 +555,24 @@ module _ {M N T : Type 0} (past : M → List (ℕ × N)) (settings : M → T) (s
           slot = inr (ap (λ hs. set hs 0 none) home.1, (id, w, set_self s.views id v w at, refl));
         },
         (
-          (λ _. (h, home.0, k.face.seen, refl, λ p is_p. subst (λ (z : Opening M). IsAt past settings spare z h home.0 × AllSeats z h × (length h < spare z.machine)) (some_same p v.opening op is_p) (home.2, r.callers, enough))),
+          (λ _. (
+            h,
+            home.0,
+            k.face.seen,
+            refl,
+            λ p is_p.
+                subst (λ (z : Opening M). IsAt past settings spare z h home.0 × AllSeats z h ×
+                (length h < spare z.machine)) (some_same p v.opening op is_p) (home.2, r.callers, enough),
+          )),
           (λ miss. absurd (miss hit)),
         ),
       ))
       (λ miss.
       let t : ℕ = get_or s.words 0 0 in
       let w : V = in_vain v old t in
-      let stay : either (eqb (get_or s.words 0 0) old) new (get_or s.words 0 0) ≡ length r.line = subst (λ b. either b new (get_or s.words 0 0) ≡ length r.line) (sym (ne_eqb (get_or s.words 0 0) old miss)) found in
+      let stay : either (eqb (get_or s.words 0 0) old) new (get_or s.words 0 0) ≡ length r.line =
+      subst (λ b. either b new (get_or s.words 0 0) ≡ length r.line)
+      (sym (ne_eqb (get_or s.words 0 0) old miss)) found in
       let below : old < t = omega arith in (
         w,
         keeps,
@@ -458,7 +595,9 @@ module _ {M N T : Type 0} (past : M → List (ℕ × N)) (settings : M → T) (s
                   own = k.face.own;
                   drawn = k.face.drawn;
                   looks = λ i p e. ⊎_elim (λ (x : get_elem? v.face.looks i ≡ some p). k.face.looks i p x)
-                      (λ (x : (old, t) ≡ p). subst (λ (z : ℕ × ℕ). (z.0 < z.1) × (z.0 ≤ length h) × (z.1 ≤ length r.line)) x (below, old_enough, omega arith)) (at_snoc v.face.looks (old, t) p i e);
+                      (λ (x : (old, t) ≡ p). subst (λ (z : ℕ × ℕ). (z.0 < z.1) × (z.0 ≤ length h) ×
+                      (z.1 ≤ length r.line)) x (below, old_enough, omega arith))
+                      (at_snoc v.face.looks (old, t) p i e);
                 };
                 in_line = k.in_line;
                 read = λ x e. absurd (cc);
@@ -466,43 +605,56 @@ module _ {M N T : Type 0} (past : M → List (ℕ × N)) (settings : M → T) (s
                 give = k.give;
               })
               (λ j u other e. r.each j u e);
-          slot = slot_stays h s (set s.words 0 (either (eqb (get_or s.words 0 0) old) new (get_or s.words 0 0))) id v w at (ap has_turn idle) (ap has_turn idle) r.slot;
+          slot = slot_stays h s (set s.words 0 (either (eqb (get_or s.words 0 0) old) new
+              (get_or s.words 0 0))) id v w at (ap has_turn idle) (ap has_turn idle) r.slot;
         },
         ((λ hit. absurd (miss hit)), (λ _. (refl, below))),
       ))
 
-  pub serves : (slots id : ℕ) (me : Me (Option M) V) (t : ℕ) (m : M) (e : ℕ × N) → me.0.opening ≡ Some o → me.0.stage ≡ Served t → me.1 ≡ (0, Some m) ∷ [] → e.0 ≡ me.0.face.number
-      → past m ≡ (past o.machine ++ me.0.face.seen) ++ e ∷ [] → settings m ≡ settings o.machine → spare m + (length me.0.face.seen + 1) ≡ spare o.machine
-      → Allows Rule slots id me 1 (λ n. (n + 1) % 2 ^ 64) (served past settings spare (step slots 1 1 0 none) me)
+  pub serves : (slots id : ℕ) (me : Me (Option M) V) (t : ℕ) (m : M) (e : ℕ × N) → me.0.opening ≡ Some o →
+      me.0.stage ≡ Served t → me.1 ≡ (0, Some m) ∷ [] → e.0 ≡ me.0.face.number
+      → past m ≡ (past o.machine ++ me.0.face.seen) ++ e ∷ [] → settings m ≡ settings o.machine →
+      spare m + (length me.0.face.seen + 1) ≡ spare o.machine
+      → Allows Rule slots id me 1 (λ n. (n + 1) % 2 ^ 64)
+      (served past settings spare (step slots 1 1 0 none) me)
   serves slots id me t m e op turn has mine after same left s r _ at _ =
-      let v : V = me.0 in let h : H = r.history in let n : ℕ = v.face.number in let now : H = h ++ e ∷ [] in let w : V = after_turn v e in
+      let v : V = me.0 in let h : H = r.history in let n : ℕ = v.face.number in let now : H = h ++ e ∷ [] in
+      let w : V = after_turn v e in
       let k = sits h r.line v op (r.each id v at) in
-      let drawn : times n r.line ≡ length v.face.own + held v.stage = k.face.drawn in
-      let one_held : held v.stage ≡ 1 = ap held turn in
+      let drawn : times n r.line ≡ length v.face.own + tickets_held v.stage = k.face.drawn in
+      let one_held : tickets_held v.stage ≡ 1 = ap tickets_held turn in
       let first = subst (InLine o h r.line v.face) turn k.in_line in
       let whole : v.face.seen ≡ h = first.2 in
       let front : get_elem? r.line (length h) ≡ some n = ap (get_elem? r.line) first.1 ∙ first.0 in
       let inside : length h < length r.line = at_bound r.line (length h) n front in
       let longer : length now ≡ length h + 1 = omega (arith, length-append h (e ∷ [])) in
-      let small : length r.line < 2 ^ 64 = omega (arith, length_fits r.line o.quotas r.fits, r.room, r.small) in
+      let small : length r.line < 2 ^ 64 = omega (arith, length_fits r.line o.quotas r.fits, r.room, r.small)
+      in
       let number : (length h + 1) % 2 ^ 64 ≡ length now = omega arith in
       let found : get_or s.words 1 0 ≡ length h = ap (λ (ws : List ℕ). get_or ws 1 0) r.words in
-      let away : s.homes ≡ none ∷ [] = ⊎_elim (λ (x : Home past settings spare o h s). absurd (off (sym (x.3 id v at) ∙ ap has_turn turn))) (λ (x : Out s). x.0) r.slot in
-      let none_else : (j : ℕ) (u : V) → j ≢ id → get_elem? s.views j ≡ some u → has_turn u.stage ≡ false = λ j u other d. no_turn u.stage (λ yes. other (only_turn s r id v op at front j u d yes)) in
+      let away : s.homes ≡ none ∷ [] = ⊎_elim (λ (x : Home past settings spare o h s).
+      absurd (off (sym (x.3 id v at) ∙ ap has_turn turn))) (λ (x : Out s). x.0) r.slot in
+      let none_else : (j : ℕ) (u : V) → j ≢ id → get_elem? s.views j ≡ some u →
+      has_turn u.stage ≡ false = λ j u other d.
+      no_turn u.stage (λ yes. other (only_turn s r id v op at front j u d yes)) in
       let own_last : (v.face.own ++ length v.face.seen ∷ []) ≡ places n 0 now =
-      (λ i. k.face.own i ++ length (whole i) ∷ []) ∙ (ap (λ (z : ℕ). places n 0 h ++ z ∷ []) (omega arith) ∙ sym (places_push_same n 0 h e mine)) in (
+      (λ i. k.face.own i ++ length (whole i) ∷ []) ∙
+      (ap (λ (z : ℕ). places n 0 h ++ z ∷ []) (omega arith) ∙ sym (places_push_same n 0 h e mine)) in (
         w,
         gives,
         tt,
         record {
           history = now;
           line = r.line;
-          words = ap (λ (ws : List ℕ). set ws 1 ((get_or ws 1 0 + 1) % 2 ^ 64)) r.words ∙ ap (λ (z : ℕ). length r.line ∷ z ∷ []) number;
+          words = ap (λ (ws : List ℕ). set ws 1 ((get_or ws 1 0 + 1) % 2 ^ 64)) r.words
+              ∙ ap (λ (z : ℕ). length r.line ∷ z ∷ []) number;
           order = omega arith;
           fits = r.fits;
           room = r.room;
           small = r.small;
-          callers = λ i x d. ⊎_elim (λ (y : get_elem? h i ≡ some x). r.callers i x y) (λ (y : e ≡ x). subst (λ (z : ℕ × N). z.0 < length o.quotas) y (subst (λ (z : ℕ). z < length o.quotas) (sym mine) k.face.inside)) (at_snoc h e x i d);
+          callers = λ i x d. ⊎_elim (λ (y : get_elem? h i ≡ some x). r.callers i x y)
+              (λ (y : e ≡ x). subst (λ (z : ℕ × N). z.0 < length o.quotas) y
+              (subst (λ (z : ℕ). z < length o.quotas) (sym mine) k.face.inside)) (at_snoc h e x i d);
           given = given_set s r id v w at (same_numbers v w op op refl);
           each = each_set now r.line s.views id w
               (fits now r.line w op record {
@@ -515,29 +667,51 @@ module _ {M N T : Type 0} (past : M → List (ℕ × N)) (settings : M → T) (s
                 };
                 in_line = tt;
                 read = λ x d. absurd (cc);
-                records = λ i g d. face_stays h now r.line r.line 0 g (λ xs p. prefix_push xs h (e ∷ []) p) (omega arith) (omega arith) refl
-                    (places_push_other g.number 0 h e (λ is. not_mine s r id v op at i g d (sym mine ∙ is))) (k.records i g d);
-                give = λ i x d. let y = k.give i x d in (y.0, places_push_other x 0 h e (λ is. not_to_give s r id v op at i x d (sym mine ∙ is)) ∙ y.1, y.2);
+                records = λ i g d. face_stays h now r.line r.line 0 g (λ xs p. prefix_push xs h (e ∷ []) p)
+                    (omega arith) (omega arith) refl
+                    (places_push_other g.number 0 h e (λ is. not_mine s r id v op at i g d (sym mine ∙ is)))
+                    (k.records i g d);
+                give = λ i x d. let y = k.give i x d in (
+                  y.0,
+                  places_push_other x 0 h e (λ is. not_to_give s r id v op at i x d (sym mine ∙ is)) ∙ y.1,
+                  y.2,
+                );
               })
               (λ j u other d.
-              let not_n : u.opening ≡ Some o → (x : ℕ) → 0 < times x (numbers u) → x ≢ n = λ _ x has_x is. other (apart s r id j v u n at d (own_number v op) (subst (λ (z : ℕ). 0 < times z (numbers u)) is has_x)) in
-              stays h now r.line r.line u u.opening refl (λ xs p. prefix_push xs h (e ∷ []) p) (omega arith) (omega arith) (λ i x y. y)
+              let not_n : u.opening ≡ Some o → (x : ℕ) → 0 < times x (numbers u) →
+              x ≢ n = λ _ x has_x is. other (apart s r id j v u n at d (own_number v op)
+              (subst (λ (z : ℕ). 0 < times z (numbers u)) is has_x)) in
+              stays h now r.line r.line u u.opening refl (λ xs p. prefix_push xs h (e ∷ []) p) (omega arith)
+              (omega arith) (λ i x y. y)
               (λ is i y l. dite (ℕ_discrete (length h) i)
-              (λ eq. absurd (not_n is u.face.number (own_number u is) (some-injective _ _ (sym y ∙ (ap (get_elem? r.line) (sym eq) ∙ front)))))
+              (λ eq. absurd (not_n is u.face.number (own_number u is)
+              (some-injective _ _ (sym y ∙ (ap (get_elem? r.line) (sym eq) ∙ front)))))
               (λ ne. omega arith))
               (λ yes. absurd (off (sym (none_else j u other d) ∙ yes)))
-              (λ x has_x. (refl, places_push_other x 0 h e (λ is. other (apart s r id j v u n at d (own_number v op) (subst (λ (z : ℕ). 0 < times z (numbers u)) (sym is ∙ mine) has_x)))))
+              (λ x has_x. (
+                refl,
+                places_push_other x 0 h e (λ is.
+                    other (apart s r id j v u n at d (own_number v op)
+                    (subst (λ (z : ℕ). 0 < times z (numbers u)) (sym is ∙ mine) has_x))),
+              ))
               (r.each j u d));
           slot = inl (
             m,
             (λ i. put_back (away i) (has i)),
-            record { after = after ∙ (append_assoc (past o.machine) v.face.seen (e ∷ []) ∙ ap (λ (z : H). past o.machine ++ (z ++ e ∷ [])) whole); same = same; left = (let l : length v.face.seen ≡ length h = ap length whole in omega arith) },
+            record {
+              after = after ∙ (append_assoc (past o.machine) v.face.seen (e ∷ [])
+                  ∙ ap (λ (z : H). past o.machine ++ (z ++ e ∷ [])) whole);
+              same = same;
+              left =
+                  (let l : length v.face.seen ≡ length h = ap length whole in omega arith);
+            },
             quiet_set s.views id w refl none_else,
           );
         },
         (
           turn ∙ ap Served (sym first.1 ∙ sym found),
-          λ p is_p. subst (λ (z : Opening M). GivesBack past settings spare z me (w, rest me.1)) (some_same p v.opening op is_p)
+          λ p is_p. subst (λ (z : Opening M). GivesBack past settings spare z me (w, rest me.1))
+              (some_same p v.opening op is_p)
               (m, e, has, after, ap (λ c. (w, rest c)) has),
         ),
       )
@@ -548,14 +722,20 @@ module _ {M N T : Type 0} (past : M → List (ℕ × N)) (settings : M → T) (s
       no_turn (Served t) not = absurd (not refl)
 
   -- a new seat's number is the first that may be given
-  pub splits : (id : ℕ) (v : V) (g : ℕ) (gs : List ℕ) → v.opening ≡ Some o → v.stage ≡ Idle → v.give ≡ g ∷ gs → Splits Rule id v (deal_left v) (deal_right v)
+  pub splits : (id : ℕ) (v : V) (g : ℕ) (gs : List ℕ) → v.opening ≡ Some o → v.stage ≡ Idle →
+      v.give ≡ g ∷ gs → Splits Rule id v (deal_left v) (deal_right v)
   splits id v g gs op idle has s r at =
       let h : H = r.history in let left : V = deal_left v in let right : V = deal_right v in
       let k = sits h r.line v op (r.each id v at) in
       let head : get_or v.give 0 0 ≡ g = ap (λ (z : List ℕ). get_or z 0 0) has in
       let new = k.give 0 g (ap (λ (z : List ℕ). get_elem? z 0) has) in
       let quiet : has_turn v.stage ≡ false = ap has_turn idle in
-      let middle : Home past settings spare o h record { words = s.words; homes = s.homes; views = set s.views id left } ⊎ Out record { words = s.words; homes = s.homes; views = set s.views id left }
+      let middle : Home past settings spare o h record {
+        words = s.words;
+        homes = s.homes;
+        views =
+            set s.views id left;
+      } ⊎ Out record { words = s.words; homes = s.homes; views = set s.views id left }
       = slot_stays h s s.words id v left at quiet quiet r.slot in
       record {
         history = h;
@@ -567,12 +747,16 @@ module _ {M N T : Type 0} (past : M → List (ℕ × N)) (settings : M → T) (s
         small = r.small;
         callers = r.callers;
         given = λ n.
-            let a : times n (numbers v) ≡ times n (numbers_if (Some o) v) = ap (λ z. times n (numbers_if z v)) op in
-            let b : times n (numbers left) ≡ times n (numbers_if (Some o) left) = ap (λ z. times n (numbers_if z left)) op in
-            let c : times n (numbers right) ≡ times n (numbers_if (Some o) right) = ap (λ z. times n (numbers_if z right)) op in
+            let a : times n (numbers v) ≡ times n (numbers_if (Some o) v) =
+            ap (λ z. times n (numbers_if z v)) op in
+            let b : times n (numbers left) ≡ times n (numbers_if (Some o) left) =
+            ap (λ z. times n (numbers_if z left)) op in
+            let c : times n (numbers right) ≡ times n (numbers_if (Some o) right) =
+            ap (λ z. times n (numbers_if z right)) op in
             let d : times n v.give ≡ one_if (eqb g n) + times n gs = ap (times n) has in
             let e : times n left.give ≡ times n gs = ap (λ (z : List ℕ). times n (tail z)) has in
-            let f : one_if (eqb (get_or v.give 0 0) n) ≡ one_if (eqb g n) = ap (λ (z : ℕ). one_if (eqb z n)) head in
+            let f : one_if (eqb (get_or v.give 0 0) n) ≡ one_if (eqb g n) =
+            ap (λ (z : ℕ). one_if (eqb z n)) head in
             omega (
               arith,
               total_push (λ (z : V). times n (numbers z)) (set s.views id left) right,
@@ -588,7 +772,8 @@ module _ {M N T : Type 0} (past : M → List (ℕ × N)) (settings : M → T) (s
               in_line = k.in_line;
               read = k.read;
               records = k.records;
-              give = λ i x y. k.give (suc i) x (ap (λ (z : List ℕ). get_elem? z (suc i)) has ∙ (ap (λ (z : List ℕ). get_elem? (tail z) i) (sym has) ∙ y));
+              give = λ i x y. k.give (suc i) x (ap (λ (z : List ℕ). get_elem? z (suc i)) has
+                  ∙ (ap (λ (z : List ℕ). get_elem? (tail z) i) (sym has) ∙ y));
             })
             (λ i x other y. r.each i x y) j u d)
             (λ (d : right ≡ u). subst (Fits o h r.line) d (fits h r.line right op record {
@@ -606,19 +791,44 @@ module _ {M N T : Type 0} (past : M → List (ℕ × N)) (settings : M → T) (s
             }))
             (at_snoc (set s.views id left) right u j e);
         slot = ⊎_elim
-            (λ (t : Home past settings spare o h record { words = s.words; homes = s.homes; views = set s.views id left }). inl (t.0, t.1, t.2, λ j u e. ⊎_elim (λ (d : get_elem? (set s.views id left) j ≡ some u). t.3 j u d) (λ (d : right ≡ u). ap (λ (z : V). has_turn z.stage) (sym d)) (at_snoc (set s.views id left) right u j e)))
-            (λ (t : Out record { words = s.words; homes = s.homes; views = set s.views id left }). inr (t.0, (t.1.0, t.1.1, at_longer (set s.views id left) (right ∷ []) t.1.0 t.1.1 t.1.2, t.1.3)))
+            (λ (t : Home past settings spare o h record {
+              words = s.words;
+              homes = s.homes;
+              views =
+                  set s.views id left;
+            }). inl (
+              t.0,
+              t.1,
+              t.2,
+              λ j u e. ⊎_elim (λ (d : get_elem? (set s.views id left) j ≡ some u). t.3 j u d)
+                  (λ (d : right ≡ u). ap (λ (z : V). has_turn z.stage) (sym d))
+                  (at_snoc (set s.views id left) right u j e),
+            ))
+            (λ (t : Out record { words = s.words; homes = s.homes; views = set s.views id left }).
+            inr (
+              t.0,
+              (
+                t.1.0,
+                t.1.1,
+                at_longer (set s.views id left) (right ∷ []) t.1.0 t.1.1 t.1.2,
+                t.1.3,
+              ),
+            ))
             middle;
       }
 
   -- one seat takes in the other, as a record beside those that it has
-  pub joins : (id : ℕ) (v : V) (other : ℕ) (w : V) → v.opening ≡ Some o → v.stage ≡ Idle → w.opening ≡ Some o → w.stage ≡ Idle → Joins Rule id v other w (joined v w) spent
+  pub joins : (id : ℕ) (v : V) (other : ℕ) (w : V) → v.opening ≡ Some o → v.stage ≡ Idle →
+      w.opening ≡ Some o → w.stage ≡ Idle → Joins Rule id v other w (joined v w) spent
   joins id v other w op idle op' idle' s r at differ there =
       let h : H = r.history in let both : V = joined v w in
       let k = sits h r.line v op (r.each id v at) in
-      let there' : get_elem? s.views other ≡ some w = ⊎_elim (λ (x : (other ≡ id) × (both ≡ w)). absurd (differ x.0)) (λ (x : (other ≢ id) × (get_elem? s.views other ≡ some w)). x.1) (at_set s.views id other both w there) in
+      let there' : get_elem? s.views other ≡ some w =
+      ⊎_elim (λ (x : (other ≡ id) × (both ≡ w)). absurd (differ x.0))
+      (λ (x : (other ≢ id) × (get_elem? s.views other ≡ some w)). x.1)
+      (at_set s.views id other both w there) in
       let k' = sits h r.line w op' (r.each other w there') in
-      let none_held : held w.stage ≡ 0 = ap held idle' in
+      let none_held : tickets_held w.stage ≡ 0 = ap tickets_held idle' in
       let quiet : has_turn v.stage ≡ false = ap has_turn idle in
       let s1 : St = record { words = s.words; homes = s.homes; views = set s.views id both } in
       record {
@@ -631,11 +841,17 @@ module _ {M N T : Type 0} (past : M → List (ℕ × N)) (settings : M → T) (s
         small = r.small;
         callers = r.callers;
         given = λ n.
-            let a : times n (numbers v) ≡ times n (numbers_if (Some o) v) = ap (λ z. times n (numbers_if z v)) op in
-            let b : times n (numbers both) ≡ times n (numbers_if (Some o) both) = ap (λ z. times n (numbers_if z both)) op in
-            let c : times n (numbers w) ≡ times n (numbers_if (Some o) w) = ap (λ z. times n (numbers_if z w)) op' in
-            let d : times n (map face_number both.records) ≡ times n (map face_number v.records) + (one_if (eqb w.face.number n) + times n (map face_number w.records)) =
-            ap (times n) (map-append face_number v.records (w.face ∷ w.records)) ∙ times-append n (map face_number v.records) (w.face.number ∷ map face_number w.records) in
+            let a : times n (numbers v) ≡ times n (numbers_if (Some o) v) =
+            ap (λ z. times n (numbers_if z v)) op in
+            let b : times n (numbers both) ≡ times n (numbers_if (Some o) both) =
+            ap (λ z. times n (numbers_if z both)) op in
+            let c : times n (numbers w) ≡ times n (numbers_if (Some o) w) =
+            ap (λ z. times n (numbers_if z w)) op' in
+            let d : times n (map face_number both.records)
+            ≡ times n (map face_number v.records) + (one_if (eqb w.face.number n) + times n
+            (map face_number w.records)) =
+            ap (times n) (map-append face_number v.records (w.face ∷ w.records))
+            ∙ times-append n (map face_number v.records) (w.face.number ∷ map face_number w.records) in
             omega (
               arith,
               total_set (λ (z : V). times n (numbers z)) s.views id v both at,
@@ -646,25 +862,37 @@ module _ {M N T : Type 0} (past : M → List (ℕ × N)) (settings : M → T) (s
               times-append n (map face_number both.records) both.give,
               times-append n v.give w.give,
             );
-        each = each_set h r.line (set s.views id both) other spent refl (λ j u _ e. each_set h r.line s.views id both
+        each = each_set h r.line (set s.views id both) other spent refl
+            (λ j u _ e. each_set h r.line s.views id both
             (fits h r.line both op record {
               face = k.face;
               in_line = k.in_line;
               read = k.read;
               records = λ i f y. ⊎_elim (λ (x : get_elem? v.records i ≡ some f). k.records i f x)
-                  (λ (x : (j : ℕ) × (get_elem? (w.face ∷ w.records) j ≡ some f)). record_of h r.line w k' none_held x.0 f x.1) (at_append v.records (w.face ∷ w.records) i f y);
-              give = λ i n y. ⊎_elim (λ (x : get_elem? v.give i ≡ some n). k.give i n x) (λ (x : (j : ℕ) × (get_elem? w.give j ≡ some n)). k'.give x.0 n x.1) (at_append v.give w.give i n y);
+                  (λ (x : (j : ℕ) × (get_elem? (w.face ∷ w.records) j ≡ some f)).
+                  record_of h r.line w k' none_held x.0 f x.1)
+                  (at_append v.records (w.face ∷ w.records) i f y);
+              give = λ i n y. ⊎_elim (λ (x : get_elem? v.give i ≡ some n). k.give i n x)
+                  (λ (x : (j : ℕ) × (get_elem? w.give j ≡ some n)). k'.give x.0 n x.1)
+                  (at_append v.give w.give i n y);
             })
             (λ i x _ y. r.each i x y) j u e);
-        slot = slot_stays h s1 s.words other w spent there (ap has_turn idle') refl (slot_stays h s s.words id v both at quiet quiet r.slot);
+        slot = slot_stays h s1 s.words other w spent there (ap has_turn idle') refl
+            (slot_stays h s s.words id v both at quiet quiet r.slot);
       }
     where
-      record_of : (h : H) (line : List ℕ) (w : V) → Sits o h line w → held w.stage ≡ 0 → (j : ℕ) (f : Face N) → get_elem? (w.face ∷ w.records) j ≡ some f → FaceFits o h line 0 f
-      record_of h line w k none_held zero f e = subst (FaceFits o h line 0) (some-injective w.face f e) (subst (λ (z : ℕ). FaceFits o h line z w.face) none_held k.face)
+      record_of : (h : H) (line : List ℕ) (w : V) → Sits o h line w → tickets_held w.stage ≡ 0 →
+          (j : ℕ) (f : Face N) → get_elem? (w.face ∷ w.records) j ≡ some f → FaceFits o h line 0 f
+      record_of h line w k none_held zero f e = subst (FaceFits o h line 0) (some-injective w.face f e)
+          (subst (λ (z : ℕ). FaceFits o h line z w.face) none_held k.face)
       record_of h line w k none_held (suc j) f e = k.records j f e
 
-  pub turn_of : (m m' : Me (Option M) V) (v : V) (read found : Option ℕ) (t : ℕ) → m ≡ (with_read v read, []) → v.opening ≡ Some o → TurnComes past settings spare m t found m' → HasTurn past settings spare o t v m'
-  turn_of m m' v read found t is op comes = let k = subst (λ (z : Me (Option M) V). TurnComes past settings spare z t found m') is comes in (k.0, k.1, found, k.2, k.3, (k.4 o op).0, (k.4 o op).1, (k.4 o op).2)
+  pub turn_of : (m m' : Me (Option M) V) (v : V) (read found : Option ℕ) (t : ℕ) →
+      m ≡ (with_read v read, []) → v.opening ≡ Some o → TurnComes past settings spare m t found m' →
+      HasTurn past settings spare o t v m'
+  turn_of m m' v read found t is op comes = let k =
+      subst (λ (z : Me (Option M) V). TurnComes past settings spare z t found m') is comes in
+      (k.0, k.1, found, k.2, k.3, (k.4 o op).0, (k.4 o op).1, (k.4 o op).2)
 
   abbrev value_or : M → Option M → M
   value_or d (Some y) = y
@@ -675,7 +903,8 @@ module _ {M N T : Type 0} (past : M → List (ℕ × N)) (settings : M → T) (s
   held_or d (x ∷ xs) = value_or d x.1
 
   -- who has its turn at the ticket t has its turn
-  pub takes_turn : (t : ℕ) (v : V) (m : Me (Option M) V) → HasTurn past settings spare o t v m → AtTurn past settings spare o m
+  pub takes_turn : (t : ℕ) (v : V) (m : Me (Option M) V) → HasTurn past settings spare o t v m →
+      AtTurn past settings spare o m
   takes_turn t v m k = subst (AtTurn past settings spare o) (sym k.4) (t, refl, (k.1, refl, k.5), k.7)
 
   -- the same seat, once it has left x in the slot
@@ -683,79 +912,114 @@ module _ {M N T : Type 0} (past : M → List (ℕ × N)) (settings : M → T) (s
   leaving p x = (p.0, (0, Some x) ∷ rest p.1)
 
   -- at its turn a seat was lent the slot, with x in it, and left x' there
-  pub lent : (p : Me (Option M) V) (r : Option M) (x x' : M) → p.1 ≡ (0, r) ∷ rest p.1 → AtTurn past settings spare o p → r ≡ Some x
+  pub lent : (p : Me (Option M) V) (r : Option M) (x x' : M) → p.1 ≡ (0, r) ∷ rest p.1 →
+      AtTurn past settings spare o p → r ≡ Some x
       → (leaving p x' ≡ (p.0, (0, Some x') ∷ [])) × IsAt past settings spare o p.0.face.seen x × (0 < spare x)
   lent p r x x' holds turn is =
       let y = turn.2.0 in let has = turn.2.1 in
       let same : y ≡ x = ap (held_or x) (sym has ∙ holds) ∙ ap (value_or x) is in
-      let was : IsAt past settings spare o p.0.face.seen x = subst (IsAt past settings spare o p.0.face.seen) same turn.2.2 in
+      let was : IsAt past settings spare o p.0.face.seen x =
+      subst (IsAt past settings spare o p.0.face.seen) same turn.2.2 in
       let left = was.left in let less = turn.3 in (
         ap (λ l. (p.0, (0, Some x') ∷ l)) (ap rest has),
         was,
         omega arith,
       )
 
-  pub serves_at : (slots id : ℕ) (me : Me (Option M) V) (v : V) (t : ℕ) (x x' : M) (e : ℕ × N) → me ≡ (v, (0, Some x') ∷ []) → v.opening ≡ Some o → v.stage ≡ Served t → e.0 ≡ v.face.number
-      → IsAt past settings spare o v.face.seen x → past x' ≡ past x ++ e ∷ [] → settings x' ≡ settings x → spare x' + 1 ≡ spare x
-      → Allows Rule slots id me 1 (λ n. (n + 1) % 2 ^ 64) (served past settings spare (step slots 1 1 0 none) me)
+  pub serves_at : (slots id : ℕ) (me : Me (Option M) V) (v : V) (t : ℕ) (x x' : M) (e : ℕ × N) →
+      me ≡ (v, (0, Some x') ∷ []) → v.opening ≡ Some o → v.stage ≡ Served t → e.0 ≡ v.face.number
+      → IsAt past settings spare o v.face.seen x → past x' ≡ past x ++ e ∷ [] → settings x' ≡ settings x →
+      spare x' + 1 ≡ spare x
+      → Allows Rule slots id me 1 (λ n. (n + 1) % 2 ^ 64)
+      (served past settings spare (step slots 1 1 0 none) me)
   serves_at slots id me v t x x' e is op turn mine was more same less =
-      subst (λ (z : Me (Option M) V). Allows Rule slots id z 1 (λ n. (n + 1) % 2 ^ 64) (served past settings spare (step slots 1 1 0 none) z)) (sym is)
-      (let left = was.left in serves slots id (v, (0, Some x') ∷ []) t x' e op turn refl mine (more ∙ ap (λ (l : H). l ++ e ∷ []) was.after) (same ∙ was.same) (omega arith))
+      subst (λ (z : Me (Option M) V). Allows Rule slots id z 1 (λ n. (n + 1) % 2 ^ 64)
+      (served past settings spare (step slots 1 1 0 none) z)) (sym is)
+      (let left = was.left in serves slots id (v, (0, Some x') ∷ []) t x' e op turn refl mine
+      (more ∙ ap (λ (l : H). l ++ e ∷ []) was.after) (same ∙ was.same) (omega arith))
 
-  pub gave : (p2 p3 : Me (Option M) V) (v : V) (x x' : M) (e : ℕ × N) → p2 ≡ (v, (0, Some x') ∷ []) → v.opening ≡ Some o → IsAt past settings spare o v.face.seen x → past x' ≡ past x ++ e ∷ []
-      → ((z : Opening M) → p2.0.opening ≡ Some z → GivesBack past settings spare z p2 p3) → p3 ≡ (after_turn v e, [])
+  pub gave : (p2 p3 : Me (Option M) V) (v : V) (x x' : M) (e : ℕ × N) → p2 ≡ (v, (0, Some x') ∷ []) →
+      v.opening ≡ Some o → IsAt past settings spare o v.face.seen x → past x' ≡ past x ++ e ∷ []
+      → ((z : Opening M) → p2.0.opening ≡ Some z → GivesBack past settings spare z p2 p3) →
+      p3 ≡ (after_turn v e, [])
   gave p2 p3 v x x' e is op was more back =
-      let k = subst (λ (z : Me (Option M) V). GivesBack past settings spare o z p3) is (back o (ap (λ (z : Me (Option M) V). z.0.opening) is ∙ op)) in
+      let k = subst (λ (z : Me (Option M) V). GivesBack past settings spare o z p3) is
+      (back o (ap (λ (z : Me (Option M) V). z.0.opening) is ∙ op)) in
       let y = k.0 in let has = k.2 in
       let same : y ≡ x' = sym (ap (held_or x') has) in
-      let one : k.1 ≡ e = push_injective (past o.machine ++ v.face.seen) k.1 e (sym k.3 ∙ (ap past same ∙ (more ∙ ap (λ (l : H). l ++ e ∷ []) was.after))) in
+      let one : k.1 ≡ e = push_injective (past o.machine ++ v.face.seen) k.1 e
+      (sym k.3 ∙ (ap past same ∙ (more ∙ ap (λ (l : H). l ++ e ∷ []) was.after))) in
       k.4 ∙ ap (λ z. (after_turn v z, [])) one
 
   -- a reply that is right for the machine is right after the opening history and the entries
-  pub right_there : {C A : Type 0} (right : T → List (ℕ × N) → ℕ → C → A → Type 0) (h : H) (x : M) (number : ℕ) (call : C) (reply : A) → IsAt past settings spare o h x
-      → right (settings x) (past x) number call reply → right (settings o.machine) (past o.machine ++ h) number call reply
+  pub right_there : {C A : Type 0} (right : T → List (ℕ × N) → ℕ → C → A → Type 0) (h : H) (x : M)
+      (number : ℕ) (call : C) (reply : A) → IsAt past settings spare o h x
+      → right (settings x) (past x) number call reply →
+      right (settings o.machine) (past o.machine ++ h) number call reply
   right_there right h x number call reply was r =
-      subst (λ z. right z (past o.machine ++ h) number call reply) was.same (subst (λ (z : H). right (settings x) z number call reply) was.after r)
+      subst (λ z. right z (past o.machine ++ h) number call reply) was.same
+      (subst (λ (z : H). right (settings x) z number call reply) was.after r)
 
-  pub tries_at : (slots id : ℕ) (m : Me (Option M) V) (v : V) (c : List (ℕ × Option M)) (old new : ℕ) → m ≡ (having_read v old, c) → v.opening ≡ Some o → v.stage ≡ Idle → length v.face.own < get_or o.quotas v.face.number 0 → new ≡ old + 1
-      → Allows Rule slots id m 0 (λ n. either (eqb n old) new n) (tried past settings spare (step slots 0 old new none) m)
+  pub tries_at : (slots id : ℕ) (m : Me (Option M) V) (v : V) (c : List (ℕ × Option M)) (old new : ℕ) →
+      m ≡ (having_read v old, c) → v.opening ≡ Some o → v.stage ≡ Idle →
+      length v.face.own < get_or o.quotas v.face.number 0 → new ≡ old + 1
+      → Allows Rule slots id m 0 (λ n. either (eqb n old) new n)
+      (tried past settings spare (step slots 0 old new none) m)
   tries_at slots id m v c old new is op idle room up =
-      subst (λ (z : Me (Option M) V). Allows Rule slots id z 0 (λ n. either (eqb n old) new n) (tried past settings spare (step slots 0 old new none) z)) (sym is) (tries slots id (having_read v old, c) old new op idle room refl up)
+      subst (λ (z : Me (Option M) V). Allows Rule slots id z 0 (λ n. either (eqb n old) new n)
+      (tried past settings spare (step slots 0 old new none) z)) (sym is)
+      (tries slots id (having_read v old, c) old new op idle room refl up)
 
   -- both outcomes of a try
-  pub tried_of : (m0 m1 m2 : Me (Option M) V) (s t : ℕ) → m0.1 ≡ [] → m1 ≡ (having_read m0.0 s, m0.1) → m0.0.opening ≡ Some o → (t ≡ s → TurnComes past settings spare m1 s None m2) → t ≡ s → HasTurn past settings spare o s m0.0 m2
+  pub tried_of : (m0 m1 m2 : Me (Option M) V) (s t : ℕ) → m0.1 ≡ [] → m1 ≡ (having_read m0.0 s, m0.1) →
+      m0.0.opening ≡ Some o → (t ≡ s → TurnComes past settings spare m1 s None m2) → t ≡ s →
+      HasTurn past settings spare o s m0.0 m2
   tried_of m0 m1 m2 s t none_held is op comes hit =
-      let k = subst (λ (z : Me (Option M) V). TurnComes past settings spare z s None m2) (is ∙ ap (λ l. (having_read m0.0 s, l)) none_held) (comes hit) in
+      let k = subst (λ (z : Me (Option M) V). TurnComes past settings spare z s None m2)
+      (is ∙ ap (λ l. (having_read m0.0 s, l)) none_held) (comes hit) in
       (k.0, k.1, None, k.2, k.3, (k.4 o op).0, (k.4 o op).1, (k.4 o op).2)
 
-  face_of : (h : H) (line : List ℕ) (v : V) → Sits o h line v → v.stage ≡ Idle → (i : ℕ) (f : Face N) → get_elem? (faces_of v) i ≡ some f → FaceFits o h line 0 f
-  face_of h line v k idle zero f e = subst (FaceFits o h line 0) (some-injective v.face f e) (subst (λ (z : ℕ). FaceFits o h line z v.face) (ap held idle) k.face)
+  face_of : (h : H) (line : List ℕ) (v : V) → Sits o h line v → v.stage ≡ Idle → (i : ℕ) (f : Face N) →
+      get_elem? (faces_of v) i ≡ some f → FaceFits o h line 0 f
+  face_of h line v k idle zero f e = subst (FaceFits o h line 0) (some-injective v.face f e)
+      (subst (λ (z : ℕ). FaceFits o h line z v.face) (ap tickets_held idle) k.face)
   face_of h line v k idle (suc i) f e = k.records i f e
 
-  face_numbers : (v : V) → v.opening ≡ Some o → (i : ℕ) (f : Face N) → get_elem? (faces_of v) i ≡ some f → 0 < times f.number (numbers v)
-  face_numbers v op zero f e = subst (λ (z : Face N). 0 < times z.number (numbers v)) (some-injective v.face f e) (own_number v op)
+  face_numbers : (v : V) → v.opening ≡ Some o → (i : ℕ) (f : Face N) → get_elem? (faces_of v) i ≡ some f →
+      0 < times f.number (numbers v)
+  face_numbers v op zero f e = subst (λ (z : Face N). 0 < times z.number (numbers v))
+      (some-injective v.face f e) (own_number v op)
   face_numbers v op (suc i) f e = record_number v op i f e
 
   pub closes : (id : ℕ) (v : V) (ws : List ℕ) (xs : List (Option M)) → v.opening ≡ Some o → v.stage ≡ Idle
-      → ((n : ℕ) → n < length o.quotas → (i : ℕ) × (f : Face N) × (get_elem? (faces_of v) i ≡ some f) × (f.number ≡ n))
-      → Final (Seen Rule id v) ws xs → (m : M) × (get_elem? xs 0 ≡ some (Some m)) × Ends past settings o (faces_of v) m
+      → ((n : ℕ) → n < length o.quotas → (i : ℕ) × (f : Face N) × (get_elem? (faces_of v) i ≡ some f) ×
+      (f.number ≡ n))
+      → Final (Seen Rule id v) ws xs → (m : M) × (get_elem? xs 0 ≡ some (Some m)) ×
+      GateEnds past settings o (faces_of v) m
   closes id v ws xs op idle all end =
       let s = end.0 in let r : Rule s = end.1.0 in let at : get_elem? s.views id ≡ some v = end.1.1 in
       let h : H = r.history in
       let k = sits h r.line v op (r.each id v at) in
-      let has : (n : ℕ) → n < length o.quotas → 0 < times n (numbers v) = λ n l. let a = all n l in subst (λ (z : ℕ). 0 < times z (numbers v)) a.3 (face_numbers v op a.0 a.1 a.2) in
+      let has : (n : ℕ) → n < length o.quotas → 0 < times n (numbers v) = λ n l. let a = all n l in
+      subst (λ (z : ℕ). 0 < times z (numbers v)) a.3 (face_numbers v op a.0 a.1 a.2) in
       let home : Home past settings spare o h s = ⊎_elim (λ (t : Home past settings spare o h s). t)
       (λ (t : Out s). let j = t.1.0 in let u = t.1.1 in
       let k' = turn_sits h r.line u u.opening t.1.3 (r.each j u t.1.2) in
-      let here = apart s r id j v u u.face.number at t.1.2 (has u.face.number k'.1.face.inside) (own_number u k'.0) in
-      absurd (off (sym (ap has_turn idle) ∙ (ap (λ (z : V). has_turn z.stage) (some-injective v u (sym at ∙ (ap (get_elem? s.views) (sym here) ∙ t.1.2))) ∙ t.1.3)))) r.slot in
-      let served_all : length r.line ≤ length h = subst (λ (z : ℕ). length r.line ≤ z) (length-map h (λ (e : ℕ × N). e.0)) (length_by_times r.line (callers_of h) (λ n. dite (dec_le (suc n) (length o.quotas))
+      let here = apart s r id j v u u.face.number at t.1.2 (has u.face.number k'.1.face.inside)
+      (own_number u k'.0) in
+      absurd (off (sym (ap has_turn idle) ∙ (ap (λ (z : V). has_turn z.stage)
+      (some-injective v u (sym at ∙ (ap (get_elem? s.views) (sym here) ∙ t.1.2))) ∙ t.1.3)))) r.slot in
+      let served_all : length r.line ≤ length h = subst (λ (z : ℕ). length r.line ≤ z)
+      (length-map h (λ (e : ℕ × N). e.0)) (length_by_times r.line (callers_of h)
+      (λ n. dite (dec_le (suc n) (length o.quotas))
       (λ below. let a = all n below in let f = a.1 in
       let fits_there = face_of h r.line v k idle a.0 f a.2 in
       let drawn : times f.number r.line ≡ length f.own + 0 = fits_there.drawn in
       let own : length f.own ≡ length (places f.number 0 h) = ap length fits_there.own in
-      subst (λ (z : ℕ). times z r.line ≤ times z (callers_of h)) a.3 (omega (arith, length-places f.number 0 h)))
-      (λ past_it. let none : get_or o.quotas n 0 ≡ 0 = get_or_past o.quotas n 0 (omega arith) in omega (arith, r.fits n)))) in (
+      subst (λ (z : ℕ). times z r.line ≤ times z (callers_of h)) a.3
+      (omega (arith, length-places f.number 0 h)))
+      (λ past_it. let none : get_or o.quotas n 0 ≡ 0 = get_or_past o.quotas n 0 (omega arith) in
+      omega (arith, r.fits n)))) in (
         home.0,
         end.4 0 (Some home.0) (ap (λ hs. get_elem? hs 0) home.1),
         (
@@ -764,21 +1028,37 @@ module _ {M N T : Type 0} (past : M → List (ℕ × N)) (settings : M → T) (s
           home.2.same,
           r.callers,
           λ i f e.
-              let fits_there = face_of h r.line v k idle i f e in (fits_there.seen, fits_there.own, λ n p d. let l = (fits_there.looks n p d).2 in omega arith),
+              let fits_there = face_of h r.line v k idle i f e in (
+                fits_there.seen,
+                fits_there.own,
+                λ n p d. let l = (fits_there.looks n p d).2 in
+                    omega arith,
+              ),
         ),
       )
 
   -- the same of the value that was taken out
-  pub ends_with : (faces : List (Face N)) (xs : List (Option M)) (x : Option M) (y : M) → get_elem? xs 0 ≡ some x → x ≡ Some y → (m : M) × (get_elem? xs 0 ≡ some (Some m)) × Ends past settings o faces m → Ends past settings o faces y
-  ends_with faces xs x y at is e = let same : e.0 ≡ y = ap (value_or y) (some-injective _ _ (sym e.1 ∙ at)) ∙ ap (value_or y) is in subst (Ends past settings o faces) same e.2
+  pub ends_with : (faces : List (Face N)) (xs : List (Option M)) (x : Option M) (y : M) →
+      get_elem? xs 0 ≡ some x → x ≡ Some y → (m : M) × (get_elem? xs 0 ≡ some (Some m)) ×
+      GateEnds past settings o faces m → GateEnds past settings o faces y
+  ends_with faces xs x y at is e = let same : e.0 ≡ y =
+      ap (value_or y) (some-injective _ _ (sym e.1 ∙ at)) ∙ ap (value_or y) is in
+      subst (GateEnds past settings o faces) same e.2
 
-  pub not_gone : (xs : List (Option M)) (x : Option M) (m : M) → get_elem? xs 0 ≡ some x → x ≡ None → get_elem? xs 0 ≡ some (Some m) → ⊥
-  not_gone xs x m at is there = let same : Some m ≡ None = some-injective _ _ (sym there ∙ at) ∙ is in absurd (cc)
+  pub not_gone : (xs : List (Option M)) (x : Option M) (m : M) → get_elem? xs 0 ≡ some x → x ≡ None →
+      get_elem? xs 0 ≡ some (Some m) → ⊥
+  not_gone xs x m at is there = let same : Some m ≡ None = some-injective _ _ (sym there ∙ at) ∙ is in
+      absurd (cc)
 
-  pub split_deal : (id i n : ℕ) (v : V) (xs : List ℕ) → v ≡ new_view o n (drop i (count_from 0 xs)) → i < length xs → Splits Rule id v (deal_left v) (deal_right v)
-  split_deal id i n v xs is l = splits id v (0 + i) (drop (i + 1) (count_from 0 xs)) (ap (λ (z : V). z.opening) is) (ap (λ (z : V). z.stage) is) (ap (λ (z : V). z.give) is ∙ count_drop i 0 xs l)
+  pub split_deal : (id i n : ℕ) (v : V) (xs : List ℕ) → v ≡ new_view o n (drop i (numbers_from 0 xs)) →
+      i < length xs → Splits Rule id v (deal_left v) (deal_right v)
+  split_deal id i n v xs is l = splits id v (0 + i) (drop (i + 1) (numbers_from 0 xs))
+      (ap (λ (z : V). z.opening) is) (ap (λ (z : V). z.stage) is)
+      (ap (λ (z : V). z.give) is ∙ count_drop i 0 xs l)
 
-  pub starts : (m : M) (xs : List (Option M)) → xs ≡ Some m ∷ [] → past m ≡ past o.machine → settings m ≡ settings o.machine → spare m ≡ spare o.machine → 0 < length o.quotas → sum o.quotas ≤ spare o.machine → spare o.machine < 2 ^ 64
+  pub starts : (m : M) (xs : List (Option M)) → xs ≡ Some m ∷ [] → past m ≡ past o.machine →
+      settings m ≡ settings o.machine → spare m ≡ spare o.machine → 0 < length o.quotas →
+      sum o.quotas ≤ spare o.machine → spare o.machine < 2 ^ 64
       → Rule (opening (0 ∷ 0 ∷ []) xs (first_view o))
   starts m xs is was same left any enough small = record {
     history = [];
@@ -791,7 +1071,16 @@ module _ {M N T : Type 0} (past : M → List (ℕ × N)) (settings : M → T) (s
     callers = λ k e d. absurd (some-ne-none e (sym d));
     given = λ n. omega (arith, all_numbers n o.quotas any);
     each = first_fits;
-    slot = inl (m, ap (map some) is, record { after = was ∙ sym (append-nil (past o.machine)); same = same; left = omega arith }, first_quiet);
+    slot = inl (
+      m,
+      ap (map some) is,
+      record {
+        after = was ∙ sym (append-nil (past o.machine));
+        same = same;
+        left = omega arith;
+      },
+      first_quiet,
+    );
   }
     where
       smaller : (q : List ℕ) → 0 < length q → suc (length (tail q)) ≡ length q
@@ -800,7 +1089,14 @@ module _ {M N T : Type 0} (past : M → List (ℕ × N)) (settings : M → T) (s
 
       first_sits : Sits {N = N} o [] [] (first_view o)
       first_sits = record {
-        face = record { inside = omega (arith, smaller o.quotas any); seen = ([], refl); own = refl; drawn = refl; looks = λ k p d. absurd (some-ne-none p (sym d)) };
+        face = record {
+          inside = omega (arith, smaller o.quotas any);
+          seen = ([], refl);
+          own = refl;
+          drawn =
+              refl;
+          looks = λ k p d. absurd (some-ne-none p (sym d));
+        };
         in_line = tt;
         read = λ x d. absurd (cc);
         records = λ i f d. absurd (some-ne-none f (sym d));

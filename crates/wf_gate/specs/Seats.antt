@@ -12,7 +12,8 @@ use Rattle.wf_gate.specs.declared.view.Stage.{Stage}
 use Rattle.wf_gate.specs.declared.view.Stage.TheVariants.{Idle}
 use Rattle.wf_gate.specs.Turns.{places, faces_of, opening_of}
 
--- A gate is known by its table, which no other gate has. Its opening is the machine as it was when the gate was made, and the quotas by seat number
+-- A gate is known by its table, which no other gate has. Its opening is the machine as it was when the gate
+-- was made, and the quotas by seat number
 pub record GateView (M : Type 0) : Type 0 where
   pub table : TableId
   pub opening : Opening M
@@ -30,7 +31,8 @@ pub record SeatView (M N : Type 0) : Type 0 where
   pub seen : List (ℕ × N)
   -- the places in `seen` of its own calls, rising
   pub own : List ℕ
-  -- of each of its tries that found no turn, the number that it read from serving and the ticket that it found
+  -- of each of its tries that found no turn, the number that it read from serving and the ticket that it
+  -- found
   pub looks : List (ℕ × ℕ)
   -- whether it has a ticket or its turn
   pub stage : Stage
@@ -42,15 +44,27 @@ abbrev pub gate_of : {M : Type 0} → TableId → Key M → GateView M
 gate_of table key = record { table = table; opening = opening_of key }
 
 -- the gate's opening: this machine and these quotas
-abbrev pub opened : {M : Type 0} → M → List ℕ → Opening M
-opened machine quotas = record { machine = machine; quotas = quotas }
+abbrev pub gate_opened : {M : Type 0} → M → List ℕ → Opening M
+gate_opened machine quotas = record { machine = machine; quotas = quotas }
 
 module _ {M N : Type 0} where
   -- the seat with this number, quota and count of calls, that steps by this pass
   abbrev pub view_of : ℕ → ℕ → ℕ → Seat (Option M) (View M N) → SeatView M N
-  view_of number quota used p = record { table = p.table_id; opening = p.me.0.opening; number = number; quota = quota; used = used; seen = p.me.0.face.seen; own = p.me.0.face.own; looks = p.me.0.face.looks; stage = p.me.0.stage; read = p.me.0.read }
+  view_of number quota used p = record {
+    table = p.table_id;
+    opening = p.me.0.opening;
+    number = number;
+    quota = quota;
+    used = used;
+    seen = p.me.0.face.seen;
+    own = p.me.0.face.own;
+    looks = p.me.0.face.looks;
+    stage = p.me.0.stage;
+    read = p.me.0.read;
+  }
 
-  -- true of every seat: it has no ticket, no turn, no number read and no slot, and it counts its calls, which are no more than its quota
+  -- true of every seat: it has no ticket, no turn, no number read and no slot, and it counts its calls, which
+  -- are no more than its quota
   pub record IsAtGate (number quota used : ℕ) (p : Seat (Option M) (View M N)) : Type 0 where
     pub numbered : number ≡ p.me.0.face.number
     pub counted : used ≡ length p.me.0.face.own
@@ -74,7 +88,20 @@ module _ {M N : Type 0} where
 
   -- the seat k of a new gate: with its quota, and three empty lists
   abbrev pub new_seat : GateView M → ℕ → SeatView M N
-  new_seat g k = record { table = g.table; opening = Some g.opening; number = k; quota = slice_index_or g.opening.quotas k 0; used = 0; seen = []; own = []; looks = []; stage = Idle; read = None }
+  new_seat g k = record {
+    table = g.table;
+    opening = Some g.opening;
+    number = k;
+    quota =
+        slice_index_or g.opening.quotas k 0;
+    used = 0;
+    seen = [];
+    own = [];
+    looks = [];
+    stage = Idle;
+    read =
+        None;
+  }
 
   -- of each seat number, the seat is among these
   abbrev pub AreAll : GateView M → List (SeatView M N) → Type 0
@@ -100,10 +127,11 @@ abbrev pub places_of : {N : Type 0} → ℕ → List (ℕ × N) → List ℕ
 places_of number entries = places number 0 entries
 
 -- at these places of the entries stand the calls with these notes of the seat with this number, in order
-abbrev pub HasCalls : {N : Type 0} → ℕ → List (ℕ × N) → List ℕ → List N → Type 0
-HasCalls number entries [] [] = Unit {0}
-HasCalls number entries (place ∷ places) (note ∷ notes) = (slice_get entries place ≡ Some (number, note)) × HasCalls number entries places notes
-HasCalls number entries _ _ = ⊥
+abbrev pub StandsWithCalls : {N : Type 0} → ℕ → List (ℕ × N) → List ℕ → List N → Type 0
+StandsWithCalls number entries [] [] = Unit {0}
+StandsWithCalls number entries (place ∷ places) (note ∷ notes) =
+    (slice_get entries place ≡ Some (number, note)) × StandsWithCalls number entries places notes
+StandsWithCalls number entries _ _ = ⊥
 
 -- the last entry is this one
 abbrev pub EndsWith : {A : Type 0} → List A → A → Type 0
@@ -112,9 +140,12 @@ EndsWith {A} entries e = (before : List A) × (entries ≡ before ++ e ∷ [])
 abbrev pub last_place : {A : Type 0} → List A → ℕ
 last_place entries = length entries - 1
 
--- the reply to the call is right at this place of the entries: for the opening settings, and the opening history with the entries before the place
-abbrev pub IsRightAt : {M N T C A : Type 0} → (M → List (ℕ × N)) → (M → T) → (T → List (ℕ × N) → ℕ → C → A → Type 0) → GateView M → List (ℕ × N) → ℕ → ℕ → C → A → Type 0
-IsRightAt past settings right g entries place caller call reply = right (settings g.opening.machine) (past g.opening.machine ++ take place entries) caller call reply
+-- the reply to the call is right at this place of the entries: for the opening settings, and the opening
+-- history with the entries before the place
+abbrev pub IsRightAt : {M N T C A : Type 0} → (M → List (ℕ × N)) → (M → T) →
+    (T → List (ℕ × N) → ℕ → C → A → Type 0) → GateView M → List (ℕ × N) → ℕ → ℕ → C → A → Type 0
+IsRightAt past settings right g entries place caller call reply =
+    right (settings g.opening.machine) (past g.opening.machine ++ take place entries) caller call reply
 
 -- the entries of the machine's history that were made since the gate was made
 abbrev pub made_since : {M N : Type 0} → (M → List (ℕ × N)) → GateView M → M → List (ℕ × N)

@@ -1,7 +1,7 @@
 //! The gate and its calls.
-ghost use Rattle.std.specs.Prelude.{◌≡◌, ℕ, ◌+◌, ◌<◌, ◌≤◌, ◌∷◌, [], ◌++◌, length, sum, All, EachIndex, slice_get, Some, IfOk, IfErr, OnOk, OnErr};
+ghost use Rattle.std.specs.Prelude.{◌≡◌, ◌+◌, ◌<◌, ◌≤◌, ◌∷◌, [], ◌++◌, length, sum, All, EachIndex, slice_get, Some, IfOk, IfErr, OnOk, OnErr};
 ghost use mathlib.Core.List.{IsPrefix};
-ghost use Rattle.wf_gate.specs.Seats.{IsOf, IsSameSeat, IsAtRest, new_seat, AreAll, EndsWith, last_place, AreOfSeats, IsRightAt, places_of, made_since, opened};
+ghost use Rattle.wf_gate.specs.Seats.{IsOf, IsSameSeat, IsAtRest, new_seat, AreAll, EndsWith, last_place, AreOfSeats, IsRightAt, places_of, made_since, gate_opened};
 
 use crate::dealing::{deal, gather};
 use crate::seat::Seat;
@@ -14,7 +14,8 @@ use std::snapshot::Snapshot;
 use std::sync::Wait;
 use wf_machine::Machine;
 
-/// A gate before a machine. Contracts see it as a `GateView`: which gate it is, the machine as it was when the gate was made, and the quotas.
+/// A gate before a machine. Contracts see it as a `GateView`: which gate it is, the machine as it was when
+/// the gate was made, and the quotas.
 #[derive(Drop)]
 pub struct Gate<M: Machine> {
     pub(crate) table: Table<Option<M>, View<M, M::Note>, Key<M>, Turns<M>, Global>,
@@ -23,13 +24,14 @@ pub struct Gate<M: Machine> {
 impl<M: Machine> Model for Gate<M> {
     ghost use Rattle.std.specs.Prelude.{◌<◌, length};
     ghost use Rattle.wf_gate.specs.Seats.{GateView, gate_of};
-    ghost use Rattle.wf_gate.specs.Passes.{IsSized};
+    ghost use Rattle.wf_gate.specs.Passes.{IsTableSized};
 
     ghost Value = { GateView M };
 
     ghost view = { λ g. gate_of g.table.shared.table_id g.table.shared.key };
 
-    ghost invariant = { λ g. IsSized g.table.shared.table_id × (0 < length g.table.shared.key.quotas.items) };
+    ghost invariant = { λ g. IsTableSized g.table.shared.table_id ×
+        (0 < length g.table.shared.key.quotas.items) };
 }
 
 /// The seat's quota is used up.
@@ -37,8 +39,8 @@ impl<M: Machine> Model for Gate<M> {
 pub struct Spent;
 
 impl<M: Machine + Drop> Gate<M> {
-    /// A gate before the machine, and its seats in the order of their numbers.
-    /// A list of 2^32 quotas or more, which has no numbers for its seats, is answered as want of memory. After that the machine is dropped.
+    /// A gate before the machine, and its seats in the order of their numbers. A list of 2^32 quotas or more,
+    /// which has no numbers for its seats, is answered as want of memory. After that the machine is dropped.
     pub fn new(
         alloc: Global,
         machine: M,
@@ -46,9 +48,10 @@ impl<M: Machine + Drop> Gate<M> {
     ) -> Result<(Gate<M>, Vec<Seat<M>>), AllocError>
         requires some { 0 < length quotas.now }
         requires room { sum quotas.now ≤ M.room machine }
-        ensures opening { IfOk result (λ r. r.0.opening ≡ opened machine quotas.now) }
+        ensures opening { IfOk result (λ r. r.0.opening ≡ gate_opened machine quotas.now) }
         ensures count { IfOk result (λ r. length r.1.items ≡ length quotas.now) }
-        ensures seats { IfOk result (λ r. EachIndex quotas.now (λ k. slice_get r.1.items k ≡ Some (new_seat r.0 k))) }
+        ensures seats { IfOk result (λ r. EachIndex quotas.now
+            (λ k. slice_get r.1.items k ≡ Some (new_seat r.0 k))) }
         ensures own { IfOk result (λ r. All (IsOf r.0) r.1.items) }
         ensures all { IfOk result (λ r. AreAll r.0 r.1.items) }
     {
@@ -73,7 +76,8 @@ impl<M: Machine + Drop> Gate<M> {
         }
     }
 
-    /// One call of the machine, made once the seats that drew their tickets before have made theirs. It may wait for them.
+    /// One call of the machine, made once the seats that drew their tickets before have made theirs. It may
+    /// wait for them.
     pub fn call<R: Wait>(
         &self,
         rt: &R,
@@ -92,7 +96,8 @@ impl<M: Machine + Drop> Gate<M> {
         ensures own { OnOk result (seat.new.own ≡ seat.old.own ++ last_place seat.new.seen ∷ []) }
         ensures looks { OnOk result (seat.new.looks ≡ seat.old.looks) }
         ensures callers { OnOk result (AreOfSeats self.now seat.new.seen) }
-        ensures reply { IfOk result (IsRightAt M.past M.settings M.right self.now seat.new.seen (last_place seat.new.seen) seat.old.number call) }
+        ensures reply { IfOk result (IsRightAt M.past M.settings M.right self.now seat.new.seen
+            (last_place seat.new.seen) seat.old.number call) }
 
         // The quota was used up.
         ensures spent { OnErr result (seat.old.used ≡ seat.old.quota) }
@@ -119,7 +124,8 @@ impl<M: Machine + Drop> Gate<M> {
         ensures callers { AreOfSeats self (made_since M.past self result) }
         ensures seen { All (λ s. IsPrefix s.seen (made_since M.past self result)) seats.items }
         ensures own { All (λ s. s.own ≡ places_of s.number (made_since M.past self result)) seats.items }
-        ensures looks { All (λ s. All (λ look. look.1 ≤ length (made_since M.past self result)) s.looks) seats.items }
+        ensures looks { All (λ s. All (λ look. look.1
+            ≤ length (made_since M.past self result)) s.looks) seats.items }
     {
         let Gate { table } = self;
         let pass = gather(&table.shared, seats);

@@ -1,6 +1,6 @@
-ghost use Rattle.std.specs.Prelude.{◌≡◌, ℕ, ◌+◌, ◌*◌, ◌-◌, ◌<◌, ◌≤◌, List, ◌∷◌, [], ◌++◌, length, vec_capacity, sum, sum_by, All, IsTrue, IfOk, IfSome};
+ghost use Rattle.std.specs.Prelude.{◌≡◌, ℕ, ◌+◌, ◌*◌, ◌-◌, ◌<◌, ◌≤◌, List, [], ◌++◌, length, vec_capacity, sum, sum_by, All, IsTrue, IfOk, IfSome};
 ghost use Rattle.wf_gate.specs.Pairs.{IsPair};
-ghost use Rattle.wf_gate.specs.Seats.{IsOf, AreAll, HasCalls};
+ghost use Rattle.wf_gate.specs.Seats.{IsOf, AreAll, StandsWithCalls};
 
 use crate::{Gate, Machine, Seat, Spent, TryFault};
 use std::alloc::{AllocError, Global};
@@ -11,7 +11,8 @@ use std::test::Fail;
 use std::thread;
 use std::thread::Threads;
 
-/// A clock: a call is a tick, by which the time grows, and the reply is the time. Its history takes so many entries.
+/// A clock: a call is a tick, by which the time grows, and the reply is the time. Its history takes so many
+/// entries.
 #[derive(Drop)]
 pub struct Clock {
     history: Vec<(u32, u32)>,
@@ -26,7 +27,8 @@ impl Model for Clock {
 
     ghost view = { λ c. (c.history.items, c.most) };
 
-    ghost invariant = { λ c. (length c.history.items ≤ c.most) × (c.most ≤ vec_capacity c.history) × (c.now ≡ sum_by (λ e. e.1) c.history.items) × (c.now ≤ 4294967295 * length c.history.items) };
+    ghost invariant = { λ c. (length c.history.items ≤ c.most) × (c.most ≤ vec_capacity c.history) ×
+        (c.now ≡ sum_by (λ e. e.1) c.history.items) × (c.now ≤ 4294967295 * length c.history.items) };
 }
 
 impl Clock {
@@ -128,7 +130,8 @@ fn call_up_to_quota<R: Wait>(
         && zero.number() == 0
 }
 
-/// The length of the history of a clock that had one entry before the gate was made, and whether the calls answered as the row says.
+/// The length of the history of a clock that had one entry before the gate was made, and whether the calls
+/// answered as the row says.
 fn run_quotas<R: Wait>(rt: &R, alloc: Global) -> Result<Option<(bool, usize)>, AllocError> {
     let mut clock = Clock::new(alloc, 4)?;
     clock.step(7, 0);
@@ -207,7 +210,8 @@ fn call_slowly<R: Wait>(
     (gate.call(rt, &mut seat, 8).ok(), seat)
 }
 
-/// What a try finds while another seat is in its step: the call that came back, the ticket and the number served. Then the other may go on.
+/// What a try finds while another seat is in its step: the call that came back, the ticket and the number
+/// served. Then the other may go on.
 fn try_meanwhile(
     gate: &Gate<SlowClock>,
     mut seat: Seat<SlowClock>,
@@ -265,7 +269,9 @@ const TICKS: [u32; 8] = [1, 2, 3, 4, 5, 6, 7, 8];
 fn send_all<R: Wait>(rt: &R, gate: &Gate<Clock>, seat: &mut Seat<Clock>, ticks: &[u32]) -> bool
     requires { IsOf gate.now seat.old }
     ensures of { IsOf gate.now seat.new × (seat.new.number ≡ seat.old.number) }
-    ensures sent { IsTrue result → (made : List ℕ) → HasCalls seat.old.number seat.old.seen seat.old.own made → HasCalls seat.old.number seat.new.seen seat.new.own (made ++ ticks.now) }
+    ensures sent { IsTrue result → (made : List ℕ) →
+        StandsWithCalls seat.old.number seat.old.seen seat.old.own made →
+        StandsWithCalls seat.old.number seat.new.seen seat.new.own (made ++ ticks.now) }
 {
     for tick in ticks {
         let Ok(_time) = gate.call(rt, seat, *tick) else {
@@ -298,7 +304,8 @@ fn send_in_threads<R: Threads + Wait + Sync>(
     Ok(back)
 }
 
-/// The time of the clock and the callers of its entries, in order of the callers, after two threads made their calls.
+/// The time of the clock and the callers of its entries, in order of the callers, after two threads made
+/// their calls.
 fn run_threads<R: Threads + Wait + Sync>(
     rt: &R,
     alloc: Global,

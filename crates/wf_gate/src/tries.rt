@@ -14,8 +14,9 @@ use wf_machine::Machine;
 pub enum TryFault {
     /// The seat's quota is used up.
     Spent,
-    /// Other calls were under way: the next ticket, which the one exchange on the ticket word found, was past the number served, which was loaded before.
-    /// Both count the entries and tickets since the gate was made.
+    /// Other calls were under way: the next ticket, which the one exchange on the ticket word found, was past
+    /// the number served, which was loaded before. Both count the entries and tickets since the gate was
+    /// made.
     Busy { ticket: u64, serving: u64 },
 }
 
@@ -38,16 +39,22 @@ impl<M: Machine + Drop> Gate<M> {
         ensures own { OnOk result (seat.new.own ≡ seat.old.own ++ last_place seat.new.seen ∷ []) }
         ensures looks { OnOk result (seat.new.looks ≡ seat.old.looks) }
         ensures callers { OnOk result (AreOfSeats self.now seat.new.seen) }
-        ensures reply { IfOk result (IsRightAt M.past M.settings M.right self.now seat.new.seen (last_place seat.new.seen) seat.old.number call) }
+        ensures reply { IfOk result (IsRightAt M.past M.settings M.right self.now seat.new.seen
+            (last_place seat.new.seen) seat.old.number call) }
 
         // The quota was used up.
         ensures spent { IfErr result (λ e. IfSpent e.0 (seat.old.used ≡ seat.old.quota)) }
         ensures unchanged { IfErr result (λ e. IfSpent e.0 (seat.new ≡ seat.old)) }
 
         // Other calls were under way. Serving was read in this call, and so was the ticket found.
-        ensures busy { IfErr result (λ e. IfBusy e.0 (λ ticket serving. (length seat.old.seen ≤ serving) × (serving < ticket))) }
+        ensures busy { IfErr result (λ e. IfBusy e.0
+            (λ ticket serving. (length seat.old.seen ≤ serving) × (serving < ticket))) }
         ensures busy_left { IfErr result (λ e. IfBusy e.0 (λ _ _. seat.old.used < seat.old.quota)) }
-        ensures looked { IfErr result (λ e. IfBusy e.0 (λ ticket serving. seat.new ≡ record seat.old { looks = seat.old.looks ++ (serving, ticket) ∷ [] })) }
+        ensures looked { IfErr result (λ e. IfBusy e.0
+            (λ ticket serving. seat.new ≡ record seat.old {
+              looks = seat.old.looks ++ (serving, ticket)
+                  ∷ [];
+            })) }
 
         ensures back { IfErr result (λ e. e.1 ≡ call) }
     {

@@ -1,8 +1,8 @@
 //! The steps of one turn.
-ghost use Rattle.std.specs.Prelude.{◌≡◌, ◌≢◌, ◌+◌, ◌<◌, ◌≤◌, ◌∷◌, [], ◌++◌, length};
+ghost use Rattle.std.specs.Prelude.{◌≡◌, ◌≢◌, ◌+◌, ◌<◌, ◌≤◌, [], ◌++◌, length};
 ghost use Rattle.wf_gate.specs.declared.view.Stage.TheVariants.{Idle, Waits};
 ghost use Rattle.wf_gate.specs.Turns.{opening_of, waiting, after_turn, in_vain};
-ghost use Rattle.wf_gate.specs.Passes.{IsSized, IsPassOf, MayDraw, HasTurn, AtTurn};
+ghost use Rattle.wf_gate.specs.Passes.{IsTableSized, IsPassOf, MayDraw, HasTurn, AtTurn};
 
 use crate::plays::{Draw, Look, Peek, Serve, Try};
 use crate::view::{MACHINE, Pass, SERVING, Shared, TICKET};
@@ -12,11 +12,12 @@ use wf_machine::Machine;
 
 /// Draws the next ticket.
 pub(crate) fn draw<M: Machine + Drop>(shared: &Shared<M>, pass: &mut Pass<M>) -> u64
-    requires table { IsSized shared.now.table_id }
+    requires table { IsTableSized shared.now.table_id }
     requires own { IsPassOf shared.now.table_id (opening_of shared.now.key) pass.old }
     requires idle { (pass.old.me.0.stage ≡ Idle) × (pass.old.me.1 ≡ []) }
     requires left { MayDraw (opening_of shared.now.key) pass.old.me.0.face }
-    ensures { (pass.new.table_id ≡ pass.old.table_id) × (pass.new.id ≡ pass.old.id) × (pass.new.me ≡ (waiting pass.old.me.0 result, [])) }
+    ensures { (pass.new.table_id ≡ pass.old.table_id) × (pass.new.id ≡ pass.old.id) ×
+        (pass.new.me ≡ (waiting pass.old.me.0 result, [])) }
 {
     shared.fetch_add::<Draw>(pass, TICKET, 1)
 }
@@ -28,10 +29,11 @@ pub(crate) fn wait<M: Machine + Drop, R: Wait>(
     pass: &mut Pass<M>,
     ticket: u64,
 )
-    requires table { IsSized shared.now.table_id }
+    requires table { IsTableSized shared.now.table_id }
     requires own { IsPassOf shared.now.table_id (opening_of shared.now.key) pass.old }
     requires waits { (pass.old.me.0.stage ≡ Waits ticket) × (pass.old.me.1 ≡ []) }
-    ensures { (pass.new.table_id ≡ pass.old.table_id) × (pass.new.id ≡ pass.old.id) × HasTurn M.past M.settings M.room (opening_of shared.now.key) ticket pass.old.me.0 pass.new.me }
+    ensures { (pass.new.table_id ≡ pass.old.table_id) × (pass.new.id ≡ pass.old.id) ×
+        HasTurn M.past M.settings M.room (opening_of shared.now.key) ticket pass.old.me.0 pass.new.me }
 {
     for _ in rt.forever() {
         let serving = shared.load::<Look<M>>(pass, SERVING);
@@ -44,15 +46,19 @@ pub(crate) fn wait<M: Machine + Drop, R: Wait>(
     unreachable!()
 }
 
-/// Reads the number served and tries to draw that very ticket. Gives the number and the ticket found: where they are one, the seat has its turn.
+/// Reads the number served and tries to draw that very ticket. Gives the number and the ticket found: where
+/// they are one, the seat has its turn.
 pub(crate) fn attempt<M: Machine + Drop>(shared: &Shared<M>, pass: &mut Pass<M>) -> (u64, u64)
-    requires table { IsSized shared.now.table_id }
+    requires table { IsTableSized shared.now.table_id }
     requires own { IsPassOf shared.now.table_id (opening_of shared.now.key) pass.old }
     requires idle { (pass.old.me.0.stage ≡ Idle) × (pass.old.me.1 ≡ []) }
     requires left { MayDraw (opening_of shared.now.key) pass.old.me.0.face }
-    ensures same { (pass.new.table_id ≡ pass.old.table_id) × (pass.new.id ≡ pass.old.id) × (length pass.old.me.0.face.seen ≤ result.0) }
-    ensures turn { result.1 ≡ result.0 → HasTurn M.past M.settings M.room (opening_of shared.now.key) result.0 pass.old.me.0 pass.new.me }
-    ensures vain { result.1 ≢ result.0 → (pass.new.me ≡ (in_vain pass.old.me.0 result.0 result.1, [])) × (result.0 < result.1) }
+    ensures same { (pass.new.table_id ≡ pass.old.table_id) × (pass.new.id ≡ pass.old.id) ×
+        (length pass.old.me.0.face.seen ≤ result.0) }
+    ensures turn { result.1 ≡ result.0 → HasTurn M.past M.settings M.room
+        (opening_of shared.now.key) result.0 pass.old.me.0 pass.new.me }
+    ensures vain { result.1 ≢ result.0 → (pass.new.me ≡ (in_vain pass.old.me.0 result.0 result.1, [])) ×
+        (result.0 < result.1) }
 {
     let serving = shared.load::<Peek>(pass, SERVING);
     let ticket = shared.compare_exchange::<Try<M>>(pass, TICKET, serving, serving + 1);
@@ -66,12 +72,14 @@ pub(crate) fn serve<M: Machine + Drop>(
     number: u32,
     call: M::Call,
 ) -> M::Reply
-    requires table { IsSized shared.now.table_id }
+    requires table { IsTableSized shared.now.table_id }
     requires own { IsPassOf shared.now.table_id (opening_of shared.now.key) pass.old }
     requires turn { AtTurn M.past M.settings M.room (opening_of shared.now.key) pass.old.me }
     requires number { number ≡ pass.old.me.0.face.number }
-    ensures seat { (pass.new.table_id ≡ pass.old.table_id) × (pass.new.id ≡ pass.old.id) × (pass.new.me ≡ (after_turn pass.old.me.0 (number, M.note call), [])) }
-    ensures reply { let o = opening_of shared.now.key in M.right (M.settings o.machine) (M.past o.machine ++ pass.old.me.0.face.seen) number call result }
+    ensures seat { (pass.new.table_id ≡ pass.old.table_id) × (pass.new.id ≡ pass.old.id) ×
+        (pass.new.me ≡ (after_turn pass.old.me.0 (number, M.note call), [])) }
+    ensures reply { let o = opening_of shared.now.key in
+        M.right (M.settings o.machine) (M.past o.machine ++ pass.old.me.0.face.seen) number call result }
 {
     let Some(machine) = pass.slot_mut(shared, MACHINE) else {
         unreachable!()

@@ -1,4 +1,5 @@
-//! What a seat knows of the gate, and the table's rule. No value of `View`, `Face`, `Stage` or `Opening` is made: these are types of the proofs alone.
+//! What a seat knows of the gate, and the table's rule. No value of `View`, `Face`, `Stage` or `Opening` is
+//! made: these are types of the proofs alone.
 use atomic_table::TableRule;
 use std::collections::LinkedList;
 use std::marker::PhantomData;

@@ -1,2 +1,2 @@
 pub mod TraceLaws
-pub mod Fronts
+mod Fronts

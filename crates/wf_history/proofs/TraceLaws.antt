@@ -21,14 +21,14 @@ use Rattle.wf_trace.specs.Words.{words, skipped}
 use Rattle.wf_trace.specs.Scanning.{begins_word}
 use Rattle.wf_trace.specs.Meanings.{meant}
 use Rattle.wf_trace.specs.Grammar.{guard_word, heard_word}
-use Rattle.wf_trace.specs.Printing.{weight_words, ask_words, note_words, caller_words, note_text, IsAskInRange, IsInRange}
+use Rattle.wf_trace.specs.Printing.{weight_words, ask_words, note_words, caller_words, note_text, IsAskInRange, NumbersAreInRange}
 use Rattle.wf_trace.specs.Reading.{Reading, reading, with_item}
 use Rattle.wf_trace.specs.Reader.{said, read_lines}
 use Rattle.wf_trace.proofs.PlaceLaws.{reading_placed}
 use Rattle.wf_trace.proofs.PrintLaws.{text_read, text_printable}
 use Rattle.wf_trace.proofs.WordLaws.{says_something}
-use Rattle.wf_world.specs.Run.{Entry}
-use Rattle.wf_history.specs.Traces.{end_line, entry_lines, trace_of, entry_items, trace_items, AreInRange}
+use Rattle.wf_def_world.specs.Run.{Entry}
+use Rattle.wf_history.specs.Traces.{end_line, entry_lines, trace_of, entry_items, trace_items, CanBeNamed}
 
 -- ---- a line in front
 
@@ -50,7 +50,8 @@ no_end octet is =
 abbrev line_to : List ℕ → ℕ → Line
 line_to text end = record { octets = text; end = end }
 
-first_line : (closed : Bool) (at end : ℕ) (text behind : List ℕ) → list_all is_printable text ≡ true → end ≡ at + (length text + 1) →
+first_line : (closed : Bool) (at end : ℕ) (text behind : List ℕ) → list_all is_printable text ≡ true →
+    end ≡ at + (length text + 1) →
     lines closed at (text ++ 10 ∷ behind) ≡ line_to text end ∷ lines closed end behind
 first_line closed at end [] behind plain is =
     let same : end ≡ at + 1 = omega arith in rw same refl
@@ -58,9 +59,11 @@ first_line closed at end (octet ∷ text) behind plain is =
     let both = split_and (is_printable octet) (list_all is_printable text) plain in
     let less : end ≡ (at + 1) + (length text + 1) = omega arith in
     let other = no_end octet both.0 in
-    rw other (ap (onto closed octet (at + 1)) (first_line closed (at + 1) end text behind both.1 less) ∙ put_on closed octet (at + 1) (line_to text end) (lines closed end behind))
+    rw other (ap (onto closed octet (at + 1)) (first_line closed (at + 1) end text behind both.1 less)
+    ∙ put_on closed octet (at + 1) (line_to text end) (lines closed end behind))
 
-flawless : (end : ℕ) (text : List ℕ) → end ≤ longest_trace → length text ≤ longest_line → list_all is_printable text ≡ true → flaw end text ≡ None
+flawless : (end : ℕ) (text : List ℕ) → end ≤ longest_trace → length text ≤ longest_line →
+    list_all is_printable text ≡ true → flaw end text ≡ None
 flawless end text inside short plain =
     let one : nat_lt longest_trace end ≡ false = grind (arith, nat_tests) in
     let two : nat_lt longest_line (length text) ≡ false = grind (arith, nat_tests) in
@@ -72,9 +75,11 @@ read_from closed at line place octets =
     let t : Texts = texts_of closed (lines closed at octets) in
     let p : Pieces = pieces_from line t.texts t.ending in read_lines p.lines p.ending place
 
-read_line : (closed : Bool) (at end line : ℕ) (place : Option Place) (text behind : List ℕ) → list_all is_printable text ≡ true → length text ≤ longest_line →
+read_line : (closed : Bool) (at end line : ℕ) (place : Option Place) (text behind : List ℕ) →
+    list_all is_printable text ≡ true → length text ≤ longest_line →
     end ≡ at + (length text + 1) → end ≤ longest_trace → skipped (words text) ≡ false →
-    read_from closed at line place (text ++ 10 ∷ behind) ≡ said (meant place (words text)) place line (λ next. read_from closed end (line + 1) next behind)
+    read_from closed at line place (text ++ 10 ∷ behind)
+    ≡ said (meant place (words text)) place line (λ next. read_from closed end (line + 1) next behind)
 read_line closed at end line place text behind plain short is inside kept =
     rw (first_line closed at end text behind plain is, flawless end text inside short plain, kept) refl
 
@@ -132,10 +137,21 @@ of_octet : (n : ℕ) → n < 2 ^ 8 → length (decimal n) ≤ 10
 of_octet n small = short_number n (omega arith)
 
 short_ask : (ask : Ask) → IsAskInRange ask → AreShort (ask_words ask)
-short_ask (Join station window start exponent weight) r =
-    (omega arith, (of_short station r.0, (of_short window r.1, (of_short start r.2, (of_octet exponent r.3, short_weight weight r.4)))))
+short_ask (Join station window start exponent weight) r = (
+  omega arith,
+  (
+    of_short station r.0,
+    (
+      of_short window r.1,
+      (of_short start r.2, (of_octet exponent r.3, short_weight weight r.4)),
+    ),
+  ),
+)
 short_ask (Leave station) r = (omega arith, (of_short station r, tt))
-short_ask (Rate station mcs mhz short) r = (omega arith, (of_short station r.0, (of_octet mcs r.1, (of_octet mhz r.2, (short_guard short, tt)))))
+short_ask (Rate station mcs mhz short) r = (
+  omega arith,
+  (of_short station r.0, (of_octet mcs r.1, (of_octet mhz r.2, (short_guard short, tt)))),
+)
 short_ask (Tick by) r = (omega arith, (short_number by r, tt))
 short_ask (Pull class) r = (omega arith, (short_class class, tt))
 short_ask (Arrive exchange index) r = (omega arith, (short_number exchange r.0, (of_short index r.1, tt)))
@@ -144,12 +160,23 @@ short_ask (Done exchange heard) r = (omega arith, (short_number exchange r, (sho
 short_ask (Sleep station) r = (omega arith, (of_short station r, tt))
 short_ask (Wake station) r = (omega arith, (of_short station r, tt))
 short_ask (Poll station) r = (omega arith, (of_short station r, tt))
-short_ask (Rx station class air) r = (omega arith, (of_short station r.0, (short_class class, (short_number air r.1, tt))))
+short_ask (Rx station class air) r = (
+  omega arith,
+  (of_short station r.0, (short_class class, (short_number air r.1, tt))),
+)
 short_ask Reap r = (omega arith, tt)
 
-short_note : (note : Note) → IsInRange note → AreShort (note_words note)
-short_note (Enqueue station tid flow len) r =
-    (omega arith, (of_short station r.0, (of_octet tid r.1, (short_number flow r.2, (short_number len (let most = r.4 in omega arith), tt)))))
+short_note : (note : Note) → NumbersAreInRange note → AreShort (note_words note)
+short_note (Enqueue station tid flow len) r = (
+  omega arith,
+  (
+    of_short station r.0,
+    (
+      of_octet tid r.1,
+      (short_number flow r.2, (short_number len (let most = r.4 in omega arith), tt)),
+    ),
+  ),
+)
 short_note (Asked ask) r = short_ask ask r
 
 few_ask : (ask : Ask) → length (ask_words ask) ≤ 6
@@ -175,10 +202,12 @@ short_caller : (caller : ℕ) (others : List (List ℕ)) → caller < 2 ^ 16 →
     AreShort (caller_words caller ++ others) × (length (caller_words caller ++ others) ≤ 7)
 short_caller zero others small are few = (are, omega arith)
 short_caller (suc n) others small are few =
-    let digits : length (decimal (suc n)) ≤ 5 = length-decimal-le 5 (suc n) (omega arith) (omega arith) (omega arith) in
+    let digits : length (decimal (suc n)) ≤ 5 = length-decimal-le 5 (suc n) (omega arith) (omega arith)
+    (omega arith) in
     rw (not_zero n) ((omega arith, are), omega arith)
 
-pub short_text : (caller : ℕ) (note : Note) → caller < 2 ^ 16 → IsInRange note → length (note_text caller note) ≤ 77
+pub short_text : (caller : ℕ) (note : Note) → caller < 2 ^ 16 → NumbersAreInRange note →
+    length (note_text caller note) ≤ 77
 short_text caller note small r =
     let both = short_caller caller (note_words note) small (short_note note r) (few_note note) in
     let few = both.1 in
@@ -204,7 +233,8 @@ begins_note : (note : Note) → begins_word (join_with_byte 32 (note_words note)
 begins_note (Enqueue station tid flow len) = refl
 begins_note (Asked ask) = begins_ask ask
 
-begins_at : (digits : List ℕ) (others : List (List ℕ)) → begins_word (join_with_byte 32 ((64 ∷ digits) ∷ others)) ≡ true
+begins_at : (digits : List ℕ) (others : List (List ℕ)) →
+    begins_word (join_with_byte 32 ((64 ∷ digits) ∷ others)) ≡ true
 begins_at digits [] = refl
 begins_at digits (word ∷ others) = refl
 
@@ -222,34 +252,45 @@ most_octets : ℕ
 most_octets = 78
 
 read_end : (closed : Bool) (at line count : ℕ) (behind : List ℕ) → at + 4 ≤ longest_trace →
-    read_from closed at line (the_place count) (end_line ++ behind) ≡ record { items = []; ending = Some item.Finish }
+    read_from closed at line (the_place count) (end_line ++ behind)
+    ≡ record { items = []; ending = Some item.Finish }
 read_end closed at line count behind inside = read_line closed at (at + 4) line (the_place count) (codes "end") behind refl (omega arith) (omega arith) inside refl
 
-parted : (text others behind : List ℕ) → ((text ++ 10 ∷ []) ++ others) ++ behind ≡ text ++ 10 ∷ (others ++ behind)
-parted text others behind = append_assoc (text ++ 10 ∷ []) others behind ∙ append_assoc text (10 ∷ []) (others ++ behind)
+parted : (text others behind : List ℕ) → ((text ++ 10 ∷ []) ++ others) ++ behind ≡ text ++ 10
+    ∷ (others ++ behind)
+parted text others behind = append_assoc (text ++ 10 ∷ []) others behind
+    ∙ append_assoc text (10 ∷ []) (others ++ behind)
 
-read_entry : (closed : Bool) (at line count : ℕ) (e : Entry) (behind : List ℕ) → (e.0 ≤ 65535) × IsInRange e.1 → at + 78 ≤ longest_trace → count < 1048576 →
+read_entry : (closed : Bool) (at line count : ℕ) (e : Entry) (behind : List ℕ) → (e.0 ≤ 65535) ×
+    NumbersAreInRange e.1 → at + 78 ≤ longest_trace → count < 1048576 →
     read_from closed at line (the_place count) (note_text e.0 e.1 ++ 10 ∷ behind)
-    ≡ with_item (item.Entry e.0 e.1) (read_from closed (at + (length (note_text e.0 e.1) + 1)) (line + 1) (the_place (count + 1)) behind)
+    ≡ with_item (item.Entry e.0 e.1) (read_from closed (at + (length (note_text e.0 e.1) + 1)) (line + 1)
+    (the_place (count + 1)) behind)
 read_entry closed at line count e behind r inside room =
     let small : e.0 < 2 ^ 16 = let most = r.0 in omega arith in
     let short = short_text e.0 e.1 small r.1 in
     let text = note_text e.0 e.1 in
     let end = at + (length text + 1) in
     let place : Place = record { limit = 1048576; count = count } in
-    read_line closed at end line (the_place count) text behind (text_printable e.0 e.1 small r.1) (omega arith) refl (omega arith) (says_something text (begins_text e.0 e.1))
+    read_line closed at end line (the_place count) text behind (text_printable e.0 e.1 small r.1)
+    (omega arith) refl (omega arith) (says_something text (begins_text e.0 e.1))
     ∙ rw (text_read e.0 e.1 place small r.1 room) refl
 
-read_entries : (closed : Bool) (at line count : ℕ) (history : List Entry) (behind : List ℕ) → AreInRange history → at + 78 * length history + 4 ≤ longest_trace → count + length history ≤ 1048576 →
-    read_from closed at line (the_place count) (entry_lines history ++ (end_line ++ behind)) ≡ record { items = entry_items history; ending = Some item.Finish }
-read_entries closed at line count [] behind are inside room = read_end closed at line count behind (omega arith)
+read_entries : (closed : Bool) (at line count : ℕ) (history : List Entry) (behind : List ℕ) →
+    CanBeNamed history → at + 78 * length history + 4 ≤ longest_trace → count + length history ≤ 1048576 →
+    read_from closed at line (the_place count) (entry_lines history ++ (end_line ++ behind))
+    ≡ record { items = entry_items history; ending = Some item.Finish }
+read_entries closed at line count [] behind are inside room =
+    read_end closed at line count behind (omega arith)
 read_entries closed at line count (e ∷ es) behind are inside room =
     let text = note_text e.0 e.1 in
     let small : e.0 < 2 ^ 16 = let most = are.0.0 in omega arith in
     let short = short_text e.0 e.1 small are.0.1 in
     ap (read_from closed at line (the_place count)) (parted text (entry_lines es) (end_line ++ behind))
-    ∙ read_entry closed at line count e (entry_lines es ++ (end_line ++ behind)) are.0 (omega arith) (omega arith)
-    ∙ ap (with_item (item.Entry e.0 e.1)) (read_entries closed (at + (length text + 1)) (line + 1) (count + 1) es behind are.1 (omega arith) (omega arith))
+    ∙ read_entry closed at line count e (entry_lines es ++ (end_line ++ behind)) are.0 (omega arith)
+    (omega arith)
+    ∙ ap (with_item (item.Entry e.0 e.1)) (read_entries closed (at + (length text + 1)) (line + 1)
+    (count + 1) es behind are.1 (omega arith) (omega arith))
 
 abbrev head_then : List Entry → List ℕ → List ℕ
 head_then history behind = codes "cell" ++ 10 ∷ (entry_lines history ++ (end_line ++ behind))
@@ -257,10 +298,12 @@ head_then history behind = codes "cell" ++ 10 ∷ (entry_lines history ++ (end_l
 whole : (history : List Entry) (behind : List ℕ) → trace_of history ++ behind ≡ head_then history behind
 whole history behind = ap (λ (l : List ℕ). codes "cell" ++ 10 ∷ l) (append_assoc (entry_lines history) end_line behind)
 
-pub trace_read : (history : List Entry) (closed : Bool) (behind : List ℕ) → AreInRange history → length history ≤ standard.calls →
+pub trace_read : (history : List Entry) (closed : Bool) (behind : List ℕ) → CanBeNamed history →
+    length history ≤ standard.calls →
     reading closed (trace_of history ++ behind) ≡ trace_items history
 trace_read history closed behind are room =
     ap (reading closed) (whole history behind)
     ∙ sym (reading_placed closed (head_then history behind))
     ∙ read_line closed 0 5 1 None (codes "cell") (entry_lines history ++ (end_line ++ behind)) refl (omega arith) refl (omega arith) refl
-    ∙ ap (with_item (item.Head standard)) (read_entries closed 5 2 0 history behind are (omega arith) (omega arith))
+    ∙ ap (with_item (item.Head standard)) (read_entries closed 5 2 0 history behind are (omega arith)
+    (omega arith))

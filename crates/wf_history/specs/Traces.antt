@@ -5,9 +5,9 @@ use Rattle.wf_frame.specs.Settings.{standard}
 use Rattle.wf_trace.specs.declared.reader.Item.{Item}
 use Rattle.wf_trace.specs.declared.reader.Item.TheVariants.{Head, Entry as EntryItem, Finish}
 use Rattle.wf_trace.specs.Meanings.{greatest_caller}
-use Rattle.wf_trace.specs.Printing.{note_line, IsInRange, IsPrintable}
+use Rattle.wf_trace.specs.Printing.{note_line, NumbersAreInRange, IsPrintable}
 use Rattle.wf_trace.specs.Reading.{Reading}
-use Rattle.wf_world.specs.Run.{Entry}
+use Rattle.wf_def_world.specs.Run.{Entry}
 
 -- the line of the standard settings, and the last line
 abbrev pub head_line : List ℕ
@@ -35,9 +35,9 @@ abbrev pub trace_items : List Entry → Reading
 trace_items history = record { items = Head standard ∷ entry_items history; ending = Some Finish }
 
 -- a line can name each entry: its caller and the numbers of its call are in their ranges
-abbrev pub AreInRange : List Entry → Type 0
-AreInRange [] = Unit {0}
-AreInRange (e ∷ es) = ((e.0 ≤ greatest_caller) × IsInRange e.1) × AreInRange es
+abbrev pub CanBeNamed : List Entry → Type 0
+CanBeNamed [] = Unit {0}
+CanBeNamed (e ∷ es) = ((e.0 ≤ greatest_caller) × NumbersAreInRange e.1) × CanBeNamed es
 
 -- a line has room for the numbers of each entry
 abbrev pub ArePrintable : List Entry → Type 0

@@ -1,7 +1,7 @@
 //! Whose history is written.
 
 ghost use Rattle.std.specs.Prelude.{◌≡◌, ◌<◌, List, Some, length, slice_get};
-ghost use Rattle.wf_world.specs.Run.{Entry};
+ghost use Rattle.wf_def_world.specs.Run.{Entry};
 
 use wf_frame::Note;
 

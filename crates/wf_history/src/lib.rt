@@ -1,4 +1,5 @@
-//! The trace of a history: its text, which is read as this history again.
+//! The trace of a history with the standard settings: `write_trace` writes its text, some lines at once;
+//! `trace_law` says that it is read as this history again.
 #![tactic(auto)]
 
 mod history;

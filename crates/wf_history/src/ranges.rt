@@ -1,6 +1,6 @@
 //! The numbers of a call are in the ranges of its arguments.
 
-ghost use Rattle.wf_trace.specs.Printing.{IsAskPrintable, IsPrintable, IsAskInRange, IsInRange};
+ghost use Rattle.wf_trace.specs.Printing.{IsAskPrintable, IsPrintable, IsAskInRange, NumbersAreInRange};
 
 use wf_frame::{Ask, Note};
 
@@ -26,10 +26,11 @@ fn show_ask_range(ask: Ask)
     }
 }
 
-// A call, whose exchange number is below 2^32 and whose length is 1 to 2304: its type bounds its other numbers.
+// A call, whose exchange number is below 2^32 and whose length is 1 to 2304: its type bounds its other
+// numbers.
 pub(crate) fn show_range(note: &Note)
     requires { IsPrintable note.now }
-    ensures { IsInRange note.now }
+    ensures { NumbersAreInRange note.now }
 {
     match note {
         Note::Enqueue {

@@ -1,2 +1,4 @@
-pub mod Pieces
+pub mod FrontLaws
+mod Numerals
+mod Pieces
 pub mod Spaces

@@ -1,7 +1,8 @@
 -- When a read or a write may answer that it failed.
 use Rattle.std.specs.Prelude.{◌≡◌, ℕ, ◌+◌, ◌-◌, ◌^◌, ◌≤◌, min, Result, OnOk, OnErr}
 
--- a count of faults rose in a call: it is greater after it than before, or stands at the greatest number that it can hold
+-- a count of faults rose in a call: it is greater after it than before, or stands at the greatest number that
+-- it can hold
 abbrev pub HasRisen : ℕ → ℕ → Type 0
 HasRisen before after = min (before + 1) (2 ^ 64 - 1) ≤ after
 

@@ -1,7 +1,8 @@
 -- What contracts see of a source and a sink in memory.
 use Rattle.std.specs.Prelude.{ℕ, List}
 
--- the octets still to come, the most that one read gives, the calls that fail, and how many calls and faults there were
+-- the octets still to come, the most that one read gives, the calls that fail, and how many calls and faults
+-- there were
 pub record GivenValue : Type 0 where
   pub left : List ℕ
   pub piece : ℕ

@@ -1,3 +1,6 @@
+pub mod Digits
 pub mod Faults
+pub mod Fronts
 pub mod InMemory
+pub mod Statuses
 pub mod Words

@@ -5,10 +5,10 @@ use Rattle.std.specs.List.{join_with_byte}
 use Rattle.wf_io.specs.declared.line.Word.{Word}
 use Rattle.wf_io.specs.declared.line.Word.TheVariants.{Text, Number, Signed}
 
-abbrev pub text_of : Word → List ℕ
-text_of (Text text) = text.now
-text_of (Number number) = decimal number
-text_of (Signed number) = signed_decimal number
+abbrev pub words_text : Word → List ℕ
+words_text (Text text) = text.now
+words_text (Number number) = decimal number
+words_text (Signed number) = signed_decimal number
 
 -- the most octets that it takes
 abbrev pub width_of : Word → ℕ

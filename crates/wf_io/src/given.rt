@@ -24,7 +24,13 @@ impl Model for Given {
 
     ghost Value = { GivenValue };
 
-    ghost view = { λ g. record { left = drop g.next g.octets.items; piece = g.piece; failing = g.failing.items; calls = g.calls; faults = g.faults } };
+    ghost view = { λ g. record {
+      left = drop g.next g.octets.items;
+      piece = g.piece;
+      failing = g.failing.items;
+      calls = g.calls;
+      faults = g.faults;
+    } };
 
     ghost invariant = { λ g. (g.next ≤ length g.octets.items) × (0 < g.piece) };
 }
@@ -33,7 +39,13 @@ impl Given {
     /// A source that has `octets` left and gives at most `piece` of them per read.
     pub fn new(octets: Vec<u8>, piece: usize, failing: Vec<u64>) -> Self
         requires { 0 < piece }
-        ensures { result ≡ record { left = octets.items; piece = piece; failing = failing.items; calls = 0; faults = 0 } }
+        ensures { result ≡ record {
+          left = octets.items;
+          piece = piece;
+          failing = failing.items;
+          calls = 0;
+          faults = 0;
+        } }
     {
         Given {
             octets,
@@ -55,14 +67,20 @@ impl Source for Given {
     fn read(&mut self, buffer: &mut [u8]) -> Result<usize, Failed>
         requires { 0 < length buffer.old }
         ensures count { IfOk result (λ n. n ≤ length buffer.new) }
-        ensures octets { IfOk result (λ n. Some self.old.left ≡ prepend_known (take n buffer.new) (Some self.new.left)) }
+        ensures octets { IfOk result (λ n. Some self.old.left
+            ≡ prepend_known (take n buffer.new) (Some self.new.left)) }
         ensures end { IfOk result (λ n. n ≡ 0 → IsAtEnd (Some self.old.left)) }
         ensures kept { OnErr result (Some self.new.left ≡ Some self.old.left) }
         ensures cause { CountsFaults self.old.faults self.new.faults result }
 
         ensures fails { IsErr result ↔ Contains self.old.failing self.old.calls }
-        ensures most { IfOk result (λ n. n ≡ min (min (length self.old.left) (length buffer.old)) self.old.piece) }
-        ensures calls { self.new ≡ record self.old { left = self.new.left; calls = min (self.old.calls + 1) (2 ^ 64 - 1); faults = self.new.faults } }
+        ensures most { IfOk result (λ n. n ≡ min
+            (min (length self.old.left) (length buffer.old)) self.old.piece) }
+        ensures calls { self.new ≡ record self.old {
+          left = self.new.left;
+          calls = min (self.old.calls + 1) (2 ^ 64 - 1);
+          faults = self.new.faults;
+        } }
     {
         let call = self.calls;
         self.calls = call.saturating_add(1);

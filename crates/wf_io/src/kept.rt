@@ -8,7 +8,8 @@ use crate::{Failed, Sink};
 use std::alloc::{AllocError, Global};
 use std::marker::Model;
 
-/// A sink in memory: it holds at most `room` octets, and fails at the listed calls, counted from 0, and where it is full.
+/// A sink in memory: it holds at most `room` octets, and fails at the listed calls, counted from 0, and where
+/// it is full.
 #[derive(Drop)]
 pub struct Kept {
     octets: Vec<u8>,
@@ -25,13 +26,21 @@ impl Model for Kept {
 
     ghost Value = { KeptValue };
 
-    ghost view = { λ k. record { held = k.octets.items; room = k.room; piece = k.piece; failing = k.failing.items; calls = k.calls; faults = k.faults } };
+    ghost view = { λ k. record {
+      held = k.octets.items;
+      room = k.room;
+      piece = k.piece;
+      failing = k.failing.items;
+      calls = k.calls;
+      faults = k.faults;
+    } };
 
     ghost invariant = { λ k. (vec_len k.octets ≤ k.room) × (k.room ≤ vec_capacity k.octets) × (0 < k.piece) };
 }
 
 impl Kept {
-    /// An empty sink that takes at most `piece` octets per write. Its room is taken here, and no memory later.
+    /// An empty sink that takes at most `piece` octets per write. Its room is taken here, and no memory
+    /// later.
     pub fn new(
         alloc: Global,
         room: usize,
@@ -39,7 +48,14 @@ impl Kept {
         failing: Vec<u64>,
     ) -> Result<Self, AllocError>
         requires { 0 < piece }
-        ensures { IfOk result (λ k. k ≡ record { held = []; room = room; piece = piece; failing = failing.items; calls = 0; faults = 0 }) }
+        ensures { IfOk result (λ k. k ≡ record {
+          held = [];
+          room = room;
+          piece = piece;
+          failing = failing.items;
+          calls = 0;
+          faults = 0;
+        }) }
     {
         let octets = Vec::with_capacity(alloc, room)?;
         Ok(Kept {
@@ -69,13 +85,20 @@ impl Sink for Kept {
     fn write(&mut self, octets: &[u8]) -> Result<usize, Failed>
         requires { 0 < length octets.now }
         ensures count { IfOk result (λ n. (0 < n) × (n ≤ length octets.now)) }
-        ensures octets { IfOk result (λ n. Some self.new.held ≡ append_known (Some self.old.held) (take n octets.now)) }
+        ensures octets { IfOk result (λ n. Some self.new.held
+            ≡ append_known (Some self.old.held) (take n octets.now)) }
         ensures kept { OnErr result (Some self.new.held ≡ Some self.old.held) }
         ensures cause { CountsFaults self.old.faults self.new.faults result }
 
-        ensures fails { IsErr result ↔ (Contains self.old.failing self.old.calls ⊎ (self.old.room ≤ length self.old.held)) }
-        ensures most { IfOk result (λ n. n ≡ min (min (length octets.now) (self.old.room - length self.old.held)) self.old.piece) }
-        ensures calls { self.new ≡ record self.old { held = self.new.held; calls = min (self.old.calls + 1) (2 ^ 64 - 1); faults = self.new.faults } }
+        ensures fails { IsErr result ↔ (Contains self.old.failing self.old.calls ⊎
+            (self.old.room ≤ length self.old.held)) }
+        ensures most { IfOk result (λ n. n ≡ min
+            (min (length octets.now) (self.old.room - length self.old.held)) self.old.piece) }
+        ensures calls { self.new ≡ record self.old {
+          held = self.new.held;
+          calls = min (self.old.calls + 1) (2 ^ 64 - 1);
+          faults = self.new.faults;
+        } }
     {
         let call = self.calls;
         self.calls = call.saturating_add(1);

@@ -2,6 +2,7 @@
 
 ghost use Rattle.std.specs.Prelude.{◌≡◌, ◌+◌, ◌<◌, ◌≤◌, List, [], ◌∷◌, ◌++◌, ℕ, length, map, sum_by, decimal};
 ghost use Rattle.std.specs.Fmt.{signed_decimal};
+ghost use Rattle.std.specs.List.{join_with_byte};
 
 use arrayvec::ArrayVec;
 use std::marker::Model;
@@ -30,7 +31,7 @@ impl Model for Line {
 }
 
 impl Line {
-    ghost use Rattle.wf_io.specs.Words.{text_of, width_of, spaced};
+    ghost use Rattle.wf_io.specs.Words.{words_text, width_of, spaced};
 
     /// The empty line.
     pub fn new() -> Self
@@ -98,7 +99,7 @@ impl Line {
     /// Appends a word; with it the line must have room for at most 8192 octets.
     pub fn push_word(&mut self, word: Word)
         requires { length self.old + width_of word ≤ 8192 }
-        ensures text { self.new ≡ self.old ++ text_of word }
+        ensures text { self.new ≡ self.old ++ words_text word }
         ensures len { length self.new ≤ length self.old + width_of word }
     {
         match word {
@@ -111,13 +112,26 @@ impl Line {
     /// Appends words, each with a space in front.
     pub fn push_words(&mut self, words: &[Word])
         requires { length self.old + sum_by (λ w. width_of w + 1) words.now ≤ 8192 }
-        ensures text { self.new ≡ self.old ++ spaced (map text_of words.now) }
+        ensures text { self.new ≡ self.old ++ spaced (map words_text words.now) }
         ensures len { length self.new ≤ length self.old + sum_by (λ w. width_of w + 1) words.now }
     {
         for word in words {
             self.push(b' ');
             self.push_word(*word);
         }
+    }
+
+    /// Appends a line: a word, others with a space in front of each, and the octet 10.
+    pub fn push_line(&mut self, word: &'static [u8], words: &[Word])
+        requires { length self.old + length word.now + sum_by (λ w. width_of w + 1) words.now < 8192 }
+        ensures text { self.new ≡ self.old
+            ++ (join_with_byte 32 (word.now ∷ map words_text words.now) ++ 10 ∷ []) }
+        ensures len { length self.new
+            ≤ length self.old + length word.now + sum_by (λ w. width_of w + 1) words.now + 1 }
+    {
+        self.push_all(word);
+        self.push_words(words);
+        self.push(b'\n');
     }
 
     /// The octets so far.

@@ -3,8 +3,9 @@
 ghost use Rattle.std.specs.Prelude.{◌≡◌, ℕ, ◌<◌, ◌≤◌, List, length, take, IfOk, OnOk, OnErr, Option};
 ghost use Rattle.std.specs.Io.KnownBytes.{append_known};
 ghost use Rattle.wf_io.specs.Faults.{CountsFaults};
+ghost use Rattle.wf_io.specs.Fronts.{HoldsFront};
 
-use crate::Failed;
+use crate::{Failed, Line};
 
 /// Octets that go to the outside.
 pub trait Sink {
@@ -35,4 +36,16 @@ pub fn write_all<K: Sink>(sink: &mut K, octets: &[u8]) -> Result<(), Failed>
         done += sink.write(&octets[done..])?;
     }
     Ok(())
+}
+
+/// Writes the octets of a line. After a fault, some from their front have been written.
+pub fn write_line<K: Sink>(sink: &mut K, line: &Line) -> Result<(), Failed>
+    ensures written { OnOk result (K.held sink.new ≡ append_known (K.held sink.old) line.now) }
+    ensures front { HoldsFront (K.held sink.old) (K.held sink.new) line.now }
+    ensures cause { CountsFaults (K.faults sink.old) (K.faults sink.new) result }
+{
+    match write_all(sink, line.octets()) {
+        Ok(()) => Ok(()),
+        Err(failed) => Err(failed),
+    }
 }

@@ -14,24 +14,24 @@ use Rattle.wf_frame.specs.declared.notes.Refusal.TheVariants.{NoExchange}
 use Rattle.wf_frame.specs.declared.notes.ReplyNote.{ReplyNote}
 use Rattle.wf_frame.specs.declared.notes.ReplyNote.TheVariants.{Refused}
 use Rattle.wf_frame.specs.declared.settings.Config.{Config}
-use Rattle.wf_world.specs.World.{World, Exchange, exchange}
-use Rattle.wf_laws.proofs.Deficits.Configs.{config_step, config_run}
-use Rattle.wf_driver_laws.specs.Told.{told}
-use Rattle.wf_exchanges.specs.declared.opened.Open.{Open}
-use Rattle.wf_members.specs.Members.{member, charged_in}
-use Rattle.wf_transmit.specs.declared.finish.Ended.{Ended}
-use Rattle.wf_rules.specs.Receiver.{Score}
-use Rattle.wf_transmit.specs.Bits.{AreShown, is_shown, ended_reply, count_shown_of, IsChargeSmall}
-use Rattle.wf_world.specs.World.{is_wide}
-use Rattle.wf_transmit.specs.Driven.{ended_by, outcome_after_done, IsAfterDone, MeetsUnheard}
-use Rattle.wf_transmit.specs.Half.{HasWorld}
-use Rattle.wf_transmit.specs.Replies.{reply_of}
-use Rattle.wf_transmit.proofs.Driven.{meets_unheard, ready_as_before}
-use Rattle.wf_transmit_refines.specs.Half.{TransmitValue, is_ready_of}
-use Rattle.wf_transmit_refines.specs.Standing.{StandsFor, Meets, open_of}
-use Rattle.wf_transmit_refines.proofs.Readers.{exchange_same}
-use Rattle.wf_transmit.proofs.Dones.{refused_done}
-use Rattle.wf_transmissions.proofs.Opened.{open_within, open_low}
+use Rattle.wf_def_world.specs.World.{World, Exchange, exchange}
+use Rattle.wf_law_runs.proofs.Deficits.Configs.{config_step, config_run}
+use Rattle.wf_law_driver.specs.Told.{told}
+use Rattle.wf_send_exchanges.specs.declared.opened.Open.{Open}
+use Rattle.wf_send_stations.specs.Members.{member, charged_in}
+use Rattle.wf_send_half.specs.declared.finish.Ended.{Ended}
+use Rattle.wf_def_agreement.specs.Receiver.{Score}
+use Rattle.wf_send_half.specs.Bits.{AreShown, is_shown, ended_reply, count_shown_of, IsChargeSmall}
+use Rattle.wf_def_world.specs.World.{is_wide}
+use Rattle.wf_send_half.specs.Driven.{ended_by, outcome_after_done, IsAfterDone, MeetsUnheard}
+use Rattle.wf_send_half.specs.Half.{HasWorld}
+use Rattle.wf_send_half.specs.Replies.{reply_of_result}
+use Rattle.wf_send_half.proofs.Driven.{meets_unheard, ready_as_before}
+use Rattle.wf_send_half_refines.specs.Half.{TransmitValue, is_ready_of}
+use Rattle.wf_send_half_refines.specs.Standing.{StandsFor, Meets, open_of}
+use Rattle.wf_send_half_refines.proofs.Readers.{exchange_same}
+use Rattle.wf_send_half.proofs.Dones.{refused_done}
+use Rattle.wf_path.proofs.Opened.{open_within, open_low}
 use Rattle.wf_path.specs.Driver.{IsEnded}
 use Rattle.wf_path.specs.Flags.{Flags, flags_in, with_flag}
 use Rattle.wf_path.specs.Paths.{IsPath, IsTracked, IsSmall}
@@ -42,33 +42,46 @@ has_world v h = record { world = h.world; bodies = h.bodies; stands = h.stands }
 
 -- ---- what it asks
 
-charges_small : (v : TransmitValue) → IsSmall v → (o : Option Open) → IfSome o (λ x. IfSome (member v.members x.station) (λ m. charged_in m x.class < 2 ^ 62))
+charges_small : (v : TransmitValue) → IsSmall v → (o : Option Open) →
+    IfSome o (λ x. IfSome (member v.members x.station) (λ m. charged_in m x.class < 2 ^ 62))
 charges_small v small None = tt
 charges_small v small (Some x) = small.charged x.station x.class
 
 pub charge_small : (v x : TransmitValue) → x ≡ v → (e : ℕ) → IsSmall v → IsChargeSmall x e
-charge_small v x same e small = subst (λ (z : TransmitValue). IsChargeSmall z e) (sym same) (charges_small v small (find (λ y. y.number == e) v.opened))
+charge_small v x same e small = subst (λ (z : TransmitValue). IsChargeSmall z e) (sym same)
+    (charges_small v small (find (λ y. y.number == e) v.opened))
 
 -- ---- the settings stay
 
-config_ended : (w : World) (caller e : ℕ) (heard : Option (ℕ × List ℕ)) (x : Option Exchange) → (ended_by w caller e heard x).world.config ≡ w.config
+config_ended : (w : World) (caller e : ℕ) (heard : Option (ℕ × List ℕ)) (x : Option Exchange) →
+    (ended_by w caller e heard x).world.config ≡ w.config
 config_ended w caller e None x = config_step w (Asked (Done e false))
 config_ended w caller e (Some score) None = config_step w (Asked (Done e false))
 config_ended w caller e (Some score) (Some x) =
-    config_step _ _ ∙ config_run (told caller e (is_shown (is_wide w x.station x.tid) (Some score)) x.content) w
+    config_step _ _ ∙ config_run (told caller e (is_shown (is_wide w x.station x.tid) (Some score)) x.content)
+    w
 
 -- ---- what it leaves
 
 -- x are the fields of a path, and u what `Transmit::done` leaves of them
-module _ (x : TransmitValue) (r : Flags) (h : IsTracked x r) (u : TransmitValue) (e : ℕ) (heard : Option (ℕ × List ℕ)) (result : Result Ended Refusal) (done : IsAfterDone x u e heard result) where
-  ended : MeetsUnheard h.path.bodies (outcome_after_done h.path.world 0 e heard) u (reply_of ended_reply result)
+module _ (x : TransmitValue) (r : Flags) (h : IsTracked x r) (u : TransmitValue) (e : ℕ)
+    (heard : Option (ℕ × List ℕ)) (result : Result Ended Refusal)
+    (done : IsAfterDone x u e heard result) where
+  ended : MeetsUnheard h.path.bodies (outcome_after_done h.path.world 0 e heard) u
+      (reply_of_result ended_reply result)
   ended = meets_unheard x u h.path.world h.path.bodies h.path.stands h.path.unheard e heard result done 0
 
   pub ended_path : IsPath u
-  ended_path = record { world = (outcome_after_done h.path.world 0 e heard).world; bodies = h.path.bodies; stands = ended.stands; unheard = ended.unheard }
+  ended_path = record {
+    world = (outcome_after_done h.path.world 0 e heard).world;
+    bodies = h.path.bodies;
+    stands = ended.stands;
+    unheard = ended.unheard;
+  }
 
   config : x.config ≡ u.config
-  config = h.path.stands.parts.others.config ∙ sym (config_ended h.path.world 0 e heard (exchange h.path.world e)) ∙ sym ended.stands.parts.others.config
+  config = h.path.stands.parts.others.config ∙ sym
+      (config_ended h.path.world 0 e heard (exchange h.path.world e)) ∙ sym ended.stands.parts.others.config
 
   -- of an exchange that was open
   module _ (o : Open) (is : Some o ≡ find (λ y. y.number == e) x.opened) where
@@ -84,64 +97,98 @@ module _ (x : TransmitValue) (r : Flags) (h : IsTracked x r) (u : TransmitValue)
     pub open_room : (c : Class) → o.station < length (flags_in r c)
     open_room c = omega (arith, low, (h.flags c).stations)
 
-    pub tracked_ended : (c : Class) → c ≡ class_of o.tid → (z : Flags) → z ≡ with_flag r c o.station (is_ready_of u c o.station) → IsTracked u z
-    tracked_ended c class z set = subst (IsTracked u) (sym set) (record { path = ended_path; flags = set_alone u r o.station c nearly_ended open_low_after })
+    pub tracked_ended : (c : Class) → c ≡ class_of o.tid → (z : Flags) →
+        z ≡ with_flag r c o.station (is_ready_of u c o.station) → IsTracked u z
+    tracked_ended c class z set = subst (IsTracked u) (sym set)
+        (record { path = ended_path; flags = set_alone u r o.station c nearly_ended open_low_after })
       where
-        out_of : (i : ℕ) (d : Class) → ((i ≡ o.station) × (d ≡ c) → ⊥) → IfSome (find (λ y. y.number == e) x.opened) (λ y. i ≡ y.station → class_of y.tid ≡ d → ⊥)
-        out_of i d out = subst (λ (k : Option Open). IfSome k (λ y. i ≡ y.station → class_of y.tid ≡ d → ⊥)) is (λ s t. out (s, sym t ∙ sym class))
+        out_of : (i : ℕ) (d : Class) → ((i ≡ o.station) × (d ≡ c) → ⊥) →
+            IfSome (find (λ y. y.number == e) x.opened) (λ y. i ≡ y.station → class_of y.tid ≡ d → ⊥)
+        out_of i d out = subst (λ (k : Option Open). IfSome k (λ y. i ≡ y.station → class_of y.tid ≡ d → ⊥))
+            is (λ s t. out (s, sym t ∙ sym class))
 
         nearly_ended : AreNearly u r (λ i d. (i ≡ o.station) × (d ≡ c))
         nearly_ended = record {
           sized = λ d. (h.flags d).stations ∙ ap (λ (z : Config). z.stations) config;
           tells = λ d i small out.
               (h.flags d).tells i (subst (λ (z : Config). i < z.stations) (sym config) small)
-              ∙ sym (ready_as_before x u h.path.world h.path.bodies h.path.stands h.path.unheard e heard result done i d (out_of i d out));
+              ∙ sym (ready_as_before x u h.path.world h.path.bodies h.path.stands h.path.unheard e heard
+              result done i d (out_of i d out));
         }
 
   -- v is the path's value before
-  module _ (v : TransmitValue) (same : x ≡ v) (b : Brief) (says : (pairs : List (ℕ × ℕ)) (ids : List ℕ) → reply_of ended_reply result ≡ reply_with b pairs ids)
-      (acked : (acked waiting failed : ℕ) → b ≡ brief.Ended acked waiting failed → IfSome (find (λ y. y.number == e) x.opened) (λ y. acked ≡ count_shown_of x heard y)) where
+  module _ (v : TransmitValue) (same : x ≡ v) (b : Brief)
+      (says : (pairs : List (ℕ × ℕ)) (ids : List ℕ) →
+      reply_of_result ended_reply result ≡ reply_with b pairs ids)
+      (acked : (acked waiting failed : ℕ) → b ≡ brief.Ended acked waiting failed →
+      IfSome (find (λ y. y.number == e) x.opened) (λ y. acked ≡ count_shown_of x heard y)) where
     before : (w : World) (bodies : ℕ → FrameValue) → StandsFor v w bodies → StandsFor x w bodies
     before w bodies st = subst (λ (z : TransmitValue). StandsFor z w bodies) (sym same) st
 
-    lost_if : (o : Option (ℕ × List ℕ)) → IfNone o ((w : World) (bodies : ℕ → FrameValue) → StandsFor x w bodies → Meets w bodies (Asked (Done e false)) u (reply_of ended_reply result)) →
-        IfNone o ((w : World) (bodies : ℕ → FrameValue) (pairs : List (ℕ × ℕ)) (ids : List ℕ) → StandsFor v w bodies → Meets w bodies (Asked (Done e false)) u (reply_with b pairs ids))
-    lost_if None f = λ w bodies pairs ids st. subst (λ (z : ReplyNote). Meets w bodies (Asked (Done e false)) u z) (says pairs ids) (f w bodies (before w bodies st))
+    lost_if : (o : Option (ℕ × List ℕ)) → IfNone o
+        ((w : World) (bodies : ℕ → FrameValue) → StandsFor x w bodies →
+        Meets w bodies (Asked (Done e false)) u (reply_of_result ended_reply result)) →
+        IfNone o ((w : World) (bodies : ℕ → FrameValue) (pairs : List (ℕ × ℕ)) (ids : List ℕ) →
+        StandsFor v w bodies → Meets w bodies (Asked (Done e false)) u (reply_with b pairs ids))
+    lost_if None f = λ w bodies pairs ids st. subst
+        (λ (z : ReplyNote). Meets w bodies (Asked (Done e false)) u z) (says pairs ids)
+        (f w bodies (before w bodies st))
     lost_if (Some score) f = tt
 
-    pub is_ended : (find (λ y. y.number == e) x.opened ≡ None → (b ≡ brief.Refused NoExchange) × (u ≡ x)) → IsEnded v e heard u b
+    pub is_ended : (find (λ y. y.number == e) x.opened ≡ None → (b ≡ brief.Refused NoExchange) × (u ≡ x)) →
+        IsEnded v e heard u b
     is_ended none = record {
       lost = lost_if heard done.lost;
       shown = shown_if heard done.shown;
       none_shown = λ w bodies y pairs ids st known plain hidden.
-          subst (λ (z : ReplyNote). Meets w bodies (Asked (Done e false)) u z) (says pairs ids) (done.none_shown w bodies y (before w bodies st) known plain hidden);
+          subst (λ (z : ReplyNote). Meets w bodies (Asked (Done e false)) u z) (says pairs ids)
+          (done.none_shown w bodies y (before w bodies st) known plain hidden);
       driven = λ w bodies caller pairs ids st un.
-          subst (λ (z : ReplyNote). MeetsUnheard bodies (outcome_after_done w caller e heard) u z) (says pairs ids)
+          subst (λ (z : ReplyNote). MeetsUnheard bodies (outcome_after_done w caller e heard) u z)
+          (says pairs ids)
           (meets_unheard x u w bodies (before w bodies st) un e heard result done caller);
-      acked = λ a i f is. subst (λ (z : TransmitValue). IfSome (find (λ y. y.number == e) z.opened) (λ y. a ≡ count_shown_of z heard y)) same (acked a i f is);
-      not_open = λ e'. let k = none (ap (λ (z : TransmitValue). find (λ y. y.number == e) z.opened) same ∙ e') in (k.0, k.1 ∙ same);
+      acked = λ a i f is. subst (λ (z : TransmitValue).
+          IfSome (find (λ y. y.number == e) z.opened) (λ y. a ≡ count_shown_of z heard y)) same
+          (acked a i f is);
+      not_open = λ e'. let k = none (ap (λ (z : TransmitValue). find (λ y. y.number == e) z.opened) same ∙ e')
+          in (k.0, k.1 ∙ same);
       path = ended_path;
     }
       where
-        shown_if : (o : Option (ℕ × List ℕ)) → IfSome o (λ score. (w : World) (bodies : ℕ → FrameValue) (y : Exchange) (answer : Score) → StandsFor x w bodies → exchange w e ≡ Some y → y.answer ≡ Some answer → AreShown w y answer (Some score) → Meets w bodies (Asked (Done e true)) u (reply_of ended_reply result)) →
-            IfSome o (λ score. (w : World) (bodies : ℕ → FrameValue) (y : Exchange) (answer : Score) (pairs : List (ℕ × ℕ)) (ids : List ℕ) → StandsFor v w bodies → exchange w e ≡ Some y → y.answer ≡ Some answer → AreShown w y answer (Some score) → Meets w bodies (Asked (Done e true)) u (reply_with b pairs ids))
+        shown_if : (o : Option (ℕ × List ℕ)) → IfSome o
+            (λ score. (w : World) (bodies : ℕ → FrameValue) (y : Exchange) (answer : Score) →
+            StandsFor x w bodies → exchange w e ≡ Some y → y.answer ≡ Some answer →
+            AreShown w y answer (Some score) → Meets w bodies (Asked (Done e true)) u
+            (reply_of_result ended_reply result)) →
+            IfSome o (λ score. (w : World) (bodies : ℕ → FrameValue) (y : Exchange) (answer : Score)
+            (pairs : List (ℕ × ℕ)) (ids : List ℕ) → StandsFor v w bodies → exchange w e ≡ Some y →
+            y.answer ≡ Some answer → AreShown w y answer (Some score) →
+            Meets w bodies (Asked (Done e true)) u (reply_with b pairs ids))
         shown_if None f = tt
         shown_if (Some score) f = λ w bodies y answer pairs ids st known kept shows.
-            subst (λ (z : ReplyNote). Meets w bodies (Asked (Done e true)) u z) (says pairs ids) (f w bodies y answer (before w bodies st) known kept shows)
+            subst (λ (z : ReplyNote). Meets w bodies (Asked (Done e true)) u z) (says pairs ids)
+            (f w bodies y answer (before w bodies st) known kept shows)
 
 -- ---- an exchange that is not open
 
-module _ (x : TransmitValue) (r : Flags) (h : IsTracked x r) (e : ℕ) (heard : Option (ℕ × List ℕ)) (none : None ≡ find (λ y. y.number == e) x.opened) where
-  never : (w : World) (bodies : ℕ → FrameValue) (y : Exchange) → StandsFor x w bodies → exchange w e ≡ Some y → ⊥
+module _ (x : TransmitValue) (r : Flags) (h : IsTracked x r) (e : ℕ) (heard : Option (ℕ × List ℕ))
+    (none : None ≡ find (λ y. y.number == e) x.opened) where
+  never : (w : World) (bodies : ℕ → FrameValue) (y : Exchange) → StandsFor x w bodies →
+      exchange w e ≡ Some y → ⊥
   never w bodies y st known =
-      let k : ◌≡◌ {A = Option Open} None (Some (open_of y)) = none ∙ exchange_same x w bodies e st.parts ∙ ap (option_map open_of) known in cc k
+      let k : ◌≡◌ {A = Option Open} None (Some (open_of y)) =
+      none ∙ exchange_same x w bodies e st.parts ∙ ap (option_map open_of) known in cc k
 
-  refused_if : (o : Option (ℕ × List ℕ)) → IfNone o ((w : World) (bodies : ℕ → FrameValue) → StandsFor x w bodies → Meets w bodies (Asked (Done e false)) x (Refused NoExchange))
+  refused_if : (o : Option (ℕ × List ℕ)) → IfNone o
+      ((w : World) (bodies : ℕ → FrameValue) → StandsFor x w bodies →
+      Meets w bodies (Asked (Done e false)) x (Refused NoExchange))
   refused_if None = λ w bodies st. refused_done x w bodies st e false none
   refused_if (Some score) = tt
 
-  shown_never : (o : Option (ℕ × List ℕ)) → IfSome o (λ score. (w : World) (bodies : ℕ → FrameValue) (y : Exchange) (answer : Score) → StandsFor x w bodies →
-      exchange w e ≡ Some y → y.answer ≡ Some answer → AreShown w y answer (Some score) → Meets w bodies (Asked (Done e true)) x (Refused NoExchange))
+  shown_never : (o : Option (ℕ × List ℕ)) → IfSome o
+      (λ score. (w : World) (bodies : ℕ → FrameValue) (y : Exchange) (answer : Score) → StandsFor x w bodies →
+      exchange w e ≡ Some y → y.answer ≡ Some answer → AreShown w y answer (Some score) →
+      Meets w bodies (Asked (Done e true)) x (Refused NoExchange))
   shown_never None = tt
   shown_never (Some score) = λ w bodies y answer st known kept shows. absurd (never w bodies y st known)
 
@@ -157,4 +204,5 @@ module _ (x : TransmitValue) (r : Flags) (h : IsTracked x r) (e : ℕ) (heard : 
   pub nothing_ended : (v : TransmitValue) → x ≡ v → IsEnded v e heard v (brief.Refused NoExchange)
   nothing_ended v same =
       subst (λ (z : TransmitValue). IsEnded v e heard z (brief.Refused NoExchange)) same
-      (is_ended x r h x e heard (Err NoExchange) unchanged v same (brief.Refused NoExchange) (λ pairs ids. refl) (λ a i f is. absurd (cc is)) (λ _. (refl, refl)))
+      (is_ended x r h x e heard (Err NoExchange) unchanged v same (brief.Refused NoExchange)
+      (λ pairs ids. refl) (λ a i f is. absurd (cc is)) (λ _. (refl, refl)))

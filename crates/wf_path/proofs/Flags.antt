@@ -5,14 +5,15 @@ use Rattle.std.proofs.lemmas.List.{get_or-set_same, get_or-set_other, length-set
 use Rattle.wf_frame.specs.Classes.{class_number}
 use Rattle.wf_frame.specs.declared.classes.Class.{Class}
 use Rattle.wf_frame.specs.declared.classes.Class.TheVariants.{Bk, Be, Vi, Vo}
-use Rattle.wf_rota.specs.Rotas.{is_ready as entry}
-use Rattle.wf_laws.proofs.Deficits.Books.{cases_class}
-use Rattle.wf_transmit_refines.specs.Half.{TransmitValue, is_ready_of}
+use Rattle.wf_sched_rotation.specs.Rotas.{is_ready as entry}
+use Rattle.wf_law_runs.proofs.Deficits.Books.{cases_class}
+use Rattle.wf_send_half_refines.specs.Half.{TransmitValue, is_ready_of}
 use Rattle.wf_path.specs.Flags.{Flags, flags_in, with_flag, with_flags, AreFlags}
 
 -- ---- one flag is set
 
-pub set_sized : (r : Flags) (c : Class) (s : ℕ) (b : Bool) (d : Class) → length (flags_in (with_flag r c s b) d) ≡ length (flags_in r d)
+pub set_sized : (r : Flags) (c : Class) (s : ℕ) (b : Bool) (d : Class) →
+    length (flags_in (with_flag r c s b) d) ≡ length (flags_in r d)
 set_sized r Bk s b Bk = length-set r.bk s b
 set_sized r Bk s b Be = refl
 set_sized r Bk s b Vi = refl
@@ -30,21 +31,24 @@ set_sized r Vo s b Be = refl
 set_sized r Vo s b Vi = refl
 set_sized r Vo s b Vo = length-set r.vo s b
 
-set_here : (r : Flags) (c : Class) (s : ℕ) (b : Bool) → s < length (flags_in r c) → entry (flags_in (with_flag r c s b) c) s ≡ b
+set_here : (r : Flags) (c : Class) (s : ℕ) (b : Bool) → s < length (flags_in r c) →
+    entry (flags_in (with_flag r c s b) c) s ≡ b
 set_here r Bk s b low = get_or-set_same r.bk s b false low
 set_here r Be s b low = get_or-set_same r.be s b false low
 set_here r Vi s b low = get_or-set_same r.vi s b false low
 set_here r Vo s b low = get_or-set_same r.vo s b false low
 
 -- of another station
-set_beside : (r : Flags) (c : Class) (s : ℕ) (b : Bool) (i : ℕ) → i ≢ s → entry (flags_in (with_flag r c s b) c) i ≡ entry (flags_in r c) i
+set_beside : (r : Flags) (c : Class) (s : ℕ) (b : Bool) (i : ℕ) → i ≢ s →
+    entry (flags_in (with_flag r c s b) c) i ≡ entry (flags_in r c) i
 set_beside r Bk s b i other = get_or-set_other r.bk s i b false other
 set_beside r Be s b i other = get_or-set_other r.be s i b false other
 set_beside r Vi s b i other = get_or-set_other r.vi s i b false other
 set_beside r Vo s b i other = get_or-set_other r.vo s i b false other
 
 -- of another class
-set_elsewhere : (r : Flags) (c : Class) (s : ℕ) (b : Bool) (d : Class) → (class_number d ≡ class_number c → ⊥) → flags_in (with_flag r c s b) d ≡ flags_in r d
+set_elsewhere : (r : Flags) (c : Class) (s : ℕ) (b : Bool) (d : Class) →
+    (class_number d ≡ class_number c → ⊥) → flags_in (with_flag r c s b) d ≡ flags_in r d
 set_elsewhere r Bk s b Bk other = absurd (other refl)
 set_elsewhere r Bk s b Be other = refl
 set_elsewhere r Bk s b Vi other = refl
@@ -62,9 +66,11 @@ set_elsewhere r Vo s b Be other = refl
 set_elsewhere r Vo s b Vi other = refl
 set_elsewhere r Vo s b Vo other = absurd (other refl)
 
-set_apart : (r : Flags) (c : Class) (s : ℕ) (b : Bool) (i : ℕ) (d : Class) → (i ≡ s → d ≡ c → ⊥) → entry (flags_in (with_flag r c s b) d) i ≡ entry (flags_in r d) i
+set_apart : (r : Flags) (c : Class) (s : ℕ) (b : Bool) (i : ℕ) (d : Class) → (i ≡ s → d ≡ c → ⊥) →
+    entry (flags_in (with_flag r c s b) d) i ≡ entry (flags_in r d) i
 set_apart r c s b i d apart = elim (cases_class d c) [
-  | inl same ↦ subst (λ (x : Class). entry (flags_in (with_flag r c s b) x) i ≡ entry (flags_in r x) i) (sym same) (set_beside r c s b i (λ e. apart e same))
+  | inl same ↦ subst (λ (x : Class). entry (flags_in (with_flag r c s b) x) i ≡ entry (flags_in r x) i)
+      (sym same) (set_beside r c s b i (λ e. apart e same))
   | inr other ↦ ap (λ (xs : List Bool). entry xs i) (set_elsewhere r c s b d other)
 ]
 
@@ -73,21 +79,26 @@ set_apart r c s b i d apart = elim (cases_class d c) [
 -- the flags are right, but for those of stations and classes of which Q
 pub record AreNearly (v : TransmitValue) (r : Flags) (Q : ℕ → Class → Type 0) : Type 0 where
   pub sized : (c : Class) → length (flags_in r c) ≡ v.config.stations
-  pub tells : (c : Class) (s : ℕ) → s < v.config.stations → (Q s c → ⊥) → entry (flags_in r c) s ≡ is_ready_of v c s
+  pub tells : (c : Class) (s : ℕ) → s < v.config.stations → (Q s c → ⊥) →
+      entry (flags_in r c) s ≡ is_ready_of v c s
 
 -- what is left of them once the flag of station s in class c is set
 abbrev pub Less : (ℕ → Class → Type 0) → ℕ → Class → ℕ → Class → Type 0
 Less Q s c i d = Q i d × (i ≡ s → d ≡ c → ⊥)
 
-pub set_one : (v : TransmitValue) (r : Flags) (Q : ℕ → Class → Type 0) (s : ℕ) (c : Class) → AreNearly v r Q → s < v.config.stations → AreNearly v (with_flag r c s (is_ready_of v c s)) (Less Q s c)
+pub set_one : (v : TransmitValue) (r : Flags) (Q : ℕ → Class → Type 0) (s : ℕ) (c : Class) → AreNearly v r Q →
+    s < v.config.stations → AreNearly v (with_flag r c s (is_ready_of v c s)) (Less Q s c)
 set_one v r Q s c h low = record {
   sized = λ d. set_sized r c s (is_ready_of v c s) d ∙ h.sized d;
   tells = λ d i small out.
-      let apart = λ (k : i ≡ s → d ≡ c → ⊥). set_apart r c s (is_ready_of v c s) i d k ∙ h.tells d i small (λ q. out (q, k)) in
+      let apart = λ (k : i ≡ s → d ≡ c → ⊥). set_apart r c s (is_ready_of v c s) i d k
+      ∙ h.tells d i small (λ q. out (q, k)) in
       elim (cases_eq i s) [
         | inl e ↦ elim (cases_class d c) [
-          | inl k ↦ subst (λ (x : Class). entry (flags_in (with_flag r c s (is_ready_of v c s)) x) i ≡ is_ready_of v x i) (sym k)
-              (subst (λ (n : ℕ). entry (flags_in (with_flag r c s (is_ready_of v c s)) c) n ≡ is_ready_of v c n) (sym e)
+          | inl k ↦ subst (λ (x : Class). entry (flags_in (with_flag r c s (is_ready_of v c s)) x) i
+              ≡ is_ready_of v x i) (sym k)
+              (subst (λ (n : ℕ). entry (flags_in (with_flag r c s (is_ready_of v c s)) c) n
+              ≡ is_ready_of v c n) (sym e)
               (set_here r c s (is_ready_of v c s) (omega (arith, h.sized c, low))))
           | inr other ↦ apart (λ _ k. other (ap class_number k))
         ]
@@ -96,19 +107,26 @@ set_one v r Q s c h low = record {
 }
 
 -- none is left
-pub all_set : (v : TransmitValue) (r : Flags) (Q : ℕ → Class → Type 0) → AreNearly v r Q → ((s : ℕ) (c : Class) → s < v.config.stations → Q s c → ⊥) → AreFlags v r
+pub all_set : (v : TransmitValue) (r : Flags) (Q : ℕ → Class → Type 0) → AreNearly v r Q →
+    ((s : ℕ) (c : Class) → s < v.config.stations → Q s c → ⊥) → AreFlags v r
 all_set v r Q h none c = record { stations = h.sized c; tells = λ s low. h.tells c s low (none s c low) }
 
 -- the four of one station
-pub set_four : (v : TransmitValue) (r : Flags) (s : ℕ) → AreNearly v r (λ i d. i ≡ s) → s < v.config.stations → AreFlags v (with_flags r v s)
-set_four v r s h low = all_set v (with_flags r v s) _ (set_one v _ _ s Vo (set_one v _ _ s Vi (set_one v _ _ s Be (set_one v r _ s Bk h low) low) low) low) none
+pub set_four : (v : TransmitValue) (r : Flags) (s : ℕ) → AreNearly v r (λ i d. i ≡ s) →
+    s < v.config.stations → AreFlags v (with_flags r v s)
+set_four v r s h low = all_set v (with_flags r v s) _
+    (set_one v _ _ s Vo (set_one v _ _ s Vi (set_one v _ _ s Be (set_one v r _ s Bk h low) low) low) low) none
   where
-    none : (i : ℕ) (d : Class) → i < v.config.stations → Less (Less (Less (Less (λ j x. j ≡ s) s Bk) s Be) s Vi) s Vo i d → ⊥
+    none : (i : ℕ) (d : Class) → i < v.config.stations →
+        Less (Less (Less (Less (λ j x. j ≡ s) s Bk) s Be) s Vi) s Vo i d → ⊥
     none i Bk small left = left.0.0.0.1 left.0.0.0.0 refl
     none i Be small left = left.0.0.1 left.0.0.0.0 refl
     none i Vi small left = left.0.1 left.0.0.0.0 refl
     none i Vo small left = left.1 left.0.0.0.0 refl
 
 -- the one of a station in a class
-pub set_alone : (v : TransmitValue) (r : Flags) (s : ℕ) (c : Class) → AreNearly v r (λ i d. (i ≡ s) × (d ≡ c)) → s < v.config.stations → AreFlags v (with_flag r c s (is_ready_of v c s))
-set_alone v r s c h low = all_set v (with_flag r c s (is_ready_of v c s)) _ (set_one v r _ s c h low) (λ i d small left. left.1 left.0.0 left.0.1)
+pub set_alone : (v : TransmitValue) (r : Flags) (s : ℕ) (c : Class) →
+    AreNearly v r (λ i d. (i ≡ s) × (d ≡ c)) → s < v.config.stations →
+    AreFlags v (with_flag r c s (is_ready_of v c s))
+set_alone v r s c h low = all_set v (with_flag r c s (is_ready_of v c s)) _ (set_one v r _ s c h low)
+    (λ i d small left. left.1 left.0.0 left.0.1)

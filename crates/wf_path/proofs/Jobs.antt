@@ -7,15 +7,16 @@ use Rattle.wf_frame.specs.declared.notes.Ask.{Ask}
 use Rattle.wf_frame.specs.declared.notes.Ask.TheVariants.{Join, Leave, Rate, Tick, Pull, Arrive, Answer, Done, Sleep, Wake, Poll, Rx, Reap}
 use Rattle.wf_frame.specs.declared.notes.Note.TheVariants.{Asked}
 use Rattle.wf_frame.specs.declared.notes.ReplyNote.{ReplyNote}
-use Rattle.wf_world.specs.World.{World}
-use Rattle.wf_transmit_refines.specs.Half.{TransmitValue}
-use Rattle.wf_transmit_refines.specs.Standing.{Meets}
-use Rattle.wf_path.specs.Jobs.{IsBrief, note_of, bodies_after, given_back}
+use Rattle.wf_def_world.specs.World.{World}
+use Rattle.wf_send_half_refines.specs.Half.{TransmitValue}
+use Rattle.wf_send_half_refines.specs.Standing.{Meets}
+use Rattle.wf_path.specs.Jobs.{IsBrief, note_of, bodies_after, frame_given_back}
 use Rattle.wf_path.specs.declared.job.Job.{Job}
 use Rattle.wf_path.specs.declared.job.Job.TheVariants.{Call}
 
 -- a call that is answered by a brief brings no frame back
-none_for : (bodies : ℕ → FrameValue) (ask : Ask) (reply : ReplyNote) → IsBrief ask → ◌≡◌ {A = Option FrameValue} None (given_back bodies (Call ask) reply)
+none_for : (bodies : ℕ → FrameValue) (ask : Ask) (reply : ReplyNote) → IsBrief ask →
+    ◌≡◌ {A = Option FrameValue} None (frame_given_back bodies (Call ask) reply)
 none_for bodies (Join s window start exponent weight) reply is = refl
 none_for bodies (Leave s) reply is = refl
 none_for bodies (Rate s mcs mhz short) reply is = refl
@@ -30,9 +31,16 @@ none_for bodies (Poll s) reply is = refl
 none_for bodies (Rx s c air) reply is = refl
 none_for bodies Reap reply is = absurd is
 
-pub none_back : (bodies : ℕ → FrameValue) (job : Job) (ask : Ask) → job ≡ Call ask → (reply : ReplyNote) → IsBrief ask → ◌≡◌ {A = Option FrameValue} None (given_back bodies job reply)
-none_back bodies job ask same reply is = subst (λ (j : Job). ◌≡◌ {A = Option FrameValue} None (given_back bodies j reply)) (sym same) (none_for bodies ask reply is)
+pub none_back : (bodies : ℕ → FrameValue) (job : Job) (ask : Ask) → job ≡ Call ask → (reply : ReplyNote) →
+    IsBrief ask → ◌≡◌ {A = Option FrameValue} None (frame_given_back bodies job reply)
+none_back bodies job ask same reply is = subst
+    (λ (j : Job). ◌≡◌ {A = Option FrameValue} None (frame_given_back bodies j reply)) (sym same)
+    (none_for bodies ask reply is)
 
-pub asked_meets : (v u : TransmitValue) (job : Job) (ask : Ask) → job ≡ Call ask → (b : Brief) (pairs : List (ℕ × ℕ)) (ids : List ℕ) (w : World) (bodies : ℕ → FrameValue) → Meets w bodies (Asked ask) u (reply_with b pairs ids) →
+pub asked_meets : (v u : TransmitValue) (job : Job) (ask : Ask) → job ≡ Call ask →
+    (b : Brief) (pairs : List (ℕ × ℕ)) (ids : List ℕ) (w : World) (bodies : ℕ → FrameValue) →
+    Meets w bodies (Asked ask) u (reply_with b pairs ids) →
     Meets w (bodies_after v job (reply_with b pairs ids) bodies) (note_of job) u (reply_with b pairs ids)
-asked_meets v u job ask same b pairs ids w bodies m = subst (λ (j : Job). Meets w (bodies_after v j (reply_with b pairs ids) bodies) (note_of j) u (reply_with b pairs ids)) (sym same) m
+asked_meets v u job ask same b pairs ids w bodies m =
+    subst (λ (j : Job). Meets w (bodies_after v j (reply_with b pairs ids) bodies) (note_of j) u
+    (reply_with b pairs ids)) (sym same) m

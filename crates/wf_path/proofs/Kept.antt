@@ -11,38 +11,43 @@ use Rattle.wf_frame.specs.declared.notes.Refusal.TheVariants.{BadStation}
 use Rattle.wf_frame.specs.declared.notes.ReplyNote.{ReplyNote}
 use Rattle.wf_frame.specs.declared.notes.ReplyNote.TheVariants.{Refused}
 use Rattle.wf_frame.specs.declared.settings.Config.{Config}
-use Rattle.wf_world.specs.World.{World}
-use Rattle.wf_world.specs.CanSend.{is_ready}
-use Rattle.wf_world.specs.Refusals.{refusal, refusals, first_refusal, is_bad_station}
-use Rattle.wf_world.specs.Step.{Outcome, concerned_station, step}
-use Rattle.wf_laws.proofs.Deficits.Configs.{config_step}
-use Rattle.wf_laws.proofs.Deficits.KeptStep.{NoRow, no_row}
-use Rattle.wf_driver_laws.specs.Unheard.{IsSilent, IsUnheard}
-use Rattle.wf_driver_laws.proofs.Silent.{silent_law}
-use Rattle.wf_transmit_refines.specs.Half.{TransmitValue}
-use Rattle.wf_transmit_refines.specs.Readiness.{leaves_ready}
-use Rattle.wf_transmit_refines.specs.Standing.{StandsFor, Meets, IsReached}
-use Rattle.wf_transmit_refines.proofs.Reached.{step_refused}
-use Rattle.wf_transmit_refines.proofs.Readers.{ready_same}
-use Rattle.wf_transmit_refines.proofs.Spared.{ready_others}
-use Rattle.wf_transmit_refines.proofs.Steady.{ready_left}
+use Rattle.wf_def_world.specs.World.{World}
+use Rattle.wf_def_world.specs.CanSend.{is_ready}
+use Rattle.wf_def_world.specs.Refusals.{refusal, refusals, first_refusal, is_bad_station}
+use Rattle.wf_def_world.specs.Step.{Outcome, concerned_station, step}
+use Rattle.wf_law_runs.proofs.Deficits.Configs.{config_step}
+use Rattle.wf_law_runs.proofs.Deficits.KeptStep.{NoRow, no_row}
+use Rattle.wf_law_driver.specs.Unheard.{IsSilent, IsUnheard}
+use Rattle.wf_law_driver.proofs.Silent.{silent_law}
+use Rattle.wf_send_half_refines.specs.Half.{TransmitValue}
+use Rattle.wf_send_half_refines.specs.Readiness.{leaves_ready}
+use Rattle.wf_send_half_refines.specs.Standing.{StandsFor, Meets, IsReached}
+use Rattle.wf_send_half_refines.proofs.Reached.{step_refused}
+use Rattle.wf_send_half_refines.proofs.Readers.{ready_same}
+use Rattle.wf_send_half_refines.proofs.Spared.{ready_others}
+use Rattle.wf_send_half_refines.proofs.Steady.{ready_left}
 use Rattle.wf_path.specs.Flags.{Flags, with_flags, AreFlags}
 use Rattle.wf_path.specs.Paths.{IsPath, IsTracked}
 use Rattle.wf_path.proofs.Flags.{AreNearly, all_set, set_four}
 
 -- ---- the world
 
-pub silent_at : (w : World) (note : Note) → IsReached w → IsSilent note → IsUnheard w → IsUnheard (step w note).world
-silent_at w note r k un = subst (λ (u : World). IsUnheard (step u note).world) (sym r.after) (silent_law w.config r.history note k (subst IsUnheard r.after un))
+pub silent_at : (w : World) (note : Note) → IsReached w → IsSilent note → IsUnheard w →
+    IsUnheard (step w note).world
+silent_at w note r k un = subst (λ (u : World). IsUnheard (step u note).world) (sym r.after)
+    (silent_law w.config r.history note k (subst IsUnheard r.after un))
 
 -- a call of a path v leaves y, which answers it so in every world; `grow` is what becomes of the bodies
-abbrev pub Leaves : TransmitValue → TransmitValue → ((ℕ → FrameValue) → ℕ → FrameValue) → Note → ReplyNote → Type 0
-Leaves v y grow note reply = (w : World) (bodies : ℕ → FrameValue) → StandsFor v w bodies → Meets w (grow bodies) note y reply
+abbrev pub Leaves : TransmitValue → TransmitValue → ((ℕ → FrameValue) → ℕ → FrameValue) → Note → ReplyNote →
+    Type 0
+Leaves v y grow note reply = (w : World) (bodies : ℕ → FrameValue) → StandsFor v w bodies →
+    Meets w (grow bodies) note y reply
 
 abbrev pub same_bodies : (ℕ → FrameValue) → ℕ → FrameValue
 same_bodies bodies = bodies
 
-pub kept_path : (v y : TransmitValue) (grow : (ℕ → FrameValue) → ℕ → FrameValue) (note : Note) (reply : ReplyNote) → Leaves v y grow note reply → IsSilent note → IsPath v → IsPath y
+pub kept_path : (v y : TransmitValue) (grow : (ℕ → FrameValue) → ℕ → FrameValue) (note : Note)
+    (reply : ReplyNote) → Leaves v y grow note reply → IsSilent note → IsPath v → IsPath y
 kept_path v y grow note reply meets k h = record {
   world = (step h.world note).world;
   bodies = grow h.bodies;
@@ -53,12 +58,16 @@ kept_path v y grow note reply meets k h = record {
 -- ---- the flags
 
 -- the settings stay
-pub same_config : (v y : TransmitValue) (w : World) (bodies after : ℕ → FrameValue) (note : Note) (reply : ReplyNote) → StandsFor v w bodies → Meets w after note y reply → v.config ≡ y.config
-same_config v y w bodies after note reply h m = h.parts.others.config ∙ sym (config_step w note) ∙ sym m.stands.parts.others.config
+pub same_config : (v y : TransmitValue) (w : World) (bodies after : ℕ → FrameValue) (note : Note)
+    (reply : ReplyNote) → StandsFor v w bodies → Meets w after note y reply → v.config ≡ y.config
+same_config v y w bodies after note reply h m =
+    h.parts.others.config ∙ sym (config_step w note) ∙ sym m.stands.parts.others.config
 
-module _ (v y : TransmitValue) (r : Flags) (flags : AreFlags v r) (w : World) (bodies after : ℕ → FrameValue) (note : Note) (reply : ReplyNote) (h : StandsFor v w bodies) (m : Meets w after note y reply) where
+module _ (v y : TransmitValue) (r : Flags) (flags : AreFlags v r) (w : World) (bodies after : ℕ → FrameValue)
+    (note : Note) (reply : ReplyNote) (h : StandsFor v w bodies) (m : Meets w after note y reply) where
   -- where the call leaves who is ready, the flags stay right
-  pub nearly : (Q : ℕ → Class → Type 0) → ((s : ℕ) (c : Class) → (Q s c → ⊥) → is_ready (step w note).world c s ≡ is_ready w c s) → AreNearly y r Q
+  pub nearly : (Q : ℕ → Class → Type 0) → ((s : ℕ) (c : Class) → (Q s c → ⊥) →
+      is_ready (step w note).world c s ≡ is_ready w c s) → AreNearly y r Q
   nearly Q same =
       let config : v.config ≡ y.config = same_config v y w bodies after note reply h m in
       record {
@@ -71,32 +80,44 @@ module _ (v y : TransmitValue) (r : Flags) (flags : AreFlags v r) (w : World) (b
       }
 
   pub still_right : leaves_ready note ≡ true → AreFlags y r
-  still_right e = all_set y r (λ _ _. ⊥) (nearly (λ _ _. ⊥) (λ s c _. ready_left w note h.reached e s c)) (λ s c low no. no)
+  still_right e = all_set y r (λ _ _. ⊥) (nearly (λ _ _. ⊥) (λ s c _. ready_left w note h.reached e s c))
+      (λ s c low no. no)
 
 -- of a call without a frame, but for the station that it concerns
-pub nearly_asked : (v y : TransmitValue) (r : Flags) → AreFlags v r → (w : World) (bodies after : ℕ → FrameValue) (ask : Ask) (reply : ReplyNote) → StandsFor v w bodies → Meets w after (Asked ask) y reply →
+pub nearly_asked : (v y : TransmitValue) (r : Flags) → AreFlags v r →
+    (w : World) (bodies after : ℕ → FrameValue) (ask : Ask) (reply : ReplyNote) → StandsFor v w bodies →
+    Meets w after (Asked ask) y reply →
     (s : ℕ) → concerned_station w (Asked ask) ≡ Some s → AreNearly y r (λ i d. i ≡ s)
 nearly_asked v y r flags w bodies after ask reply h m s concerned =
     nearly v y r flags w bodies after (Asked ask) reply h m (λ i d. i ≡ s)
-    (λ i c out. ready_others w (Asked ask) h.reached i c (λ k. out (let same : Some i ≡ Some s = sym k ∙ concerned in cc same)) refl)
+    (λ i c out. ready_others w (Asked ask) h.reached i c
+    (λ k. out (let same : Some i ≡ Some s = sym k ∙ concerned in cc same)) refl)
 
 -- ---- whole calls
 
 -- a call that leaves everybody's readiness
-pub tracked_still : (v y : TransmitValue) (r : Flags) (ask : Ask) (reply : ReplyNote) → IsTracked v r → Leaves v y same_bodies (Asked ask) reply → IsSilent (Asked ask) → leaves_ready (Asked ask) ≡ true → IsTracked y r
+pub tracked_still : (v y : TransmitValue) (r : Flags) (ask : Ask) (reply : ReplyNote) → IsTracked v r →
+    Leaves v y same_bodies (Asked ask) reply → IsSilent (Asked ask) → leaves_ready (Asked ask) ≡ true →
+    IsTracked y r
 tracked_still v y r ask reply h meets k e = record {
   path = kept_path v y same_bodies (Asked ask) reply meets k h.path;
-  flags = still_right v y r h.flags h.path.world h.path.bodies h.path.bodies (Asked ask) reply h.path.stands (meets h.path.world h.path.bodies h.path.stands) e;
+  flags = still_right v y r h.flags h.path.world h.path.bodies h.path.bodies (Asked ask) reply h.path.stands
+      (meets h.path.world h.path.bodies h.path.stands) e;
 }
 
 -- a call that concerns one station, whose four flags are set then
-pub tracked_station : (v y : TransmitValue) (r : Flags) (ask : Ask) (reply : ReplyNote) → IsTracked v r → Leaves v y same_bodies (Asked ask) reply → IsSilent (Asked ask) → (s : ℕ) → ((w : World) → concerned_station w (Asked ask) ≡ Some s) → s < v.config.stations → IsTracked y (with_flags r y s)
+pub tracked_station : (v y : TransmitValue) (r : Flags) (ask : Ask) (reply : ReplyNote) → IsTracked v r →
+    Leaves v y same_bodies (Asked ask) reply → IsSilent (Asked ask) → (s : ℕ) →
+    ((w : World) → concerned_station w (Asked ask) ≡ Some s) → s < v.config.stations →
+    IsTracked y (with_flags r y s)
 tracked_station v y r ask reply h meets k s concerned low =
     let m = meets h.path.world h.path.bodies h.path.stands in
-    let config : v.config ≡ y.config = same_config v y h.path.world h.path.bodies h.path.bodies (Asked ask) reply h.path.stands m in
+    let config : v.config ≡ y.config = same_config v y h.path.world h.path.bodies h.path.bodies
+    (Asked ask) reply h.path.stands m in
     record {
       path = kept_path v y same_bodies (Asked ask) reply meets k h.path;
-      flags = set_four y r s (nearly_asked v y r h.flags h.path.world h.path.bodies h.path.bodies ask reply h.path.stands m s (concerned h.path.world)) (subst (λ (z : Config). s < z.stations) config low);
+      flags = set_four y r s (nearly_asked v y r h.flags h.path.world h.path.bodies h.path.bodies ask reply
+          h.path.stands m s (concerned h.path.world)) (subst (λ (z : Config). s < z.stations) config low);
     }
 
 -- ---- a station's number
@@ -105,7 +126,8 @@ not_bad : (w : World) (s : ℕ) → is_bad_station w s ≡ false → s < w.confi
 not_bad w s e = grind (arith, nat_tests, e)
 
 -- a call that is answered otherwise than by a refusal is not refused
-pub answered : (w : World) (note : Note) (reply : ReplyNote) → reply ≡ (step w note).reply → ((r : Refusal) → reply ≡ Refused r → ⊥) → refusal w note ≡ None
+pub answered : (w : World) (note : Note) (reply : ReplyNote) → reply ≡ (step w note).reply →
+    ((r : Refusal) → reply ≡ Refused r → ⊥) → refusal w note ≡ None
 answered w note reply is other = from (refusal w note) refl
   where
     from : (o : Option Refusal) → refusal w note ≡ o → refusal w note ≡ None
@@ -113,7 +135,10 @@ answered w note reply is other = from (refusal w note) refl
     from (Some r) e = absurd (other r (is ∙ ap (λ (o : Outcome). o.reply) (step_refused w note r e)))
 
 -- of a call whose first row is that of its station
-pub within_range : (v : TransmitValue) (w : World) (bodies : ℕ → FrameValue) (note : Note) (s : ℕ) (rows : List (Bool × Refusal)) → StandsFor v w bodies → refusals w note ≡ (is_bad_station w s, BadStation) ∷ rows → refusal w note ≡ None → s < v.config.stations
+pub within_range : (v : TransmitValue) (w : World) (bodies : ℕ → FrameValue) (note : Note) (s : ℕ)
+    (rows : List (Bool × Refusal)) → StandsFor v w bodies →
+    refusals w note ≡ (is_bad_station w s, BadStation) ∷ rows → refusal w note ≡ None → s < v.config.stations
 within_range v w bodies note s rows h same e =
-    let row : NoRow ((is_bad_station w s, BadStation) ∷ rows) = no_row ((is_bad_station w s, BadStation) ∷ rows) (ap first_refusal (sym same) ∙ e) in
+    let row : NoRow ((is_bad_station w s, BadStation) ∷ rows) =
+    no_row ((is_bad_station w s, BadStation) ∷ rows) (ap first_refusal (sym same) ∙ e) in
     subst (λ (z : Config). s < z.stations) (sym h.parts.others.config) (not_bad w s row.0)

@@ -6,23 +6,29 @@ use Rattle.wf_frame.specs.Frames.{FrameValue}
 use Rattle.wf_frame.specs.declared.classes.Class.{Class}
 use Rattle.wf_frame.specs.declared.classes.Class.TheVariants.{Bk, Be, Vi, Vo}
 use Rattle.wf_frame.specs.declared.settings.Config.{Config}
-use Rattle.wf_rota.specs.Rotas.{is_ready as entry}
-use Rattle.wf_world.specs.World.{opening}
-use Rattle.wf_world.specs.CanSend.{is_ready}
-use Rattle.wf_driver_laws.proofs.Silent.{opening_unheard}
-use Rattle.wf_transmit.proofs.Openings.{a_frame}
-use Rattle.wf_transmit_refines.specs.Half.{TransmitValue}
-use Rattle.wf_fate.specs.Tally.{Counts}
-use Rattle.wf_members.specs.declared.members.Member.{Member}
-use Rattle.wf_members.specs.Members.{member, charged_in, received_in}
-use Rattle.wf_transmit_refines.specs.Standing.{StandsFor, AreBoth, IsMember}
-use Rattle.wf_transmit_refines.proofs.Readers.{ready_same}
+use Rattle.wf_sched_rotation.specs.Rotas.{is_ready as entry}
+use Rattle.wf_def_world.specs.World.{opening}
+use Rattle.wf_def_world.specs.CanSend.{is_ready}
+use Rattle.wf_law_driver.proofs.Silent.{opening_unheard}
+use Rattle.wf_send_half.proofs.Openings.{a_frame}
+use Rattle.wf_send_half_refines.specs.Half.{TransmitValue}
+use Rattle.wf_send_stations.specs.Tally.{Counts}
+use Rattle.wf_send_stations.specs.declared.members.Member.{Member}
+use Rattle.wf_send_stations.specs.Members.{member, charged_in, received_in}
+use Rattle.wf_send_half_refines.specs.Standing.{StandsFor, AreBoth, IsMember}
+use Rattle.wf_send_half_refines.proofs.Readers.{ready_same}
 use Rattle.wf_path.specs.Flags.{Flags, flags_in, AreFlags}
 use Rattle.wf_path.specs.Paths.{IsTracked, IsSmall}
 
 -- flags of which none is up
 abbrev none_up : ℕ → Flags
-none_up n = record { bk = replicate n false; be = replicate n false; vi = replicate n false; vo = replicate n false }
+none_up n = record {
+  bk = replicate n false;
+  be = replicate n false;
+  vi = replicate n false;
+  vo =
+      replicate n false;
+}
 
 none_of : (n : ℕ) (c : Class) → flags_in (none_up n) c ≡ replicate n false
 none_of n Bk = refl
@@ -33,14 +39,24 @@ none_of n Vo = refl
 nobody : (config : Config) (c : Class) (s : ℕ) → is_ready (opening config) c s ≡ false
 nobody config c s = refl
 
-pub new_tracked : (v : TransmitValue) (r : Flags) (config : Config) → ((bodies : ℕ → FrameValue) → StandsFor v (opening config) bodies) → r ≡ none_up config.stations → IsTracked v r
+pub new_tracked : (v : TransmitValue) (r : Flags) (config : Config) →
+    ((bodies : ℕ → FrameValue) → StandsFor v (opening config) bodies) → r ≡ none_up config.stations →
+    IsTracked v r
 new_tracked v r config stands is = record {
-  path = record { world = opening config; bodies = λ _. a_frame; stands = stands (λ _. a_frame); unheard = opening_unheard config };
+  path = record {
+    world = opening config;
+    bodies = λ _. a_frame;
+    stands = stands (λ _. a_frame);
+    unheard =
+        opening_unheard config;
+  };
   flags = subst (AreFlags v) (sym is) (λ c. record {
-    stations = ap length (none_of config.stations c) ∙ length-replicate config.stations false ∙ ap (λ (z : Config). z.stations) (sym (stands (λ _. a_frame)).parts.others.config);
+    stations = ap length (none_of config.stations c) ∙ length-replicate config.stations false
+        ∙ ap (λ (z : Config). z.stations) (sym (stands (λ _. a_frame)).parts.others.config);
     tells = λ s low.
         ap (λ (xs : List Bool). entry xs s) (none_of config.stations c)
-        ∙ get_or-replicate config.stations s false false (subst (λ (z : Config). s < z.stations) (stands (λ _. a_frame)).parts.others.config low)
+        ∙ get_or-replicate config.stations s false false
+        (subst (λ (z : Config). s < z.stations) (stands (λ _. a_frame)).parts.others.config low)
         ∙ sym (nobody config c s)
         ∙ sym (ready_same v (opening config) (λ _. a_frame) c s (stands (λ _. a_frame)).parts);
   });
@@ -53,13 +69,16 @@ none_large : (P : Member → Type 0) (o : Option Member) → AreBoth IsMember o 
 none_large P None both = tt
 none_large P (Some m) both = absurd both
 
-pub new_small : (v : TransmitValue) (config : Config) → ((bodies : ℕ → FrameValue) → StandsFor v (opening config) bodies) → IsSmall v
+pub new_small : (v : TransmitValue) (config : Config) →
+    ((bodies : ℕ → FrameValue) → StandsFor v (opening config) bodies) → IsSmall v
 new_small v config stands =
     let others = (stands (λ _. a_frame)).parts.others in
     record {
       clock = omega (arith, others.clock);
       exchanges = omega (arith, others.exchanges);
       accepted = subst (λ (n : ℕ). n < 2 ^ 62) (sym (ap (λ (x : Counts). x.accepted) others.tally)) (lit< tt);
-      charged = λ s c. none_large (λ m. charged_in m c < 2 ^ 62) (member v.members s) (others.stations.live s);
-      received = λ s c. none_large (λ m. received_in m c < 2 ^ 62) (member v.members s) (others.stations.live s);
+      charged = λ s c. none_large (λ m. charged_in m c < 2 ^ 62) (member v.members s)
+          (others.stations.live s);
+      received = λ s c. none_large (λ m. received_in m c < 2 ^ 62) (member v.members s)
+          (others.stations.live s);
     }

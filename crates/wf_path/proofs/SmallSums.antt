@@ -1,11 +1,11 @@
 -- The sums of stations, each below the most that there are or not live.
-use Rattle.std.proofs.Common.{◌≡◌, sym, subst, arith, ℕ, ◌+◌, ◌^◌, ◌<◌, ◌≤◌, Option, None, IfSome, ◌⊎◌, inl, inr}
+use Rattle.std.proofs.Common.{◌≡◌, sym, subst, arith, ℕ, ◌+◌, ◌^◌, ◌<◌, ◌≤◌, Option, None, IfSome, inl, inr}
 use Rattle.std.proofs.lemmas.Bool.{cases_lt}
 use Rattle.std.proofs.lemmas.List.{get_or_past}
 use Rattle.wf_frame.specs.declared.classes.Class.{Class}
-use Rattle.wf_members.specs.declared.members.Member.{Member}
-use Rattle.wf_members.specs.Members.{member, charged_in, received_in}
-use Rattle.wf_transmit_refines.specs.Half.{TransmitValue}
+use Rattle.wf_send_stations.specs.declared.members.Member.{Member}
+use Rattle.wf_send_stations.specs.Members.{member, charged_in, received_in}
+use Rattle.wf_send_half_refines.specs.Half.{TransmitValue}
 use Rattle.wf_path.specs.Paths.{IsPath}
 use Rattle.wf_path.specs.Small.{IsSmallIn}
 
@@ -22,13 +22,16 @@ past v h s c far =
       received = nobody (λ m. received_in m c) (member v.members s) (sym none);
     }
 
-pub all_small : (v : TransmitValue) → IsPath v → ((s : ℕ) (c : Class) → s < 256 → IsSmallIn v s c) → (s : ℕ) (c : Class) → IsSmallIn v s c
+pub all_small : (v : TransmitValue) → IsPath v → ((s : ℕ) (c : Class) → s < 256 → IsSmallIn v s c) →
+    (s : ℕ) (c : Class) → IsSmallIn v s c
 all_small v h each s c = elim (cases_lt s 256) [ inl low ↦ each s c low | inr far ↦ past v h s c far ]
 
 -- the station that a loop has come to, after those before
-pub one_more : (v : TransmitValue) (k : ℕ) → ((s : ℕ) (c : Class) → s < k → IsSmallIn v s c) → ((c : Class) → IsSmallIn v k c) →
+pub one_more : (v : TransmitValue) (k : ℕ) → ((s : ℕ) (c : Class) → s < k → IsSmallIn v s c) →
+    ((c : Class) → IsSmallIn v k c) →
     (s : ℕ) (c : Class) → s < k + 1 → IsSmallIn v s c
 one_more v k before this s c low = elim (cases_lt s k) [
   | inl less ↦ before s c less
-  | inr more ↦ (let same : k ≡ s = omega (arith, low, more) in subst (λ (n : ℕ). IsSmallIn v n c) same (this c))
+  | inr more ↦ (let same : k ≡ s = omega (arith, low, more) in
+      subst (λ (n : ℕ). IsSmallIn v n c) same (this c))
 ]

@@ -7,19 +7,20 @@ use Rattle.wf_frame.specs.declared.answers.Brief.TheVariants.{Ended, Refused}
 use Rattle.wf_frame.specs.declared.notes.Ask.TheVariants.{Done}
 use Rattle.wf_frame.specs.declared.notes.Note.TheVariants.{Asked}
 use Rattle.wf_frame.specs.declared.notes.Refusal.TheVariants.{NoExchange}
-use Rattle.wf_rules.specs.Receiver.{Score}
-use Rattle.wf_world.specs.World.{World, Exchange, exchange}
-use Rattle.wf_world.specs.CanSend.{is_request}
-use Rattle.wf_driver_laws.specs.Unheard.{IsUnheard}
-use Rattle.wf_transmit.specs.Bits.{AreShown, NoneIsShown, count_shown_of}
-use Rattle.wf_transmit.specs.Driven.{outcome_after_done, MeetsUnheard}
-use Rattle.wf_transmit_refines.specs.Half.{TransmitValue}
-use Rattle.wf_transmit_refines.specs.Standing.{StandsFor, Meets}
-use Rattle.wf_transmissions.specs.Answers.{read_fault}
-use Rattle.wf_transmissions.specs.declared.faults.DoneFault.{DoneFault}
+use Rattle.wf_def_agreement.specs.Receiver.{Score}
+use Rattle.wf_def_world.specs.World.{World, Exchange, exchange}
+use Rattle.wf_def_world.specs.CanSend.{is_request}
+use Rattle.wf_law_driver.specs.Unheard.{IsUnheard}
+use Rattle.wf_send_half.specs.Bits.{AreShown, NoneIsShown, count_shown_of}
+use Rattle.wf_send_half.specs.Driven.{outcome_after_done, MeetsUnheard}
+use Rattle.wf_send_half_refines.specs.Half.{TransmitValue}
+use Rattle.wf_send_half_refines.specs.Standing.{StandsFor, Meets}
+use Rattle.wf_path.specs.Answers.{read_fault}
+use Rattle.wf_path.specs.declared.faults.DoneFault.{DoneFault}
 use Rattle.wf_path.specs.Paths.{IsPath}
 
--- What the end of exchange e leaves of v, by what was heard of it: the start and the offsets of a BlockAck, or nothing.
+-- What the end of exchange e leaves of v, by what was heard of it: the start and the offsets of a BlockAck,
+-- or nothing.
 --
 --   lost        nothing was heard: it is the machine's Done that was not heard
 --   shown       the bits show of each of its numbers what the answer does that its receiver keeps: it is the Done that was heard
@@ -27,16 +28,21 @@ use Rattle.wf_path.specs.Paths.{IsPath}
 --   driven      in a world in which no receiver has anything of which its sender does not know, it is the Done after exactly the
 --               calls that the BlockAck tells of, and leaves such a world
 --   acked       so many of its numbers are acknowledged as the bits show
-pub record IsEnded (v : TransmitValue) (e : ℕ) (heard : Option (ℕ × List ℕ)) (u : TransmitValue) (brief : Brief) : Type 0 where
-  pub lost : IfNone heard ((w : World) (bodies : ℕ → FrameValue) (pairs : List (ℕ × ℕ)) (ids : List ℕ) → StandsFor v w bodies →
+pub record IsEnded (v : TransmitValue) (e : ℕ) (heard : Option (ℕ × List ℕ)) (u : TransmitValue)
+    (brief : Brief) : Type 0 where
+  pub lost : IfNone heard ((w : World) (bodies : ℕ → FrameValue) (pairs : List (ℕ × ℕ)) (ids : List ℕ) →
+      StandsFor v w bodies →
       Meets w bodies (Asked (Done e false)) u (reply_with brief pairs ids))
-  pub shown : IfSome heard (λ score. (w : World) (bodies : ℕ → FrameValue) (x : Exchange) (b : Score) (pairs : List (ℕ × ℕ)) (ids : List ℕ) →
+  pub shown : IfSome heard (λ score. (w : World) (bodies : ℕ → FrameValue) (x : Exchange) (b : Score)
+      (pairs : List (ℕ × ℕ)) (ids : List ℕ) →
       StandsFor v w bodies → exchange w e ≡ Some x → x.answer ≡ Some b → AreShown w x b (Some score) →
       Meets w bodies (Asked (Done e true)) u (reply_with brief pairs ids))
-  pub none_shown : (w : World) (bodies : ℕ → FrameValue) (x : Exchange) (pairs : List (ℕ × ℕ)) (ids : List ℕ) → StandsFor v w bodies →
+  pub none_shown : (w : World) (bodies : ℕ → FrameValue) (x : Exchange) (pairs : List (ℕ × ℕ))
+      (ids : List ℕ) → StandsFor v w bodies →
       exchange w e ≡ Some x → is_request x.content ≡ false → NoneIsShown w x heard →
       Meets w bodies (Asked (Done e false)) u (reply_with brief pairs ids)
-  pub driven : (w : World) (bodies : ℕ → FrameValue) (caller : ℕ) (pairs : List (ℕ × ℕ)) (ids : List ℕ) → StandsFor v w bodies → IsUnheard w →
+  pub driven : (w : World) (bodies : ℕ → FrameValue) (caller : ℕ) (pairs : List (ℕ × ℕ)) (ids : List ℕ) →
+      StandsFor v w bodies → IsUnheard w →
       MeetsUnheard bodies (outcome_after_done w caller e heard) u (reply_with brief pairs ids)
   pub acked : (acked waiting failed : ℕ) → brief ≡ Ended acked waiting failed →
       IfSome (find (λ x. x.number == e) v.opened) (λ x. acked ≡ count_shown_of v heard x)
@@ -45,8 +51,8 @@ pub record IsEnded (v : TransmitValue) (e : ℕ) (heard : Option (ℕ × List �
 
 -- ---- by octets
 
--- The first check that fails of what exchange e is to end by: that it is open, and those of the octets of its BlockAck, where one was
--- heard.
+-- The first check that fails of what exchange e is to end by: that it is open, and those of the octets of its
+-- BlockAck, where one was heard.
 abbrev pub end_fault : World → ℕ → Option (List ℕ) → Option DoneFault
 end_fault w e None = if is_some (exchange w e) then None else Some DoneFault.NoExchange
 end_fault w e (Some octets) = read_fault w e octets

@@ -2,8 +2,8 @@
 use Rattle.std.specs.Prelude.{◌≡◌, ◌<◌, ℕ, Bool, List, length, slice_set}
 use Rattle.wf_frame.specs.declared.classes.Class.{Class}
 use Rattle.wf_frame.specs.declared.classes.Class.TheVariants.{Bk, Be, Vi, Vo}
-use Rattle.wf_rota.specs.Rotas.{is_ready as entry}
-use Rattle.wf_transmit_refines.specs.Half.{TransmitValue, is_ready_of}
+use Rattle.wf_sched_rotation.specs.Rotas.{is_ready as entry}
+use Rattle.wf_send_half_refines.specs.Half.{TransmitValue, is_ready_of}
 
 -- a list for each class, with a flag for each station
 pub record Flags : Type 0 where
@@ -27,7 +27,7 @@ with_flag r Vi s ready = record r { vi = slice_set r.vi s ready }
 with_flag r Vo s ready = record r { vo = slice_set r.vo s ready }
 
 -- each class has a flag for station s
-pub record HaveRoom (r : Flags) (s : ℕ) : Type 0 where
+pub record FlagsHaveRoom (r : Flags) (s : ℕ) : Type 0 where
   pub bk : s < length r.bk
   pub be : s < length r.be
   pub vi : s < length r.vi
@@ -36,7 +36,8 @@ pub record HaveRoom (r : Flags) (s : ℕ) : Type 0 where
 -- the flags with the four of station s as v has them
 abbrev pub with_flags : Flags → TransmitValue → ℕ → Flags
 with_flags r v s =
-    with_flag (with_flag (with_flag (with_flag r Bk s (is_ready_of v Bk s)) Be s (is_ready_of v Be s)) Vi s (is_ready_of v Vi s)) Vo s (is_ready_of v Vo s)
+    with_flag (with_flag (with_flag (with_flag r Bk s (is_ready_of v Bk s)) Be s (is_ready_of v Be s)) Vi s
+    (is_ready_of v Vi s)) Vo s (is_ready_of v Vo s)
 
 -- the flags of a class: one for each station, which is up where the station is ready in the class
 pub record TellsClass (v : TransmitValue) (c : Class) (flags : List Bool) : Type 0 where

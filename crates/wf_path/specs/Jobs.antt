@@ -8,9 +8,9 @@ use Rattle.wf_frame.specs.declared.notes.Note.TheVariants.{Asked}
 use Rattle.wf_frame.specs.declared.notes.Refusal.TheVariants.{Idle}
 use Rattle.wf_frame.specs.declared.notes.ReplyNote.{ReplyNote}
 use Rattle.wf_frame.specs.declared.notes.ReplyNote.TheVariants.{Accepted, Reaped, Refused}
-use Rattle.wf_flowq_refines.specs.Frames.{with_body}
-use Rattle.wf_transmit.specs.Enqueues.{enqueue_of, as_accepted}
-use Rattle.wf_transmit_refines.specs.Half.{TransmitValue}
+use Rattle.wf_queue_flows_refines.specs.Frames.{with_body}
+use Rattle.wf_send_half.specs.Enqueues.{enqueue_of, as_accepted}
+use Rattle.wf_send_half_refines.specs.Half.{TransmitValue}
 use Rattle.wf_path.specs.declared.job.Job.{Job}
 use Rattle.wf_path.specs.declared.job.Job.TheVariants.{Give, Call}
 
@@ -31,7 +31,8 @@ IsHeard (Call (Answer exchange)) = ⊥
 IsHeard (Call (Done exchange heard)) = ⊥
 IsHeard job = Unit {0}
 
--- the calls whose answer is a brief alone, or with the frames of an aggregate: none of exchanges that are open, and no reap
+-- the calls whose answer is a brief alone, or with the frames of an aggregate: none of exchanges that are
+-- open, and no reap
 abbrev pub IsBrief : Ask → Type 0
 IsBrief (Arrive exchange index) = ⊥
 IsBrief (Answer exchange) = ⊥
@@ -44,13 +45,15 @@ abbrev pub bodies_after : TransmitValue → Job → ReplyNote → (ℕ → Frame
 bodies_after v (Give f) (Accepted id dropped) bodies = with_body bodies (as_accepted v f)
 bodies_after v job reply bodies = bodies
 
--- The frame that comes back: the one that a call brought, where it is refused; the frame of the reaped id, with its fate; else none.
-abbrev pub given_back : (ℕ → FrameValue) → Job → ReplyNote → Option FrameValue
-given_back bodies (Give f) (Refused reason) = Some f
-given_back bodies (Call Reap) (Reaped id fate) = Some (record (bodies id) { fate = fate })
-given_back bodies job reply = None
+-- The frame that comes back: the one that a call brought, where it is refused; the frame of the reaped id,
+-- with its fate; else none.
+abbrev pub frame_given_back : (ℕ → FrameValue) → Job → ReplyNote → Option FrameValue
+frame_given_back bodies (Give f) (Refused reason) = Some f
+frame_given_back bodies (Call Reap) (Reaped id fate) = Some (record (bodies id) { fate = fate })
+frame_given_back bodies job reply = None
 
--- whether a reply refuses its call, which then changes nothing: any refusal but that of a pull which finds nobody ready
+-- whether a reply refuses its call, which then changes nothing: any refusal but that of a pull which finds
+-- nobody ready
 abbrev pub changes_nothing : ReplyNote → Bool
 changes_nothing (Refused Idle) = false
 changes_nothing (Refused reason) = true

@@ -1,5 +1,10 @@
-pub mod Jobs
-pub mod Flags
-pub mod Paths
+pub mod Answers
 pub mod Driver
+pub mod Flags
+pub mod Flights
+pub mod Jobs
+pub mod Paths
 pub mod Small
+pub mod Traffic
+pub mod Transmissions
+pub mod Writing

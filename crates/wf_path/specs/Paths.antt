@@ -6,15 +6,16 @@ use Rattle.wf_frame.specs.Frames.{FrameValue}
 use Rattle.wf_frame.specs.declared.answers.Brief.{Brief}
 use Rattle.wf_frame.specs.declared.notes.Ask.{Ask}
 use Rattle.wf_frame.specs.declared.notes.Note.TheVariants.{Asked}
-use Rattle.wf_world.specs.World.{World}
-use Rattle.wf_driver_laws.specs.Unheard.{IsUnheard}
-use Rattle.wf_members.specs.Members.{member, charged_in, received_in}
-use Rattle.wf_transmit_refines.specs.Half.{TransmitValue}
-use Rattle.wf_transmit_refines.specs.Standing.{StandsFor, Meets}
+use Rattle.wf_def_world.specs.World.{World}
+use Rattle.wf_law_driver.specs.Unheard.{IsUnheard}
+use Rattle.wf_send_stations.specs.Members.{member, charged_in, received_in}
+use Rattle.wf_send_half_refines.specs.Half.{TransmitValue}
+use Rattle.wf_send_half_refines.specs.Standing.{StandsFor, Meets}
 use Rattle.wf_path.specs.Flags.{Flags, AreFlags}
 use Rattle.wf_path.specs.Jobs.{changes_nothing}
 
--- A path stands for the transmit half of some world of a run, in which no receiver has anything of which its sender does not know.
+-- A path stands for the transmit half of some world of a run, in which no receiver has anything of which its
+-- sender does not know.
 pub record IsPath (v : TransmitValue) : Type 0 where
   pub world : World
   pub bodies : ℕ → FrameValue
@@ -34,10 +35,12 @@ pub record IsSmall (v : TransmitValue) : Type 0 where
   pub charged : (s : ℕ) (c : Class) → IfSome (member v.members s) (λ m. charged_in m c < 2 ^ 62)
   pub received : (s : ℕ) (c : Class) → IfSome (member v.members s) (λ m. received_in m c < 2 ^ 62)
 
--- What a call that brings no frame leaves of v, for every world that v stands for, and its brief, beside these frames and whatever
--- ids.
-pub record IsAnswered (v : TransmitValue) (ask : Ask) (u : TransmitValue) (brief : Brief) (pairs : List (ℕ × ℕ)) : Type 0 where
-  pub meets : (w : World) (bodies : ℕ → FrameValue) (ids : List ℕ) → StandsFor v w bodies → Meets w bodies (Asked ask) u (reply_with brief pairs ids)
+-- What a call that brings no frame leaves of v, for every world that v stands for, and its brief, beside
+-- these frames and whatever ids.
+pub record IsAnswered (v : TransmitValue) (ask : Ask) (u : TransmitValue) (brief : Brief)
+    (pairs : List (ℕ × ℕ)) : Type 0 where
+  pub meets : (w : World) (bodies : ℕ → FrameValue) (ids : List ℕ) → StandsFor v w bodies →
+      Meets w bodies (Asked ask) u (reply_with brief pairs ids)
   pub refused : (ids : List ℕ) → changes_nothing (reply_with brief pairs ids) ≡ true → u ≡ v
   pub path : IsPath u
 

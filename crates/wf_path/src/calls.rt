@@ -6,28 +6,29 @@ ghost use Rattle.wf_frame.specs.Answers.{reply_of, reply_with};
 ghost use Rattle.wf_frame.specs.declared.notes.Ask.TheVariants.{Join, Leave, Rate, Tick, Pull, Sleep, Wake, Poll, Rx, Reap};
 ghost use Rattle.wf_frame.specs.declared.notes.Note.TheVariants.{Asked};
 ghost use Rattle.wf_frame.specs.declared.notes.ReplyNote.TheVariants.{Accepted, Refused};
-ghost use Rattle.wf_world.specs.World.{World};
-ghost use Rattle.wf_flowq_refines.specs.Frames.{with_body, IsBodySettled};
-ghost use Rattle.wf_transmit.specs.Enqueues.{enqueue_of, as_accepted};
-ghost use Rattle.wf_transmit.specs.Replies.{reaped_reply};
-ghost use Rattle.wf_transmit_refines.specs.Standing.{StandsFor, Meets};
-ghost use Rattle.wf_path.specs.Jobs.{IsHeard, IsBrief, note_of, bodies_after, given_back, changes_nothing};
+ghost use Rattle.wf_def_world.specs.World.{World};
+ghost use Rattle.wf_queue_flows_refines.specs.Frames.{with_body, IsBodySettled};
+ghost use Rattle.wf_send_half.specs.Enqueues.{enqueue_of, as_accepted};
+ghost use Rattle.wf_send_half.specs.Replies.{reaped_reply};
+ghost use Rattle.wf_send_half_refines.specs.Standing.{StandsFor, Meets};
+ghost use Rattle.wf_path.specs.Jobs.{IsHeard, IsBrief, note_of, bodies_after, frame_given_back, changes_nothing};
 ghost use Rattle.wf_path.specs.Paths.{IsPath, IsSmall, IsAnswered, IsToldBriefly};
 
 use crate::{Job, Path};
-use wf_chain::Parcel;
 use wf_frame::{Answer, Ask, Brief, Class, Pairs, Refusal};
+use wf_queue_chain::Parcel;
 
 impl Path {
-    /// Makes a call, which is none of Arrive, Answer and Done, and answers it. A frame comes back exactly where it was refused, or
-    /// reaped.
+    /// Makes a call, which is none of Arrive, Answer and Done, and answers it. A frame comes back exactly
+    /// where it was refused, or reaped.
     pub fn call(&mut self, job: Job, answer: &mut Answer) -> Option<Parcel>
         requires heard { IsHeard job }
         requires small { IsSmall self.old }
         ensures meets { (w : World) (bodies : ℕ → FrameValue) → StandsFor self.old w bodies →
-            Meets w (bodies_after self.old job (reply_of answer.new) bodies) (note_of job) self.new (reply_of answer.new) }
+            Meets w (bodies_after self.old job (reply_of answer.new) bodies) (note_of job) self.new
+            (reply_of answer.new) }
         ensures parcel { (w : World) (bodies : ℕ → FrameValue) → StandsFor self.old w bodies →
-            result ≡ given_back bodies job (reply_of answer.new) }
+            result ≡ frame_given_back bodies job (reply_of answer.new) }
         ensures refused { changes_nothing (reply_of answer.new) ≡ true → self.new ≡ self.old }
         ensures path { IsPath self.new }
     {
@@ -49,8 +50,10 @@ impl Path {
     fn give(&mut self, parcel: Parcel, answer: &mut Answer) -> Option<Parcel>
         requires small { IsSmall self.old }
         ensures meets { (w : World) (bodies : ℕ → FrameValue) → StandsFor self.old w bodies →
-            Meets w (bodies_after self.old (Job.Give parcel) (reply_of answer.new) bodies) (enqueue_of parcel) self.new (reply_of answer.new) }
-        ensures parcel { (bodies : ℕ → FrameValue) → result ≡ given_back bodies (Job.Give parcel) (reply_of answer.new) }
+            Meets w (bodies_after self.old (Job.Give parcel) (reply_of answer.new) bodies)
+            (enqueue_of parcel) self.new (reply_of answer.new) }
+        ensures parcel { (bodies : ℕ → FrameValue) →
+            result ≡ frame_given_back bodies (Job.Give parcel) (reply_of answer.new) }
         ensures refused { changes_nothing (reply_of answer.new) ≡ true → self.new ≡ self.old }
         ensures path { IsPath self.new }
     {
@@ -69,9 +72,12 @@ impl Path {
     // Accepts a frame, or hands it back.
     fn enqueue(&mut self, parcel: Parcel) -> Result<(u64, Option<u64>), (Refusal, Parcel)>
         requires small { IsSmall self.old }
-        ensures meets { IfOk result (λ given. (w : World) (bodies : ℕ → FrameValue) → StandsFor self.old w bodies →
-            Meets w (with_body bodies (as_accepted self.old parcel)) (enqueue_of parcel) self.new (Accepted given.0 given.1)) }
-        ensures refuses { IfErr result (λ given. (w : World) (bodies : ℕ → FrameValue) → StandsFor self.old w bodies →
+        ensures meets { IfOk result (λ given. (w : World) (bodies : ℕ → FrameValue) →
+            StandsFor self.old w bodies →
+            Meets w (with_body bodies (as_accepted self.old parcel)) (enqueue_of parcel) self.new
+            (Accepted given.0 given.1)) }
+        ensures refuses { IfErr result (λ given. (w : World) (bodies : ℕ → FrameValue) →
+            StandsFor self.old w bodies →
             Meets w bodies (enqueue_of parcel) self.new (Refused given.0)) }
         ensures refused { IfErr result (λ _. self.new ≡ self.old) }
         ensures handed_back { IfErr result (λ given. given.1 ≡ parcel) }
@@ -90,8 +96,10 @@ impl Path {
 
     // Takes the first finished frame.
     fn reap(&mut self) -> Option<Parcel>
-        ensures meets { (w : World) (bodies : ℕ → FrameValue) → StandsFor self.old w bodies → Meets w bodies (Asked Reap) self.new (reaped_reply result) }
-        ensures parcel { IfSome result (λ p. (w : World) (bodies : ℕ → FrameValue) → StandsFor self.old w bodies → IsBodySettled bodies p) }
+        ensures meets { (w : World) (bodies : ℕ → FrameValue) → StandsFor self.old w bodies →
+            Meets w bodies (Asked Reap) self.new (reaped_reply result) }
+        ensures parcel { IfSome result (λ p. (w : World) (bodies : ℕ → FrameValue) →
+            StandsFor self.old w bodies → IsBodySettled bodies p) }
         ensures refused { IfNone result (self.new ≡ self.old) }
         ensures path { IsPath self.new }
     {

@@ -2,26 +2,28 @@
 
 ghost use Rattle.std.specs.Prelude.{◌≡◌, ◌≤◌, ℕ, Some, option_map, take, drop, length, IfOk, OnErr};
 ghost use Rattle.wf_frame.specs.Frames.{FrameValue};
-ghost use Rattle.wf_world.specs.Text.{traffic_map, with_traffic};
-ghost use Rattle.wf_world.specs.World.{World, exchange as exchange_in};
-ghost use Rattle.wf_transmit_refines.specs.Standing.{StandsFor};
-ghost use Rattle.wf_transmissions.specs.Answers.{done_fault_of, block_ack_in};
-ghost use Rattle.wf_transmissions.specs.Transmissions.{sent_of, id_sent, octets_sent};
-ghost use Rattle.wf_transmissions.specs.Writing.{write_fault, path_fault_of};
+ghost use Rattle.wf_def_world.specs.Text.{traffic_map, with_traffic};
+ghost use Rattle.wf_def_world.specs.World.{World, exchange as exchange_in};
+ghost use Rattle.wf_send_half_refines.specs.Standing.{StandsFor};
+ghost use Rattle.std.specs.Result.{result_err};
+ghost use Rattle.wf_path.specs.Answers.{block_ack_in};
+ghost use Rattle.wf_path.specs.Transmissions.{sent_of, id_sent, octets_sent};
+ghost use Rattle.std.specs.Result.{result_err};
+ghost use Rattle.wf_path.specs.Writing.{write_fault};
 ghost use Rattle.wf_path.specs.Driver.{IsEnded, end_fault};
 ghost use Rattle.wf_path.specs.Paths.{IsSmall};
 
-use crate::Path;
-use wf_bits::Bits256;
+use crate::{DoneFault, Path, PathFault, Sent};
 use wf_frame::{Brief, Class, Refusal};
-use wf_seq12::Seq12;
-use wf_transmissions::{DoneFault, PathFault, Sent};
+use wf_octets_bits::Bits256;
+use wf_octets_seq12::Seq12;
 
 impl Path {
-    /// An exchange ends: its station pays for it, and what it sent is settled. `heard` is what was heard in answer: the start and
-    /// the bits of a BlockAck (IEEE 802.11-2012, 8.3.1.9), of which the first 64 count, or all 256 where the TID's window is
-    /// above 64. Each number that it shows is acknowledged; each other one waits again, or fails where it was sent `attempts`
-    /// times. A request is heard where anything was. Where the exchange is not open, refused as NoExchange.
+    /// An exchange ends: its station pays for it, and what it sent is settled. `heard` is what was heard in
+    /// answer: the start and the bits of a BlockAck (IEEE 802.11-2012, 8.3.1.9), of which the first 64 count,
+    /// or all 256 where the TID's window is above 64. Each number that it shows is acknowledged; each other
+    /// one waits again, or fails where it was sent `attempts` times. A request is heard where anything was.
+    /// Where the exchange is not open, refused as NoExchange.
     pub fn done_bits(&mut self, exchange: u64, heard: Option<(Seq12, Bits256)>) -> Brief
         requires small { IsSmall self.old }
         ensures { IsEnded self.old exchange heard self.new result }
@@ -43,17 +45,19 @@ impl Path {
         }
     }
 
-    /// The same, where `heard` are the octets of the BlockAck that was heard. Refused as NoExchange where the exchange is not open,
-    /// and else for the first check of the octets that fails; then the exchange is as it was, and nothing has changed.
+    /// The same, where `heard` are the octets of the BlockAck that was heard. Refused as NoExchange where the
+    /// exchange is not open, and else for the first check of the octets that fails; then the exchange is as
+    /// it was, and nothing has changed.
     pub fn done_bytes(&mut self, exchange: u64, heard: Option<&[u8]>) -> Result<Brief, DoneFault>
         requires small { IsSmall self.old }
         ensures fault { (w : World) (bodies : ℕ → FrameValue) → StandsFor self.old w bodies →
-            done_fault_of result ≡ end_fault w exchange (option_map (λ octets. octets.now) heard.entry) }
+            result_err result ≡ end_fault w exchange (option_map (λ octets. octets.now) heard.entry) }
         ensures unchanged { OnErr result (self.new ≡ self.old) }
-        ensures ended { IfOk result (λ brief. IsEnded self.old exchange (option_map (λ octets. block_ack_in octets.now) heard.entry) self.new brief) }
+        ensures ended { IfOk result (λ brief. IsEnded self.old exchange
+            (option_map (λ octets. block_ack_in octets.now) heard.entry) self.new brief) }
     {
         let shown = match heard {
-            Some(octets) => Some(wf_transmissions::read_block_ack(&self.half, exchange, octets)?),
+            Some(octets) => Some(crate::read_block_ack(&self.half, exchange, octets)?),
             None if self.sent(exchange).is_some() => None,
             None => return Err(DoneFault::NoExchange),
         };
@@ -62,39 +66,43 @@ impl Path {
 
     /// What an open exchange sends, and to whom. None where it is not open.
     pub fn sent(&self, exchange: u64) -> Option<Sent>
-        ensures { (w : World) (bodies : ℕ → FrameValue) → StandsFor self.now w bodies → result ≡ option_map sent_of (exchange_in w exchange) }
+        ensures { (w : World) (bodies : ℕ → FrameValue) → StandsFor self.now w bodies →
+            result ≡ option_map sent_of (exchange_in w exchange) }
     {
-        wf_transmissions::sent_by(&self.half, exchange)
+        crate::sent_by(&self.half, exchange)
     }
 
-    /// The id of the frame of a transmission. None where the exchange is not open, is a request, or has no transmission of that
-    /// index.
+    /// The id of the frame of a transmission. None where the exchange is not open, is a request, or has no
+    /// transmission of that index.
     pub fn frame_id(&self, exchange: u64, index: u16) -> Option<u64>
-        ensures { (w : World) (bodies : ℕ → FrameValue) → StandsFor self.now w bodies → result ≡ id_sent w exchange index }
+        ensures { (w : World) (bodies : ℕ → FrameValue) → StandsFor self.now w bodies →
+            result ≡ id_sent w exchange index }
     {
-        wf_transmissions::frame_id(&self.half, exchange, index)
+        crate::frame_id(&self.half, exchange, index)
     }
 
-    /// Writes the octets of one transmission of an open exchange, a data frame or a BlockAckReq (8.3.2.1 and 8.3.1.8), and gives
-    /// how many they are. The rest of `out` stays; after a fault all of it does.
+    /// Writes the octets of one transmission of an open exchange, a data frame or a BlockAckReq (8.3.2.1 and
+    /// 8.3.1.8), and gives how many they are. The rest of `out` stays; after a fault all of it does.
     pub fn mpdu(&self, exchange: u64, index: u16, out: &mut [u8]) -> Result<usize, PathFault>
         ensures fault { (w : World) (bodies : ℕ → FrameValue) → StandsFor self.now w bodies →
-            path_fault_of result ≡ write_fault w bodies exchange index (length out.old) }
+            result_err result ≡ write_fault w bodies exchange index (length out.old) }
         ensures unchanged { OnErr result (out.new ≡ out.old) }
-        ensures octets { IfOk result (λ n. (w : World) (bodies : ℕ → FrameValue) → StandsFor self.now w bodies →
+        ensures octets { IfOk result (λ n. (w : World) (bodies : ℕ → FrameValue) →
+            StandsFor self.now w bodies →
             octets_sent w bodies exchange index ≡ Some (take n out.new)) }
         ensures within { IfOk result (λ n. n ≤ length out.new) }
         ensures rest { IfOk result (λ n. drop n out.new ≡ drop n out.old) }
     {
-        wf_transmissions::write_transmission(&self.half, exchange, index, out)
+        crate::write_transmission(&self.half, exchange, index, out)
     }
 
-    /// Writes the TIM element (8.4.2.7) of the live stations that sleep and have traffic, and gives how many octets it has. The
-    /// rest of `out` stays.
+    /// Writes the TIM element (8.4.2.7) of the live stations that sleep and have traffic, and gives how many
+    /// octets it has. The rest of `out` stays.
     pub fn tim(&self, out: &mut [u8; 256]) -> usize
-        ensures octets { (w : World) (bodies : ℕ → FrameValue) → StandsFor self.now w bodies → take result out.new ≡ traffic_map (with_traffic w) }
+        ensures octets { (w : World) (bodies : ℕ → FrameValue) → StandsFor self.now w bodies →
+            take result out.new ≡ traffic_map (with_traffic w) }
         ensures rest { drop result out.new ≡ drop result out.old }
     {
-        wf_transmissions::tim(&self.half, out)
+        crate::tim(&self.half, out)
     }
 }

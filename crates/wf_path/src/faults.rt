@@ -1,4 +1,4 @@
-//! Why there is no path.
+//! Why there is no path, why a transmission is not written, and why octets are no answer to it.
 
 ghost use Rattle.std.specs.Prelude.{◌≡◌};
 ghost use Rattle.wf_path.specs.declared.faults.NewFault.TheVariants.{NoMemory};
@@ -6,6 +6,7 @@ ghost use Rattle.wf_path.specs.declared.faults.NewFault.TheVariants.{NoMemory};
 use std::alloc::AllocError;
 use thiserror::Error;
 use wf_frame::Field;
+use wf_octets_block::BlockFault;
 
 /// Why there is no new path.
 #[derive(Clone, Copy, Debug, PartialEq, Eq, Error)]
@@ -24,4 +25,43 @@ impl From<AllocError> for NewFault {
     fn from(_e: AllocError) -> NewFault {
         NewFault::NoMemory
     }
+}
+
+/// Why no octets of a transmission were written. The variants stand in the order of the checks, and the first
+/// check that fails is told.
+#[derive(Clone, Copy, Debug, PartialEq, Eq, Error)]
+pub enum PathFault {
+    /// No open exchange has that number.
+    #[error("no such exchange")]
+    NoExchange,
+    /// The exchange has no transmission of that index.
+    #[error("no such transmission")]
+    BadIndex,
+    /// The transmission has more octets than there is room for.
+    #[error("a transmission of {need} octets")]
+    SmallBuffer {
+        /// The octets of the transmission.
+        need: usize,
+    },
+}
+
+/// Why octets are no BlockAck to an exchange. The variants stand in the order of the checks, and the first
+/// check that fails is told.
+#[derive(Clone, Copy, Debug, PartialEq, Eq, Error)]
+pub enum DoneFault {
+    /// No open exchange has that number.
+    #[error("no such exchange")]
+    NoExchange,
+    /// They are no BlockAck of the session's width.
+    #[error(transparent)]
+    Block(BlockFault),
+    /// The BlockAck is not to the access point, or not from the exchange's station.
+    #[error("a BlockAck from or to another station")]
+    NotMine,
+    /// The BlockAck is of another traffic identifier.
+    #[error("a BlockAck of traffic identifier {found}")]
+    WrongTid {
+        /// The traffic identifier that it names.
+        found: u8,
+    },
 }

@@ -1,10 +1,12 @@
 //! What a caller hands in.
 
 ghost use Rattle.std.specs.Prelude.{◌≡◌};
+ghost use Rattle.wf_def_lists.specs.Lengths.{greatest_body};
+ghost use Rattle.wf_law_runs.specs.Queues.{HasLength, IsAtMost};
 ghost use Rattle.wf_path.specs.Jobs.{note_of, frame_of};
 
-use wf_chain::Parcel;
 use wf_frame::{Ask, Note};
+use wf_queue_chain::Parcel;
 
 /// A call: a frame to accept, or a call that carries none.
 #[derive(Drop)]
@@ -16,9 +18,11 @@ pub enum Job {
 }
 
 impl Job {
-    /// The call as numbers.
+    /// The call as numbers, as a history keeps it: its frame has a length, of at most 2304 octets.
     pub fn note(&self) -> Note
-        ensures { result ≡ note_of self.now }
+        ensures value { result ≡ note_of self.now }
+        ensures some { HasLength result }
+        ensures most { IsAtMost greatest_body result }
     {
         match self {
             Job::Give(parcel) => {

@@ -1,17 +1,30 @@
-//! The transmit path: for a driver that sends what it is given and hands back the BlockAck that it heard.
+//! The path that drivers use, `Path`: a shell round the transmit half. By its invariant there is an unheard
+//! world of a run that it stands for, and its flags tell which stations are ready, so a pull asks nobody.
+//! `call` makes any call but those of a receiver, `done_bits` and `done_bytes` end an exchange by a BlockAck;
+//! `has_small_counts` tells whether these may be called.
 //!
-//! No call takes memory.
+//! What an open exchange sends is told by `sent`, `frame_id` and `mpdu`, as octets (IEEE 802.11-2012, 8.2.4,
+//! 8.3.1.8, 8.3.2.1; specs/Transmissions); its BlockAck is read back (8.3.1.9), and `tim` is for sleepers
+//! (8.4.2.7). Only `new` takes memory.
 #![tactic(auto)]
 
+mod answers;
 mod calls;
 mod driver;
 mod faults;
+mod flights;
 mod job;
 mod path;
+mod reading;
 mod ready;
 mod small;
+mod traffic;
+mod writing;
 
-pub use faults::NewFault;
+pub use answers::read_block_ack;
+pub use faults::{DoneFault, NewFault, PathFault};
 pub use job::Job;
 pub use path::Path;
-pub use wf_transmissions::{DoneFault, PathFault, Sent};
+pub use reading::{Sent, frame_id, sent_by};
+pub use traffic::tim;
+pub use writing::write_transmission;

@@ -4,24 +4,24 @@ ghost use Rattle.std.specs.Prelude.{◌≡◌, ◌↔◌, ℕ, Some, Err, length
 ghost use Rattle.wf_frame.specs.Frames.{FrameValue};
 ghost use Rattle.wf_frame.specs.Settings.{first_out_of_range};
 ghost use Rattle.wf_frame.specs.declared.settings.Field.{Field};
-ghost use Rattle.wf_world.specs.World.{World, opening, is_live, share};
-ghost use Rattle.wf_fate.specs.Tally.{counts_of};
-ghost use Rattle.wf_sched.specs.ClassRotas.{deficit};
-ghost use Rattle.wf_members.specs.Members.{member, charged_in, received_in};
-ghost use Rattle.wf_transmit.specs.Half.{IsLive};
-ghost use Rattle.wf_transmit_refines.specs.Standing.{StandsFor, counts_in};
+ghost use Rattle.wf_def_world.specs.World.{World, opening, is_live, share};
+ghost use Rattle.wf_send_stations.specs.Tally.{counts_of};
+ghost use Rattle.wf_sched_stations.specs.ClassRotas.{deficit};
+ghost use Rattle.wf_send_stations.specs.Members.{member, charged_in, received_in};
+ghost use Rattle.wf_send_half.specs.Half.{IsLive};
+ghost use Rattle.wf_send_half_refines.specs.Standing.{StandsFor, counts_in};
 ghost use Rattle.wf_path.specs.Paths.{IsPath, IsSmall};
 
 use crate::NewFault;
 use crate::ready::Ready;
 use std::alloc::Global;
 use std::marker::Model;
-use wf_fate::Tally;
 use wf_frame::{Class, Config};
-use wf_transmit::Transmit;
+use wf_send_half::Transmit;
+use wf_send_stations::Tally;
 
-/// The transmit path. A contract sees its transmit half, and says of a call what it makes of each world of a run that the half
-/// stands for (`wf_transmit_refines`); there is always one. Only `new` takes memory.
+/// The transmit path. A contract sees its transmit half, and says of a call what it makes of each world of a
+/// run that the half stands for (`wf_send_half_refines`); there is always one. Only `new` takes memory.
 ///
 /// It keeps by class which stations are ready, so that a pull asks nobody.
 #[derive(Drop)]
@@ -31,7 +31,7 @@ pub struct Path {
 }
 
 impl Model for Path {
-    ghost use Rattle.wf_transmit_refines.specs.Half.{TransmitValue};
+    ghost use Rattle.wf_send_half_refines.specs.Half.{TransmitValue};
     ghost use Rattle.wf_path.specs.Paths.{IsTracked};
 
     ghost Value = { TransmitValue };
@@ -42,11 +42,13 @@ impl Model for Path {
 }
 
 impl Path {
-    /// A path of these settings: no station is live, and no frame was accepted. Refused as BadConfig where a setting is out of
-    /// its range, with the first such setting, or as NoMemory.
+    /// A path of these settings: no station is live, and no frame was accepted. Refused as BadConfig where a
+    /// setting is out of its range, with the first such setting, or as NoMemory.
     pub fn new(alloc: Global, config: Config) -> Result<Path, NewFault>
-        ensures bad { (f : Field) → (result ≡ Err (NewFault.BadConfig f)) ↔ (first_out_of_range config ≡ Some f) }
-        ensures stands { IfOk result (λ made. (bodies : ℕ → FrameValue) → StandsFor made (opening config) bodies) }
+        ensures bad { (f : Field) → (result ≡ Err (NewFault.BadConfig f)) ↔
+            (first_out_of_range config ≡ Some f) }
+        ensures stands { IfOk result (λ made. (bodies : ℕ → FrameValue) →
+            StandsFor made (opening config) bodies) }
         ensures small { IfOk result IsSmall }
         ensures path { IfOk result IsPath }
     {
@@ -61,7 +63,8 @@ impl Path {
     /// The settings.
     pub fn config(&self) -> Config
         ensures value { result ≡ self.now.config }
-        ensures world { (w : World) (bodies : ℕ → FrameValue) → StandsFor self.now w bodies → result ≡ w.config }
+        ensures world { (w : World) (bodies : ℕ → FrameValue) → StandsFor self.now w bodies →
+            result ≡ w.config }
     {
         self.half.config()
     }
@@ -69,7 +72,8 @@ impl Path {
     /// The clock, in microseconds.
     pub fn now(&self) -> u64
         ensures value { result ≡ self.now.clock }
-        ensures world { (w : World) (bodies : ℕ → FrameValue) → StandsFor self.now w bodies → result ≡ w.clock }
+        ensures world { (w : World) (bodies : ℕ → FrameValue) → StandsFor self.now w bodies →
+            result ≡ w.clock }
     {
         self.half.now()
     }
@@ -77,7 +81,8 @@ impl Path {
     /// How many exchanges were opened.
     pub fn exchanges(&self) -> u64
         ensures value { result ≡ self.now.exchanges }
-        ensures world { (w : World) (bodies : ℕ → FrameValue) → StandsFor self.now w bodies → result ≡ w.exchanges }
+        ensures world { (w : World) (bodies : ℕ → FrameValue) → StandsFor self.now w bodies →
+            result ≡ w.exchanges }
     {
         self.half.exchanges()
     }
@@ -85,7 +90,8 @@ impl Path {
     /// How many exchanges are open, at most 32.
     pub fn open_count(&self) -> u32
         ensures value { result ≡ length self.now.opened }
-        ensures world { (w : World) (bodies : ℕ → FrameValue) → StandsFor self.now w bodies → result ≡ length w.opened }
+        ensures world { (w : World) (bodies : ℕ → FrameValue) → StandsFor self.now w bodies →
+            result ≡ length w.opened }
     {
         self.half.open_count()
     }
@@ -93,7 +99,8 @@ impl Path {
     /// Whether a station is live; one past the last is not.
     pub fn live(&self, station: u16) -> bool
         ensures value { result ≡ is_some (member self.now.members station) }
-        ensures world { (w : World) (bodies : ℕ → FrameValue) → StandsFor self.now w bodies → result ≡ is_live w station }
+        ensures world { (w : World) (bodies : ℕ → FrameValue) → StandsFor self.now w bodies →
+            result ≡ is_live w station }
     {
         self.half.is_live(station)
     }
@@ -101,7 +108,8 @@ impl Path {
     /// The accepted frames by what became of them.
     pub fn tally(&self) -> Tally
         ensures value { counts_of result ≡ self.now.tally }
-        ensures world { (w : World) (bodies : ℕ → FrameValue) → StandsFor self.now w bodies → counts_of result ≡ counts_in w }
+        ensures world { (w : World) (bodies : ℕ → FrameValue) → StandsFor self.now w bodies →
+            counts_of result ≡ counts_in w }
     {
         self.half.tally()
     }
@@ -110,7 +118,8 @@ impl Path {
     pub fn deficit(&self, station: u16, class: Class) -> i64
         requires live { IsLive self.now station }
         ensures value { result ≡ deficit self.now.sched class station }
-        ensures world { (w : World) (bodies : ℕ → FrameValue) → StandsFor self.now w bodies → result ≡ (share w station class).deficit }
+        ensures world { (w : World) (bodies : ℕ → FrameValue) → StandsFor self.now w bodies →
+            result ≡ (share w station class).deficit }
     {
         self.half.deficit(station, class)
     }
@@ -119,7 +128,8 @@ impl Path {
     pub fn charged(&self, station: u16, class: Class) -> u64
         requires live { IsLive self.now station }
         ensures value { option_map (λ m. charged_in m class) (member self.now.members station) ≡ Some result }
-        ensures world { (w : World) (bodies : ℕ → FrameValue) → StandsFor self.now w bodies → result ≡ (share w station class).charged }
+        ensures world { (w : World) (bodies : ℕ → FrameValue) → StandsFor self.now w bodies →
+            result ≡ (share w station class).charged }
     {
         self.half.charged(station, class)
     }
@@ -127,8 +137,10 @@ impl Path {
     /// The airtime that a live station itself used in a class since its join, in microseconds.
     pub fn received(&self, station: u16, class: Class) -> u64
         requires live { IsLive self.now station }
-        ensures value { option_map (λ m. received_in m class) (member self.now.members station) ≡ Some result }
-        ensures world { (w : World) (bodies : ℕ → FrameValue) → StandsFor self.now w bodies → result ≡ (share w station class).received }
+        ensures value { option_map (λ m. received_in m class) (member self.now.members station)
+            ≡ Some result }
+        ensures world { (w : World) (bodies : ℕ → FrameValue) → StandsFor self.now w bodies →
+            result ≡ (share w station class).received }
     {
         self.half.received(station, class)
     }

@@ -1,13 +1,13 @@
 //! Who is ready.
 
 ghost use Rattle.std.specs.Prelude.{◌≡◌, ◌<◌, length, replicate, false, IfOk};
-ghost use Rattle.wf_transmit_refines.specs.Half.{is_ready_of};
-ghost use Rattle.wf_path.specs.Flags.{flags_in, with_flag, with_flags, HaveRoom};
+ghost use Rattle.wf_send_half_refines.specs.Half.{is_ready_of};
+ghost use Rattle.wf_path.specs.Flags.{flags_in, with_flag, with_flags, FlagsHaveRoom};
 
 use std::alloc::{AllocError, Global};
 use std::marker::Model;
 use wf_frame::Class;
-use wf_transmit::Transmit;
+use wf_send_half::Transmit;
 
 /// Whether each station is ready, by class.
 #[derive(Drop)]
@@ -76,7 +76,7 @@ impl Ready {
     // Sets the four flags of a station as the half has them.
     pub(crate) fn set_all(&mut self, half: &Transmit, station: u16)
         requires within { station < half.now.config.stations }
-        requires room { HaveRoom self.old station }
+        requires room { FlagsHaveRoom self.old station }
         ensures { self.new ≡ with_flags self.old half.now station }
     {
         self.set(half, station, Class::Bk);

@@ -1,8 +1,8 @@
 //! Whether a path's counts are small.
 
-ghost use Rattle.std.specs.Prelude.{◌≡◌, ◌<◌, ◌≤◌, ◌^◌, ℕ, true, length};
+ghost use Rattle.std.specs.Prelude.{◌≡◌, ◌<◌, ℕ, true};
 ghost use Rattle.wf_frame.specs.declared.classes.Class.{Class as ClassName};
-ghost use Rattle.wf_transmit.specs.Half.{IsLive};
+ghost use Rattle.wf_send_half.specs.Half.{IsLive};
 ghost use Rattle.wf_path.specs.Paths.{IsSmall};
 ghost use Rattle.wf_path.specs.Small.{IsSmallIn};
 
@@ -13,9 +13,10 @@ use wf_frame::Class;
 const LARGE: u64 = 1 << 62;
 
 impl Path {
-    /// Whether the clock, the counts of exchanges and of accepted frames, and the airtime of each live station in each class are
-    /// below 2^62, as `call`, `done_bits` and `done_bytes` ask. A driver need not ask before each call: none of them rises by more
-    /// than 10,000,000 in a call, so they stay so for 2^38 calls.
+    /// Whether the clock, the counts of exchanges and of accepted frames, and the airtime of each live
+    /// station in each class are below 2^62, as `call`, `done_bits` and `done_bytes` ask. A driver need not
+    /// ask before each call: none of them rises by more than 10,000,000 in a call, so they stay so for 2^38
+    /// calls.
     pub fn has_small_counts(&self) -> bool
         ensures small { result ≡ true → IsSmall self.now }
         ensures large { IsSmall self.now → result ≡ true }

@@ -1,13 +1,14 @@
 -- The checks of the headers of a capture file, in their order.
-use Rattle.std.specs.Prelude.{ℕ, ◌%◌, ◌==◌, ◌&&◌, nat_lt, not, Bool, true, false, List, length, Option, Some, None, Result, Ok, Err, if◌then◌else◌}
+use Rattle.std.specs.Prelude.{ℕ, ◌%◌, ◌==◌, ◌&&◌, nat_lt, not, Bool, true, false, List, length, Option, Some, None, if◌then◌else◌}
 use Rattle.wf_pcap.specs.declared.reading.Form.{Form}
 use Rattle.wf_pcap.specs.declared.reading.PcapFault.{PcapFault}
 use Rattle.wf_pcap.specs.declared.reading.PcapFault.TheVariants.{Short, Magic, Version, Link, Long}
-use Rattle.wf_pcap.specs.Capture.{number_at, magic_of, link_of_frames}
+use Rattle.wf_pcap.specs.Capture.{number_in_order, magic_of, link_of_frames}
 
 -- whether a magic number is that of nanoseconds, where it is one
 abbrev pub precision_of : ℕ → Option Bool
-precision_of magic = if magic == magic_of false then Some false else (if magic == magic_of true then Some true else None)
+precision_of magic = if magic == magic_of false then Some false
+    else (if magic == magic_of true then Some true else None)
 
 -- the form of that precision in a byte order
 abbrev pub with_order : Bool → Option Bool → Option Form
@@ -21,26 +22,26 @@ or_else None other = other
 
 -- the form of a file: the byte order in which its first number is a magic number, and which one it is
 abbrev pub form_of : List ℕ → Option Form
-form_of octets = or_else (with_order false (precision_of (number_at false 4 octets 0))) (with_order true (precision_of (number_at true 4 octets 0)))
+form_of octets = or_else (with_order false (precision_of (number_in_order false 4 octets 0)))
+    (with_order true (precision_of (number_in_order true 4 octets 0)))
 
 -- the first check that fails past the magic number
 abbrev pub fault_past_magic : List ℕ → Option Form → Option PcapFault
 fault_past_magic octets None = Some Magic
 fault_past_magic octets (Some form) =
-    if not (number_at form.big 2 octets 4 == 2 && number_at form.big 2 octets 6 == 4) then Some (Version (number_at form.big 2 octets 4) (number_at form.big 2 octets 6))
-    else (if not (number_at form.big 4 octets 20 % 65536 == link_of_frames) then Some (Link (number_at form.big 4 octets 20)) else None)
+    if not (number_in_order form.big 2 octets 4 == 2 && number_in_order form.big 2 octets 6 == 4)
+    then Some (Version (number_in_order form.big 2 octets 4) (number_in_order form.big 2 octets 6))
+    else (if not (number_in_order form.big 4 octets 20 % 65536 == link_of_frames)
+    then Some (Link (number_in_order form.big 4 octets 20)) else None)
 
 -- the first check that fails of a file header
 abbrev pub head_fault : List ℕ → Option PcapFault
-head_fault octets = if nat_lt (length octets) 24 then Some (Short 24 (length octets)) else fault_past_magic octets (form_of octets)
+head_fault octets = if nat_lt (length octets) 24 then Some (Short 24 (length octets))
+    else fault_past_magic octets (form_of octets)
 
 -- the first check that fails of a packet header; no packet has more than 262,144 octets captured
 abbrev pub packet_fault : Form → List ℕ → Option PcapFault
 packet_fault form octets =
     if nat_lt (length octets) 16 then Some (Short 16 (length octets))
-    else (if nat_lt 262144 (number_at form.big 4 octets 8) then Some (Long (number_at form.big 4 octets 8)) else None)
-
--- the fault that a result holds
-abbrev pub fault_of : {T : Type 0} → Result T PcapFault → Option PcapFault
-fault_of (Ok value) = None
-fault_of (Err fault) = Some fault
+    else (if nat_lt 262144 (number_in_order form.big 4 octets 8)
+    then Some (Long (number_in_order form.big 4 octets 8)) else None)

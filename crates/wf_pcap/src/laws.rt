@@ -1,22 +1,28 @@
 //! What is written is read back.
 
 ghost use Rattle.std.specs.Prelude.{◌≡◌, ℕ, ◌/◌, ◌%◌, ◌*◌, ◌^◌, ◌<◌, ◌≤◌, ◌++◌, List, None, length, drop};
-ghost use Rattle.wf_pcap.specs.Capture.{IsHead, written_form, head_octets, packet_octets, packet_in};
+ghost use Rattle.wf_pcap.specs.Capture.{IsHead, written_form, file_head_octets, packet_octets, packet_in};
 ghost use Rattle.wf_pcap.specs.Faults.{head_fault, packet_fault};
 
 /// What `write_head` writes is read by `read_head` as little-endian with microseconds, whatever follows it.
 pub fn head_is_read_back()
-    ensures read { (rest : List ℕ) → IsHead (head_octets ++ rest) written_form }
-    ensures no_fault { (rest : List ℕ) → head_fault (head_octets ++ rest) ≡ None }
+    ensures read { (rest : List ℕ) → IsHead (file_head_octets ++ rest) written_form }
+    ensures no_fault { (rest : List ℕ) → head_fault (file_head_octets ++ rest) ≡ None }
 {}
 
-/// What `write_packet` writes is read by `read_packet` with the time and the number of octets that were given, and its
-/// octets stand past the 16 of its header, whatever follows them.
+/// What `write_packet` writes is read by `read_packet` with the time and the number of octets that were
+/// given, and its octets stand past the 16 of its header, whatever follows them.
 pub fn packet_is_read_back()
     ensures read { (at : ℕ) (octets rest : List ℕ) → at < 2 ^ 32 * 1000000 → length octets ≤ 65535 →
         packet_in written_form (packet_octets at octets ++ rest)
-        ≡ record { seconds = at / 1000000; fraction = at % 1000000; captured = length octets; original = length octets } }
+        ≡ record {
+          seconds = at / 1000000;
+          fraction = at % 1000000;
+          captured = length octets;
+          original = length octets;
+        } }
     ensures no_fault { (at : ℕ) (octets rest : List ℕ) → length octets ≤ 65535 →
         packet_fault written_form (packet_octets at octets ++ rest) ≡ None }
-    ensures octets { (at : ℕ) (octets rest : List ℕ) → drop 16 (packet_octets at octets ++ rest) ≡ octets ++ rest }
+    ensures octets { (at : ℕ) (octets rest : List ℕ) →
+        drop 16 (packet_octets at octets ++ rest) ≡ octets ++ rest }
 {}

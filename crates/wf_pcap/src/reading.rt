@@ -1,8 +1,9 @@
 //! The headers of a capture file, as they are read.
 
 ghost use Rattle.std.specs.Prelude.{◌≡◌, ◌+◌, ◌≤◌, IfOk, Ok, Some, length};
-ghost use Rattle.wf_pcap.specs.Capture.{number_at, IsHead, packet_in};
-ghost use Rattle.wf_pcap.specs.Faults.{precision_of, form_of, head_fault, packet_fault, fault_of};
+ghost use Rattle.wf_pcap.specs.Capture.{number_in_order, IsHead, packet_in};
+ghost use Rattle.std.specs.Result.{result_err};
+ghost use Rattle.wf_pcap.specs.Faults.{precision_of, form_of, head_fault, packet_fault};
 ghost use Rattle.wf_pcap.specs.declared.reading.Form.{Form};
 
 use byteorder::{BigEndian, ByteOrder, LittleEndian};
@@ -74,15 +75,15 @@ pub enum PcapFault {
     },
 }
 
-/// Reads the header that a capture file begins with. Zone, accuracy and snap length are ignored, and so are octets past
-/// the header.
+/// Reads the header that a capture file begins with. Zone, accuracy and snap length are ignored, and so are
+/// octets past the header.
 pub fn read_head(octets: &[u8]) -> Result<Form, PcapFault>
     ensures read { IfOk result (λ form. IsHead octets.now form) }
     ensures complete { (form : Form) → IsHead octets.now form → result ≡ Ok form }
     ensures form { IfOk result (λ form. form_of octets.now ≡ Some form) }
 
     // it is refused for the first check that fails, and for nothing else
-    ensures fault { fault_of result ≡ head_fault octets.now }
+    ensures fault { result_err result ≡ head_fault octets.now }
 {
     let have = octets.len();
     if have < HEAD {
@@ -108,7 +109,7 @@ pub fn read_packet(form: Form, octets: &[u8]) -> Result<Packet, PcapFault>
     ensures read { IfOk result (λ packet. packet ≡ packet_in form octets.now) }
 
     // it is refused for the first check that fails, and for nothing else
-    ensures fault { fault_of result ≡ packet_fault form octets.now }
+    ensures fault { result_err result ≡ packet_fault form octets.now }
 {
     let have = octets.len();
     if have < PACKET_HEAD {
@@ -155,7 +156,7 @@ fn precision(magic: u32) -> Option<bool>
 // The number in the two octets from a place on.
 fn two_at(big: bool, octets: &[u8], place: usize) -> u16
     requires { place + 2 ≤ length octets.now }
-    ensures { result ≡ number_at big 2 octets.now place }
+    ensures { result ≡ number_in_order big 2 octets.now place }
 {
     let field = &octets[place..];
     if big {
@@ -168,7 +169,7 @@ fn two_at(big: bool, octets: &[u8], place: usize) -> u16
 // The number in the four octets from a place on.
 fn four_at(big: bool, octets: &[u8], place: usize) -> u32
     requires { place + 4 ≤ length octets.now }
-    ensures { result ≡ number_at big 4 octets.now place }
+    ensures { result ≡ number_in_order big 4 octets.now place }
 {
     let field = &octets[place..];
     if big {

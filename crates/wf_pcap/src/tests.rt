@@ -9,8 +9,8 @@ const HEAD: [u8; 24] = [
     0xd4, 0xc3, 0xb2, 0xa1, 2, 0, 4, 0, 0, 0, 0, 0, 0, 0, 0, 0, 0xff, 0xff, 0, 0, 0x69, 0, 0, 0,
 ];
 
-/// A file header in big-endian with nanoseconds, whose zone, accuracy and snap length are others, and whose link type has
-/// bits above its 16.
+/// A file header in big-endian with nanoseconds, whose zone, accuracy and snap length are others, and whose
+/// link type has bits above its 16.
 const BIG_HEAD: [u8; 24] = [
     0xa1, 0xb2, 0x3c, 0x4d, 0, 2, 0, 4, 0, 0, 0x0e, 0x10, 0, 0, 0, 1, 0, 4, 0, 0, 0x50, 0, 0, 0x69,
 ];

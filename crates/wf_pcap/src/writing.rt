@@ -3,7 +3,7 @@
 ghost use Rattle.std.specs.Prelude.{◌≡◌, ℕ, ◌*◌, ◌^◌, ◌<◌, ◌≤◌, length, take, OnOk};
 ghost use Rattle.std.specs.Io.KnownBytes.{append_known};
 ghost use Rattle.wf_io.specs.Faults.{CountsFaults};
-ghost use Rattle.wf_pcap.specs.Capture.{head_octets, packet_head, packet_octets};
+ghost use Rattle.wf_pcap.specs.Capture.{file_head_octets, packet_head, packet_octets};
 
 use crate::reading::{FRAMES, HEAD, MAJOR, MICROSECONDS, MINOR, PACKET_HEAD};
 use byteorder::{ByteOrder, LittleEndian};
@@ -14,21 +14,22 @@ const SNAP_LENGTH: u32 = 65_535;
 
 /// Writes the header of a capture file. After a fault, some octets from its front have been written.
 pub fn write_head<K: Sink>(sink: &mut K) -> Result<(), Failed>
-    ensures written { OnOk result (K.held sink.new ≡ append_known (K.held sink.old) head_octets) }
-    ensures prefix { (n : ℕ) × (n ≤ length head_octets)
-        × (K.held sink.new ≡ append_known (K.held sink.old) (take n head_octets)) }
+    ensures written { OnOk result (K.held sink.new ≡ append_known (K.held sink.old) file_head_octets) }
+    ensures prefix { (n : ℕ) × (n ≤ length file_head_octets)
+        × (K.held sink.new ≡ append_known (K.held sink.old) (take n file_head_octets)) }
     ensures cause { CountsFaults (K.faults sink.old) (K.faults sink.new) result }
 {
     write_all(sink, &head())
 }
 
-/// Writes a packet that was captured whole at a time in microseconds: its header, and its octets. After a fault, some
-/// octets from their front have been written.
+/// Writes a packet that was captured whole at a time in microseconds: its header, and its octets. After a
+/// fault, some octets from their front have been written.
 pub fn write_packet<K: Sink>(sink: &mut K, at: u64, octets: &[u8]) -> Result<(), Failed>
     requires time { at < 2 ^ 32 * 1000000 }
     requires some { 1 ≤ length octets.now }
     requires most { length octets.now ≤ 65535 }
-    ensures written { OnOk result (K.held sink.new ≡ append_known (K.held sink.old) (packet_octets at octets.now)) }
+    ensures written { OnOk result (K.held sink.new
+        ≡ append_known (K.held sink.old) (packet_octets at octets.now)) }
     ensures prefix { (n : ℕ) × (n ≤ length (packet_octets at octets.now))
         × (K.held sink.new ≡ append_known (K.held sink.old) (take n (packet_octets at octets.now))) }
     ensures cause { CountsFaults (K.faults sink.old) (K.faults sink.new) result }
@@ -39,7 +40,7 @@ pub fn write_packet<K: Sink>(sink: &mut K, at: u64, octets: &[u8]) -> Result<(),
 
 // The file header.
 fn head() -> [u8; HEAD]
-    ensures { result ≡ head_octets }
+    ensures { result ≡ file_head_octets }
 {
     let mut head = [0; HEAD];
     LittleEndian::write_u32(&mut head, MICROSECONDS);

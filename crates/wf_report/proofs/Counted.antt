@@ -1,12 +1,12 @@
 -- The frames that are held are those that have no other fate.
 use Rattle.std.proofs.Common.{◌≡◌, ◌∙◌, ap, arith}
-use Rattle.wf_fate.specs.Tally.{Counts, held_in}
+use Rattle.wf_send_stations.specs.Tally.{Counts, held_in}
 use Rattle.wf_frame.specs.declared.classes.Fate.TheVariants.{Held}
-use Rattle.wf_laws.specs.Tallies.{AddsUp}
-use Rattle.wf_laws.proofs.Frames.Tallies.{counts_add}
-use Rattle.wf_transmit_refines.specs.Standing.{counts_in}
-use Rattle.wf_world.specs.World.{World}
-use Rattle.wf_world.specs.Text.{tally}
+use Rattle.wf_law_runs.specs.Tallies.{AddsUp}
+use Rattle.wf_law_runs.proofs.Frames.Tallies.{counts_add}
+use Rattle.wf_send_half_refines.specs.Standing.{counts_in}
+use Rattle.wf_def_world.specs.World.{World}
+use Rattle.wf_def_world.specs.Text.{tally}
 
 others_less : (w : World) → held_in (counts_in w) ≡ tally w Held
 others_less w = let adds : AddsUp w = counts_add w.frames in omega (arith, adds)

@@ -1,4 +1,4 @@
-pub mod Rows
-pub mod ShareLaws
-pub mod Counted
-pub mod Takes
+mod Rows
+mod ShareLaws
+mod Counted
+mod Takes

@@ -4,11 +4,11 @@ use Rattle.std.specs.Prelude.{Option, map, filter}
 use Rattle.std.specs.List.{concat}
 use Rattle.std.specs.Io.KnownBytes.{append_known}
 use Rattle.std.proofs.lemmas.List.{map-append}
-use Rattle.wf_rules.specs.Table.{upto}
-use Rattle.wf_world.specs.World.{World, is_live}
-use Rattle.wf_world.specs.Text.{share_lines}
-use Rattle.wf_status.specs.Fronts.{HoldsFront}
-use Rattle.wf_status.proofs.FrontLaws.{front_first, front_next}
+use Rattle.wf_def_lists.specs.Table.{upto}
+use Rattle.wf_def_world.specs.World.{World, is_live}
+use Rattle.wf_def_world.specs.Text.{share_lines}
+use Rattle.wf_io.specs.Fronts.{HoldsFront}
+use Rattle.wf_io.proofs.FrontLaws.{front_first, front_next}
 use Rattle.wf_report.specs.Parts.{lines_of, shares_of}
 use Rattle.wf_report.proofs.Rows.{upto-more, kept-more, kept-same, concat-append, filter-append}
 
@@ -19,9 +19,15 @@ shares_below w n = concat (map (share_lines w) (filter (is_live w) (upto n)))
 pub shares-more : (w : World) (n : ℕ) → shares_below w n ++ lines_of w n ≡ shares_below w (n + 1)
 shares-more w n = by_live (is_live w n) refl
   where
-    by_live : (b : Bool) → is_live w n ≡ b → shares_below w n ++ cond b (share_lines w n) [] ≡ shares_below w (n + 1)
+    by_live : (b : Bool) → is_live w n ≡ b → shares_below w n ++ cond b (share_lines w n) []
+        ≡ shares_below w (n + 1)
     by_live true is =
-        rw (kept-more (is_live w) n is, map-append (share_lines w) (filter (is_live w) (upto n)) (n ∷ []), concat-append (map (share_lines w) (filter (is_live w) (upto n))) (share_lines w n ∷ []), append-nil (share_lines w n)) refl
+        rw (
+          kept-more (is_live w) n is,
+          map-append (share_lines w) (filter (is_live w) (upto n)) (n ∷ []),
+          concat-append (map (share_lines w) (filter (is_live w) (upto n))) (share_lines w n ∷ []),
+          append-nil (share_lines w n),
+        ) refl
     by_live false is = rw (kept-same (is_live w) n is) (append-nil (shares_below w n))
 
 upto-rest : (n k : ℕ) → (more : List ℕ) × (upto (n + k) ≡ upto n ++ more)
@@ -30,10 +36,12 @@ upto-rest n (suc k) =
     let rest = upto-rest n k in
     let next : n + suc k ≡ (n + k) + 1 = omega arith in (
       rest.0 ++ (n + k) ∷ [],
-      ap upto next ∙ upto-more (n + k) ∙ ap (λ l. l ++ (n + k) ∷ []) rest.1 ∙ append_assoc (upto n) rest.0 ((n + k) ∷ []),
+      ap upto next ∙ upto-more (n + k) ∙ ap (λ l. l ++ (n + k) ∷ []) rest.1
+          ∙ append_assoc (upto n) rest.0 ((n + k) ∷ []),
     )
 
-pub shares-rest : (w : World) (n : ℕ) → n ≤ w.config.stations → (more : List ℕ) × (shares_of w ≡ shares_below w n ++ more)
+pub shares-rest : (w : World) (n : ℕ) → n ≤ w.config.stations → (more : List ℕ) ×
+    (shares_of w ≡ shares_below w n ++ more)
 shares-rest w n below =
     let rest = upto-rest n (w.config.stations - n) in
     let all : n + (w.config.stations - n) ≡ w.config.stations = omega arith in
@@ -42,12 +50,17 @@ shares-rest w n below =
       ap (λ l. concat (map (share_lines w) (filter (is_live w) l))) whole
           ∙ ap (λ l. concat (map (share_lines w) l)) (filter-append (is_live w) (upto n) rest.0)
           ∙ ap concat (map-append (share_lines w) (filter (is_live w) (upto n)) (filter (is_live w) rest.0))
-          ∙ concat-append (map (share_lines w) (filter (is_live w) (upto n))) (map (share_lines w) (filter (is_live w) rest.0)),
+          ∙ concat-append (map (share_lines w) (filter (is_live w) (upto n)))
+          (map (share_lines w) (filter (is_live w) rest.0)),
     )
 
 -- a station's lines were written in part
-pub front_share : (w : World) (n : ℕ) (old now new : Option (List ℕ)) → n < w.config.stations → now ≡ append_known old (shares_below w n) → HoldsFront now new (lines_of w n) → HoldsFront old new (shares_of w)
+pub front_share : (w : World) (n : ℕ) (old now new : Option (List ℕ)) → n < w.config.stations →
+    now ≡ append_known old (shares_below w n) → HoldsFront now new (lines_of w n) →
+    HoldsFront old new (shares_of w)
 front_share w n old now new below wrote front =
     let rest = shares-rest w (n + 1) (omega arith) in
-    let whole : shares_of w ≡ (shares_below w n ++ lines_of w n) ++ rest.0 = rest.1 ∙ ap (λ l. l ++ rest.0) (sym (shares-more w n)) in
-    rw whole (front_first old new (shares_below w n ++ lines_of w n) rest.0 (front_next old now new (shares_below w n) (lines_of w n) wrote front))
+    let whole : shares_of w ≡ (shares_below w n ++ lines_of w n) ++ rest.0 =
+    rest.1 ∙ ap (λ l. l ++ rest.0) (sym (shares-more w n)) in
+    rw whole (front_first old new (shares_below w n ++ lines_of w n) rest.0
+    (front_next old now new (shares_below w n) (lines_of w n) wrote front))

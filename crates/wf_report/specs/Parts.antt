@@ -1,13 +1,13 @@
 -- The parts of a summary.
 use Rattle.std.specs.Prelude.{ℕ, List, [], ◌∷◌, ◌++◌, if◌then◌else◌, codes, decimal, length, map}
 use Rattle.std.specs.List.{concat}
-use Rattle.wf_world.specs.World.{World, is_live, live_stations}
+use Rattle.wf_def_world.specs.World.{World, is_live, live_stations}
 use Rattle.wf_frame.specs.Words.{line}
-use Rattle.wf_world.specs.Text.{share_lines, tally_words, traffic_map, with_traffic, hex}
+use Rattle.wf_def_world.specs.Text.{share_lines, tally_words, traffic_map, with_traffic, hex}
 
 -- the first four lines of a summary, those of a station and of all stations, and the last
-abbrev pub counts_of : World → ℕ → List ℕ
-counts_of w calls =
+abbrev pub counts_of_summary : World → ℕ → List ℕ
+counts_of_summary w calls =
     line (codes "calls" ∷ decimal calls ∷ []) ++ line (codes "now" ∷ decimal w.clock ∷ []) ++ line (tally_words w)
     ++ line (codes "exchanges" ∷ decimal w.exchanges ∷ codes "open" ∷ decimal (length w.opened) ∷ [])
 

@@ -1,4 +1,5 @@
-//! What is written of a run: the answer line of each answer, and the summary of a cell.
+//! What is reported of a run: `print_reply` is the answer line of each answer, `summary` that of the world
+//! after a cell's history.
 #![tactic(auto)]
 
 mod parts;

@@ -1,7 +1,7 @@
 //! Parts of lines: names, and hexadecimal digits.
 
-ghost use Rattle.std.specs.Prelude.{◌≡◌, ◌+◌, ◌^◌, ◌<◌, ◌≤◌, ◌++◌, length};
-ghost use Rattle.wf_world.specs.Text.{fate_name as name_of_fate, hex, hex_digit as digit_of};
+ghost use Rattle.std.specs.Prelude.{◌≡◌, ◌+◌, ◌<◌, ◌≤◌, ◌++◌, length};
+ghost use Rattle.wf_def_world.specs.Text.{fate_name as name_of_fate, hex, hex_digit as digit_of};
 
 use wf_frame::{Cause, Fate};
 use wf_io::Line;

@@ -1,10 +1,10 @@
 //! The answer line of an answer.
 
-ghost use Rattle.std.specs.Prelude.{◌≡◌, ◌+◌, ◌<◌, ◌≤◌, ◌++◌, ◌∷◌, [], length, map, decimal, sum_by, codes, slice_index, ◌*◌, if◌then◌else◌, true};
+ghost use Rattle.std.specs.Prelude.{◌≡◌, ◌+◌, ◌≤◌, ◌++◌, ◌∷◌, [], length, map, decimal, sum_by, codes, slice_index, ◌*◌, if◌then◌else◌, true};
 ghost use Rattle.std.specs.List.{join_with_byte};
-ghost use Rattle.wf_io.specs.Words.{text_of, width_of, spaced};
-ghost use Rattle.wf_world.specs.Text.{answer_line, reply_words, refusal_words, part_words, score_digits};
-ghost use Rattle.wf_frame.specs.Answers.{part_of, reply_of};
+ghost use Rattle.wf_io.specs.Words.{words_text, width_of, spaced};
+ghost use Rattle.wf_def_world.specs.Text.{answer_line, reply_words, refusal_words, part_words, score_digits};
+ghost use Rattle.wf_frame.specs.Answers.{part_sent, reply_of};
 ghost use Rattle.wf_frame.specs.declared.notes.ReplyNote.TheVariants.{Accepted};
 ghost use Rattle.wf_report.specs.Replies.{refusal_name, refusal_numbers, pair_text};
 
@@ -15,7 +15,7 @@ use wf_io::{Line, Word};
 // A word, and words behind it.
 fn start(out: &mut Line, word: &'static [u8], words: &[Word])
     requires { length out.old + length word.now + sum_by (λ w. width_of w + 1) words.now ≤ 8192 }
-    ensures text { out.new ≡ out.old ++ (word.now ++ spaced (map text_of words.now)) }
+    ensures text { out.new ≡ out.old ++ (word.now ++ spaced (map words_text words.now)) }
     ensures len { length out.new ≤ length out.old + length word.now + sum_by (λ w. width_of w + 1) words.now }
 {
     out.push_all(word);
@@ -124,7 +124,7 @@ fn push_ids(out: &mut Line, ids: &Ids)
 // What an exchange sends.
 fn push_part(out: &mut Line, request: Option<u16>, pairs: &Pairs)
     requires { length out.old ≤ 190 }
-    ensures text { out.new ≡ out.old ++ spaced (part_words (part_of request pairs.now)) }
+    ensures text { out.new ≡ out.old ++ spaced (part_words (part_sent request pairs.now)) }
     ensures len { length out.new ≤ 7200 }
 {
     match request {
@@ -152,7 +152,8 @@ fn push_more(out: &mut Line, more: bool)
 // The bits of a wide block acknowledgement, offset 255 first.
 fn push_wide(out: &mut Line, words: &[u64; 4])
     requires { length out.old ≤ 100 }
-    ensures text { out.new ≡ out.old ++ score_digits (slice_index words.now 0) (slice_index words.now 1) (slice_index words.now 2) (slice_index words.now 3) true }
+    ensures text { out.new ≡ out.old ++ score_digits (slice_index words.now 0) (slice_index words.now 1)
+        (slice_index words.now 2) (slice_index words.now 3) true }
     ensures len { length out.new ≤ length out.old + 64 }
 {
     push_hex(out, 16, words[3]);
@@ -164,7 +165,8 @@ fn push_wide(out: &mut Line, words: &[u64; 4])
 // The bits of a block acknowledgement.
 fn push_bits(out: &mut Line, words: &[u64; 4], wide: bool)
     requires { length out.old ≤ 100 }
-    ensures text { out.new ≡ out.old ++ score_digits (slice_index words.now 0) (slice_index words.now 1) (slice_index words.now 2) (slice_index words.now 3) wide }
+    ensures text { out.new ≡ out.old ++ score_digits (slice_index words.now 0) (slice_index words.now 1)
+        (slice_index words.now 2) (slice_index words.now 3) wide }
     ensures len { length out.new ≤ length out.old + 64 }
 {
     if wide {
@@ -178,7 +180,8 @@ fn push_bits(out: &mut Line, words: &[u64; 4], wide: bool)
 fn push_answer(out: &mut Line, first: u16, words: &[u64; 4], wide: bool)
     requires { length out.old ≤ 60 }
     ensures text { out.new ≡ out.old ++ join_with_byte 32 (codes "ba" ∷ decimal first
-        ∷ score_digits (slice_index words.now 0) (slice_index words.now 1) (slice_index words.now 2) (slice_index words.now 3) wide ∷ []) }
+        ∷ score_digits (slice_index words.now 0) (slice_index words.now 1) (slice_index words.now 2)
+        (slice_index words.now 3) wide ∷ []) }
     ensures len { length out.new ≤ 200 }
 {
     start(out, b"ba", &[Word::Number(u64::from(first))]);
@@ -189,7 +192,9 @@ fn push_answer(out: &mut Line, first: u16, words: &[u64; 4], wide: bool)
 // How an exchange ended.
 fn push_ended(out: &mut Line, acked: u16, waiting: u16, failed: u16)
     requires { length out.old ≤ 60 }
-    ensures text { out.new ≡ out.old ++ join_with_byte 32 (codes "done" ∷ codes "acked" ∷ decimal acked ∷ codes "waiting" ∷ decimal waiting ∷ codes "failed" ∷ decimal failed ∷ []) }
+    ensures text { out.new ≡ out.old ++ join_with_byte 32
+        (codes "done" ∷ codes "acked" ∷ decimal acked ∷ codes "waiting" ∷ decimal waiting ∷ codes "failed"
+        ∷ decimal failed ∷ []) }
     ensures len { length out.new ≤ length out.old + 100 }
 {
     let (acked, waiting, failed) = (u64::from(acked), u64::from(waiting), u64::from(failed));
@@ -238,7 +243,9 @@ fn push_accepted(out: &mut Line, id: u64, dropped: Option<u64>)
 // An exchange to send, but for what it sends.
 fn push_exchange(out: &mut Line, exchange: u64, station: u16, tid: u8, air: u32)
     requires { out.old ≡ [] }
-    ensures text { out.new ≡ codes "send" ++ spaced (decimal exchange ∷ codes "sta" ∷ decimal station ∷ codes "tid" ∷ decimal tid ∷ codes "air" ∷ decimal air ∷ []) }
+    ensures text { out.new ≡ codes "send" ++ spaced
+        (decimal exchange ∷ codes "sta" ∷ decimal station ∷ codes "tid" ∷ decimal tid ∷ codes "air"
+        ∷ decimal air ∷ []) }
     ensures len { length out.new ≤ 190 }
 {
     let words = [

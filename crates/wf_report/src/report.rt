@@ -1,56 +1,31 @@
 //! The summary of a cell.
 
-ghost use Rattle.std.specs.Prelude.{◌≡◌, ◌+◌, ◌<◌, ◌≤◌, ◌++◌, ◌∷◌, [], length, map, sum_by, OnOk, ◌*◌, true};
+ghost use Rattle.std.specs.Prelude.{◌≡◌, ◌+◌, ◌≤◌, ◌++◌, [], length, map, OnOk, ◌*◌, true};
 ghost use Rattle.std.specs.List.{concat};
 ghost use Rattle.std.specs.Io.KnownBytes.{append_known};
 ghost use Rattle.wf_io.specs.Faults.{CountsFaults};
-ghost use Rattle.wf_io.specs.Words.{text_of, width_of};
-ghost use Rattle.wf_world.specs.World.{is_live, share};
-ghost use Rattle.wf_world.specs.Run.{world_of};
+ghost use Rattle.wf_def_world.specs.World.{is_live, share};
+ghost use Rattle.wf_def_world.specs.Run.{world_of};
 ghost use Rattle.wf_frame.specs.Words.{line};
-ghost use Rattle.wf_world.specs.Text.{summary as summary_of, share_line, share_lines, hex};
-ghost use Rattle.wf_status.specs.Fronts.{HoldsFront};
-ghost use Rattle.wf_report.specs.Parts.{counts_of, lines_of, shares_of, map_line};
+ghost use Rattle.wf_def_world.specs.Text.{summary as summary_of, share_line, share_lines, hex};
+ghost use Rattle.wf_io.specs.Fronts.{HoldsFront};
+ghost use Rattle.wf_report.specs.Parts.{counts_of_summary, lines_of, shares_of, map_line};
 
 use crate::parts::push_hex;
 use crate::standing;
 use wf_cell::Cell;
 use wf_frame::Class;
-use wf_io::{Failed, Line, Sink, Word, write_all};
-
-// A line of words.
-fn push_line(out: &mut Line, word: &'static [u8], words: &[Word])
-    requires { length out.old + length word.now + sum_by (λ w. width_of w + 1) words.now < 8192 }
-    ensures text { out.new ≡ out.old ++ line (word.now ∷ map text_of words.now) }
-    ensures len { length out.new ≤ length out.old + length word.now + sum_by (λ w. width_of w + 1) words.now + 1 }
-{
-    out.push_all(word);
-    out.push_words(words);
-    out.push(b'\n');
-}
-
-// Writes a line.
-fn write_line<K: Sink>(sink: &mut K, line: &Line) -> Result<(), Failed>
-    ensures written { OnOk result (K.held sink.new ≡ append_known (K.held sink.old) line.now) }
-    ensures front { HoldsFront (K.held sink.old) (K.held sink.new) line.now }
-    ensures cause { CountsFaults (K.faults sink.old) (K.faults sink.new) result }
-{
-    match write_all(sink, line.octets()) {
-        Ok(()) => Ok(()),
-        Err(failed) => Err(failed),
-    }
-}
+use wf_io::{Failed, Line, Sink, Word, write_line};
 
 // The lines of calls, clock, frames and exchanges.
 fn push_counts(cell: &Cell, out: &mut Line)
     requires { out.old ≡ [] }
-    ensures { out.new ≡ counts_of (world_of cell.now.past) (length cell.now.past.history) }
+    ensures { out.new ≡ counts_of_summary (world_of cell.now.past) (length cell.now.past.history) }
 {
     let tally = standing::tally(cell);
-    push_line(out, b"calls", &[Word::Number(cell.len())]);
-    push_line(out, b"now", &[Word::Number(standing::clock(cell))]);
-    push_line(
-        out,
+    out.push_line(b"calls", &[Word::Number(cell.len())]);
+    out.push_line(b"now", &[Word::Number(cell.clock())]);
+    out.push_line(
         b"frames",
         &[
             Word::Number(tally.accepted),
@@ -68,8 +43,7 @@ fn push_counts(cell: &Cell, out: &mut Line)
             Word::Number(tally.held()),
         ],
     );
-    push_line(
-        out,
+    out.push_line(
         b"exchanges",
         &[
             Word::Number(standing::exchanges(cell)),
@@ -83,7 +57,8 @@ fn push_counts(cell: &Cell, out: &mut Line)
 fn push_share(cell: &Cell, station: u16, class: Class, out: &mut Line)
     requires live { is_live (world_of cell.now.past) station ≡ true }
     requires room { length out.old ≤ 4096 }
-    ensures text { out.new ≡ out.old ++ share_line station class (share (world_of cell.now.past) station class) }
+    ensures text { out.new ≡ out.old
+        ++ share_line station class (share (world_of cell.now.past) station class) }
     ensures len { length out.new ≤ length out.old + 150 }
 {
     let charged = standing::charged(cell, station, class);
@@ -91,8 +66,7 @@ fn push_share(cell: &Cell, station: u16, class: Class, out: &mut Line)
     if charged == 0 && received == 0 {
         return;
     }
-    push_line(
-        out,
+    out.push_line(
         b"sta",
         &[
             Word::Number(u64::from(station)),
@@ -121,8 +95,10 @@ fn push_shares(cell: &Cell, station: u16, out: &mut Line)
 
 // Writes the lines of a station, if it is live.
 fn write_station<K: Sink>(cell: &Cell, station: u16, sink: &mut K) -> Result<(), Failed>
-    ensures written { OnOk result (K.held sink.new ≡ append_known (K.held sink.old) (lines_of (world_of cell.now.past) station)) }
-    ensures front { HoldsFront (K.held sink.old) (K.held sink.new) (lines_of (world_of cell.now.past) station) }
+    ensures written { OnOk result
+        (K.held sink.new ≡ append_known (K.held sink.old) (lines_of (world_of cell.now.past) station)) }
+    ensures front { HoldsFront (K.held sink.old) (K.held sink.new)
+        (lines_of (world_of cell.now.past) station) }
     ensures cause { CountsFaults (K.faults sink.old) (K.faults sink.new) result }
 {
     let mut line = Line::new();
@@ -134,7 +110,8 @@ fn write_station<K: Sink>(cell: &Cell, station: u16, sink: &mut K) -> Result<(),
 
 // Writes the lines of the live stations, by number.
 fn write_shares<K: Sink>(cell: &Cell, sink: &mut K) -> Result<(), Failed>
-    ensures written { OnOk result (K.held sink.new ≡ append_known (K.held sink.old) (shares_of (world_of cell.now.past))) }
+    ensures written { OnOk result
+        (K.held sink.new ≡ append_known (K.held sink.old) (shares_of (world_of cell.now.past))) }
     ensures front { HoldsFront (K.held sink.old) (K.held sink.new) (shares_of (world_of cell.now.past)) }
     ensures cause { CountsFaults (K.faults sink.old) (K.faults sink.new) result }
 {
@@ -171,11 +148,14 @@ fn push_map(cell: &Cell, out: &mut Line)
     out.push(b'\n');
 }
 
-/// Writes the summary of the world in which a cell is, after the calls of its history. After a fault, some of it from its front has
-/// been written.
+/// Writes the summary of the world in which a cell is, after the calls of its history. After a fault, some of
+/// it from its front has been written.
 pub fn summary<K: Sink>(cell: &Cell, sink: &mut K) -> Result<(), Failed>
-    ensures written { OnOk result (K.held sink.new ≡ append_known (K.held sink.old) (summary_of (world_of cell.now.past) (length cell.now.past.history))) }
-    ensures front { HoldsFront (K.held sink.old) (K.held sink.new) (summary_of (world_of cell.now.past) (length cell.now.past.history)) }
+    ensures written { OnOk result
+        (K.held sink.new ≡ append_known (K.held sink.old)
+        (summary_of (world_of cell.now.past) (length cell.now.past.history))) }
+    ensures front { HoldsFront (K.held sink.old) (K.held sink.new)
+        (summary_of (world_of cell.now.past) (length cell.now.past.history)) }
     ensures cause { CountsFaults (K.faults sink.old) (K.faults sink.new) result }
 {
     let mut counts = Line::new();
@@ -187,10 +167,13 @@ pub fn summary<K: Sink>(cell: &Cell, sink: &mut K) -> Result<(), Failed>
 
 // Writes the summary, whose first and last lines are at hand.
 fn write_parts<K: Sink>(cell: &Cell, counts: &Line, last: &Line, sink: &mut K) -> Result<(), Failed>
-    requires counts { counts.now ≡ counts_of (world_of cell.now.past) (length cell.now.past.history) }
+    requires counts { counts.now ≡ counts_of_summary (world_of cell.now.past) (length cell.now.past.history) }
     requires last { last.now ≡ map_line (world_of cell.now.past) }
-    ensures written { OnOk result (K.held sink.new ≡ append_known (K.held sink.old) (summary_of (world_of cell.now.past) (length cell.now.past.history))) }
-    ensures front { HoldsFront (K.held sink.old) (K.held sink.new) (summary_of (world_of cell.now.past) (length cell.now.past.history)) }
+    ensures written { OnOk result
+        (K.held sink.new ≡ append_known (K.held sink.old)
+        (summary_of (world_of cell.now.past) (length cell.now.past.history))) }
+    ensures front { HoldsFront (K.held sink.old) (K.held sink.new)
+        (summary_of (world_of cell.now.past) (length cell.now.past.history)) }
     ensures cause { CountsFaults (K.faults sink.old) (K.faults sink.new) result }
 {
     match write_line(sink, counts) {

@@ -1,29 +1,22 @@
 //! What a summary asks of a cell: its path says where the world is after the history.
 
 ghost use Rattle.std.specs.Prelude.{◌≡◌, ◌≤◌, length, take, true};
-ghost use Rattle.wf_fate.specs.Tally.{held_in, counts_of};
+ghost use Rattle.wf_send_stations.specs.Tally.{held_in, counts_of};
 ghost use Rattle.wf_frame.specs.declared.classes.Cause.TheVariants.{Overlimit, Codel, Retries, Left};
 ghost use Rattle.wf_frame.specs.declared.classes.Fate.TheVariants.{Held, Acked, Dropped};
-ghost use Rattle.wf_world.specs.World.{accepted_count, is_live, share};
-ghost use Rattle.wf_world.specs.Run.{world_of};
-ghost use Rattle.wf_world.specs.Text.{tally as tally_in, traffic_map, with_traffic};
+ghost use Rattle.wf_def_world.specs.World.{accepted_count, is_live, share};
+ghost use Rattle.wf_def_world.specs.Run.{world_of};
+ghost use Rattle.wf_def_world.specs.Text.{tally as tally_in, traffic_map, with_traffic};
 
 use wf_cell::Cell;
-use wf_fate::Tally;
 use wf_frame::Class;
+use wf_send_stations::Tally;
 
 /// How many station numbers there are, 1 to 256.
 pub fn stations(cell: &Cell) -> u16
     ensures { result ≡ (world_of cell.now.past).config.stations }
 {
     cell.path().config().stations as u16
-}
-
-/// The clock, in microseconds.
-pub fn clock(cell: &Cell) -> u64
-    ensures { result ≡ (world_of cell.now.past).clock }
-{
-    cell.path().now()
 }
 
 /// How many exchanges were opened.

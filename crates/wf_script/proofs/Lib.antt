@@ -1,6 +1,7 @@
--- Octets taken and written; a script that is being answered, and its ways out; that every closed input has an ending.
-pub mod Fronts
-pub mod Room
+-- Octets taken and written; a script that is being answered, and its ways out; that every closed input has an
+-- ending.
+mod Fronts
+mod Room
 pub mod Conversing
 pub mod Known
 pub mod Complete

@@ -1,5 +1,5 @@
 -- What contracts see of a script that is being read.
-use Rattle.std.specs.Prelude.{◌≡◌, ℕ, ◌+◌, List, [], ◌++◌, Bool, Option, Result, Ok, Err}
+use Rattle.std.specs.Prelude.{◌≡◌, ℕ, ◌+◌, List, ◌++◌, Bool, Option, Result, Ok, Err}
 use Rattle.std.specs.Io.KnownBytes.{prepend_known}
 use Rattle.wf_io.specs.declared.source.Failed.{Failed}
 use Rattle.wf_trace.specs.Cutting.{Fits}
@@ -20,11 +20,13 @@ Says (Ok (Ended ending)) before more same = before ≡ ends ending
 Says (Err failed) before more same = before ≡ same
 
 -- the octets that a call took, and what it said of them
-pub record Reads {E : Type 0} (g : Grammar E) (count : ℕ) (old : Numbering) (left : Option (List ℕ)) (result : Result (Item E) Failed)
+pub record Reads {E : Type 0} (g : Grammar E) (count : ℕ) (old : Numbering) (left : Option (List ℕ))
+    (result : Result (Item E) Failed)
     (new : Numbering) (left_new : Option (List ℕ)) (octets : List ℕ) : Type 0 where
   pub taken : left ≡ prepend_known octets left_new
   pub says : (closed : Bool) (more : List ℕ) → Fits new.cutter.ended left_new closed more →
-      Says result (rest g count old closed (octets ++ more)) (rest g (count + 1) new closed more) (rest g count new closed more)
+      Says result (rest g count old closed (octets ++ more)) (rest g (count + 1) new closed more)
+      (rest g count new closed more)
 
 -- a fact where a call gave an event, and one of that event
 abbrev pub OnEvent : {E : Type 0} → Result (Item E) Failed → Type 0 → Type 0

@@ -16,7 +16,8 @@ pub record Script (E : Type 0) : Type 0 where
   pub events : List E
   pub ending : Option Ending
 
--- what the words of an event's line say, or the first that is wrong with them; and how many events a script may have, where there is a limit
+-- what the words of an event's line say, or the first that is wrong with them; and how many events a script
+-- may have, where there is a limit
 pub record Grammar (E : Type 0) : Type 0 where
   pub meant : List (List ℕ) → Result E FaultKind
   pub most : Option ℕ
@@ -48,9 +49,9 @@ within None count (Ok event) = Ok event
 within (Some most) count (Ok event) = if nat_le most count then Err TooLong else Ok event
 
 -- what a line says, in front of what the others say
-abbrev pub told : {E : Type 0} → ℕ → Result E FaultKind → Script E → Script E
-told line (Ok event) others = with_event event others
-told line (Err kind) others = ends (bad line kind)
+abbrev pub script_told : {E : Type 0} → ℕ → Result E FaultKind → Script E → Script E
+script_told line (Ok event) others = with_event event others
+script_told line (Err kind) others = ends (bad line kind)
 
 -- the lines are over, and none was `end`
 abbrev pub stopped : {E : Type 0} → Option Piece → Script E
@@ -64,7 +65,8 @@ abbrev pub read_lines : {E : Type 0} → Grammar E → ℕ → List Numbered →
 read_lines g count [] ending = stopped ending
 read_lines g count (line ∷ lines) ending =
     if is_end (words line.octets) then ends (ended line.line (words line.octets))
-    else told line.line (within g.most count (g.meant (words line.octets))) (read_lines g (count + 1) lines ending)
+    else script_told line.line (within g.most count (g.meant (words line.octets)))
+    (read_lines g (count + 1) lines ending)
 
 -- the script that octets are, and the input ends with them if closed
 abbrev pub script : {E : Type 0} → Grammar E → Bool → List ℕ → Script E

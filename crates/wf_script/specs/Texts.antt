@@ -1,14 +1,16 @@
 -- Text: what is written for a script.
-use Rattle.std.specs.Prelude.{ℕ, List, [], ◌∷◌, ◌++◌, Option, Some, None}
+use Rattle.std.specs.Prelude.{ℕ, Bool, List, [], ◌∷◌, ◌++◌, Option, Some, None}
 use Rattle.wf_trace.specs.Faults.{fault_line}
 use Rattle.wf_script.specs.declared.ending.Ending.{Ending}
 use Rattle.wf_script.specs.declared.ending.Ending.TheVariants.{Finish, Bad}
 use Rattle.wf_script.specs.Scripts.{Script}
 
--- how events are answered: what is written for an event, the state behind it, and what is written where a script ends
+-- how events are answered: what is written for an event, the state behind it, whether memory may be wanting
+-- at it, and what is written where a script ends
 pub record Manner (E W : Type 0) : Type 0 where
   pub answer : W → E → List ℕ
   pub after : W → E → W
+  pub wants : W → E → Bool
   pub closing : W → List ℕ
 
 -- the answers to events in order

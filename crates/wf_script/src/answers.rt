@@ -1,14 +1,14 @@
 //! What a command over scripts is.
 
-ghost use Rattle.std.specs.Prelude.{◌≡◌, ◌≢◌, ℕ, ◌≤◌, List, Option, IfOk, OnOk, OnErr, Result, Err};
+ghost use Rattle.std.specs.Prelude.{◌≡◌, ◌≢◌, ◌≤◌, true, Option, IfOk, OnOk, OnErr, Result, Err};
 ghost use Rattle.std.specs.Io.KnownBytes.{append_known};
 ghost use Rattle.wf_io.specs.Faults.{HasRisen};
 ghost use Rattle.wf_trace.specs.Words.{words};
-ghost use Rattle.wf_status.specs.Fronts.{HoldsFront};
+ghost use Rattle.wf_io.specs.Fronts.{HoldsFront};
 ghost use Rattle.wf_script.specs.Scripts.{Grammar};
 ghost use Rattle.wf_script.specs.Texts.{Manner};
 
-use wf_io::{Line, Sink, write_all};
+use wf_io::{Line, Sink};
 use wf_trace::FaultKind;
 
 /// Why an answer was not written whole.
@@ -28,7 +28,7 @@ pub trait Answers {
     /// What the words of a line mean, and how many events a script may have.
     ghost grammar: { Grammar Self.Event };
 
-    /// What is written for an event, and what it changes.
+    /// What is written for an event, what it changes, and whether memory may be wanting at it.
     ghost manner: { Manner Self.Event Self };
 
     /// What is known of an event that was read.
@@ -44,25 +44,33 @@ pub trait Answers {
         ensures valid { IfOk result valid };
 
     /// An event happens, and its answer is written. After an error some of the answer may stand written.
+    /// Memory is wanting only where it may be.
     fn answer<K: Sink>(&mut self, event: Self::Event, sink: &mut K) -> Result<(), Unanswered>
         requires { valid event }
-        ensures written { OnOk result (K.held sink.new ≡ append_known (K.held sink.old) (manner.answer self.old event)) }
+        ensures written { OnOk result (K.held sink.new
+            ≡ append_known (K.held sink.old) (manner.answer self.old event)) }
         ensures after { OnOk result (self.new ≡ manner.after self.old event) }
-        ensures front { OnErr result (HoldsFront (K.held sink.old) (K.held sink.new) (manner.answer self.old event)) }
+        ensures front { OnErr result (HoldsFront (K.held sink.old) (K.held sink.new)
+            (manner.answer self.old event)) }
+        ensures memory { result ≡ Err Unanswered.Memory → manner.wants self.old event ≡ true }
         ensures counted { K.faults sink.old ≤ K.faults sink.new }
         ensures cause { result ≡ Err Unanswered.Sink → HasRisen (K.faults sink.old) (K.faults sink.new) }
         ensures quiet { result ≢ Err Unanswered.Sink → K.faults sink.new ≡ K.faults sink.old };
 
-    /// Writes the lines behind the line `end`. After an error some of them may stand written.
+    /// Writes the lines behind the line `end`. After an error some of them may stand written. Memory is never
+    /// wanting.
     fn close<K: Sink>(&self, sink: &mut K) -> Result<(), Unanswered>
-        ensures written { OnOk result (K.held sink.new ≡ append_known (K.held sink.old) (manner.closing self.now)) }
-        ensures front { OnErr result (HoldsFront (K.held sink.old) (K.held sink.new) (manner.closing self.now)) }
+        ensures written { OnOk result (K.held sink.new
+            ≡ append_known (K.held sink.old) (manner.closing self.now)) }
+        ensures front { OnErr result (HoldsFront (K.held sink.old) (K.held sink.new)
+            (manner.closing self.now)) }
+        ensures memory { result ≢ Err Unanswered.Memory }
         ensures counted { K.faults sink.old ≤ K.faults sink.new }
         ensures cause { result ≡ Err Unanswered.Sink → HasRisen (K.faults sink.old) (K.faults sink.new) }
         ensures quiet { result ≢ Err Unanswered.Sink → K.faults sink.new ≡ K.faults sink.old };
 }
 
-/// Writes a line, or after an error some of it.
+/// Writes a line as `wf_io::write_line` does: where the sink fails, that is why the answer is not whole.
 pub fn write_line<K: Sink>(sink: &mut K, line: &Line) -> Result<(), Unanswered>
     ensures written { OnOk result (K.held sink.new ≡ append_known (K.held sink.old) line.now) }
     ensures front { HoldsFront (K.held sink.old) (K.held sink.new) line.now }
@@ -71,7 +79,7 @@ pub fn write_line<K: Sink>(sink: &mut K, line: &Line) -> Result<(), Unanswered>
     ensures quiet { result ≢ Err Unanswered.Sink → K.faults sink.new ≡ K.faults sink.old }
     ensures sink { OnErr result (result ≡ Err Unanswered.Sink) }
 {
-    match write_all(sink, line.octets()) {
+    match wf_io::write_line(sink, line) {
         Ok(()) => Ok(()),
         Err(_) => Err(Unanswered::Sink),
     }

@@ -1,8 +1,9 @@
 //! Commands that answer scripts: lines that are events, each answered before the next is read, up to the line
 //! `end`.
 //!
-//! A command says what its lines mean and how it answers an event (`Answers`), and `converse` does the rest: it cuts
-//! the lines, judges them, writes the answers and the line of a fault, and tells by its status how all that ended.
+//! A command says what its lines mean and how it answers an event (`Answers`), and `converse` does the rest:
+//! it cuts the lines, judges them, writes the answers and the line of a fault, and tells by its status how
+//! all that ended.
 #![tactic(auto)]
 
 mod answers;

@@ -1,6 +1,6 @@
 //! The next item of a script.
 
-ghost use Rattle.std.specs.Prelude.{◌≡◌, ◌+◌, ◌<◌, ◌≤◌, ℕ, List, Some, None, IfOk, OnErr, IsSome, Ok, if◌then◌else◌};
+ghost use Rattle.std.specs.Prelude.{◌≡◌, ◌<◌, ℕ, List, Some, None, IfOk, OnErr, IsSome, Ok, if◌then◌else◌};
 ghost use Rattle.std.specs.Io.KnownBytes.{IsAtEnd};
 ghost use Rattle.wf_io.specs.Faults.{CountsFaults};
 ghost use Rattle.wf_trace.specs.Words.{words};
@@ -60,11 +60,13 @@ pub fn next_item<C: Answers, S: Source>(
     count: u64,
     source: &mut S,
 ) -> Result<Item<C::Event>, Failed>
-    ensures reads { (octets : List ℕ) × Reads C.grammar count cut.old (S.left source.old) result cut.new (S.left source.new) octets }
+    ensures reads { (octets : List ℕ) × Reads C.grammar count cut.old (S.left source.old) result cut.new
+        (S.left source.new) octets }
     ensures valid { IfEvent result C.valid }
     ensures held { OnErr result (HasNoLine cut.new) }
     ensures progress { OnEvent result (room cut.new.cutter < room cut.old.cutter) }
-    ensures over { result ≡ Ok (Item.Ended Ending.Finish) → IsSome cut.new.cutter.ended → IsAtEnd (S.left source.new) }
+    ensures over { result ≡ Ok (Item.Ended Ending.Finish) → IsSome cut.new.cutter.ended →
+        IsAtEnd (S.left source.new) }
     ensures sticky { IsSome cut.old.cutter.ended → IsSome cut.new.cutter.ended }
     ensures cause { CountsFaults (S.faults source.old) (S.faults source.new) result }
 {

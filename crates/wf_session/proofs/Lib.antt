@@ -1,5 +1,6 @@
--- The agreement law: what the messages on their way say, that no token opens twice, and that both ends agree. Then a worked list of events.
+-- The agreement law: what the messages on their way say, that no token opens twice, and that both ends agree.
+-- Then a worked list of events.
 pub mod Sound
-pub mod Once
+mod Once
 pub mod Agreements
-pub mod Rows
+mod Rows

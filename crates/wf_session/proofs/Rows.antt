@@ -1,15 +1,17 @@
--- A worked list of events, computed: a restart forgets what was agreed, and a message that comes again makes nothing.
+-- A worked list of events, computed: a restart forgets what was agreed, and a message that comes again makes
+-- nothing.
 use Rattle.std.proofs.Common.{◌≡◌, ℕ, List, [], ◌∷◌, length, Option, Some, None, refl}
 use Rattle.wf_session.specs.declared.agreement.Agreement.{Agreement}
 use Rattle.wf_session.specs.Laws.{originators, recipients}
 use Rattle.wf_session.specs.declared.event.Event.{Event}
 use Rattle.wf_session.specs.declared.event.Event.TheVariants.{Ask, ToOriginator, ToRecipient, CloseOriginator, RestartRecipient}
-use Rattle.wf_session.specs.World.{Parley, opening, after_event, after_events}
+use Rattle.wf_session.specs.World.{Parley, new_parley, after_event, after_events}
 
 -- what is open at the originator and at the recipient after each event
 pub seen : Parley → List Event → List (Option Agreement × Option Agreement)
 seen w [] = []
-seen w (event ∷ later) = let next : Parley = after_event event w in (originators next, recipients next) ∷ seen next later
+seen w (event ∷ later) = let next : Parley = after_event event w in
+    (originators next, recipients next) ∷ seen next later
 
 abbrev held : ℕ → ℕ → ℕ → Option Agreement
 held token window start = Some (record { token = token; window = window; start = start })
@@ -32,7 +34,7 @@ restart_and_replay_events =
     ToOriginator 2 ∷
     []
 
-pub restart_and_replay : seen (opening 0 64) restart_and_replay_events ≡
+pub restart_and_replay : seen (new_parley 0 64) restart_and_replay_events ≡
     (None, None) ∷
     (None, held 1 64 500) ∷
     (None, held 1 64 500) ∷
@@ -50,10 +52,10 @@ pub restart_and_replay : seen (opening 0 64) restart_and_replay_events ≡
 unfolding seen after_event
 restart_and_replay = refl
 
-pub requests_sent : length (after_events (opening 0 64) restart_and_replay_events).asks ≡ 3
+pub requests_sent : length (after_events (new_parley 0 64) restart_and_replay_events).asks ≡ 3
 unfolding after_events after_event
 requests_sent = refl
 
-pub responses_sent : length (after_events (opening 0 64) restart_and_replay_events).answers ≡ 3
+pub responses_sent : length (after_events (new_parley 0 64) restart_and_replay_events).answers ≡ 3
 unfolding after_events after_event
 responses_sent = refl

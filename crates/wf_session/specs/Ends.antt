@@ -1,5 +1,6 @@
--- The two ends of one TID's agreement, as values: the originator asks for it, and the recipient makes it (IEEE 802.11-2012, 9.21.2 and
--- 9.21.4). Each request carries a token, one above the last, and a token that is not above the last that came makes nothing.
+-- The two ends of one TID's agreement, as values: the originator asks for it, and the recipient makes it
+-- (IEEE 802.11-2012, 9.21.2 and 9.21.4). Each request carries a token, one above the last, and a token that
+-- is not above the last that came makes nothing.
 use Rattle.std.specs.Prelude.{ℕ, ◌+◌, ◌≤◌, ◌==◌, ◌&&◌, not, nat_lt, nat_le, Bool, false, Option, Some, None, Result, Ok, Err, option_map, min, if◌then◌else◌}
 use Rattle.std.specs.Option.{ForSome}
 use Rattle.wf_session.specs.declared.action.Action.{Action}
@@ -32,7 +33,7 @@ HasWindow o = ForSome o (λ (agreement : Agreement). (1 ≤ agreement.window) ×
 pub record OfferValue : Type 0 where
   pub tid : ℕ
   pub last : ℕ  -- the last token asked with, 0 before the first
-  pub asked : Option Agreement  -- what was asked for and is not settled
+  pub asked : Option Agreement  -- what was asked for and is not offer_settled
   pub opened : Option Agreement
 
 abbrev pub new_offer : ℕ → ℕ → OfferValue
@@ -40,7 +41,8 @@ new_offer tid last = record { tid = tid; last = last; asked = None; opened = Non
 
 -- why nothing can be asked: all tokens were used, or an agreement is open
 abbrev pub ask_fault : OfferValue → Option OfferFault
-ask_fault e = if e.last == 255 then Some Spent else option_map (λ (agreement : Agreement). Open agreement.token) e.opened
+ask_fault e = if e.last == 255 then Some Spent
+    else option_map (λ (agreement : Agreement). Open agreement.token) e.opened
 
 -- what is asked for next
 abbrev pub next_wish : ℕ → ℕ → OfferValue → Agreement
@@ -59,16 +61,19 @@ abbrev pub ask_answer : ℕ → ℕ → OfferValue → Result Action OfferFault
 ask_answer window start e = fault_or (ask_fault e) (request_of e.tid (next_wish window start e))
 
 abbrev pub after_ask : ℕ → ℕ → OfferValue → OfferValue
-after_ask window start e = unless (ask_fault e) e (record e { last = e.last + 1; asked = Some (next_wish window start e) })
+after_ask window start e = unless (ask_fault e) e
+    (record e { last = e.last + 1; asked = Some (next_wish window start e) })
 
 -- the request once more
 abbrev pub asked_again : OfferValue → Option Action
 asked_again e = option_map (request_of e.tid) e.asked
 
--- a response to what was asked: with a window from 1 to the one asked it opens, and with a status other than 0 the asking ends
-abbrev pub settled : ℕ → ℕ → Agreement → OfferValue → OfferValue
-settled status window wish e =
-    if status == 0 then (if nat_le 1 window && nat_le window wish.window then record e { asked = None; opened = Some (record wish { window = window }) } else e)
+-- a response to what was asked: with a window from 1 to the one asked it opens, and with a status other than
+-- 0 the asking ends
+abbrev pub offer_settled : ℕ → ℕ → Agreement → OfferValue → OfferValue
+offer_settled status window wish e =
+    if status == 0 then (if nat_le 1 window && nat_le window wish.window
+    then record e { asked = None; opened = Some (record wish { window = window }) } else e)
     else record e { asked = None }
 
 abbrev pub with_response : ℕ → ℕ → ℕ → OfferValue → OfferValue
@@ -76,13 +81,16 @@ with_response token status window e = to_wish e.asked
   where
     to_wish : Option Agreement → OfferValue
     to_wish None = e
-    to_wish (Some wish) = if wish.token == token then settled status window wish e else e
+    to_wish (Some wish) = if wish.token == token then offer_settled status window wish e else e
 
--- a message arrives: a response of its TID and the token asked, or a recipient's teardown of its TID; all else changes nothing
+-- a message arrives: a response of its TID and the token asked, or a recipient's teardown of its TID; all
+-- else changes nothing
 abbrev pub offer_heard : Action → OfferValue → OfferValue
 offer_heard (Request token tid window start) e = e
-offer_heard (Response token status tid window) e = if tid == e.tid then with_response token status window e else e
-offer_heard (Teardown tid initiator reason) e = if (tid == e.tid) && not initiator then record e { opened = None } else e
+offer_heard (Response token status tid window) e =
+    if tid == e.tid then with_response token status window e else e
+offer_heard (Teardown tid initiator reason) e =
+    if (tid == e.tid) && not initiator then record e { opened = None } else e
 
 -- octets arrive: an action that they are read as is heard, and other octets change nothing
 abbrev pub offer_received : Result Action ActionFault → OfferValue → OfferValue
@@ -106,14 +114,20 @@ granted limit window = if window == 0 then limit else min window limit
 -- a request of its TID: a token above the last opens, in place of what was open
 abbrev pub with_request : ℕ → ℕ → ℕ → AcceptValue → AcceptValue
 with_request token window start e =
-    if nat_lt e.last token then record e { last = token; opened = Some (record { token = token; window = granted e.limit window; start = start }) }
+    if nat_lt e.last token then record e {
+      last = token;
+      opened =
+          Some (record { token = token; window = granted e.limit window; start = start });
+    }
     else e
 
 -- a message arrives: a request of its TID, or an originator's teardown of its TID; all else changes nothing
 abbrev pub accept_heard : Action → AcceptValue → AcceptValue
-accept_heard (Request token tid window start) e = if tid == e.tid then with_request token window start e else e
+accept_heard (Request token tid window start) e =
+    if tid == e.tid then with_request token window start e else e
 accept_heard (Response token status tid window) e = e
-accept_heard (Teardown tid initiator reason) e = if (tid == e.tid) && initiator then record e { opened = None } else e
+accept_heard (Teardown tid initiator reason) e =
+    if (tid == e.tid) && initiator then record e { opened = None } else e
 
 -- the response to a request with this token, where the agreement that is open has that token
 abbrev pub response_to : ℕ → AcceptValue → Option Action
@@ -121,7 +135,8 @@ response_to token e = if has_token token e.opened then option_map (response_of e
 
 -- what is answered: a request of its TID whose token is open then, whether it opened now or before
 abbrev pub accept_answer : Action → AcceptValue → Option Action
-accept_answer (Request token tid window start) e = if tid == e.tid then response_to token (with_request token window start e) else None
+accept_answer (Request token tid window start) e =
+    if tid == e.tid then response_to token (with_request token window start e) else None
 accept_answer (Response token status tid window) e = None
 accept_answer (Teardown tid initiator reason) e = None
 

@@ -1,14 +1,14 @@
 -- The checks of an action frame, in their order.
 use Rattle.std.specs.Prelude.{ℕ, ◌/◌, ◌%◌, ◌==◌, not, nat_lt, List, length, slice_index, Option, Some, None, Result, Ok, Err, if◌then◌else◌}
-use Rattle.wf_fields.specs.Fields.{is_set, number_at}
+use Rattle.wf_octets_fields.specs.Fields.{is_set, number_at}
 use Rattle.wf_session.specs.declared.action.Action.{Action}
 use Rattle.wf_session.specs.declared.decoding.ActionFault.{ActionFault}
 use Rattle.wf_session.specs.declared.decoding.ActionFault.TheVariants.{Short, Category, Delayed, Fragment, Tid}
 use Rattle.wf_session.specs.declared.decoding.ActionFault.TheVariants.{Action as Unknown}
 use Rattle.wf_session.specs.Layout.{category, request, response, teardown, tid_at, action_in}
 
-abbrev pub tid_fault : ℕ → Option ActionFault
-tid_fault tid = if nat_lt 7 tid then Some (Tid tid) else None
+abbrev pub action_tid_fault : ℕ → Option ActionFault
+action_tid_fault tid = if nat_lt 7 tid then Some (Tid tid) else None
 
 -- of an ADDBA request: its length, its policy, its fragment number, its TID
 abbrev pub request_fault : List ℕ → Option ActionFault
@@ -16,37 +16,34 @@ request_fault octets =
     if nat_lt (length octets) 9 then Some (Short 9 (length octets))
     else (if not (is_set (slice_index octets 3) 1) then Some Delayed
     else (if not (number_at octets 7 % 16 == 0) then Some (Fragment (number_at octets 7 % 16))
-    else tid_fault (tid_at octets 3)))
+    else action_tid_fault (tid_at octets 3)))
 
 -- of an ADDBA response: its length, its policy, its TID
 abbrev pub response_fault : List ℕ → Option ActionFault
 response_fault octets =
     if nat_lt (length octets) 9 then Some (Short 9 (length octets))
-    else (if not (is_set (slice_index octets 5) 1) then Some Delayed else tid_fault (tid_at octets 5))
+    else (if not (is_set (slice_index octets 5) 1) then Some Delayed else action_tid_fault (tid_at octets 5))
 
 -- of a DELBA: its length, its TID
 abbrev pub teardown_fault : List ℕ → Option ActionFault
 teardown_fault octets =
-    if nat_lt (length octets) 6 then Some (Short 6 (length octets)) else tid_fault (slice_index octets 3 / 16)
+    if nat_lt (length octets) 6 then Some (Short 6 (length octets))
+    else action_tid_fault (slice_index octets 3 / 16)
 
 -- the first check that fails
-abbrev pub first_fault : List ℕ → Option ActionFault
-first_fault octets =
+abbrev pub first_action_fault : List ℕ → Option ActionFault
+first_action_fault octets =
     if nat_lt (length octets) 2 then Some (Short 2 (length octets))
     else (if not (slice_index octets 0 == category) then Some (Category (slice_index octets 0))
     else (if slice_index octets 1 == request then request_fault octets
     else (if slice_index octets 1 == response then response_fault octets
-    else (if slice_index octets 1 == teardown then teardown_fault octets else Some (Unknown (slice_index octets 1))))))
-
--- the fault that a result holds
-abbrev pub fault_of : {T : Type 0} → Result T ActionFault → Option ActionFault
-fault_of (Ok value) = None
-fault_of (Err fault) = Some fault
+    else (if slice_index octets 1 == teardown then teardown_fault octets
+    else Some (Unknown (slice_index octets 1))))))
 
 -- what octets are read as: the first fault, or where there is none the action at its places
-abbrev pub answer_of : Option ActionFault → Action → Result Action ActionFault
-answer_of None action = Ok action
-answer_of (Some fault) action = Err fault
+abbrev pub action_read : Option ActionFault → Action → Result Action ActionFault
+action_read None action = Ok action
+action_read (Some fault) action = Err fault
 
-abbrev pub decoded : List ℕ → Result Action ActionFault
-decoded octets = answer_of (first_fault octets) (action_in octets)
+abbrev pub decoded_action : List ℕ → Result Action ActionFault
+decoded_action octets = action_read (first_action_fault octets) (action_in octets)

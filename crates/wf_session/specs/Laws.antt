@@ -3,7 +3,7 @@ use Rattle.std.specs.Prelude.{◌≡◌, ℕ, ◌+◌, ◌≤◌, ◌&&◌, not,
 use Rattle.wf_session.specs.declared.agreement.Agreement.{Agreement}
 use Rattle.wf_session.specs.Ends.{has_token}
 use Rattle.wf_session.specs.declared.event.Event.{Event}
-use Rattle.wf_session.specs.World.{Parley, opening, after_event, after_events}
+use Rattle.wf_session.specs.World.{Parley, new_parley, after_event, after_events}
 
 abbrev pub originators : Parley → Option Agreement
 originators w = w.originator.opened
@@ -27,12 +27,13 @@ opens token before after = has_token token after && not (has_token token before)
 unfoldable pub times_opened : (Parley → Option Agreement) → ℕ → Parley → List Event → ℕ
 times_opened end token w [] = 0
 times_opened end token w (event ∷ later) =
-    (if opens token (end w) (end (after_event event w)) then 1 else 0) + times_opened end token (after_event event w) later
+    (if opens token (end w) (end (after_event event w)) then 1 else 0) + times_opened end token
+    (after_event event w) later
 
--- after every list of events the ends agree, the recipient opened what is open at the originator, and each token opened at most once at
--- each end
+-- after every list of events the ends agree, the recipient opened what is open at the originator, and each
+-- token opened at most once at each end
 pub record AgreementLaw (tid limit : ℕ) (events : List Event) : Type 0 where
-  pub agree : EndsAgree (after_events (opening tid limit) events)
-  pub recipient_opened : RecipientOpened (after_events (opening tid limit) events)
-  pub once_originator : (token : ℕ) → times_opened originators token (opening tid limit) events ≤ 1
-  pub once_recipient : (token : ℕ) → times_opened recipients token (opening tid limit) events ≤ 1
+  pub agree : EndsAgree (after_events (new_parley tid limit) events)
+  pub recipient_opened : RecipientOpened (after_events (new_parley tid limit) events)
+  pub once_originator : (token : ℕ) → times_opened originators token (new_parley tid limit) events ≤ 1
+  pub once_recipient : (token : ℕ) → times_opened recipients token (new_parley tid limit) events ≤ 1

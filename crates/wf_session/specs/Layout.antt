@@ -1,7 +1,8 @@
--- The action frames of a block acknowledgement agreement (IEEE 802.11-2012, 8.4.1.14 and 8.5.5), as a relation between octets and
--- fields. All numbers are little-endian. Octets after the fields are free, and so are the timeouts.
+-- The action frames of a block acknowledgement agreement (IEEE 802.11-2012, 8.4.1.14 and 8.5.5), as a
+-- relation between octets and fields. All numbers are little-endian. Octets after the fields are free, and so
+-- are the timeouts.
 use Rattle.std.specs.Prelude.{◌≡◌, ℕ, ◌+◌, ◌*◌, ◌/◌, ◌%◌, ◌<◌, ◌≤◌, ◌==◌, Bool, true, List, [], ◌∷◌, ◌++◌, length, slice_index, if◌then◌else◌}
-use Rattle.wf_fields.specs.Fields.{is_set, number_at, two_octets}
+use Rattle.wf_octets_fields.specs.Fields.{is_set, number_at, two_octets}
 use Rattle.wf_session.specs.declared.action.Action.{Action}
 use Rattle.wf_session.specs.declared.action.Action.TheVariants.{Request, Response, Teardown}
 
@@ -18,8 +19,8 @@ response = 1
 abbrev pub teardown : ℕ
 teardown = 2
 
--- The parameter set in the two octets from a place on: bit 0 is free, bit 1 is set for immediate policy, bits 2 to 5 are the TID and
--- bits 6 to 15 the window.
+-- The parameter set in the two octets from a place on: bit 0 is free, bit 1 is set for immediate policy, bits
+-- 2 to 5 are the TID and bits 6 to 15 the window.
 abbrev pub tid_at : List ℕ → ℕ → ℕ
 tid_at octets place = slice_index octets place / 4 % 16
 
@@ -32,8 +33,9 @@ pub record HasParameters (octets : List ℕ) (place tid window : ℕ) : Type 0 w
   pub known : tid < 8
   pub window_bits : window_at octets place ≡ window
 
--- ADDBA request: dialog token, parameter set, timeout, and a starting sequence control with fragment number 0 in its bits 0 to 3
-pub record IsRequest (octets : List ℕ) (token tid window start : ℕ) : Type 0 where
+-- ADDBA request: dialog token, parameter set, timeout, and a starting sequence control with fragment number 0
+-- in its bits 0 to 3
+pub record IsAddbaRequest (octets : List ℕ) (token tid window start : ℕ) : Type 0 where
   pub long : 9 ≤ length octets
   pub category_octet : slice_index octets 0 ≡ category
   pub action_octet : slice_index octets 1 ≡ request
@@ -50,7 +52,8 @@ pub record IsResponse (octets : List ℕ) (token status tid window : ℕ) : Type
   pub status_octets : number_at octets 3 ≡ status
   pub parameters : HasParameters octets 5 tid window
 
--- DELBA: parameters, whose bits 0 to 10 are free, bit 11 is the initiator's and bits 12 to 15 the TID, and the reason
+-- DELBA: parameters, whose bits 0 to 10 are free, bit 11 is the initiator's and bits 12 to 15 the TID, and
+-- the reason
 pub record IsTeardown (octets : List ℕ) (tid : ℕ) (initiator : Bool) (reason : ℕ) : Type 0 where
   pub long : 6 ≤ length octets
   pub category_octet : slice_index octets 0 ≡ category
@@ -62,7 +65,7 @@ pub record IsTeardown (octets : List ℕ) (tid : ℕ) (initiator : Bool) (reason
 
 -- the octets begin with this action frame
 abbrev pub IsAction : List ℕ → Action → Type 0
-IsAction octets (Request token tid window start) = IsRequest octets token tid window start
+IsAction octets (Request token tid window start) = IsAddbaRequest octets token tid window start
 IsAction octets (Response token status tid window) = IsResponse octets token status tid window
 IsAction octets (Teardown tid initiator reason) = IsTeardown octets tid initiator reason
 
@@ -73,12 +76,14 @@ parameter_set tid window = 2 + 4 * tid + 64 * window
 abbrev pub teardown_set : ℕ → Bool → ℕ
 teardown_set tid initiator = (if initiator then 0x0800 else 0) + 0x1000 * tid
 
-abbrev pub octets_of : Action → List ℕ
-octets_of (Request token tid window start) =
-    (category ∷ request ∷ token ∷ []) ++ two_octets (parameter_set tid window) ++ two_octets 0 ++ two_octets (16 * start)
-octets_of (Response token status tid window) =
-    (category ∷ response ∷ token ∷ []) ++ two_octets status ++ two_octets (parameter_set tid window) ++ two_octets 0
-octets_of (Teardown tid initiator reason) =
+abbrev pub action_octets : Action → List ℕ
+action_octets (Request token tid window start) =
+    (category ∷ request ∷ token ∷ []) ++ two_octets (parameter_set tid window) ++ two_octets 0
+    ++ two_octets (16 * start)
+action_octets (Response token status tid window) =
+    (category ∷ response ∷ token ∷ []) ++ two_octets status ++ two_octets (parameter_set tid window)
+    ++ two_octets 0
+action_octets (Teardown tid initiator reason) =
     (category ∷ teardown ∷ []) ++ two_octets (teardown_set tid initiator) ++ two_octets reason
 
 -- what can be written: the TID is below 8, and the window fits its ten bits
@@ -96,6 +101,8 @@ FitsFields (Teardown tid initiator reason) = reason < 65536
 -- ---- what is read, at the places of the fields
 abbrev pub action_in : List ℕ → Action
 action_in octets =
-    if slice_index octets 1 == request then Request (slice_index octets 2) (tid_at octets 3) (window_at octets 3) (number_at octets 7 / 16 % 4096)
-    else (if slice_index octets 1 == response then Response (slice_index octets 2) (number_at octets 3) (tid_at octets 5) (window_at octets 5)
+    if slice_index octets 1 == request then Request (slice_index octets 2) (tid_at octets 3)
+    (window_at octets 3) (number_at octets 7 / 16 % 4096)
+    else (if slice_index octets 1 == response then Response (slice_index octets 2) (number_at octets 3)
+    (tid_at octets 5) (window_at octets 5)
     else Teardown (slice_index octets 3 / 16) (is_set (slice_index octets 3) 3) (number_at octets 4))

@@ -1,5 +1,5 @@
--- Both ends of one TID's agreement and the messages between them. Every message ever sent can be delivered at any time, any number of
--- times or never: so messages are lost, repeated and put in another order.
+-- Both ends of one TID's agreement and the messages between them. Every message ever sent can be delivered at
+-- any time, any number of times or never: so messages are lost, repeated and put in another order.
 use Rattle.std.specs.Prelude.{ℕ, true, false, List, [], ◌∷◌, ◌++◌, Option, Some, None, Result, Ok, Err, option_to_list, slice_get}
 use Rattle.wf_session.specs.declared.action.Action.{Action}
 use Rattle.wf_session.specs.declared.event.Event.{Event}
@@ -14,17 +14,22 @@ pub record Parley : Type 0 where
   pub answers : List Action  -- all that the recipient ever sent
 
 -- two new ends of a TID, whose recipient has this limit, and no message
-abbrev pub opening : ℕ → ℕ → Parley
-opening tid limit = record { originator = new_offer tid 0; recipient = new_accept tid limit 0; asks = []; answers = [] }
+abbrev pub new_parley : ℕ → ℕ → Parley
+new_parley tid limit = record {
+  originator = new_offer tid 0;
+  recipient = new_accept tid limit 0;
+  asks = [];
+  answers = [];
+}
 
 -- a message more, where one is sent
 abbrev pub with_sent : List Action → Option Action → List Action
 with_sent sent message = sent ++ option_to_list message
 
 -- the request that an ask gives: none where it is refused
-abbrev pub request_in : Result Action OfferFault → Option Action
-request_in (Ok message) = Some message
-request_in (Err fault) = None
+abbrev pub request_of_ask : Result Action OfferFault → Option Action
+request_of_ask (Ok message) = Some message
+request_of_ask (Err fault) = None
 
 -- a message arrives; a number that no message has is refused
 abbrev pub to_originator : Option Action → Parley → Parley
@@ -34,11 +39,19 @@ to_originator (Some message) w = record w { originator = offer_heard message w.o
 abbrev pub to_recipient : Option Action → Parley → Parley
 to_recipient None w = w
 to_recipient (Some message) w =
-    record w { recipient = accept_heard message w.recipient; answers = with_sent w.answers (accept_answer message w.recipient) }
+    record w {
+      recipient = accept_heard message w.recipient;
+      answers =
+          with_sent w.answers (accept_answer message w.recipient);
+    }
 
 unfoldable pub after_event : Event → Parley → Parley
 after_event (Ask window start) w =
-    record w { originator = after_ask window start w.originator; asks = with_sent w.asks (request_in (ask_answer window start w.originator)) }
+    record w {
+      originator = after_ask window start w.originator;
+      asks =
+          with_sent w.asks (request_of_ask (ask_answer window start w.originator));
+    }
 after_event Again w = record w { asks = with_sent w.asks (asked_again w.originator) }
 after_event (ToOriginator index) w = to_originator (slice_get w.answers index) w
 after_event (ToRecipient index) w = to_recipient (slice_get w.asks index) w
@@ -53,7 +66,10 @@ after_event CloseRecipient w =
       answers = with_sent w.answers (teardown_of w.recipient.tid false w.recipient.opened);
     }
 after_event RestartOriginator w = record w { originator = new_offer w.originator.tid w.originator.last }
-after_event RestartRecipient w = record w { recipient = new_accept w.recipient.tid w.recipient.limit w.recipient.last }
+after_event RestartRecipient w = record w {
+  recipient =
+      new_accept w.recipient.tid w.recipient.limit w.recipient.last;
+}
 
 -- after a list of events, one after the other
 unfoldable pub after_events : Parley → List Event → Parley

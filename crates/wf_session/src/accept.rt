@@ -1,11 +1,12 @@
 ghost use Rattle.std.specs.Prelude.{◌≡◌, ◌≤◌, ◌<◌, false, None, IfSome};
 ghost use Rattle.wf_session.specs.Layout.{CanBeWritten};
 ghost use Rattle.wf_session.specs.Ends.{HasWindow, new_accept, accept_heard, accept_answer, accept_received, accept_reply, with_request, response_to, granted, teardown_of};
-ghost use Rattle.wf_session.specs.Faults.{decoded};
+ghost use Rattle.wf_session.specs.Faults.{decoded_action};
 
+use crate::agreement::close;
 use crate::{Action, Agreement, decode_action};
 use std::marker::Model;
-use wf_seq12::Seq12;
+use wf_octets_seq12::Seq12;
 
 /// The recipient's end of one TID's agreement.
 #[derive(Drop)]
@@ -76,8 +77,8 @@ impl Accept {
     /// Octets from the originator arrive: what they are read as is heard, and octets that are no action frame
     /// change nothing. Gives the response, where one is due.
     pub fn receive(&mut self, octets: &[u8]) -> Option<Action>
-        ensures answer { result ≡ accept_reply (decoded octets.now) self.old }
-        ensures after { self.new ≡ accept_received (decoded octets.now) self.old }
+        ensures answer { result ≡ accept_reply (decoded_action octets.now) self.old }
+        ensures after { self.new ≡ accept_received (decoded_action octets.now) self.old }
         ensures writable { self.old.tid < 8 → IfSome result (λ answer. CanBeWritten answer) }
     {
         let Ok(action) = decode_action(octets) else {
@@ -92,12 +93,7 @@ impl Accept {
         ensures after { self.new ≡ record self.old { opened = None } }
         ensures writable { self.old.tid < 8 → IfSome result (λ action. CanBeWritten action) }
     {
-        self.opened.take()?;
-        Some(Action::Teardown {
-            tid: self.tid,
-            initiator: false,
-            reason: 1,
-        })
+        close(&mut self.opened, self.tid, false)
     }
 
     /// The agreement, where one is open.

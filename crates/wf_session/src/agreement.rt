@@ -1,4 +1,9 @@
-use wf_seq12::Seq12;
+ghost use Rattle.std.specs.Prelude.{◌≡◌, ◌<◌, None, IfSome};
+ghost use Rattle.wf_session.specs.Layout.{CanBeWritten};
+ghost use Rattle.wf_session.specs.Ends.{teardown_of};
+
+use crate::Action;
+use wf_octets_seq12::Seq12;
 
 /// An agreement of one TID as an end has it.
 #[derive(Clone, Copy, Debug, PartialEq, Eq)]
@@ -9,4 +14,19 @@ pub struct Agreement {
     pub window: u16,
     /// The first number of the window.
     pub start: Seq12,
+}
+
+/// Ends the agreement of an end, the originator or the recipient, and gives the message that tells the
+/// other: none where none is open.
+pub(crate) fn close(opened: &mut Option<Agreement>, tid: u8, initiator: bool) -> Option<Action>
+    ensures answer { result ≡ teardown_of tid initiator opened.old }
+    ensures after { opened.new ≡ None }
+    ensures writable { tid < 8 → IfSome result (λ action. CanBeWritten action) }
+{
+    opened.take()?;
+    Some(Action::Teardown {
+        tid,
+        initiator,
+        reason: 1,
+    })
 }

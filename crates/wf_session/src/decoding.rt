@@ -1,13 +1,14 @@
-ghost use Rattle.std.specs.Prelude.{◌≡◌, ◌+◌, ◌<◌, ◌≤◌, IfOk, Ok, Some, None, length};
+ghost use Rattle.std.specs.Prelude.{◌≡◌, ◌<◌, IfOk, Ok, None};
 ghost use Rattle.wf_session.specs.Layout.{IsAction, CanBeWritten, action_in};
-ghost use Rattle.wf_session.specs.Faults.{first_fault, fault_of, request_fault, response_fault, teardown_fault, tid_fault, decoded};
+ghost use Rattle.std.specs.Result.{result_err};
+ghost use Rattle.wf_session.specs.Faults.{first_action_fault, request_fault, response_fault, teardown_fault, action_tid_fault, decoded_action};
 ghost use Rattle.wf_session.specs.declared.action.Action.{Action};
 
 use crate::Action;
 use crate::encoding::{CATEGORY, REQUEST, RESPONSE, TEARDOWN};
 use thiserror::Error;
-use wf_fields::{is_set, number_at};
-use wf_seq12::Seq12;
+use wf_octets_fields::{is_set, number_at};
+use wf_octets_seq12::Seq12;
 
 /// Why octets are no action frame of an agreement.
 #[derive(Clone, Copy, Debug, PartialEq, Eq, Error)]
@@ -41,7 +42,7 @@ pub enum ActionFault {
 /// octets after the fields.
 pub fn decode_action(octets: &[u8]) -> Result<Action, ActionFault>
     // the action at the places of its fields, or the first check that fails
-    ensures decoded { result ≡ decoded octets.now }
+    ensures decoded { result ≡ decoded_action octets.now }
 
     // and that is the action of these octets, where there is one
     ensures read { IfOk result (λ action. IsAction octets.now action) }
@@ -54,7 +55,7 @@ pub fn decode_action(octets: &[u8]) -> Result<Action, ActionFault>
 
 /// Makes the checks in their order.
 fn check(octets: &[u8]) -> Result<(), ActionFault>
-    ensures { fault_of result ≡ first_fault octets.now }
+    ensures { result_err result ≡ first_action_fault octets.now }
 {
     let have = octets.len();
     if have < 2 {
@@ -73,7 +74,7 @@ fn check(octets: &[u8]) -> Result<(), ActionFault>
 
 /// The checks of an ADDBA request.
 fn check_request(octets: &[u8]) -> Result<(), ActionFault>
-    ensures { fault_of result ≡ request_fault octets.now }
+    ensures { result_err result ≡ request_fault octets.now }
 {
     let have = octets.len();
     if have < 9 {
@@ -91,7 +92,7 @@ fn check_request(octets: &[u8]) -> Result<(), ActionFault>
 
 /// The checks of an ADDBA response.
 fn check_response(octets: &[u8]) -> Result<(), ActionFault>
-    ensures { fault_of result ≡ response_fault octets.now }
+    ensures { result_err result ≡ response_fault octets.now }
 {
     let have = octets.len();
     if have < 9 {
@@ -105,7 +106,7 @@ fn check_response(octets: &[u8]) -> Result<(), ActionFault>
 
 /// The checks of a DELBA.
 fn check_teardown(octets: &[u8]) -> Result<(), ActionFault>
-    ensures { fault_of result ≡ teardown_fault octets.now }
+    ensures { result_err result ≡ teardown_fault octets.now }
 {
     let have = octets.len();
     if have < 6 {
@@ -116,7 +117,7 @@ fn check_teardown(octets: &[u8]) -> Result<(), ActionFault>
 
 /// A TID has to be below 8.
 fn check_tid(tid: u8) -> Result<(), ActionFault>
-    ensures { fault_of result ≡ tid_fault tid }
+    ensures { result_err result ≡ action_tid_fault tid }
 {
     if tid > 7 {
         return Err(ActionFault::Tid(tid));
@@ -126,7 +127,7 @@ fn check_tid(tid: u8) -> Result<(), ActionFault>
 
 /// The action at the places of its fields.
 fn action_at(octets: &[u8]) -> Action
-    requires { first_fault octets.now ≡ None }
+    requires { first_action_fault octets.now ≡ None }
     ensures { result ≡ action_in octets.now }
 {
     match octets[1] {

@@ -1,12 +1,12 @@
-ghost use Rattle.std.specs.Prelude.{◌≡◌, Ok, ◌+◌, ◌*◌, ◌<◌, ◌++◌, length, take, drop};
-ghost use Rattle.wf_fields.specs.Fields.{two_octets};
-ghost use Rattle.wf_session.specs.Layout.{IsAction, IsRequest, CanBeWritten, octets_of, parameter_set};
-ghost use Rattle.wf_session.specs.Faults.{decoded};
+ghost use Rattle.std.specs.Prelude.{◌≡◌, Ok, ◌+◌, ◌*◌, ◌<◌, length, take, drop};
+ghost use Rattle.wf_octets_fields.specs.Fields.{two_octets};
+ghost use Rattle.wf_session.specs.Layout.{IsAction, IsAddbaRequest, CanBeWritten, action_octets, parameter_set};
+ghost use Rattle.wf_session.specs.Faults.{decoded_action};
 ghost use Rattle.wf_session.specs.declared.action.Action.TheVariants.{Request, Response, Teardown};
 
 use crate::Action;
-use wf_fields::{put, two_octets};
-use wf_seq12::Seq12;
+use wf_octets_fields::{put, two_octets};
+use wf_octets_seq12::Seq12;
 
 /// The category octet of block acknowledgement action frames.
 pub(crate) const CATEGORY: u8 = 3;
@@ -21,13 +21,13 @@ pub(crate) const TEARDOWN: u8 = 2;
 /// 6 octets. The octets past it stay.
 pub fn encode_action(action: &Action, out: &mut [u8; 9]) -> usize
     requires range { CanBeWritten action.now }
-    ensures size { result ≡ length (octets_of action.now) }
-    ensures octets { take result out.new ≡ octets_of action.now }
+    ensures size { result ≡ length (action_octets action.now) }
+    ensures octets { take result out.new ≡ action_octets action.now }
     ensures rest { drop result out.new ≡ drop result out.old }
     ensures layout { IsAction out.new action.now }
 
     // what was written is read back as the action
-    ensures read_back { decoded (take result out.new) ≡ Ok action.now }
+    ensures read_back { decoded_action (take result out.new) ≡ Ok action.now }
 {
     match *action {
         Action::Request {
@@ -54,8 +54,8 @@ pub fn encode_action(action: &Action, out: &mut [u8; 9]) -> usize
 fn put_request(token: u8, tid: u8, window: u16, start: Seq12, out: &mut [u8; 9]) -> usize
     requires { (tid < 8) × (window < 1024) }
     ensures size { result ≡ 9 }
-    ensures octets { take result out.new ≡ octets_of (Request token tid window start) }
-    ensures layout { IsRequest out.new token tid window start }
+    ensures octets { take result out.new ≡ action_octets (Request token tid window start) }
+    ensures layout { IsAddbaRequest out.new token tid window start }
 {
     let end = put(out, 0, &[CATEGORY, REQUEST, token]);
     let end = put(out, end, &two_octets(parameter_set(tid, window)));
@@ -67,7 +67,7 @@ fn put_request(token: u8, tid: u8, window: u16, start: Seq12, out: &mut [u8; 9])
 fn put_response(token: u8, status: u16, tid: u8, window: u16, out: &mut [u8; 9]) -> usize
     requires { (tid < 8) × (window < 1024) }
     ensures size { result ≡ 9 }
-    ensures octets { take result out.new ≡ octets_of (Response token status tid window) }
+    ensures octets { take result out.new ≡ action_octets (Response token status tid window) }
 {
     let end = put(out, 0, &[CATEGORY, RESPONSE, token]);
     let end = put(out, end, &two_octets(status));
@@ -79,7 +79,7 @@ fn put_response(token: u8, status: u16, tid: u8, window: u16, out: &mut [u8; 9])
 fn put_teardown(tid: u8, initiator: bool, reason: u16, out: &mut [u8; 9]) -> usize
     requires { tid < 8 }
     ensures size { result ≡ 6 }
-    ensures octets { take result out.new ≡ octets_of (Teardown tid initiator reason) }
+    ensures octets { take result out.new ≡ action_octets (Teardown tid initiator reason) }
     ensures rest { drop 6 out.new ≡ drop 6 out.old }
 {
     let set = if initiator { 0x0800 } else { 0 } + 0x1000 * u16::from(tid);

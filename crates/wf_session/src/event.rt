@@ -1,7 +1,7 @@
-use wf_seq12::Seq12;
+use wf_octets_seq12::Seq12;
 
-/// What happens to the two ends of an agreement, and to the messages between them. Every message that was ever
-/// sent can arrive at any time, any number of times or never.
+/// What happens to the two ends of an agreement, and to the messages between them. Every message that was
+/// ever sent can arrive at any time, any number of times or never.
 #[derive(Clone, Copy, Debug, PartialEq, Eq)]
 pub enum Event {
     /// The originator asks for an agreement.

@@ -1,13 +1,14 @@
 ghost use Rattle.std.specs.Prelude.{◌≡◌, ℕ, ◌++◌, List, Ok};
-ghost use Rattle.wf_session.specs.Faults.{decoded};
-ghost use Rattle.wf_session.specs.Layout.{CanBeWritten, FitsFields, octets_of};
+ghost use Rattle.wf_session.specs.Faults.{decoded_action};
+ghost use Rattle.wf_session.specs.Layout.{CanBeWritten, FitsFields, action_octets};
 ghost use Rattle.wf_session.specs.Laws.{AgreementLaw};
 ghost use Rattle.wf_session.specs.declared.action.Action.{Action};
 ghost use Rattle.wf_session.specs.declared.event.Event.{Event};
 
 /// An action that is written is read back as itself, whatever octets follow.
 pub fn codec_law()
-    ensures { (a : Action) (later : List ℕ) → CanBeWritten a → FitsFields a → decoded (octets_of a ++ later) ≡ Ok a }
+    ensures { (a : Action) (later : List ℕ) → CanBeWritten a → FitsFields a →
+        decoded_action (action_octets a ++ later) ≡ Ok a }
 {}
 
 /// Over every list of events, messages lost, repeated, put in another order and restarts of either end among

@@ -1,8 +1,8 @@
-//! One TID's block acknowledgement agreement, made by messages (IEEE 802.11-2012, 9.21.2 and 9.21.4):
-//! an ADDBA request and response set it up, and a DELBA ends it.
+//! One TID's block acknowledgement session set up by messages (IEEE 802.11-2012, 9.21.2 and 9.21.4): the
+//! octets of the ADDBA request and response and of the DELBA, and both ends as values in closed form.
 //!
-//! The two ends agree however the messages between them are lost, repeated or put in another order, and
-//! whichever end restarts, since each request carries a token of its own: one above the last.
+//! The law: the two ends agree however the messages between them are lost, repeated or put in another order,
+//! and whichever end restarts, since each request carries a token of its own: one above the last.
 #![tactic(auto)]
 
 mod accept;
@@ -22,6 +22,3 @@ pub use encoding::encode_action;
 pub use event::Event;
 pub use laws::{agreement_law, codec_law};
 pub use offer::{Offer, OfferFault};
-
-#[cfg(test)]
-mod tests;

@@ -1,13 +1,14 @@
 ghost use Rattle.std.specs.Prelude.{◌≡◌, ◌≤◌, ◌<◌, true, None, IfOk, IfSome};
 ghost use Rattle.wf_session.specs.Layout.{CanBeWritten};
-ghost use Rattle.wf_session.specs.Ends.{HasWindow, new_offer, ask_answer, after_ask, asked_again, request_of, offer_heard, offer_received, with_response, settled, teardown_of};
-ghost use Rattle.wf_session.specs.Faults.{decoded};
+ghost use Rattle.wf_session.specs.Ends.{HasWindow, new_offer, ask_answer, after_ask, asked_again, request_of, offer_heard, offer_received, with_response, offer_settled, teardown_of};
+ghost use Rattle.wf_session.specs.Faults.{decoded_action};
 ghost use Rattle.wf_session.specs.declared.agreement.Agreement.{Agreement};
 
+use crate::agreement::close;
 use crate::{Action, Agreement, decode_action};
 use std::marker::Model;
 use thiserror::Error;
-use wf_seq12::Seq12;
+use wf_octets_seq12::Seq12;
 
 /// Why nothing is asked.
 #[derive(Clone, Copy, Debug, PartialEq, Eq, Error)]
@@ -119,7 +120,7 @@ impl Offer {
     /// Octets from the recipient arrive: what they are read as is heard, and octets that are no action frame
     /// change nothing.
     pub fn receive(&mut self, octets: &[u8])
-        ensures { self.new ≡ offer_received (decoded octets.now) self.old }
+        ensures { self.new ≡ offer_received (decoded_action octets.now) self.old }
     {
         if let Ok(action) = decode_action(octets) {
             self.hear(&action);
@@ -132,12 +133,7 @@ impl Offer {
         ensures after { self.new ≡ record self.old { opened = None } }
         ensures writable { self.old.tid < 8 → IfSome result (λ action. CanBeWritten action) }
     {
-        self.opened.take()?;
-        Some(Action::Teardown {
-            tid: self.tid,
-            initiator: true,
-            reason: 1,
-        })
+        close(&mut self.opened, self.tid, true)
     }
 
     /// The agreement, where one is open.
@@ -169,7 +165,7 @@ impl Offer {
     /// A response to what was asked arrives.
     fn settle(&mut self, status: u16, window: u16, wish: Agreement)
         requires { wish.window ≤ 256 }
-        ensures { self.new ≡ settled status window wish self.old }
+        ensures { self.new ≡ offer_settled status window wish self.old }
     {
         if status != 0 {
             self.asked = None;

@@ -10,7 +10,7 @@ use Rattle.wf_trace.specs.declared.cut.Piece.TheVariants.{Text, Ended, Bad}
 use Rattle.wf_trace.specs.Lines.{texts_of}
 use Rattle.wf_trace.specs.Scanning.{lines_behind, begins_word}
 use Rattle.wf_trace.specs.Words.{words, skipped}
-use Rattle.wf_trace.specs.Cutting.{Cutting, Takes, Fits, will_read as will_cut}
+use Rattle.wf_trace.specs.Cutting.{Cutting, TakesPieces, Fits, will_read as will_cut}
 use Rattle.wf_trace.specs.Pieces.{Pieces, ending_piece, pieces_from, pieces}
 use Rattle.wf_trace.specs.Numbering.{Numbering, Cuts, GivesPiece, pieces_left, pieces_left_of, IsLastPiece}
 use Rattle.wf_trace.proofs.Parted.{lines_parted}
@@ -32,29 +32,38 @@ abbrev pub at : Cutting → ℕ → Numbering
 at cutter line = record { cutter = cutter; line = line; ended = None }
 
 -- what may be spoken of after a call could be spoken of before it
-pub fits_back : (old new : Option End) (left_now left_new : Option (List ℕ)) (octets : List ℕ) (closed : Bool) (more : List ℕ) →
+pub fits_back : (old new : Option End) (left_now left_new : Option (List ℕ)) (octets : List ℕ) (closed : Bool)
+    (more : List ℕ) →
     (IsSome old → IsSome new) → left_now ≡ prepend_known octets left_new →
     Fits new left_new closed more → Fits old left_now closed (octets ++ more)
 fits_back None new left_now left_new octets closed more sticky taken fits = tt
-fits_back (Some end) None left_now left_new octets closed more sticky taken fits = absurd (let bad = sticky (refl) in cc)
-fits_back (Some end) (Some other) left_now left_new octets closed more sticky taken fits = (fits.0, taken ∙ rw (fits.1) refl)
+fits_back (Some end) None left_now left_new octets closed more sticky taken fits =
+    absurd (let bad = sticky (refl) in cc)
+fits_back (Some end) (Some other) left_now left_new octets closed more sticky taken fits =
+    (fits.0, taken ∙ rw (fits.1) refl)
 
 -- the pieces at first, by what a call of the cutter took
-grown : (first : Numbering) (cutter new : Cutting) (line : ℕ) (left left_now left_new : Option (List ℕ)) (octets : List ℕ) (closed : Bool) (more : List ℕ) →
+grown : (first : Numbering) (cutter new : Cutting) (line : ℕ) (left left_now left_new : Option (List ℕ))
+    (octets : List ℕ) (closed : Bool) (more : List ℕ) →
     (kept : Kept first (at cutter line) left left_now) → (IsSome cutter.ended → IsSome new.ended) →
     left_now ≡ prepend_known octets left_new → Fits new.ended left_new closed more →
-    pieces_left first closed ((kept.octets ++ octets) ++ more) ≡ pieces_left (at cutter line) closed (octets ++ more)
+    pieces_left first closed ((kept.octets ++ octets) ++ more)
+    ≡ pieces_left (at cutter line) closed (octets ++ more)
 grown first cutter new line left left_now left_new octets closed more kept sticky taken fits =
     ap (λ l. pieces_left first closed l) (append_assoc kept.octets octets more)
-    ∙ kept.same closed (octets ++ more) (fits_back cutter.ended new.ended left_now left_new octets closed more sticky taken fits)
+    ∙ kept.same closed (octets ++ more) (fits_back cutter.ended new.ended left_now left_new octets closed more
+    sticky taken fits)
 
 -- a line that is skipped
-pub kept_skip : (first : Numbering) (cutter new : Cutting) (line : ℕ) (left left_now left_new : Option (List ℕ)) (octets : List ℕ) →
-    Kept first (at cutter line) left left_now → (IsSome cutter.ended → IsSome new.ended) → Takes cutter left_now (Ok None) new left_new octets →
+pub kept_skip : (first : Numbering) (cutter new : Cutting) (line : ℕ)
+    (left left_now left_new : Option (List ℕ)) (octets : List ℕ) →
+    Kept first (at cutter line) left left_now → (IsSome cutter.ended → IsSome new.ended) →
+    TakesPieces cutter left_now (Ok None) new left_new octets →
     skipped (words new.scanner.line) ≡ true → Kept first (at new (line + 1)) left left_new
 kept_skip first cutter new line left left_now left_new octets kept sticky takes skips = record {
   octets = kept.octets ++ octets;
-  taken = kept.taken ∙ ap (prepend_known kept.octets) takes.taken ∙ prepend_known-append kept.octets octets left_new;
+  taken = kept.taken ∙ ap (prepend_known kept.octets) takes.taken
+      ∙ prepend_known-append kept.octets octets left_new;
   same = λ closed more fits.
       grown first cutter new line left left_now left_new octets closed more kept sticky takes.taken fits
       ∙ ap (λ t. pieces_left_of None line t) (takes.gives closed more fits)
@@ -62,13 +71,17 @@ kept_skip first cutter new line left left_now left_new octets kept sticky takes 
 }
 
 -- a line that is not skipped
-pub cuts_line : (first : Numbering) (cutter new : Cutting) (line : ℕ) (left left_now left_new : Option (List ℕ)) (octets : List ℕ) →
-    Kept first (at cutter line) left left_now → (IsSome cutter.ended → IsSome new.ended) → Takes cutter left_now (Ok None) new left_new octets →
-    skipped (words new.scanner.line) ≡ false → (taken : List ℕ) × Cuts first left (Ok (Text line)) (at new (line + 1)) left_new taken
+pub cuts_line : (first : Numbering) (cutter new : Cutting) (line : ℕ)
+    (left left_now left_new : Option (List ℕ)) (octets : List ℕ) →
+    Kept first (at cutter line) left left_now → (IsSome cutter.ended → IsSome new.ended) →
+    TakesPieces cutter left_now (Ok None) new left_new octets →
+    skipped (words new.scanner.line) ≡ false → (taken : List ℕ) ×
+    Cuts first left (Ok (Text line)) (at new (line + 1)) left_new taken
 cuts_line first cutter new line left left_now left_new octets kept sticky takes says = (
   kept.octets ++ octets,
   record {
-    taken = kept.taken ∙ ap (prepend_known kept.octets) takes.taken ∙ prepend_known-append kept.octets octets left_new;
+    taken = kept.taken ∙ ap (prepend_known kept.octets) takes.taken
+        ∙ prepend_known-append kept.octets octets left_new;
     gives = λ closed more fits.
         grown first cutter new line left left_now left_new octets closed more kept sticky takes.taken fits
         ∙ ap (λ t. pieces_left_of None line t) (takes.gives closed more fits)
@@ -77,38 +90,50 @@ cuts_line first cutter new line left left_now left_new octets kept sticky takes 
 )
 
 -- no line more
-pub cuts_end : (first : Numbering) (cutter new : Cutting) (line : ℕ) (left left_now left_new : Option (List ℕ)) (octets : List ℕ) (end : End) (piece : Piece) (after : Numbering) →
-    Kept first (at cutter line) left left_now → (IsSome cutter.ended → IsSome new.ended) → Takes cutter left_now (Ok (Some end)) new left_new octets →
-    Some piece ≡ ending_piece line (Some end) → after ≡ record { cutter = new; line = line; ended = Some piece } →
+pub cuts_end : (first : Numbering) (cutter new : Cutting) (line : ℕ)
+    (left left_now left_new : Option (List ℕ)) (octets : List ℕ) (end : End) (piece : Piece)
+    (after : Numbering) →
+    Kept first (at cutter line) left left_now → (IsSome cutter.ended → IsSome new.ended) →
+    TakesPieces cutter left_now (Ok (Some end)) new left_new octets →
+    Some piece ≡ ending_piece line (Some end) → after
+    ≡ record { cutter = new; line = line; ended = Some piece } →
     (taken : List ℕ) × Cuts first left (Ok piece) after left_new taken
 cuts_end first cutter new line left left_now left_new octets end piece after kept sticky takes stops is = (
   kept.octets ++ octets,
   record {
-    taken = kept.taken ∙ ap (prepend_known kept.octets) takes.taken ∙ prepend_known-append kept.octets octets left_new;
+    taken = kept.taken ∙ ap (prepend_known kept.octets) takes.taken
+        ∙ prepend_known-append kept.octets octets left_new;
     gives = rw is (λ closed more fits.
-        let whole : pieces_left first closed ((kept.octets ++ octets) ++ more) ≡ record { lines = []; ending = Some piece }
+        let whole : pieces_left first closed ((kept.octets ++ octets) ++ more)
+        ≡ record { lines = []; ending = Some piece }
         = grown first cutter new line left left_now left_new octets closed more kept sticky takes.taken fits
         ∙ ap (λ t. pieces_left_of None line t) ((takes.gives closed more fits).1)
-        ∙ rw ((takes.gives closed more fits).0) (ap (λ (e : Option Piece). let p : Pieces = record { lines = []; ending = e } in p) (sym stops)) in
+        ∙ rw ((takes.gives closed more fits).0) (ap (λ (e : Option Piece). let p : Pieces =
+        record { lines = []; ending = e } in p) (sym stops)) in
         last end piece stops whole);
   },
 )
   where
-    last : (end : End) (piece : Piece) → Some piece ≡ ending_piece line (Some end) → {before : Pieces} → before ≡ record { lines = []; ending = Some piece } →
-        GivesPiece (Ok piece) (record { cutter = new; line = line; ended = Some piece }) before (record { lines = []; ending = Some piece })
+    last : (end : End) (piece : Piece) → Some piece ≡ ending_piece line (Some end) → {before : Pieces} →
+        before ≡ record { lines = []; ending = Some piece } →
+        GivesPiece (Ok piece) (record { cutter = new; line = line; ended = Some piece }) before
+        (record { lines = []; ending = Some piece })
     last Over (Text other) stops whole = absurd (cc)
     last (Flaw kind) (Text other) stops whole = absurd (cc)
     last end (Ended other) stops whole = (refl, whole)
     last end (Bad fault) stops whole = (refl, whole)
 
 -- the source failed
-pub cuts_none : (first : Numbering) (cutter new : Cutting) (line : ℕ) (left left_now left_new : Option (List ℕ)) (octets : List ℕ) (failed : Failed) →
-    Kept first (at cutter line) left left_now → (IsSome cutter.ended → IsSome new.ended) → Takes cutter left_now (Err failed) new left_new octets →
+pub cuts_none : (first : Numbering) (cutter new : Cutting) (line : ℕ)
+    (left left_now left_new : Option (List ℕ)) (octets : List ℕ) (failed : Failed) →
+    Kept first (at cutter line) left left_now → (IsSome cutter.ended → IsSome new.ended) →
+    TakesPieces cutter left_now (Err failed) new left_new octets →
     (taken : List ℕ) × Cuts first left (Err failed) (at new line) left_new taken
 cuts_none first cutter new line left left_now left_new octets failed kept sticky takes = (
   kept.octets ++ octets,
   record {
-    taken = kept.taken ∙ ap (prepend_known kept.octets) takes.taken ∙ prepend_known-append kept.octets octets left_new;
+    taken = kept.taken ∙ ap (prepend_known kept.octets) takes.taken
+        ∙ prepend_known-append kept.octets octets left_new;
     gives = λ closed more fits.
         grown first cutter new line left left_now left_new octets closed more kept sticky takes.taken fits
         ∙ ap (λ t. pieces_left_of None line t) (takes.gives closed more fits);
@@ -116,34 +141,52 @@ cuts_none first cutter new line left left_now left_new octets failed kept sticky
 )
 
 -- the end again
-pub cuts_again : (c : Numbering) (left : Option (List ℕ)) (piece : Piece) → c.ended ≡ Some piece → IsLastPiece c.ended → (taken : List ℕ) × Cuts c left (Ok piece) c left taken
-cuts_again c left piece is ending = ([], record { taken = prepend_known-nil left; gives = λ closed more fits. again piece is (subst IsLastPiece is ending) closed more })
+pub cuts_again : (c : Numbering) (left : Option (List ℕ)) (piece : Piece) → c.ended ≡ Some piece →
+    IsLastPiece c.ended → (taken : List ℕ) × Cuts c left (Ok piece) c left taken
+cuts_again c left piece is ending = (
+  [],
+  record {
+    taken = prepend_known-nil left;
+    gives =
+        λ closed more fits. again piece is (subst IsLastPiece is ending) closed more;
+  },
+)
   where
-    again : (piece : Piece) → c.ended ≡ Some piece → IsLastPiece (Some piece) → (closed : Bool) (more : List ℕ) → GivesPiece (Ok piece) c (pieces_left c closed more) (pieces_left c closed more)
+    again : (piece : Piece) → c.ended ≡ Some piece → IsLastPiece (Some piece) →
+        (closed : Bool) (more : List ℕ) → GivesPiece (Ok piece) c (pieces_left c closed more)
+        (pieces_left c closed more)
     again (Text line) is ending closed more = absurd ending
     again (Ended line) is ending closed more = (is, refl)
     again (Bad fault) is ending closed more = (is, refl)
 
 -- a new cutter has the whole input to come
 pub pieces_whole : (closed : Bool) (octets : List ℕ) →
-    pieces_from 1 (texts_of closed (lines_behind closed 0 [] octets)).texts (texts_of closed (lines_behind closed 0 [] octets)).ending ≡ pieces closed octets
+    pieces_from 1 (texts_of closed (lines_behind closed 0 [] octets)).texts
+    (texts_of closed (lines_behind closed 0 [] octets)).ending ≡ pieces closed octets
 pieces_whole closed octets = rw (lines_parted closed octets) refl
 
 -- Where the first call of the cutter does not read, no other comes.
 abbrev pub Still : {S : Type 0} → Numbering → Numbering → S → S → Type 0
 Still first now source source_now = will_cut first.cutter ≡ false → (now ≡ first) × (source_now ≡ source)
 
-still_cut : {S : Type 0} (first now : Numbering) (cutter : Cutting) (source source_now : S) → Still first now source source_now → cutter ≡ now.cutter →
+still_cut : {S : Type 0} (first now : Numbering) (cutter : Cutting) (source source_now : S) →
+    Still first now source source_now → cutter ≡ now.cutter →
     will_cut first.cutter ≡ false → will_cut cutter ≡ false
 still_cut first now cutter source source_now still is quiet =
     ap will_cut is ∙ ap (λ (c : Numbering). will_cut c.cutter) (still quiet).0 ∙ quiet
 
-pub still_quiet : {S P : Type 0} (first now : Numbering) (cutter : Cutting) (source source_now source_new : S) → Still first now source source_now → cutter ≡ now.cutter →
-    (will_cut cutter ≡ false → (source_new ≡ source_now) × P) → will_cut first.cutter ≡ false → (source_new ≡ source) × P
+pub still_quiet : {S P : Type 0} (first now : Numbering) (cutter : Cutting)
+    (source source_now source_new : S) → Still first now source source_now → cutter ≡ now.cutter →
+    (will_cut cutter ≡ false → (source_new ≡ source_now) × P) → will_cut first.cutter ≡ false →
+    (source_new ≡ source) × P
 still_quiet first now cutter source source_now source_new still is called quiet =
-    let call = called (still_cut first now cutter source source_now still is quiet) in (call.0 ∙ (still quiet).1, call.1)
+    let call = called (still_cut first now cutter source source_now still is quiet) in
+    (call.0 ∙ (still quiet).1, call.1)
 
-pub still_says : {S : Type 0} (first now : Numbering) (cutter : Cutting) (line : List ℕ) (source source_now : S) → Still first now source source_now → cutter ≡ now.cutter →
-    (will_cut cutter ≡ false → begins_word line ≡ true) → skipped (words line) ≡ true → will_cut first.cutter ≡ false → ⊥
+pub still_says : {S : Type 0} (first now : Numbering) (cutter : Cutting) (line : List ℕ)
+    (source source_now : S) → Still first now source source_now → cutter ≡ now.cutter →
+    (will_cut cutter ≡ false → begins_word line ≡ true) → skipped (words line) ≡ true →
+    will_cut first.cutter ≡ false → ⊥
 still_says first now cutter line source source_now still is called skips quiet =
-    let says = says_something line (called (still_cut first now cutter source source_now still is quiet)) in absurd (cc)
+    let says = says_something line (called (still_cut first now cutter source source_now still is quiet)) in
+    absurd (cc)

@@ -1,11 +1,11 @@
-pub mod ScanLaws
+mod ScanLaws
 pub mod Taking
 pub mod CutLaws
-pub mod InputLaws
+mod InputLaws
 pub mod WordLaws
 pub mod ArgLaws
-pub mod ItemLaws
-pub mod HeadLaws
-pub mod Parted
+mod ItemLaws
+mod HeadLaws
+mod Parted
 pub mod PlaceLaws
 pub mod PrintLaws

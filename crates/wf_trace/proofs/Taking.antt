@@ -9,42 +9,49 @@ use Rattle.wf_trace.specs.declared.fault.End.TheVariants.{Flaw}
 use Rattle.wf_trace.specs.declared.scanner.Found.TheVariants as found
 use Rattle.wf_trace.specs.Lines.{before_texts, flaw, texts_of}
 use Rattle.wf_trace.specs.Scanning.{Scanning, Finds, Keeps, lines_behind, texts_from, texts_behind, has_end, begins_word}
-use Rattle.wf_trace.specs.Cutting.{Cutting, Takes, Fits, Follows, to_come}
+use Rattle.wf_trace.specs.Cutting.{Cutting, TakesPieces, Fits, Follows, to_come}
 
 -- Octets were taken, and the texts to come stayed.
 pub record Took (first now : Scanning) (left left_now : Option (List ℕ)) : Type 0 where
   pub octets : List ℕ
   pub taken : left ≡ prepend_known octets left_now
-  pub same : (closed : Bool) (more : List ℕ) → texts_from first closed (octets ++ more) ≡ texts_from now closed more
+  pub same : (closed : Bool) (more : List ℕ) → texts_from first closed (octets ++ more)
+      ≡ texts_from now closed more
 
 pub prepend_known-nil : (left : Option (List ℕ)) → left ≡ prepend_known [] left
 prepend_known-nil None = refl
 prepend_known-nil (Some xs) = refl
 
-pub prepend_known-append : (one two : List ℕ) (left : Option (List ℕ)) → prepend_known one (prepend_known two left) ≡ prepend_known (one ++ two) left
+pub prepend_known-append : (one two : List ℕ) (left : Option (List ℕ)) →
+    prepend_known one (prepend_known two left) ≡ prepend_known (one ++ two) left
 prepend_known-append one two None = refl
 prepend_known-append one two (Some xs) = ap Some (sym (append_assoc one two xs))
 
 pub took_none : (s : Scanning) (left : Option (List ℕ)) → Took s s left left
 took_none s left = record { octets = []; taken = prepend_known-nil left; same = λ closed more. refl }
 
-pub took_scan : (first s t : Scanning) (left left_now : Option (List ℕ)) → Took first s left left_now → Finds s None t → Took first t left left_now
+pub took_scan : (first s t : Scanning) (left left_now : Option (List ℕ)) → Took first s left left_now →
+    Finds s None t → Took first t left left_now
 took_scan first s t left left_now took finds = record {
   octets = took.octets;
   taken = took.taken;
   same = λ closed more. took.same closed more ∙ finds closed more;
 }
 
-pub took_refill : (first s t : Scanning) (left left_now left_new : Option (List ℕ)) → Took first s left left_now →
-    s.waiting ≡ [] → left_now ≡ prepend_known t.waiting left_new → t ≡ record s { waiting = t.waiting } → Took first t left left_new
+pub took_refill : (first s t : Scanning) (left left_now left_new : Option (List ℕ)) →
+    Took first s left left_now →
+    s.waiting ≡ [] → left_now ≡ prepend_known t.waiting left_new → t ≡ record s { waiting = t.waiting } →
+    Took first t left left_new
 took_refill first s t left left_now left_new took dry refilled same = record {
   octets = took.octets ++ t.waiting;
-  taken = took.taken ∙ ap (λ l. prepend_known took.octets l) refilled ∙ prepend_known-append took.octets t.waiting left_new;
+  taken = took.taken ∙ ap (λ l. prepend_known took.octets l) refilled
+      ∙ prepend_known-append took.octets t.waiting left_new;
   same = λ closed more.
       ap (λ l. texts_from first closed l) (append_assoc took.octets t.waiting more)
       ∙ took.same closed (t.waiting ++ more)
       ∙ ap (λ w. texts_of closed (lines_behind closed s.looked s.line (w ++ (t.waiting ++ more)))) dry
-      ∙ ap (λ (u : Scanning). texts_of closed (lines_behind closed u.looked u.line (t.waiting ++ more))) (sym same);
+      ∙ ap (λ (u : Scanning). texts_of closed (lines_behind closed u.looked u.line (t.waiting ++ more)))
+      (sym same);
 }
 
 -- a cutter that is under way
@@ -53,11 +60,18 @@ going s = record { scanner = s; given = false; ended = None }
 
 abbrev pub Judged : Option FaultKind → Option End → Scanning → Cutting → Type 0
 Judged f end s new = MatchOption f ((end ≡ None) × (new ≡ record { scanner = s; given = true; ended = None }))
-    (λ kind. (end ≡ Some (Flaw kind)) × (new ≡ record { scanner = s; given = false; ended = Some (Flaw kind) }))
+    (λ kind. (end ≡ Some (Flaw kind)) × (new ≡ record {
+      scanner = s;
+      given = false;
+      ended =
+          Some (Flaw kind);
+    }))
 
-judged : (f : Option FaultKind) (first s t : Scanning) (left left_now : Option (List ℕ)) (end : Option End) (new : Cutting) → (took : Took first s left left_now) →
-    ((closed : Bool) (more : List ℕ) → texts_from s closed more ≡ before_texts f t.line (texts_behind t closed more)) →
-    Judged f end t new → Takes (going first) left (Ok end) new left_now took.octets
+judged : (f : Option FaultKind) (first s t : Scanning) (left left_now : Option (List ℕ)) (end : Option End)
+    (new : Cutting) → (took : Took first s left left_now) →
+    ((closed : Bool) (more : List ℕ) → texts_from s closed more
+    ≡ before_texts f t.line (texts_behind t closed more)) →
+    Judged f end t new → TakesPieces (going first) left (Ok end) new left_now took.octets
 judged None first s t left left_now end new took finds is = record {
   taken = took.taken;
   gives = rw (is.0, is.1) (λ closed more fits. took.same closed more ∙ finds closed more);
@@ -68,13 +82,18 @@ judged (Some kind) first s t left left_now end new took finds is = record {
 }
 
 -- a line ended
-pub takes_line : (first s t : Scanning) (left left_now : Option (List ℕ)) (end : Option End) (new : Cutting) → Took first s left left_now →
-    Finds s (Some found.Line) t → Judged (flaw t.looked t.line) end t new → (octets : List ℕ) × Takes (going first) left (Ok end) new left_now octets
-takes_line first s t left left_now end new took finds is = (took.octets, judged (flaw t.looked t.line) first s t left left_now end new took finds is)
+pub takes_line : (first s t : Scanning) (left left_now : Option (List ℕ)) (end : Option End) (new : Cutting) →
+    Took first s left left_now →
+    Finds s (Some found.Line) t → Judged (flaw t.looked t.line) end t new → (octets : List ℕ) ×
+    TakesPieces (going first) left (Ok end) new left_now octets
+takes_line first s t left left_now end new took finds is =
+    (took.octets, judged (flaw t.looked t.line) first s t left left_now end new took finds is)
 
 -- the line goes past the end of any trace
-pub takes_big : (first s t : Scanning) (left left_now : Option (List ℕ)) → Took first s left left_now → Finds s (Some found.TooBig) t →
-    (octets : List ℕ) × Takes (going first) left (Ok (Some (Flaw TooBig))) (record { scanner = t; given = false; ended = Some (Flaw TooBig) }) left_now octets
+pub takes_big : (first s t : Scanning) (left left_now : Option (List ℕ)) → Took first s left left_now →
+    Finds s (Some found.TooBig) t →
+    (octets : List ℕ) × TakesPieces (going first) left (Ok (Some (Flaw TooBig)))
+    (record { scanner = t; given = false; ended = Some (Flaw TooBig) }) left_now octets
 takes_big first s t left left_now took finds = (
   took.octets,
   record {
@@ -85,40 +104,56 @@ takes_big first s t left left_now took finds = (
 
 -- the source failed
 pub takes_none : (first s : Scanning) (left left_now : Option (List ℕ)) → Took first s left left_now →
-    (octets : List ℕ) × Takes (going first) left (Err (record {})) (going s) left_now octets
-takes_none first s left left_now took = (took.octets, record { taken = took.taken; gives = λ closed more fits. took.same closed more })
+    (octets : List ℕ) × TakesPieces (going first) left (Err (record {})) (going s) left_now octets
+takes_none first s left left_now took = (
+  took.octets,
+  record { taken = took.taken; gives = λ closed more fits. took.same closed more },
+)
 
 -- the source is at its end
-nothing_left : (e : Option End) (now new : Option (List ℕ)) (closed : Bool) (more : List ℕ) → IsSome e → IsAtEnd now → now ≡ prepend_known [] new → Fits e new closed more → (closed ≡ true) × (more ≡ [])
+nothing_left : (e : Option End) (now new : Option (List ℕ)) (closed : Bool) (more : List ℕ) → IsSome e →
+    IsAtEnd now → now ≡ prepend_known [] new → Fits e new closed more → (closed ≡ true) × (more ≡ [])
 nothing_left None now new closed more some at_end is fits = absurd (cc)
-nothing_left (Some e) now new closed more some at_end is fits =
-    (fits.0, let told : now ≡ Some more = is ∙ rw (fits.1) refl in subst (λ (l : Option (List ℕ)). IsAtEnd l) told at_end)
+nothing_left (Some e) now new closed more some at_end is fits = (
+  fits.0,
+  let told : now ≡ Some more = is ∙ rw (fits.1) refl in
+      subst (λ (l : Option (List ℕ)). IsAtEnd l) told at_end,
+)
 
-pub takes_end : (first s : Scanning) (left left_now left_new : Option (List ℕ)) (end : Option End) (new : Cutting) → Took first s left left_new →
+pub takes_end : (first s : Scanning) (left left_now left_new : Option (List ℕ)) (end : Option End)
+    (new : Cutting) → Took first s left left_new →
     IsAtEnd left_now → left_now ≡ prepend_known [] left_new → IsSome new.ended →
-    Follows (Ok end) new (to_come (going s) true []) (to_come new true []) → (octets : List ℕ) × Takes (going first) left (Ok end) new left_new octets
+    Follows (Ok end) new (to_come (going s) true []) (to_come new true []) → (octets : List ℕ) ×
+    TakesPieces (going first) left (Ok end) new left_new octets
 takes_end first s left left_now left_new end new took at_end is ended follows = (
   took.octets,
   record {
     taken = took.taken;
-    gives = λ closed more fits. let nothing = nothing_left new.ended left_now left_new closed more ended at_end is fits in
+    gives = λ closed more fits. let nothing = nothing_left new.ended left_now left_new closed more ended
+        at_end is fits in
         rw (nothing.0, nothing.1, took.same true []) follows;
   },
 )
 
--- The call looks at the octets that wait first: where an end of a line is among them it does not come to read, and the line
--- begins as they do.
+-- The call looks at the octets that wait first: where an end of a line is among them it does not come to
+-- read, and the line begins as they do.
 abbrev pub Still : {S : Type 0} → Cutting → Cutting → S → S → Type 0
-Still first now source source_now = has_end first.scanner.waiting ≡ true → (now ≡ first) × (source_now ≡ source)
+Still first now source source_now = has_end first.scanner.waiting ≡ true → (now ≡ first) ×
+    (source_now ≡ source)
 
-pub still_ends : {S : Type 0} (first now : Cutting) (s t : Scanning) (source source_now : S) → Still first now source source_now → s ≡ now.scanner →
+pub still_ends : {S : Type 0} (first now : Cutting) (s t : Scanning) (source source_now : S) →
+    Still first now source source_now → s ≡ now.scanner →
     Keeps s None t → t.waiting ≡ [] → has_end first.scanner.waiting ≡ true → ⊥
 still_ends first now s t source source_now still is keeps dry ends =
-    let here : has_end now.scanner.waiting ≡ true = ap (λ (c : Cutting). has_end c.scanner.waiting) (still ends).0 ∙ ends in
+    let here : has_end now.scanner.waiting ≡ true =
+    ap (λ (c : Cutting). has_end c.scanner.waiting) (still ends).0 ∙ ends in
     let none : has_end s.waiting ≡ false = sym keeps.0 ∙ ap has_end dry in
     absurd (let there : has_end s.waiting ≡ true = ap (λ (u : Scanning). has_end u.waiting) is ∙ here in cc)
 
-pub still_begins : {S : Type 0} (first now : Cutting) (s t : Scanning) (source source_now : S) → Still first now source source_now → s ≡ now.scanner →
-    Keeps s (Some found.Line) t → has_end first.scanner.waiting ≡ true → begins_word (first.scanner.line ++ first.scanner.waiting) ≡ true → begins_word t.line ≡ true
+pub still_begins : {S : Type 0} (first now : Cutting) (s t : Scanning) (source source_now : S) →
+    Still first now source source_now → s ≡ now.scanner →
+    Keeps s (Some found.Line) t → has_end first.scanner.waiting ≡ true →
+    begins_word (first.scanner.line ++ first.scanner.waiting) ≡ true → begins_word t.line ≡ true
 still_begins first now s t source source_now still is keeps ends begins =
-    keeps (ap (λ (u : Scanning). begins_word (u.line ++ u.waiting)) is ∙ ap (λ (c : Cutting). begins_word (c.scanner.line ++ c.scanner.waiting)) (still ends).0 ∙ begins)
+    keeps (ap (λ (u : Scanning). begins_word (u.line ++ u.waiting)) is
+    ∙ ap (λ (c : Cutting). begins_word (c.scanner.line ++ c.scanner.waiting)) (still ends).0 ∙ begins)

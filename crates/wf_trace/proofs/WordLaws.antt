@@ -15,7 +15,8 @@ ahead_word : (word : List ℕ) (others : List (List ℕ)) → ahead word ([] ∷
 ahead_word [] others = refl
 ahead_word (octet ∷ word) others = ap (in_front octet) (ahead_word word others)
 
-parts_at : (line : List ℕ) (n : ℕ) → n ≤ length line → ((k : ℕ) → k < n → get_or line k 0 ≢ 32) → parts line ≡ ahead (take n line) (parts (drop n line))
+parts_at : (line : List ℕ) (n : ℕ) → n ≤ length line → ((k : ℕ) → k < n → get_or line k 0 ≢ 32) →
+    parts line ≡ ahead (take n line) (parts (drop n line))
 parts_at line zero within before = refl
 parts_at [] (suc n) within before = absurd (omega arith)
 parts_at (octet ∷ octets) (suc n) within before =
@@ -24,34 +25,44 @@ parts_at (octet ∷ octets) (suc n) within before =
     let more = parts_at octets n (omega arith) (λ k below. before (suc k) (omega arith)) in
     rw test (ap (in_front octet) more)
 
-space_or_end : (line : List ℕ) → (0 < length line → get_or line 0 0 ≡ 32) → (others : List (List ℕ)) × (parts line ≡ [] ∷ others)
+space_or_end : (line : List ℕ) → (0 < length line → get_or line 0 0 ≡ 32) → (others : List (List ℕ)) ×
+    (parts line ≡ [] ∷ others)
 space_or_end [] first = ([], refl)
 space_or_end (octet ∷ octets) first =
     let test : nat_eq octet 32 ≡ true = let is = first (omega arith) in grind (arith, nat_tests) in
     (parts octets, rw test refl)
 
-first_word : (line : List ℕ) (word : List ℕ) (others : List (List ℕ)) → 0 < length word → filter is_word (word ∷ others) ≡ word ∷ filter is_word others
+first_word : (line : List ℕ) (word : List ℕ) (others : List (List ℕ)) → 0 < length word →
+    filter is_word (word ∷ others) ≡ word ∷ filter is_word others
 first_word line [] others some = absurd (omega arith)
 first_word line (octet ∷ word) others some = refl
 
 -- octets up to a space or the end are a word
-pub words_first : (line : List ℕ) (n : ℕ) → n ≤ length line → 0 < n → ((k : ℕ) → k < n → get_or line k 0 ≢ 32) →
+pub words_first : (line : List ℕ) (n : ℕ) → n ≤ length line → 0 < n →
+    ((k : ℕ) → k < n → get_or line k 0 ≢ 32) →
     (n < length line → get_or line n 0 ≡ 32) → words line ≡ take n line ∷ words (drop n line)
 words_first line n within some before found =
-    let behind = space_or_end (drop n line) (λ more. get_or-drop n line 0 0 ∙ rw (add-zero n) (found (omega (arith, more, length-drop n line)))) in
-    let whole = parts_at line n within before ∙ ap (ahead (take n line)) behind.1 ∙ ahead_word (take n line) behind.0 in
-    rw (whole, behind.1) (first_word line (take n line) behind.0 (omega (arith, length-take-le n line within)))
+    let behind = space_or_end (drop n line) (λ more. get_or-drop n line 0 0
+    ∙ rw (add-zero n) (found (omega (arith, more, length-drop n line)))) in
+    let whole = parts_at line n within before ∙ ap (ahead (take n line)) behind.1
+    ∙ ahead_word (take n line) behind.0 in
+    rw (whole, behind.1) (first_word line (take n line) behind.0
+    (omega (arith, length-take-le n line within)))
 
-pub some_octets : (line : List ℕ) (n : ℕ) → 0 < length line → get_or line 0 0 ≢ 32 → (n < length line → get_or line n 0 ≡ 32) → 0 < n
+pub some_octets : (line : List ℕ) (n : ℕ) → 0 < length line → get_or line 0 0 ≢ 32 →
+    (n < length line → get_or line n 0 ≡ 32) → 0 < n
 some_octets line zero some first found = absurd (first (found some))
 some_octets line (suc n) some first found = omega arith
 
 -- a line that begins with an octet of a word that is no # is not skipped
 pub says_something : (line : List ℕ) → begins_word line ≡ true → skipped (words line) ≡ false
 says_something [] is = absurd (cc)
-says_something (octet ∷ octets) is = first (nat_eq octet 10) (nat_eq octet 32) (nat_eq octet 35) refl refl (parts octets) is
+says_something (octet ∷ octets) is = first (nat_eq octet 10) (nat_eq octet 32) (nat_eq octet 35) refl refl
+    (parts octets) is
   where
-    first : (a b c : Bool) → nat_eq octet 32 ≡ b → nat_eq octet 35 ≡ c → (others : List (List ℕ)) → (not a && not b && not c) ≡ true → skipped (filter is_word (cond b ([] ∷ others) (in_front octet others))) ≡ false
+    first : (a b c : Bool) → nat_eq octet 32 ≡ b → nat_eq octet 35 ≡ c → (others : List (List ℕ)) →
+        (not a && not b && not c) ≡ true → skipped
+        (filter is_word (cond b ([] ∷ others) (in_front octet others))) ≡ false
     first true b c space hash others is = absurd (cc)
     first false true c space hash others is = absurd (cc)
     first false false true space hash others is = absurd (cc)

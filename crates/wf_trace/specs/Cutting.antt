@@ -39,13 +39,14 @@ Follows (Ok (Some end)) new before after = (new.ended ≡ Some end) × (before �
 Follows (Err failed) new before after = before ≡ after
 
 -- the octets that a call took, and what it gave of them
-pub record Takes (old : Cutting) (left : Option (List ℕ)) (result : Result (Option End) Failed)
+pub record TakesPieces (old : Cutting) (left : Option (List ℕ)) (result : Result (Option End) Failed)
     (new : Cutting) (left_new : Option (List ℕ)) (octets : List ℕ) : Type 0 where
   pub taken : left ≡ prepend_known octets left_new
   pub gives : (closed : Bool) (more : List ℕ) → Fits new.ended left_new closed more →
       Follows result new (to_come old closed (octets ++ more)) (to_come new closed more)
 
--- how many octets may still be looked at, and one more as long as the end is not known: no line is cut without one of them
+-- how many octets may still be looked at, and one more as long as the end is not known: no line is cut
+-- without one of them
 abbrev pub room_of : ℕ → Option End → ℕ
 room_of looked None = (longest_trace - looked) + 1
 room_of looked (Some end) = longest_trace - looked
@@ -54,8 +55,8 @@ room_of looked (Some end) = longest_trace - looked
 abbrev pub room : Cutting → ℕ
 room c = room_of c.scanner.looked c.ended
 
--- whether the next call reads the source, as far as can be said without a look at whole lines: it does not where the end is
--- known, or where a line was given and another waits
+-- whether the next call reads the source, as far as can be said without a look at whole lines: it does not
+-- where the end is known, or where a line was given and another waits
 abbrev pub will_read_of : Option End → Bool → List ℕ → Bool
 will_read_of None given waiting = not (given && holds_text waiting)
 will_read_of (Some end) given waiting = false

@@ -9,27 +9,27 @@ use Rattle.wf_trace.specs.declared.call.Arg.{Arg}
 use Rattle.wf_trace.specs.declared.call.Arg.TheVariants.{Short, Octet, Long, Length, Weight, Class, Guard, Heard, Number, End}
 use Rattle.wf_trace.specs.declared.call.Value.{Value}
 use Rattle.wf_trace.specs.declared.call.Value.TheVariants as value
-use Rattle.wf_rules.specs.Lengths.{greatest_body}
+use Rattle.wf_def_lists.specs.Lengths.{greatest_body}
 use Rattle.wf_frame.specs.Classes.{class_named}
 use Rattle.wf_trace.specs.Faults.{earlier_fault}
 use Rattle.wf_trace.specs.Words.{number_of, in_range}
 
 -- the word of a call
-abbrev pub word_of : Call → List ℕ
-word_of Join = codes "join"
-word_of Leave = codes "leave"
-word_of Rate = codes "rate"
-word_of Tick = codes "tick"
-word_of Enq = codes "enq"
-word_of Pull = codes "pull"
-word_of Arrive = codes "arrive"
-word_of Answer = codes "answer"
-word_of Done = codes "done"
-word_of Sleep = codes "sleep"
-word_of Wake = codes "wake"
-word_of Poll = codes "poll"
-word_of Rx = codes "rx"
-word_of Reap = codes "reap"
+abbrev pub call_word : Call → List ℕ
+call_word Join = codes "join"
+call_word Leave = codes "leave"
+call_word Rate = codes "rate"
+call_word Tick = codes "tick"
+call_word Enq = codes "enq"
+call_word Pull = codes "pull"
+call_word Arrive = codes "arrive"
+call_word Answer = codes "answer"
+call_word Done = codes "done"
+call_word Sleep = codes "sleep"
+call_word Wake = codes "wake"
+call_word Poll = codes "poll"
+call_word Rx = codes "rx"
+call_word Reap = codes "reap"
 
 -- all calls
 abbrev pub calls : List Call
@@ -38,7 +38,7 @@ calls =
 
 -- the call that a word names
 abbrev pub call_named : List ℕ → Option Call
-call_named word = find (λ call. bytes_eq (word_of call) word) calls
+call_named word = find (λ call. bytes_eq (call_word call) word) calls
 
 -- what its arguments may be, in order
 abbrev pub args_of : Call → List Arg
@@ -102,9 +102,9 @@ known_value Length word = None
 known_value Weight word = None
 
 -- a result by what its value shows
-abbrev pub seen : {X Y : Type 0} → (X → Y) → Result X FaultKind → Result Y FaultKind
-seen f (Ok x) = Ok (f x)
-seen f (Err fault) = Err fault
+abbrev pub result_seen : {X Y : Type 0} → (X → Y) → Result X FaultKind → Result Y FaultKind
+result_seen f (Ok x) = Ok (f x)
+result_seen f (Err fault) = Err fault
 
 -- a value, or the fault that the word is none of its words
 abbrev pub among : Option Value → Result Value FaultKind
@@ -113,15 +113,15 @@ among (Some value) = Ok value
 
 -- the value of an argument, by its word
 abbrev pub read_arg : Arg → List ℕ → Result Value FaultKind
-read_arg Short word = seen value.Short (in_range 0 short_most (number_of word))
-read_arg Octet word = seen value.Octet (in_range 0 octet_most (number_of word))
-read_arg Long word = seen value.Long (in_range 0 long_most (number_of word))
-read_arg Length word = seen value.Short (in_range 1 greatest_body (number_of word))
-read_arg Weight word = seen value.Octet (in_range 0 octet_most (number_of word))
+read_arg Short word = result_seen value.Short (in_range 0 short_most (number_of word))
+read_arg Octet word = result_seen value.Octet (in_range 0 octet_most (number_of word))
+read_arg Long word = result_seen value.Long (in_range 0 long_most (number_of word))
+read_arg Length word = result_seen value.Short (in_range 1 greatest_body (number_of word))
+read_arg Weight word = result_seen value.Octet (in_range 0 octet_most (number_of word))
 read_arg Class word = among (known_value Class word)
 read_arg Guard word = among (known_value Guard word)
 read_arg Heard word = among (known_value Heard word)
-read_arg (Number low high) word = seen value.Long (in_range low high (number_of word))
+read_arg (Number low high) word = result_seen value.Long (in_range low high (number_of word))
 read_arg End word = among (known_value End word)
 
 -- the value of an argument for which no word is left

@@ -57,4 +57,5 @@ before_texts (Some kind) text others = record { texts = []; ending = Some (Flaw 
 -- the texts of lines up to the first in which something is wrong
 abbrev pub texts_of : Bool → List Line → Texts
 texts_of closed [] = record { texts = []; ending = if closed then Some Over else None }
-texts_of closed (line ∷ others) = before_texts (flaw line.end line.octets) line.octets (texts_of closed others)
+texts_of closed (line ∷ others) = before_texts (flaw line.end line.octets) line.octets
+    (texts_of closed others)

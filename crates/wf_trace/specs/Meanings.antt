@@ -90,9 +90,9 @@ settings_of [] = None
 settings_of (word ∷ words) = settings_if (read_head words)
 
 -- a head stands first, and a call only where the head allows one more
-abbrev pub HasRoom : Result Meaning FaultKind → Option Place → Type 0
-HasRoom (Ok (Entry caller note)) None = ⊥
-HasRoom (Ok (Entry caller note)) (Some p) = p.count < p.limit
-HasRoom (Ok (Head config)) place = place ≡ None
-HasRoom (Ok Finish) place = Unit {0}
-HasRoom (Err kind) place = Unit {0}
+abbrev pub HasRoomForLine : Result Meaning FaultKind → Option Place → Type 0
+HasRoomForLine (Ok (Entry caller note)) None = ⊥
+HasRoomForLine (Ok (Entry caller note)) (Some p) = p.count < p.limit
+HasRoomForLine (Ok (Head config)) place = place ≡ None
+HasRoomForLine (Ok Finish) place = Unit {0}
+HasRoomForLine (Err kind) place = Unit {0}

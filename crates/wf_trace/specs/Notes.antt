@@ -13,7 +13,8 @@ use Rattle.wf_frame.specs.declared.notes.Note.TheVariants.{Enqueue, Asked}
 use Rattle.wf_frame.specs.declared.notes.Ask.TheVariants.{Join, Leave, Rate, Tick, Pull, Arrive, Answer, Done, Sleep, Wake, Poll, Rx, Reap}
 use Rattle.wf_trace.specs.Grammar.{call_named, args_of, read_args}
 
--- Each argument's value has the kind that its argument gives, so the other kinds and None are unreached below.
+-- Each argument's value has the kind that its argument gives, so the other kinds and None are unreached
+-- below.
 
 -- a number of 16 bits, of a value
 abbrev pub short_in : Option Value → ℕ
@@ -121,28 +122,29 @@ abbrev pub end_at : List Value → ℕ → Bool
 end_at values i = end_in (slice_get values i)
 
 -- the call with the values of its arguments
-abbrev pub note_of : Call → List Value → Note
-note_of call.Join values =
-    Asked (Join (short_at values 0) (short_at values 1) (short_at values 2) (octet_at values 3) (octet_at values 4))
-note_of call.Leave values = Asked (Leave (short_at values 0))
-note_of call.Rate values =
+abbrev pub note_of_values : Call → List Value → Note
+note_of_values call.Join values =
+    Asked (Join (short_at values 0) (short_at values 1) (short_at values 2) (octet_at values 3)
+    (octet_at values 4))
+note_of_values call.Leave values = Asked (Leave (short_at values 0))
+note_of_values call.Rate values =
     Asked (Rate (short_at values 0) (octet_at values 1) (octet_at values 2) (guard_at values 3))
-note_of call.Tick values = Asked (Tick (long_at values 0))
-note_of call.Enq values =
+note_of_values call.Tick values = Asked (Tick (long_at values 0))
+note_of_values call.Enq values =
     Enqueue (short_at values 0) (octet_at values 1) (long_at values 2) (short_at values 3)
-note_of call.Pull values = Asked (Pull (class_at values 0))
-note_of call.Arrive values = Asked (Arrive (long_at values 0) (short_at values 1))
-note_of call.Answer values = Asked (Answer (long_at values 0))
-note_of call.Done values = Asked (Done (long_at values 0) (heard_at values 1))
-note_of call.Sleep values = Asked (Sleep (short_at values 0))
-note_of call.Wake values = Asked (Wake (short_at values 0))
-note_of call.Poll values = Asked (Poll (short_at values 0))
-note_of call.Rx values = Asked (Rx (short_at values 0) (class_at values 1) (long_at values 2))
-note_of call.Reap values = Asked Reap
+note_of_values call.Pull values = Asked (Pull (class_at values 0))
+note_of_values call.Arrive values = Asked (Arrive (long_at values 0) (short_at values 1))
+note_of_values call.Answer values = Asked (Answer (long_at values 0))
+note_of_values call.Done values = Asked (Done (long_at values 0) (heard_at values 1))
+note_of_values call.Sleep values = Asked (Sleep (short_at values 0))
+note_of_values call.Wake values = Asked (Wake (short_at values 0))
+note_of_values call.Poll values = Asked (Poll (short_at values 0))
+note_of_values call.Rx values = Asked (Rx (short_at values 0) (class_at values 1) (long_at values 2))
+note_of_values call.Reap values = Asked Reap
 
 -- the call, where its arguments were read
 abbrev pub noted : Call → Result (List Value) FaultKind → Result Note FaultKind
-noted call (Ok values) = Ok (note_of call values)
+noted call (Ok values) = Ok (note_of_values call values)
 noted call (Err fault) = Err fault
 
 -- the call that a name and the words behind it name

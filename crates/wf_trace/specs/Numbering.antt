@@ -67,7 +67,8 @@ IsLastPiece (Some (Text line)) = ⊥
 IsLastPiece (Some (Ended line)) = Unit {0}
 IsLastPiece (Some (Bad fault)) = Unit {0}
 
--- whether the next call reads the source: it does not where the end is known, or where a whole line waits that is not skipped
+-- whether the next call reads the source: it does not where the end is known, or where a whole line waits
+-- that is not skipped
 abbrev pub will_read_of : Option Piece → Cutting → Bool
 will_read_of None cutter = will_cut cutter
 will_read_of (Some piece) cutter = false

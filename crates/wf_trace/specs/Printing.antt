@@ -8,8 +8,8 @@ use Rattle.wf_frame.specs.declared.notes.Ask.TheVariants.{Join, Leave, Rate, Tic
 use Rattle.wf_trace.specs.declared.call.Call.TheVariants as call
 use Rattle.wf_frame.specs.Classes.{class_word}
 use Rattle.wf_frame.specs.Words.{line}
-use Rattle.wf_rules.specs.Lengths.{greatest_body}
-use Rattle.wf_trace.specs.Grammar.{word_of, weight_default, guard_word, heard_word}
+use Rattle.wf_def_lists.specs.Lengths.{greatest_body}
+use Rattle.wf_trace.specs.Grammar.{call_word, weight_default, guard_word, heard_word}
 
 -- the word of a weight, which is left out where it is the default
 abbrev pub weight_words : ℕ → List (List ℕ)
@@ -18,25 +18,26 @@ weight_words weight = if weight == weight_default then [] else decimal weight �
 -- a call that carries no frame: its word and its arguments
 abbrev pub ask_words : Ask → List (List ℕ)
 ask_words (Join station window start exponent weight) =
-    word_of call.Join ∷ decimal station ∷ decimal window ∷ decimal start ∷ decimal exponent ∷ weight_words weight
-ask_words (Leave station) = word_of call.Leave ∷ decimal station ∷ []
+    call_word call.Join ∷ decimal station ∷ decimal window ∷ decimal start ∷ decimal exponent
+    ∷ weight_words weight
+ask_words (Leave station) = call_word call.Leave ∷ decimal station ∷ []
 ask_words (Rate station mcs mhz short) =
-    word_of call.Rate ∷ decimal station ∷ decimal mcs ∷ decimal mhz ∷ guard_word short ∷ []
-ask_words (Tick by) = word_of call.Tick ∷ decimal by ∷ []
-ask_words (Pull class) = word_of call.Pull ∷ class_word class ∷ []
-ask_words (Arrive exchange index) = word_of call.Arrive ∷ decimal exchange ∷ decimal index ∷ []
-ask_words (Answer exchange) = word_of call.Answer ∷ decimal exchange ∷ []
-ask_words (Done exchange heard) = word_of call.Done ∷ decimal exchange ∷ heard_word heard ∷ []
-ask_words (Sleep station) = word_of call.Sleep ∷ decimal station ∷ []
-ask_words (Wake station) = word_of call.Wake ∷ decimal station ∷ []
-ask_words (Poll station) = word_of call.Poll ∷ decimal station ∷ []
-ask_words (Rx station class air) = word_of call.Rx ∷ decimal station ∷ class_word class ∷ decimal air ∷ []
-ask_words Reap = word_of call.Reap ∷ []
+    call_word call.Rate ∷ decimal station ∷ decimal mcs ∷ decimal mhz ∷ guard_word short ∷ []
+ask_words (Tick by) = call_word call.Tick ∷ decimal by ∷ []
+ask_words (Pull class) = call_word call.Pull ∷ class_word class ∷ []
+ask_words (Arrive exchange index) = call_word call.Arrive ∷ decimal exchange ∷ decimal index ∷ []
+ask_words (Answer exchange) = call_word call.Answer ∷ decimal exchange ∷ []
+ask_words (Done exchange heard) = call_word call.Done ∷ decimal exchange ∷ heard_word heard ∷ []
+ask_words (Sleep station) = call_word call.Sleep ∷ decimal station ∷ []
+ask_words (Wake station) = call_word call.Wake ∷ decimal station ∷ []
+ask_words (Poll station) = call_word call.Poll ∷ decimal station ∷ []
+ask_words (Rx station class air) = call_word call.Rx ∷ decimal station ∷ class_word class ∷ decimal air ∷ []
+ask_words Reap = call_word call.Reap ∷ []
 
 -- a call: its word and its arguments
 abbrev pub note_words : Note → List (List ℕ)
 note_words (Enqueue station tid flow len) =
-    word_of call.Enq ∷ decimal station ∷ decimal tid ∷ decimal flow ∷ decimal len ∷ []
+    call_word call.Enq ∷ decimal station ∷ decimal tid ∷ decimal flow ∷ decimal len ∷ []
 note_words (Asked ask) = ask_words ask
 
 -- the word of a caller, which is left out for the caller 0
@@ -94,7 +95,7 @@ IsAskInRange (Rx station class air) = (station < 2 ^ 16) × (air < 2 ^ 32)
 IsAskInRange Reap = Unit {0}
 
 -- each number of a call is in the range of its argument
-abbrev pub IsInRange : Note → Type 0
-IsInRange (Enqueue station tid flow len) =
+abbrev pub NumbersAreInRange : Note → Type 0
+NumbersAreInRange (Enqueue station tid flow len) =
     (station < 2 ^ 16) × (tid < 2 ^ 8) × (flow < 2 ^ 32) × (1 ≤ len) × (len ≤ greatest_body)
-IsInRange (Asked ask) = IsAskInRange ask
+NumbersAreInRange (Asked ask) = IsAskInRange ask

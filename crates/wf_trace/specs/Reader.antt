@@ -12,7 +12,7 @@ use Rattle.wf_trace.specs.declared.reader.Item.TheVariants.{Head, Entry, Finish,
 use Rattle.wf_trace.specs.Pieces.{Numbered, Pieces}
 use Rattle.wf_trace.specs.Numbering.{Numbering, HasNoLine, pieces_left, will_read as will_cut}
 use Rattle.wf_trace.specs.Words.{words}
-use Rattle.wf_trace.specs.Meanings.{meant, HasRoom}
+use Rattle.wf_trace.specs.Meanings.{meant, HasRoomForLine}
 use Rattle.wf_trace.specs.Reading.{Reading, with_item, reading_that_ends, bad, stopped}
 use Rattle.wf_trace.specs.Cutting.{Fits, room}
 
@@ -23,8 +23,10 @@ next_place (Some place) = Some (record { limit = place.limit; count = place.coun
 
 -- a line that says this, in front of the others, which are read from their place
 abbrev pub said : Result Meaning FaultKind → Option Place → ℕ → (Option Place → Reading) → Reading
-said (Ok (meaning.Head config)) place line others = with_item (Head config) (others (Some (record { limit = config.calls; count = 0 })))
-said (Ok (meaning.Entry caller note)) place line others = with_item (Entry caller note) (others (next_place place))
+said (Ok (meaning.Head config)) place line others =
+    with_item (Head config) (others (Some (record { limit = config.calls; count = 0 })))
+said (Ok (meaning.Entry caller note)) place line others =
+    with_item (Entry caller note) (others (next_place place))
 said (Ok meaning.Finish) place line others = reading_that_ends Finish
 said (Err kind) place line others = reading_that_ends (bad line kind)
 
@@ -50,19 +52,19 @@ abbrev pub rest : Reader → Bool → List ℕ → Reading
 rest r closed more = rest_of r.ended r.place (pieces_left r.cut closed more)
 
 -- what was to come before a call, by its answer and what is to come after it
-abbrev pub Gives : Result Item Failed → Reader → Reading → Reading → Type 0
-Gives (Ok (Head config)) new before after = before ≡ with_item (Head config) after
-Gives (Ok (Entry caller note)) new before after = before ≡ with_item (Entry caller note) after
-Gives (Ok Finish) new before after = (new.ended ≡ Some Finish) × (before ≡ after)
-Gives (Ok (Bad fault)) new before after = (new.ended ≡ Some (Bad fault)) × (before ≡ after)
-Gives (Err failed) new before after = before ≡ after
+abbrev pub GivesItem : Result Item Failed → Reader → Reading → Reading → Type 0
+GivesItem (Ok (Head config)) new before after = before ≡ with_item (Head config) after
+GivesItem (Ok (Entry caller note)) new before after = before ≡ with_item (Entry caller note) after
+GivesItem (Ok Finish) new before after = (new.ended ≡ Some Finish) × (before ≡ after)
+GivesItem (Ok (Bad fault)) new before after = (new.ended ≡ Some (Bad fault)) × (before ≡ after)
+GivesItem (Err failed) new before after = before ≡ after
 
 -- the octets that a call took, and what it gave of them
 pub record Reads (old : Reader) (left : Option (List ℕ)) (result : Result Item Failed)
     (new : Reader) (left_new : Option (List ℕ)) (octets : List ℕ) : Type 0 where
   pub taken : left ≡ prepend_known octets left_new
   pub gives : (closed : Bool) (more : List ℕ) → Fits new.cut.cutter.ended left_new closed more →
-      Gives result new (rest old closed (octets ++ more)) (rest new closed more)
+      GivesItem result new (rest old closed (octets ++ more)) (rest new closed more)
 
 -- nothing that was taken ends a line: of the octets taken no more can be said
 pub record IsHeld (r : Reader) : Type 0 where
@@ -75,8 +77,10 @@ IsFurther old new = room new.cut.cutter < room old.cut.cutter
 
 -- how a call goes on: a head stands first, an entry behind it, and each takes some of what may come
 abbrev pub Goes : Result Item Failed → Reader → Reader → Type 0
-Goes (Ok (Head config)) old new = (old.place ≡ None) × IsSome new.place × (new.ended ≡ None) × IsFurther old new
-Goes (Ok (Entry caller note)) old new = IsSome old.place × IsSome new.place × (new.ended ≡ None) × IsFurther old new
+Goes (Ok (Head config)) old new = (old.place ≡ None) × IsSome new.place × (new.ended ≡ None) ×
+    IsFurther old new
+Goes (Ok (Entry caller note)) old new = IsSome old.place × IsSome new.place × (new.ended ≡ None) ×
+    IsFurther old new
 Goes (Ok Finish) old new = Unit {0}
 Goes (Ok (Bad fault)) old new = Unit {0}
 Goes (Err failed) old new = new.place ≡ old.place
@@ -92,17 +96,20 @@ Places (Bad fault) old new = Unit {0}
 abbrev pub IsLine : Option Place → Meaning → Type 0
 IsLine place meaning = (ws : List (List ℕ)) × (meant place ws ≡ Ok meaning)
 
--- how an item stands in its place: some line says it there; a head begins the count of calls, and a call is one more of those that the
--- head allows
+-- how an item stands in its place: some line says it there; a head begins the count of calls, and a call is
+-- one more of those that the head allows
 abbrev pub IsPlaced : Result Item Failed → Option Place → Option Place → Type 0
-IsPlaced (Ok (Head config)) old new = IsLine old (meaning.Head config) × (new ≡ Some (record { limit = config.calls; count = 0 }))
+IsPlaced (Ok (Head config)) old new = IsLine old (meaning.Head config) ×
+    (new ≡ Some (record { limit = config.calls; count = 0 }))
 IsPlaced (Ok (Entry caller note)) old new =
-    IsLine old (meaning.Entry caller note) × HasRoom (Ok (meaning.Entry caller note)) old × (new ≡ next_place old)
+    IsLine old (meaning.Entry caller note) × HasRoomForLine (Ok (meaning.Entry caller note)) old ×
+    (new ≡ next_place old)
 IsPlaced (Ok Finish) old new = Unit {0}
 IsPlaced (Ok (Bad fault)) old new = Unit {0}
 IsPlaced (Err failed) old new = new ≡ old
 
--- whether the next call reads the source: it does not where the ending is known, or where a whole line waits that is not skipped
+-- whether the next call reads the source: it does not where the ending is known, or where a whole line waits
+-- that is not skipped
 abbrev pub will_read_of : Option Item → Numbering → Bool
 will_read_of None cut = will_cut cut
 will_read_of (Some item) cut = false

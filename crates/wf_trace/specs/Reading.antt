@@ -67,17 +67,18 @@ stopped place (Some (piece.Ended line)) = reading_that_ends (bad line (missing p
 stopped place (Some (piece.Bad fault)) = reading_that_ends (Bad fault)
 
 -- what a line says, in front of what the others say
-abbrev pub told : ℕ → Result Meaning FaultKind → Reading → Reading
-told line (Ok (meaning.Head config)) others = with_item (Head config) others
-told line (Ok (meaning.Entry caller note)) others = with_item (Entry caller note) others
-told line (Ok meaning.Finish) others = reading_that_ends Finish
-told line (Err kind) others = reading_that_ends (bad line kind)
+abbrev pub line_told : ℕ → Result Meaning FaultKind → Reading → Reading
+line_told line (Ok (meaning.Head config)) others = with_item (Head config) others
+line_told line (Ok (meaning.Entry caller note)) others = with_item (Entry caller note) others
+line_told line (Ok meaning.Finish) others = reading_that_ends Finish
+line_told line (Err kind) others = reading_that_ends (bad line kind)
 
 -- lines, each judged by itself and by the lines before it
 abbrev pub read_behind : List Numbered → List Numbered → Option Piece → Reading
 read_behind front [] end = stopped (place_behind front) end
 read_behind front (line ∷ lines) end =
-    told line.line (meant (place_behind front) (words line.octets)) (read_behind (front ++ line ∷ []) lines end)
+    line_told line.line (meant (place_behind front) (words line.octets))
+    (read_behind (front ++ line ∷ []) lines end)
 
 -- what the octets say, and the input ends with them if closed
 abbrev pub reading : Bool → List ℕ → Reading

@@ -43,8 +43,8 @@ texts_from s closed more = texts_of closed (lines_behind closed s.looked s.line 
 abbrev pub texts_behind : Scanning → Bool → List ℕ → Texts
 texts_behind s closed more = texts_of closed (lines_behind closed s.looked [] (s.waiting ++ more))
 
--- what was found among the octets: no end of a line, the end of the begun line, or that it goes past the end of
--- any trace
+-- what was found among the octets: no end of a line, the end of the begun line, or that it goes past the end
+-- of any trace
 abbrev pub Finds : Scanning → Option Found → Scanning → Type 0
 Finds old None new =
     (closed : Bool) (more : List ℕ) → texts_from old closed more ≡ texts_from new closed more
@@ -58,7 +58,8 @@ Finds old (Some found.TooBig) new =
 abbrev pub has_end : List ℕ → Bool
 has_end octets = list_any (λ octet. octet == 10) octets
 
--- whether octets begin with the first word of a line that is not skipped: with no end of a line, no space and no #
+-- whether octets begin with the first word of a line that is not skipped: with no end of a line, no space and
+-- no #
 abbrev pub begins_word : List ℕ → Bool
 begins_word [] = false
 begins_word (octet ∷ octets) = not (octet == 10) && not (octet == 32) && not (octet == 35)
@@ -69,10 +70,13 @@ holds_text waiting = has_end waiting && begins_word waiting
 
 -- the first octet of the line stays, and so does an end of a line that waits, until it is found
 abbrev pub Keeps : Scanning → Option Found → Scanning → Type 0
-Keeps old None new = (has_end new.waiting ≡ has_end old.waiting) × (begins_word (new.line ++ new.waiting) ≡ begins_word (old.line ++ old.waiting))
+Keeps old None new = (has_end new.waiting ≡ has_end old.waiting) ×
+    (begins_word (new.line ++ new.waiting) ≡ begins_word (old.line ++ old.waiting))
 Keeps old (Some found.Line) new = begins_word (old.line ++ old.waiting) ≡ true → begins_word new.line ≡ true
 Keeps old (Some found.TooBig) new = Unit {0}
 
--- of the octets of a buffer up to `to`, the last end of a line stands in front of `ends`; none does where that is 0
-abbrev pub EndsAt : List ℕ → ℕ → ℕ → Type 0
-EndsAt buffer ends to = (ends ≤ to) × (has_end (slice_range buffer ends to) ≡ false) × (0 < ends → slice_index buffer (ends - 1) ≡ 10)
+-- of the octets of a buffer up to `to`, the last end of a line stands in front of `ends`; none does where
+-- that is 0
+abbrev pub LineEndsAt : List ℕ → ℕ → ℕ → Type 0
+LineEndsAt buffer ends to = (ends ≤ to) × (has_end (slice_range buffer ends to) ≡ false) ×
+    (0 < ends → slice_index buffer (ends - 1) ≡ 10)

@@ -34,19 +34,19 @@ abbrev pub value_read : Field → List ℕ → Result ℕ FaultKind
 value_read field text = in_range (lowest_of field) (greatest_of field) (number_of text)
 
 -- its number in the table
-abbrev pub place_of : Field → ℕ
-place_of Stations = 0
-place_of Flows = 1
-place_of Limit = 2
-place_of Room = 3
-place_of FlowQuantum = 4
-place_of Quantum = 5
-place_of Inflight = 6
-place_of Attempts = 7
-place_of Agg = 8
-place_of Cap = 9
-place_of Sleeping = 10
-place_of Calls = 11
+abbrev pub field_number : Field → ℕ
+field_number Stations = 0
+field_number Flows = 1
+field_number Limit = 2
+field_number Room = 3
+field_number FlowQuantum = 4
+field_number Quantum = 5
+field_number Inflight = 6
+field_number Attempts = 7
+field_number Agg = 8
+field_number Cap = 9
+field_number Sleeping = 10
+field_number Calls = 11
 
 -- an octet in front of what stands before the =
 abbrev pub grown : ℕ → Option (List ℕ × List ℕ) → Option (List ℕ × List ℕ)
@@ -75,7 +75,7 @@ worse fault (Err other) = Err (earlier_fault fault other)
 
 -- whether a setting was named before
 abbrev pub was_seen : List Bool → Field → Bool
-was_seen seen field = slice_index_or seen (place_of field) false
+was_seen seen field = slice_index_or seen (field_number field) false
 
 -- a value in its place, and the other settings
 abbrev pub placed : Result ℕ FaultKind → Field → Config → (Config → Result Config FaultKind) →
@@ -83,14 +83,15 @@ abbrev pub placed : Result ℕ FaultKind → Field → Config → (Config → Re
 placed (Ok value) field config others = others (with_value config field value)
 placed (Err fault) field config others = worse fault (others config)
 
--- what one word sets, and what the others do: a word that names no setting, or one that was named, is at fault
+-- what one word sets, and what the others do: a word that names no setting, or one that was named, is at
+-- fault
 abbrev pub set_one : Option (Field × List ℕ) → List Bool → Config →
     (List Bool → Config → Result Config FaultKind) → Result Config FaultKind
 set_one None seen config others = worse kind.Word (others seen config)
 set_one (Some p) seen config others =
     if was_seen seen p.0 then worse kind.Word (others seen config)
     else placed (value_read p.0 p.1) p.0 config
-    (others (slice_set seen (place_of p.0) true))
+    (others (slice_set seen (field_number p.0) true))
 
 -- the settings of these words, behind those that were named
 abbrev pub read_words : List (List ℕ) → List Bool → Config → Result Config FaultKind

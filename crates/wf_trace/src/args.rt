@@ -2,9 +2,8 @@
 
 ghost use Rattle.std.specs.Prelude.{◌≡◌, ◌≤◌, ◌∷◌, List, length, IfOk};
 ghost use Rattle.wf_trace.specs.Words.{words, number_of, in_range};
-ghost use Rattle.wf_trace.specs.Faults.{first_fault};
 ghost use Rattle.wf_trace.specs.declared.call.Arg.{Arg as Kind};
-ghost use Rattle.wf_trace.specs.Grammar.{octet_most, known_value, read_arg, absent_arg, seen, both, read_args};
+ghost use Rattle.wf_trace.specs.Grammar.{octet_most, known_value, read_arg, absent_arg, result_seen, both, read_args};
 
 use crate::call::{Arg, Value};
 use crate::fault::{FaultKind, first_of};
@@ -22,7 +21,7 @@ fn number_in(low: u32, high: u32, word: &[u8]) -> Result<u32, FaultKind>
 
 // A number of 16 bits, from low to high.
 fn short(low: u16, high: u16, word: &[u8]) -> Result<Value, FaultKind>
-    ensures { result ≡ seen Value.Short (in_range low high (number_of word.now)) }
+    ensures { result ≡ result_seen Value.Short (in_range low high (number_of word.now)) }
 {
     match number_in(u32::from(low), u32::from(high), word) {
         Ok(number) => Ok(Value::Short(number as u16)),
@@ -32,7 +31,7 @@ fn short(low: u16, high: u16, word: &[u8]) -> Result<Value, FaultKind>
 
 // A number of 8 bits.
 fn octet(word: &[u8]) -> Result<Value, FaultKind>
-    ensures { result ≡ seen Value.Octet (in_range 0 octet_most (number_of word.now)) }
+    ensures { result ≡ result_seen Value.Octet (in_range 0 octet_most (number_of word.now)) }
 {
     match number_in(0, u32::from(u8::MAX), word) {
         Ok(number) => Ok(Value::Octet(number as u8)),
@@ -42,7 +41,7 @@ fn octet(word: &[u8]) -> Result<Value, FaultKind>
 
 // A number of 32 bits, from low to high.
 fn long(low: u32, high: u32, word: &[u8]) -> Result<Value, FaultKind>
-    ensures { result ≡ seen Value.Long (in_range low high (number_of word.now)) }
+    ensures { result ≡ result_seen Value.Long (in_range low high (number_of word.now)) }
 {
     match in_range(low, high, word) {
         Ok(number) => Ok(Value::Long(number)),
@@ -95,7 +94,8 @@ fn absent(arg: Arg) -> Result<Value, FaultKind>
 
 // The value of the next argument of a line, and what is behind it.
 fn next_arg(arg: Arg, line: &[u8]) -> (Result<Value, FaultKind>, &[u8])
-    ensures { (args : List Kind) → read_args (arg ∷ args) (words line.now) ≡ both result.0 (read_args args (words result.1.now)) }
+    ensures { (args : List Kind) → read_args (arg ∷ args) (words line.now)
+        ≡ both result.0 (read_args args (words result.1.now)) }
 {
     match next_word(line) {
         Some((word, rest)) => (read_one(arg, word), rest),
@@ -106,7 +106,7 @@ fn next_arg(arg: Arg, line: &[u8]) -> (Result<Value, FaultKind>, &[u8])
 /// The values of a line's arguments, or the fault that it is judged by.
 pub fn read_all(args: &[Arg], line: &[u8]) -> Result<ArrayVec<Value, 5>, FaultKind>
     requires { length args.now ≤ 5 }
-    ensures { seen (λ values. values.items) result ≡ read_args args.now (words line.now) }
+    ensures { result_seen (λ values. values.items) result ≡ read_args args.now (words line.now) }
 {
     let mut values = ArrayVec::new();
     let mut fault = None;

@@ -1,7 +1,7 @@
 //! The table of call lines: for each call its word, and what its arguments may be.
 
 ghost use Rattle.std.specs.Prelude.{◌≡◌, ◌≤◌, length};
-ghost use Rattle.wf_trace.specs.Grammar.{word_of, call_named, args_of};
+ghost use Rattle.wf_trace.specs.Grammar.{call_word, call_named, args_of};
 
 use wf_frame::Class;
 
@@ -90,7 +90,7 @@ const CALLS: [Call; 14] = [
 impl Call {
     /// The word that names the call.
     pub fn word(self) -> &'static [u8]
-        ensures word { result.now ≡ word_of self }
+        ensures word { result.now ≡ call_word self }
         ensures short { length result.now ≤ 6 }
     {
         match self {

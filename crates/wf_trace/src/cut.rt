@@ -72,8 +72,8 @@ impl Cut {
         self.cutter.octets()
     }
 
-    /// Whether the next call of `next` may read the source. It answers without a read where the end is known, and where the
-    /// octets taken have a whole line next whose first octet is neither a space nor `#`.
+    /// Whether the next call of `next` may read the source. It answers without a read where the end is known,
+    /// and where the octets taken have a whole line next whose first octet is neither a space nor `#`.
     pub fn will_read(&self) -> bool
         ensures { result ≡ will_read self.now }
     {
@@ -120,8 +120,8 @@ impl Cut {
         }
     }
 
-    /// The next piece. After Ended or Bad every later call answers the same. Failed only where the source's faults rose;
-    /// then the octets taken are kept, and a later call goes on from there. It takes no memory.
+    /// The next piece. After Ended or Bad every later call answers the same. Failed only where the source's
+    /// faults rose; then the octets taken are kept, and a later call goes on from there. It takes no memory.
     pub fn next<S: Source>(&mut self, source: &mut S) -> Result<Piece, Failed>
         ensures again { IfSome self.old.ended (λ piece.
             (result ≡ Ok piece) × (self.new ≡ self.old) × (S.left source.new ≡ S.left source.old)) }

@@ -7,14 +7,10 @@ ghost use Rattle.wf_io.specs.Faults.{CountsFaults};
 ghost use Rattle.wf_trace.specs.Lines.{flaw, is_printable};
 
 use crate::fault::{End, FaultKind};
-use crate::scanner::{Found, Scanner};
+use crate::scanner::{Found, LONGEST_LINE, Scanner};
 use std::alloc::{AllocError, Global};
 use std::marker::Model;
-use wf_io::{Failed, Source};
-
-const MOST: u64 = 268_435_456;
-
-const LONGEST: usize = 160;
+use wf_io::{Failed, MOST_OCTETS, Source};
 
 fn is_printable_line(octets: &[u8]) -> bool
     ensures { result ≡ list_all is_printable octets.now }
@@ -26,9 +22,9 @@ fn is_printable_line(octets: &[u8]) -> bool
 fn flaw_of(end: u64, octets: &[u8]) -> Option<FaultKind>
     ensures { result ≡ flaw end octets.now }
 {
-    if end > MOST {
+    if end > MOST_OCTETS {
         Some(FaultKind::TooBig)
-    } else if octets.len() > LONGEST {
+    } else if octets.len() > LONGEST_LINE {
         Some(FaultKind::LongLine)
     } else if is_printable_line(octets) {
         None
@@ -55,7 +51,7 @@ impl Model for Cutter {
 
 impl Cutter {
     ghost use Rattle.wf_trace.specs.Scanning.{has_end, begins_word};
-    ghost use Rattle.wf_trace.specs.Cutting.{fresh, Takes, Follows, to_come, room, will_read};
+    ghost use Rattle.wf_trace.specs.Cutting.{fresh, TakesPieces, Follows, to_come, room, will_read};
 
     pub fn new(alloc: Global) -> Result<Self, AllocError>
         ensures { IfOk result (λ c. c ≡ fresh) }
@@ -75,8 +71,8 @@ impl Cutter {
         self.scanner.line()
     }
 
-    /// Whether the next call reads the source. It does not where the end is known, or where a line was given and a whole
-    /// one waits, of which the first octet says that it is not skipped.
+    /// Whether the next call reads the source. It does not where the end is known, or where a line was given
+    /// and a whole one waits, of which the first octet says that it is not skipped.
     pub fn will_read(&self) -> bool
         ensures { result ≡ will_read self.now }
     {
@@ -131,7 +127,7 @@ impl Cutter {
         requires going { self.old.ended ≡ None }
         requires fresh { self.old.given ≡ false }
         ensures takes { (octets : List ℕ) ×
-            Takes self.old (S.left source.old) result self.new (S.left source.new) octets }
+            TakesPieces self.old (S.left source.old) result self.new (S.left source.new) octets }
         ensures held { OnErr result
             ((self.new.scanner.waiting ≡ []) × (self.new.given ≡ false) × (self.new.ended ≡ None)) }
         ensures given { result ≡ Ok None → self.new.given ≡ true }
@@ -139,7 +135,8 @@ impl Cutter {
         ensures grows { room self.new ≤ room self.old }
         ensures over { result ≡ Ok None → IsSome self.new.ended → IsAtEnd (S.left source.new) }
         ensures quiet { has_end self.old.scanner.waiting ≡ true → (source.new ≡ source.old) × IsOk result }
-        ensures word { has_end self.old.scanner.waiting ≡ true → begins_word (self.old.scanner.line ++ self.old.scanner.waiting) ≡ true →
+        ensures word { has_end self.old.scanner.waiting ≡ true →
+            begins_word (self.old.scanner.line ++ self.old.scanner.waiting) ≡ true →
             result ≡ Ok None → begins_word self.new.scanner.line ≡ true }
         ensures cause { CountsFaults (S.faults source.old) (S.faults source.new) result }
     {
@@ -158,11 +155,11 @@ impl Cutter {
         }
     }
 
-    /// Cuts the next line. Else why no more comes, which is then answered again at each call. After a failure the octets
-    /// taken are kept.
+    /// Cuts the next line. Else why no more comes, which is then answered again at each call. After a failure
+    /// the octets taken are kept.
     pub fn next<S: Source>(&mut self, source: &mut S) -> Result<Option<End>, Failed>
         ensures takes { (octets : List ℕ) ×
-            Takes self.old (S.left source.old) result self.new (S.left source.new) octets }
+            TakesPieces self.old (S.left source.old) result self.new (S.left source.new) octets }
         ensures held { OnErr result
             ((self.new.scanner.waiting ≡ []) × (self.new.given ≡ false) × (self.new.ended ≡ None)) }
         ensures given { result ≡ Ok None → self.new.given ≡ true }
@@ -171,7 +168,8 @@ impl Cutter {
         ensures over { result ≡ Ok None → IsSome self.new.ended → IsAtEnd (S.left source.new) }
         ensures sticky { IsSome self.old.ended → IsSome self.new.ended }
         ensures quiet { will_read self.old ≡ false → (source.new ≡ source.old) × IsOk result }
-        ensures word { will_read self.old ≡ false → result ≡ Ok None → begins_word self.new.scanner.line ≡ true }
+        ensures word { will_read self.old ≡ false → result ≡ Ok None →
+            begins_word self.new.scanner.line ≡ true }
         ensures cause { CountsFaults (S.faults source.old) (S.faults source.new) result }
     {
         if let Some(end) = self.ended {

@@ -93,11 +93,12 @@ pub fn print_fault(fault: Fault, out: &mut Line)
     requires { out.old ≡ [] }
     ensures { out.new ≡ fault_line fault }
 {
-    out.push_all(b"fault");
-    out.push_words(&[
-        Word::Text(b"line"),
-        Word::Number(fault.line),
-        Word::Text(fault.kind.word()),
-    ]);
-    out.push(b'\n');
+    out.push_line(
+        b"fault",
+        &[
+            Word::Text(b"line"),
+            Word::Number(fault.line),
+            Word::Text(fault.kind.word()),
+        ],
+    );
 }

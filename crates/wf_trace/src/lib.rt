@@ -1,5 +1,6 @@
-//! Traces: octets of a source cut into lines, the words of a line and the numbers that they are, lines read
-//! as the calls of a machine, and calls printed as lines.
+//! Traces: `Cut::next` gives the pieces of an input, line by line, and `TraceReader::next` the lines read as
+//! the calls of a machine, however the source cuts its octets; `will_read` says beforehand whether `next` may
+//! read the source. `print_note` writes the line of a call, which is read back as that call.
 #![tactic(auto)]
 
 mod args;

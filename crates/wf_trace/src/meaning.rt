@@ -3,7 +3,7 @@
 ghost use Rattle.std.specs.Prelude.{◌≡◌, ◌∷◌};
 ghost use Rattle.wf_trace.specs.Words.{words};
 ghost use Rattle.wf_trace.specs.Notes.{read_call};
-ghost use Rattle.wf_trace.specs.Meanings.{entry_of, caller_of, caller_first, meant, named as named_line, HasRoom};
+ghost use Rattle.wf_trace.specs.Meanings.{entry_of, caller_of, caller_first, meant, named as named_line, HasRoomForLine};
 
 use crate::args::read_all;
 use crate::call::Call;
@@ -50,7 +50,7 @@ fn call(line: &[u8]) -> Result<Note, FaultKind>
 // A call of this caller, where one may stand.
 fn entry(caller: u32, place: Option<Place>, line: &[u8]) -> Result<Meaning, FaultKind>
     ensures says { result ≡ entry_of caller place (words line.now) }
-    ensures room { HasRoom result place }
+    ensures room { HasRoomForLine result place }
 {
     match (call(line), place) {
         (Err(fault), _) => Err(fault),
@@ -68,7 +68,7 @@ fn entry(caller: u32, place: Option<Place>, line: &[u8]) -> Result<Meaning, Faul
 // A call behind the word of its caller.
 fn called(caller: &[u8], place: Option<Place>, line: &[u8]) -> Result<Meaning, FaultKind>
     ensures says { result ≡ caller_first (caller_of caller.now) place (words line.now) }
-    ensures room { HasRoom result place }
+    ensures room { HasRoomForLine result place }
 {
     match in_range(0, GREATEST_CALLER, caller) {
         Ok(caller) => entry(caller, place, line),
@@ -83,7 +83,7 @@ fn called(caller: &[u8], place: Option<Place>, line: &[u8]) -> Result<Meaning, F
 fn named(place: Option<Place>, word: &[u8], rest: &[u8], line: &[u8]) -> Result<Meaning, FaultKind>
     requires { words line.now ≡ word.now ∷ words rest.now }
     ensures says { result ≡ named_line place word.now (words rest.now) }
-    ensures room { HasRoom result place }
+    ensures room { HasRoomForLine result place }
 {
     if word == b"cell".as_slice() {
         return match (place, read_head(rest)) {
@@ -107,7 +107,7 @@ fn named(place: Option<Place>, word: &[u8], rest: &[u8], line: &[u8]) -> Result<
 /// What a line says in its place, or the fault that it is judged by.
 pub fn meaning_of(place: Option<Place>, line: &[u8]) -> Result<Meaning, FaultKind>
     ensures says { result ≡ meant place (words line.now) }
-    ensures room { HasRoom result place }
+    ensures room { HasRoomForLine result place }
 {
     let Some((word, rest)) = next_word(line) else {
         return Err(FaultKind::Word);

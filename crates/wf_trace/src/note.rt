@@ -1,7 +1,7 @@
 //! Calls made of a word and the values of its arguments.
 
 ghost use Rattle.std.specs.Prelude.{◌≡◌};
-ghost use Rattle.wf_trace.specs.Notes.{note_of};
+ghost use Rattle.wf_trace.specs.Notes.{note_of_values};
 
 use crate::call::{Call, Value};
 use crate::values::{class_at, guard_at, heard_at, long_at, octet_at, short_at};
@@ -9,7 +9,7 @@ use wf_frame::{Ask, Note};
 
 /// The call with the values of its arguments in order.
 pub fn note_from(call: Call, values: &[Value]) -> Note
-    ensures { result ≡ note_of call values.now }
+    ensures { result ≡ note_of_values call values.now }
 {
     let ask = match call {
         Call::Enq => {

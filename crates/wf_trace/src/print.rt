@@ -2,15 +2,15 @@
 
 ghost use Rattle.std.specs.Prelude.{◌≡◌, ◌+◌, ◌<◌, ◌≤◌, ◌++◌, ◌∷◌, [], length, map, sum_by, decimal, true, Some, Ok};
 ghost use Rattle.std.specs.List.{join_with_byte, list_all};
-ghost use Rattle.wf_io.specs.Words.{text_of, width_of};
+ghost use Rattle.wf_io.specs.Words.{words_text, width_of};
 ghost use Rattle.wf_trace.specs.declared.meaning.Place.{Place};
 ghost use Rattle.wf_trace.specs.declared.meaning.Meaning.TheVariants.{Entry};
 ghost use Rattle.wf_trace.specs.Lines.{is_printable, longest_line};
 ghost use Rattle.wf_trace.specs.Meanings.{greatest_caller};
 ghost use Rattle.wf_trace.specs.Words.{words as words_of};
 ghost use Rattle.wf_trace.specs.Meanings.{meant};
-ghost use Rattle.wf_trace.specs.Grammar.{word_of, guard_word as word_of_guard, heard_word as word_of_heard};
-ghost use Rattle.wf_trace.specs.Printing.{ask_words, note_words, weight_words, note_text, note_line, IsAskPrintable, IsPrintable, IsAskInRange, IsInRange};
+ghost use Rattle.wf_trace.specs.Grammar.{call_word, guard_word as word_of_guard, heard_word as word_of_heard};
+ghost use Rattle.wf_trace.specs.Printing.{ask_words, note_words, weight_words, note_text, note_line, IsAskPrintable, IsPrintable, IsAskInRange, NumbersAreInRange};
 
 use crate::call::Call;
 use wf_frame::{Ask, Class, Note};
@@ -35,7 +35,7 @@ fn heard_word(heard: bool) -> &'static [u8]
 // The word of a call, and its arguments behind it, each with one space in front.
 fn push_call(out: &mut Line, call: Call, words: &[Word])
     requires { length out.old + 6 + sum_by (λ w. width_of w + 1) words.now ≤ 8192 }
-    ensures text { out.new ≡ out.old ++ join_with_byte 32 (word_of call ∷ map text_of words.now) }
+    ensures text { out.new ≡ out.old ++ join_with_byte 32 (call_word call ∷ map words_text words.now) }
     ensures len { length out.new ≤ length out.old + 6 + sum_by (λ w. width_of w + 1) words.now }
 {
     out.push_all(call.word());
@@ -45,7 +45,7 @@ fn push_call(out: &mut Line, call: Call, words: &[Word])
 // A call of a station and nothing else.
 fn push_station(out: &mut Line, call: Call, station: u16)
     requires { length out.old ≤ 22 }
-    ensures text { out.new ≡ out.old ++ join_with_byte 32 (word_of call ∷ decimal station ∷ []) }
+    ensures text { out.new ≡ out.old ++ join_with_byte 32 (call_word call ∷ decimal station ∷ []) }
     ensures len { length out.new ≤ length out.old + 120 }
 {
     push_call(out, call, &[Word::Number(u64::from(station))]);
@@ -55,7 +55,8 @@ fn push_station(out: &mut Line, call: Call, station: u16)
 fn push_join(out: &mut Line, words: &[Word], weight: u8)
     requires room { length out.old ≤ 22 }
     requires narrow { sum_by (λ w. width_of w + 1) words.now ≤ 84 }
-    ensures text { out.new ≡ out.old ++ join_with_byte 32 (word_of Call.Join ∷ (map text_of words.now ++ weight_words weight)) }
+    ensures text { out.new ≡ out.old ++ join_with_byte 32
+        (call_word Call.Join ∷ (map words_text words.now ++ weight_words weight)) }
     ensures len { length out.new ≤ length out.old + 120 }
 {
     push_call(out, Call::Join, words);
@@ -156,7 +157,7 @@ fn push_note(note: &Note, out: &mut Line)
     requires printable { IsPrintable note.now }
     ensures text { out.new ≡ out.old ++ join_with_byte 32 (note_words note.now) }
     ensures len { length out.new ≤ length out.old + 120 }
-    ensures range { IsInRange note.now }
+    ensures range { NumbersAreInRange note.now }
 {
     match note {
         Note::Enqueue {
@@ -178,10 +179,10 @@ fn push_note(note: &Note, out: &mut Line)
     }
 }
 
-/// Writes the canonical line of an entry to an empty line: the words of the call parted by one space, `@` and the
-/// caller in front exactly where it is not 0, and the octet 10 at the end. The weight of a `join` stands exactly
-/// where it is not 1. An exchange number must be below 2^32, and a length 1 to 2304 octets: a line names no other.
-/// Behind a head that allows one more call the line is read as this entry.
+/// Writes the canonical line of an entry to an empty line: the words of the call parted by one space, `@` and
+/// the caller in front exactly where it is not 0, and the octet 10 at the end. The weight of a `join` stands
+/// exactly where it is not 1. An exchange number must be below 2^32, and a length 1 to 2304 octets: a line
+/// names no other. Behind a head that allows one more call the line is read as this entry.
 pub fn print_note(caller: u32, note: &Note, out: &mut Line)
     requires empty { out.old ≡ [] }
     requires caller { caller ≤ greatest_caller }

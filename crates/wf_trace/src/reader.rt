@@ -62,13 +62,13 @@ pub struct TraceReader {
 
 impl Model for TraceReader {
     ghost use Rattle.wf_trace.specs.Reader.{Reader};
-    ghost use Rattle.wf_trace.specs.Endings.{IsEnding};
+    ghost use Rattle.wf_trace.specs.Endings.{IsEndOfTrace};
 
     ghost Value = { Reader };
 
     ghost view = { λ r. record { cut = r.cut; place = r.place; ended = r.ended } };
 
-    ghost invariant = { λ r. IsEnding r.ended };
+    ghost invariant = { λ r. IsEndOfTrace r.ended };
 }
 
 impl TraceReader {
@@ -77,7 +77,7 @@ impl TraceReader {
     ghost use Rattle.wf_trace.specs.Words.{words};
     ghost use Rattle.wf_trace.specs.Meanings.{meant};
     ghost use Rattle.wf_trace.specs.Reading.{reading};
-    ghost use Rattle.wf_trace.specs.Reader.{Reads, IsHeld, IsPlaced, Goes, Places, Gives, rest, rest_of, said, read_lines, will_read};
+    ghost use Rattle.wf_trace.specs.Reader.{Reads, IsHeld, IsPlaced, Goes, Places, GivesItem, rest, rest_of, said, read_lines, will_read};
 
     /// A reader at the front of a trace. It takes its buffer of 4096 octets here, and no memory later.
     pub fn new(alloc: Global) -> Result<Self, AllocError>
@@ -93,8 +93,8 @@ impl TraceReader {
         })
     }
 
-    /// Whether the next call of `next` may read the source. It answers without a read where the ending is known, and where the
-    /// octets taken have a whole line next whose first octet is neither a space nor `#`.
+    /// Whether the next call of `next` may read the source. It answers without a read where the ending is
+    /// known, and where the octets taken have a whole line next whose first octet is neither a space nor `#`.
     pub fn will_read(&self) -> bool
         ensures { result ≡ will_read self.now }
     {
@@ -115,7 +115,7 @@ impl TraceReader {
     fn say(&mut self, line: u64) -> Item
         requires going { self.old.ended ≡ None }
         requires text { HasText self.old.cut }
-        ensures says { (p : Pieces) → Gives (Ok result) self.new
+        ensures says { (p : Pieces) → GivesItem (Ok result) self.new
             (said (meant self.old.place (words (line_of self.old.cut))) self.old.place line
             (λ next. read_lines p.lines p.ending next))
             (rest_of self.new.ended self.new.place p) }
@@ -143,8 +143,8 @@ impl TraceReader {
         }
     }
 
-    /// The next item. After Finish or Bad every later call answers the same. Failed only where the source's faults rose;
-    /// then the octets taken are kept, and a later call goes on from there. It takes no memory.
+    /// The next item. After Finish or Bad every later call answers the same. Failed only where the source's
+    /// faults rose; then the octets taken are kept, and a later call goes on from there. It takes no memory.
     pub fn next<S: Source>(&mut self, source: &mut S) -> Result<Item, Failed>
         ensures again { IfSome self.old.ended (λ item.
             (result ≡ Ok item) × (self.new ≡ self.old) × (S.left source.new ≡ S.left source.old)) }

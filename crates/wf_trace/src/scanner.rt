@@ -1,6 +1,6 @@
 //! Octets of a source, looked at one by one for the ends of lines.
 
-ghost use Rattle.std.specs.Prelude.{◌≡◌, ◌==◌, ◌+◌, ◌-◌, ◌<◌, ◌≤◌, [], ◌∷◌, ◌++◌, length, drop, slice_index, false, IfNone, IfOk, OnErr, Some};
+ghost use Rattle.std.specs.Prelude.{◌≡◌, ◌==◌, ◌+◌, ◌-◌, ◌<◌, ◌≤◌, [], ◌∷◌, length, drop, slice_index, false, IfNone, IfOk, OnErr, Some};
 ghost use Rattle.std.specs.Io.KnownBytes.{prepend_known, IsAtEnd};
 ghost use Rattle.wf_io.specs.Faults.{CountsFaults};
 ghost use Rattle.wf_trace.specs.Scanning.{has_end, begins_word};
@@ -8,11 +8,10 @@ ghost use Rattle.wf_trace.specs.Scanning.{has_end, begins_word};
 use arrayvec::ArrayVec;
 use std::alloc::{AllocError, Global};
 use std::marker::Model;
-use wf_io::{Failed, Source};
+use wf_io::{Failed, MOST_OCTETS, Source};
 
-const MOST: u64 = 268_435_456;
-
-const LONGEST: usize = 160;
+/// The most octets of a line, without its octet 10.
+pub const LONGEST_LINE: usize = 160;
 
 const BUFFER: usize = 4096;
 
@@ -60,7 +59,7 @@ pub struct Scanner {
 impl Model for Scanner {
     ghost use Rattle.std.specs.Prelude.{◌≡◌, ◌≤◌, length, slice_range};
     ghost use Rattle.wf_trace.specs.Lines.{longest_trace};
-    ghost use Rattle.wf_trace.specs.Scanning.{Scanning, buffer_size, EndsAt};
+    ghost use Rattle.wf_trace.specs.Scanning.{Scanning, buffer_size, LineEndsAt};
 
     ghost Value = { Scanning };
 
@@ -72,7 +71,7 @@ impl Model for Scanner {
 
     ghost invariant = { λ s. (s.from ≤ s.to) × (s.to ≤ length s.buffer.items)
         × (length s.buffer.items ≡ buffer_size) × (s.looked ≤ longest_trace)
-        × EndsAt s.buffer.items s.ends s.to };
+        × LineEndsAt s.buffer.items s.ends s.to };
 }
 
 impl Scanner {
@@ -126,14 +125,14 @@ impl Scanner {
     {
         let octet = self.buffer[self.from];
         self.from += 1;
-        if self.looked == MOST {
+        if self.looked == MOST_OCTETS {
             return Some(Found::TooBig);
         }
         self.looked += 1;
         if octet == b'\n' {
             return Some(Found::Line);
         }
-        if self.line.len() <= LONGEST {
+        if self.line.len() <= LONGEST_LINE {
             self.line.push(octet);
         }
         None

@@ -3,7 +3,7 @@
 ghost use Rattle.std.specs.Prelude.{◌≡◌, ◌<◌, Some, None, List, Bool, Result, MatchOption, replicate, false};
 ghost use Rattle.wf_frame.specs.Settings.{standard};
 ghost use Rattle.wf_trace.specs.Words.{words};
-ghost use Rattle.wf_trace.specs.Settings.{name_of, field_named, value_read, place_of, split_once, named_field, set_one, after_fault, read_words};
+ghost use Rattle.wf_trace.specs.Settings.{name_of, field_named, value_read, field_number, split_once, named_field, set_one, after_fault, read_words};
 
 use crate::fault::{FaultKind, first_of};
 use crate::words::{in_range, next_word};
@@ -47,7 +47,7 @@ fn value_of(field: Field, word: &[u8]) -> Result<u32, FaultKind>
 
 // Its number in the table.
 fn place(field: Field) -> usize
-    ensures value { result ≡ place_of field }
+    ensures value { result ≡ field_number field }
     ensures below { result < 12 }
 {
     field as usize
@@ -55,7 +55,8 @@ fn place(field: Field) -> usize
 
 // What stands before the first '=' and behind it.
 fn parts_of(word: &[u8]) -> Option<(&[u8], &[u8])>
-    ensures { MatchOption result (split_once word.now ≡ None) (λ p. split_once word.now ≡ Some (p.0.now, p.1.now)) }
+    ensures { MatchOption result (split_once word.now ≡ None)
+        (λ p. split_once word.now ≡ Some (p.0.now, p.1.now)) }
 {
     for (i, octet) in word.iter().enumerate() {
         if *octet == b'=' {
@@ -69,7 +70,8 @@ fn parts_of(word: &[u8]) -> Option<(&[u8], &[u8])>
 
 // The setting that a word names, with the text of its value.
 fn setting(word: &[u8]) -> Option<(Field, &[u8])>
-    ensures { MatchOption result (named_field (split_once word.now) ≡ None) (λ p. named_field (split_once word.now) ≡ Some (p.0, p.1.now)) }
+    ensures { MatchOption result (named_field (split_once word.now) ≡ None)
+        (λ p. named_field (split_once word.now) ≡ Some (p.0, p.1.now)) }
 {
     let (name, value) = parts_of(word)?;
     let field = named(name)?;
@@ -79,7 +81,8 @@ fn setting(word: &[u8]) -> Option<(Field, &[u8])>
 // Sets what a word says, and answers what is wrong with it.
 fn apply(word: &[u8], seen: &mut [bool; 12], config: &mut Config) -> Option<FaultKind>
     ensures { (others : List Bool → Config → Result Config FaultKind) →
-        set_one (named_field (split_once word.now)) seen.old config.old others ≡ after_fault result (others seen.new config.new) }
+        set_one (named_field (split_once word.now)) seen.old config.old others
+        ≡ after_fault result (others seen.new config.new) }
 {
     let Some((field, value)) = setting(word) else {
         return Some(FaultKind::Word);

@@ -1,10 +1,12 @@
 //! The words of a line, and the numbers that words are.
 
-ghost use Rattle.std.specs.Prelude.{◌≡◌, ◌+◌, ◌<◌, ◌≤◌, ◌^◌, ◌∷◌, [], ℕ, List, length, MatchOption, IsTrue, ◌≢◌, slice_index};
+ghost use Rattle.std.specs.Prelude.{◌≡◌, ◌<◌, ◌≤◌, ◌∷◌, [], ℕ, length, MatchOption, ◌≢◌, slice_index};
 ghost use Rattle.std.specs.List.{list_all};
-ghost use Rattle.wf_trace.specs.Words.{words, skipped, is_digit, is_plain_number as is_plain, most_digits, number_of, value_from, in_range};
+ghost use Rattle.wf_io.specs.Digits.{is_digit};
+ghost use Rattle.wf_trace.specs.Words.{words, skipped, is_plain_number as is_plain, number_of, in_range};
 
 use crate::fault::FaultKind;
+use wf_io::value_of;
 
 /// The most digits of a number of a trace.
 const MOST_DIGITS: usize = 10;
@@ -38,7 +40,8 @@ fn word_len(line: &[u8]) -> usize
 
 /// The first word of a line, and what is behind it.
 pub fn next_word(line: &[u8]) -> Option<(&[u8], &[u8])>
-    ensures { MatchOption result (words line.now ≡ []) (λ found. (words line.now ≡ found.0.now ∷ words found.1.now)
+    ensures { MatchOption result (words line.now ≡ [])
+        (λ found. (words line.now ≡ found.0.now ∷ words found.1.now)
         × (length found.1.now < length line.now)) }
 {
     let line = trimmed(line);
@@ -75,32 +78,20 @@ pub fn is_plain_number(word: &[u8]) -> bool
     }
 }
 
-/// The value of at most ten digits.
-fn value_of(digits: &[u8]) -> u64
-    requires few { length digits.now ≤ most_digits }
-    requires digits { IsTrue (list_all is_digit digits.now) }
-    ensures { result ≡ value_from 0 digits.now }
-{
-    let mut value = 0;
-    for digit in digits {
-        value = value * 10 + u64::from(*digit - b'0');
-    }
-    value
-}
-
-/// The number that a word is: one to ten decimal digits without a needless zero in front. None where it is none.
+/// The number that a word is: one to ten decimal digits without a needless zero in front. None where it is
+/// none.
 pub fn number(word: &[u8]) -> Option<u64>
     ensures { result ≡ number_of word.now }
 {
     if word.len() <= MOST_DIGITS && is_plain_number(word) {
-        Some(value_of(word))
+        value_of(word)
     } else {
         None
     }
 }
 
-/// The number that a word is, where it lies from low to high. Number where it is none, and Range where it lies
-/// outside.
+/// The number that a word is, where it lies from low to high. Number where it is none, and Range where it
+/// lies outside.
 pub fn in_range(low: u32, high: u32, word: &[u8]) -> Result<u32, FaultKind>
     ensures { result ≡ in_range low high (number_of word.now) }
 {

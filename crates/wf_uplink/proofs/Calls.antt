@@ -4,12 +4,12 @@ use Rattle.std.specs.Prelude.{sum_by}
 use Rattle.std.proofs.lemmas.Bool.Decides.{nat_tests}
 use Rattle.std.proofs.lemmas.List.Sums.{sum_by-cons}
 use Rattle.std.proofs.lemmas.List.{get_or-set_same, get_or-set_other}
-use Rattle.wf_rules.specs.Airtime.{Rate, lowest_rate}
+use Rattle.wf_def_air.specs.Airtime.{Rate, lowest_rate}
 use Rattle.wf_uplink.specs.declared.fault.OpenFault.{OpenFault}
 use Rattle.wf_uplink.specs.declared.fault.UplinkFault.{UplinkFault}
-use Rattle.wf_uplink.specs.Frames.{sender_of, tid_of}
-use Rattle.wf_uplink.specs.Reordering.{Reordering, Outcome, unopened}
-use Rattle.wf_uplink.specs.World.{World, Delivery, Call, Open, SetRate, Receive, Tick, Expire, Answer, Opened, NotOpened, RateSet, NotSet, Received, NotReceived, Now, TimedOut, NoneDue, new_world, rate_of, is_open, place_of, tids, reordering_at, reordering_of, open_fault, opened, receive_fault, air_of, count_of, receive_outcome, received, delivery_of, first_due, timeout_outcome, expired_at, timeout_of, open_answer, receive_answer, expire_answer, answer, after_open, after_receive, after_expire, after_call, after_calls, answers}
+use Rattle.wf_uplink.specs.Frames.{sender_of, tid_in_control}
+use Rattle.wf_uplink.specs.Reordering.{Reordering, ReorderingOutcome, unopened}
+use Rattle.wf_uplink.specs.World.{World, Delivery, Call, Open, SetRate, Receive, Tick, Expire, Answer, Opened, NotOpened, RateSet, NotSet, Received, NotReceived, Now, TimedOut, NoneDue, new_world, rate_of, is_open, place_of, tids_of_station, reordering_at, reordering_of, open_fault, opened, receive_fault, air_of, count_of, receive_outcome, received, delivery_of, first_due, timeout_outcome, expired_at, timeout_of, open_answer, receive_answer, expire_answer, answer, after_open, after_receive, after_expire, after_call, after_calls, answers}
 use Rattle.wf_uplink.specs.Laws.{Covers, TidLaw, TotalsLaw, IsCharged, delivery_in, told_in, told_by, all_told, released_by, given_up_by, accepted_by, old_by}
 use Rattle.wf_uplink.proofs.Told.{covers_append, covers_rises, each_once, no_other}
 use Rattle.wf_uplink.specs.Soundness.{IsSound}
@@ -20,34 +20,44 @@ use Rattle.wf_uplink.proofs.Worlds.{taken, expiring, opening, begun_other, begun
 
 -- what one call tells of a station's TID, and that the station stays open
 pub record IsTold (station tid : ℕ) (w after : World) (a : Answer) : Type 0 where
-  pub told : Covers (reordering_of w station tid).start (reordering_of after station tid).start (told_by station tid a)
+  pub told : Covers (reordering_of w station tid).start (reordering_of after station tid).start
+      (told_by station tid a)
   pub live : is_open after station ≡ true
 
 -- where the reordering stays, nothing is told
-stays : (station tid : ℕ) (w after : World) (a : Answer) → reordering_of after station tid ≡ reordering_of w station tid → is_open after station ≡ true →
+stays : (station tid : ℕ) (w after : World) (a : Answer) →
+    reordering_of after station tid ≡ reordering_of w station tid → is_open after station ≡ true →
     told_by station tid a ≡ [] → IsTold station tid w after a
 stays station tid w after a same live none = record {
-  told = subst (Covers (reordering_of w station tid).start (reordering_of after station tid).start) (sym none) (ap (λ (r : Reordering). r.start) (sym same));
+  told = subst (Covers (reordering_of w station tid).start (reordering_of after station tid).start) (sym none)
+      (ap (λ (r : Reordering). r.start) (sym same));
   live = live;
 }
 
-still_open : (s u : ℕ) (rates : List (Option Rate)) (rate : Rate) → is_some (get_or rates s None) ≡ true → is_some (get_or (set rates u (Some rate)) s None) ≡ true
+still_open : (s u : ℕ) (rates : List (Option Rate)) (rate : Rate) → is_some (get_or rates s None) ≡ true →
+    is_some (get_or (set rates u (Some rate)) s None) ≡ true
 still_open s u rates rate live =
     elim (same_or_not s u) [
       | inl same ↦
           let within = some_within rates s live in
-          ap (λ n. is_some (get_or (set rates n (Some rate)) s None)) (sym same) ∙ ap is_some (get_or-set_same rates s (Some rate) None within)
+          ap (λ n. is_some (get_or (set rates n (Some rate)) s None)) (sym same)
+          ∙ ap is_some (get_or-set_same rates s (Some rate) None within)
       | inr differ ↦ ap is_some (get_or-set_other rates u s (Some rate) None differ) ∙ live
     ]
 
 -- a delivery of some TID, where that TID's reordering has the outcome
-delivered : (station tid s t new : ℕ) (w after : World) (d : Delivery) (o : Outcome) → tid < tids → t < tids → is_open w station ≡ true →
-    place_of s t < length w.reorderings → after.reorderings ≡ set w.reorderings (place_of s t) o.after → after.rates ≡ w.rates →
-    d.station ≡ s → d.tid ≡ t → d.passed ≡ o.passed → IsFair new (reordering_of w s t) o → (a : Answer) → delivery_in a ≡ Some d →
+delivered : (station tid s t new : ℕ) (w after : World) (d : Delivery) (o : ReorderingOutcome) →
+    tid < tids_of_station → t < tids_of_station → is_open w station ≡ true →
+    place_of s t < length w.reorderings → after.reorderings ≡ set w.reorderings (place_of s t) o.after →
+    after.rates ≡ w.rates →
+    d.station ≡ s → d.tid ≡ t → d.passed ≡ o.passed → IsFair new (reordering_of w s t) o → (a : Answer) →
+    delivery_in a ≡ Some d →
     IsTold station tid w after a
 delivered station tid s t new w after d o tid8 t8 live within list rates at_s at_t its fair a is = record {
-  told = subst (Covers (reordering_of w station tid).start (reordering_of after station tid).start) (sym (ap (told_in station tid) is))
-      (choose (Covers (reordering_of w station tid).start (reordering_of after station tid).start) ((d.station == station) && (d.tid == tid)) d.passed [] here elsewhere);
+  told = subst (Covers (reordering_of w station tid).start (reordering_of after station tid).start)
+      (sym (ap (told_in station tid) is))
+      (choose (Covers (reordering_of w station tid).start (reordering_of after station tid).start)
+      ((d.station == station) && (d.tid == tid)) d.passed [] here elsewhere);
   live = ap (λ (rs : List (Option Rate)). is_some (get_or rs station None)) rates ∙ live;
 }
   where
@@ -61,7 +71,8 @@ delivered station tid s t new w after d o tid8 t8 live within list rates at_s at
         let same_s : s ≡ station = let p = parts.0 in grind (arith, nat_tests, p, at_s) in
         let same_t : t ≡ tid = let p = parts.1 in grind (arith, nat_tests, p, at_t) in
         let now_at : reordering_of after s t ≡ o.after =
-        ap (λ (rs : List Reordering). get_or rs (place_of s t) before) list ∙ get_or-set_same w.reorderings (place_of s t) o.after before within in
+        ap (λ (rs : List Reordering). get_or rs (place_of s t) before) list
+        ∙ get_or-set_same w.reorderings (place_of s t) o.after before within in
         subst (λ n. Covers (reordering_of w n tid).start (reordering_of after n tid).start d.passed) same_s
         (subst (λ n. Covers (reordering_of w s n).start (reordering_of after s n).start d.passed) same_t
         (subst (λ (r : Reordering). Covers (reordering_of w s t).start r.start d.passed) (sym now_at)
@@ -71,79 +82,108 @@ delivered station tid s t new w after d o tid8 t8 live within list rates at_s at
         Covers (reordering_of w station tid).start (reordering_of after station tid).start []
     elsewhere e =
         let other : place_of station tid ≢ place_of s t = λ same.
-        (let one = same_station station tid s t tid8 t8 same in let two = same_tid station tid s t tid8 t8 same in grind (arith, nat_tests, e, one, two, at_s, at_t)) in
+        (let one = same_station station tid s t tid8 t8 same in
+        let two = same_tid station tid s t tid8 t8 same in
+        grind (arith, nat_tests, e, one, two, at_s, at_t)) in
         ap (λ (r : Reordering). r.start)
         (sym (ap (λ (rs : List Reordering). get_or rs (place_of station tid) before) list
         ∙ get_or-set_other w.reorderings (place_of s t) (place_of station tid) o.after before other))
 
-open_told : (station tid s window start : ℕ) (w : World) (f : Option OpenFault) → tid < tids → is_open w station ≡ true → open_fault s window start w ≡ f →
+open_told : (station tid s window start : ℕ) (w : World) (f : Option OpenFault) → tid < tids_of_station →
+    is_open w station ≡ true → open_fault s window start w ≡ f →
     IsTold station tid w (after_open f s window start w) (open_answer f)
 open_told station tid s window start w None tid8 live e =
     let x = opening s window start w e in
-    let differ : station ≢ s = λ same. not_none (rate_of w station) live (ap (λ n. rate_of w n) same ∙ x.shut) in
+    let differ : station ≢ s = λ same. not_none (rate_of w station) live
+    (ap (λ n. rate_of w n) same ∙ x.shut) in
     stays station tid w (opened s window start w) Opened
-    (begun_other tids s window start (place_of station tid) w.reorderings unopened (λ t below same. differ (same_station station tid s t tid8 below same)))
+    (begun_other tids_of_station s window start (place_of station tid) w.reorderings unopened
+    (λ t below same. differ (same_station station tid s t tid8 below same)))
     (still_open station s w.rates lowest_rate live) refl
-open_told station tid s window start w (Some fault) tid8 live e = stays station tid w w (NotOpened fault) refl live refl
+open_told station tid s window start w (Some fault) tid8 live e =
+    stays station tid w w (NotOpened fault) refl live refl
 
-receive_told : (station tid : ℕ) (octets : List ℕ) (w : World) (f : Option UplinkFault) → IsSound w → tid < tids → is_open w station ≡ true → receive_fault octets w ≡ f →
+receive_told : (station tid : ℕ) (octets : List ℕ) (w : World) (f : Option UplinkFault) → IsSound w →
+    tid < tids_of_station → is_open w station ≡ true → receive_fault octets w ≡ f →
     IsTold station tid w (after_receive f octets w) (receive_answer f octets w)
 receive_told station tid octets w None sound tid8 live e =
     let x = taken octets w e in
     let s : ℕ = sender_of octets in
-    let t : ℕ = tid_of octets in
-    delivered station tid s t 1 w (received octets w) (delivery_of octets w) (receive_outcome octets w) tid8 x.tid live (place_within w sound s t x.tid x.live) refl refl refl refl refl
-    (arrived_fair _ _ _ (reordering_of w s t) (sound.orderly (place_of s t))) (Received (delivery_of octets w)) refl
-receive_told station tid octets w (Some fault) sound tid8 live e = stays station tid w w (NotReceived fault) refl live refl
+    let t : ℕ = tid_in_control octets in
+    delivered station tid s t 1 w (received octets w) (delivery_of octets w)
+    (receive_outcome octets w) tid8 x.tid live
+    (place_within w sound s t x.tid x.live) refl refl refl refl refl
+    (arrived_fair _ _ _ (reordering_of w s t) (sound.orderly (place_of s t)))
+    (Received (delivery_of octets w)) refl
+receive_told station tid octets w (Some fault) sound tid8 live e =
+    stays station tid w w (NotReceived fault) refl live refl
 
-pub parts_of : (place : ℕ) → place ≡ place_of (place / tids) (place % tids)
+pub parts_of : (place : ℕ) → place ≡ place_of (place / tids_of_station) (place % tids_of_station)
 parts_of place = omega arith
 
-expire_told : (station tid : ℕ) (w : World) (o : Option ℕ) → IsSound w → tid < tids → is_open w station ≡ true → first_due w ≡ o →
+expire_told : (station tid : ℕ) (w : World) (o : Option ℕ) → IsSound w → tid < tids_of_station →
+    is_open w station ≡ true → first_due w ≡ o →
     IsTold station tid w (after_expire o w) (expire_answer o w)
 expire_told station tid w None sound tid8 live e = stays station tid w w NoneDue refl live refl
 expire_told station tid w (Some place) sound tid8 live e =
     let x = expiring place w e in
-    let same : place ≡ place_of (place / tids) (place % tids) = parts_of place in
-    delivered station tid (place / tids) (place % tids) 0 w (expired_at place w) (timeout_of place w) (timeout_outcome place w) tid8 (omega arith) live
-    (subst (λ n. n < length w.reorderings) same x.within) (ap (λ n. set w.reorderings n (timeout_outcome place w).after) same) refl refl refl refl
-    (subst (λ n. IsFair 0 (reordering_at w n) (timeout_outcome place w)) same (timed_out_fair w.clock (reordering_at w place) (sound.orderly place)))
+    let same : place ≡ place_of (place / tids_of_station) (place % tids_of_station) = parts_of place in
+    delivered station tid (place / tids_of_station) (place % tids_of_station) 0 w (expired_at place w)
+    (timeout_of place w) (timeout_outcome place w) tid8 (omega arith) live
+    (subst (λ n. n < length w.reorderings) same x.within)
+    (ap (λ n. set w.reorderings n (timeout_outcome place w).after) same) refl refl refl refl
+    (subst (λ n. IsFair 0 (reordering_at w n) (timeout_outcome place w)) same
+    (timed_out_fair w.clock (reordering_at w place) (sound.orderly place)))
     (TimedOut (timeout_of place w)) refl
 
-call_told : (station tid : ℕ) (call : Call) (w : World) → IsSound w → tid < tids → is_open w station ≡ true → IsTold station tid w (after_call call w) (answer call w)
+call_told : (station tid : ℕ) (call : Call) (w : World) → IsSound w → tid < tids_of_station →
+    is_open w station ≡ true → IsTold station tid w (after_call call w) (answer call w)
 unfolding after_call
-call_told station tid (Open s window start) w sound tid8 live = open_told station tid s window start w (open_fault s window start w) tid8 live refl
+call_told station tid (Open s window start) w sound tid8 live =
+    open_told station tid s window start w (open_fault s window start w) tid8 live refl
 call_told station tid (SetRate s rate) w sound tid8 live =
-    choose_both (λ (v : World) (a : Answer). IsTold station tid w v a) (is_open w s) (record w { rates = set w.rates s (Some rate) }) w RateSet NotSet
-    (λ _. stays station tid w (record w { rates = set w.rates s (Some rate) }) RateSet refl (still_open station s w.rates rate live) refl)
+    choose_both (λ (v : World) (a : Answer). IsTold station tid w v a) (is_open w s)
+    (record w { rates = set w.rates s (Some rate) }) w RateSet NotSet
+    (λ _. stays station tid w (record w { rates = set w.rates s (Some rate) }) RateSet refl
+    (still_open station s w.rates rate live) refl)
     (λ _. stays station tid w w NotSet refl live refl)
-call_told station tid (Receive octets) w sound tid8 live = receive_told station tid octets w (receive_fault octets w) sound tid8 live refl
-call_told station tid (Tick by) w sound tid8 live = stays station tid w (record w { clock = w.clock + by }) (Now (w.clock + by)) refl live refl
+call_told station tid (Receive octets) w sound tid8 live =
+    receive_told station tid octets w (receive_fault octets w) sound tid8 live refl
+call_told station tid (Tick by) w sound tid8 live =
+    stays station tid w (record w { clock = w.clock + by }) (Now (w.clock + by)) refl live refl
 call_told station tid Expire w sound tid8 live = expire_told station tid w (first_due w) sound tid8 live refl
 
-pub calls_told : (station tid : ℕ) (calls : List Call) (w : World) → IsSound w → tid < tids → is_open w station ≡ true →
-    Covers (reordering_of w station tid).start (reordering_of (after_calls w calls) station tid).start (all_told station tid w calls)
+pub calls_told : (station tid : ℕ) (calls : List Call) (w : World) → IsSound w → tid < tids_of_station →
+    is_open w station ≡ true →
+    Covers (reordering_of w station tid).start (reordering_of (after_calls w calls) station tid).start
+    (all_told station tid w calls)
 unfolding after_calls answers
 calls_told station tid [] w sound tid8 live = refl
 calls_told station tid (call ∷ later) w sound tid8 live =
     let next : World = after_call call w in
     let one = call_told station tid call w sound tid8 live in
-    covers_append (reordering_of w station tid).start (reordering_of next station tid).start (reordering_of (after_calls next later) station tid).start
+    covers_append (reordering_of w station tid).start (reordering_of next station tid).start
+    (reordering_of (after_calls next later) station tid).start
     (told_by station tid (answer call w)) (all_told station tid next later) one.told
     (calls_told station tid later next (call_sound call w sound) tid8 one.live)
 
-after_both : (w : World) (before later : List Call) → after_calls w (before ++ later) ≡ after_calls (after_calls w before) later
+after_both : (w : World) (before later : List Call) →
+    after_calls w (before ++ later) ≡ after_calls (after_calls w before) later
 unfolding after_calls
 after_both w [] later = refl
 after_both w (call ∷ before) later = after_both (after_call call w) before later
 
-tid_law_from : (w : World) (station tid first : ℕ) (calls : List Call) → Covers first (reordering_of (after_calls w calls) station tid).start (all_told station tid w calls) →
+tid_law_from : (w : World) (station tid first : ℕ) (calls : List Call) →
+    Covers first (reordering_of (after_calls w calls) station tid).start (all_told station tid w calls) →
     TidLaw w station tid first calls
 tid_law_from w station tid first calls told = record {
   in_order = told;
-  rises = covers_rises first (reordering_of (after_calls w calls) station tid).start (all_told station tid w calls) told;
-  each_once = λ n least below. each_once first (reordering_of (after_calls w calls) station tid).start n (all_told station tid w calls) told least below;
-  no_other = λ n out. no_other first (reordering_of (after_calls w calls) station tid).start n (all_told station tid w calls) told out;
+  rises = covers_rises first (reordering_of (after_calls w calls) station tid).start
+      (all_told station tid w calls) told;
+  each_once = λ n least below. each_once first (reordering_of (after_calls w calls) station tid).start n
+      (all_told station tid w calls) told least below;
+  no_other = λ n out. no_other first (reordering_of (after_calls w calls) station tid).start n
+      (all_told station tid w calls) told out;
 }
 
 no_open_fault : (f : Option OpenFault) → open_answer f ≡ Opened → f ≡ None
@@ -154,13 +194,15 @@ after_one : (call : Call) (w : World) → after_calls w (call ∷ []) ≡ after_
 unfolding after_calls
 after_one call w = refl
 
-after_opening : (station window start : ℕ) (w : World) → open_fault station window start w ≡ None → after_call (Open station window start) w ≡ opened station window start w
+after_opening : (station window start : ℕ) (w : World) → open_fault station window start w ≡ None →
+    after_call (Open station window start) w ≡ opened station window start w
 unfolding after_call
 after_opening station window start w e = ap (λ f. after_open f station window start w) e
 
 pub tids_told : (stations : ℕ) (before later : List Call) (station window start tid : ℕ) → tid < 8 →
     answer (Open station window start) (after_calls (new_world stations) before) ≡ Opened →
-    TidLaw (after_calls (new_world stations) (before ++ Open station window start ∷ [])) station tid start later
+    TidLaw (after_calls (new_world stations) (before ++ Open station window start ∷ [])) station tid start
+    later
 tids_told stations before later station window start tid tid8 opens =
     let w : World = after_calls (new_world stations) before in
     let sound : IsSound w = calls_sound before (new_world stations) (new_sound stations) in
@@ -168,15 +210,22 @@ tids_told stations before later station window start tid tid8 opens =
     let x = opening station window start w e in
     let v : World = opened station window start w in
     let there : after_calls (new_world stations) (before ++ Open station window start ∷ []) ≡ v =
-    after_both (new_world stations) before (Open station window start ∷ []) ∙ after_one (Open station window start) w ∙ after_opening station window start w e in
-    let fits : place_of station tids ≤ length w.reorderings = let within = x.within in let size = sound.size in omega (arith, within, size) in
+    after_both (new_world stations) before (Open station window start ∷ [])
+    ∙ after_one (Open station window start) w ∙ after_opening station window start w e in
+    let fits : place_of station tids_of_station ≤ length w.reorderings = let within = x.within in
+    let size = sound.size in omega (arith, within, size) in
     let first : (reordering_of v station tid).start ≡ start =
-    ap (λ (r : Reordering). r.start) (begun_here tids station window start tid w.reorderings unopened tid8 (omega arith) fits) in
-    let live : is_open v station ≡ true = ap is_some (get_or-set_same w.rates station (Some lowest_rate) None x.within) in
+    ap (λ (r : Reordering). r.start) (begun_here tids_of_station station window start tid w.reorderings
+    unopened tid8 (omega arith) fits) in
+    let live : is_open v station ≡ true = ap is_some
+    (get_or-set_same w.rates station (Some lowest_rate) None x.within) in
     subst (λ (u : World). TidLaw u station tid start later) (sym there)
     (tid_law_from v station tid start later
-    (subst (λ n. Covers n (reordering_of (after_calls v later) station tid).start (all_told station tid v later)) first
-    (calls_told station tid later v (subst IsSound there (calls_sound (before ++ Open station window start ∷ []) (new_world stations) (new_sound stations))) tid8 live)))
+    (subst (λ n. Covers n (reordering_of (after_calls v later) station tid).start
+    (all_told station tid v later)) first
+    (calls_told station tid later v (subst IsSound there
+    (calls_sound (before ++ Open station window start ∷ []) (new_world stations) (new_sound stations)))
+    tid8 live)))
 
 -- ---- the totals
 
@@ -187,33 +236,70 @@ pub record IsCounted (w after : World) (a : Answer) : Type 0 where
   pub old : after.back ≡ w.back + old_by a
   pub missing : after.missing ≡ w.missing + given_up_by a
 
-open_counted : (s window start : ℕ) (w : World) (f : Option OpenFault) → IsCounted w (after_open f s window start w) (open_answer f)
-open_counted s window start w None = record { frames = omega arith; up = omega arith; old = omega arith; missing = omega arith }
-open_counted s window start w (Some fault) = record { frames = omega arith; up = omega arith; old = omega arith; missing = omega arith }
+open_counted : (s window start : ℕ) (w : World) (f : Option OpenFault) →
+    IsCounted w (after_open f s window start w) (open_answer f)
+open_counted s window start w None = record {
+  frames = omega arith;
+  up = omega arith;
+  old = omega arith;
+  missing = omega arith;
+}
+open_counted s window start w (Some fault) = record {
+  frames = omega arith;
+  up = omega arith;
+  old =
+      omega arith;
+  missing = omega arith;
+}
 
-receive_counted : (octets : List ℕ) (w : World) (f : Option UplinkFault) → IsCounted w (after_receive f octets w) (receive_answer f octets w)
+receive_counted : (octets : List ℕ) (w : World) (f : Option UplinkFault) →
+    IsCounted w (after_receive f octets w) (receive_answer f octets w)
 receive_counted octets w None = record { frames = refl; up = refl; old = refl; missing = refl }
-receive_counted octets w (Some fault) = record { frames = omega arith; up = omega arith; old = omega arith; missing = omega arith }
+receive_counted octets w (Some fault) = record {
+  frames = omega arith;
+  up = omega arith;
+  old = omega arith;
+  missing = omega arith;
+}
 
 pub timed_out_old : (now : ℕ) (place : ℕ) (w : World) → (timeout_outcome place w).old ≡ false
 timed_out_old now place w = waiting_old
   where
     waiting_old : (timeout_outcome place w).old ≡ false
-    waiting_old = choose (λ (o : Outcome). o.old ≡ false) _ _ _ (λ _. refl) (λ _. refl)
+    waiting_old = choose (λ (o : ReorderingOutcome). o.old ≡ false) _ _ _ (λ _. refl) (λ _. refl)
 
 expire_counted : (w : World) (o : Option ℕ) → IsCounted w (after_expire o w) (expire_answer o w)
-expire_counted w None = record { frames = omega arith; up = omega arith; old = omega arith; missing = omega arith }
-expire_counted w (Some place) = record { frames = omega arith; up = refl; old = ap (λ b. w.back + count_of b) (timed_out_old w.clock place w); missing = refl }
+expire_counted w None = record {
+  frames = omega arith;
+  up = omega arith;
+  old = omega arith;
+  missing =
+      omega arith;
+}
+expire_counted w (Some place) = record {
+  frames = omega arith;
+  up = refl;
+  old =
+      ap (λ b. w.back + count_of b) (timed_out_old w.clock place w);
+  missing = refl;
+}
 
 call_counted : (call : Call) (w : World) → IsCounted w (after_call call w) (answer call w)
 unfolding after_call
 call_counted (Open s window start) w = open_counted s window start w (open_fault s window start w)
 call_counted (SetRate s rate) w =
-    choose_both (λ (v : World) (a : Answer). IsCounted w v a) (is_open w s) (record w { rates = set w.rates s (Some rate) }) w RateSet NotSet
+    choose_both (λ (v : World) (a : Answer). IsCounted w v a) (is_open w s)
+    (record w { rates = set w.rates s (Some rate) }) w RateSet NotSet
     (λ _. record { frames = omega arith; up = omega arith; old = omega arith; missing = omega arith })
     (λ _. record { frames = omega arith; up = omega arith; old = omega arith; missing = omega arith })
 call_counted (Receive octets) w = receive_counted octets w (receive_fault octets w)
-call_counted (Tick by) w = record { frames = omega arith; up = omega arith; old = omega arith; missing = omega arith }
+call_counted (Tick by) w = record {
+  frames = omega arith;
+  up = omega arith;
+  old = omega arith;
+  missing =
+      omega arith;
+}
 call_counted Expire w = expire_counted w (first_due w)
 
 pub record AreCounted (w after : World) (all : List Answer) : Type 0 where
@@ -222,22 +308,31 @@ pub record AreCounted (w after : World) (all : List Answer) : Type 0 where
   pub old : after.back ≡ w.back + sum_by old_by all
   pub missing : after.missing ≡ w.missing + sum_by given_up_by all
 
-chained : (count : Answer → ℕ) (a b c : ℕ) (first : Answer) (later : List Answer) → b ≡ a + count first → c ≡ b + sum_by count later → c ≡ a + sum_by count (first ∷ later)
+chained : (count : Answer → ℕ) (a b c : ℕ) (first : Answer) (later : List Answer) → b ≡ a + count first →
+    c ≡ b + sum_by count later → c ≡ a + sum_by count (first ∷ later)
 chained count a b c first later e f = let parts = sum_by-cons count first later in omega (arith, e, f, parts)
 
 calls_counted : (calls : List Call) (w : World) → AreCounted w (after_calls w calls) (answers w calls)
 unfolding after_calls answers
-calls_counted [] w = record { frames = omega arith; up = omega arith; old = omega arith; missing = omega arith }
+calls_counted [] w = record {
+  frames = omega arith;
+  up = omega arith;
+  old = omega arith;
+  missing =
+      omega arith;
+}
 calls_counted (call ∷ later) w =
     let next : World = after_call call w in
     let last : World = after_calls next later in
     let one = call_counted call w in
     let rest = calls_counted later next in
     record {
-      frames = chained accepted_by w.frames next.frames last.frames (answer call w) (answers next later) one.frames rest.frames;
+      frames = chained accepted_by w.frames next.frames last.frames (answer call w)
+          (answers next later) one.frames rest.frames;
       up = chained released_by w.up next.up last.up (answer call w) (answers next later) one.up rest.up;
       old = chained old_by w.back next.back last.back (answer call w) (answers next later) one.old rest.old;
-      missing = chained given_up_by w.missing next.missing last.missing (answer call w) (answers next later) one.missing rest.missing;
+      missing = chained given_up_by w.missing next.missing last.missing (answer call w)
+          (answers next later) one.missing rest.missing;
     }
 
 from_none : (a b : ℕ) → a ≡ 0 + b → a ≡ b
@@ -257,7 +352,8 @@ totals stations calls =
 
 -- ---- the charge
 
-charged : (octets : List ℕ) (w : World) (f : Option UplinkFault) (d : Delivery) → receive_fault octets w ≡ f → receive_answer f octets w ≡ Received d → IsCharged w octets d
+charged : (octets : List ℕ) (w : World) (f : Option UplinkFault) (d : Delivery) → receive_fault octets w ≡ f →
+    receive_answer f octets w ≡ Received d → IsCharged w octets d
 charged octets w (Some fault) d e is = absurd (grind (arith, is))
 charged octets w None d e is =
     let x = taken octets w e in
@@ -266,11 +362,14 @@ charged octets w None d e is =
     same : Received (delivery_of octets w) ≡ Received d → delivery_of octets w ≡ d
     same p = grind (arith, p)
 
-    at_rate : (o : Option Rate) → rate_of w (sender_of octets) ≡ o → is_some o ≡ true → IsCharged w octets (delivery_of octets w)
+    at_rate : (o : Option Rate) → rate_of w (sender_of octets) ≡ o → is_some o ≡ true →
+        IsCharged w octets (delivery_of octets w)
     at_rate None p live = absurd (grind (arith, live))
     at_rate (Some rate) p live = (rate, p, ap (λ o. air_of o (length octets)) p)
 
 pub charges : (stations : ℕ) (calls : List Call) (octets : List ℕ) (d : Delivery) →
-    answer (Receive octets) (after_calls (new_world stations) calls) ≡ Received d → IsCharged (after_calls (new_world stations) calls) octets d
+    answer (Receive octets) (after_calls (new_world stations) calls) ≡ Received d →
+    IsCharged (after_calls (new_world stations) calls) octets d
 charges stations calls octets d is =
-    charged octets (after_calls (new_world stations) calls) (receive_fault octets (after_calls (new_world stations) calls)) d refl is
+    charged octets (after_calls (new_world stations) calls)
+    (receive_fault octets (after_calls (new_world stations) calls)) d refl is

@@ -1,9 +1,9 @@
 pub mod Calls
 pub mod Heard
 pub mod Moves
-pub mod Numbers
-pub mod Standing
-pub mod Steps
-pub mod Told
-pub mod Watching
+mod Numbers
+mod Standing
+mod Steps
+mod Told
+mod Watching
 pub mod Worlds

@@ -35,9 +35,13 @@ rises_from_less n m (x ∷ xs) le h = (omega (arith, le, h.0), h.1)
 
 pub covers_rises : (a b : ℕ) (xs : List Passed) → Covers a b xs → RisesFrom a (released_numbers xs)
 covers_rises a b [] h = tt
-covers_rises a b (Released id number ∷ xs) h =
-    (omega (arith, h.0), subst (λ n. RisesFrom (n + 1) (released_numbers xs)) (sym h.0) (covers_rises (a + 1) b xs h.1))
-covers_rises a b (GivenUp first count ∷ xs) h = rises_from_less a (a + count) (released_numbers xs) (omega arith) (covers_rises (a + count) b xs h.2)
+covers_rises a b (Released id number ∷ xs) h = (
+  omega (arith, h.0),
+  subst (λ n. RisesFrom (n + 1) (released_numbers xs)) (sym h.0)
+      (covers_rises (a + 1) b xs h.1),
+)
+covers_rises a b (GivenUp first count ∷ xs) h =
+    rises_from_less a (a + count) (released_numbers xs) (omega arith) (covers_rises (a + count) b xs h.2)
 
 -- ---- how often a number is told of
 
@@ -58,7 +62,8 @@ no_other_below a b n (Released id number ∷ xs) h below =
     omega (arith, rest, here)
 no_other_below a b n (GivenUp first count ∷ xs) h below =
     let rest = no_other_below (a + count) b n xs h.2 (omega (arith, below)) in
-    let here = not_counted (nat_le first n && nat_lt n (first + count)) (grind (arith, nat_tests, h.0, below)) in
+    let here = not_counted (nat_le first n && nat_lt n (first + count))
+    (grind (arith, nat_tests, h.0, below)) in
     omega (arith, rest, here)
 
 pub no_other_above : (a b n : ℕ) (xs : List Passed) → Covers a b xs → b ≤ n → times n xs ≡ 0
@@ -71,11 +76,16 @@ no_other_above a b n (Released id number ∷ xs) h above =
 no_other_above a b n (GivenUp first count ∷ xs) h above =
     let rest = no_other_above (a + count) b n xs h.2 above in
     let le = covers_le (a + count) b xs h.2 in
-    let here = not_counted (nat_le first n && nat_lt n (first + count)) (grind (arith, nat_tests, h.0, le, above)) in
+    let here = not_counted (nat_le first n && nat_lt n (first + count))
+    (grind (arith, nat_tests, h.0, le, above)) in
     omega (arith, rest, here)
 
 pub no_other : (a b n : ℕ) (xs : List Passed) → Covers a b xs → (n < a) ⊎ (b ≤ n) → times n xs ≡ 0
-no_other a b n xs h out = elim out [ inl below ↦ no_other_below a b n xs h below | inr above ↦ no_other_above a b n xs h above ]
+no_other a b n xs h out = elim out [
+  | inl below ↦ no_other_below a b n xs h below
+  | inr above ↦
+      no_other_above a b n xs h above
+]
 
 pub each_once : (a b n : ℕ) (xs : List Passed) → Covers a b xs → a ≤ n → n < b → times n xs ≡ 1
 each_once a b n [] h least below = absurd (omega (arith, h, least, below))
@@ -97,11 +107,13 @@ each_once a b n (GivenUp first count ∷ xs) h least below =
     elim (within_or_later n (a + count)) [
       | inl within ↦
           let rest = no_other_below (a + count) b n xs h.2 within in
-          let one = counted (nat_le first n && nat_lt n (first + count)) (grind (arith, nat_tests, h.0, least, within)) in
+          let one = counted (nat_le first n && nat_lt n (first + count))
+          (grind (arith, nat_tests, h.0, least, within)) in
           omega (arith, rest, one)
       | inr later ↦
           let rest = each_once (a + count) b n xs h.2 later below in
-          let none = not_counted (nat_le first n && nat_lt n (first + count)) (grind (arith, nat_tests, h.0, later)) in
+          let none = not_counted (nat_le first n && nat_lt n (first + count))
+          (grind (arith, nat_tests, h.0, later)) in
           omega (arith, rest, none)
     ]
   where

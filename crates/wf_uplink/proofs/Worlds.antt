@@ -7,29 +7,31 @@ use Rattle.std.proofs.lemmas.List.{get_or-set_same, get_or-set_other, get_or-rep
 use Rattle.std.proofs.lemmas.List.Sums.{sum_by-set}
 use Rattle.std.proofs.lemmas.List.Folds.{sum_by-replicate}
 use Rattle.std.proofs.lemmas.List.Quantifiers.{position-Some}
-use Rattle.wf_rules.specs.Airtime.{Rate, lowest_rate}
+use Rattle.wf_def_air.specs.Airtime.{Rate, lowest_rate}
 use Rattle.wf_uplink.specs.declared.fault.OpenFault.{OpenFault}
 use Rattle.wf_uplink.specs.declared.fault.OpenFault.TheVariants.{BadStation, BadWindow, BadStart, Live}
 use Rattle.wf_uplink.specs.declared.fault.UplinkFault.{UplinkFault}
 use Rattle.wf_uplink.specs.declared.fault.UplinkFault.TheVariants.{NotMine}
-use Rattle.wf_uplink.specs.Frames.{sender_of, is_addressed, tid_of, header_fault, kind_fault, tid_fault, length_fault}
-use Rattle.wf_uplink.specs.Reordering.{Reordering, Outcome, new_reordering, unopened, is_none_stored, is_due}
-use Rattle.wf_uplink.specs.World.{World, Call, Open, SetRate, Receive, Tick, Expire, new_world, rate_of, is_open, place_of, tids, reordering_at, reordering_of, open_fault, begun, opened, is_mine, mine_fault, receive_fault, released_in, given_up_in, with_outcome, receive_outcome, received, first_due, timeout_outcome, expired_at, after_open, after_receive, after_expire, after_call, after_calls}
-use Rattle.wf_uplink.specs.Soundness.{IsOrderly, IsSound}
+use Rattle.wf_uplink.specs.Frames.{sender_of, is_addressed, tid_in_control, header_fault, kind_fault, uplink_tid_fault, length_fault}
+use Rattle.wf_uplink.specs.Reordering.{Reordering, ReorderingOutcome, new_reordering, unopened, is_none_stored, is_due}
+use Rattle.wf_uplink.specs.World.{World, Call, Open, SetRate, Receive, Tick, Expire, new_world, rate_of, is_open, place_of, tids_of_station, reordering_at, reordering_of, open_fault, begun, opened, is_mine, mine_fault, receive_fault, released_in, given_up_in, with_outcome, receive_outcome, received, first_due, timeout_outcome, expired_at, after_open, after_receive, after_expire, after_call, after_calls}
+use Rattle.wf_uplink.specs.Soundness.{ReorderingIsOrderly, IsSound}
 use Rattle.wf_uplink.proofs.Told.{covers_count}
 use Rattle.wf_uplink.proofs.Moves.{choose, IsFair, arrived_fair, timed_out_fair}
 
 -- ---- lists
 
 -- what is at a place of a list after a write: the new one, or what was there
-pub set_cases : {A : Type 0} (P : A → Type 0) (xs : List A) (i j : ℕ) (y d : A) → P y → P (get_or xs j d) → P (get_or (set xs i y) j d)
+pub set_cases : {A : Type 0} (P : A → Type 0) (xs : List A) (i j : ℕ) (y d : A) → P y → P (get_or xs j d) →
+    P (get_or (set xs i y) j d)
 set_cases P [] i j y d new old = old
 set_cases P (x ∷ xs) zero zero y d new old = new
 set_cases P (x ∷ xs) zero (suc j) y d new old = old
 set_cases P (x ∷ xs) (suc i) zero y d new old = old
 set_cases P (x ∷ xs) (suc i) (suc j) y d new old = set_cases P xs i j y d new old
 
-pub some_within : {A : Type 0} (xs : List (Option A)) (i : ℕ) → is_some (get_or xs i None) ≡ true → i < length xs
+pub some_within : {A : Type 0} (xs : List (Option A)) (i : ℕ) → is_some (get_or xs i None) ≡ true →
+    i < length xs
 some_within [] i e = absurd (grind (arith, e))
 some_within (x ∷ xs) zero e = omega arith
 some_within (x ∷ xs) (suc i) e = let rest = some_within xs i e in omega (arith, rest)
@@ -47,32 +49,38 @@ same_or_not a b = grind arith
 
 -- ---- where reorderings stand
 
-pub same_station : (s t u v : ℕ) → t < tids → v < tids → place_of s t ≡ place_of u v → s ≡ u
+pub same_station : (s t u v : ℕ) → t < tids_of_station → v < tids_of_station → place_of s t ≡ place_of u v →
+    s ≡ u
 same_station s t u v t8 v8 e = omega (arith, t8, v8, e)
 
-pub same_tid : (s t u v : ℕ) → t < tids → v < tids → place_of s t ≡ place_of u v → t ≡ v
+pub same_tid : (s t u v : ℕ) → t < tids_of_station → v < tids_of_station → place_of s t ≡ place_of u v → t ≡ v
 same_tid s t u v t8 v8 e = omega (arith, t8, v8, e)
 
-pub place_within : (w : World) → IsSound w → (s t : ℕ) → t < tids → is_open w s ≡ true → place_of s t < length w.reorderings
-place_within w sound s t t8 o = let within = some_within w.rates s o in let size = sound.size in omega (arith, within, size, t8)
+pub place_within : (w : World) → IsSound w → (s t : ℕ) → t < tids_of_station → is_open w s ≡ true →
+    place_of s t < length w.reorderings
+place_within w sound s t t8 o = let within = some_within w.rates s o in let size = sound.size in
+    omega (arith, within, size, t8)
 
 -- ---- an outcome of one reordering
 
 sums_up : (released given missing held_one held_all held_new old_one old_new frames up old new : ℕ) →
     released + (given + held_new) ≡ held_one + new → frames ≡ up + old + held_all →
     (held_all + held_new ≡ missing + held_one) → frames + new ≡ (up + released) + (old + given) + missing
-sums_up released given missing held_one held_all held_new old_one old_new frames up old new a b c = omega (arith, a, b, c)
+sums_up released given missing held_one held_all held_new old_one old_new frames up old new a b c =
+    omega (arith, a, b, c)
 
 held_after : (xs : List Reordering) (i : ℕ) (r d : Reordering) → i < length xs →
-    sum_by (λ (q : Reordering). length q.stored) (set xs i r) + length (get_or xs i d).stored ≡ sum_by (λ (q : Reordering). length q.stored) xs + length r.stored
+    sum_by (λ (q : Reordering). length q.stored) (set xs i r) + length (get_or xs i d).stored
+    ≡ sum_by (λ (q : Reordering). length q.stored) xs + length r.stored
 held_after xs i r d within = sum_by-set (λ (q : Reordering). length q.stored) xs i r d within
 
 -- a world in which so many frames more were accepted
 abbrev pub with_frames : ℕ → World → World
 with_frames new w = record w { frames = w.frames + new }
 
-pub outcome_sound : (w : World) (place new : ℕ) (o : Outcome) → IsSound w → place < length w.reorderings →
-    ((station tid : ℕ) → tid < tids → rate_of w station ≡ None → place_of station tid ≢ place) →
+pub outcome_sound : (w : World) (place new : ℕ) (o : ReorderingOutcome) → IsSound w →
+    place < length w.reorderings →
+    ((station tid : ℕ) → tid < tids_of_station → rate_of w station ≡ None → place_of station tid ≢ place) →
     IsFair new (reordering_at w place) o → IsSound (with_outcome place o (with_frames new w))
 outcome_sound w place new o sound within other fair =
     let before : Reordering = reordering_at w place in
@@ -84,11 +92,15 @@ outcome_sound w place new o sound within other fair =
     let sums = held_after w.reorderings place o.after d within in
     record {
       size = length-set w.reorderings place o.after ∙ sound.size;
-      orderly = λ k. set_cases IsOrderly w.reorderings place k o.after d fair.orderly (sound.orderly k);
-      bound = λ k. set_cases (λ (r : Reordering). r.start ≤ 4095 + ((w.up + released_in o.passed) + (w.missing + given_up_in o.passed))) w.reorderings place k o.after d
+      orderly = λ k. set_cases ReorderingIsOrderly w.reorderings place k o.after d fair.orderly
+          (sound.orderly k);
+      bound = λ k. set_cases (λ (r : Reordering). r.start
+          ≤ 4095 + ((w.up + released_in o.passed) + (w.missing + given_up_in o.passed))) w.reorderings place k
+          o.after d
           (omega (arith, count, least)) (let old = sound.bound k in omega (arith, old));
       closed = λ station tid t8 none.
-          ap (λ (r : Reordering). r.stored) (get_or-set_other w.reorderings place (place_of station tid) o.after d (other station tid t8 none))
+          ap (λ (r : Reordering). r.stored) (get_or-set_other w.reorderings place
+          (place_of station tid) o.after d (other station tid t8 none))
           ∙ sound.closed station tid t8 none;
       each_frame = omega (arith, frames, all, sums);
     }
@@ -110,27 +122,35 @@ both false b e = absurd (grind (arith, e))
 -- a frame without fault is of an opened station, and its TID is below 8
 pub record IsTaken (octets : List ℕ) (w : World) : Type 0 where
   pub live : is_open w (sender_of octets) ≡ true
-  pub tid : tid_of octets < tids
+  pub tid : tid_in_control octets < tids_of_station
 
 pub taken : (octets : List ℕ) (w : World) → receive_fault octets w ≡ None → IsTaken octets w
 taken octets w e =
-    let past_header = or_none (header_fault octets) (option_or (kind_fault octets) (option_or (mine_fault octets w) (option_or (tid_fault octets) (length_fault octets)))) e in
-    let past_kind = or_none (kind_fault octets) (option_or (mine_fault octets w) (option_or (tid_fault octets) (length_fault octets))) past_header.1 in
-    let past_mine = or_none (mine_fault octets w) (option_or (tid_fault octets) (length_fault octets)) past_kind.1 in
-    let past_tid = or_none (tid_fault octets) (length_fault octets) past_mine.1 in
-    let mine = both (is_addressed octets) (is_open w (sender_of octets)) (none_where (is_mine octets w) NotMine past_mine.0) in
+    let past_header = or_none (header_fault octets)
+    (option_or (kind_fault octets) (option_or (mine_fault octets w)
+    (option_or (uplink_tid_fault octets) (length_fault octets)))) e in
+    let past_kind = or_none (kind_fault octets) (option_or (mine_fault octets w)
+    (option_or (uplink_tid_fault octets) (length_fault octets))) past_header.1 in
+    let past_mine = or_none (mine_fault octets w)
+    (option_or (uplink_tid_fault octets) (length_fault octets)) past_kind.1 in
+    let past_tid = or_none (uplink_tid_fault octets) (length_fault octets) past_mine.1 in
+    let mine = both (is_addressed octets) (is_open w (sender_of octets))
+    (none_where (is_mine octets w) NotMine past_mine.0) in
     let below = tid_below octets past_tid.0 in
     record { live = mine.1; tid = below }
   where
-    tid_below : (octets : List ℕ) → tid_fault octets ≡ None → tid_of octets < tids
-    tid_below octets f = let t = none_where (nat_lt (tid_of octets) 8) _ f in grind (arith, nat_tests, t)
+    tid_below : (octets : List ℕ) → uplink_tid_fault octets ≡ None → tid_in_control octets < tids_of_station
+    tid_below octets f = let t = none_where (nat_lt (tid_in_control octets) 8) _ f in
+        grind (arith, nat_tests, t)
 
-pub received_sound : (octets : List ℕ) (w : World) → IsSound w → IsTaken octets w → IsSound (received octets w)
+pub received_sound : (octets : List ℕ) (w : World) → IsSound w → IsTaken octets w →
+    IsSound (received octets w)
 received_sound octets w sound t =
     let s : ℕ = sender_of octets in
-    let k : ℕ = tid_of octets in
+    let k : ℕ = tid_in_control octets in
     outcome_sound w (place_of s k) 1 (receive_outcome octets w) sound (place_within w sound s k t.tid t.live)
-    (λ station tid t8 none same. not_none (rate_of w s) t.live (ap (λ n. rate_of w n) (sym (same_station station tid s k t8 t.tid same)) ∙ none))
+    (λ station tid t8 none same. not_none (rate_of w s) t.live
+    (ap (λ n. rate_of w n) (sym (same_station station tid s k t8 t.tid same)) ∙ none))
     (arrived_fair _ _ _ (reordering_of w s k) (sound.orderly (place_of s k)))
 
 -- ---- a timeout
@@ -152,9 +172,11 @@ due_stores now r due none =
 
 pub expired_sound : (place : ℕ) (w : World) → IsSound w → IsExpiring place w → IsSound (expired_at place w)
 expired_sound place w sound x =
-    subst (λ n. IsSound (with_outcome place (timeout_outcome place w) (record w { frames = n }))) (same w.frames)
+    subst (λ n. IsSound (with_outcome place (timeout_outcome place w) (record w { frames = n })))
+    (same w.frames)
     (outcome_sound w place 0 (timeout_outcome place w) sound x.within
-    (λ station tid t8 none same. due_stores w.clock (reordering_at w place) x.due (ap (λ n. (reordering_at w n).stored) (sym same) ∙ sound.closed station tid t8 none))
+    (λ station tid t8 none same. due_stores w.clock (reordering_at w place) x.due
+    (ap (λ n. (reordering_at w n).stored) (sym same) ∙ sound.closed station tid t8 none))
     (timed_out_fair w.clock (reordering_at w place) (sound.orderly place)))
   where
     same : (n : ℕ) → n + 0 ≡ n
@@ -162,74 +184,95 @@ expired_sound place w sound x =
 
 -- ---- a station is opened
 
-pub begun_length : (n station window start : ℕ) (rs : List Reordering) → length (begun n station window start rs) ≡ length rs
+pub begun_length : (n station window start : ℕ) (rs : List Reordering) →
+    length (begun n station window start rs) ≡ length rs
 begun_length zero station window start rs = refl
 begun_length (suc n) station window start rs =
-    length-set (begun n station window start rs) (place_of station n) (new_reordering start window) ∙ begun_length n station window start rs
+    length-set (begun n station window start rs) (place_of station n) (new_reordering start window)
+    ∙ begun_length n station window start rs
 
-pub begun_cases : (P : Reordering → Type 0) (n station window start place : ℕ) (rs : List Reordering) (d : Reordering) → P (new_reordering start window) → P (get_or rs place d) →
+pub begun_cases : (P : Reordering → Type 0) (n station window start place : ℕ) (rs : List Reordering)
+    (d : Reordering) → P (new_reordering start window) → P (get_or rs place d) →
     P (get_or (begun n station window start rs) place d)
 begun_cases P zero station window start place rs d new old = old
 begun_cases P (suc n) station window start place rs d new old =
-    set_cases P (begun n station window start rs) (place_of station n) place (new_reordering start window) d new (begun_cases P n station window start place rs d new old)
+    set_cases P (begun n station window start rs) (place_of station n) place
+    (new_reordering start window) d new (begun_cases P n station window start place rs d new old)
 
 -- the reorderings of other stations stay, and so do those of TIDs that are not among the first n
-pub begun_other : (n station window start place : ℕ) (rs : List Reordering) (d : Reordering) → ((t : ℕ) → t < n → place ≢ place_of station t) →
+pub begun_other : (n station window start place : ℕ) (rs : List Reordering) (d : Reordering) →
+    ((t : ℕ) → t < n → place ≢ place_of station t) →
     get_or (begun n station window start rs) place d ≡ get_or rs place d
 begun_other zero station window start place rs d other = refl
 begun_other (suc n) station window start place rs d other =
-    get_or-set_other (begun n station window start rs) (place_of station n) place (new_reordering start window) d (other n (omega arith))
+    get_or-set_other (begun n station window start rs) (place_of station n) place
+    (new_reordering start window) d (other n (omega arith))
     ∙ begun_other n station window start place rs d (λ t below. other t (omega (arith, below)))
 
-pub begun_here : (n station window start tid : ℕ) (rs : List Reordering) (d : Reordering) → tid < n → n ≤ tids → place_of station n ≤ length rs →
+pub begun_here : (n station window start tid : ℕ) (rs : List Reordering) (d : Reordering) → tid < n →
+    n ≤ tids_of_station → place_of station n ≤ length rs →
     get_or (begun n station window start rs) (place_of station tid) d ≡ new_reordering start window
 begun_here zero station window start tid rs d below most within = absurd (omega (arith, below))
 begun_here (suc n) station window start tid rs d below most within =
     elim (before_or_last tid n below) [
       | inl before ↦
-          get_or-set_other (begun n station window start rs) (place_of station n) (place_of station tid) (new_reordering start window) d (λ e. omega (arith, e, before))
+          get_or-set_other (begun n station window start rs) (place_of station n) (place_of station tid)
+          (new_reordering start window) d (λ e. omega (arith, e, before))
           ∙ begun_here n station window start tid rs d before (omega (arith, most)) (omega (arith, within))
       | inr last ↦
-          let inside : place_of station n < length (begun n station window start rs) = let same = begun_length n station window start rs in omega (arith, within, same) in
+          let inside : place_of station n < length (begun n station window start rs) = let same =
+          begun_length n station window start rs in omega (arith, within, same) in
           ap (λ t. get_or (begun (suc n) station window start rs) (place_of station t) d) last
-          ∙ get_or-set_same (begun n station window start rs) (place_of station n) (new_reordering start window) d inside
+          ∙ get_or-set_same (begun n station window start rs) (place_of station n)
+          (new_reordering start window) d inside
     ]
   where
     before_or_last : (a b : ℕ) → a < suc b → (a < b) ⊎ (a ≡ b)
     before_or_last a b below = grind (arith, below)
 
 -- where nothing was stored of the station, as much is stored as before
-begun_held : (n station window start : ℕ) (rs : List Reordering) → n ≤ tids → place_of station tids ≤ length rs →
-    ((t : ℕ) → t < tids → (get_or rs (place_of station t) unopened).stored ≡ []) →
-    sum_by (λ (r : Reordering). length r.stored) (begun n station window start rs) ≡ sum_by (λ (r : Reordering). length r.stored) rs
+begun_held : (n station window start : ℕ) (rs : List Reordering) → n ≤ tids_of_station →
+    place_of station tids_of_station ≤ length rs →
+    ((t : ℕ) → t < tids_of_station → (get_or rs (place_of station t) unopened).stored ≡ []) →
+    sum_by (λ (r : Reordering). length r.stored) (begun n station window start rs)
+    ≡ sum_by (λ (r : Reordering). length r.stored) rs
 begun_held zero station window start rs most within none = refl
 begun_held (suc n) station window start rs most within none =
     let d : Reordering = unopened in
-    let less : n < tids = omega (arith, most) in
-    let inside : place_of station n < length (begun n station window start rs) = let same = begun_length n station window start rs in omega (arith, within, same, less) in
-    let sums = held_after (begun n station window start rs) (place_of station n) (new_reordering start window) d inside in
+    let less : n < tids_of_station = omega (arith, most) in
+    let inside : place_of station n < length (begun n station window start rs) = let same =
+    begun_length n station window start rs in omega (arith, within, same, less) in
+    let sums = held_after (begun n station window start rs) (place_of station n)
+    (new_reordering start window) d inside in
     let here : length (get_or (begun n station window start rs) (place_of station n) d).stored ≡ 0 =
-    ap (λ (r : Reordering). length r.stored) (begun_other n station window start (place_of station n) rs d (λ t below e. omega (arith, below, e)))
+    ap (λ (r : Reordering). length r.stored) (begun_other n station window start (place_of station n) rs d
+    (λ t below e. omega (arith, below, e)))
     ∙ ap length (none n less) in
     let rest = begun_held n station window start rs (omega (arith, less)) within none in
     omega (arith, sums, here, rest)
 
--- a station without fault is one of those that there are, its window is not 0, its first number is a number, and it is not open
+-- a station without fault is one of those that there are, its window is not 0, its first number is a number,
+-- and it is not open
 pub record IsOpening (station window start : ℕ) (w : World) : Type 0 where
   pub within : station < length w.rates
   pub some : 1 ≤ window
   pub low : start ≤ 4095
   pub shut : rate_of w station ≡ None
 
-pub opening : (station window start : ℕ) (w : World) → open_fault station window start w ≡ None → IsOpening station window start w
+pub opening : (station window start : ℕ) (w : World) → open_fault station window start w ≡ None →
+    IsOpening station window start w
 opening station window start w =
-    choose (λ f. f ≡ None → IsOpening station window start w) (not (nat_lt station (length w.rates))) (Some BadStation)
-    (if not (nat_le 1 window && nat_le window 256) then Some BadWindow else (if nat_lt 4095 start then Some BadStart else (if is_open w station then Some Live else None)))
+    choose (λ f. f ≡ None → IsOpening station window start w) (not (nat_lt station (length w.rates)))
+    (Some BadStation)
+    (if not (nat_le 1 window && nat_le window 256) then Some BadWindow
+    else (if nat_lt 4095 start then Some BadStart else (if is_open w station then Some Live else None)))
     (λ _ e. absurd (grind (arith, e)))
-    (λ inside. choose (λ f. f ≡ None → IsOpening station window start w) (not (nat_le 1 window && nat_le window 256)) (Some BadWindow)
+    (λ inside. choose (λ f. f ≡ None → IsOpening station window start w)
+    (not (nat_le 1 window && nat_le window 256)) (Some BadWindow)
     (if nat_lt 4095 start then Some BadStart else (if is_open w station then Some Live else None))
     (λ _ e. absurd (grind (arith, e)))
-    (λ fits. choose (λ f. f ≡ None → IsOpening station window start w) (nat_lt 4095 start) (Some BadStart) (if is_open w station then Some Live else None)
+    (λ fits. choose (λ f. f ≡ None → IsOpening station window start w) (nat_lt 4095 start) (Some BadStart)
+    (if is_open w station then Some Live else None)
     (λ _ e. absurd (grind (arith, e)))
     (λ low. choose (λ f. f ≡ None → IsOpening station window start w) (is_open w station) (Some Live) None
     (λ _ e. absurd (grind (arith, e)))
@@ -240,24 +283,32 @@ opening station window start w =
       shut = none_of (rate_of w station) shut;
     }))))
 
-pub opened_sound : (station window start : ℕ) (w : World) → IsSound w → IsOpening station window start w → IsSound (opened station window start w)
+pub opened_sound : (station window start : ℕ) (w : World) → IsSound w → IsOpening station window start w →
+    IsSound (opened station window start w)
 opened_sound station window start w sound x =
     let d : Reordering = unopened in
     let some = x.some in
     let low = x.low in
-    let room : place_of station tids ≤ length w.reorderings = let within = x.within in let size = sound.size in omega (arith, within, size) in
+    let room : place_of station tids_of_station ≤ length w.reorderings = let within = x.within in
+    let size = sound.size in omega (arith, within, size) in
     record {
-      size = begun_length tids station window start w.reorderings ∙ sound.size ∙ ap (λ n. tids * n) (sym (length-set w.rates station (Some lowest_rate)));
-      orderly = λ place. begun_cases IsOrderly tids station window start place w.reorderings d (record { window = some; rising = tt }) (sound.orderly place);
-      bound = λ place. begun_cases (λ (r : Reordering). r.start ≤ 4095 + (w.up + w.missing)) tids station window start place w.reorderings d (omega (arith, low)) (sound.bound place);
+      size = begun_length tids_of_station station window start w.reorderings ∙ sound.size
+          ∙ ap (λ n. tids_of_station * n) (sym (length-set w.rates station (Some lowest_rate)));
+      orderly = λ place. begun_cases ReorderingIsOrderly tids_of_station station window start place
+          w.reorderings d (record { window = some; rising = tt }) (sound.orderly place);
+      bound = λ place. begun_cases (λ (r : Reordering). r.start ≤ 4095 + (w.up + w.missing)) tids_of_station
+          station window start place w.reorderings d (omega (arith, low)) (sound.bound place);
       closed = λ other tid t8 none.
-          begun_cases (λ (r : Reordering). r.stored ≡ []) tids station window start (place_of other tid) w.reorderings d refl
+          begun_cases (λ (r : Reordering). r.stored ≡ []) tids_of_station station window start
+          (place_of other tid) w.reorderings d refl
           (sound.closed other tid t8 (shut_before other none));
       each_frame = sound.each_frame ∙ ap (λ n. w.up + w.back + n)
-          (sym (begun_held tids station window start w.reorderings (omega arith) room (λ t t8. sound.closed station t t8 x.shut)));
+          (sym (begun_held tids_of_station station window start w.reorderings (omega arith) room
+          (λ t t8. sound.closed station t t8 x.shut)));
     }
   where
-    shut_before : (other : ℕ) → get_or (set w.rates station (Some lowest_rate)) other None ≡ None → rate_of w other ≡ None
+    shut_before : (other : ℕ) → get_or (set w.rates station (Some lowest_rate)) other None ≡ None →
+        rate_of w other ≡ None
     shut_before other none =
         elim (same_or_not other station) [
           | inl same ↦ ap (λ n. rate_of w n) same ∙ x.shut
@@ -266,21 +317,25 @@ opened_sound station window start w sound x =
 
 -- ---- a rate
 
-pub rate_sound : (station : ℕ) (rate : Rate) (w : World) → IsSound w → is_open w station ≡ true → IsSound (record w { rates = set w.rates station (Some rate) })
+pub rate_sound : (station : ℕ) (rate : Rate) (w : World) → IsSound w → is_open w station ≡ true →
+    IsSound (record w { rates = set w.rates station (Some rate) })
 rate_sound station rate w sound live = record {
-  size = sound.size ∙ ap (λ n. tids * n) (sym (length-set w.rates station (Some rate)));
+  size = sound.size ∙ ap (λ n. tids_of_station * n) (sym (length-set w.rates station (Some rate)));
   orderly = sound.orderly;
   bound = sound.bound;
   closed = λ other tid t8 none. sound.closed other tid t8 (shut_before other none);
   each_frame = sound.each_frame;
 }
   where
-    shut_before : (other : ℕ) → get_or (set w.rates station (Some rate)) other None ≡ None → rate_of w other ≡ None
+    shut_before : (other : ℕ) → get_or (set w.rates station (Some rate)) other None ≡ None →
+        rate_of w other ≡ None
     shut_before other none =
         elim (same_or_not other station) [
           | inl same ↦
               absurd (not_none (get_or (set w.rates station (Some rate)) other None)
-              (ap (λ n. is_some (get_or (set w.rates station (Some rate)) n None)) same ∙ ap is_some (get_or-set_same w.rates station (Some rate) None (some_within w.rates station live))) none)
+              (ap (λ n. is_some (get_or (set w.rates station (Some rate)) n None)) same
+              ∙ ap is_some (get_or-set_same w.rates station (Some rate) None
+              (some_within w.rates station live))) none)
           | inr differ ↦ sym (get_or-set_other w.rates station other (Some rate) None differ) ∙ none
         ]
 
@@ -288,29 +343,35 @@ rate_sound station rate w sound live = record {
 
 pub new_sound : (stations : ℕ) → IsSound (new_world stations)
 new_sound stations = record {
-  size = length-replicate (tids * stations) unopened ∙ ap (λ n. tids * n) (sym (length-replicate {A = Option Rate} stations None));
-  orderly = λ place. subst IsOrderly (sym (here place)) (record { window = omega arith; rising = tt });
+  size = length-replicate (tids_of_station * stations) unopened
+      ∙ ap (λ n. tids_of_station * n) (sym (length-replicate {A = Option Rate} stations None));
+  orderly = λ place. subst ReorderingIsOrderly (sym (here place))
+      (record { window = omega arith; rising = tt });
   bound = λ place. subst (λ (r : Reordering). r.start ≤ 4095 + (0 + 0)) (sym (here place)) (omega arith);
   closed = λ station tid t8 none. ap (λ (r : Reordering). r.stored) (here (place_of station tid));
-  each_frame = let none = sum_by-replicate (λ (r : Reordering). length r.stored) (tids * stations) unopened in omega (arith, none);
+  each_frame = let none = sum_by-replicate (λ (r : Reordering). length r.stored)
+      (tids_of_station * stations) unopened in omega (arith, none);
 }
   where
     inside_or_past : (a b : ℕ) → (a < b) ⊎ (b ≤ a)
     inside_or_past a b = grind arith
 
-    here : (place : ℕ) → get_or (replicate (tids * stations) unopened) place unopened ≡ unopened
+    here : (place : ℕ) → get_or (replicate (tids_of_station * stations) unopened) place unopened ≡ unopened
     here place =
-        elim (inside_or_past place (tids * stations)) [
-          | inl inside ↦ get_or-replicate (tids * stations) place unopened unopened inside
-          | inr past ↦ get_or_past (replicate (tids * stations) unopened) place unopened
-              (let size = length-replicate (tids * stations) unopened in omega (arith, size, past))
+        elim (inside_or_past place (tids_of_station * stations)) [
+          | inl inside ↦ get_or-replicate (tids_of_station * stations) place unopened unopened inside
+          | inr past ↦ get_or_past (replicate (tids_of_station * stations) unopened) place unopened
+              (let size = length-replicate (tids_of_station * stations) unopened in omega (arith, size, past))
         ]
 
-open_sound : (station window start : ℕ) (w : World) (f : Option OpenFault) → IsSound w → open_fault station window start w ≡ f → IsSound (after_open f station window start w)
-open_sound station window start w None sound e = opened_sound station window start w sound (opening station window start w e)
+open_sound : (station window start : ℕ) (w : World) (f : Option OpenFault) → IsSound w →
+    open_fault station window start w ≡ f → IsSound (after_open f station window start w)
+open_sound station window start w None sound e =
+    opened_sound station window start w sound (opening station window start w e)
 open_sound station window start w (Some fault) sound e = sound
 
-receive_sound : (octets : List ℕ) (w : World) (f : Option UplinkFault) → IsSound w → receive_fault octets w ≡ f → IsSound (after_receive f octets w)
+receive_sound : (octets : List ℕ) (w : World) (f : Option UplinkFault) → IsSound w →
+    receive_fault octets w ≡ f → IsSound (after_receive f octets w)
 receive_sound octets w None sound e = received_sound octets w sound (taken octets w e)
 receive_sound octets w (Some fault) sound e = sound
 
@@ -320,12 +381,20 @@ expire_sound w (Some place) sound e = expired_sound place w sound (expiring plac
 
 pub call_sound : (call : Call) (w : World) → IsSound w → IsSound (after_call call w)
 unfolding after_call
-call_sound (Open station window start) w sound = open_sound station window start w (open_fault station window start w) sound refl
+call_sound (Open station window start) w sound =
+    open_sound station window start w (open_fault station window start w) sound refl
 call_sound (SetRate station rate) w sound =
-    choose IsSound (is_open w station) (record w { rates = set w.rates station (Some rate) }) w (rate_sound station rate w sound) (λ _. sound)
+    choose IsSound (is_open w station) (record w { rates = set w.rates station (Some rate) }) w
+    (rate_sound station rate w sound) (λ _. sound)
 call_sound (Receive octets) w sound = receive_sound octets w (receive_fault octets w) sound refl
 call_sound (Tick by) w sound =
-    record { size = sound.size; orderly = sound.orderly; bound = sound.bound; closed = sound.closed; each_frame = sound.each_frame }
+    record {
+      size = sound.size;
+      orderly = sound.orderly;
+      bound = sound.bound;
+      closed = sound.closed;
+      each_frame = sound.each_frame;
+    }
 call_sound Expire w sound = expire_sound w (first_due w) sound refl
 
 pub calls_sound : (calls : List Call) (w : World) → IsSound w → IsSound (after_calls w calls)

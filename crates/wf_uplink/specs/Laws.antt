@@ -1,12 +1,13 @@
 -- What holds whatever calls are made.
 use Rattle.std.specs.Prelude.{◌≡◌, ℕ, ◌+◌, ◌%◌, ◌<◌, ◌≤◌, ◌==◌, nat_lt, nat_le, ◌&&◌, ◌⊎◌, false, List, [], ◌∷◌, length, sum_by, flat_map, Option, Some, None, if◌then◌else◌}
-use Rattle.wf_rules.specs.Airtime.{Rate, data_charge}
+use Rattle.wf_def_air.specs.Airtime.{Rate, data_charge}
 use Rattle.wf_uplink.specs.Reordering.{Passed, Released, GivenUp, number_read}
 use Rattle.wf_uplink.specs.World.{World, Delivery, Call, Answer, Received, TimedOut, new_world, after_calls, answers, reordering_of, rate_of, held, released_in, given_up_in, count_of, around_octets}
 
 -- ---- numbers that are told
 
--- the items tell of each number from `from` to below `to`, in their order: each item begins where the one before it ended
+-- the items tell of each number from `from` to below `to`, in their order: each item begins where the one
+-- before it ended
 abbrev pub Covers : ℕ → ℕ → List Passed → Type 0
 Covers from to [] = from ≡ to
 Covers from to (Released id number ∷ later) = (number ≡ from) × Covers (from + 1) to later
@@ -33,7 +34,8 @@ times_released n (GivenUp first count ∷ later) = times_released n later
 abbrev pub times_given_up : ℕ → List Passed → ℕ
 times_given_up n [] = 0
 times_given_up n (Released id number ∷ later) = times_given_up n later
-times_given_up n (GivenUp first count ∷ later) = count_of (nat_le first n && nat_lt n (first + count)) + times_given_up n later
+times_given_up n (GivenUp first count ∷ later) =
+    count_of (nat_le first n && nat_lt n (first + count)) + times_given_up n later
 
 -- ---- what answers tell
 
@@ -75,30 +77,39 @@ old_by _ = 0
 
 -- ---- the laws
 
--- From a world in which a station's TID is at its first number: after every list of calls, what is told of it stands in the order of the numbers, the numbers of the frames
--- that went up rise strictly, and each number from the first to below B went up once or was named by one gap, and no other was.
+-- From a world in which a station's TID is at its first number: after every list of calls, what is told of it
+-- stands in the order of the numbers, the numbers of the frames that went up rise strictly, and each number
+-- from the first to below B went up once or was named by one gap, and no other was.
 pub record TidLaw (w : World) (station tid first : ℕ) (calls : List Call) : Type 0 where
-  pub in_order : Covers first (reordering_of (after_calls w calls) station tid).start (all_told station tid w calls)
+  pub in_order : Covers first (reordering_of (after_calls w calls) station tid).start
+      (all_told station tid w calls)
   pub rises : RisesFrom first (released_numbers (all_told station tid w calls))
   pub each_once : (n : ℕ) → first ≤ n → n < (reordering_of (after_calls w calls) station tid).start →
       times_released n (all_told station tid w calls) + times_given_up n (all_told station tid w calls) ≡ 1
   pub no_other : (n : ℕ) → (n < first) ⊎ ((reordering_of (after_calls w calls) station tid).start ≤ n) →
       times_released n (all_told station tid w calls) + times_given_up n (all_told station tid w calls) ≡ 0
 
--- After every list of calls each accepted frame went up, was given back or is stored, and the totals count what the answers tell.
+-- After every list of calls each accepted frame went up, was given back or is stored, and the totals count
+-- what the answers tell.
 pub record TotalsLaw (stations : ℕ) (calls : List Call) : Type 0 where
   pub each_frame : (after_calls (new_world stations) calls).frames
-      ≡ (after_calls (new_world stations) calls).up + (after_calls (new_world stations) calls).back + held (after_calls (new_world stations) calls)
-  pub frames : (after_calls (new_world stations) calls).frames ≡ sum_by accepted_by (answers (new_world stations) calls)
-  pub up : (after_calls (new_world stations) calls).up ≡ sum_by released_by (answers (new_world stations) calls)
+      ≡ (after_calls (new_world stations) calls).up + (after_calls (new_world stations) calls).back + held
+      (after_calls (new_world stations) calls)
+  pub frames : (after_calls (new_world stations) calls).frames
+      ≡ sum_by accepted_by (answers (new_world stations) calls)
+  pub up : (after_calls (new_world stations) calls).up
+      ≡ sum_by released_by (answers (new_world stations) calls)
   pub old : (after_calls (new_world stations) calls).back ≡ sum_by old_by (answers (new_world stations) calls)
-  pub missing : (after_calls (new_world stations) calls).missing ≡ sum_by given_up_by (answers (new_world stations) calls)
+  pub missing : (after_calls (new_world stations) calls).missing
+      ≡ sum_by given_up_by (answers (new_world stations) calls)
 
 -- a frame is charged what its octets, and the eight around them, take at its station's rate
 abbrev pub IsCharged : World → List ℕ → Delivery → Type 0
-IsCharged w octets d = (rate : Rate) × (rate_of w d.station ≡ Some rate) × (d.air ≡ data_charge rate (length octets + around_octets) false)
+IsCharged w octets d = (rate : Rate) × (rate_of w d.station ≡ Some rate) ×
+    (d.air ≡ data_charge rate (length octets + around_octets) false)
 
--- the twelve bits of a number stand for it where it is in [b - 2048, b + 2047], and for none where it is below b
+-- the twelve bits of a number stand for it where it is in [b - 2048, b + 2047], and for none where it is
+-- below b
 pub record ReadsRight (n b : ℕ) : Type 0 where
   pub ahead : b ≤ n → n ≤ b + 2047 → number_read (n % 4096) b ≡ Some n
   pub behind : n < b → b ≤ n + 2048 → number_read (n % 4096) b ≡ None

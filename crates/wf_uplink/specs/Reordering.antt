@@ -1,6 +1,7 @@
--- The reordering of one traffic identifier (TID) by sequence numbers that have no bound (IEEE 802.11-2012, 9.21.7.6), with a time limit that is this project's own.
+-- The reordering of one traffic identifier (TID) by sequence numbers that have no bound (IEEE 802.11-2012,
+-- 9.21.7.6), with a time limit that is this project's own.
 use Rattle.std.specs.Prelude.{ℕ, ◌+◌, ◌-◌, ◌==◌, nat_lt, nat_le, ◌&&◌, ◌||◌, not, Bool, true, false, List, [], ◌∷◌, ◌++◌, Option, Some, None, if◌then◌else◌}
-use Rattle.wf_seq12.specs.Distance.{distance}
+use Rattle.wf_octets_seq12.specs.Distance.{distance}
 
 -- a frame that waits for the numbers below its own
 pub record Stored : Type 0 where
@@ -19,7 +20,7 @@ pub data Passed : Type 0 where
   GivenUp : (from : ℕ) → (count : ℕ) → Passed
 
 -- what a number or a timeout leads to
-pub record Outcome : Type 0 where
+pub record ReorderingOutcome : Type 0 where
   pub passed : List Passed  -- in the order of the numbers
   pub old : Bool  -- whether the frame is given back
   pub after : Reordering
@@ -32,7 +33,8 @@ new_reordering start window = record { start = start; window = window; stored = 
 abbrev pub unopened : Reordering
 unopened = new_reordering 0 256
 
--- The number that twelve bits stand for where B is b: the one congruent to them modulo 4096 in [b - 2048, b + 2047]. None where it is below b.
+-- The number that twelve bits stand for where B is b: the one congruent to them modulo 4096 in [b - 2048, b +
+-- 2047]. None where it is below b.
 abbrev pub number_read : ℕ → ℕ → Option ℕ
 number_read bits b = if nat_le (distance bits b) 2047 then Some (b + distance bits b) else None
 
@@ -49,7 +51,8 @@ is_stored n (x ∷ later) = (x.number == n) || is_stored n later
 -- with one frame more, in the order of the numbers
 abbrev pub with_stored : Stored → List Stored → List Stored
 with_stored new [] = new ∷ []
-with_stored new (x ∷ later) = if nat_lt new.number x.number then new ∷ x ∷ later else x ∷ with_stored new later
+with_stored new (x ∷ later) = if nat_lt new.number x.number then new ∷ x ∷ later
+    else x ∷ with_stored new later
 
 -- those from n on
 abbrev pub stored_from : ℕ → List Stored → List Stored
@@ -77,24 +80,33 @@ first_hole n (x ∷ later) = if x.number == n then first_hole (n + 1) later else
 abbrev pub gap : ℕ → ℕ → List Passed
 gap from to = if nat_lt from to then GivenUp from (to - from) ∷ [] else []
 
--- what is told of the numbers from `from` to below `to`: each one stored is released, and each longest run of others is given up as one
-abbrev pub told : ℕ → ℕ → List Stored → List Passed
-told from to [] = gap from to
-told from to (x ∷ later) =
-    if nat_lt x.number to then gap from x.number ++ (Released x.id x.number ∷ told (x.number + 1) to later) else gap from to
+-- what is told of the numbers from `from` to below `to`: each one stored is released, and each longest run of
+-- others is given up as one
+abbrev pub holes_told : ℕ → ℕ → List Stored → List Passed
+holes_told from to [] = gap from to
+holes_told from to (x ∷ later) =
+    if nat_lt x.number to then gap from x.number ++
+    (Released x.id x.number ∷ holes_told (x.number + 1) to later) else gap from to
 
-abbrev pub passed_to : ℕ → Reordering → Outcome
+abbrev pub passed_to : ℕ → Reordering → ReorderingOutcome
 passed_to b r =
-    record { passed = told r.start b r.stored; old = false; after = record r { start = b; stored = stored_from b r.stored } }
+    record {
+      passed = holes_told r.start b r.stored;
+      old = false;
+      after =
+          record r { start = b; stored = stored_from b r.stored };
+    }
 
--- B moves to n, as by a BlockAckReq: what is stored below goes up, then what stands from n on without a hole, and B moves past that
-abbrev pub moved_to : ℕ → Reordering → Outcome
+-- B moves to n, as by a BlockAckReq: what is stored below goes up, then what stands from n on without a hole,
+-- and B moves past that
+abbrev pub moved_to : ℕ → Reordering → ReorderingOutcome
 moved_to n r = passed_to (first_hole n (stored_from n r.stored)) r
 
 -- it waits anew where B moved, and where nothing was stored before
-abbrev pub waiting : ℕ → Reordering → Outcome → Outcome
+abbrev pub waiting : ℕ → Reordering → ReorderingOutcome → ReorderingOutcome
 waiting now before o =
-    if not (before.start == o.after.start) || is_none_stored before.stored then record o { after = record o.after { since = now } } else o
+    if not (before.start == o.after.start) || is_none_stored before.stored
+    then record o { after = record o.after { since = now } } else o
 
 -- ---- a number arrives
 
@@ -103,36 +115,38 @@ abbrev pub with_frame : ℕ → ℕ → Reordering → Reordering
 with_frame n id r = record r { stored = with_stored (record { number = n; id = id }) r.stored }
 
 -- what stands at B without a hole goes up
-abbrev pub settled : Reordering → Outcome
+abbrev pub settled : Reordering → ReorderingOutcome
 settled r = moved_to r.start r
 
 -- one outcome after another
-abbrev pub followed_by : Outcome → Outcome → Outcome
+abbrev pub followed_by : ReorderingOutcome → ReorderingOutcome → ReorderingOutcome
 followed_by first next = record next { passed = first.passed ++ next.passed }
 
 -- the frame of number n is stored, and what stands at B without a hole goes up
-abbrev pub then_stored : ℕ → ℕ → Outcome → Outcome
+abbrev pub then_stored : ℕ → ℕ → ReorderingOutcome → ReorderingOutcome
 then_stored n id o = followed_by o (settled (with_frame n id o.after))
 
 -- where number n is past the window, the window moves so that n is its last
-abbrev pub with_room_for : ℕ → Reordering → Outcome
+abbrev pub with_room_for : ℕ → Reordering → ReorderingOutcome
 with_room_for n r =
-    if nat_lt n (r.start + r.window) then record { passed = []; old = false; after = r } else moved_to (n + 1 - r.window) r
+    if nat_lt n (r.start + r.window) then record { passed = []; old = false; after = r }
+    else moved_to (n + 1 - r.window) r
 
 -- number n, at B or past it, arrives: the window has room for it, and it is stored
-abbrev pub stored_at : ℕ → ℕ → Reordering → Outcome
+abbrev pub stored_at : ℕ → ℕ → Reordering → ReorderingOutcome
 stored_at n id r = then_stored n id (with_room_for n r)
 
-abbrev pub given_back : Reordering → Outcome
+abbrev pub given_back : Reordering → ReorderingOutcome
 given_back r = record { passed = []; old = true; after = r }
 
 -- it is given back where it is below B, and where it is stored already
-abbrev pub number_arrived : Option ℕ → ℕ → ℕ → Reordering → Outcome
+abbrev pub number_arrived : Option ℕ → ℕ → ℕ → Reordering → ReorderingOutcome
 number_arrived None id now r = given_back r
-number_arrived (Some n) id now r = if is_stored n r.stored then given_back r else waiting now r (stored_at n id r)
+number_arrived (Some n) id now r = if is_stored n r.stored then given_back r
+    else waiting now r (stored_at n id r)
 
 -- twelve bits arrive, of the frame with this id
-abbrev pub arrived : ℕ → ℕ → ℕ → Reordering → Outcome
+abbrev pub arrived : ℕ → ℕ → ℕ → Reordering → ReorderingOutcome
 arrived bits id now r = number_arrived (number_read bits r.start) id now r
 
 -- ---- the time limit
@@ -149,5 +163,5 @@ abbrev pub is_due : ℕ → Reordering → Bool
 is_due now r = not (is_none_stored r.stored) && nat_le (r.since + time_limit) now
 
 -- B moves to the least number stored
-abbrev pub timed_out : ℕ → Reordering → Outcome
+abbrev pub timed_out : ℕ → Reordering → ReorderingOutcome
 timed_out now r = waiting now r (moved_to (least_stored r.start r.stored) r)

@@ -1,8 +1,8 @@
 -- What holds of every world that calls lead to.
 use Rattle.std.specs.Prelude.{◌≡◌, ℕ, ◌+◌, ◌*◌, ◌^◌, ◌-◌, ◌<◌, ◌≤◌, List, [], ◌∷◌, length, slice_index, Option, None, Some}
-use Rattle.wf_rules.specs.Airtime.{Rate}
+use Rattle.wf_def_air.specs.Airtime.{Rate}
 use Rattle.wf_uplink.specs.Reordering.{Reordering, Stored, waits_since_of}
-use Rattle.wf_uplink.specs.World.{World, tids, rate_of, reordering_at, reordering_of, held}
+use Rattle.wf_uplink.specs.World.{World, tids_of_station, rate_of, reordering_at, reordering_of, held}
 
 -- the numbers stored rise, and the first is at least n
 abbrev pub StoredFrom : ℕ → List Stored → Type 0
@@ -10,16 +10,18 @@ StoredFrom n [] = Unit {0}
 StoredFrom n (x ∷ later) = (n ≤ x.number) × StoredFrom (x.number + 1) later
 
 -- the window has a number, and what is stored stands past B in rising order
-pub record IsOrderly (r : Reordering) : Type 0 where
+pub record ReorderingIsOrderly (r : Reordering) : Type 0 where
   pub window : 1 ≤ r.window
   pub rising : StoredFrom r.start r.stored
 
--- Each reordering is in order, B has moved by what is told, a station that is not opened has nothing stored, and each frame is counted once.
+-- Each reordering is in order, B has moved by what is told, a station that is not opened has nothing stored,
+-- and each frame is counted once.
 pub record IsSound (w : World) : Type 0 where
-  pub size : length w.reorderings ≡ tids * length w.rates
-  pub orderly : (place : ℕ) → IsOrderly (reordering_at w place)
+  pub size : length w.reorderings ≡ tids_of_station * length w.rates
+  pub orderly : (place : ℕ) → ReorderingIsOrderly (reordering_at w place)
   pub bound : (place : ℕ) → (reordering_at w place).start ≤ 4095 + (w.up + w.missing)
-  pub closed : (station tid : ℕ) → tid < tids → rate_of w station ≡ None → (reordering_of w station tid).stored ≡ []
+  pub closed : (station tid : ℕ) → tid < tids_of_station → rate_of w station ≡ None →
+      (reordering_of w station tid).stored ≡ []
   pub each_frame : w.frames ≡ w.up + w.back + held w
 
 -- the clock is below this, in microseconds
@@ -41,4 +43,12 @@ pub record IsWatched (w : World) (waits : List ℕ) : Type 0 where
 
 abbrev pub world_of : ℕ → List (Option Rate) → List Reordering → ℕ → ℕ → ℕ → ℕ → World
 world_of clock rates reorderings frames up back missing =
-    record { clock = clock; rates = rates; reorderings = reorderings; frames = frames; up = up; back = back; missing = missing }
+    record {
+      clock = clock;
+      rates = rates;
+      reorderings = reorderings;
+      frames = frames;
+      up = up;
+      back = back;
+      missing = missing;
+    }

@@ -1,6 +1,6 @@
 -- How the reordering buffer, whose numbers have twelve bits, stands for a reordering.
 use Rattle.std.specs.Prelude.{◌≡◌, ℕ, ◌+◌, ◌%◌, List, [], ◌∷◌, Option, None, Some}
-use Rattle.wf_reorder.specs.Buffer.{Buffer, IsSettled}
+use Rattle.wf_recv_agreement.specs.Buffer.{Buffer, NothingAtStart}
 use Rattle.wf_uplink.specs.Reordering.{Reordering, Stored, Passed, Released}
 
 -- what is stored at places, the first of which is that of number b
@@ -15,11 +15,17 @@ frames_from b [] = []
 frames_from b (id ∷ ids) = Released id b ∷ frames_from (b + 1) ids
 
 abbrev pub reordering_of_buffer : ℕ → ℕ → ℕ → Buffer → Reordering
-reordering_of_buffer start window since b = record { start = start; window = window; stored = numbered start b.places; since = since }
+reordering_of_buffer start window since b = record {
+  start = start;
+  window = window;
+  stored =
+      numbered start b.places;
+  since = since;
+}
 
 -- the buffer is that of the window from B on: its start is B modulo 4096
-pub record IsKept (start window : ℕ) (b : Buffer) : Type 0 where
+pub record IsBufferFrom (start window : ℕ) (b : Buffer) : Type 0 where
   pub capacity : b.capacity ≡ 256
   pub first : b.start ≡ start % 4096
   pub size : b.size ≡ window
-  pub settled : IsSettled b
+  pub settled : NothingAtStart b

@@ -1,13 +1,14 @@
--- What stations send to the access point: the reorderings of all, the clock, what is charged, the totals; and what each call answers.
-use Rattle.std.specs.Prelude.{ℕ, zero, suc, ◌+◌, ◌*◌, ◌/◌, ◌%◌, nat_lt, nat_le, ◌&&◌, not, Bool, false, List, [], ◌∷◌, length, replicate, slice_set, slice_index_or, sum_by, position, Option, Some, None, is_some, Result, Ok, Err, if◌then◌else◌}
+-- What stations send to the access point: the reorderings of all, the clock, what is charged, the totals; and
+-- what each call answers.
+use Rattle.std.specs.Prelude.{ℕ, zero, suc, ◌+◌, ◌*◌, ◌/◌, ◌%◌, nat_lt, nat_le, ◌&&◌, not, Bool, false, List, [], ◌∷◌, length, replicate, slice_set, slice_index_or, sum_by, position, Option, Some, None, is_some, if◌then◌else◌}
 use Rattle.std.specs.Option.{option_or}
-use Rattle.wf_rules.specs.Airtime.{Rate, lowest_rate, data_charge}
+use Rattle.wf_def_air.specs.Airtime.{Rate, lowest_rate, data_charge}
 use Rattle.wf_uplink.specs.declared.fault.OpenFault.{OpenFault}
 use Rattle.wf_uplink.specs.declared.fault.OpenFault.TheVariants.{BadStation, BadWindow, BadStart, Live}
 use Rattle.wf_uplink.specs.declared.fault.UplinkFault.{UplinkFault}
 use Rattle.wf_uplink.specs.declared.fault.UplinkFault.TheVariants.{NotMine}
-use Rattle.wf_uplink.specs.Frames.{sender_of, is_addressed, tid_of, sequence_of, header_fault, kind_fault, tid_fault, length_fault}
-use Rattle.wf_uplink.specs.Reordering.{Reordering, Passed, Released, GivenUp, Outcome, new_reordering, unopened, arrived, is_due, timed_out}
+use Rattle.wf_uplink.specs.Frames.{sender_of, is_addressed, tid_in_control, sequence_of, header_fault, kind_fault, uplink_tid_fault, length_fault}
+use Rattle.wf_uplink.specs.Reordering.{Reordering, Passed, Released, GivenUp, ReorderingOutcome, new_reordering, unopened, arrived, is_due, timed_out}
 
 pub record World : Type 0 where
   pub clock : ℕ  -- in microseconds
@@ -45,15 +46,15 @@ pub data Answer : Type 0 where
   NoneDue : Answer
 
 -- how many TIDs a station has
-abbrev pub tids : ℕ
-tids = 8
+abbrev pub tids_of_station : ℕ
+tids_of_station = 8
 
 -- no station is opened
 abbrev pub new_world : ℕ → World
 new_world stations = record {
   clock = 0;
   rates = replicate stations None;
-  reorderings = replicate (tids * stations) unopened;
+  reorderings = replicate (tids_of_station * stations) unopened;
   frames = 0;
   up = 0;
   back = 0;
@@ -68,7 +69,7 @@ is_open w station = is_some (rate_of w station)
 
 -- where the reordering of a station's TID stands in the list
 abbrev pub place_of : ℕ → ℕ → ℕ
-place_of station tid = tids * station + tid
+place_of station tid = tids_of_station * station + tid
 
 abbrev pub reordering_at : World → ℕ → Reordering
 reordering_at w place = slice_index_or w.reorderings place unopened
@@ -79,11 +80,6 @@ reordering_of w station tid = reordering_at w (place_of station tid)
 -- how many frames are stored
 abbrev pub held : World → ℕ
 held w = sum_by (λ r. length r.stored) w.reorderings
-
--- the refusal that a result holds
-abbrev pub refusal_of : {T E : Type 0} → Result T E → Option E
-refusal_of (Ok value) = None
-refusal_of (Err fault) = Some fault
 
 -- ---- opening a station
 
@@ -104,7 +100,11 @@ begun (suc n) station window start reorderings =
 -- the station has the lowest rate, and its TIDs begin anew
 abbrev pub opened : ℕ → ℕ → ℕ → World → World
 opened station window start w =
-    record w { rates = slice_set w.rates station (Some lowest_rate); reorderings = begun tids station window start w.reorderings }
+    record w {
+      rates = slice_set w.rates station (Some lowest_rate);
+      reorderings =
+          begun tids_of_station station window start w.reorderings;
+    }
 
 -- ---- a frame is received
 
@@ -119,7 +119,8 @@ mine_fault octets w = if is_mine octets w then None else Some NotMine
 abbrev pub receive_fault : List ℕ → World → Option UplinkFault
 receive_fault octets w =
     option_or (header_fault octets)
-    (option_or (kind_fault octets) (option_or (mine_fault octets w) (option_or (tid_fault octets) (length_fault octets))))
+    (option_or (kind_fault octets) (option_or (mine_fault octets w)
+    (option_or (uplink_tid_fault octets) (length_fault octets))))
 
 -- the octets that go on the air beside a frame's own: its delimiter and its check sequence, four each
 abbrev pub around_octets : ℕ
@@ -144,7 +145,7 @@ abbrev pub count_of : Bool → ℕ
 count_of b = if b then 1 else 0
 
 -- a reordering has this outcome, which is counted
-abbrev pub with_outcome : ℕ → Outcome → World → World
+abbrev pub with_outcome : ℕ → ReorderingOutcome → World → World
 with_outcome place o w = record w {
   reorderings = slice_set w.reorderings place o.after;
   up = w.up + released_in o.passed;
@@ -152,18 +153,21 @@ with_outcome place o w = record w {
   missing = w.missing + given_up_in o.passed;
 }
 
--- what a frame without fault leads to, at the reordering of its station's TID; its id is the number of frames accepted before
-abbrev pub receive_outcome : List ℕ → World → Outcome
-receive_outcome octets w = arrived (sequence_of octets) w.frames w.clock (reordering_of w (sender_of octets) (tid_of octets))
+-- what a frame without fault leads to, at the reordering of its station's TID; its id is the number of frames
+-- accepted before
+abbrev pub receive_outcome : List ℕ → World → ReorderingOutcome
+receive_outcome octets w = arrived (sequence_of octets) w.frames w.clock
+    (reordering_of w (sender_of octets) (tid_in_control octets))
 
 abbrev pub received : List ℕ → World → World
 received octets w =
-    with_outcome (place_of (sender_of octets) (tid_of octets)) (receive_outcome octets w) (record w { frames = w.frames + 1 })
+    with_outcome (place_of (sender_of octets) (tid_in_control octets)) (receive_outcome octets w)
+    (record w { frames = w.frames + 1 })
 
 abbrev pub delivery_of : List ℕ → World → Delivery
 delivery_of octets w = record {
   station = sender_of octets;
-  tid = tid_of octets;
+  tid = tid_in_control octets;
   air = air_of (rate_of w (sender_of octets)) (length octets);
   old = (receive_outcome octets w).old;
   passed = (receive_outcome octets w).passed;
@@ -175,7 +179,7 @@ delivery_of octets w = record {
 abbrev pub first_due : World → Option ℕ
 first_due w = position (is_due w.clock) w.reorderings
 
-abbrev pub timeout_outcome : ℕ → World → Outcome
+abbrev pub timeout_outcome : ℕ → World → ReorderingOutcome
 timeout_outcome place w = timed_out w.clock (reordering_at w place)
 
 abbrev pub expired_at : ℕ → World → World
@@ -183,7 +187,14 @@ expired_at place w = with_outcome place (timeout_outcome place w) w
 
 abbrev pub timeout_of : ℕ → World → Delivery
 timeout_of place w =
-    record { station = place / tids; tid = place % tids; air = 0; old = false; passed = (timeout_outcome place w).passed }
+    record {
+      station = place / tids_of_station;
+      tid = place % tids_of_station;
+      air = 0;
+      old = false;
+      passed =
+          (timeout_outcome place w).passed;
+    }
 
 -- ---- one call
 
@@ -220,8 +231,10 @@ after_expire None w = w
 after_expire (Some place) w = expired_at place w
 
 unfoldable pub after_call : Call → World → World
-after_call (Open station window start) w = after_open (open_fault station window start w) station window start w
-after_call (SetRate station rate) w = if is_open w station then record w { rates = slice_set w.rates station (Some rate) } else w
+after_call (Open station window start) w = after_open
+    (open_fault station window start w) station window start w
+after_call (SetRate station rate) w = if is_open w station
+    then record w { rates = slice_set w.rates station (Some rate) } else w
 after_call (Receive octets) w = after_receive (receive_fault octets w) octets w
 after_call (Tick by) w = record w { clock = w.clock + by }
 after_call Expire w = after_expire (first_due w) w

@@ -9,17 +9,18 @@ pub fn reading_law()
     ensures { (n b : ℕ) → ReadsRight n b }
 {}
 
-/// Of each traffic identifier of a station that was opened, after every list of calls: what is told stands in the order of
-/// the numbers, the frames that went up rise strictly, and each number from the first to below B went up once or was named
-/// by one gap.
+/// Of each traffic identifier of a station that was opened, after every list of calls: what is told stands in
+/// the order of the numbers, the frames that went up rise strictly, and each number from the first to below B
+/// went up once or was named by one gap.
 pub fn tid_law()
     ensures { (stations : ℕ) (before later : List Call) (station window start tid : ℕ) → tid < 8 →
         answer (Open station window start) (after_calls (new_world stations) before) ≡ Opened →
-        TidLaw (after_calls (new_world stations) (before ++ Open station window start ∷ [])) station tid start later }
+        TidLaw (after_calls (new_world stations) (before ++ Open station window start ∷ []))
+        station tid start later }
 {}
 
-/// After every list of calls each accepted frame went up, was given back or is stored, and the totals count what the answers
-/// told.
+/// After every list of calls each accepted frame went up, was given back or is stored, and the totals count
+/// what the answers told.
 pub fn totals_law()
     ensures { (stations : ℕ) (calls : List Call) → TotalsLaw stations calls }
 {}

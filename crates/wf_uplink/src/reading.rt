@@ -1,23 +1,23 @@
 //! The checks that the octets alone decide.
 
-ghost use Rattle.std.specs.Prelude.{◌≡◌, ◌<◌, ◌≤◌, ◌+◌, ◌&&◌, nat_lt, None, Some, IfOk, length, if◌then◌else◌};
+ghost use Rattle.std.specs.Prelude.{◌≡◌, ◌≤◌, ◌+◌, ◌&&◌, nat_lt, None, Some, IfOk, length, if◌then◌else◌};
 ghost use Rattle.std.specs.Option.{option_or};
 ghost use Rattle.std.specs.Str.{bytes_eq};
-ghost use Rattle.wf_rules.specs.Lengths.{greatest_body};
-ghost use Rattle.wf_header.specs.Addresses.{base, address_of_station};
-ghost use Rattle.wf_header.specs.Layout.{BeginsWith};
-ghost use Rattle.wf_header.specs.declared.header.Kind.TheVariants.{QosData};
+ghost use Rattle.wf_def_lists.specs.Lengths.{greatest_body};
+ghost use Rattle.wf_octets_header.specs.Addresses.{base, address_of_station};
+ghost use Rattle.wf_octets_header.specs.Layout.{BeginsWithHeader};
+ghost use Rattle.wf_octets_header.specs.declared.header.Kind.TheVariants.{QosData};
 ghost use Rattle.wf_uplink.specs.Frames.{address_number, header_fault, kind_fault, length_fault};
-ghost use Rattle.wf_uplink.specs.World.{refusal_of};
+ghost use Rattle.std.specs.Result.{result_err};
 
 use crate::fault::UplinkFault;
 use wf_frame::GREATEST_BODY;
-use wf_header::{Header, Kind, base_address, decode, station_address};
+use wf_octets_header::{Header, Kind, base_address, decode, station_address};
 
 /// The header of a data frame.
 pub(crate) fn data_header(octets: &[u8]) -> Result<Header, UplinkFault>
-    ensures fault { refusal_of result ≡ option_or (header_fault octets.now) (kind_fault octets.now) }
-    ensures read { IfOk result (λ header. BeginsWith octets.now header) }
+    ensures fault { result_err result ≡ option_or (header_fault octets.now) (kind_fault octets.now) }
+    ensures read { IfOk result (λ header. BeginsWithHeader octets.now header) }
     ensures kind { IfOk result (λ header. header.kind ≡ QosData) }
 {
     let (header, _) = decode(octets).map_err(UplinkFault::Header)?;
@@ -29,7 +29,9 @@ pub(crate) fn data_header(octets: &[u8]) -> Result<Header, UplinkFault>
 
 /// Whether a frame goes from the station to the access point.
 pub(crate) fn is_from(header: &Header, station: u16) -> bool
-    ensures { result ≡ (header.now.to_ds && bytes_eq header.now.a1 base && bytes_eq header.now.a2 (address_of_station station)) }
+    ensures { result ≡
+        (header.now.to_ds && bytes_eq header.now.a1 base &&
+        bytes_eq header.now.a2 (address_of_station station)) }
 {
     header.to_ds && header.a1 == base_address() && header.a2 == station_address(station)
 }
@@ -44,7 +46,8 @@ pub(crate) fn sender_of(header: &Header) -> u16
 /// The length of the body, in octets, after the checks of the traffic identifier and of the length.
 pub(crate) fn body_of(tid: u8, octets: &[u8]) -> Result<u32, UplinkFault>
     requires { 26 ≤ length octets.now }
-    ensures fault { refusal_of result ≡ option_or (if nat_lt tid 8 then None else Some (UplinkFault.Tid tid)) (length_fault octets.now) }
+    ensures fault { result_err result ≡
+        option_or (if nat_lt tid 8 then None else Some (UplinkFault.Tid tid)) (length_fault octets.now) }
     ensures body { IfOk result (λ body. body + 26 ≡ length octets.now) }
     ensures small { IfOk result (λ body. body ≤ greatest_body) }
 {

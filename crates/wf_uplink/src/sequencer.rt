@@ -1,6 +1,6 @@
 //! The reordering of one traffic identifier.
 
-ghost use Rattle.std.specs.Prelude.{◌≡◌, ◌+◌, ◌*◌, ◌^◌, ◌<◌, ◌≤◌, ◌++◌, ◌⊎◌, ◌==◌, ◌||◌, not, [], length, map, true, false, Some, if◌then◌else◌, IfOk, IfSome};
+ghost use Rattle.std.specs.Prelude.{◌≡◌, ◌+◌, ◌^◌, ◌<◌, ◌≤◌, ◌++◌, ◌⊎◌, ◌==◌, ◌||◌, not, [], length, map, true, false, Some, if◌then◌else◌, IfOk, IfSome};
 ghost use Rattle.wf_uplink.specs.Reordering.{new_reordering, unopened, is_none_stored, is_stored, first_number, least_stored, moved_to, with_frame, with_room_for, number_arrived, arrived, timed_out, waits_since_of};
 ghost use Rattle.wf_uplink.specs.Shown.{item_of};
 ghost use Rattle.wf_uplink.specs.Standing.{frames_from};
@@ -9,8 +9,8 @@ use crate::items::{Items, UpItem};
 use std::alloc::{AllocError, Global};
 use std::marker::Model;
 use wf_frame::Ids;
-use wf_reorder::Reorder;
-use wf_seq12::Seq12;
+use wf_octets_seq12::Seq12;
+use wf_recv_agreement::Reorder;
 
 /// The greatest window, in numbers.
 const LARGEST: u16 = 256;
@@ -33,16 +33,17 @@ pub(crate) struct Sequencer {
 
 impl Model for Sequencer {
     ghost use Rattle.wf_uplink.specs.Reordering.{Reordering};
-    ghost use Rattle.wf_uplink.specs.Standing.{IsKept, reordering_of_buffer};
+    ghost use Rattle.wf_uplink.specs.Standing.{IsBufferFrom, reordering_of_buffer};
 
     ghost Value = { Reordering };
 
     ghost view = { λ s. reordering_of_buffer s.start s.window s.since s.buffer };
 
-    ghost invariant = { λ s. IsKept s.start s.window s.buffer };
+    ghost invariant = { λ s. IsBufferFrom s.start s.window s.buffer };
 }
 
-/// Appends the frames with these ids, whose numbers follow one another from `start` on. Gives the number after the last.
+/// Appends the frames with these ids, whose numbers follow one another from `start` on. Gives the number
+/// after the last.
 fn raise(start: u64, ids: &Ids, items: &mut Items) -> u64
     requires low { start < 2 ^ 63 + 8192 }
     requires room { length items.old + length ids.now ≤ 514 }
@@ -131,7 +132,8 @@ impl Sequencer {
         }
     }
 
-    /// B moves to a number that nothing is stored below: the numbers from B on are given up, and what stands from it on goes up.
+    /// B moves to a number that nothing is stored below: the numbers from B on are given up, and what stands
+    /// from it on goes up.
     fn skip_to(&mut self, next: u64, items: &mut Items)
         requires forward { self.old.start < next }
         requires near { next ≤ self.old.start + 2047 }
@@ -149,8 +151,8 @@ impl Sequencer {
         self.start = raise(next, &ids, items);
     }
 
-    /// B moves to `target`, and past what stands from there on: what is stored below goes up, and each longest run of other
-    /// numbers is given up.
+    /// B moves to `target`, and past what stands from there on: what is stored below goes up, and each
+    /// longest run of other numbers is given up.
     fn move_to(&mut self, target: u64, items: &mut Items)
         requires forward { self.old.start < target }
         requires near { target ≤ self.old.start + 2047 }
@@ -165,16 +167,18 @@ impl Sequencer {
         }
     }
 
-    /// The frame of a number of the window is stored, and what stands at B goes up. Whether the number was stored already:
-    /// then nothing changes.
+    /// The frame of a number of the window is stored, and what stands at B goes up. Whether the number was
+    /// stored already: then nothing changes.
     fn store(&mut self, number: u64, id: u64, items: &mut Items) -> bool
         requires from { self.old.start ≤ number }
         requires within { number < self.old.start + self.old.window }
         requires low { self.old.start < 2 ^ 63 + 8192 }
         requires room { length items.old + length self.old.stored < 514 }
         ensures stored { result ≡ is_stored number self.old.stored }
-        ensures after { self.new ≡ (if result then self.old else (moved_to self.old.start (with_frame number id self.old)).after) }
-        ensures items { items.new ≡ items.old ++ map item_of (if result then [] else (moved_to self.old.start (with_frame number id self.old)).passed) }
+        ensures after { self.new ≡
+            (if result then self.old else (moved_to self.old.start (with_frame number id self.old)).after) }
+        ensures items { items.new ≡ items.old ++ map item_of
+            (if result then [] else (moved_to self.old.start (with_frame number id self.old)).passed) }
     {
         let mut ids = Ids::new();
         let back = self.buffer.arrive(Seq12::of(number), id, &mut ids);
@@ -198,7 +202,8 @@ impl Sequencer {
 
         // a number that is stored is one of the window already
         ensures same { is_stored number self.new.stored ≡ is_stored number self.old.stored }
-        ensures unchanged { is_stored number self.old.stored ≡ true → (self.new ≡ self.old) × (items.new ≡ []) }
+        ensures unchanged { is_stored number self.old.stored ≡ true →
+            (self.new ≡ self.old) × (items.new ≡ []) }
     {
         let window = u64::from(self.window);
         if number >= self.start + window {
@@ -208,7 +213,9 @@ impl Sequencer {
 
     /// It waits anew, where B moved from `first` or nothing was stored before.
     fn renew(&mut self, first: u64, was_empty: bool, now: u64)
-        ensures { self.new ≡ (if not (first == self.old.start) || was_empty then record self.old { since = now } else self.old) }
+        ensures { self.new ≡
+            (if not (first == self.old.start) || was_empty
+            then record self.old { since = now } else self.old) }
     {
         if first != self.start || was_empty {
             self.since = now;

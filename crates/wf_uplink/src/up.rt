@@ -5,7 +5,8 @@ ghost use Rattle.wf_uplink.specs.Shown.{nothing_up};
 
 use crate::Items;
 
-/// What a frame or a timeout sends up. It takes some 8 kB, so a caller makes one and hands it in at each call.
+/// What a frame or a timeout sends up. It takes some 8 kB, so a caller makes one and hands it in at each
+/// call.
 #[derive(Drop)]
 pub struct Up {
     /// The station that sent.

@@ -4,7 +4,8 @@ ghost use Rattle.std.specs.Prelude.{◌≡◌, ◌+◌, ◌*◌, ◌^◌, ◌<�
 ghost use Rattle.wf_uplink.specs.Reordering.{unopened, arrived, timed_out, is_none_stored, waits_since_of};
 ghost use Rattle.wf_uplink.specs.Shown.{item_of, up_of, totals_of};
 ghost use Rattle.wf_uplink.specs.Soundness.{latest};
-ghost use Rattle.wf_uplink.specs.World.{Open, SetRate, Receive, Tick, Expire, new_world, rate_of, is_open, place_of as place_at, open_fault, begun, receive_fault, refusal_of, delivery_of, first_due, timeout_of, after_call};
+ghost use Rattle.std.specs.Result.{result_err};
+ghost use Rattle.wf_uplink.specs.World.{Open, SetRate, Receive, Tick, Expire, new_world, rate_of, is_open, place_of as place_at, open_fault, begun, receive_fault, delivery_of, first_due, timeout_of, after_call};
 
 use crate::fault::{Closed, OpenFault, UplinkFault};
 use crate::items::Items;
@@ -14,8 +15,8 @@ use crate::up::{Totals, Up};
 use crate::waits::Waits;
 use std::alloc::{AllocError, Global};
 use std::marker::Model;
-use wf_airtime::Rate;
-use wf_seq12::Seq12;
+use wf_air_time::Rate;
+use wf_octets_seq12::Seq12;
 
 /// How many traffic identifiers a station has.
 const TIDS: u32 = 8;
@@ -26,8 +27,8 @@ const HEADER: u32 = 26;
 /// The octets that go on the air beside a frame's own: its delimiter and its check sequence, four each.
 const AROUND: u32 = 8;
 
-/// What many stations send to the access point: for each traffic identifier of each station the frames are put in the order of
-/// their sequence numbers, and a hole is waited for 100,000 microseconds.
+/// What many stations send to the access point: for each traffic identifier of each station the frames are
+/// put in the order of their sequence numbers, and a hole is waited for 100,000 microseconds.
 ///
 /// Only `new` takes memory.
 #[derive(Drop)]
@@ -50,7 +51,9 @@ impl Model for Uplink {
 
     ghost view = { λ u. world_of u.clock u.rates.items u.sequencers.items u.frames u.up u.back u.missing };
 
-    ghost invariant = { λ u. let w = world_of u.clock u.rates.items u.sequencers.items u.frames u.up u.back u.missing in IsSound w × IsWatched w u.waits };
+    ghost invariant = { λ u.
+        let w = world_of u.clock u.rates.items u.sequencers.items u.frames u.up u.back u.missing in
+        IsSound w × IsWatched w u.waits };
 }
 
 fn new_sequencers(alloc: Global, count: u32) -> Result<Vec<Sequencer>, AllocError>
@@ -75,8 +78,8 @@ fn begin(sequencers: &mut [Sequencer], station: u16, window: u16, start: u16)
     }
 }
 
-/// Twelve bits of a number arrive at the reordering of a place, with the frame's id. Whether the frame is given back, and since
-/// when the reordering waits.
+/// Twelve bits of a number arrive at the reordering of a place, with the frame's id. Whether the frame is
+/// given back, and since when the reordering waits.
 fn arrive_at(
     sequencers: &mut [Sequencer],
     place: usize,
@@ -89,9 +92,13 @@ fn arrive_at(
     requires low { (slice_index_or sequencers.old place unopened).start < 2 ^ 63 + 4096 }
     requires empty { items.old ≡ [] }
     ensures old { result.0 ≡ (arrived bits id now (slice_index_or sequencers.old place unopened)).old }
-    ensures since { result.1 ≡ waits_since_of (arrived bits id now (slice_index_or sequencers.old place unopened)).after }
-    ensures after { sequencers.new ≡ slice_set sequencers.old place (arrived bits id now (slice_index_or sequencers.old place unopened)).after }
-    ensures items { items.new ≡ map item_of (arrived bits id now (slice_index_or sequencers.old place unopened)).passed }
+    ensures since { result.1 ≡
+        waits_since_of (arrived bits id now (slice_index_or sequencers.old place unopened)).after }
+    ensures after { sequencers.new ≡
+        slice_set sequencers.old place
+        (arrived bits id now (slice_index_or sequencers.old place unopened)).after }
+    ensures items { items.new ≡
+        map item_of (arrived bits id now (slice_index_or sequencers.old place unopened)).passed }
 {
     let sequencer = &mut sequencers[place];
     let old = sequencer.arrive(bits, id, now, items);
@@ -109,9 +116,12 @@ fn time_out_at(
     requires low { (slice_index_or sequencers.old place unopened).start < 2 ^ 63 + 4096 }
     requires some { is_none_stored (slice_index_or sequencers.old place unopened).stored ≡ false }
     requires empty { items.old ≡ [] }
-    ensures since { result ≡ waits_since_of (timed_out now (slice_index_or sequencers.old place unopened)).after }
-    ensures after { sequencers.new ≡ slice_set sequencers.old place (timed_out now (slice_index_or sequencers.old place unopened)).after }
-    ensures items { items.new ≡ map item_of (timed_out now (slice_index_or sequencers.old place unopened)).passed }
+    ensures since { result ≡
+        waits_since_of (timed_out now (slice_index_or sequencers.old place unopened)).after }
+    ensures after { sequencers.new ≡
+        slice_set sequencers.old place (timed_out now (slice_index_or sequencers.old place unopened)).after }
+    ensures items { items.new ≡
+        map item_of (timed_out now (slice_index_or sequencers.old place unopened)).passed }
 {
     let sequencer = &mut sequencers[place];
     sequencer.time_out(now, items);
@@ -148,11 +158,12 @@ impl Uplink {
         })
     }
 
-    /// Opens a station, with this window and first number for each of its eight traffic identifiers, at the lowest rate.
+    /// Opens a station, with this window and first number for each of its eight traffic identifiers, at the
+    /// lowest rate.
     #[tactic(auto, unfolding(crate::specs::World::after_call))]
     pub fn open(&mut self, station: u16, window: u16, start: u16) -> Result<(), OpenFault>
         // refused exactly where a check fails, for the first that does
-        ensures fault { refusal_of result ≡ open_fault station window start self.old }
+        ensures fault { result_err result ≡ open_fault station window start self.old }
         ensures clock { self.new.clock ≡ self.old.clock }
         ensures after { self.new ≡ after_call (Open station window start) self.old }
     {
@@ -207,7 +218,7 @@ impl Uplink {
         requires missing { self.old.missing < 2 ^ 62 }
 
         // refused exactly where a check fails, for the first that does
-        ensures fault { refusal_of result ≡ receive_fault octets.now self.old }
+        ensures fault { result_err result ≡ receive_fault octets.now self.old }
         ensures clock { self.new.clock ≡ self.old.clock }
         ensures after { self.new ≡ after_call (Receive octets.now) self.old }
         ensures up { OnOk result (up.exit.now ≡ up_of (delivery_of octets.now self.old)) }
@@ -257,8 +268,8 @@ impl Uplink {
         self.clock += u64::from(by);
     }
 
-    /// The first traffic identifier, by station and then by its number, that is due gives up its hole, and `up` tells of it.
-    /// False where none is due; then `up` is as it was.
+    /// The first traffic identifier, by station and then by its number, that is due gives up its hole, and
+    /// `up` tells of it. False where none is due; then `up` is as it was.
     #[tactic(auto, unfolding(crate::specs::World::after_call))]
     pub fn expired(&mut self, up: &mut Up) -> bool
         requires frames { self.old.frames < 2 ^ 62 }

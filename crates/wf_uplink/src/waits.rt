@@ -1,15 +1,13 @@
 //! Which traffic identifiers wait, and which of them is due first.
 
-ghost use Rattle.std.specs.Prelude.{◌≡◌, ◌+◌, ◌-◌, ◌^◌, ◌<◌, ◌≤◌, ℕ, length, replicate, slice_index, slice_set, IfOk, IfNone, IfSome};
-ghost use Rattle.wf_peak.specs.Best.{IsFirstFrom};
+ghost use Rattle.std.specs.Prelude.{◌≡◌, ◌+◌, ◌-◌, ◌<◌, ◌≤◌, ℕ, length, replicate, slice_index, slice_set, IfOk, IfNone, IfSome};
+ghost use Rattle.wf_queue_counted.specs.Best.{IsFirstFrom};
 ghost use Rattle.wf_uplink.specs.Reordering.{time_limit};
 ghost use Rattle.wf_uplink.specs.Soundness.{latest, worth_of};
 
 use std::alloc::{AllocError, Global};
-use std::marker::{Brand, Model};
-use std::sync::ledger::{Blank, Ledger};
-use wf_peak::Peak;
-use wf_steps::Steps;
+use std::marker::Model;
+use wf_queue_counted::Peak;
 
 /// How long a hole is waited for, in microseconds.
 const TIME_LIMIT: u64 = 100_000;
@@ -17,8 +15,8 @@ const TIME_LIMIT: u64 = 100_000;
 /// As many places as 256 stations have traffic identifiers.
 const PLACES: u32 = 2048;
 
-/// The clock is below this.
-const END: u64 = 1 << 62;
+/// The clock, in microseconds, and each of the totals stay below this.
+pub const LARGE: u64 = 1 << 62;
 
 /// The clock since which each place waits, in a tournament in which what has waited longer is worth more.
 #[derive(Drop)]
@@ -34,18 +32,6 @@ impl Model for Waits {
     ghost view = { λ w. w.peak };
 
     ghost invariant = { λ w. length w.peak ≡ 2048 };
-}
-
-// Sets a leaf with a counter made from this blank.
-fn set_from<L: Ledger>(peak: &mut Peak, leaf: u32, value: u64, blank: Blank)
-    requires name { blank.name ≡ L.name }
-    requires parts { blank.parts ≡ L.parts }
-    requires one_part { blank.parts ≡ 1 }
-    requires within { leaf < length peak.old }
-    ensures { peak.new ≡ slice_set peak.old leaf value }
-{
-    let mut steps = Steps::<L>::new(blank);
-    peak.set(leaf, value, &mut steps);
 }
 
 impl Waits {
@@ -64,19 +50,20 @@ impl Waits {
         ensures { self.new ≡ slice_set self.old place (worth_of since) }
     {
         let worth = match since {
-            Some(since) => END - since,
+            Some(since) => LARGE - since,
             None => 0,
         };
-        set_from::<Brand>(&mut self.peak, place as u32, worth, Blank::new(1));
+        self.peak.set_uncounted(place as u32, worth);
     }
 
     /// The first place that has waited for the time limit.
     pub(crate) fn first_due(&self, now: u64) -> Option<usize>
         requires { now < latest }
-        ensures none { IfNone result ((place : ℕ) → place < 2048 → slice_index self.now place < latest + time_limit - now) }
+        ensures none { IfNone result
+            ((place : ℕ) → place < 2048 → slice_index self.now place < latest + time_limit - now) }
         ensures some { IfSome result (λ place. IsFirstFrom self.now (latest + time_limit - now) place) }
     {
-        let place = self.peak.first_from(END + TIME_LIMIT - now)?;
+        let place = self.peak.first_from(LARGE + TIME_LIMIT - now)?;
         Some(place as usize)
     }
 }

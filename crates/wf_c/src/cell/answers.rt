@@ -1,5 +1,5 @@
-//! What only a cell answers, in structs of the caller's: the frames that a station passes up, and its BlockAck. Each shows the
-//! answer to the last call.
+//! What only a cell answers, in structs of the caller's: the frames that a station passes up, and its
+//! BlockAck. Each shows the answer to the last call.
 
 ghost use Rattle.std.specs.Prelude.{◌≡◌, ◌<◌, ℕ, true, is_some, slice_index, IfSome};
 ghost use Rattle.wf_c.specs.CellAnswers.{ShowsIds, ShowsPassedUp, block_of};
@@ -56,7 +56,8 @@ impl PassedUp {
 #[repr(C)]
 #[derive(Clone, Copy)]
 pub struct Block {
-    /// Its bitmap, the least significant bit of the first word first: bit `n` tells of the number `n` past the start.
+    /// Its bitmap, the least significant bit of the first word first: bit `n` tells of the number `n` past
+    /// the start.
     pub bits: [u64; 4],
     /// The first number that it tells of, 0 to 4095.
     pub start: u16,

@@ -18,7 +18,8 @@ impl CellSlot {
     // Makes a call that brings no frame.
     fn ask(&mut self, alloc: Global, caller: u32, ask: Ask, reply: &mut Reply) -> i32
         requires open { is_some self.old.value ≡ true }
-        ensures called { TurnsInto (λ h k. IsStepped h caller (Call ask) k reply.new) self.old.value self.new.value }
+        ensures called { TurnsInto (λ h k. IsStepped h caller
+            (Call ask) k reply.new) self.old.value self.new.value }
         ensures code { result ≡ pos reply.new.refusal }
     {
         let mut held = self.take(alloc);
@@ -28,8 +29,8 @@ impl CellSlot {
     }
 }
 
-/// Makes a caller's call that brings no frame and takes none, and gives its refusal; gives 43 where the numbers show no such call,
-/// and then nothing changes.
+/// Makes a caller's call that brings no frame and takes none, and gives its refusal; gives 43 where the
+/// numbers show no such call, and then nothing changes.
 #[unsafe(no_mangle)]
 pub extern "C" fn wf_cell_ask(
     alloc: Global,

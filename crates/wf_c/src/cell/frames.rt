@@ -2,7 +2,7 @@
 
 ghost use Rattle.std.specs.Prelude.{◌≡◌, ◌⊎◌, ◌≤◌, true, is_some, pos, length};
 ghost use Rattle.wf_frame.specs.Frames.{new_frame};
-ghost use Rattle.wf_rules.specs.Lengths.{greatest_body};
+ghost use Rattle.wf_def_lists.specs.Lengths.{greatest_body};
 ghost use Rattle.wf_path.specs.declared.job.Job.TheVariants.{Give};
 ghost use Rattle.wf_c.specs.CellCalls.{IsStepped, IsTakenBack, TurnsInto};
 
@@ -12,8 +12,8 @@ use crate::frames::{NoFrame, Taken, frame_of, show_back};
 use crate::reply::Reply;
 use std::alloc::Global;
 use wf_cell::Job;
-use wf_chain::Parcel;
 use wf_frame::Ask;
+use wf_queue_chain::Parcel;
 
 impl HeldCell {
     // A frame comes in. Where it is refused it is freed.
@@ -50,7 +50,9 @@ pub extern "C" fn wf_cell_enqueue(
     reply: &mut Reply,
 ) -> i32
     requires open { is_some cell.old.value ≡ true }
-    ensures given { TurnsInto (λ h k. IsStepped h caller (Give (new_frame station tid flow body.now)) k reply.new × (result ≡ pos reply.new.refusal)) cell.old.value cell.new.value
+    ensures given { TurnsInto (λ h k. IsStepped h caller
+        (Give (new_frame station tid flow body.now)) k reply.new ×
+        (result ≡ pos reply.new.refusal)) cell.old.value cell.new.value
         ⊎ ((cell.new.value ≡ cell.old.value) × ((result ≡ pos 40) ⊎ (result ≡ pos 41))) }
 {
     match frame_of(alloc, station, tid, flow, body) {
@@ -77,7 +79,8 @@ pub extern "C" fn wf_cell_reap(
 ) -> i32
     requires open { is_some cell.old.value ≡ true }
     requires room { greatest_body ≤ length body.old }
-    ensures reaped { TurnsInto (λ h k. IsTakenBack h caller k reply.new taken.new body.new) cell.old.value cell.new.value }
+    ensures reaped { TurnsInto
+        (λ h k. IsTakenBack h caller k reply.new taken.new body.new) cell.old.value cell.new.value }
     ensures code { result ≡ pos reply.new.refusal }
 {
     let mut held = cell.take(alloc);

@@ -2,8 +2,8 @@
 
 ghost use Rattle.std.specs.Prelude.{◌≡◌, ℕ, [], IfSome};
 ghost use Rattle.wf_frame.specs.Frames.{FrameValue};
-ghost use Rattle.wf_world.specs.World.{opening};
-ghost use Rattle.wf_transmit_refines.specs.Standing.{StandsFor};
+ghost use Rattle.wf_def_world.specs.World.{opening};
+ghost use Rattle.wf_send_half_refines.specs.Standing.{StandsFor};
 ghost use Rattle.wf_path.specs.declared.job.Job.TheVariants.{Call};
 ghost use Rattle.wf_c.specs.CellCalls.{IsStepped};
 
@@ -20,10 +20,13 @@ pub struct HeldCell {
 }
 
 impl HeldCell {
-    // A cell of these settings, in a block of its own. None where a setting is out of its range, or there is no memory.
+    // A cell of these settings, in a block of its own. None where a setting is out of its range, or there is
+    // no memory.
     pub(crate) fn made(alloc: Global, config: Config) -> Option<Box<HeldCell, Global>>
-        ensures past { IfSome result (λ made. made.value.cell.past ≡ record { config = config; history = [] }) }
-        ensures stands { IfSome result (λ made. (bodies : ℕ → FrameValue) → StandsFor made.value.cell.half (opening config) bodies) }
+        ensures past { IfSome result (λ made. made.value.cell.past
+            ≡ record { config = config; history = [] }) }
+        ensures stands { IfSome result (λ made. (bodies : ℕ → FrameValue) →
+            StandsFor made.value.cell.half (opening config) bodies) }
     {
         match Cell::new(alloc, config) {
             Ok(cell) => HeldCell::boxed(alloc, cell),

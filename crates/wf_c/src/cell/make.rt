@@ -2,7 +2,7 @@
 
 ghost use Rattle.std.specs.Prelude.{◌≡◌, ◌⊎◌, ℕ, [], None, true, is_some, pos};
 ghost use Rattle.wf_frame.specs.Frames.{FrameValue};
-ghost use Rattle.wf_world.specs.World.{opening};
+ghost use Rattle.wf_def_world.specs.World.{opening};
 ghost use Rattle.wf_c.specs.CellCalls.{HasPast, StandsIn};
 ghost use Rattle.wf_c.specs.Making.{IsMadeCode, bad_field, config_of};
 
@@ -12,14 +12,17 @@ use crate::make::{BAD_SETTING, NO_MEMORY};
 use crate::settings::{Settings, number_of_field};
 use std::alloc::Global;
 
-/// Makes a cell of these settings in a handle that holds nothing: no station is live, and no call was made. Gives 0, or 100 and
-/// the place of the first setting that is out of its range, or 40 where there is no memory; then the handle holds nothing still.
+/// Makes a cell of these settings in a handle that holds nothing: no station is live, and no call was made.
+/// Gives 0, or 100 and the place of the first setting that is out of its range, or 40 where there is no
+/// memory; then the handle holds nothing still.
 #[unsafe(no_mangle)]
 pub extern "C" fn wf_cell_make(alloc: Global, cell: &mut CellSlot, settings: &Settings) -> i32
     requires empty { cell.old.value ≡ None }
     ensures code { IsMadeCode (bad_field settings.now) result }
-    ensures past { result ≡ pos 0 → HasPast cell.new.value (record { config = config_of settings.now; history = [] }) }
-    ensures stands { result ≡ pos 0 → (bodies : ℕ → FrameValue) → StandsIn cell.new.value (opening (config_of settings.now)) bodies }
+    ensures past { result ≡ pos 0 → HasPast cell.new.value
+        (record { config = config_of settings.now; history = [] }) }
+    ensures stands { result ≡ pos 0 → (bodies : ℕ → FrameValue) →
+        StandsIn cell.new.value (opening (config_of settings.now)) bodies }
     ensures nothing { (result ≡ pos 0) ⊎ (cell.new.value ≡ None) }
 {
     if let Some(field) = settings.fault() {

@@ -1,7 +1,7 @@
 //! What a cell tells of its history without a call of the machine.
 
 ghost use Rattle.std.specs.Prelude.{◌≡◌, true, is_some, length, slice_get, IfSome};
-ghost use Rattle.wf_world.specs.Run.{Past};
+ghost use Rattle.wf_def_world.specs.Run.{Past};
 ghost use Rattle.wf_cell.specs.Cells.{room_in};
 ghost use Rattle.wf_c.specs.CellCalls.{HasPast, ShowsEntry};
 
@@ -53,7 +53,8 @@ impl HeldCell {
     }
 }
 
-/// Writes an entry of the history, counted from 0: who called, and the call; gives 0, or 9 where the history is shorter.
+/// Writes an entry of the history, counted from 0: who called, and the call; gives 0, or 9 where the history
+/// is shorter.
 #[unsafe(no_mangle)]
 pub extern "C" fn wf_cell_entry(
     alloc: Global,
@@ -63,7 +64,8 @@ pub extern "C" fn wf_cell_entry(
     call: &mut CallNumbers,
 ) -> i32
     requires open { is_some cell.old.value ≡ true }
-    ensures entry { IfSome cell.old.value (λ h. ShowsEntry (slice_get h.cell.past.history place) result caller.new call.new) }
+    ensures entry { IfSome cell.old.value (λ h. ShowsEntry
+        (slice_get h.cell.past.history place) result caller.new call.new) }
     ensures unchanged { cell.new.value ≡ cell.old.value }
 {
     let held = cell.take(alloc);

@@ -5,10 +5,10 @@ ghost use Rattle.wf_c.specs.CellSlots.{cell_slot_owns};
 ghost use Rattle.wf_c.specs.declared.cell.held.HeldCell.{HeldCell as HeldValue};
 
 use crate::cell::held::HeldCell;
-use crate::unboxed::Unboxed;
 use std::alloc::Global;
 use std::marker::Model;
 use std::mem::replace;
+use wf_queue_chain::Unboxed;
 
 /// A cell's handle: the caller's own struct, which is empty or holds a cell.
 #[repr(C)]

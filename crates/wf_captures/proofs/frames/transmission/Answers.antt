@@ -1,9 +1,9 @@
 use Rattle.std.proofs.Common.{◌≡◌, ap, sym, ◌∙◌, length, arith}
 use Rattle.std.proofs.lemmas.List.{length-take}
-use Rattle.wf_transmissions.specs.Writing.{write_fault}
+use Rattle.wf_path.specs.Writing.{write_fault}
 use Rattle.wf_cell.proofs.Written.{no_write_fault}
-use Rattle.wf_world.specs.World.{World}
-use Rattle.wf_captures.specs.Samples.{world_in}
+use Rattle.wf_def_world.specs.World.{World}
+use Rattle.wf_captures.specs.Samples.{world_behind}
 use Rattle.wf_captures.proofs.SentPackets.{some_octets, octets_same}
 use Rattle.wf_captures.proofs.frames.transmission.Goals as goal
 
@@ -11,22 +11,26 @@ pub unreachable-requires : goal.unreachable-requires
 unreachable-requires c =
     let s = c.requires.samples in
     let r = c.requires.sending in
-    let w : World = world_in c.args.cell.now in
+    let w : World = world_behind c.args.cell.now in
     let long : length c.args.octets.now ≡ 2330 = omega arith in
     let fault =
-    c.in-Err.ensures.fault w s.bodies (rw (c.path.ensures.value) s.stands) ∙ ap (λ n. write_fault w s.bodies c.args.exchange c.args.index n) long
-    ∙ no_write_fault c.args.cell.now.half w s.bodies s.stands c.args.exchange r.sending r.known c.args.index r.within in
+    c.in-Err.ensures.fault w s.bodies (rw (c.path.ensures.value) s.stands)
+    ∙ ap (λ n. write_fault w s.bodies c.args.exchange c.args.index n) long
+    ∙ no_write_fault c.args.cell.now.half w s.bodies s.stands c.args.exchange r.sending r.known c.args.index
+    r.within in
     cc
 
 pub returns-clause-some : goal.returns-clause-some
 returns-clause-some c =
     let s = c.requires.samples in
-    let w : World = world_in c.args.cell.now in
-    let some = some_octets w s.bodies c.args.exchange c.args.index _ (c.in-Ok.ensures.octets w s.bodies (rw (c.path.ensures.value) s.stands)) in
+    let w : World = world_behind c.args.cell.now in
+    let some = some_octets w s.bodies c.args.exchange c.args.index _
+    (c.in-Ok.ensures.octets w s.bodies (rw (c.path.ensures.value) s.stands)) in
     omega (arith, some, length-take c.in-Ok.len c.mpdu.new.out)
 
 pub returns-clause-octets : goal.returns-clause-octets
 returns-clause-octets c =
     let s = c.requires.samples in
-    let w : World = world_in c.args.cell.now in
-    sym (octets_same c.args.cell.now.half w s.bodies s.stands s.samples c.args.exchange c.args.index) ∙ c.in-Ok.ensures.octets w s.bodies (rw (c.path.ensures.value) s.stands)
+    let w : World = world_behind c.args.cell.now in
+    sym (octets_same c.args.cell.now.half w s.bodies s.stands s.samples c.args.exchange c.args.index)
+    ∙ c.in-Ok.ensures.octets w s.bodies (rw (c.path.ensures.value) s.stands)

@@ -1,7 +1,7 @@
 use Rattle.std.proofs.Common.{◌∙◌, ap, subst}
 use Rattle.std.specs.Io.KnownBytes.{append_known}
 use Rattle.wf_frame.specs.Answers.{reply_of}
-use Rattle.wf_status.specs.Fronts.{HoldsFront}
+use Rattle.wf_io.specs.Fronts.{HoldsFront}
 use Rattle.wf_captures.proofs.Answered.{on_ok}
 use Rattle.wf_captures.proofs.Cells.{call_is}
 use Rattle.wf_captures.proofs.packets.write_packets.Goals as goal
@@ -11,10 +11,12 @@ returns-in-Some-clause-written g c =
     on_ok c.write_frames.result
     (λ wrote past caller note is reply. wrote
     ∙ ap (append_known (g.K.Sink.held c.args.sink.now))
-    (call_is c.args.cell.now past caller note c.in-Some.note (reply_of c.args.answer.now) (c.in-Some.ensures past caller note is) is reply))
+    (call_is c.args.cell.now past caller note c.in-Some.note (reply_of c.args.answer.now)
+    (c.in-Some.ensures past caller note is) is reply))
     c.write_frames.ensures.written
 
 pub returns-in-Some-clause-front : goal.returns-in-Some-clause-front
 returns-in-Some-clause-front g c = λ past caller note is reply.
     subst (HoldsFront (g.K.Sink.held c.args.sink.now) (g.K.Sink.held c.write_frames.new.sink))
-    (call_is c.args.cell.now past caller note c.in-Some.note (reply_of c.args.answer.now) (c.in-Some.ensures past caller note is) is reply) c.write_frames.ensures.front
+    (call_is c.args.cell.now past caller note c.in-Some.note (reply_of c.args.answer.now)
+    (c.in-Some.ensures past caller note is) is reply) c.write_frames.ensures.front

@@ -1,4 +1,4 @@
-use Rattle.wf_world.specs.Run.{world_of}
+use Rattle.wf_def_world.specs.Run.{world_of}
 use Rattle.wf_captures.proofs.Cells.{told_low}
 use Rattle.wf_captures.proofs.standing.sent.Goals as goal
 
@@ -10,4 +10,5 @@ returns-clause-told c =
 pub returns-clause-tid : goal.returns-clause-tid
 returns-clause-tid c =
     let stands = c.path.ensures.stands in
-    told_low (world_of c.args.cell.now.past) c.args.exchange stands.1.reached c.sent.result (c.sent.ensures (world_of c.args.cell.now.past) stands.0 (rw (c.path.ensures.value) stands.1))
+    told_low (world_of c.args.cell.now.past) c.args.exchange stands.1.reached c.sent.result
+    (c.sent.ensures (world_of c.args.cell.now.past) stands.0 (rw (c.path.ensures.value) stands.1))

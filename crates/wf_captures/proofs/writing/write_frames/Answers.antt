@@ -2,24 +2,30 @@ use Rattle.std.proofs.Common.{◌∙◌, ap, sym, subst}
 use Rattle.std.specs.Io.KnownBytes.{append_known}
 use Rattle.wf_frame.specs.Answers.{reply_with}
 use Rattle.wf_frame.specs.declared.answers.Brief.{Brief}
-use Rattle.wf_status.specs.Fronts.{HoldsFront}
-use Rattle.wf_world.specs.World.{World}
+use Rattle.wf_io.specs.Fronts.{HoldsFront}
+use Rattle.wf_def_world.specs.World.{World}
 use Rattle.wf_captures.specs.Captures.{samples}
-use Rattle.wf_captures.specs.Packets.{frames_by, packets_at, octets_of}
-use Rattle.wf_captures.specs.Samples.{world_in}
+use Rattle.wf_captures.specs.Packets.{frames_by, packets_at, octets_of_packets}
+use Rattle.wf_captures.specs.Samples.{world_behind}
 use Rattle.wf_captures.proofs.Answered.{on_ok}
 use Rattle.wf_captures.proofs.writing.write_frames.Goals as goal
 
 pub returns-in-Send-clause-written : goal.returns-in-Send-clause-written
 returns-in-Send-clause-written g c =
-    let w : World = world_in c.args.cell.now in
+    let w : World = world_behind c.args.cell.now in
     let same =
-    ap (λ (b : Brief). octets_of (packets_at w.clock (frames_by w (samples w) c.args.note.now (reply_with b c.args.answer.now.pairs c.args.answer.now.ids)))) c.in-Send.is in
-    on_ok c.write_sent.result (λ wrote. wrote ∙ ap (append_known (g.K.Sink.held c.args.sink.now)) (sym same)) c.write_sent.ensures.written
+    ap (λ (b : Brief). octets_of_packets (packets_at w.clock
+    (frames_by w (samples w) c.args.note.now (reply_with b c.args.answer.now.pairs
+    c.args.answer.now.ids)))) c.in-Send.is in
+    on_ok c.write_sent.result (λ wrote. wrote ∙ ap (append_known (g.K.Sink.held c.args.sink.now)) (sym same))
+    c.write_sent.ensures.written
 
 pub returns-in-Send-clause-front : goal.returns-in-Send-clause-front
 returns-in-Send-clause-front g c =
-    let w : World = world_in c.args.cell.now in
+    let w : World = world_behind c.args.cell.now in
     let same =
-    ap (λ (b : Brief). octets_of (packets_at w.clock (frames_by w (samples w) c.args.note.now (reply_with b c.args.answer.now.pairs c.args.answer.now.ids)))) c.in-Send.is in
-    subst (HoldsFront (g.K.Sink.held c.args.sink.now) (g.K.Sink.held c.write_sent.new.sink)) (sym same) c.write_sent.ensures.front
+    ap (λ (b : Brief). octets_of_packets (packets_at w.clock
+    (frames_by w (samples w) c.args.note.now (reply_with b c.args.answer.now.pairs
+    c.args.answer.now.ids)))) c.in-Send.is in
+    subst (HoldsFront (g.K.Sink.held c.args.sink.now) (g.K.Sink.held c.write_sent.new.sink))
+    (sym same) c.write_sent.ensures.front

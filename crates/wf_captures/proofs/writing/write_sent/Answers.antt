@@ -1,20 +1,26 @@
 use Rattle.std.proofs.Common.{◌∙◌, take}
-use Rattle.wf_world.specs.World.{World}
+use Rattle.wf_def_world.specs.World.{World}
 use Rattle.wf_captures.specs.Captures.{samples}
-use Rattle.wf_captures.specs.Samples.{world_in}
+use Rattle.wf_captures.specs.Samples.{world_behind}
 use Rattle.wf_captures.proofs.SentPackets.{more_sent, some_sent}
 use Rattle.wf_captures.proofs.writing.write_sent.Goals as goal
 
 pub returns-in_err-write_packet-clause-front : goal.returns-in_err-write_packet-clause-front
 returns-in_err-write_packet-clause-front g c =
-    let w : World = world_in c.args.cell.now in
-    some_sent (g.K.Sink.held c.args.sink.now) (g.K.Sink.held c.loop-index.sink) (g.K.Sink.held c.write_packet.new.sink) w (samples w) c.args.exchange c.loop-index.index c.clock-at.result
-    (take c.transmission-len.result c.transmission-len.new.octets) c.transmission-len.ensures.octets c.clock-at.ensures.value c.loop-index.invariant.0 c.write_packet.ensures.prefix
+    let w : World = world_behind c.args.cell.now in
+    some_sent (g.K.Sink.held c.args.sink.now) (g.K.Sink.held c.loop-index.sink)
+    (g.K.Sink.held c.write_packet.new.sink) w
+    (samples w) c.args.exchange c.loop-index.index c.clock-at.result
+    (take c.transmission-len.result c.transmission-len.new.octets) c.transmission-len.ensures.octets
+    c.clock-at.ensures.value c.loop-index.invariant.0 c.write_packet.ensures.prefix
 
 pub loop-index-preserved : goal.loop-index-preserved
 loop-index-preserved g c =
-    let w : World = world_in c.args.cell.now in (
-      more_sent (g.K.Sink.held c.args.sink.now) (g.K.Sink.held c.loop-index.sink) (g.K.Sink.held c.write_packet.new.sink) w (samples w) c.args.exchange c.loop-index.index c.clock-at.result
-          (take c.transmission-len.result c.transmission-len.new.octets) c.transmission-len.ensures.octets c.clock-at.ensures.value c.loop-index.invariant.0 c.in_ok-write_packet.ensures.written,
+    let w : World = world_behind c.args.cell.now in (
+      more_sent (g.K.Sink.held c.args.sink.now) (g.K.Sink.held c.loop-index.sink)
+          (g.K.Sink.held c.write_packet.new.sink) w
+          (samples w) c.args.exchange c.loop-index.index c.clock-at.result
+          (take c.transmission-len.result c.transmission-len.new.octets) c.transmission-len.ensures.octets
+          c.clock-at.ensures.value c.loop-index.invariant.0 c.in_ok-write_packet.ensures.written,
       c.in_ok-write_packet.ensures.cause.quiet ∙ c.loop-index.invariant.1,
     )

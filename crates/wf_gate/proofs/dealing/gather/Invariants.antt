@@ -9,9 +9,11 @@ use Rattle.wf_gate.proofs.dealing.gather.Given as goal
 
 abbrev pub invariant-loop-seat : goal.invariant-loop-seat
 invariant-loop-seat g l = record {
-  own : (l.first.table_id ≡ l.shared.table_id) × (l.first.me.0.opening ≡ Some (opening_of l.shared.key)) × (l.first.me.0.stage ≡ Idle);
+  own : (l.first.table_id ≡ l.shared.table_id) × (l.first.me.0.opening ≡ Some (opening_of l.shared.key)) ×
+      (l.first.me.0.stage ≡ Idle);
   left : (k : ℕ) (s : _) → get_elem? l.seats.items k ≡ some s → get_elem? l.fn.seats.items k ≡ some s;
-  all : (k : ℕ) (s : _) → get_elem? l.fn.seats.items k ≡ some s → (get_elem? l.seats.items k ≡ some s) ⊎ IsRecorded s l.first.me.0;
+  all : (k : ℕ) (s : _) → get_elem? l.fn.seats.items k ≡ some s → (get_elem? l.seats.items k ≡ some s) ⊎
+      IsRecorded s l.first.me.0;
 }
 
 abbrev pub decreases-loop-seat : goal.decreases-loop-seat

@@ -4,16 +4,39 @@ use Rattle.wf_gate.proofs.Steps.{looks, turn_of}
 use Rattle.wf_gate.proofs.turn.wait.Goals as goal
 
 pub loop-init : goal.loop-init
-loop-init g c = (refl, refl, (c.args.pass.now.me.0.read, ap (λ l. (c.args.pass.now.me.0, l)) c.requires.waits.1))
+loop-init g c = (
+  refl,
+  refl,
+  (
+    c.args.pass.now.me.0.read,
+    ap (λ l. (c.args.pass.now.me.0, l)) c.requires.waits.1,
+  ),
+)
 
 pub load-serving-requires : goal.load-serving-requires
-load-serving-requires g c = let i = c.loop.invariant in
-    (i.0 ∙ c.requires.own.0, search rules, looks _ _ _ _ _ _ _ c.args.ticket (ap (λ m. m.0.opening) i.2.1 ∙ c.requires.own.1) (ap (λ m. m.0.stage) i.2.1 ∙ c.requires.waits.0))
+load-serving-requires g c = let i = c.loop.invariant in (
+  i.0 ∙ c.requires.own.0,
+  search rules,
+  looks _ _ _ _ _ _ _ c.args.ticket
+      (ap (λ m. m.0.opening) i.2.1 ∙ c.requires.own.1) (ap (λ m. m.0.stage) i.2.1 ∙ c.requires.waits.0),
+)
 
 pub loop-preserved : goal.loop-preserved
-loop-preserved g c = let i = c.loop.invariant in let l = c.load-serving.ensures in
-    (l.0 ∙ i.0, l.1 ∙ i.1, (Some c.load-serving.result, (l.2 c.args.ticket (ap (λ m. m.0.stage) i.2.1 ∙ c.requires.waits.0)).1 c.if-serving-ticket.false ∙ ap (λ m. (having_read m.0 c.load-serving.result, m.1)) i.2.1))
+loop-preserved g c = let i = c.loop.invariant in let l = c.load-serving.ensures in (
+  l.0 ∙ i.0,
+  l.1 ∙ i.1,
+  (
+    Some c.load-serving.result,
+    (l.2 c.args.ticket (ap (λ m. m.0.stage) i.2.1 ∙ c.requires.waits.0)).1 c.if-serving-ticket.false
+        ∙ ap (λ m. (having_read m.0 c.load-serving.result, m.1)) i.2.1,
+  ),
+)
 
 pub returns-then-serving-ticket : goal.returns-then-serving-ticket
-returns-then-serving-ticket g c = let i = c.loop.invariant in let l = c.load-serving.ensures in
-    (l.0 ∙ i.0, l.1 ∙ i.1, turn_of _ _ _ _ _ _ c.args.pass.now.me.0 i.2.0 (Some c.load-serving.result) c.args.ticket i.2.1 c.requires.own.1 ((l.2 c.args.ticket (ap (λ m. m.0.stage) i.2.1 ∙ c.requires.waits.0)).0 c.if-serving-ticket.true))
+returns-then-serving-ticket g c = let i = c.loop.invariant in let l = c.load-serving.ensures in (
+  l.0 ∙ i.0,
+  l.1 ∙ i.1,
+  turn_of _ _ _ _ _ _ c.args.pass.now.me.0 i.2.0
+      (Some c.load-serving.result) c.args.ticket i.2.1 c.requires.own.1
+      ((l.2 c.args.ticket (ap (λ m. m.0.stage) i.2.1 ∙ c.requires.waits.0)).0 c.if-serving-ticket.true),
+)

@@ -3,13 +3,18 @@ use Rattle.wf_history.proofs.Fronts.{lines-more, range-more, printable-at, line-
 use Rattle.wf_history.proofs.writing.push_entries.Goals as goal
 
 pub print_note-requires-clause-caller : goal.print_note-requires-clause-caller
-print_note-requires-clause-caller g c = (printable-at (g.H.Entries.entries c.args.history.now) c.loop-i.i c.entry-caller.result c.entry-caller.ensures c.requires.printable).0
+print_note-requires-clause-caller g c = (printable-at
+    (g.H.Entries.entries c.args.history.now) c.loop-i.i c.entry-caller.result c.entry-caller.ensures
+    c.requires.printable).0
 
 pub print_note-requires-clause-printable : goal.print_note-requires-clause-printable
-print_note-requires-clause-printable g c = (printable-at (g.H.Entries.entries c.args.history.now) c.loop-i.i c.entry-caller.result c.entry-caller.ensures c.requires.printable).1
+print_note-requires-clause-printable g c = (printable-at
+    (g.H.Entries.entries c.args.history.now) c.loop-i.i c.entry-caller.result c.entry-caller.ensures
+    c.requires.printable).1
 
 pub show_range-requires : goal.show_range-requires
-show_range-requires g c = (printable-at (g.H.Entries.entries c.args.history.now) c.loop-i.i c.entry-caller.result c.entry-caller.ensures c.requires.printable).1
+show_range-requires g c = (printable-at (g.H.Entries.entries c.args.history.now) c.loop-i.i
+    c.entry-caller.result c.entry-caller.ensures c.requires.printable).1
 
 pub loop-i-preserved : goal.loop-i-preserved
 loop-i-preserved g c =
@@ -19,7 +24,10 @@ loop-i-preserved g c =
     let printable = printable-at es c.loop-i.i e c.entry-caller.ensures c.requires.printable in
     let short = line-short e.0 e.1 c.print_note.ensures.short in record {
       inside = (search rules, search rules);
-      lines = rw (c.push_all.ensures.octets, c.octets.ensures, c.print_note.ensures.line) (lines-more es c.loop-i.i e _ c.loop-i.out c.entry-caller.ensures i.lines);
-      short = rw (c.push_all.ensures.len, c.octets.ensures, c.print_note.ensures.line) (omega (arith, short, i.short));
-      range = λ are. range-more es c.loop-i.i e c.entry-caller.ensures printable.0 c.show_range.ensures (i.range are);
+      lines = rw (c.push_all.ensures.octets, c.octets.ensures, c.print_note.ensures.line)
+          (lines-more es c.loop-i.i e _ c.loop-i.out c.entry-caller.ensures i.lines);
+      short = rw (c.push_all.ensures.len, c.octets.ensures, c.print_note.ensures.line)
+          (omega (arith, short, i.short));
+      range = λ are. range-more es c.loop-i.i e c.entry-caller.ensures printable.0 c.show_range.ensures
+          (i.range are);
     }

@@ -1,5 +1,5 @@
 use Rattle.std.proofs.Common.{take, ◌+◌}
-use Rattle.wf_status.proofs.FrontLaws.{front_next}
+use Rattle.wf_io.proofs.FrontLaws.{front_next}
 use Rattle.wf_history.specs.Traces.{entry_lines}
 use Rattle.wf_history.proofs.Fronts.{lines-front}
 use Rattle.wf_history.proofs.writing.write_all_entries.Goals as goal
@@ -7,4 +7,7 @@ use Rattle.wf_history.proofs.writing.write_all_entries.Goals as goal
 pub returns-in_err-write_entries-clause-front : goal.returns-in_err-write_entries-clause-front
 returns-in_err-write_entries-clause-front g c =
     let front = c.write_entries.ensures.front in
-    lines-front (g.H.Entries.entries c.args.history.now) c.loop-from.from (c.loop-from.from + c.min.result) front.0 front.2 (front_next _ _ _ (entry_lines (take c.loop-from.from (g.H.Entries.entries c.args.history.now))) front.0 c.loop-from.invariant.held front.1)
+    lines-front (g.H.Entries.entries c.args.history.now) c.loop-from.from
+    (c.loop-from.from + c.min.result) front.0 front.2
+    (front_next _ _ _ (entry_lines (take c.loop-from.from (g.H.Entries.entries c.args.history.now)))
+    front.0 c.loop-from.invariant.held front.1)

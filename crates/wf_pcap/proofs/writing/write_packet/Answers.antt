@@ -13,11 +13,15 @@ pub returns-clause-written : goal.returns-clause-written
 returns-clause-written g c =
     let head = packet_head c.args.at (length c.args.octets.now) in
     let old = g.K.Sink.held c.args.sink.now in
-    let wrote : g.K.Sink.held c.write_all.new.sink ≡ append_known old head = rw (c.packet_head.ensures) at c.in_ok-write_all.ensures.written in
-    let whole = ap (λ h. append_known h c.args.octets.now) wrote ∙ one_after_another old head c.args.octets.now in
-    subst (λ h. OnOk c.write_all-2.result (g.K.Sink.held c.write_all-2.new.sink ≡ h)) whole c.write_all-2.ensures.written
+    let wrote : g.K.Sink.held c.write_all.new.sink ≡ append_known old head =
+    rw (c.packet_head.ensures) at c.in_ok-write_all.ensures.written in
+    let whole = ap (λ h. append_known h c.args.octets.now) wrote
+    ∙ one_after_another old head c.args.octets.now in
+    subst (λ h. OnOk c.write_all-2.result (g.K.Sink.held c.write_all-2.new.sink ≡ h)) whole
+    c.write_all-2.ensures.written
 
 pub returns-clause-prefix : goal.returns-clause-prefix
 returns-clause-prefix g c =
     let wrote = rw (c.packet_head.ensures) at c.in_ok-write_all.ensures.written in
-    front_of_second _ _ _ (packet_head c.args.at (length c.args.octets.now)) c.args.octets.now wrote c.write_all-2.ensures.prefix
+    front_of_second _ _ _ (packet_head c.args.at (length c.args.octets.now)) c.args.octets.now wrote
+    c.write_all-2.ensures.prefix

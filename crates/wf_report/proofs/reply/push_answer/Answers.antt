@@ -1,6 +1,6 @@
 use Rattle.std.proofs.Common.{◌≡◌, ◌∷◌, [], arith}
 use Rattle.std.specs.Prelude.{slice_index, codes, decimal}
-use Rattle.wf_world.specs.Text.{score_digits}
+use Rattle.wf_def_world.specs.Text.{score_digits}
 use Rattle.wf_report.proofs.Rows.{joined_last}
 use Rattle.wf_report.proofs.reply.push_answer.Goals as goal
 
@@ -9,4 +9,5 @@ returns-clause-text c =
     let same : c.from.result ≡ c.args.first = omega arith in
     rw (c.push_bits.ensures.text, c.push.ensures, c.start.ensures.text, same)
     (joined_last c.args.out.now (codes "ba") (decimal c.args.first ∷ [])
-    (score_digits (slice_index c.args.words.now 0) (slice_index c.args.words.now 1) (slice_index c.args.words.now 2) (slice_index c.args.words.now 3) c.args.wide))
+    (score_digits (slice_index c.args.words.now 0) (slice_index c.args.words.now 1)
+    (slice_index c.args.words.now 2) (slice_index c.args.words.now 3) c.args.wide))

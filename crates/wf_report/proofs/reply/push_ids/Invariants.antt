@@ -4,4 +4,5 @@ use Rattle.wf_io.specs.Words.{spaced}
 use Rattle.wf_report.proofs.reply.push_ids.Given as goal
 
 abbrev pub invariant-loop-i : goal.invariant-loop-i
-invariant-loop-i l = (l.out ≡ l.fn.out ++ spaced (map decimal (take l.i l.ids))) × (length l.out ≤ length l.fn.out + 21 * l.i)
+invariant-loop-i l = (l.out ≡ l.fn.out ++ spaced (map decimal (take l.i l.ids))) ×
+    (length l.out ≤ length l.fn.out + 21 * l.i)

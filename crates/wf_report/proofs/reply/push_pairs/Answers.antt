@@ -7,8 +7,15 @@ use Rattle.wf_report.proofs.reply.push_pairs.Goals as goal
 
 pub loop-i-preserved : goal.loop-i-preserved
 loop-i-preserved c = (
-  rw (c.push_short.ensures.text, c.push-in-loop-i.ensures, c.push_number.ensures.digits, c.push.ensures, c.loop-i.invariant.0)
-      (three ((c.args.out.now ++ spaced (map pair_text (take c.loop-i.i c.args.pairs.now))) ++ 32 ∷ []) (decimal c.at-id.result.0) (58 ∷ []) (decimal c.at-id.result.1)
+  rw (
+    c.push_short.ensures.text,
+    c.push-in-loop-i.ensures,
+    c.push_number.ensures.digits,
+    c.push.ensures,
+    c.loop-i.invariant.0,
+  )
+      (three ((c.args.out.now ++ spaced (map pair_text (take c.loop-i.i c.args.pairs.now))) ++ 32 ∷ [])
+      (decimal c.at-id.result.0) (58 ∷ []) (decimal c.at-id.result.1)
       ∙ more_spaced pair_text c.args.pairs.now c.loop-i.i c.at-id.result c.args.out.now c.at-id.ensures),
   omega (
     arith,

@@ -5,4 +5,5 @@ use Rattle.wf_report.specs.Replies.{pair_text}
 use Rattle.wf_report.proofs.reply.push_pairs.Given as goal
 
 abbrev pub invariant-loop-i : goal.invariant-loop-i
-invariant-loop-i l = (l.out ≡ l.fn.out ++ spaced (map pair_text (take l.i l.pairs))) × (length l.out ≤ length l.fn.out + 27 * l.i)
+invariant-loop-i l = (l.out ≡ l.fn.out ++ spaced (map pair_text (take l.i l.pairs))) ×
+    (length l.out ≤ length l.fn.out + 27 * l.i)

@@ -1,7 +1,7 @@
 use Rattle.std.proofs.Common.{◌∷◌, [], cond, refl}
 use Rattle.std.specs.Prelude.{codes, decimal}
-use Rattle.wf_frame.specs.Answers.{part_of}
-use Rattle.wf_world.specs.Text.{part_words}
+use Rattle.wf_frame.specs.Answers.{part_sent}
+use Rattle.wf_def_world.specs.Text.{part_words}
 use Rattle.wf_report.proofs.Rows.{joined_three}
 use Rattle.wf_report.proofs.reply.push_reply.Goals as goal
 
@@ -10,7 +10,7 @@ returns-in-Send-clause-text c =
     rw (c.in-Send.is, c.push_more.ensures.text, c.push_part.ensures.text, c.push_exchange.ensures.text)
     (joined_three (codes "send")
     (decimal c.in-Send.exchange ∷ codes "sta" ∷ decimal c.in-Send.station ∷ codes "tid" ∷ decimal c.in-Send.tid ∷ codes "air" ∷ decimal c.in-Send.air ∷ [])
-    (part_words (part_of c.in-Send.request c.args.answer.now.pairs)) (cond c.in-Send.more (codes "more" ∷ []) []))
+    (part_words (part_sent c.in-Send.request c.args.answer.now.pairs)) (cond c.in-Send.more (codes "more" ∷ []) []))
 
 pub returns-in-Ba-clause-text : goal.returns-in-Ba-clause-text
 returns-in-Ba-clause-text c = rw (c.in-Ba.is, c.push_answer.ensures.text, c.requires) refl

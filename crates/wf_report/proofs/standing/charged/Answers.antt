@@ -1,12 +1,15 @@
 use Rattle.std.proofs.Common.{◌∙◌}
-use Rattle.wf_world.specs.Run.{world_of}
-use Rattle.wf_transmit_refines.proofs.Readers.{live_same}
+use Rattle.wf_def_world.specs.Run.{world_of}
+use Rattle.wf_send_half_refines.proofs.Readers.{live_same}
 use Rattle.wf_report.proofs.standing.charged.Goals as goal
 
 pub charged-requires : goal.charged-requires
 charged-requires c =
     let stands = c.path.ensures.stands in
-    record { live = rw (c.path.ensures.value) (live_same _ _ stands.0 c.args.station stands.1.parts ∙ c.requires) }
+    record {
+      live = rw (c.path.ensures.value) (live_same _ _ stands.0 c.args.station stands.1.parts
+          ∙ c.requires);
+    }
 
 pub returns : goal.returns
 returns c =

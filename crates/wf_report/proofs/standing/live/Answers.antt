@@ -1,4 +1,4 @@
-use Rattle.wf_world.specs.Run.{world_of}
+use Rattle.wf_def_world.specs.Run.{world_of}
 use Rattle.wf_report.proofs.standing.live.Goals as goal
 
 pub returns : goal.returns

@@ -1,8 +1,9 @@
 use Rattle.std.proofs.Common.{◌∙◌}
-use Rattle.wf_world.specs.Run.{world_of}
+use Rattle.wf_def_world.specs.Run.{world_of}
 use Rattle.wf_report.proofs.standing.open_exchanges.Goals as goal
 
 pub returns : goal.returns
 returns c =
     let stands = c.path.ensures.stands in
-    c.from.ensures ∙ c.open_count.ensures.world (world_of c.args.cell.now.past) stands.0 (rw (c.path.ensures.value) stands.1)
+    c.from.ensures ∙ c.open_count.ensures.world (world_of c.args.cell.now.past) stands.0
+    (rw (c.path.ensures.value) stands.1)

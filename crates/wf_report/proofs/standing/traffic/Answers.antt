@@ -1,5 +1,5 @@
 use Rattle.std.proofs.Common.{rules, ◌∙◌, take, ap}
-use Rattle.wf_world.specs.Run.{world_of}
+use Rattle.wf_def_world.specs.Run.{world_of}
 use Rattle.wf_report.proofs.Takes.{take_within}
 use Rattle.wf_report.proofs.standing.traffic.Goals as goal
 

@@ -5,5 +5,6 @@ use Rattle.wf_trace.proofs.ArgLaws.{behind}
 use Rattle.wf_trace.proofs.args.read_all.Given as goal
 
 abbrev pub invariant-loop-arg : goal.invariant-loop-arg
-invariant-loop-arg l = (read_args l.args (words l.line) ≡ behind l.fault l.values.items (read_args (drop l.arg-index l.args) (words l.rest)))
+invariant-loop-arg l = (read_args l.args (words l.line)
+    ≡ behind l.fault l.values.items (read_args (drop l.arg-index l.args) (words l.rest)))
     × (length l.values.items ≤ l.arg-index)

@@ -6,5 +6,7 @@ use Rattle.wf_uplink.proofs.uplink.begin.Goals as goal
 pub loop-tid-preserved : goal.loop-tid-preserved
 loop-tid-preserved c =
     ap₂ (λ n (r : Reordering). set c.loop-tid.sequencers n r) c.place_of.ensures c.reset.ensures
-    ∙ ap (λ (rs : List Reordering). set rs (place_of c.args.station c.loop-tid.tid) (new_reordering c.args.start c.args.window)) c.loop-tid.invariant
-    ∙ ap (λ n. begun n c.args.station c.args.window c.args.start c.args.sequencers.now) (sym (add-one c.loop-tid.tid))
+    ∙ ap (λ (rs : List Reordering). set rs (place_of c.args.station c.loop-tid.tid)
+    (new_reordering c.args.start c.args.window)) c.loop-tid.invariant
+    ∙ ap (λ n. begun n c.args.station c.args.window c.args.start c.args.sequencers.now)
+    (sym (add-one c.loop-tid.tid))

@@ -10,5 +10,8 @@ returns c = record {
     path = c.call-back.ensures.path;
     shows = c.of.ensures;
   };
-  frame = λ w bodies id fate stands replied. shows_accepted bodies id fate (reply_of c.call-back.new.answer) c.call-back.result (c.call-back.ensures.parcel w bodies stands) replied c.show_back.new.taken c.show_back.new.body c.show_back.ensures;
+  frame = λ w bodies id fate stands replied. shows_accepted bodies id fate
+      (reply_of c.call-back.new.answer) c.call-back.result
+      (c.call-back.ensures.parcel w bodies stands) replied c.show_back.new.taken c.show_back.new.body
+      c.show_back.ensures;
 }

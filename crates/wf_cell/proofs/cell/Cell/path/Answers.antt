@@ -1,7 +1,7 @@
 use Rattle.std.proofs.Common.{◌≡◌, subst, is_some}
-use Rattle.wf_transmit_refines.specs.Half.{body_of}
-use Rattle.wf_world.specs.Run.{Past, world_of}
-use Rattle.wf_bodies.specs.Inside.{is_inside}
+use Rattle.wf_send_half_refines.specs.Half.{body_of}
+use Rattle.wf_def_world.specs.Run.{Past, world_of}
+use Rattle.wf_send_half_refines.specs.Inside.{is_inside}
 use Rattle.wf_cell.specs.Engines.{EngineValue}
 use Rattle.wf_cell.specs.Cells.{CellValue}
 use Rattle.wf_cell.proofs.Bodies.{ids_inside}

@@ -2,12 +2,12 @@ use Rattle.std.proofs.Common.{IfSome, Some, ◌≡◌, ap, sym, ◌∙◌, subst
 use Rattle.wf_frame.specs.Answers.{reply_of}
 use Rattle.wf_frame.specs.declared.notes.Note.{Note}
 use Rattle.wf_frame.specs.declared.notes.ReplyNote.{ReplyNote}
-use Rattle.wf_rules.specs.Lengths.{greatest_body}
-use Rattle.wf_world.specs.Run.{Entry, Past, by, world_of}
-use Rattle.wf_laws.specs.Laws.{Laws}
-use Rattle.wf_laws.specs.Queues.{HasLength, IsAtMost}
-use Rattle.wf_transmit_refines.specs.Half.{body_of}
-use Rattle.wf_transmit_refines.specs.Standing.{StandsFor}
+use Rattle.wf_def_lists.specs.Lengths.{greatest_body}
+use Rattle.wf_def_world.specs.Run.{Entry, Past, by, world_of}
+use Rattle.wf_law_runs.specs.Laws.{Laws}
+use Rattle.wf_law_runs.specs.Queues.{HasLength, IsAtMost}
+use Rattle.wf_send_half_refines.specs.Half.{body_of}
+use Rattle.wf_send_half_refines.specs.Standing.{StandsFor}
 use Rattle.wf_path.specs.Jobs.{note_of, bodies_after}
 use Rattle.wf_cell.specs.Engines.{EngineValue}
 use Rattle.wf_cell.specs.Cells.{CellValue, room_in, with_entry}
@@ -22,7 +22,8 @@ pub returns-then-room-eq0-clause-laws : goal.returns-then-room-eq0-clause-laws
 returns-then-room-eq0-clause-laws c =
     let engine : EngineValue = c.self.inside.engine in
     let p : Past = record { config = engine.half.config; history = c.self.inside.past.items } in
-    subst (λ (u : CellValue). Laws u.past.config u.past.history) c.self.view_is (all_laws p engine (vec_capacity c.self.inside.past) c.self.invariant)
+    subst (λ (u : CellValue). Laws u.past.config u.past.history) c.self.view_is
+    (all_laws p engine (vec_capacity c.self.inside.past) c.self.invariant)
 
 pub step-requires-clause-small : goal.step-requires-clause-small
 step-requires-clause-small c =
@@ -36,13 +37,17 @@ invariant_of-self c =
     let p : Past = record { config = engine.half.config; history = c.self.inside.past.items } in
     let e : Entry = by c.args.caller (note_of c.args.job) in
     let answered : ReplyNote = reply_of c.step.new.answer in
-    let left : c.room.result ≡ room_in p = c.room.ensures ∙ ap (λ (u : CellValue). room_in u.past) (sym c.self.view_is) in
+    let left : c.room.result ≡ room_in p = c.room.ensures
+    ∙ ap (λ (u : CellValue). room_in u.past) (sym c.self.view_is) in
     let room : 0 < room_in p = omega (arith, left, c.if-room-eq0.false) in
     let history : List Entry = c.push_reserved.new.self.items in
-    let grown : history ≡ p.history ++ e ∷ [] = c.push_reserved.ensures.items ∙ ap (λ (n : Note). p.history ++ by c.args.caller n ∷ []) c.note_of_job.ensures.value in
-    next_cell p engine (vec_capacity c.self.inside.past) c.self.invariant refl room c.args.caller c.args.job c.step.new.self answered c.step.result c.step.ensures history
+    let grown : history ≡ p.history ++ e ∷ [] = c.push_reserved.ensures.items
+    ∙ ap (λ (n : Note). p.history ++ by c.args.caller n ∷ []) c.note.ensures.value in
+    next_cell p engine (vec_capacity c.self.inside.past) c.self.invariant refl room c.args.caller c.args.job
+    c.step.new.self answered c.step.result c.step.ensures history
     (vec_capacity c.push_reserved.new.self) grown (omega (arith, c.push_reserved.ensures.capacity))
-    (subst HasLength c.note_of_job.ensures.value c.note_of_job.ensures.some) (subst (IsAtMost greatest_body) c.note_of_job.ensures.value c.note_of_job.ensures.most)
+    (subst HasLength c.note.ensures.value c.note.ensures.some)
+    (subst (IsAtMost greatest_body) c.note.ensures.value c.note.ensures.most)
 
 pub returns-clause-past : goal.returns-clause-past
 returns-clause-past c = λ some.
@@ -50,11 +55,14 @@ returns-clause-past c = λ some.
     let p : Past = record { config = engine.half.config; history = c.self.inside.past.items } in
     let e : Entry = by c.args.caller (note_of c.args.job) in
     let answered : ReplyNote = reply_of c.step.new.answer in
-    let left : c.room.result ≡ room_in p = c.room.ensures ∙ ap (λ (u : CellValue). room_in u.past) (sym c.self.view_is) in
+    let left : c.room.result ≡ room_in p = c.room.ensures
+    ∙ ap (λ (u : CellValue). room_in u.past) (sym c.self.view_is) in
     let room : 0 < room_in p = omega (arith, left, c.if-room-eq0.false) in
     let history : List Entry = c.push_reserved.new.self.items in
-    let grown : history ≡ p.history ++ e ∷ [] = c.push_reserved.ensures.items ∙ ap (λ (n : Note). p.history ++ by c.args.caller n ∷ []) c.note_of_job.ensures.value in
-    past_grown p engine (vec_capacity c.self.inside.past) c.self.invariant refl room c.args.caller c.args.job c.step.new.self answered c.step.result c.step.ensures history grown
+    let grown : history ≡ p.history ++ e ∷ [] = c.push_reserved.ensures.items
+    ∙ ap (λ (n : Note). p.history ++ by c.args.caller n ∷ []) c.note.ensures.value in
+    past_grown p engine (vec_capacity c.self.inside.past) c.self.invariant refl room c.args.caller c.args.job
+    c.step.new.self answered c.step.result c.step.ensures history grown
     ∙ ap (λ (u : CellValue). with_entry e u.past) c.self.view_is
 
 pub returns-clause-bodies : goal.returns-clause-bodies
@@ -63,11 +71,15 @@ returns-clause-bodies c = λ some id.
     let p : Past = record { config = engine.half.config; history = c.self.inside.past.items } in
     let is = c.self.invariant in
     let answered : ReplyNote = reply_of c.step.new.answer in
-    let left : c.room.result ≡ room_in p = c.room.ensures ∙ ap (λ (u : CellValue). room_in u.past) (sym c.self.view_is) in
+    let left : c.room.result ≡ room_in p = c.room.ensures
+    ∙ ap (λ (u : CellValue). room_in u.past) (sym c.self.view_is) in
     let room : 0 < room_in p = omega (arith, left, c.if-room-eq0.false) in
-    let after = stepped p engine (vec_capacity c.self.inside.past) is refl room c.args.caller c.args.job c.step.new.self answered c.step.result c.step.ensures in
-    subst (λ (u : CellValue). body_of c.step.new.self.half id ≡ body_after u.half answered c.args.job id) c.self.view_is
-    (bodies_then engine.half c.step.new.self.half (world_of p) is.bodies c.args.job answered is.is_in.half after.reply after.is_in.half id)
+    let after = stepped p engine (vec_capacity c.self.inside.past) is refl room c.args.caller c.args.job
+    c.step.new.self answered c.step.result c.step.ensures in
+    subst (λ (u : CellValue). body_of c.step.new.self.half id ≡ body_after u.half answered c.args.job id)
+    c.self.view_is
+    (bodies_then engine.half c.step.new.self.half
+    (world_of p) is.bodies c.args.job answered is.is_in.half after.reply after.is_in.half id)
 
 pub returns-clause-reaped : goal.returns-clause-reaped
 returns-clause-reaped c = λ some id fate told.
@@ -75,11 +87,14 @@ returns-clause-reaped c = λ some id fate told.
     let p : Past = record { config = engine.half.config; history = c.self.inside.past.items } in
     let is = c.self.invariant in
     let answered : ReplyNote = reply_of c.step.new.answer in
-    let left : c.room.result ≡ room_in p = c.room.ensures ∙ ap (λ (u : CellValue). room_in u.past) (sym c.self.view_is) in
+    let left : c.room.result ≡ room_in p = c.room.ensures
+    ∙ ap (λ (u : CellValue). room_in u.past) (sym c.self.view_is) in
     let room : 0 < room_in p = omega (arith, left, c.if-room-eq0.false) in
-    let after = stepped p engine (vec_capacity c.self.inside.past) is refl room c.args.caller c.args.job c.step.new.self answered c.step.result c.step.ensures in
+    let after = stepped p engine (vec_capacity c.self.inside.past) is refl room c.args.caller c.args.job
+    c.step.new.self answered c.step.result c.step.ensures in
     subst (λ (u : CellValue). IfSome c.step.result (λ f. body_of u.half id ≡ Some f.body)) c.self.view_is
-    (reaped_body engine.half (world_of p) is.bodies c.args.job answered c.step.result is.is_in.half after.reply after.back id fate told)
+    (reaped_body engine.half (world_of p) is.bodies c.args.job answered c.step.result is.is_in.half
+    after.reply after.back id fate told)
 
 pub returns-clause-right : goal.returns-clause-right
 returns-clause-right c = λ some.
@@ -87,12 +102,16 @@ returns-clause-right c = λ some.
     let p : Past = record { config = engine.half.config; history = c.self.inside.past.items } in
     let is = c.self.invariant in
     let answered : ReplyNote = reply_of c.step.new.answer in
-    let left : c.room.result ≡ room_in p = c.room.ensures ∙ ap (λ (u : CellValue). room_in u.past) (sym c.self.view_is) in
+    let left : c.room.result ≡ room_in p = c.room.ensures
+    ∙ ap (λ (u : CellValue). room_in u.past) (sym c.self.view_is) in
     let room : 0 < room_in p = omega (arith, left, c.if-room-eq0.false) in
-    subst (λ (u : CellValue). IsRight u.past.config u.past.history c.args.job answered c.step.result) c.self.view_is
+    subst (λ (u : CellValue). IsRight u.past.config u.past.history c.args.job answered c.step.result)
+    c.self.view_is
     (is_right engine.half p is.bodies c.args.job answered c.step.result is.is_in.half
-    (replied p engine (vec_capacity c.self.inside.past) is refl room c.args.caller c.args.job c.step.new.self answered c.step.result c.step.ensures)
-    (came_back p engine (vec_capacity c.self.inside.past) is refl room c.args.caller c.args.job c.step.new.self answered c.step.result c.step.ensures is.bodies is.is_in.half))
+    (replied p engine (vec_capacity c.self.inside.past) is refl room c.args.caller c.args.job c.step.new.self
+    answered c.step.result c.step.ensures)
+    (came_back p engine (vec_capacity c.self.inside.past) is refl room c.args.caller c.args.job
+    c.step.new.self answered c.step.result c.step.ensures is.bodies is.is_in.half))
 
 pub returns-clause-stands : goal.returns-clause-stands
 returns-clause-stands c = λ some bodies stands.
@@ -100,17 +119,26 @@ returns-clause-stands c = λ some bodies stands.
     let p : Past = record { config = engine.half.config; history = c.self.inside.past.items } in
     let e : Entry = by c.args.caller (note_of c.args.job) in
     let answered : ReplyNote = reply_of c.step.new.answer in
-    let left : c.room.result ≡ room_in p = c.room.ensures ∙ ap (λ (u : CellValue). room_in u.past) (sym c.self.view_is) in
+    let left : c.room.result ≡ room_in p = c.room.ensures
+    ∙ ap (λ (u : CellValue). room_in u.past) (sym c.self.view_is) in
     let room : 0 < room_in p = omega (arith, left, c.if-room-eq0.false) in
     let history : List Entry = c.push_reserved.new.self.items in
-    let grown : history ≡ p.history ++ e ∷ [] = c.push_reserved.ensures.items ∙ ap (λ (n : Note). p.history ++ by c.args.caller n ∷ []) c.note_of_job.ensures.value in
+    let grown : history ≡ p.history ++ e ∷ [] = c.push_reserved.ensures.items
+    ∙ ap (λ (n : Note). p.history ++ by c.args.caller n ∷ []) c.note.ensures.value in
     let after = c.step.new.self in
-    let before : StandsFor engine.half (world_of p) bodies = subst (λ (u : CellValue). StandsFor u.half (world_of u.past) bodies) (sym c.self.view_is) stands in
-    subst (λ (u : CellValue). StandsFor after.half (world_of (record { config = after.half.config; history = history })) (bodies_after u.half c.args.job answered bodies)) c.self.view_is
-    (subst (λ (q : Past). StandsFor after.half (world_of q) (bodies_after engine.half c.args.job answered bodies))
-    (sym (past_grown p engine (vec_capacity c.self.inside.past) c.self.invariant refl room c.args.caller c.args.job after answered c.step.result c.step.ensures history grown))
-    (still_stands p engine (vec_capacity c.self.inside.past) c.self.invariant refl room c.args.caller c.args.job after answered c.step.result c.step.ensures bodies before))
+    let before : StandsFor engine.half (world_of p) bodies =
+    subst (λ (u : CellValue). StandsFor u.half (world_of u.past) bodies) (sym c.self.view_is) stands in
+    subst (λ (u : CellValue). StandsFor after.half
+    (world_of (record { config = after.half.config; history = history }))
+    (bodies_after u.half c.args.job answered bodies)) c.self.view_is
+    (subst (λ (q : Past). StandsFor after.half (world_of q)
+    (bodies_after engine.half c.args.job answered bodies))
+    (sym (past_grown p engine (vec_capacity c.self.inside.past) c.self.invariant refl room c.args.caller
+    c.args.job after answered c.step.result c.step.ensures history grown))
+    (still_stands p engine (vec_capacity c.self.inside.past) c.self.invariant refl room c.args.caller
+    c.args.job after answered c.step.result c.step.ensures bodies before))
 
 pub returns-clause-laws : goal.returns-clause-laws
 returns-clause-laws c =
-    all_laws (record { config = c.step.new.self.half.config; history = c.push_reserved.new.self.items }) c.step.new.self (vec_capacity c.push_reserved.new.self) (invariant_of-self c)
+    all_laws (record { config = c.step.new.self.half.config; history = c.push_reserved.new.self.items })
+    c.step.new.self (vec_capacity c.push_reserved.new.self) (invariant_of-self c)

@@ -1,36 +1,44 @@
 use Rattle.std.proofs.Common.{ap, sym, subst, ℕ, List}
-use Rattle.wf_cell.specs.Engines.{EngineValue, Meets}
+use Rattle.wf_cell.specs.Engines.{EngineValue, EngineMeets}
 use Rattle.wf_frame.specs.Answers.{reply_with}
 use Rattle.wf_frame.specs.declared.answers.Brief.{Brief}
 use Rattle.wf_frame.specs.declared.notes.Ask.TheVariants.{Answer}
 use Rattle.wf_frame.specs.declared.notes.Note.TheVariants.{Asked}
 use Rattle.wf_frame.specs.declared.notes.ReplyNote.{ReplyNote}
-use Rattle.wf_score.specs.Board.{Board}
-use Rattle.wf_marks.specs.Marks.{with_answer, with_changed}
-use Rattle.wf_receive_refines.specs.Hearing.{agreement_of}
+use Rattle.wf_recv_agreement.specs.Board.{Board}
+use Rattle.wf_send_exchanges.specs.Marks.{with_answer, with_changed}
+use Rattle.wf_recv_refines.specs.Hearing.{agreement_of}
 use Rattle.wf_cell.proofs.Exchanges.{answer_refused, answered_meets, told_station, told_tid}
 use Rattle.wf_cell.proofs.engine.Engine.answer.Goals as goal
 
 pub returns-in-Err : goal.returns-in-Err
-returns-in-Err c = λ w bodies i. answer_refused c.args.self.now w bodies c.args.exchange i c.in-Err.reason (c.in-Err.ensures.refused w bodies i)
+returns-in-Err c = λ w bodies i. answer_refused c.args.self.now w bodies c.args.exchange i c.in-Err.reason
+    (c.in-Err.ensures.refused w bodies i)
 
 pub keep_answer-answer-requires-clause-within : goal.keep_answer-answer-requires-clause-within
 keep_answer-answer-requires-clause-within c =
-    told_station c.args.self.now c.requires.world c.requires.bodies c.args.exchange c.in-Ok.sent c.requires.is_in (c.in-Ok.ensures.sent c.requires.world c.requires.bodies c.requires.is_in)
+    told_station c.args.self.now c.requires.world c.requires.bodies c.args.exchange c.in-Ok.sent
+    c.requires.is_in (c.in-Ok.ensures.sent c.requires.world c.requires.bodies c.requires.is_in)
 
 pub keep_answer-answer-requires-clause-tid : goal.keep_answer-answer-requires-clause-tid
 keep_answer-answer-requires-clause-tid c =
-    told_tid c.requires.world c.args.exchange c.in-Ok.sent c.requires.is_in.half.reached (c.in-Ok.ensures.sent c.requires.world c.requires.bodies c.requires.is_in)
+    told_tid c.requires.world c.args.exchange c.in-Ok.sent c.requires.is_in.half.reached
+    (c.in-Ok.ensures.sent c.requires.world c.requires.bodies c.requires.is_in)
 
 pub returns-in-Ok : goal.returns-in-Ok
 returns-in-Ok c = λ w bodies i.
     let e : ℕ = c.args.exchange in
     let sent = c.in-Ok.sent in
     let b : Board = (agreement_of c.args.self.now.peers sent.station sent.tid).board in
-    let u : EngineValue = record c.args.self.now { marks = with_changed e (with_answer b.start b.offsets) c.args.self.now.marks } in
+    let u : EngineValue = record c.args.self.now {
+      marks =
+          with_changed e (with_answer b.start b.offsets) c.args.self.now.marks;
+    } in
     let pairs : List (ℕ × ℕ) = c.args.answer.now.pairs in
     let ids : List ℕ = c.args.answer.now.ids in
-    let meets = answered_meets c.args.self.now w bodies e i sent (c.in-Ok.ensures.sent w bodies i) (sym (c.in-Ok.ensures.refused w bodies i)) in
+    let meets = answered_meets c.args.self.now w bodies e i sent (c.in-Ok.ensures.sent w bodies i)
+    (sym (c.in-Ok.ensures.refused w bodies i)) in
     let told = ap (λ (k : Brief). reply_with k pairs ids) (sym c.keep_answer-answer.ensures.brief) in
-    subst (λ (k : EngineValue). Meets w bodies (Asked (Answer e)) k (reply_with c.keep_answer-answer.result pairs ids)) (sym c.keep_answer-answer.ensures.kept)
-    (subst (λ (r : ReplyNote). Meets w bodies (Asked (Answer e)) u r) told meets)
+    subst (λ (k : EngineValue). EngineMeets w bodies (Asked (Answer e)) k
+    (reply_with c.keep_answer-answer.result pairs ids)) (sym c.keep_answer-answer.ensures.kept)
+    (subst (λ (r : ReplyNote). EngineMeets w bodies (Asked (Answer e)) u r) told meets)

@@ -3,7 +3,8 @@ use Rattle.wf_cell.proofs.Exchanges.{arrive_refused}
 use Rattle.wf_cell.proofs.engine.Engine.arrive.Goals as goal
 
 pub returns-in-Err : goal.returns-in-Err
-returns-in-Err c = λ w bodies i. arrive_refused c.args.self.now w bodies c.args.exchange c.args.index i c.in-Err.reason (c.in-Err.ensures.refused w bodies i)
+returns-in-Err c = λ w bodies i. arrive_refused c.args.self.now w bodies c.args.exchange c.args.index i
+    c.in-Err.reason (c.in-Err.ensures.refused w bodies i)
 
 pub pass_on-requires : goal.pass_on-requires
 pass_on-requires c = record {

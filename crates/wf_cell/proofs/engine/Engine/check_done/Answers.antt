@@ -1,22 +1,42 @@
 use Rattle.std.proofs.Common.{sym, ◌∙◌, subst, Some, None}
-use Rattle.wf_cell.specs.Engines.{EngineValue, IsIn}
+use Rattle.wf_cell.specs.Engines.{EngineValue, EngineIsIn}
 use Rattle.wf_cell.proofs.Exchanges.{done_marked}
 use Rattle.wf_cell.proofs.engine.Engine.check_done.Goals as goal
 
 pub returns-in-None-clause-refused : goal.returns-in-None-clause-refused
 returns-in-None-clause-refused c = λ w bodies i.
-    let v : EngineValue = record { half = c.self.inside.path; peers = c.self.inside.peers; marks = c.self.inside.marks } in
-    let j : IsIn v w bodies = subst (λ (u : EngineValue). IsIn u w bodies) (sym c.self.view_is) i in
+    let v : EngineValue = record {
+      half = c.self.inside.path;
+      peers = c.self.inside.peers;
+      marks =
+          c.self.inside.marks;
+    } in
+    let j : EngineIsIn v w bodies = subst (λ (u : EngineValue). EngineIsIn u w bodies)
+    (sym c.self.view_is) i in
     done_marked v w bodies c.args.exchange c.args.heard j None (sym c.in-None.ensures)
 
 pub returns-in-Some-ending_refusal-clause-refused : goal.returns-in-Some-ending_refusal-clause-refused
 returns-in-Some-ending_refusal-clause-refused c = λ w bodies i.
-    let v : EngineValue = record { half = c.self.inside.path; peers = c.self.inside.peers; marks = c.self.inside.marks } in
-    let j : IsIn v w bodies = subst (λ (u : EngineValue). IsIn u w bodies) (sym c.self.view_is) i in
-    c.in-Some-ending_refusal.ensures ∙ done_marked v w bodies c.args.exchange c.args.heard j (Some c.in-Some.mark.now) (sym c.in-Some.ensures)
+    let v : EngineValue = record {
+      half = c.self.inside.path;
+      peers = c.self.inside.peers;
+      marks =
+          c.self.inside.marks;
+    } in
+    let j : EngineIsIn v w bodies = subst (λ (u : EngineValue). EngineIsIn u w bodies)
+    (sym c.self.view_is) i in
+    c.in-Some-ending_refusal.ensures ∙ done_marked v w bodies c.args.exchange c.args.heard j
+    (Some c.in-Some.mark.now) (sym c.in-Some.ensures)
 
 pub returns-after-heard-clause-refused : goal.returns-after-heard-clause-refused
 returns-after-heard-clause-refused c = λ w bodies i.
-    let v : EngineValue = record { half = c.self.inside.path; peers = c.self.inside.peers; marks = c.self.inside.marks } in
-    let j : IsIn v w bodies = subst (λ (u : EngineValue). IsIn u w bodies) (sym c.self.view_is) i in
-    c.in-None-ending_refusal.ensures ∙ done_marked v w bodies c.args.exchange c.args.heard j (Some c.in-Some.mark.now) (sym c.in-Some.ensures)
+    let v : EngineValue = record {
+      half = c.self.inside.path;
+      peers = c.self.inside.peers;
+      marks =
+          c.self.inside.marks;
+    } in
+    let j : EngineIsIn v w bodies = subst (λ (u : EngineValue). EngineIsIn u w bodies)
+    (sym c.self.view_is) i in
+    c.in-None-ending_refusal.ensures ∙ done_marked v w bodies c.args.exchange c.args.heard j
+    (Some c.in-Some.mark.now) (sym c.in-Some.ensures)

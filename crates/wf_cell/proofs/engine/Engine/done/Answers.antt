@@ -1,24 +1,36 @@
 use Rattle.std.proofs.Common.{◌≡◌, sym, subst, ℕ, List}
-use Rattle.wf_cell.specs.Engines.{EngineValue, IsIn, Meets}
+use Rattle.wf_cell.specs.Engines.{EngineValue, EngineIsIn, EngineMeets}
 use Rattle.wf_frame.specs.Answers.{reply_with}
 use Rattle.wf_frame.specs.declared.notes.Ask.TheVariants.{Done}
 use Rattle.wf_frame.specs.declared.notes.Note.TheVariants.{Asked}
-use Rattle.wf_marks.specs.declared.marks.Mark.{Mark}
+use Rattle.wf_send_exchanges.specs.declared.marks.Mark.{Mark}
 use Rattle.wf_cell.proofs.Exchanges.{done_refused, ended_meets, end_met, kept_answer}
 use Rattle.wf_cell.proofs.engine.Engine.done.Goals as goal
 
 pub returns-in-Err : goal.returns-in-Err
-returns-in-Err c = λ w bodies i. done_refused c.args.self.now w bodies c.args.exchange c.args.heard i c.in-Err.reason (c.in-Err.ensures.refused w bodies i)
+returns-in-Err c = λ w bodies i. done_refused c.args.self.now w bodies c.args.exchange c.args.heard i
+    c.in-Err.reason (c.in-Err.ensures.refused w bodies i)
 
 pub returns-in-Ok : goal.returns-in-Ok
 returns-in-Ok c = λ w bodies i.
-    let v : EngineValue = record { half = c.self.inside.path; peers = c.self.inside.peers; marks = c.self.inside.marks } in
-    let j : IsIn v w bodies = subst (λ (u : EngineValue). IsIn u w bodies) (sym c.self.view_is) i in
+    let v : EngineValue = record {
+      half = c.self.inside.path;
+      peers = c.self.inside.peers;
+      marks =
+          c.self.inside.marks;
+    } in
+    let j : EngineIsIn v w bodies = subst (λ (u : EngineValue). EngineIsIn u w bodies)
+    (sym c.self.view_is) i in
     let d = c.done_bits-answer in
     let pairs : List (ℕ × ℕ) = c.args.answer.now.pairs in
     let ids : List ℕ = c.args.answer.now.ids in
     let done = sym (c.in-Ok.ensures.refused w bodies i) in
-    let kept = subst (λ (u : EngineValue). c.in-Ok.kept ≡ kept_answer u.marks c.args.exchange c.args.heard) (sym c.self.view_is) c.in-Ok.ensures.kept in
-    let met = end_met v w bodies c.args.exchange c.args.heard j c.in-Ok.kept d.new.self d.result pairs ids kept done d.ensures.lost d.ensures.shown in
-    subst (λ (ms : List Mark). let u : EngineValue = record { half = d.new.self; peers = c.self.inside.peers; marks = ms } in Meets w bodies (Asked (Done c.args.exchange c.args.heard)) u (reply_with d.result pairs ids))
-    (sym c.close.ensures) (ended_meets v w bodies c.args.exchange c.args.heard j d.new.self (reply_with d.result pairs ids) done met)
+    let kept = subst (λ (u : EngineValue). c.in-Ok.kept ≡ kept_answer u.marks c.args.exchange c.args.heard)
+    (sym c.self.view_is) c.in-Ok.ensures.kept in
+    let met = end_met v w bodies c.args.exchange c.args.heard j c.in-Ok.kept d.new.self d.result pairs ids
+    kept done d.ensures.lost d.ensures.shown in
+    subst (λ (ms : List Mark). let u : EngineValue =
+    record { half = d.new.self; peers = c.self.inside.peers; marks = ms } in
+    EngineMeets w bodies (Asked (Done c.args.exchange c.args.heard)) u (reply_with d.result pairs ids))
+    (sym c.close.ensures) (ended_meets v w bodies c.args.exchange c.args.heard j d.new.self
+    (reply_with d.result pairs ids) done met)

@@ -1,60 +1,93 @@
 use Rattle.std.proofs.Common.{◌≡◌, ap, sym, ◌∙◌, subst, List, arith}
-use Rattle.wf_cell.specs.Engines.{EngineValue, IsIn, Meets}
+use Rattle.wf_cell.specs.Engines.{EngineValue, EngineIsIn, EngineMeets}
 use Rattle.wf_frame.specs.Answers.{reply_of, reply_with}
 use Rattle.wf_frame.specs.declared.answers.Answer.{Answer}
 use Rattle.wf_frame.specs.declared.answers.Brief.{Brief}
 use Rattle.wf_frame.specs.declared.notes.Ask.TheVariants.{Join}
 use Rattle.wf_frame.specs.declared.notes.Note.TheVariants.{Asked}
-use Rattle.wf_peer.specs.Agreements.{PeerValue}
-use Rattle.wf_transmit_refines.specs.Half.{TransmitValue}
-use Rattle.wf_receive_refines.proofs.Joining.{station_in_range, window_in_range, start_in_range}
+use Rattle.wf_recv_peer.specs.Agreements.{PeerValue}
+use Rattle.wf_send_half_refines.specs.Half.{TransmitValue}
+use Rattle.wf_recv_refines.proofs.Joining.{station_in_range, window_in_range, start_in_range}
 use Rattle.wf_cell.proofs.Calls.{is_joined, not_joined, joined_brief, joined_meets, refused_meets}
 use Rattle.wf_cell.proofs.engine.Engine.join.Goals as goal
 
 pub reset-requires-clause-within : goal.reset-requires-clause-within
 reset-requires-clause-within c =
     let w = c.requires.some.world in let bodies = c.requires.some.bodies in let i = c.requires.some.is_in in
-    let v : EngineValue = record { half = c.self.inside.path; peers = c.self.inside.peers; marks = c.self.inside.marks } in
-    let j : IsIn v w bodies = subst (λ (u : EngineValue). IsIn u w bodies) (sym c.self.view_is) i in
+    let v : EngineValue = record {
+      half = c.self.inside.path;
+      peers = c.self.inside.peers;
+      marks =
+          c.self.inside.marks;
+    } in
+    let j : EngineIsIn v w bodies = subst (λ (u : EngineValue). EngineIsIn u w bodies)
+    (sym c.self.view_is) i in
     let a : Answer = c.call.new.answer in
     let after : TransmitValue = c.call.new.self in
     let joined = ap (λ (b : Brief). reply_with b a.pairs a.ids) c.in-Joined.is in
     let x = c.args in
-    let done = is_joined w x.station x.window x.start x.exponent x.weight (sym (c.call.ensures.meets w bodies j.half).reply ∙ joined) in
+    let done = is_joined w x.station x.window x.start x.exponent x.weight
+    (sym (c.call.ensures.meets w bodies j.half).reply ∙ joined) in
     omega (arith, station_in_range w x.station x.window x.start x.exponent x.weight done, j.hears.sized.count)
 
 pub reset-requires-clause-size : goal.reset-requires-clause-size
 reset-requires-clause-size c =
     let w = c.requires.some.world in let bodies = c.requires.some.bodies in let i = c.requires.some.is_in in
-    let v : EngineValue = record { half = c.self.inside.path; peers = c.self.inside.peers; marks = c.self.inside.marks } in
-    let j : IsIn v w bodies = subst (λ (u : EngineValue). IsIn u w bodies) (sym c.self.view_is) i in
+    let v : EngineValue = record {
+      half = c.self.inside.path;
+      peers = c.self.inside.peers;
+      marks =
+          c.self.inside.marks;
+    } in
+    let j : EngineIsIn v w bodies = subst (λ (u : EngineValue). EngineIsIn u w bodies)
+    (sym c.self.view_is) i in
     let a : Answer = c.call.new.answer in
     let after : TransmitValue = c.call.new.self in
     let joined = ap (λ (b : Brief). reply_with b a.pairs a.ids) c.in-Joined.is in
     let x = c.args in
-    window_in_range w x.station x.window x.start x.exponent x.weight (is_joined w x.station x.window x.start x.exponent x.weight (sym (c.call.ensures.meets w bodies j.half).reply ∙ joined))
+    window_in_range w x.station x.window x.start x.exponent x.weight
+    (is_joined w x.station x.window x.start x.exponent x.weight
+    (sym (c.call.ensures.meets w bodies j.half).reply ∙ joined))
 
 pub returns-in-Joined : goal.returns-in-Joined
 returns-in-Joined c = λ w bodies i.
-    let v : EngineValue = record { half = c.self.inside.path; peers = c.self.inside.peers; marks = c.self.inside.marks } in
-    let j : IsIn v w bodies = subst (λ (u : EngineValue). IsIn u w bodies) (sym c.self.view_is) i in
+    let v : EngineValue = record {
+      half = c.self.inside.path;
+      peers = c.self.inside.peers;
+      marks =
+          c.self.inside.marks;
+    } in
+    let j : EngineIsIn v w bodies = subst (λ (u : EngineValue). EngineIsIn u w bodies)
+    (sym c.self.view_is) i in
     let a : Answer = c.call.new.answer in
     let after : TransmitValue = c.call.new.self in
     let m = c.call.ensures.meets w bodies j.half in
     let joined = ap (λ (b : Brief). reply_with b a.pairs a.ids) c.in-Joined.is in
     let x = c.args in
-    let low = start_in_range w x.station x.window x.start x.exponent x.weight (is_joined w x.station x.window x.start x.exponent x.weight (sym m.reply ∙ joined)) in
+    let low = start_in_range w x.station x.window x.start x.exponent x.weight
+    (is_joined w x.station x.window x.start x.exponent x.weight (sym m.reply ∙ joined)) in
     let number : c.of.result ≡ c.args.start = omega (arith, low, c.of.ensures, c.from.ensures) in
-    subst (λ (ps : List PeerValue). let u : EngineValue = record { half = after; peers = ps; marks = c.self.inside.marks } in Meets w bodies (Asked (Join x.station x.window x.start x.exponent x.weight)) u (reply_of a))
-    (sym c.reset.ensures) (joined_meets v after (reply_of a) w bodies x.station x.window x.start x.exponent x.weight c.of.result j m joined number)
+    subst (λ (ps : List PeerValue). let u : EngineValue =
+    record { half = after; peers = ps; marks = c.self.inside.marks } in
+    EngineMeets w bodies (Asked (Join x.station x.window x.start x.exponent x.weight)) u (reply_of a))
+    (sym c.reset.ensures) (joined_meets v after (reply_of a) w bodies x.station x.window x.start x.exponent
+    x.weight c.of.result j m joined number)
 
 pub returns-in_default : goal.returns-in_default
 returns-in_default c = λ w bodies i.
-    let v : EngineValue = record { half = c.self.inside.path; peers = c.self.inside.peers; marks = c.self.inside.marks } in
-    let j : IsIn v w bodies = subst (λ (u : EngineValue). IsIn u w bodies) (sym c.self.view_is) i in
+    let v : EngineValue = record {
+      half = c.self.inside.path;
+      peers = c.self.inside.peers;
+      marks =
+          c.self.inside.marks;
+    } in
+    let j : EngineIsIn v w bodies = subst (λ (u : EngineValue). EngineIsIn u w bodies)
+    (sym c.self.view_is) i in
     let a : Answer = c.call.new.answer in
     let after : TransmitValue = c.call.new.self in
     let m = c.call.ensures.meets w bodies j.half in
     let x = c.args in
-    refused_meets v after (Asked (Join x.station x.window x.start x.exponent x.weight)) (reply_of a) w bodies j m
-    (not_joined w x.station x.window x.start x.exponent x.weight (λ joined. c.in_default.not-Joined (joined_brief a.brief a.pairs a.ids (m.reply ∙ joined))))
+    refused_meets v after (Asked (Join x.station x.window x.start x.exponent x.weight))
+    (reply_of a) w bodies j m
+    (not_joined w x.station x.window x.start x.exponent x.weight
+    (λ joined. c.in_default.not-Joined (joined_brief a.brief a.pairs a.ids (m.reply ∙ joined))))

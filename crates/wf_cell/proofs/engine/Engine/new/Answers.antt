@@ -1,16 +1,11 @@
-use Rattle.std.proofs.Common.{refl}
 use Rattle.wf_frame.proofs.Ranges.{in_range}
-use Rattle.wf_cell.proofs.News.{new_engine, never_both}
+use Rattle.wf_cell.proofs.News.{new_engine}
 use Rattle.wf_cell.proofs.engine.Engine.new.Goals as goal
 
 pub new-requires : goal.new-requires
 new-requires c = (in_range c.args.config c.requires).stations.1
 
-pub unreachable-requires : goal.unreachable-requires
-unreachable-requires c =
-    let bad = rw (c.in-Err-BadConfig.field-0-is) at c.in-Err-BadConfig.ensures.bad in
-    never_both _ _ c.requires ((bad _).0 refl)
-
 pub returns-in-Ok : goal.returns-in-Ok
 returns-in-Ok c = λ bodies.
-    new_engine c.in-Ok.path c.args.config c.in_ok-peers.peers c.in_ok-marks.marks bodies c.in_ok-peers.ensures c.in_ok-marks.ensures (c.in-Ok.ensures.stands bodies)
+    new_engine c.in-Ok.path c.args.config c.in_ok-peers.peers c.in_ok-marks.marks bodies c.in_ok-peers.ensures
+    c.in_ok-marks.ensures (c.in-Ok.ensures.stands bodies)

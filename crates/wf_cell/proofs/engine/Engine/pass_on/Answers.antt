@@ -1,21 +1,28 @@
 use Rattle.std.proofs.Common.{◌≡◌, ap, sym, ◌∙◌, subst, ℕ, ◌<◌, List, take, arith}
 use Rattle.wf_frame.specs.Frames.{FrameValue}
-use Rattle.wf_world.specs.World.{World, Exchange}
-use Rattle.wf_world.specs.Exchanges.{transmissions}
-use Rattle.wf_peer.specs.Agreements.{PeerValue}
-use Rattle.wf_transmissions.specs.declared.reading.Sent.{Sent}
-use Rattle.wf_receive_refines.specs.Arriving.{peer_after, buffer_outcome}
-use Rattle.wf_receive_refines.specs.Hearing.{peer_of, with_peer, agreement_of}
-use Rattle.wf_cell.specs.Engines.{EngineValue, IsIn}
+use Rattle.wf_def_world.specs.World.{World, Exchange}
+use Rattle.wf_def_world.specs.Exchanges.{transmissions}
+use Rattle.wf_recv_peer.specs.Agreements.{PeerValue}
+use Rattle.wf_path.specs.declared.reading.Sent.{Sent}
+use Rattle.wf_recv_refines.specs.Arriving.{peer_after, buffer_outcome_of_transmission}
+use Rattle.wf_recv_refines.specs.Hearing.{peer_of, with_peer, agreement_of}
+use Rattle.wf_cell.specs.Engines.{EngineValue, EngineIsIn}
 use Rattle.wf_cell.specs.Octets.{IsSentTo}
 use Rattle.wf_cell.proofs.Exchanges.{IsOpen, told_open, told_is, told_station, arrives_within, transmissions_few, passed_on}
 use Rattle.wf_cell.proofs.engine.Engine.pass_on.Goals as goal
 
 pub written-len-requires : goal.written-len-requires
 written-len-requires c =
-    let w : World = c.requires.world in let bodies : ℕ → FrameValue = c.requires.bodies in let i = c.requires.is_in in let done = c.requires.arrives in
-    let v : EngineValue = record { half = c.self.inside.path; peers = c.self.inside.peers; marks = c.self.inside.marks } in
-    let j : IsIn v w bodies = subst (λ (u : EngineValue). IsIn u w bodies) (sym c.self.view_is) i in
+    let w : World = c.requires.world in let bodies : ℕ → FrameValue = c.requires.bodies in
+    let i = c.requires.is_in in let done = c.requires.arrives in
+    let v : EngineValue = record {
+      half = c.self.inside.path;
+      peers = c.self.inside.peers;
+      marks =
+          c.self.inside.marks;
+    } in
+    let j : EngineIsIn v w bodies = subst (λ (u : EngineValue). EngineIsIn u w bodies)
+    (sym c.self.view_is) i in
     let e : ℕ = c.args.exchange in let k : ℕ = c.args.index in let sent : Sent = c.args.sent in
     let told = c.requires.told w bodies i in
     let o : IsOpen w e = told_open w e sent told in
@@ -26,9 +33,16 @@ written-len-requires c =
 
 pub receive-requires-clause-within : goal.receive-requires-clause-within
 receive-requires-clause-within c =
-    let w : World = c.requires.world in let bodies : ℕ → FrameValue = c.requires.bodies in let i = c.requires.is_in in let done = c.requires.arrives in
-    let v : EngineValue = record { half = c.self.inside.path; peers = c.self.inside.peers; marks = c.self.inside.marks } in
-    let j : IsIn v w bodies = subst (λ (u : EngineValue). IsIn u w bodies) (sym c.self.view_is) i in
+    let w : World = c.requires.world in let bodies : ℕ → FrameValue = c.requires.bodies in
+    let i = c.requires.is_in in let done = c.requires.arrives in
+    let v : EngineValue = record {
+      half = c.self.inside.path;
+      peers = c.self.inside.peers;
+      marks =
+          c.self.inside.marks;
+    } in
+    let j : EngineIsIn v w bodies = subst (λ (u : EngineValue). EngineIsIn u w bodies)
+    (sym c.self.view_is) i in
     let e : ℕ = c.args.exchange in let k : ℕ = c.args.index in let sent : Sent = c.args.sent in
     let told = c.requires.told w bodies i in
     let o : IsOpen w e = told_open w e sent told in
@@ -39,9 +53,16 @@ receive-requires-clause-within c =
 
 pub receive-requires-clause-sent : goal.receive-requires-clause-sent
 receive-requires-clause-sent c =
-    let w : World = c.requires.world in let bodies : ℕ → FrameValue = c.requires.bodies in let i = c.requires.is_in in let done = c.requires.arrives in
-    let v : EngineValue = record { half = c.self.inside.path; peers = c.self.inside.peers; marks = c.self.inside.marks } in
-    let j : IsIn v w bodies = subst (λ (u : EngineValue). IsIn u w bodies) (sym c.self.view_is) i in
+    let w : World = c.requires.world in let bodies : ℕ → FrameValue = c.requires.bodies in
+    let i = c.requires.is_in in let done = c.requires.arrives in
+    let v : EngineValue = record {
+      half = c.self.inside.path;
+      peers = c.self.inside.peers;
+      marks =
+          c.self.inside.marks;
+    } in
+    let j : EngineIsIn v w bodies = subst (λ (u : EngineValue). EngineIsIn u w bodies)
+    (sym c.self.view_is) i in
     let e : ℕ = c.args.exchange in let k : ℕ = c.args.index in let sent : Sent = c.args.sent in
     let told = c.requires.told w bodies i in
     let o : IsOpen w e = told_open w e sent told in
@@ -49,17 +70,29 @@ receive-requires-clause-sent c =
     let here : sent.station ≡ x.station = ap (λ (s : Sent). s.station) (told_is w e sent x told o.known) in
     let within : k < transmissions x.content = arrives_within w e k x o.known done in
     let own : (peer_of c.self.inside.peers sent.station).station ≡ x.station =
-    j.hears.sized.station sent.station (omega (arith, told_station v w bodies e sent j told, j.hears.sized.count)) ∙ here in
+    j.hears.sized.station sent.station (omega (
+      arith,
+      told_station v w bodies e sent j told,
+      j.hears.sized.count,
+    )) ∙ here in
     let octets : List ℕ = take c.written-len.result c.written-len.new.octets in
     let at_own : IsSentTo (peer_of c.self.inside.peers sent.station).station x.tid k x.content octets =
-    subst (λ s. IsSentTo s x.tid k x.content octets) (sym own) (c.written-len.ensures.says w bodies x j.half o.known within) in
+    subst (λ s. IsSentTo s x.tid k x.content octets) (sym own)
+    (c.written-len.ensures.says w bodies x j.half o.known within) in
     record { tid = x.tid; index = k; content = x.content; sent = at_own }
 
 pub arrive-requires : goal.arrive-requires
 arrive-requires c =
-    let w : World = c.requires.world in let bodies : ℕ → FrameValue = c.requires.bodies in let i = c.requires.is_in in let done = c.requires.arrives in
-    let v : EngineValue = record { half = c.self.inside.path; peers = c.self.inside.peers; marks = c.self.inside.marks } in
-    let j : IsIn v w bodies = subst (λ (u : EngineValue). IsIn u w bodies) (sym c.self.view_is) i in
+    let w : World = c.requires.world in let bodies : ℕ → FrameValue = c.requires.bodies in
+    let i = c.requires.is_in in let done = c.requires.arrives in
+    let v : EngineValue = record {
+      half = c.self.inside.path;
+      peers = c.self.inside.peers;
+      marks =
+          c.self.inside.marks;
+    } in
+    let j : EngineIsIn v w bodies = subst (λ (u : EngineValue). EngineIsIn u w bodies)
+    (sym c.self.view_is) i in
     let e : ℕ = c.args.exchange in let k : ℕ = c.args.index in let sent : Sent = c.args.sent in
     let told = c.requires.told w bodies i in
     let o : IsOpen w e = told_open w e sent told in
@@ -70,8 +103,14 @@ arrive-requires c =
 
 pub returns : goal.returns
 returns c = λ w bodies i done.
-    let v : EngineValue = record { half = c.self.inside.path; peers = c.self.inside.peers; marks = c.self.inside.marks } in
-    let j : IsIn v w bodies = subst (λ (u : EngineValue). IsIn u w bodies) (sym c.self.view_is) i in
+    let v : EngineValue = record {
+      half = c.self.inside.path;
+      peers = c.self.inside.peers;
+      marks =
+          c.self.inside.marks;
+    } in
+    let j : EngineIsIn v w bodies = subst (λ (u : EngineValue). EngineIsIn u w bodies)
+    (sym c.self.view_is) i in
     let e : ℕ = c.args.exchange in let k : ℕ = c.args.index in let sent : Sent = c.args.sent in
     let told = c.requires.told w bodies i in
     let o : IsOpen w e = told_open w e sent told in
@@ -79,13 +118,21 @@ returns c = λ w bodies i done.
     let here : sent.station ≡ x.station = ap (λ (s : Sent). s.station) (told_is w e sent x told o.known) in
     let within : k < transmissions x.content = arrives_within w e k x o.known done in
     let own : (peer_of c.self.inside.peers sent.station).station ≡ x.station =
-    j.hears.sized.station sent.station (omega (arith, told_station v w bodies e sent j told, j.hears.sized.count)) ∙ here in
+    j.hears.sized.station sent.station (omega (
+      arith,
+      told_station v w bodies e sent j told,
+      j.hears.sized.count,
+    )) ∙ here in
     let octets : List ℕ = take c.written-len.result c.written-len.new.octets in
     let at_own : IsSentTo (peer_of c.self.inside.peers sent.station).station x.tid k x.content octets =
-    subst (λ s. IsSentTo s x.tid k x.content octets) (sym own) (c.written-len.ensures.says w bodies x j.half o.known within) in
+    subst (λ s. IsSentTo s x.tid k x.content octets) (sym own)
+    (c.written-len.ensures.says w bodies x j.half o.known within) in
     let id : ℕ = c.carried_id-id.result in
     let peers : List PeerValue = c.self.inside.peers in
-    passed_on v w bodies e k id x j o.known done (c.carried_id-id.ensures w bodies x j.half o.known within) c.receive.new.self c.arrive.new.self c.receive.new.up
-    (subst (λ s. c.receive.new.self ≡ with_peer s (peer_after x.tid k id x.content (peer_of peers s)) peers) here (c.receive.ensures.heard x.tid k x.content at_own))
+    passed_on v w bodies e k id x j o.known done (c.carried_id-id.ensures w bodies x j.half o.known within)
+    c.receive.new.self c.arrive.new.self c.receive.new.up
+    (subst (λ s. c.receive.new.self ≡ with_peer s (peer_after x.tid k id x.content (peer_of peers s)) peers)
+    here (c.receive.ensures.heard x.tid k x.content at_own))
     c.arrive.ensures
-    (subst (λ s. c.receive.new.up ≡ (buffer_outcome k id x.content (agreement_of peers s x.tid).buffer).up) here (c.receive.ensures.up x.tid k x.content at_own))
+    (subst (λ s. c.receive.new.up ≡ (buffer_outcome_of_transmission k id x.content
+    (agreement_of peers s x.tid).buffer).up) here (c.receive.ensures.up x.tid k x.content at_own))

@@ -1,20 +1,26 @@
 use Rattle.std.proofs.Common.{ap, sym, subst, List}
-use Rattle.wf_cell.specs.Engines.{EngineValue, IsIn, Meets}
-use Rattle.wf_frame.specs.Answers.{reply_of, reply_with, part_of}
+use Rattle.wf_cell.specs.Engines.{EngineValue, EngineIsIn, EngineMeets}
+use Rattle.wf_frame.specs.Answers.{reply_of, reply_with, part_sent}
 use Rattle.wf_frame.specs.declared.answers.Answer.{Answer}
 use Rattle.wf_frame.specs.declared.answers.Brief.{Brief}
 use Rattle.wf_frame.specs.declared.notes.Ask.TheVariants.{Pull}
 use Rattle.wf_frame.specs.declared.notes.Note.TheVariants.{Asked}
-use Rattle.wf_marks.specs.declared.marks.Mark.{Mark}
-use Rattle.wf_transmit_refines.specs.Half.{TransmitValue}
+use Rattle.wf_send_exchanges.specs.declared.marks.Mark.{Mark}
+use Rattle.wf_send_half_refines.specs.Half.{TransmitValue}
 use Rattle.wf_cell.proofs.Calls.{IsSend, send_brief, mark_fits, pulled_meets, not_pulled, refused_meets}
 use Rattle.wf_cell.proofs.engine.Engine.pull.Goals as goal
 
 pub open-requires-clause-room : goal.open-requires-clause-room
 open-requires-clause-room c =
     let w = c.requires.some.world in let bodies = c.requires.some.bodies in let i = c.requires.some.is_in in
-    let v : EngineValue = record { half = c.self.inside.path; peers = c.self.inside.peers; marks = c.self.inside.marks } in
-    let j : IsIn v w bodies = subst (λ (u : EngineValue). IsIn u w bodies) (sym c.self.view_is) i in
+    let v : EngineValue = record {
+      half = c.self.inside.path;
+      peers = c.self.inside.peers;
+      marks =
+          c.self.inside.marks;
+    } in
+    let j : EngineIsIn v w bodies = subst (λ (u : EngineValue). EngineIsIn u w bodies)
+    (sym c.self.view_is) i in
     let a : Answer = c.call.new.answer in
     let after : TransmitValue = c.call.new.self in
     let s = c.in-Send in
@@ -23,7 +29,7 @@ open-requires-clause-room c =
       station = s.station;
       tid = s.tid;
       charge = s.air;
-      part = part_of s.request a.pairs;
+      part = part_sent s.request a.pairs;
       more = s.more;
       is = ap (λ (b : Brief). reply_with b a.pairs a.ids) s.is;
     } in
@@ -32,8 +38,14 @@ open-requires-clause-room c =
 pub open-requires-clause-above : goal.open-requires-clause-above
 open-requires-clause-above c =
     let w = c.requires.some.world in let bodies = c.requires.some.bodies in let i = c.requires.some.is_in in
-    let v : EngineValue = record { half = c.self.inside.path; peers = c.self.inside.peers; marks = c.self.inside.marks } in
-    let j : IsIn v w bodies = subst (λ (u : EngineValue). IsIn u w bodies) (sym c.self.view_is) i in
+    let v : EngineValue = record {
+      half = c.self.inside.path;
+      peers = c.self.inside.peers;
+      marks =
+          c.self.inside.marks;
+    } in
+    let j : EngineIsIn v w bodies = subst (λ (u : EngineValue). EngineIsIn u w bodies)
+    (sym c.self.view_is) i in
     let a : Answer = c.call.new.answer in
     let after : TransmitValue = c.call.new.self in
     let s = c.in-Send in
@@ -42,7 +54,7 @@ open-requires-clause-above c =
       station = s.station;
       tid = s.tid;
       charge = s.air;
-      part = part_of s.request a.pairs;
+      part = part_sent s.request a.pairs;
       more = s.more;
       is = ap (λ (b : Brief). reply_with b a.pairs a.ids) s.is;
     } in
@@ -50,8 +62,14 @@ open-requires-clause-above c =
 
 pub returns-in-Send : goal.returns-in-Send
 returns-in-Send c = λ w bodies i.
-    let v : EngineValue = record { half = c.self.inside.path; peers = c.self.inside.peers; marks = c.self.inside.marks } in
-    let j : IsIn v w bodies = subst (λ (u : EngineValue). IsIn u w bodies) (sym c.self.view_is) i in
+    let v : EngineValue = record {
+      half = c.self.inside.path;
+      peers = c.self.inside.peers;
+      marks =
+          c.self.inside.marks;
+    } in
+    let j : EngineIsIn v w bodies = subst (λ (u : EngineValue). EngineIsIn u w bodies)
+    (sym c.self.view_is) i in
     let a : Answer = c.call.new.answer in
     let after : TransmitValue = c.call.new.self in
     let s = c.in-Send in
@@ -60,19 +78,28 @@ returns-in-Send c = λ w bodies i.
       station = s.station;
       tid = s.tid;
       charge = s.air;
-      part = part_of s.request a.pairs;
+      part = part_sent s.request a.pairs;
       more = s.more;
       is = ap (λ (b : Brief). reply_with b a.pairs a.ids) s.is;
     } in
-    subst (λ (ms : List Mark). let u : EngineValue = record { half = after; peers = c.self.inside.peers; marks = ms } in Meets w bodies (Asked (Pull c.args.class)) u (reply_of a)) (sym c.open.ensures)
+    subst (λ (ms : List Mark). let u : EngineValue =
+    record { half = after; peers = c.self.inside.peers; marks = ms } in
+    EngineMeets w bodies (Asked (Pull c.args.class)) u (reply_of a)) (sym c.open.ensures)
     (pulled_meets v after (reply_of a) w bodies c.args.class j (c.call.ensures.meets w bodies j.half) sent)
 
 pub returns-in_default : goal.returns-in_default
 returns-in_default c = λ w bodies i.
-    let v : EngineValue = record { half = c.self.inside.path; peers = c.self.inside.peers; marks = c.self.inside.marks } in
-    let j : IsIn v w bodies = subst (λ (u : EngineValue). IsIn u w bodies) (sym c.self.view_is) i in
+    let v : EngineValue = record {
+      half = c.self.inside.path;
+      peers = c.self.inside.peers;
+      marks =
+          c.self.inside.marks;
+    } in
+    let j : EngineIsIn v w bodies = subst (λ (u : EngineValue). EngineIsIn u w bodies)
+    (sym c.self.view_is) i in
     let a : Answer = c.call.new.answer in
     let after : TransmitValue = c.call.new.self in
     let m = c.call.ensures.meets w bodies j.half in
     refused_meets v after (Asked (Pull c.args.class)) (reply_of a) w bodies j m
-    (not_pulled w c.args.class (λ sent. send_brief a.brief a.pairs a.ids (subst IsSend (sym m.reply) sent) c.in_default.not-Send))
+    (not_pulled w c.args.class (λ sent. send_brief a.brief a.pairs a.ids
+    (subst IsSend (sym m.reply) sent) c.in_default.not-Send))

@@ -1,20 +1,29 @@
 use Rattle.std.proofs.Common.{rules, ◌≡◌, ap, sym, ◌∙◌, subst, ℕ, ◌+◌, List, [], ◌∷◌, ◌++◌, arith}
-use Rattle.wf_peer.specs.Agreements.{PeerValue, new_peer}
-use Rattle.wf_receive_refines.specs.Hearing.{AreNew}
+use Rattle.wf_recv_peer.specs.Agreements.{PeerValue, new_peer}
+use Rattle.wf_recv_refines.specs.Hearing.{AreNew}
 use Rattle.wf_cell.proofs.Hearing.{one_new, none_new}
 use Rattle.wf_cell.proofs.peers.Peers.new.Goals as goal
 
 pub loop-station-init : goal.loop-station-init
-loop-station-init c = (subst (λ (xs : List PeerValue). AreNew 0 xs) (sym c.in_ok-list.ensures.items) none_new, c.in_ok-list.ensures.len, search rules)
+loop-station-init c = (
+  subst (λ (xs : List PeerValue). AreNew 0 xs) (sym c.in_ok-list.ensures.items) none_new,
+  c.in_ok-list.ensures.len,
+  search rules,
+)
 
 pub loop-station-preserved : goal.loop-station-preserved
 loop-station-preserved c =
     let xs : List PeerValue = c.loop-station.list.items in
     let n : ℕ = c.loop-station.station in
-    let grown : c.push_reserved.new.self.items ≡ xs ++ new_peer n 0 256 ∷ [] = c.push_reserved.ensures.items ∙ ap (λ (p : PeerValue). xs ++ p ∷ []) c.in_ok-new.ensures in
-    (subst (λ (ys : List PeerValue). AreNew (n + 1) ys) (sym grown) (one_new n xs c.loop-station.invariant.0), search rules, search rules)
+    let grown : c.push_reserved.new.self.items ≡ xs ++ new_peer n 0 256 ∷ [] =
+    c.push_reserved.ensures.items ∙ ap (λ (p : PeerValue). xs ++ p ∷ []) c.in_ok-new.ensures in (
+      subst (λ (ys : List PeerValue). AreNew (n + 1) ys) (sym grown) (one_new n xs c.loop-station.invariant.0),
+      search rules,
+      search rules,
+    )
 
 pub returns : goal.returns
 returns c =
-    let all : c.loop-station.station ≡ c.args.stations = omega (arith, c.loop-station-test.false, c.loop-station.auto.station-end) in
+    let all : c.loop-station.station ≡ c.args.stations =
+    omega (arith, c.loop-station-test.false, c.loop-station.auto.station-end) in
     subst (λ n. AreNew n c.loop-station.list.items) all c.loop-station.invariant.0

@@ -1,6 +1,7 @@
 use Rattle.std.proofs.Common.{◌≡◌, vec_len, vec_capacity}
-use Rattle.wf_receive_refines.specs.Hearing.{AreNew}
+use Rattle.wf_recv_refines.specs.Hearing.{AreNew}
 use Rattle.wf_cell.proofs.peers.Peers.new.Given as goal
 
 abbrev pub invariant-loop-station : goal.invariant-loop-station
-invariant-loop-station l = AreNew l.station l.list.items × (vec_len l.list ≡ l.station) × (vec_capacity l.list ≡ l.fn.stations)
+invariant-loop-station l = AreNew l.station l.list.items × (vec_len l.list ≡ l.station) ×
+    (vec_capacity l.list ≡ l.fn.stations)

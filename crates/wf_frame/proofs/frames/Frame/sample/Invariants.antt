@@ -3,4 +3,5 @@ use Rattle.wf_frame.specs.Frames.{sample_body}
 use Rattle.wf_frame.proofs.frames.Frame.sample.Given as goal
 
 abbrev pub invariant-loop-octet : goal.invariant-loop-octet
-invariant-loop-octet l = (l.next ≡ (l.flow + l.octet-index) % 256) × (take l.octet-index l.octet-items ≡ sample_body l.flow l.octet-index)
+invariant-loop-octet l = (l.next ≡ (l.flow + l.octet-index) % 256) ×
+    (take l.octet-index l.octet-items ≡ sample_body l.flow l.octet-index)

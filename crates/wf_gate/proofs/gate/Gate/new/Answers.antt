@@ -19,7 +19,8 @@ new-requires g c =
     let count : length c.in_ok-to_vec.field-0.items ≡ length c.args.quotas.now = ap length items in
     let any : 0 < length c.args.quotas.now = c.requires.some in
     let fits : c.room.result < 2 ^ 64 = search rules in
-    starts past settings room _ c.args.machine _ (search rules) (sym (ap past was)) (sym (ap settings was)) (sym left) (omega arith) (omega arith) (omega arith)
+    starts past settings room _ c.args.machine _ (search rules) (sym (ap past was)) (sym (ap settings was))
+    (sym left) (omega arith) (omega arith) (omega arith)
 
 pub returns-in-Ok-clause-seats : goal.returns-in-Ok-clause-seats
 returns-in-Ok-clause-seats g c = each_new _ _ _ c.deal-seats.ensures.count c.deal-seats.ensures.seats

@@ -1,16 +1,20 @@
 use Rattle.std.proofs.Common.{◌≡◌, sym, subst}
 use Rattle.wf_frame.specs.Answers.{reply_of}
-use Rattle.wf_path.specs.Jobs.{given_back}
+use Rattle.wf_path.specs.Jobs.{frame_given_back}
 use Rattle.wf_path.specs.declared.job.Job.{Job}
 use Rattle.wf_path.proofs.Jobs.{none_back, asked_meets}
 use Rattle.wf_path.proofs.path.Path.call.Goals as goal
 
 pub returns-in-Give-clause-parcel : goal.returns-in-Give-clause-parcel
-returns-in-Give-clause-parcel c w bodies h = subst (λ (job : Job). ◌≡◌ c.give.result (given_back bodies job (reply_of c.give.new.answer))) (sym c.in-Give.is) (c.give.ensures.parcel bodies)
+returns-in-Give-clause-parcel c w bodies h = subst
+    (λ (job : Job). ◌≡◌ c.give.result (frame_given_back bodies job (reply_of c.give.new.answer)))
+    (sym c.in-Give.is) (c.give.ensures.parcel bodies)
 
 pub returns-in-Call : goal.returns-in-Call
 returns-in-Call c = record {
-  meets = λ w bodies h. asked_meets c.args.self.now c.ask-answer.new.self c.args.job c.in-Call.ask c.in-Call.is c.ask-answer.result c.ask-answer.new.pairs c.args.answer.now.ids w bodies (c.ask-answer.ensures.answered.meets w bodies c.args.answer.now.ids h);
+  meets = λ w bodies h. asked_meets c.args.self.now c.ask-answer.new.self c.args.job c.in-Call.ask
+      c.in-Call.is c.ask-answer.result c.ask-answer.new.pairs c.args.answer.now.ids w bodies
+      (c.ask-answer.ensures.answered.meets w bodies c.args.answer.now.ids h);
   parcel = λ w bodies h. none_back bodies c.args.job c.in-Call.ask c.in-Call.is _ c.ask-answer.ensures.brief;
   refused = c.ask-answer.ensures.answered.refused c.args.answer.now.ids;
   path = c.ask-answer.ensures.answered.path;

@@ -1,8 +1,8 @@
 use Rattle.std.proofs.Common.{sym, ◌∙◌, ap, subst, ℕ, ◌<◌}
 use Rattle.wf_frame.specs.Frames.{FrameValue}
 use Rattle.wf_frame.specs.declared.notes.ReplyNote.TheVariants.{Accepted}
-use Rattle.wf_flowq_refines.specs.Frames.{with_body}
-use Rattle.wf_transmit.specs.Enqueues.{as_accepted}
+use Rattle.wf_queue_flows_refines.specs.Frames.{with_body}
+use Rattle.wf_send_half.specs.Enqueues.{as_accepted}
 use Rattle.wf_path.specs.Paths.{IsPath}
 use Rattle.wf_path.proofs.Enqueues.{some_octets, few_octets, accepted_tid, accepted_within, accepted_room, accepted_path, loser_within, loser_room, tracked_alone, tracked_both}
 use Rattle.wf_path.proofs.path.Path.enqueue.Goals as goal
@@ -11,32 +11,80 @@ use Rattle.wf_path.proofs.path.Path.enqueue.Goals.{in-Some, in_default}
 pub of_tid-requires : goal.of_tid-requires
 of_tid-requires c =
     subst (λ (t : ℕ). t < 8) (sym (c.tid-tid.ensures ∙ ap (λ (f : FrameValue). f.tid) c.frame-frame.ensures))
-    (accepted_tid c.self.inside.half c.self.inside.ready c.self.invariant c.args.parcel (Accepted c.in_ok-accepted.accepted.0 c.in_ok-accepted.accepted.1) (λ bodies. with_body bodies (as_accepted c.self.inside.half c.args.parcel)) c.enqueue.new.self c.in_ok-accepted.ensures.meets (λ why e. cc e))
+    (accepted_tid c.self.inside.half c.self.inside.ready c.self.invariant c.args.parcel
+    (Accepted c.in_ok-accepted.accepted.0 c.in_ok-accepted.accepted.1)
+    (λ bodies. with_body bodies (as_accepted c.self.inside.half c.args.parcel)) c.enqueue.new.self
+    c.in_ok-accepted.ensures.meets (λ why e. cc e))
 
 pub set-requires-clause-within : goal.set-requires-clause-within
-set-requires-clause-within c = accepted_within c.self.inside.half c.self.inside.ready c.self.invariant c.args.parcel (Accepted c.in_ok-accepted.accepted.0 c.in_ok-accepted.accepted.1) (λ bodies. with_body bodies (as_accepted c.self.inside.half c.args.parcel)) c.enqueue.new.self c.in_ok-accepted.ensures.meets (λ why e. cc e) c.station-station.result (c.station-station.ensures ∙ ap (λ (f : FrameValue). f.station) c.frame-frame.ensures)
+set-requires-clause-within c = accepted_within c.self.inside.half c.self.inside.ready c.self.invariant
+    c.args.parcel (Accepted c.in_ok-accepted.accepted.0 c.in_ok-accepted.accepted.1)
+    (λ bodies. with_body bodies (as_accepted c.self.inside.half c.args.parcel)) c.enqueue.new.self
+    c.in_ok-accepted.ensures.meets (λ why e. cc e) c.station-station.result
+    (c.station-station.ensures ∙ ap (λ (f : FrameValue). f.station) c.frame-frame.ensures)
 
 pub set-requires-clause-room : goal.set-requires-clause-room
-set-requires-clause-room c = accepted_room c.self.inside.half c.self.inside.ready c.self.invariant c.args.parcel (Accepted c.in_ok-accepted.accepted.0 c.in_ok-accepted.accepted.1) (λ bodies. with_body bodies (as_accepted c.self.inside.half c.args.parcel)) c.enqueue.new.self c.in_ok-accepted.ensures.meets (λ why e. cc e) c.station-station.result c.of_tid.result (c.station-station.ensures ∙ ap (λ (f : FrameValue). f.station) c.frame-frame.ensures)
+set-requires-clause-room c = accepted_room c.self.inside.half c.self.inside.ready c.self.invariant
+    c.args.parcel (Accepted c.in_ok-accepted.accepted.0 c.in_ok-accepted.accepted.1)
+    (λ bodies. with_body bodies (as_accepted c.self.inside.half c.args.parcel)) c.enqueue.new.self
+    c.in_ok-accepted.ensures.meets (λ why e. cc e) c.station-station.result c.of_tid.result
+    (c.station-station.ensures ∙ ap (λ (f : FrameValue). f.station) c.frame-frame.ensures)
 
 pub set-requires-in-Some-clause-within : goal.set-requires-in-Some-clause-within
-set-requires-in-Some-clause-within c = loser_within c.self.inside.half c.self.inside.ready c.self.invariant c.args.parcel (Accepted c.in_ok-accepted.accepted.0 c.in_ok-accepted.accepted.1) (λ bodies. with_body bodies (as_accepted c.self.inside.half c.args.parcel)) c.enqueue.new.self c.in_ok-accepted.ensures.meets (λ why e. cc e) c.in-Some.station c.in-Some.ensures.station
+set-requires-in-Some-clause-within c = loser_within c.self.inside.half c.self.inside.ready c.self.invariant
+    c.args.parcel (Accepted c.in_ok-accepted.accepted.0 c.in_ok-accepted.accepted.1)
+    (λ bodies. with_body bodies (as_accepted c.self.inside.half c.args.parcel)) c.enqueue.new.self
+    c.in_ok-accepted.ensures.meets (λ why e. cc e) c.in-Some.station c.in-Some.ensures.station
 
 pub set-requires-in-Some-clause-room : goal.set-requires-in-Some-clause-room
 set-requires-in-Some-clause-room c =
-    loser_room c.self.inside.half c.self.inside.ready c.self.invariant c.args.parcel (Accepted c.in_ok-accepted.accepted.0 c.in_ok-accepted.accepted.1) (λ bodies. with_body bodies (as_accepted c.self.inside.half c.args.parcel)) c.enqueue.new.self c.in_ok-accepted.ensures.meets (λ why e. cc e) c.set.new.self c.of_tid.result c.station-station.result _ c.set.ensures c.of_tid-in-Some.result c.in-Some.station c.in-Some.ensures.station
+    loser_room c.self.inside.half c.self.inside.ready c.self.invariant c.args.parcel
+    (Accepted c.in_ok-accepted.accepted.0 c.in_ok-accepted.accepted.1)
+    (λ bodies. with_body bodies (as_accepted c.self.inside.half c.args.parcel)) c.enqueue.new.self
+    c.in_ok-accepted.ensures.meets (λ why e. cc e) c.set.new.self c.of_tid.result c.station-station.result
+    _ c.set.ensures c.of_tid-in-Some.result c.in-Some.station c.in-Some.ensures.station
 
 pub invariant_of-self-in-Some : goal.invariant_of-self-in-Some
 invariant_of-self-in-Some c =
-    tracked_both c.self.inside.half c.self.inside.ready c.self.invariant c.args.parcel (Accepted c.in_ok-accepted.accepted.0 c.in_ok-accepted.accepted.1) (λ bodies. with_body bodies (as_accepted c.self.inside.half c.args.parcel)) c.enqueue.new.self c.in_ok-accepted.ensures.meets (λ why e. cc e) c.of_tid.result c.tid-tid.result c.station-station.result c.of_tid.ensures (c.tid-tid.ensures ∙ ap (λ (f : FrameValue). f.tid) c.frame-frame.ensures) (c.station-station.ensures ∙ ap (λ (f : FrameValue). f.station) c.frame-frame.ensures) (some_octets c.frame-frame.result.now c.args.parcel c.len-octets.result c.frame-frame.ensures c.len-octets.ensures.exact c.len-octets.ensures.some) (few_octets c.frame-frame.result.now c.args.parcel c.len-octets.result c.frame-frame.ensures c.len-octets.ensures.exact c.len-octets.ensures.most) c.next_drop-loser.result c.next_drop-loser.ensures.only
-    c.in-Some.station c.in-Some.tid c.in-Some.is c.in-Some.ensures.station c.of_tid-in-Some.result c.of_tid-in-Some.ensures c.set.new.self c.set-in-Some.new.self c.set.ensures c.set-in-Some.ensures
+    tracked_both c.self.inside.half c.self.inside.ready c.self.invariant c.args.parcel
+    (Accepted c.in_ok-accepted.accepted.0 c.in_ok-accepted.accepted.1)
+    (λ bodies. with_body bodies (as_accepted c.self.inside.half c.args.parcel)) c.enqueue.new.self
+    c.in_ok-accepted.ensures.meets (λ why e. cc e) c.of_tid.result c.tid-tid.result
+    c.station-station.result c.of_tid.ensures
+    (c.tid-tid.ensures ∙ ap (λ (f : FrameValue). f.tid) c.frame-frame.ensures)
+    (c.station-station.ensures ∙ ap (λ (f : FrameValue). f.station) c.frame-frame.ensures)
+    (some_octets c.frame-frame.result.now c.args.parcel c.len-octets.result c.frame-frame.ensures
+    c.len-octets.ensures.exact c.len-octets.ensures.some)
+    (few_octets c.frame-frame.result.now c.args.parcel c.len-octets.result c.frame-frame.ensures
+    c.len-octets.ensures.exact c.len-octets.ensures.most) c.next_drop-loser.result
+    c.next_drop-loser.ensures.only
+    c.in-Some.station c.in-Some.tid c.in-Some.is c.in-Some.ensures.station c.of_tid-in-Some.result
+    c.of_tid-in-Some.ensures c.set.new.self c.set-in-Some.new.self c.set.ensures c.set-in-Some.ensures
 
 pub invariant_of-self-in_default : goal.invariant_of-self-in_default
 invariant_of-self-in_default c =
-    tracked_alone c.self.inside.half c.self.inside.ready c.self.invariant c.args.parcel (Accepted c.in_ok-accepted.accepted.0 c.in_ok-accepted.accepted.1) (λ bodies. with_body bodies (as_accepted c.self.inside.half c.args.parcel)) c.enqueue.new.self c.in_ok-accepted.ensures.meets (λ why e. cc e) c.of_tid.result c.tid-tid.result c.station-station.result c.of_tid.ensures (c.tid-tid.ensures ∙ ap (λ (f : FrameValue). f.tid) c.frame-frame.ensures) (c.station-station.ensures ∙ ap (λ (f : FrameValue). f.station) c.frame-frame.ensures) (some_octets c.frame-frame.result.now c.args.parcel c.len-octets.result c.frame-frame.ensures c.len-octets.ensures.exact c.len-octets.ensures.some) (few_octets c.frame-frame.result.now c.args.parcel c.len-octets.result c.frame-frame.ensures c.len-octets.ensures.exact c.len-octets.ensures.most) c.next_drop-loser.result c.next_drop-loser.ensures.only c.in_default.is c.set.new.self c.set.ensures
+    tracked_alone c.self.inside.half c.self.inside.ready c.self.invariant c.args.parcel
+    (Accepted c.in_ok-accepted.accepted.0 c.in_ok-accepted.accepted.1)
+    (λ bodies. with_body bodies (as_accepted c.self.inside.half c.args.parcel)) c.enqueue.new.self
+    c.in_ok-accepted.ensures.meets (λ why e. cc e) c.of_tid.result c.tid-tid.result
+    c.station-station.result c.of_tid.ensures
+    (c.tid-tid.ensures ∙ ap (λ (f : FrameValue). f.tid) c.frame-frame.ensures)
+    (c.station-station.ensures ∙ ap (λ (f : FrameValue). f.station) c.frame-frame.ensures)
+    (some_octets c.frame-frame.result.now c.args.parcel c.len-octets.result c.frame-frame.ensures
+    c.len-octets.ensures.exact c.len-octets.ensures.some)
+    (few_octets c.frame-frame.result.now c.args.parcel c.len-octets.result c.frame-frame.ensures
+    c.len-octets.ensures.exact c.len-octets.ensures.most) c.next_drop-loser.result
+    c.next_drop-loser.ensures.only c.in_default.is c.set.new.self c.set.ensures
 
 pub returns-clause-path : goal.returns-clause-path
 returns-clause-path c = elim c.match-loser.branch [
-  | in-Some w ↦ subst IsPath (sym w.self-is) (accepted_path c.self.inside.half c.self.inside.ready c.self.invariant c.args.parcel (Accepted c.in_ok-accepted.accepted.0 c.in_ok-accepted.accepted.1) (λ bodies. with_body bodies (as_accepted c.self.inside.half c.args.parcel)) c.enqueue.new.self c.in_ok-accepted.ensures.meets (λ why e. cc e))
-  | in_default w ↦ subst IsPath (sym w.self-is) (accepted_path c.self.inside.half c.self.inside.ready c.self.invariant c.args.parcel (Accepted c.in_ok-accepted.accepted.0 c.in_ok-accepted.accepted.1) (λ bodies. with_body bodies (as_accepted c.self.inside.half c.args.parcel)) c.enqueue.new.self c.in_ok-accepted.ensures.meets (λ why e. cc e))
+  | in-Some w ↦ subst IsPath (sym w.self-is) (accepted_path c.self.inside.half c.self.inside.ready
+      c.self.invariant c.args.parcel (Accepted c.in_ok-accepted.accepted.0 c.in_ok-accepted.accepted.1)
+      (λ bodies. with_body bodies (as_accepted c.self.inside.half c.args.parcel)) c.enqueue.new.self
+      c.in_ok-accepted.ensures.meets (λ why e. cc e))
+  | in_default w ↦ subst IsPath (sym w.self-is)
+      (accepted_path c.self.inside.half c.self.inside.ready c.self.invariant c.args.parcel
+      (Accepted c.in_ok-accepted.accepted.0 c.in_ok-accepted.accepted.1)
+      (λ bodies. with_body bodies (as_accepted c.self.inside.half c.args.parcel)) c.enqueue.new.self
+      c.in_ok-accepted.ensures.meets (λ why e. cc e))
 ]

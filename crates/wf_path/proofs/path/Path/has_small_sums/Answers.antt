@@ -8,7 +8,8 @@ loop-station-init c s k low = absurd (omega (arith, low))
 
 pub loop-station-preserved : goal.loop-station-preserved
 loop-station-preserved c =
-    one_more c.args.self.now c.loop-station.station c.loop-station.invariant (c.is_small_at.ensures.small c.if-not-is_small_at.false)
+    one_more c.args.self.now c.loop-station.station c.loop-station.invariant
+    (c.is_small_at.ensures.small c.if-not-is_small_at.false)
 
 pub returns-clause-small : goal.returns-clause-small
 returns-clause-small c is =

@@ -2,10 +2,12 @@ use Rattle.wf_path.proofs.Openings.{new_tracked, new_small}
 use Rattle.wf_path.proofs.path.Path.new.Goals as goal
 
 pub invariant_of-result : goal.invariant_of-result
-invariant_of-result c = new_tracked c.in_ok-half.half c.in_ok-ready.ready c.args.config c.in_ok-half.ensures.stands c.in_ok-ready.ensures
+invariant_of-result c = new_tracked c.in_ok-half.half c.in_ok-ready.ready c.args.config
+    c.in_ok-half.ensures.stands c.in_ok-ready.ensures
 
 pub returns-clause-path : goal.returns-clause-path
-returns-clause-path c = (new_tracked c.in_ok-half.half c.in_ok-ready.ready c.args.config c.in_ok-half.ensures.stands c.in_ok-ready.ensures).path
+returns-clause-path c = (new_tracked c.in_ok-half.half c.in_ok-ready.ready c.args.config
+    c.in_ok-half.ensures.stands c.in_ok-ready.ensures).path
 
 pub returns-clause-small : goal.returns-clause-small
 returns-clause-small c = new_small c.in_ok-half.half c.args.config c.in_ok-half.ensures.stands

@@ -4,4 +4,5 @@ use Rattle.wf_trace.proofs.PlaceLaws.{reading_placed}
 use Rattle.wf_trace.proofs.reader.TraceReader.new.Goals as goal
 
 pub returns-clause-reading : goal.returns-clause-reading
-returns-clause-reading c = λ closed octets. ap (rest_of None None) (c.in_ok-cut.ensures.pieces closed octets) ∙ reading_placed closed octets
+returns-clause-reading c = λ closed octets. ap (rest_of None None) (c.in_ok-cut.ensures.pieces closed octets)
+    ∙ reading_placed closed octets

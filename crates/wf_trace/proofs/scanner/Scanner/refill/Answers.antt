@@ -9,6 +9,8 @@ invariant_of-self-2 g c = (
   grind (arith, common_steps),
   grind (arith, common_steps),
   c.self.invariant.3,
-  ends_at _ _ _ (grind (arith, common_steps)) (rw (c.deref.ensures.value) at c.lines_len-self-inside.ensures.within) (rw (c.deref.ensures.value) at c.lines_len-self-inside.ensures.behind)
+  ends_at _ _ _ (grind (arith, common_steps)) (rw
+      (c.deref.ensures.value) at c.lines_len-self-inside.ensures.within)
+      (rw (c.deref.ensures.value) at c.lines_len-self-inside.ensures.behind)
       (rw (c.deref.ensures.value) at c.lines_len-self-inside.ensures.end),
 )

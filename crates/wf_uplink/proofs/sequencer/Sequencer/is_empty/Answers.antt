@@ -7,4 +7,5 @@ pub returns : goal.returns
 returns c =
     same_not c.is_none.result (is_none_stored c.args.self.now.stored)
     (sym c.is_none.ensures ∙ ap is_some c.first_stored.ensures
-    ∙ empty_of_buffer c.self.inside.start c.self.inside.window c.self.inside.since c.self.inside.buffer c.args.self.now c.self.view_is)
+    ∙ empty_of_buffer c.self.inside.start c.self.inside.window c.self.inside.since c.self.inside.buffer
+    c.args.self.now c.self.view_is)

@@ -6,7 +6,8 @@ use Rattle.wf_uplink.proofs.sequencer.Sequencer.move_to.Given as goal
 
 abbrev pub invariant-loop-self : goal.invariant-loop-self
 invariant-loop-self l = record {
-  items : l.items ++ map item_of (onto l.target l.self).passed ≡ l.fn.items ++ map item_of (moved_to l.target l.fn.self).passed;
+  items : l.items ++ map item_of (onto l.target l.self).passed ≡ l.fn.items
+      ++ map item_of (moved_to l.target l.fn.self).passed;
   after : (onto l.target l.self).after ≡ (moved_to l.target l.fn.self).after;
   near : l.target ≤ l.self.start + 2047;
 }

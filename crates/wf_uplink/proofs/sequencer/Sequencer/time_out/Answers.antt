@@ -6,5 +6,6 @@ use Rattle.wf_uplink.proofs.sequencer.Sequencer.time_out.Goals as goal
 pub move_to-requires-clause-room : goal.move_to-requires-clause-room
 move_to-requires-clause-room c =
     let few = moved_few c.in-Some.first c.args.self.now in
-    let stored = stored_few c.self.inside.start c.self.inside.window c.self.inside.since c.self.inside.buffer c.args.self.now c.self.view_is c.self.invariant in
+    let stored = stored_few c.self.inside.start c.self.inside.window c.self.inside.since c.self.inside.buffer
+    c.args.self.now c.self.view_is c.self.invariant in
     omega (arith, few, stored, ap length c.requires.empty)

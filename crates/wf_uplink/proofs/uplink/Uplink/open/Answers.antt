@@ -1,6 +1,6 @@
 use Rattle.std.proofs.Common.{◌≡◌, ◌<◌, List, length, Option, None, Some, get_or, set, ◌∙◌, ap, ap₂, sym, subst, arith}
 use Rattle.std.proofs.lemmas.List.{get_or_default}
-use Rattle.wf_rules.specs.Airtime.{Rate}
+use Rattle.wf_def_air.specs.Airtime.{Rate}
 use Rattle.wf_uplink.specs.Reordering.{Reordering}
 use Rattle.wf_uplink.specs.Soundness.{IsSound, IsWatched, world_of}
 use Rattle.wf_uplink.specs.World.{World, begun, rate_of}
@@ -13,15 +13,23 @@ pub invariant_of-self : goal.invariant_of-self
 invariant_of-self c =
     let u = c.self.inside in
     let w : World = world_of u.clock u.rates.items u.sequencers.items u.frames u.up u.back u.missing in
-    let new_is : c.begin.new.sequencers ≡ begun 8 c.args.station c.args.window c.args.start u.sequencers.items =
+    let new_is : c.begin.new.sequencers ≡ begun 8 c.args.station c.args.window c.args.start
+    u.sequencers.items =
     c.begin.ensures ∙ ap (begun 8 c.args.station c.args.window c.args.start) c.deref_mut.ensures.value in
-    let size = ap length new_is ∙ begun_length 8 c.args.station c.args.window c.args.start u.sequencers.items in
-    let list_is = back_whole u.sequencers.len c.begin.new.sequencers u.sequencers.items size u.sequencers.ok.0 ∙ new_is in
-    let is = ap₂ (λ (rates : List (Option Rate)) (rs : List Reordering). world_of u.clock rates rs u.frames u.up u.back u.missing)
-    (ap₂ (λ n (rate : Rate). set u.rates.items n (Some rate)) c.from-number.ensures c.lowest.ensures) list_is in
-    let inside : c.from-number.result < length u.rates.items = grind (arith, c.if-number-len.false, c.len.ensures, u.rates.ok.0) in
+    let size = ap length new_is ∙ begun_length 8 c.args.station c.args.window c.args.start u.sequencers.items
+    in
+    let list_is = back_whole u.sequencers.len c.begin.new.sequencers u.sequencers.items size u.sequencers.ok.0
+    ∙ new_is in
+    let is = ap₂ (λ (rates : List (Option Rate)) (rs : List Reordering).
+    world_of u.clock rates rs u.frames u.up u.back u.missing)
+    (ap₂ (λ n (rate : Rate). set u.rates.items n (Some rate)) c.from-number.ensures c.lowest.ensures) list_is
+    in
+    let inside : c.from-number.result < length u.rates.items =
+    grind (arith, c.if-number-len.false, c.len.ensures, u.rates.ok.0) in
     let shut : rate_of w c.args.station ≡ None =
-    ap (λ n. get_or u.rates.items n None) (sym c.from-number.ensures) ∙ get_or_default u.rates.items c.from-number.result None c.index.result.now inside ∙ sym c.index.ensures
+    ap (λ n. get_or u.rates.items n None) (sym c.from-number.ensures)
+    ∙ get_or_default u.rates.items c.from-number.result None c.index.result.now inside
+    ∙ sym c.index.ensures
     ∙ none_of c.index.result.now (sym c.is_some.ensures ∙ c.if-is_some.false) in
     let x : IsOpening c.args.station c.args.window c.args.start w = record {
       within = subst (λ n. n < length u.rates.items) c.from-number.ensures inside;
@@ -30,5 +38,7 @@ invariant_of-self c =
       shut = shut;
     } in (
       subst IsSound (sym is) (opened_sound c.args.station c.args.window c.args.start w c.self.invariant.0 x),
-      subst (λ (v : World). IsWatched v u.waits) (sym is) (opened_watched c.args.station c.args.window c.args.start w u.waits c.self.invariant.0 c.self.invariant.1 x),
+      subst (λ (v : World). IsWatched v u.waits) (sym is)
+          (opened_watched c.args.station c.args.window c.args.start w u.waits c.self.invariant.0
+          c.self.invariant.1 x),
     )

@@ -5,7 +5,14 @@ use Rattle.wf_uplink.specs.World.{held}
 use Rattle.wf_uplink.proofs.uplink.Uplink.totals.Goals as goal
 
 with_held : ℕ → ℕ → ℕ → ℕ → ℕ → Totals
-with_held frames up old missing held = record { frames = frames; up = up; old = old; held = held; missing = missing }
+with_held frames up old missing held = record {
+  frames = frames;
+  up = up;
+  old = old;
+  held = held;
+  missing =
+      missing;
+}
 
 pub returns : goal.returns
 unfolding with_held

@@ -1,0 +1,144 @@
+//! Room in an aggregate (A-MPDU): IEEE 802.11-2012, 8.6.1 (subframes and their padding) and 9.12.2 (the
+//! length limit). Lengths are octets, times whole microseconds.
+#![tactic(auto)]
+
+ghost use Rattle.std.specs.Prelude.{◌≡◌, ◌+◌, ◌-◌, ◌<◌, ◌≤◌, ◌++◌, [], ◌∷◌, ℕ, List, length, nat_lt, ◌&&◌, IsTrue, IsFalse};
+ghost use Rattle.wf_def_lists.specs.Lengths.{greatest_body};
+ghost use Rattle.wf_def_air.specs.Airtime.{data_charge, longest_answer};
+ghost use Rattle.wf_def_air.specs.Fit.{most_octets, aggregate_octets, fits};
+ghost use Rattle.wf_air_time.specs.Rates.{longest_aggregate, longest_single};
+ghost use Rattle.wf_air_fit.specs.Rooms.{empty_room, is_short, RoomStandsFor};
+
+use std::marker::Model;
+use wf_air_time::Rate;
+
+/// The octets of the delimiter before an MPDU (8.6.1).
+const DELIMITER_OCTETS: u32 = 4;
+
+/// The octets of the MAC header of a QoS Data frame with three addresses (8.3.2.1).
+const HEADER_OCTETS: u32 = 26;
+
+/// The octets of a frame check sequence (8.2.4.8).
+const CHECK_OCTETS: u32 = 4;
+
+/// The octets of a subframe besides its body.
+const OVERHEAD: u32 = DELIMITER_OCTETS + HEADER_OCTETS + CHECK_OCTETS;
+
+/// Each subframe but the last is padded to a multiple of 4 octets (8.6.1).
+const PADDING: u32 = 4;
+
+/// An aggregate to which frames are added, one at a time: how many it has, and its octets.
+#[derive(Drop)]
+pub struct Room {
+    rate: Rate,
+    exponent: u8,
+    agg: u16,
+    cap: u32,
+    wide: bool,
+    count: u16,
+    octets: u32,
+}
+
+impl Model for Room {
+    ghost use Rattle.wf_air_fit.specs.Rooms.{RoomValue};
+
+    ghost Value = { RoomValue };
+
+    ghost use Rattle.wf_air_fit.specs.RoomView.{value_of, IsRoom};
+
+    ghost view = { value_of };
+
+    ghost invariant = { IsRoom };
+}
+
+impl Room {
+    /// An aggregate of no frame, for a station of this rate and maximum A-MPDU length exponent (0 to 3: at
+    /// most `2^(13+exponent) - 1` octets). It takes at most `agg` frames and `cap` microseconds of data time,
+    /// 3000 or more; `wide` says that the session's window is above 64.
+    pub fn new(rate: Rate, exponent: u8, agg: u16, cap: u32, wide: bool) -> Room
+        requires exponent_in { exponent ≤ 3 }
+        requires agg_in { 1 ≤ agg }
+        requires cap_in { 3000 ≤ cap }
+        ensures made { result ≡ empty_room rate exponent agg cap wide }
+        ensures empty { RoomStandsFor result [] }
+    {
+        Room {
+            rate,
+            exponent,
+            agg,
+            cap,
+            wide,
+            count: 0,
+            octets: 0,
+        }
+    }
+
+    /// Takes a frame with a body of this length, 1 to 2304, behind those it has; refused, with no change,
+    /// exactly where it does not fit. The first frame always fits.
+    pub fn add(&mut self, len: u16) -> bool
+        requires { (1 ≤ len) × (len ≤ greatest_body) }
+        ensures exact { (lens : List ℕ) → RoomStandsFor self.old lens →
+            result ≡ fits self.old.rate self.old.exponent self.old.agg self.old.cap (lens ++ len ∷ []) }
+        ensures taken { (lens : List ℕ) → RoomStandsFor self.old lens → IsTrue result →
+            RoomStandsFor self.new (lens ++ len ∷ []) }
+        ensures kept { self.new ≡ record self.old { count = self.new.count; octets = self.new.octets } }
+        ensures refused { IsFalse result → self.new ≡ self.old }
+        ensures first { self.old.count ≡ 0 → IsTrue result }
+    {
+        let octets = self.octets.next_multiple_of(PADDING) + OVERHEAD + u32::from(len);
+        if !self.has_room_for(octets) {
+            return false;
+        }
+        self.count += 1;
+        self.octets = octets;
+        true
+    }
+
+    // Whether one frame more fits, with which the aggregate has so many octets.
+    fn has_room_for(&self, octets: u32) -> bool
+        ensures exact { result ≡ (nat_lt self.now.count self.now.agg && is_short self.now octets) }
+        ensures first { self.now.count ≡ 0 → octets ≤ longest_single → IsTrue result }
+    {
+        self.count < self.agg && self.is_short(octets)
+    }
+
+    // Whether an aggregate of so many octets is within the length and the time. A single frame always is.
+    fn is_short(&self, octets: u32) -> bool
+        ensures exact { result ≡ is_short self.now octets }
+        ensures single { octets ≤ longest_single → IsTrue result }
+    {
+        octets <= self.most_octets() && self.rate.data_time(octets) <= self.cap
+    }
+
+    // The most octets of an aggregate (8.4.2.58.3).
+    fn most_octets(&self) -> u32
+        ensures exact { result ≡ most_octets self.now.exponent }
+        ensures least { most_octets 0 ≤ result }
+        ensures most { result ≤ longest_aggregate }
+    {
+        (1 << (13 + self.exponent)) - 1
+    }
+
+    /// How many frames it has, at most `agg`.
+    pub fn count(&self) -> u16
+        ensures exact { (lens : List ℕ) → RoomStandsFor self.now lens → result ≡ length lens }
+        ensures value { result ≡ self.now.count }
+        ensures most { result ≤ self.now.agg }
+    {
+        self.count
+    }
+
+    /// What a data exchange of its frames is charged, in microseconds: at most `cap`, SIFS and the longest
+    /// BlockAck.
+    pub fn air(&self) -> u32
+        requires { 1 ≤ self.now.count }
+        ensures exact { (lens : List ℕ) → RoomStandsFor self.now lens →
+            result ≡ data_charge self.now.rate (aggregate_octets lens) self.now.wide }
+        ensures most { result ≤ self.now.cap + longest_answer }
+    {
+        self.rate.data_charge(self.octets, self.wide)
+    }
+}
+
+#[cfg(test)]
+mod tests;

@@ -1,0 +1,55 @@
+use super::*;
+
+// Where an aggregate is full: the rate (MCS, MHz, short guard interval), the exponent, the greatest data time
+// and whether the session is wide; how many frames of 2304 octets stand first and then the length of one
+// more; the greatest length that fits behind these, and the charge with it. The octets were laid out one by
+// one, each subframe at a multiple of 4: 34 and the body, so 2338 at 0, 2338 at 2340, 1199 at 4680 and 2311
+// at 5880 end at 8191, the most for an exponent of 0. MCS 0 of 20 MHz has 26 bits in a symbol: 4000 are 36
+// and 991 symbols, 25766 bits, at most 3218 octets, so 34 + 844 behind 2340.
+const EDGES: [((u8, u8, bool), u8, u32, bool, u16, u16, u16, u32); 9] = [
+    ((15, 40, true), 0, 5400, false, 2, 1165, 2277, 308),
+    ((15, 40, true), 1, 5400, true, 6, 1, 2273, 536),
+    ((15, 40, true), 2, 5400, false, 13, 1, 2277, 964),
+    ((15, 40, true), 3, 5400, true, 27, 1, 2285, 1848),
+    ((0, 20, false), 3, 3000, false, 0, 2304, 31, 3048),
+    ((0, 20, false), 3, 4000, false, 0, 2304, 844, 4048),
+    ((0, 20, true), 3, 4000, false, 0, 2304, 1201, 4048),
+    ((3, 40, false), 3, 4000, true, 10, 2304, 980, 4056),
+    ((7, 20, true), 3, 5400, false, 19, 2304, 1588, 5448),
+];
+
+#[test]
+fn full_at_its_edges(rt: HostRuntime) {
+    for (place, ((mcs, mhz, short), exponent, cap, wide, long, next, last, air)) in EDGES
+        .iter()
+        .enumerate()
+    {
+        let rate = Rate::new(*mcs, *mhz, *short).expect(&rt, "a rate");
+        assert!(rt; *exponent <= 3 && *cap >= 3000);
+        assert!(rt; *next >= 1 && *next <= 2304 && *last >= 1 && *last < 2304);
+        let mut room = Room::new(rate, *exponent, 256, *cap, *wide);
+        for _ in 0..*long {
+            assert!(rt; room.add(2304), "at {place}");
+        }
+        assert!(rt; room.add(*next), "at {place}");
+        assert!(rt; !room.add(*last + 1), "at {place}");
+        assert!(rt; room.add(*last), "at {place}");
+        assert!(rt; room.count() >= 1);
+        assert_eq!(rt; (room.count(), room.air()), (*long + 2, *air), "at {place}");
+    }
+}
+
+#[test]
+fn count_is_limited(rt: HostRuntime) {
+    // seventy frames of 64 octets are 69*100 + 98 = 6998 octets, 56006 bits, 216 symbols of 260: 36 + 864 +
+    // 56
+    let rate = Rate::new(7, 20, false).expect(&rt, "a rate");
+    let mut room = Room::new(rate, 3, 70, 4000, true);
+    assert_eq!(rt; room.count(), 0);
+    for _ in 0..70 {
+        assert!(rt; room.add(64));
+    }
+    assert!(rt; !room.add(64));
+    assert!(rt; room.count() >= 1);
+    assert_eq!(rt; (room.count(), room.air()), (70, 956));
+}

@@ -1,6 +1,0 @@
-pub mod Linked
-pub mod Nodes
-pub mod NodeSend
-pub mod Sharing
-pub mod Steps
-pub mod Values

@@ -1,3 +1,0 @@
-pub mod LongestLemmas
-pub mod PoolLemmas
-pub mod TakeLemmas

@@ -1,5 +1,0 @@
-use Rattle.wf_codel_queues.proofs.LongestLemmas.{longest_by_number}
-use Rattle.wf_codel_queues.proofs.longest_is_the_worlds.Goals as goal
-
-pub returns : goal.returns
-returns c = λ v w q. longest_by_number v w.queues q

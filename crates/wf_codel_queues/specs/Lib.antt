@@ -1,3 +1,0 @@
-pub mod Backlog
-pub mod Pool
-pub mod OneQueue

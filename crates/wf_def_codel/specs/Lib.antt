@@ -1,0 +1,3 @@
+pub mod Codel
+pub mod CodelLoop
+pub mod Parameters

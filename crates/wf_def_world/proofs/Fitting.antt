@@ -1,0 +1,171 @@
+-- The longest front of a list that fits is what is chosen one at a time. This module is for other crates'
+-- proofs too.
+use Rattle.std.proofs.Common.{◌≡◌, refl, sym, ap, ◌∙◌, subst, arith, ℕ, zero, suc, ◌+◌, ◌-◌, ◌*◌, ◌/◌, ◌^◌, ◌<◌, ◌≤◌, Bool, true, false, if◌then◌else◌, List, [], ◌∷◌, ◌++◌, append_assoc, take, map, length, inl, inr, ◌⊎◌}
+use Rattle.std.specs.Prelude.{nat_le}
+use Rattle.std.proofs.lemmas.Bool.{cases_Bool, cases_lt, and_parts, and_from, le-leb, leb-true}
+use Rattle.std.proofs.lemmas.List.{length-append}
+use Rattle.std.proofs.Math.Seq.{take-append_seam, take-append-add}
+use Rattle.std.proofs.Math.Nat.{div-zero, div-mul-le_self}
+use Rattle.std.proofs.lemmas.Nat.{le-div}
+use Rattle.std.proofs.lemmas.List.{map-append}
+use Rattle.wf_def_lists.specs.Table.{ceil_div, greatest_upto, longest_front}
+use Rattle.wf_def_air.specs.Airtime.{Rate, bits, symbols, preamble_time, symbol_time, data_time}
+use Rattle.wf_def_air.specs.Fit.{aggregate_octets, fits}
+use Rattle.wf_def_world.specs.World.{World, Mpdu, station}
+use Rattle.wf_def_world.specs.Exchanges.{most_frames, fits_in, longest_fitting}
+
+-- the greatest that passes, or 0
+pub greatest_passes : (test : ℕ → Bool) (n : ℕ) → (greatest_upto test n ≡ 0) ⊎
+    (test (greatest_upto test n) ≡ true)
+greatest_passes test zero = inl refl
+greatest_passes test (suc n) = elim (cases_Bool (test (suc n))) [
+  | inl is ↦ subst (λ (b : Bool). ((if b then suc n else greatest_upto test n) ≡ 0) ⊎
+      (test (if b then suc n else greatest_upto test n) ≡ true)) (sym is) (inr is)
+  | inr fails ↦ subst (λ (b : Bool). ((if b then suc n else greatest_upto test n) ≡ 0) ⊎
+      (test (if b then suc n else greatest_upto test n) ≡ true)) (sym fails) (greatest_passes test n)
+]
+
+-- no front passes, or the longest front that passes does
+pub front_passes : {X : Type 0} (test : List X → Bool) (xs : List X) → (longest_front test xs ≡ []) ⊎
+    (test (longest_front test xs) ≡ true)
+front_passes test xs = elim (greatest_passes (λ n. test (take n xs)) (length xs)) [
+  | inl none ↦ inl (ap (λ (n : ℕ). take n xs) none)
+  | inr is ↦ inr is
+]
+
+greatest_is : (test : ℕ → Bool) (n k : ℕ) → k ≤ n → (k ≡ 0) ⊎ (test k ≡ true) →
+    ((j : ℕ) → k < j → j ≤ n → test j ≡ false) → greatest_upto test n ≡ k
+greatest_is test zero k low is others = omega (arith, low)
+greatest_is test (suc n) k low is others = elim (cases_lt k (suc n)) [
+  | inl less ↦
+      ap (λ (b : Bool). if b then suc n else greatest_upto test n) (others (suc n) less (omega arith))
+      ∙ greatest_is test n k (omega (arith, less)) is (λ j h h'. others j h (omega (arith, h')))
+  | inr not_less ↦
+      let e : k ≡ suc n = omega (arith, low, not_less) in
+      elim is [
+        | inl zero_is ↦ absurd (omega (arith, e, zero_is))
+        | inr passes ↦ ap (λ (b : Bool). if b then suc n else greatest_upto test n)
+            (subst (λ (i : ℕ). test i ≡ true) e passes) ∙ sym e
+      ]
+]
+
+-- a test that each front of what passes passes too
+unfoldable pub IsClosed : {X : Type 0} → (List X → Bool) → Type 0
+IsClosed {X} test = (xs ys : List X) → test (xs ++ ys) ≡ true → test xs ≡ true
+
+module _ {X : Type 0} (test : List X → Bool) (chosen : List X)
+    (starts : (chosen ≡ []) ⊎ (test chosen ≡ true)) where
+  at_front : (rest : List X) → test (take (length chosen) (chosen ++ rest)) ≡ test chosen
+  at_front rest = ap test (take-append_seam chosen rest)
+
+  starts_at : (rest : List X) → (length chosen ≡ 0) ⊎ (test (take (length chosen) (chosen ++ rest)) ≡ true)
+  starts_at rest = elim starts [
+    | inl none ↦ inl (ap (length {A = X}) none)
+    | inr is ↦ inr (at_front rest ∙ is)
+  ]
+
+  -- all are chosen
+  pub front_all : longest_front test (chosen ++ []) ≡ chosen
+  front_all =
+      let n : length (chosen ++ []) ≡ length chosen = omega (arith, length-append chosen []) in
+      ap (λ (k : ℕ). take k (chosen ++ []))
+      (greatest_is (λ k. test (take k (chosen ++ []))) (length (chosen ++ [])) (length chosen)
+      (omega (arith, n)) (starts_at []) (λ j h h'. absurd (omega (arith, n, h, h'))))
+      ∙ take-append_seam chosen []
+
+  -- the next one does not fit
+  pub front_ends : IsClosed test → (x : X) (rest : List X) → test (chosen ++ x ∷ []) ≡ false →
+      longest_front test (chosen ++ x ∷ rest) ≡ chosen
+  unfolding IsClosed
+  front_ends closed x rest fails =
+      ap (λ (k : ℕ). take k (chosen ++ x ∷ rest))
+      (greatest_is (λ k. test (take k (chosen ++ x ∷ rest))) (length (chosen ++ x ∷ rest)) (length chosen)
+      (omega (arith, length-append chosen (x ∷ rest))) (starts_at (x ∷ rest)) (λ j h h'. longer j h))
+      ∙ take-append_seam chosen (x ∷ rest)
+    where
+      longer_is : (j : ℕ) → length chosen < j → take j (chosen ++ x ∷ rest) ≡ (chosen ++ x ∷ [])
+          ++ take (j - length chosen - 1) rest
+      longer_is j h =
+          let k : ℕ = j - length chosen - 1 in
+          let e : j ≡ length chosen + suc k = omega (arith, h) in
+          ap (λ (i : ℕ). take i (chosen ++ x ∷ rest)) e ∙ take-append-add chosen (x ∷ rest) (suc k)
+          ∙ sym (append_assoc chosen (x ∷ []) (take k rest))
+
+      longer : (j : ℕ) → length chosen < j → test (take j (chosen ++ x ∷ rest)) ≡ false
+      longer j h = elim (cases_Bool (test (take j (chosen ++ x ∷ rest)))) [
+        | inl is ↦
+            let front : test (chosen ++ x ∷ []) ≡ true = closed (chosen ++ x ∷ [])
+            (take (j - length chosen - 1) rest) (ap test (sym (longer_is j h)) ∙ is) in
+            absurd (cc (front, fails))
+        | inr is_not ↦ is_not
+      ]
+
+-- ---- what fits an aggregate, the fronts of it fit too
+
+div_less : (x y k : ℕ) → x ≤ y → x / k ≤ y / k
+div_less x y zero h = rw (div-zero x, div-zero y) (omega arith)
+div_less x y (suc k) h = le-div (x / suc k) y (suc k) (omega arith)
+    (omega (arith, div-mul-le_self x (suc k), h))
+
+octets_front : (xs ys : List ℕ) → aggregate_octets xs ≤ aggregate_octets (xs ++ ys)
+octets_front [] ys = omega arith
+octets_front (x ∷ []) [] = omega arith
+octets_front (x ∷ []) (y ∷ ys) = omega arith
+octets_front (x ∷ z ∷ xs) ys = omega (arith, octets_front (z ∷ xs) ys)
+
+time_less : (r : Rate) (a b : ℕ) → a ≤ b → data_time r a ≤ data_time r b
+time_less r a b h = go r.short
+  where
+    fewer : symbols r a ≤ symbols r b
+    fewer = div_less (8 * a + 22 + (bits r - 1)) (8 * b + 22 + (bits r - 1)) (bits r) (omega (arith, h))
+
+    time : Bool → ℕ → ℕ
+    time short n = preamble_time r + symbol_time * (if short then ceil_div (9 * n) 10 else n)
+
+    go : (short : Bool) → time short (symbols r a) ≤ time short (symbols r b)
+    go true = omega (arith, fewer)
+    go false = omega (arith, fewer)
+
+pub fits_closed : (r : Rate) (x most cap : ℕ) (xs ys : List ℕ) → fits r x most cap (xs ++ ys) ≡ true →
+    fits r x most cap xs ≡ true
+fits_closed r x most cap xs ys h =
+    let few = and_parts (nat_le (length (xs ++ ys)) most) _ h in
+    let rest = and_parts (nat_le (aggregate_octets (xs ++ ys)) (2 ^ (13 + x) - 1)) _ few.1 in
+    let octets : aggregate_octets xs ≤ aggregate_octets (xs ++ ys) = octets_front xs ys in
+    and_from (nat_le (length xs) most) _ (le-leb (length xs) most
+    (omega (arith, leb-true (length (xs ++ ys)) most few.0, length-append xs ys)))
+    (and_from (nat_le (aggregate_octets xs) (2 ^ (13 + x) - 1)) _
+    (le-leb (aggregate_octets xs) (2 ^ (13 + x) - 1)
+    (omega (arith, leb-true (aggregate_octets (xs ++ ys)) (2 ^ (13 + x) - 1) rest.0, octets)))
+    (le-leb (data_time r (aggregate_octets xs)) cap
+    (omega (
+      arith,
+      leb-true (data_time r (aggregate_octets (xs ++ ys))) cap rest.1,
+      time_less r (aggregate_octets xs) (aggregate_octets (xs ++ ys)) octets,
+    ))))
+
+pub fits_in_closed : (w : World) (s : ℕ) → IsClosed (fits_in w s)
+unfolding IsClosed
+fits_in_closed w s xs ys h =
+    fits_closed (station w s).rate (station w s).exponent (most_frames w s) w.config.cap (map (λ m. m.len) xs)
+    (map (λ m. m.len) ys)
+    (ap (fits (station w s).rate (station w s).exponent (most_frames w s) w.config.cap)
+    (sym (map-append (λ (m : Mpdu). m.len) xs ys)) ∙ h)
+
+-- ---- the aggregate's front of the waiting numbers, one at a time
+
+-- so far none is chosen, or what is chosen fits
+unfoldable pub IsBegun : World → ℕ → List Mpdu → Type 0
+IsBegun w s chosen = (chosen ≡ []) ⊎ (fits_in w s chosen ≡ true)
+
+pub chosen_all : (w : World) (s : ℕ) (chosen : List Mpdu) → IsBegun w s chosen →
+    longest_fitting w s (chosen ++ []) ≡ chosen
+unfolding longest_fitting IsBegun
+chosen_all w s chosen begun = front_all (fits_in w s) chosen begun
+
+pub chosen_ends : (w : World) (s : ℕ) (chosen : List Mpdu) (m : Mpdu) (rest : List Mpdu) →
+    IsBegun w s chosen → fits_in w s (chosen ++ m ∷ []) ≡ false →
+    longest_fitting w s (chosen ++ m ∷ rest) ≡ chosen
+unfolding longest_fitting IsBegun
+chosen_ends w s chosen m rest begun fails = front_ends (fits_in w s) chosen begun
+    (fits_in_closed w s) m rest fails

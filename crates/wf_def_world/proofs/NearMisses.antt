@@ -1,0 +1,391 @@
+-- Worked histories at the edges of the rules: on each of them a near miss of the definitions replies
+-- otherwise, or writes another text.
+use Rattle.std.proofs.Common.{◌≡◌, refl, true, false, List, [], ◌∷◌, ◌++◌, drop, map, Some, None, codes}
+use Rattle.std.specs.List.{concat}
+use Rattle.std.specs.Fmt.{digits}
+use Rattle.wf_frame.specs.declared.classes.Class.TheVariants.{Be}
+use Rattle.wf_frame.specs.declared.classes.Cause.TheVariants.{Overlimit}
+use Rattle.wf_frame.specs.declared.classes.Fate.TheVariants.{Dropped}
+use Rattle.wf_frame.specs.declared.notes.Ask.TheVariants.{Join, Leave, Rate, Pull, Arrive, Answer, Done, Sleep, Wake, Poll, Rx, Reap}
+use Rattle.wf_frame.specs.declared.notes.Note.TheVariants.{Enqueue, Asked}
+use Rattle.wf_frame.specs.declared.notes.Refusal.TheVariants.{BadStation, BadWindow, BadStart, BadExponent, BadWeight, BadRate, BadTid, BadAir, BadIndex, NoStation, NoExchange, Answered, Room, Full, Polled, Nothing}
+use Rattle.wf_frame.specs.declared.notes.ReplyNote.TheVariants.{Joined, Accepted, Send, Released, Ba, Slept, Woken, Credited, Reaped, Refused}
+use Rattle.wf_frame.specs.declared.notes.Part.TheVariants.{Mpdus}
+use Rattle.wf_frame.specs.Settings.{standard}
+use Rattle.wf_def_world.specs.World.{opening}
+use Rattle.wf_def_world.specs.Run.{Entry, by, replies}
+use Rattle.wf_def_world.specs.Text.{text_of}
+use Rattle.wf_def_world.specs.Computed.{the_machine}
+use Rattle.wf_def_world.proofs.Rehearsals.{times}
+
+-- ---- who sends, and what
+
+-- the two TIDs of a class send in turn, the lower one first
+abbrev pub tids_of_a_class_take_turns_calls : List Entry
+tids_of_a_class_take_turns_calls = map (by 0) (
+    Asked (Join 0 64 0 3 1) ∷
+    Enqueue 0 0 1 100 ∷
+    Enqueue 0 0 1 100 ∷
+    Enqueue 0 3 2 100 ∷
+    Enqueue 0 3 2 100 ∷
+    times 4 (Asked (Pull Be)) ++
+    [])
+
+pub tids_of_a_class_take_turns : drop 5 (replies
+    (opening (record standard { agg = 1; inflight = 4 })) tids_of_a_class_take_turns_calls) ≡
+    Send 0 0 0 256 (Mpdus ((0, 0) ∷ [])) false ∷
+    Send 1 0 3 256 (Mpdus ((2, 0) ∷ [])) false ∷
+    Send 2 0 0 256 (Mpdus ((1, 1) ∷ [])) false ∷
+    Send 3 0 3 256 (Mpdus ((3, 1) ∷ [])) false ∷ []
+unfolding the_machine
+tids_of_a_class_take_turns = refl
+
+-- the turn goes to the TID that did not send, and is not passed on with each pull: the upper TID sends first,
+-- since it alone can, and then the lower one
+abbrev pub turn_goes_to_the_tid_that_did_not_send_calls : List Entry
+turn_goes_to_the_tid_that_did_not_send_calls = map (by 0) (
+    Asked (Join 0 64 0 3 1) ∷
+    Enqueue 0 3 2 100 ∷
+    Enqueue 0 3 2 100 ∷
+    Asked (Pull Be) ∷
+    Enqueue 0 0 1 100 ∷
+    Asked (Pull Be) ∷
+    Asked (Pull Be) ∷
+    [])
+
+pub turn_goes_to_the_tid_that_did_not_send : replies
+    (opening (record standard { agg = 1; inflight = 4 })) turn_goes_to_the_tid_that_did_not_send_calls ≡
+    Joined ∷
+    Accepted 0 None ∷
+    Accepted 1 None ∷
+    Send 0 0 3 256 (Mpdus ((0, 0) ∷ [])) false ∷
+    Accepted 2 None ∷
+    Send 1 0 0 256 (Mpdus ((2, 0) ∷ [])) false ∷
+    Send 2 0 3 256 (Mpdus ((1, 1) ∷ [])) false ∷ []
+unfolding the_machine
+turn_goes_to_the_tid_that_did_not_send = refl
+
+-- two queues of a TID share by octets: what a frame takes leaves the deficit of its own queue
+abbrev pub queues_of_a_tid_share_by_octets_calls : List Entry
+queues_of_a_tid_share_by_octets_calls = map (by 0) (
+    Asked (Join 0 64 0 3 1) ∷
+    times 4 (Enqueue 0 0 1 200) ++
+    times 6 (Enqueue 0 0 2 100) ++
+    Asked (Pull Be) ∷
+    [])
+
+pub queues_of_a_tid_share_by_octets : drop 11
+    (replies (opening standard) queues_of_a_tid_share_by_octets_calls) ≡
+    Send 0 0 0 2252 (Mpdus ((0, 0) ∷ (1, 1) ∷ (4, 2) ∷ (5, 3) ∷ (6, 4) ∷ (2, 5) ∷ (7, 6) ∷ (8, 7) ∷ (9, 8)
+    ∷ (3, 9) ∷ [])) false ∷ []
+unfolding the_machine
+queues_of_a_tid_share_by_octets = refl
+
+-- a queue that is listed has a quantum at once, so it goes before one that is on the old list
+abbrev pub fresh_queue_goes_first_calls : List Entry
+fresh_queue_goes_first_calls = map (by 0) (
+    Asked (Join 0 64 0 3 1) ∷
+    times 5 (Enqueue 0 0 1 100) ++
+    times 4 (Asked (Pull Be)) ++
+    Enqueue 0 0 2 100 ∷
+    Asked (Pull Be) ∷
+    Asked (Pull Be) ∷
+    [])
+
+pub fresh_queue_goes_first : drop 6 (replies (opening (record standard { agg = 1; inflight = 8 }))
+    fresh_queue_goes_first_calls) ≡
+    Send 0 0 0 256 (Mpdus ((0, 0) ∷ [])) false ∷
+    Send 1 0 0 256 (Mpdus ((1, 1) ∷ [])) false ∷
+    Send 2 0 0 256 (Mpdus ((2, 2) ∷ [])) false ∷
+    Send 3 0 0 256 (Mpdus ((3, 3) ∷ [])) false ∷
+    Accepted 5 None ∷
+    Send 4 0 0 256 (Mpdus ((5, 4) ∷ [])) false ∷
+    Send 5 0 0 256 (Mpdus ((4, 5) ∷ [])) false ∷ []
+unfolding the_machine
+fresh_queue_goes_first = refl
+
+-- of two queues of 200 octets each the one of the least number loses its head, though the other has the older
+-- and the longer frame
+abbrev pub longest_queues_tie_at_the_limit_calls : List Entry
+longest_queues_tie_at_the_limit_calls = map (by 0) (
+    Asked (Join 0 64 0 3 1) ∷
+    Enqueue 0 0 2 200 ∷
+    Enqueue 0 0 1 100 ∷
+    Enqueue 0 0 1 100 ∷
+    Enqueue 0 0 3 64 ∷
+    Asked Reap ∷
+    [])
+
+pub longest_queues_tie_at_the_limit : replies
+    (opening (record standard { limit = 3 })) longest_queues_tie_at_the_limit_calls ≡
+    Joined ∷
+    Accepted 0 None ∷
+    Accepted 1 None ∷
+    Accepted 2 None ∷
+    Accepted 3 (Some 1) ∷
+    Reaped 1 (Dropped Overlimit) ∷ []
+unfolding the_machine
+longest_queues_tie_at_the_limit = refl
+
+-- ---- two faults at once
+
+-- a call with two faults is refused for the first in its order
+abbrev pub first_of_two_faults_calls : List Entry
+first_of_two_faults_calls = map (by 0) (
+    Asked (Join 0 64 0 3 1) ∷
+    Asked (Join 16 0 0 3 1) ∷
+    Asked (Join 0 0 4096 3 1) ∷
+    Asked (Join 0 64 4096 4 1) ∷
+    Asked (Join 0 64 0 4 0) ∷
+    Asked (Join 0 64 0 3 0) ∷
+    Asked (Leave 16) ∷
+    Asked (Rate 16 16 20 false) ∷
+    Asked (Rate 1 16 20 false) ∷
+    Asked (Rate 1 0 10 false) ∷
+    Enqueue 16 8 0 64 ∷
+    Enqueue 1 8 0 64 ∷
+    Asked (Sleep 16) ∷
+    Asked (Wake 16) ∷
+    Asked (Wake 1) ∷
+    Asked (Poll 16) ∷
+    Asked (Poll 1) ∷
+    Asked (Rx 16 Be 0) ∷
+    Asked (Rx 1 Be 0) ∷
+    Asked (Rx 1 Be 65536) ∷
+    [])
+
+pub first_of_two_faults : replies (opening standard) first_of_two_faults_calls ≡
+    Joined ∷
+    Refused BadStation ∷
+    Refused BadWindow ∷
+    Refused BadStart ∷
+    Refused BadExponent ∷
+    Refused BadWeight ∷
+    Refused BadStation ∷
+    Refused BadStation ∷
+    Refused BadRate ∷
+    Refused BadRate ∷
+    Refused BadStation ∷
+    Refused BadTid ∷
+    Refused BadStation ∷
+    Refused BadStation ∷
+    Refused NoStation ∷
+    Refused BadStation ∷
+    Refused NoStation ∷
+    Refused BadStation ∷
+    Refused BadAir ∷
+    Refused BadAir ∷ []
+unfolding the_machine
+first_of_two_faults = refl
+
+-- a station that is not live before the room, and the room before the frames of a sleeping station
+abbrev pub room_before_sleeping_calls : List Entry
+room_before_sleeping_calls = map (by 0) (
+    Asked (Join 0 64 0 3 1) ∷
+    Asked (Sleep 0) ∷
+    Enqueue 0 0 7 64 ∷
+    Enqueue 1 0 7 64 ∷
+    Enqueue 0 0 7 64 ∷
+    [])
+
+pub room_before_sleeping : replies (opening (record standard { room = 1; sleeping = 1 }))
+    room_before_sleeping_calls ≡
+    Joined ∷
+    Slept ∷
+    Accepted 0 None ∷
+    Refused NoStation ∷
+    Refused (Room 1) ∷ []
+unfolding the_machine
+room_before_sleeping = refl
+
+-- full before idle, an index before an answer, an answer before an arrival, and an exchange that never was
+-- before its answer
+abbrev pub first_fault_of_an_exchange_calls : List Entry
+first_fault_of_an_exchange_calls = map (by 0) (
+    Asked (Join 0 64 0 3 1) ∷
+    Enqueue 0 0 7 100 ∷
+    Asked (Pull Be) ∷
+    Asked (Pull Be) ∷
+    Asked (Arrive 0 0) ∷
+    Asked (Answer 0) ∷
+    Asked (Arrive 0 1) ∷
+    Asked (Arrive 0 0) ∷
+    Asked (Done 1 true) ∷
+    [])
+
+pub first_fault_of_an_exchange : replies (opening (record standard { inflight = 1 }))
+    first_fault_of_an_exchange_calls ≡
+    Joined ∷
+    Accepted 0 None ∷
+    Send 0 0 0 256 (Mpdus ((0, 0) ∷ [])) false ∷
+    Refused (Full 1) ∷
+    Released (0 ∷ []) ∷
+    Ba 0 1 0 0 0 false ∷
+    Refused BadIndex ∷
+    Refused Answered ∷
+    Refused NoExchange ∷ []
+unfolding the_machine
+first_fault_of_an_exchange = refl
+
+-- a credit whose frame was dropped for the limit is still a credit, which a wake clears
+abbrev pub credit_outlives_its_frame_calls : List Entry
+credit_outlives_its_frame_calls = map (by 0) (
+    Asked (Join 0 64 0 3 1) ∷
+    Asked (Join 1 64 0 3 1) ∷
+    Asked (Sleep 0) ∷
+    Enqueue 0 0 1 100 ∷
+    Asked (Poll 0) ∷
+    Enqueue 1 0 2 100 ∷
+    Asked (Poll 0) ∷
+    Asked (Wake 0) ∷
+    Asked (Sleep 0) ∷
+    Asked (Poll 0) ∷
+    [])
+
+pub credit_outlives_its_frame : replies (opening (record standard { limit = 1 }))
+    credit_outlives_its_frame_calls ≡
+    Joined ∷
+    Joined ∷
+    Slept ∷
+    Accepted 0 None ∷
+    Credited Be ∷
+    Accepted 1 (Some 0) ∷
+    Refused Polled ∷
+    Woken ∷
+    Slept ∷
+    Refused Nothing ∷ []
+unfolding the_machine
+credit_outlives_its_frame = refl
+
+-- ---- the traffic map
+
+-- AID 9, in the second octet of the map: the first octet is written with it, since the offset is even
+abbrev pub sleeper_with_aid_nine_calls : List Entry
+sleeper_with_aid_nine_calls = map (by 0) (
+    Asked (Join 8 64 0 3 1) ∷
+    Asked (Sleep 8) ∷
+    Enqueue 8 0 7 100 ∷
+    [])
+
+pub sleeper_with_aid_nine : text_of standard sleeper_with_aid_nine_calls ≡ concat (
+    codes "joined\n" ∷
+    codes "slept\n" ∷
+    codes "accepted 0\n" ∷
+    codes "calls 3\n" ∷
+    codes "now 0\n" ∷
+    codes "frames 1 acked 0 overlimit 0 codel 0 retries 0 left 0 held 1\n" ∷
+    codes "exchanges 0 open 0\n" ∷
+    codes "tim 05050001000002\n" ∷
+    [])
+unfolding the_machine digits
+sleeper_with_aid_nine = refl
+
+-- AID 16, in the third octet of the map, where the offset begins
+abbrev pub sleeper_with_aid_sixteen_calls : List Entry
+sleeper_with_aid_sixteen_calls = map (by 0) (
+    Asked (Join 15 64 0 3 1) ∷
+    Asked (Sleep 15) ∷
+    Enqueue 15 0 7 100 ∷
+    [])
+
+pub sleeper_with_aid_sixteen : text_of standard sleeper_with_aid_sixteen_calls ≡ concat (
+    codes "joined\n" ∷
+    codes "slept\n" ∷
+    codes "accepted 0\n" ∷
+    codes "calls 3\n" ∷
+    codes "now 0\n" ∷
+    codes "frames 1 acked 0 overlimit 0 codel 0 retries 0 left 0 held 1\n" ∷
+    codes "exchanges 0 open 0\n" ∷
+    codes "tim 050400010201\n" ∷
+    [])
+unfolding the_machine digits
+sleeper_with_aid_sixteen = refl
+
+-- AIDs 31 and 33, in the fourth and the fifth octet: from the third octet on, since the offset is even
+abbrev pub sleepers_with_aids_31_and_33_calls : List Entry
+sleepers_with_aids_31_and_33_calls = map (by 0) (
+    Asked (Join 30 64 0 3 1) ∷
+    Asked (Join 32 64 0 3 1) ∷
+    Asked (Sleep 30) ∷
+    Asked (Sleep 32) ∷
+    Enqueue 30 0 7 100 ∷
+    Enqueue 32 0 7 100 ∷
+    [])
+
+pub sleepers_with_aids_31_and_33 : text_of (record standard { stations = 64 })
+    sleepers_with_aids_31_and_33_calls ≡ concat (
+    codes "joined\n" ∷
+    codes "joined\n" ∷
+    codes "slept\n" ∷
+    codes "slept\n" ∷
+    codes "accepted 0\n" ∷
+    codes "accepted 1\n" ∷
+    codes "calls 6\n" ∷
+    codes "now 0\n" ∷
+    codes "frames 2 acked 0 overlimit 0 codel 0 retries 0 left 0 held 2\n" ∷
+    codes "exchanges 0 open 0\n" ∷
+    codes "tim 0506000102008002\n" ∷
+    [])
+unfolding the_machine digits
+sleepers_with_aids_31_and_33 = refl
+
+-- a frame on the air is not one that waits: the map does not show its sleeper
+abbrev pub sleeper_with_a_frame_in_flight_calls : List Entry
+sleeper_with_a_frame_in_flight_calls = map (by 0) (
+    Asked (Join 0 64 0 3 1) ∷
+    Enqueue 0 0 7 100 ∷
+    Asked (Pull Be) ∷
+    Asked (Sleep 0) ∷
+    [])
+
+pub sleeper_with_a_frame_in_flight : text_of standard sleeper_with_a_frame_in_flight_calls ≡ concat (
+    codes "joined\n" ∷
+    codes "accepted 0\n" ∷
+    codes "send 0 sta 0 tid 0 air 256 data 0:0\n" ∷
+    codes "slept\n" ∷
+    codes "calls 4\n" ∷
+    codes "now 0\n" ∷
+    codes "frames 1 acked 0 overlimit 0 codel 0 retries 0 left 0 held 1\n" ∷
+    codes "exchanges 1 open 1\n" ∷
+    codes "tim 050400010000\n" ∷
+    [])
+unfolding the_machine digits
+sleeper_with_a_frame_in_flight = refl
+
+-- two frames that came back to the window of a sleeper: the pull of one says that there is more, and the map
+-- shows the other, though no queue has a frame
+abbrev pub sleeper_with_a_frame_back_in_its_window_calls : List Entry
+sleeper_with_a_frame_back_in_its_window_calls = map (by 0) (
+    Asked (Join 0 64 0 3 1) ∷
+    Enqueue 0 0 7 100 ∷
+    Enqueue 0 0 7 100 ∷
+    Asked (Pull Be) ∷
+    Asked (Pull Be) ∷
+    Asked (Done 0 false) ∷
+    Asked (Done 1 false) ∷
+    Asked (Sleep 0) ∷
+    Asked (Poll 0) ∷
+    Asked (Pull Be) ∷
+    [])
+
+pub sleeper_with_a_frame_back_in_its_window : text_of
+    (record standard { agg = 1 }) sleeper_with_a_frame_back_in_its_window_calls ≡ concat (
+    codes "joined\n" ∷
+    codes "accepted 0\n" ∷
+    codes "accepted 1\n" ∷
+    codes "send 0 sta 0 tid 0 air 256 data 0:0\n" ∷
+    codes "send 1 sta 0 tid 0 air 256 data 1:1\n" ∷
+    codes "done acked 0 waiting 1 failed 0\n" ∷
+    codes "done acked 0 waiting 1 failed 0\n" ∷
+    codes "slept\n" ∷
+    codes "polled be\n" ∷
+    codes "send 2 sta 0 tid 0 air 256 data 0:0 more\n" ∷
+    codes "calls 10\n" ∷
+    codes "now 0\n" ∷
+    codes "frames 2 acked 0 overlimit 0 codel 0 retries 0 left 0 held 2\n" ∷
+    codes "exchanges 3 open 1\n" ∷
+    codes "sta 0 be charged 512 rx 0 deficit 88\n" ∷
+    codes "tim 050400010002\n" ∷
+    [])
+unfolding the_machine digits
+sleeper_with_a_frame_back_in_its_window = refl

@@ -1,0 +1,275 @@
+-- What a pull sends, and what becomes of it: the scheduler of "Ending the Anomaly" (USENIX ATC 2017),
+-- section 3.2, joined to aggregation and block acknowledgement (IEEE 802.11-2012, 9.12 and 9.21.7).
+-- Deficits, quanta and charges are in microseconds of airtime, lengths in octets.
+use Rattle.std.specs.Prelude.{ℕ, zero, suc, ◌+◌, ◌-◌, ◌*◌, ◌%◌, ◌==◌, max, nat_lt, pos, ◌+ℤ◌, ◌-ℤ◌, Bool, false, not, ◌&&◌, ◌||◌, List, [], ◌∷◌, ◌++◌, Option, Some, None, if◌then◌else◌, length, map, count_by}
+use Rattle.std.specs.List.{list_any}
+use Rattle.wf_frame.specs.declared.classes.Class.{Class}
+use Rattle.wf_frame.specs.declared.classes.Cause.TheVariants.{Retries}
+use Rattle.wf_frame.specs.declared.classes.Fate.TheVariants.{Acked, Dropped}
+use Rattle.wf_frame.specs.declared.notes.Part.{Part}
+use Rattle.wf_frame.specs.declared.notes.Part.TheVariants.{Mpdus, Request as Starts_at}
+use Rattle.wf_def_lists.specs.Table.{upto, at, longest_front}
+use Rattle.wf_def_air.specs.Airtime.{data_charge, request_charge}
+use Rattle.wf_def_air.specs.Fit.{aggregate_octets, fits}
+use Rattle.wf_def_codel.specs.Codel.{Item}
+use Rattle.wf_def_rotation.specs.Rotation.{in_order, need_of, Picked, pick}
+use Rattle.wf_def_agreement.specs.Session.{Session, State, slot, waiting_numbers, next_number, start_of, request_due, with_state, with_number_given, after_miss, is_failed}
+use Rattle.wf_def_agreement.specs.Receiver.{Receiver, with_arrived, with_start, Score, shows}
+use Rattle.wf_def_world.specs.World.{World, Station, Share, Mpdu, Content, Frames, Request, Exchange, station, session, share, quantum, rotation, frame, len_of, is_wide, on_station, on_session, on_share, with_rotation, with_frame_finished}
+use Rattle.wf_frame.specs.Classes.{lower_tid, upper_tid}
+use Rattle.wf_def_world.specs.FlowQueues.{frames_queued, Taken, taken_for_tid}
+use Rattle.wf_def_world.specs.CanSend.{can_send, can_give, has_waiting, is_ready, is_request}
+
+-- ---- who is picked
+
+-- how many quanta a station's deficit in a class needs to come above 0
+abbrev pub station_need : World → Class → ℕ → ℕ
+station_need w c s = need_of (quantum w s) (share w s c).deficit
+
+-- algorithm 3, deficit round robin over the stations of a class
+abbrev pub picked_station : World → Class → Picked
+picked_station w c = pick (station_need w c) (is_ready w c) (rotation w c)
+
+-- a station gets so many quanta in a class
+unfoldable pub with_station_paid : World → Class → ℕ → ℕ → World
+with_station_paid w c quanta s =
+    let airtime : ℕ = quanta * quantum w s in
+    on_share w s c (λ x. record x { deficit = x.deficit +ℤ pos airtime; quanta = x.quanta + quanta })
+
+-- each of these stations gets its quanta in a class
+unfoldable pub with_stations_paid : World → Class → (ℕ → ℕ) → List ℕ → World
+with_stations_paid w c quanta [] = w
+with_stations_paid w c quanta (s ∷ ss) = with_stations_paid (with_station_paid w c (quanta s) s) c quanta ss
+
+-- the world after the pick: each station has its quanta, and the class its new lists
+unfoldable pub after_pick : World → Class → World
+after_pick w c =
+    let p : Picked = picked_station w c in
+    with_rotation (with_stations_paid w c p.quanta (in_order (rotation w c))) c p.lists
+
+-- ---- what is sent
+
+-- the TID whose turn it is
+abbrev pub first_tid : World → ℕ → Class → ℕ
+first_tid w s c = if (share w s c).upper then upper_tid c else lower_tid c
+
+-- the class's other TID
+abbrev pub other_tid : World → ℕ → Class → ℕ
+other_tid w s c = if (share w s c).upper then lower_tid c else upper_tid c
+
+-- the TID that sends: the one whose turn it is, if it can send, else the other
+abbrev pub sending_tid : World → ℕ → Class → ℕ
+sending_tid w s c = if can_send w s (first_tid w s c) then first_tid w s c else other_tid w s c
+
+-- the turn goes to the TID that does not send
+unfoldable pub after_tid_turn : World → ℕ → Class → ℕ → World
+after_tid_turn w s c t = on_share w s c (λ x. record x { upper = t == lower_tid c })
+
+-- the most frames of an aggregate: one where the station sleeps, since a poll asks for one
+abbrev pub most_frames : World → ℕ → ℕ
+most_frames w s = if (station w s).asleep then 1 else w.config.agg
+
+-- the body lengths of an aggregate
+abbrev pub lens_of : List Mpdu → List ℕ
+lens_of mpdus = map (λ m. m.len) mpdus
+
+-- whether an aggregate to a station fits its rate and exponent, and the setting `cap` on data time
+abbrev pub fits_in : World → ℕ → List Mpdu → Bool
+fits_in w s mpdus =
+    let x : Station = station w s in
+    fits x.rate x.exponent (most_frames w s) w.config.cap (lens_of mpdus)
+
+-- number n of a TID, with its frame
+abbrev pub mpdu_of : World → ℕ → ℕ → ℕ → Mpdu
+mpdu_of w s t n =
+    let id : ℕ = (slot (session w s t) n).id in
+    record { number = n; id = id; len = len_of (frame w id).note }
+
+-- the numbers of a TID that wait to be sent, rising, with their frames
+abbrev pub waiting_mpdus : World → ℕ → ℕ → List Mpdu
+waiting_mpdus w s t = map (mpdu_of w s t) (waiting_numbers (session w s t))
+
+-- the longest front of a list that fits
+unfoldable pub longest_fitting : World → ℕ → List Mpdu → List Mpdu
+longest_fitting w s mpdus = longest_front (fits_in w s) mpdus
+
+-- an aggregate (A-MPDU), and the world after its fresh frames got their numbers
+pub record Aggregate : Type 0 where
+  pub world : World
+  pub mpdus : List Mpdu
+
+-- the frame that a take gives, with the TID's next number
+abbrev pub fresh_mpdus : World → ℕ → ℕ → Option Item → List Mpdu
+fresh_mpdus w s t None = []
+fresh_mpdus w s t (Some x) =
+    record { number = next_number (session w s t); id = x.id; len = x.len } ∷ []
+
+-- the frame that a take gives gets the TID's next number
+unfoldable pub with_number : World → ℕ → ℕ → Option Item → World
+with_number w s t None = w
+with_number w s t (Some x) = on_session w s t (λ y. with_number_given y x.id)
+
+-- An aggregate with at most n fresh frames more, while the TID can give one. A frame that does not fit
+-- has its number already: it waits with that, and the aggregate ends before it.
+unfoldable pub with_fresh : ℕ → World → ℕ → ℕ → List Mpdu → Aggregate
+with_fresh zero w s t mpdus = record { world = w; mpdus = mpdus }
+with_fresh (suc n) w s t mpdus =
+    if not (can_give w s t) then record { world = w; mpdus = mpdus }
+    else let taken : Taken = taken_for_tid w s t in
+    let longer : List Mpdu = mpdus ++ fresh_mpdus w s t taken.item in
+    let numbered : World = with_number taken.world s t taken.item in
+    if fits_in w s longer then with_fresh n numbered s t longer
+    else record { world = numbered; mpdus = mpdus }
+
+-- a TID's aggregate: the longest front of the waiting numbers that fits, and where that is all of
+-- them, fresh frames after it
+unfoldable pub aggregate_of : World → ℕ → ℕ → Aggregate
+aggregate_of w s t =
+    let waiting : List Mpdu = waiting_mpdus w s t in
+    let chosen : List Mpdu = longest_fitting w s waiting in
+    if length chosen == length waiting then with_fresh (most_frames w s - length chosen) w s t chosen
+    else record { world = w; mpdus = chosen }
+
+-- the numbers of an aggregate fly in exchange e
+abbrev pub with_flying : ℕ → List Mpdu → Session → Session
+with_flying e [] x = x
+with_flying e (m ∷ ms) x = with_flying e ms (with_state (State.Flying e) m.number x)
+
+-- what an exchange is to send, with its charge, and the world with it on the air
+pub record Prepared : Type 0 where
+  pub world : World
+  pub content : Content
+  pub charge : ℕ
+
+-- what an aggregate is charged, in microseconds
+abbrev pub aggregate_charge : ℕ → ℕ → Aggregate → ℕ
+aggregate_charge s t f =
+    data_charge (station f.world s).rate (aggregate_octets (lens_of f.mpdus)) (is_wide f.world s t)
+
+-- an aggregate, whose numbers fly from then on
+unfoldable pub prepared_data : ℕ → ℕ → Aggregate → Prepared
+prepared_data s t f =
+    record {
+      world = on_session f.world s t (with_flying f.world.exchanges f.mpdus);
+      content = Frames f.mpdus;
+      charge = aggregate_charge s t f;
+    }
+
+-- a BlockAckReq, which moves the receiver's start to the session's
+abbrev pub prepared_request : World → ℕ → ℕ → Prepared
+prepared_request w s t = record {
+  world = w;
+  content = Request (start_of (session w s t));
+  charge = request_charge (is_wide w s t);
+}
+
+-- what a TID sends: a request where one is due, else an aggregate
+unfoldable pub prepared_exchange : World → ℕ → ℕ → Prepared
+prepared_exchange w s t =
+    if request_due (session w s t) then prepared_request w s t else prepared_data s t (aggregate_of w s t)
+
+-- a number waits or a frame is queued on some TID of a station
+abbrev pub has_more : World → ℕ → Bool
+has_more w s = list_any (λ t. has_waiting w s t || nat_lt 0 (frames_queued w s t)) (upto 8)
+
+-- a used credit is spent
+unfoldable pub without_credit : World → ℕ → World
+without_credit w s = on_station w s (λ x. record x { credit = None })
+
+-- the exchange that sends what is prepared: `more` is the More Data bit (8.2.4.1.8), of sleeping
+-- stations alone
+abbrev pub exchange_of : ℕ → ℕ → Class → Prepared → Exchange
+exchange_of s t c p =
+    record {
+      number = p.world.exchanges;
+      station = s;
+      tid = t;
+      class = c;
+      charge = p.charge;
+      content = p.content;
+      arrived = [];
+      answer = None;
+      more = (station p.world s).asleep && (not (is_request p.content) && has_more p.world s);
+    }
+
+-- an exchange is open from then on
+unfoldable pub with_exchange_opened : World → Exchange → World
+with_exchange_opened w x = record w { exchanges = w.exchanges + 1; opened = w.opened ++ x ∷ [] }
+
+-- what a reply says of an exchange: numbers on the air are modulo 4096
+abbrev pub part_of : Content → Part
+part_of (Frames mpdus) = Mpdus (map (λ m. (m.id, m.number % 4096)) mpdus)
+part_of (Request start) = Starts_at (start % 4096)
+
+-- ---- arrivals
+
+-- how many transmissions an exchange is made of: its subframes, or its one request
+abbrev pub transmissions : Content → ℕ
+transmissions (Frames mpdus) = length mpdus
+transmissions (Request start) = 1
+
+-- The transmission past the last. It is unreached: the index of one is refused as BadIndex.
+abbrev pub no_mpdu : Mpdu
+no_mpdu = record { number = 0; id = 0; len = 0 }
+
+-- the receiver after the i-th transmission arrived
+abbrev pub after_arrival : Content → ℕ → Receiver → Receiver
+after_arrival (Frames mpdus) i r = with_arrived (at no_mpdu mpdus i).number r
+after_arrival (Request start) i r = with_start start r
+
+-- the frames that numbers carry
+abbrev pub ids_of : Session → List ℕ → List ℕ
+ids_of x numbers = map (λ n. (slot x n).id) numbers
+
+-- ---- the end of an exchange
+
+-- a share after a charge: it leaves the deficit and joins the charged airtime
+abbrev pub paid : ℕ → Share → Share
+paid charge y = record y { deficit = y.deficit -ℤ pos charge; charged = y.charged + charge }
+
+-- a station pays for its exchange
+unfoldable pub after_charge : World → Exchange → World
+after_charge w x =
+    on_share w x.station x.class (paid x.charge)
+
+-- whether the kept answer shows a number, where the exchange was heard
+abbrev pub is_acked : Bool → Option Score → ℕ → Bool
+is_acked heard None n = false
+is_acked heard (Some b) n = heard && shows b n
+
+-- the frame of a number that failed is finished
+unfoldable pub with_failed_finished : World → ℕ → ℕ → Mpdu → World
+with_failed_finished w s t m =
+    if is_failed (slot (session w s t) m.number).state then with_frame_finished w (Dropped Retries) m.id
+    else w
+
+-- one number of an exchange that ends: it is acked, or was sent in vain
+unfoldable pub with_settled : World → ℕ → ℕ → Bool → Mpdu → World
+with_settled w s t acked m =
+    if acked then with_frame_finished (on_session w s t (with_state State.Acked m.number)) Acked m.id
+    else with_failed_finished (on_session w s t (after_miss w.config.attempts m.number)) s t m
+
+-- the numbers of an exchange that ends, in order
+unfoldable pub with_all_settled : World → ℕ → ℕ → (ℕ → Bool) → List Mpdu → World
+with_all_settled w s t acked [] = w
+with_all_settled w s t acked (m ∷ ms) = with_all_settled (with_settled w s t (acked m.number) m) s t acked ms
+
+-- a request that is heard tells the receiver of all numbers below its start
+abbrev pub with_heard_start : Bool → ℕ → Session → Session
+with_heard_start heard start x = if heard then record x { heard = max x.heard start } else x
+
+-- the world after an exchange ends, heard or not
+unfoldable pub after_done : World → Exchange → Bool → Content → World
+after_done w x heard (Frames mpdus) = with_all_settled w x.station x.tid (is_acked heard x.answer) mpdus
+after_done w x heard (Request start) = on_session w x.station x.tid (with_heard_start heard start)
+
+-- the subframes of an exchange
+abbrev pub mpdus_of : Content → List Mpdu
+mpdus_of (Frames mpdus) = mpdus
+mpdus_of (Request start) = []
+
+-- how many of an exchange's numbers are in such a state
+abbrev pub count_in : World → Exchange → (State → Bool) → ℕ
+count_in w x p =
+    let y : Session = session w x.station x.tid in
+    count_by (λ m. p (slot y m.number).state) (mpdus_of x.content)

@@ -1,0 +1,113 @@
+-- When a call is refused: each call has rows, a test and a refusal in each, and the first row whose
+-- test holds refuses it.
+use Rattle.std.specs.Prelude.{ℕ, ◌+◌, ◌==◌, nat_lt, nat_le, pos, ◌-ℤ◌, int_lt, Bool, false, not, ◌&&◌, ◌||◌, List, [], ◌∷◌, Option, Some, None, is_some, is_none, if◌then◌else◌, length, count_by}
+use Rattle.std.specs.List.{list_any}
+use Rattle.wf_frame.specs.declared.classes.Class.{Class}
+use Rattle.wf_frame.specs.declared.notes.Ask.{Ask}
+use Rattle.wf_frame.specs.declared.notes.Ask.TheVariants.{Join, Leave, Rate, Tick, Pull, Arrive, Answer, Done, Sleep, Wake, Poll, Rx, Reap}
+use Rattle.wf_frame.specs.declared.notes.Note.{Note}
+use Rattle.wf_frame.specs.declared.notes.Note.TheVariants.{Enqueue, Asked}
+use Rattle.wf_frame.specs.declared.notes.Refusal.{Refusal}
+use Rattle.wf_frame.specs.declared.notes.Refusal.TheVariants.{BadStation, BadWindow, BadStart, BadExponent, BadRate, BadTick, BadTid, BadAir, BadIndex, Live, NoStation, NoExchange, NoAnswer, StillOpen, Room, Sleeping, Full, Idle, Answered, Arrived, Nothing, Asleep, Awake, Polled, Debt, BadWeight}
+use Rattle.wf_def_lists.specs.Table.{has, upto}
+use Rattle.wf_def_lists.specs.Bounds.{greatest_window, greatest_start, greatest_exponent, greatest_weight, greatest_mcs, greatest_tid, greatest_tick, greatest_air, deepest_deficit}
+use Rattle.wf_def_world.specs.World.{World, Exchange, station, is_live, inside, share, exchange}
+use Rattle.wf_frame.specs.Classes.{same_class, lower_tid, upper_tid, class_of}
+use Rattle.wf_def_world.specs.FlowQueues.{frames_queued}
+use Rattle.wf_def_world.specs.CanSend.{can_send}
+use Rattle.wf_def_world.specs.Exchanges.{picked_station, transmissions}
+
+-- the refusal of the first row whose test holds
+unfoldable pub first_refusal : List (Bool × Refusal) → Option Refusal
+first_refusal [] = None
+first_refusal (row ∷ rows) = if row.0 then Some row.1 else first_refusal rows
+
+-- whether n is one of low to high
+abbrev pub is_within : ℕ → ℕ → ℕ → Bool
+is_within low high n = nat_le low n && nat_le n high
+
+-- there is no station of that number
+abbrev pub is_bad_station : World → ℕ → Bool
+is_bad_station w s = nat_le w.config.stations s
+
+-- how many frames are queued for a station in a class
+abbrev pub queued_in_class : World → ℕ → Class → ℕ
+queued_in_class w s c = frames_queued w s (lower_tid c) + frames_queued w s (upper_tid c)
+
+-- a station sleeps, and as many frames are queued for it in a class as may be: the setting `sleeping`
+abbrev pub sleeps_full : World → ℕ → Class → Bool
+sleeps_full w s c = (station w s).asleep && nat_le w.config.sleeping (queued_in_class w s c)
+
+-- how many exchanges of a station are open
+abbrev pub open_of_station : World → ℕ → ℕ
+open_of_station w s = count_by (λ x. x.station == s) w.opened
+
+-- how many exchanges of a class are open
+abbrev pub open_of_class : World → Class → ℕ
+open_of_class w c = count_by (λ x. same_class x.class c) w.opened
+
+-- whether some TID of a station can send
+abbrev pub can_send_any : World → ℕ → Bool
+can_send_any w s = list_any (can_send w s) (upto (1 + greatest_tid))
+
+-- a fact about an exchange that is open
+abbrev pub exchange_has : Option Exchange → (Exchange → Bool) → Bool
+exchange_has None p = false
+exchange_has (Some x) p = p x
+
+-- the rows of a call that is asked, in order
+abbrev pub refusals_of : World → Ask → List (Bool × Refusal)
+refusals_of w (Join s window start exponent weight) = (
+    (is_bad_station w s, BadStation) ∷ (not (is_within 1 greatest_window window), BadWindow)
+    ∷ (nat_lt greatest_start start, BadStart) ∷
+    (nat_lt greatest_exponent exponent, BadExponent) ∷ (not (is_within 1 greatest_weight weight), BadWeight)
+    ∷ (is_live w s, Live) ∷ [])
+refusals_of w (Leave s) = (
+    (is_bad_station w s, BadStation) ∷ (not (is_live w s), NoStation) ∷
+    (nat_lt 0 (open_of_station w s), StillOpen (open_of_station w s)) ∷ [])
+refusals_of w (Rate s mcs mhz short) = (
+    (is_bad_station w s, BadStation) ∷ (nat_lt greatest_mcs mcs || not ((mhz == 20) || (mhz == 40)), BadRate)
+    ∷ (not (is_live w s), NoStation) ∷ [])
+refusals_of w (Tick by) = ((nat_lt greatest_tick by, BadTick) ∷ [])
+refusals_of w (Pull c) = (
+    (nat_le w.config.inflight (open_of_class w c), Full (open_of_class w c)) ∷
+    (is_none (picked_station w c).winner, Idle) ∷ [])
+refusals_of w (Arrive e i) = (
+    (is_none (exchange w e), NoExchange) ∷
+    (exchange_has (exchange w e) (λ x. nat_le (transmissions x.content) i), BadIndex) ∷
+    (exchange_has (exchange w e) (λ x. is_some x.answer), Answered) ∷
+    (exchange_has (exchange w e) (λ x. has x.arrived i), Arrived) ∷ [])
+refusals_of w (Answer e) = (
+    (is_none (exchange w e), NoExchange) ∷
+    (exchange_has (exchange w e) (λ x. is_some x.answer), Answered) ∷
+    (exchange_has (exchange w e) (λ x. length x.arrived == 0), Nothing) ∷ [])
+refusals_of w (Done e heard) = (
+    (is_none (exchange w e), NoExchange) ∷
+    (heard && exchange_has (exchange w e) (λ x. is_none x.answer), NoAnswer) ∷ [])
+refusals_of w (Sleep s) = (
+    (is_bad_station w s, BadStation) ∷ (not (is_live w s), NoStation) ∷
+    ((station w s).asleep, Asleep) ∷ [])
+refusals_of w (Wake s) = (
+    (is_bad_station w s, BadStation) ∷ (not (is_live w s), NoStation) ∷
+    (not (station w s).asleep, Awake) ∷ [])
+refusals_of w (Poll s) = (
+    (is_bad_station w s, BadStation) ∷ (not (is_live w s), NoStation) ∷
+    (not (station w s).asleep, Awake) ∷
+    (is_some (station w s).credit, Polled) ∷ (not (can_send_any w s), Nothing) ∷ [])
+refusals_of w (Rx s c air) = (
+    (is_bad_station w s, BadStation) ∷ (not (is_within 1 greatest_air air), BadAir)
+    ∷ (not (is_live w s), NoStation) ∷
+    (int_lt ((share w s c).deficit -ℤ pos air) deepest_deficit, Debt (share w s c).deficit) ∷ [])
+refusals_of w Reap = ((length w.finished == 0, Nothing) ∷ [])
+
+-- the rows of a call, in order
+abbrev pub refusals : World → Note → List (Bool × Refusal)
+refusals w (Enqueue s t flow len) = (
+    (is_bad_station w s, BadStation) ∷ (nat_lt greatest_tid t, BadTid) ∷ (not (is_live w s), NoStation) ∷
+    (nat_le w.config.room (inside w), Room (inside w)) ∷
+    (sleeps_full w s (class_of t), Sleeping (queued_in_class w s (class_of t))) ∷ [])
+refusals w (Asked ask) = refusals_of w ask
+
+-- what refuses a call, if anything does
+abbrev pub refusal : World → Note → Option Refusal
+refusal w note = first_refusal (refusals w note)

@@ -1,0 +1,277 @@
+-- One call of the machine: what it leaves, and what it answers.
+use Rattle.std.specs.Prelude.{ℕ, ◌+◌, ◌-◌, ◌*◌, ◌%◌, pos, ◌-ℤ◌, Bool, true, false, List, [], ◌∷◌, ◌++◌, Option, Some, None, if◌then◌else◌, length, find, unwrap_or}
+use Rattle.wf_frame.specs.declared.classes.Class.{Class}
+use Rattle.wf_frame.specs.declared.classes.Class.TheVariants.{Bk, Be, Vi, Vo}
+use Rattle.wf_frame.specs.declared.classes.Cause.TheVariants.{Left}
+use Rattle.wf_frame.specs.declared.classes.Fate.TheVariants.{Held, Dropped}
+use Rattle.wf_frame.specs.declared.notes.Ask.TheVariants.{Join, Leave, Rate, Tick, Pull, Arrive, Answer, Done, Sleep, Wake, Poll, Rx, Reap}
+use Rattle.wf_frame.specs.declared.notes.Note.{Note}
+use Rattle.wf_frame.specs.declared.notes.Note.TheVariants.{Enqueue, Asked}
+use Rattle.wf_frame.specs.declared.notes.Refusal.{Refusal}
+use Rattle.wf_frame.specs.declared.notes.Refusal.TheVariants.{Idle}
+use Rattle.wf_frame.specs.declared.notes.ReplyNote.{ReplyNote}
+use Rattle.wf_frame.specs.declared.notes.ReplyNote.TheVariants.{Joined, Gone, RateSet, Ticked, Accepted, Send, Released, Ba, Ended, Slept, Woken, Credited, Charged, Reaped, Refused}
+use Rattle.wf_def_lists.specs.Table.{upto, with_member}
+use Rattle.wf_def_air.specs.Airtime.{lowest_rate}
+use Rattle.wf_def_codel.specs.Codel.{Item}
+use Rattle.wf_def_rotation.specs.Rotation.{in_order, without_key, no_keys}
+use Rattle.wf_def_agreement.specs.Session.{Slot, State, is_acknowledged, is_waiting, is_failed}
+use Rattle.wf_def_agreement.specs.Receiver.{Receiver, Score, score, bitmap_word, released_between}
+use Rattle.wf_def_world.specs.World.{World, Exchange, new_share, new_tid, session, receiver, share, tid_of, rotation, frame, accepted_count, is_wide, exchange, with_station, on_station, on_share, on_receiver, with_rotation, with_queues, with_exchange, without_exchange, with_frames_finished}
+use Rattle.wf_frame.specs.Classes.{all_classes}
+use Rattle.wf_def_world.specs.FlowQueues.{dropped_for_limit, after_limit, queue_for, after_put_in, after_queues_left}
+use Rattle.wf_def_world.specs.CanSend.{can_send_in, with_listings_of}
+use Rattle.wf_def_world.specs.Exchanges.{picked_station, after_pick, sending_tid, after_tid_turn, Prepared, prepared_exchange, exchange_of, with_exchange_opened, without_credit, part_of, after_arrival, ids_of, after_charge, after_done, count_in}
+use Rattle.wf_def_world.specs.Refusals.{refusal}
+
+-- what a call leaves and answers
+pub record Outcome : Type 0 where
+  pub world : World
+  pub reply : ReplyNote
+
+-- What no call comes to, since it is refused before: a call on an exchange that is not open as
+-- NoExchange, a pull that no station wins as Idle, a reap of nothing as Nothing.
+abbrev pub unreached : World → Outcome
+unreached w = record { world = w; reply = Released [] }
+
+-- ---- stations and clock
+
+-- Join: a quantum of airtime in each class, and on each TID an agreement with this window, from this
+-- number on
+unfoldable pub join_outcome : World → ℕ → ℕ → ℕ → ℕ → ℕ → Outcome
+join_outcome w s window start exponent weight =
+    let share = new_share (w.config.quantum * weight) in
+    let tid = new_tid start window in
+    record {
+      world = with_station w s (Some (record {
+        weight = weight;
+        rate = lowest_rate;
+        exponent = exponent;
+        asleep = false;
+        credit = None;
+        shares = share ∷ share ∷ share ∷ share ∷ [];
+        tids = tid ∷ tid ∷ tid ∷ tid ∷ tid ∷ tid ∷ tid ∷ tid ∷ [];
+      }));
+      reply = Joined;
+    }
+
+-- the frames of the numbers that wait
+abbrev pub waiting_ids : List Slot → List ℕ
+waiting_ids [] = []
+waiting_ids (x ∷ xs) = if is_waiting x.state then x.id ∷ waiting_ids xs else waiting_ids xs
+
+-- the numbers of a list, rising and once each
+abbrev pub in_rising_order : List ℕ → List ℕ
+in_rising_order [] = []
+in_rising_order (x ∷ xs) = with_member x (in_rising_order xs)
+
+-- a TID's frames are dropped as Left: its numbers' first, then its queues', by their numbers
+unfoldable pub after_tid_left : World → ℕ → ℕ → World
+after_tid_left w s t =
+    let emptied : World = with_frames_finished w (Dropped Left) (waiting_ids (session w s t).slots) in
+    with_queues (after_queues_left emptied (in_rising_order (in_order (tid_of w s t).queues))) s t no_keys
+
+-- the same for each of these TIDs, in order
+unfoldable pub after_tids_left : World → ℕ → List ℕ → World
+after_tids_left w s [] = w
+after_tids_left w s (t ∷ ts) = after_tids_left (after_tid_left w s t) s ts
+
+-- a station leaves the rotations of these classes
+unfoldable pub without_listings : World → ℕ → List Class → World
+without_listings w s [] = w
+without_listings w s (c ∷ cs) = without_listings (with_rotation w c (without_key (rotation w c) s)) s cs
+
+-- Leave: the station's frames are dropped, and the reply is how many
+unfoldable pub leave_outcome : World → ℕ → Outcome
+leave_outcome w s =
+    let left : World = after_tids_left w s (upto 8) in
+    record {
+      world = with_station (without_listings left s all_classes) s None;
+      reply = Gone (length left.finished - length w.finished);
+    }
+
+-- Rate: the rate of a station's data from then on
+unfoldable pub rate_outcome : World → ℕ → ℕ → ℕ → Bool → Outcome
+rate_outcome w s mcs mhz short =
+    record {
+      world = on_station w s (λ x. record x { rate = record { mcs = mcs; mhz = mhz; short = short } });
+      reply = RateSet;
+    }
+
+-- Tick: the clock moves on by so many microseconds
+unfoldable pub tick_outcome : World → ℕ → Outcome
+tick_outcome w by = record { world = record w { clock = w.clock + by }; reply = Ticked (w.clock + by) }
+
+-- ---- frames
+
+-- a frame is accepted: it gets the next id
+unfoldable pub with_frame : World → Note → World
+with_frame w note = record w { frames = w.frames ++ record { note = note; fate = Held } ∷ [] }
+
+-- the frame that the next call accepts, as it lies in its queue: it is stamped with the clock
+abbrev pub next_item : World → ℕ → Item
+next_item w len = record { id = accepted_count w; stamp = w.clock; len = len }
+
+-- Enqueue: at the limit the head of the longest queue leaves first; then the new frame goes in
+unfoldable pub enqueue_outcome : World → ℕ → ℕ → ℕ → ℕ → Outcome
+enqueue_outcome w s t flow len =
+    let w' : World = after_limit w in
+    record {
+      world =
+          with_frame (after_put_in w' s t (queue_for w' s t flow) (next_item w len)) (Enqueue s t flow len);
+      reply = Accepted (accepted_count w) (dropped_for_limit w);
+    }
+
+-- what is prepared goes on the air: its exchange opens, and a credit is spent
+unfoldable pub send_outcome : ℕ → ℕ → Class → Prepared → Outcome
+send_outcome s t c p =
+    let x : Exchange = exchange_of s t c p in
+    record {
+      world = without_credit (with_exchange_opened p.world x) s;
+      reply = Send x.number s t x.charge (part_of x.content) x.more;
+    }
+
+-- what the station that is picked sends
+unfoldable pub pull_outcome_for : World → Class → Option ℕ → Outcome
+pull_outcome_for w c None = unreached w
+pull_outcome_for w c (Some s) =
+    let t : ℕ = sending_tid w s c in
+    send_outcome s t c (prepared_exchange (after_tid_turn w s c t) s t)
+
+-- Pull: the station that is picked sends
+unfoldable pub pull_outcome : World → Class → Outcome
+pull_outcome w c = pull_outcome_for (after_pick w c) c (picked_station w c).winner
+
+-- ---- exchanges
+
+-- Arrive: transmission i reaches the receiver, which passes up the frames that are in order now
+unfoldable pub arrive_outcome : World → Exchange → ℕ → Outcome
+arrive_outcome w x i =
+    let old : Receiver = receiver w x.station x.tid in
+    let new : Receiver = after_arrival x.content i old in
+    let marked : Exchange = record x { arrived = with_member i x.arrived } in
+    record {
+      world = with_exchange (on_receiver w x.station x.tid (after_arrival x.content i)) marked;
+      reply = Released (ids_of (session w x.station x.tid) (released_between old new));
+    }
+
+-- Answer: the receiver's BlockAck, its start on the air and its bitmap (IEEE 802.11-2012, 8.3.1.9.3)
+unfoldable pub answer_outcome : World → Exchange → Outcome
+answer_outcome w x =
+    let b : Score = score (receiver w x.station x.tid) in
+    record {
+      world = with_exchange w (record x { answer = Some b });
+      reply =
+          Ba (b.start % 4096) (bitmap_word b 0) (bitmap_word b 1) (bitmap_word b 2) (bitmap_word b 3)
+          (is_wide w x.station x.tid);
+    }
+
+-- Done: the exchange is charged and settled, and the reply counts its numbers that are acknowledged,
+-- wait again, and failed
+unfoldable pub done_outcome : World → Exchange → Bool → Outcome
+done_outcome w x heard =
+    let after : World = after_done (after_charge (without_exchange w x.number) x) x heard x.content in
+    let count : (State → Bool) → ℕ = count_in after x in
+    record {
+      world = after;
+      reply = Ended (count is_acknowledged) (count is_waiting) (count is_failed);
+    }
+
+-- what a call does to an open exchange
+unfoldable pub outcome_where_open : World → Option Exchange → (Exchange → Outcome) → Outcome
+outcome_where_open w None f = unreached w
+outcome_where_open w (Some x) f = f x
+
+-- ---- power save, receive charges, reaping
+
+-- Sleep: the station is in power save mode (IEEE 802.11-2012, 10.2.1)
+unfoldable pub sleep_outcome : World → ℕ → Outcome
+sleep_outcome w s = record { world = on_station w s (λ x. record x { asleep = true }); reply = Slept }
+
+-- Wake: the station is awake, and has no credit
+unfoldable pub wake_outcome : World → ℕ → Outcome
+wake_outcome w s =
+    record { world = on_station w s (λ x. record x { asleep = false; credit = None }); reply = Woken }
+
+-- the first of Vo, Vi, Be and Bk in which the station can send
+abbrev pub class_to_send : World → ℕ → Class
+class_to_send w s = unwrap_or (find (can_send_in w s) (Vo ∷ Vi ∷ Be ∷ [])) Bk
+
+-- Poll: a sleeping station may receive one exchange (PS-Poll, IEEE 802.11-2012, 10.2.1.6)
+unfoldable pub poll_outcome : World → ℕ → Outcome
+poll_outcome w s =
+    let c : Class = class_to_send w s in
+    record { world = on_station w s (λ x. record x { credit = Some c }); reply = Credited c }
+
+-- Rx: a station pays for the airtime in which it sent, in microseconds
+unfoldable pub rx_outcome : World → ℕ → Class → ℕ → Outcome
+rx_outcome w s c air = record {
+  world =
+      on_share w s c (λ x. record x { deficit = x.deficit -ℤ pos air; received = x.received + air });
+  reply = Charged ((share w s c).deficit -ℤ pos air);
+}
+
+-- Reap: the first finished frame is told of
+unfoldable pub reap_outcome : World → List ℕ → Outcome
+reap_outcome w [] = unreached w
+reap_outcome w (id ∷ ids) =
+    record { world = record w { finished = ids }; reply = Reaped id (frame w id).fate }
+
+-- ---- the step
+
+-- what a call does that is not refused
+unfoldable pub outcome_of : World → Note → Outcome
+outcome_of w (Enqueue s t flow len) = enqueue_outcome w s t flow len
+outcome_of w (Asked (Join s window start exponent weight)) =
+    join_outcome w s window start exponent weight
+outcome_of w (Asked (Leave s)) = leave_outcome w s
+outcome_of w (Asked (Rate s mcs mhz short)) = rate_outcome w s mcs mhz short
+outcome_of w (Asked (Tick by)) = tick_outcome w by
+outcome_of w (Asked (Pull c)) = pull_outcome w c
+outcome_of w (Asked (Arrive e i)) = outcome_where_open w (exchange w e) (λ x. arrive_outcome w x i)
+outcome_of w (Asked (Answer e)) = outcome_where_open w (exchange w e) (λ x. answer_outcome w x)
+outcome_of w (Asked (Done e heard)) = outcome_where_open w (exchange w e) (λ x. done_outcome w x heard)
+outcome_of w (Asked (Sleep s)) = sleep_outcome w s
+outcome_of w (Asked (Wake s)) = wake_outcome w s
+outcome_of w (Asked (Poll s)) = poll_outcome w s
+outcome_of w (Asked (Rx s c air)) = rx_outcome w s c air
+outcome_of w (Asked Reap) = reap_outcome w w.finished
+
+-- the station of an exchange, where it is open
+abbrev pub station_of : Option Exchange → Option ℕ
+station_of None = None
+station_of (Some x) = Some x.station
+
+-- the station that a call concerns
+abbrev pub concerned_station : World → Note → Option ℕ
+concerned_station w (Enqueue s t flow len) = Some s
+concerned_station w (Asked (Join s window start exponent weight)) = Some s
+concerned_station w (Asked (Leave s)) = Some s
+concerned_station w (Asked (Rate s mcs mhz short)) = Some s
+concerned_station w (Asked (Tick by)) = None
+concerned_station w (Asked (Pull c)) = (picked_station w c).winner
+concerned_station w (Asked (Arrive e i)) = station_of (exchange w e)
+concerned_station w (Asked (Answer e)) = station_of (exchange w e)
+concerned_station w (Asked (Done e heard)) = station_of (exchange w e)
+concerned_station w (Asked (Sleep s)) = Some s
+concerned_station w (Asked (Wake s)) = Some s
+concerned_station w (Asked (Poll s)) = Some s
+concerned_station w (Asked (Rx s c air)) = Some s
+concerned_station w (Asked Reap) = None
+
+-- What a refusal changes: Idle alone does, where no station of the class was ready and the pick
+-- empties its lists.
+unfoldable pub after_refusal : World → Note → Refusal → World
+after_refusal w (Asked (Pull c)) Idle = after_pick w c
+after_refusal w note _ = w
+
+-- a call that is refused, or not: then the station that it concerns is listed where it is ready
+unfoldable pub judged_outcome : World → Note → Option Refusal → Outcome
+judged_outcome w note (Some r) = record { world = after_refusal w note r; reply = Refused r }
+judged_outcome w note None =
+    let o : Outcome = outcome_of w note in record
+    o { world = with_listings_of o.world (concerned_station w note) }
+
+-- one call
+unfoldable pub step : World → Note → Outcome
+step w note = judged_outcome w note (refusal w note)

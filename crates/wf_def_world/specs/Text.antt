@@ -1,0 +1,176 @@
+-- What is written of a run: answer lines, and the summary with the TIM element (IEEE 802.11-2012, 8.4.2.7).
+use Rattle.std.specs.Prelude.{ℕ, zero, suc, ◌+◌, ◌/◌, ◌%◌, ◌==◌, nat_lt, Bool, true, false, ◌&&◌, List, [], ◌∷◌, ◌++◌, Option, Some, None, if◌then◌else◌, length, map, filter, count_by, codes, decimal}
+use Rattle.std.specs.Fmt.{signed_decimal}
+use Rattle.std.specs.List.{concat}
+use Rattle.wf_frame.specs.declared.classes.Class.{Class}
+use Rattle.wf_frame.specs.declared.classes.Cause.{Cause}
+use Rattle.wf_frame.specs.declared.classes.Cause.TheVariants.{Overlimit, Codel, Retries, Left}
+use Rattle.wf_frame.specs.declared.classes.Fate.{Fate}
+use Rattle.wf_frame.specs.declared.classes.Fate.TheVariants.{Held, Acked, Dropped}
+use Rattle.wf_frame.specs.declared.notes.Part.{Part}
+use Rattle.wf_frame.specs.declared.notes.Part.TheVariants.{Mpdus, Request}
+use Rattle.wf_frame.specs.declared.notes.Refusal.{Refusal}
+use Rattle.wf_frame.specs.declared.notes.Refusal.TheVariants.{BadStation, BadWindow, BadStart, BadExponent, BadRate, BadTick, BadTid, BadAir, BadIndex, Live, NoStation, NoExchange, NoAnswer, StillOpen, Room, Sleeping, Full, Idle, Answered, Arrived, Nothing, Asleep, Awake, Polled, Debt, HistoryFull, BadWeight}
+use Rattle.wf_frame.specs.declared.notes.ReplyNote.{ReplyNote}
+use Rattle.wf_frame.specs.declared.notes.ReplyNote.TheVariants.{Joined, Gone, RateSet, Ticked, Accepted, Send, Released, Ba, Ended, Slept, Woken, Credited, Charged, Reaped, Refused}
+use Rattle.wf_frame.specs.declared.settings.Config.{Config}
+use Rattle.wf_def_tim.specs.Tim.{tim_element}
+use Rattle.wf_def_world.specs.World.{World, Share, share, station, live_stations, accepted_count, opening}
+use Rattle.wf_frame.specs.Classes.{all_classes, class_word}
+use Rattle.wf_frame.specs.Words.{line}
+use Rattle.wf_def_world.specs.Exchanges.{has_more}
+use Rattle.wf_def_world.specs.Run.{Entry, world_after, replies}
+
+-- a hexadecimal digit, lower-case: 0 to 9 are 48 to 57, a to f are 97 to 102
+abbrev pub hex_digit : ℕ → ℕ
+hex_digit d = if nat_lt d 10 then 48 + d else 87 + d
+
+-- the last n hexadecimal digits of a number
+abbrev pub hex : ℕ → ℕ → List ℕ
+hex zero x = []
+hex (suc n) x = hex n (x / 16) ++ hex_digit (x % 16) ∷ []
+
+-- the word of a fate; a reaped frame is never held
+abbrev pub fate_name : Fate → List ℕ
+fate_name Held = codes "held"
+fate_name Acked = codes "acked"
+fate_name (Dropped Overlimit) = codes "overlimit"
+fate_name (Dropped Codel) = codes "codel"
+fate_name (Dropped Retries) = codes "retries"
+fate_name (Dropped Left) = codes "left"
+
+-- the words of a refusal, with its number where it has one
+abbrev pub refusal_words : Refusal → List (List ℕ)
+refusal_words BadStation = codes "bad-station" ∷ []
+refusal_words BadWindow = codes "bad-window" ∷ []
+refusal_words BadStart = codes "bad-start" ∷ []
+refusal_words BadExponent = codes "bad-exponent" ∷ []
+refusal_words BadRate = codes "bad-rate" ∷ []
+refusal_words BadTick = codes "bad-tick" ∷ []
+refusal_words BadTid = codes "bad-tid" ∷ []
+refusal_words BadAir = codes "bad-air" ∷ []
+refusal_words BadIndex = codes "bad-index" ∷ []
+refusal_words Live = codes "live" ∷ []
+refusal_words NoStation = codes "no-station" ∷ []
+refusal_words NoExchange = codes "no-exchange" ∷ []
+refusal_words NoAnswer = codes "no-answer" ∷ []
+refusal_words (StillOpen count) = codes "open" ∷ decimal count ∷ []
+refusal_words (Room inside) = codes "room" ∷ decimal inside ∷ []
+refusal_words (Sleeping queued) = codes "sleeping" ∷ decimal queued ∷ []
+refusal_words (Full count) = codes "full" ∷ decimal count ∷ []
+refusal_words Idle = codes "idle" ∷ []
+refusal_words Answered = codes "answered" ∷ []
+refusal_words Arrived = codes "arrived" ∷ []
+refusal_words Nothing = codes "nothing" ∷ []
+refusal_words Asleep = codes "asleep" ∷ []
+refusal_words Awake = codes "awake" ∷ []
+refusal_words Polled = codes "polled" ∷ []
+refusal_words (Debt deficit) = codes "debt" ∷ signed_decimal deficit ∷ []
+refusal_words HistoryFull = codes "history-full" ∷ []
+refusal_words BadWeight = codes "bad-weight" ∷ []
+
+-- what an exchange sends: each frame with its sequence number, or the start of a request
+abbrev pub part_words : Part → List (List ℕ)
+part_words (Mpdus pairs) = codes "data" ∷ map (λ p. decimal p.0 ++ codes ":" ++ decimal p.1) pairs
+part_words (Request start) = codes "bar" ∷ decimal start ∷ []
+
+-- the frame that was dropped for the limit, if there is one
+abbrev pub dropped_words : Option ℕ → List (List ℕ)
+dropped_words None = []
+dropped_words (Some id) = codes "dropped" ∷ decimal id ∷ []
+
+-- the bits of an answer, offset 255 first where it is wide, else offset 63 first
+abbrev pub score_digits : ℕ → ℕ → ℕ → ℕ → Bool → List ℕ
+score_digits b0 b1 b2 b3 wide = if wide then hex 16 b3 ++ hex 16 b2 ++ hex 16 b1 ++ hex 16 b0 else hex 16 b0
+
+-- the words of a reply
+abbrev pub reply_words : ReplyNote → List (List ℕ)
+reply_words Joined = codes "joined" ∷ []
+reply_words (Gone dropped) = codes "left" ∷ decimal dropped ∷ []
+reply_words RateSet = codes "set" ∷ []
+reply_words (Ticked now) = codes "now" ∷ decimal now ∷ []
+reply_words (Accepted id dropped) = codes "accepted" ∷ decimal id ∷ dropped_words dropped
+reply_words (Send e s t air part more) =
+    codes "send" ∷ decimal e ∷ codes "sta" ∷ decimal s ∷ codes "tid" ∷ decimal t ∷ codes "air" ∷ decimal air ∷ []
+    ++ part_words part ++ (if more then codes "more" ∷ [] else [])
+reply_words (Released ids) = codes "released" ∷ map decimal ids
+reply_words (Ba start b0 b1 b2 b3 wide) = codes "ba" ∷ decimal start ∷ score_digits b0 b1 b2 b3 wide ∷ []
+reply_words (Ended acked waiting failed) =
+    codes "done" ∷ codes "acked" ∷ decimal acked ∷ codes "waiting" ∷ decimal waiting ∷ codes "failed" ∷ decimal failed ∷ []
+reply_words Slept = codes "slept" ∷ []
+reply_words Woken = codes "woken" ∷ []
+reply_words (Credited class) = codes "polled" ∷ class_word class ∷ []
+reply_words (Charged deficit) = codes "charged" ∷ signed_decimal deficit ∷ []
+reply_words (Reaped id fate) = codes "reaped" ∷ decimal id ∷ fate_name fate ∷ []
+reply_words (Refused refusal) = codes "refused" ∷ refusal_words refusal
+
+-- the answer line of a reply
+abbrev pub answer_line : ReplyNote → List ℕ
+answer_line r = line (reply_words r)
+
+-- ---- the summary
+
+-- whether two causes are one
+abbrev pub same_cause : Cause → Cause → Bool
+same_cause Overlimit Overlimit = true
+same_cause Codel Codel = true
+same_cause Retries Retries = true
+same_cause Left Left = true
+same_cause _ _ = false
+
+-- whether two fates are one
+abbrev pub same_fate : Fate → Fate → Bool
+same_fate Held Held = true
+same_fate Acked Acked = true
+same_fate (Dropped a) (Dropped b) = same_cause a b
+same_fate _ _ = false
+
+-- how many accepted frames have a fate
+abbrev pub tally : World → Fate → ℕ
+tally w fate = count_by (λ f. same_fate f.fate fate) w.frames
+
+-- line 3: the accepted frames by their fates
+abbrev pub tally_words : World → List (List ℕ)
+tally_words w =
+    codes "frames" ∷ decimal (accepted_count w) ∷ codes "acked" ∷ decimal (tally w Acked) ∷ codes "overlimit" ∷ decimal (tally w (Dropped Overlimit)) ∷
+    codes "codel" ∷ decimal (tally w (Dropped Codel)) ∷ codes "retries" ∷ decimal (tally w (Dropped Retries)) ∷
+    codes "left" ∷ decimal (tally w (Dropped Left)) ∷ codes "held" ∷ decimal (tally w Held) ∷ []
+
+-- line 5 of a station and class: its airtime in microseconds, where it had any
+abbrev pub share_line : ℕ → Class → Share → List ℕ
+share_line s c x =
+    if x.charged + x.received == 0 then []
+    else line (codes "sta" ∷ decimal s ∷ class_word c ∷ codes "charged" ∷ decimal x.charged ∷
+    codes "rx" ∷ decimal x.received ∷ codes "deficit" ∷ signed_decimal x.deficit ∷ [])
+
+-- the lines of a station, class by class
+abbrev pub share_lines : World → ℕ → List ℕ
+share_lines w s = concat (map (λ c. share_line s c (share w s c)) all_classes)
+
+-- the TIM element of these AIDs; every beacon has DTIM count 0 and period 1
+abbrev pub traffic_map : List ℕ → List ℕ
+traffic_map aids = tim_element 0 1 aids
+
+-- the AIDs of the live stations that sleep and have traffic, rising: station s has AID s + 1
+abbrev pub with_traffic : World → List ℕ
+with_traffic w = map (λ s. s + 1) (filter (λ s. (station w s).asleep && has_more w s) (live_stations w))
+
+-- the summary of a world after so many calls
+abbrev pub summary : World → ℕ → List ℕ
+summary w calls =
+    line (codes "calls" ∷ decimal calls ∷ []) ++ line (codes "now" ∷ decimal w.clock ∷ []) ++ line (tally_words w)
+    ++ line (codes "exchanges" ∷ decimal w.exchanges ∷ codes "open" ∷ decimal (length w.opened) ∷ [])
+    ++ concat (map (share_lines w) (live_stations w))
+    ++ line (codes "tim" ∷ concat (map (hex 2) (traffic_map (with_traffic w))) ∷ [])
+
+-- the answer lines of a history's replies, in order
+abbrev pub answer_lines : Config → List Entry → List ℕ
+answer_lines config history = concat (map answer_line (replies (opening config) history))
+
+-- the summary behind a history
+abbrev pub history_summary : Config → List Entry → List ℕ
+history_summary config history = summary (world_after (opening config) history) (length history)
+
+-- the text of a history that ended: its answer lines and its summary
+abbrev pub text_of : Config → List Entry → List ℕ
+text_of config history = answer_lines config history ++ history_summary config history

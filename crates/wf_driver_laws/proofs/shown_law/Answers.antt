@@ -1,8 +1,0 @@
-use Rattle.wf_driver_laws.proofs.Shown.{settles_alike, ends_as_lost}
-use Rattle.wf_driver_laws.proofs.shown_law.Goals as goal
-
-pub returns-clause-alike : goal.returns-clause-alike
-returns-clause-alike c = settles_alike
-
-pub returns-clause-none : goal.returns-clause-none
-returns-clause-none c = ends_as_lost

@@ -1,9 +1,0 @@
-use Rattle.std.proofs.Common.{[], false, ap, refl}
-use Rattle.wf_codel_queues.specs.Backlog.{BacklogValue}
-use Rattle.wf_flowq.proofs.Flags.{flags_after}
-use Rattle.wf_flowq.proofs.flagged.Flagged.flush.Goals as goal
-
-pub invariant_of-self : goal.invariant_of-self
-invariant_of-self c =
-    let b = c.self.inside.backlog in
-    flags_after b c.flush-count.new.self c.self.inside.ready.items c.args.q [] false c.self.invariant (ap (λ (x : BacklogValue). x.queues) c.flush-count.ensures.flushed) refl

@@ -1,5 +1,0 @@
-use Rattle.wf_flowq.proofs.Whole.{listed_once}
-use Rattle.wf_flowq.proofs.flows.Flows.total.Goals as goal
-
-pub returns-clause-listed : goal.returns-clause-listed
-returns-clause-listed c = listed_once _ _ c.self.view_is _ c.self.invariant

@@ -1,8 +1,0 @@
-use Rattle.wf_flowq_refines.proofs.Leaves.{stands_joined, stands_gone}
-use Rattle.wf_flowq_refines.proofs.stations_come_and_go.Goals as goal
-
-pub returns-clause-joins : goal.returns-clause-joins
-returns-clause-joins c = stands_joined
-
-pub returns-clause-goes : goal.returns-clause-goes
-returns-clause-goes c = stands_gone

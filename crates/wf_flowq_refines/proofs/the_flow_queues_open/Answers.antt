@@ -1,5 +1,0 @@
-use Rattle.wf_flowq_refines.proofs.Opening.{stands_opening}
-use Rattle.wf_flowq_refines.proofs.the_flow_queues_open.Goals as goal
-
-pub returns : goal.returns
-returns c = stands_opening

@@ -1,0 +1,109 @@
+-- The indices of the numbers that a BlockAck shows.
+use Rattle.std.proofs.Common.{◌≡◌, ap, subst, sym, ◌∙◌, arith, ℕ, zero, suc, ◌+◌, ◌<◌, ◌≤◌, Bool, true, inl, inr, List, [], ◌∷◌, length}
+use Rattle.wf_def_lists.specs.Table.{at}
+use Rattle.wf_law_rules.proofs.Lemmas.Numbers.{on_if}
+use Rattle.wf_def_world.specs.World.{Mpdu, Content, Frames, Request}
+use Rattle.wf_def_world.specs.Exchanges.{transmissions, no_mpdu, mpdus_of}
+use Rattle.wf_law_runs.specs.Windows.{EachMpdu}
+use Rattle.wf_law_driver.specs.Told.{shown_indices, indices_told}
+use Rattle.wf_law_driver.proofs.Arrivals.{IsAmong, AreIndices}
+
+pub each_mpdu : (P Q : Mpdu → Type 0) (ms : List Mpdu) → ((m : Mpdu) → P m → Q m) → EachMpdu P ms →
+    EachMpdu Q ms
+each_mpdu P Q [] h e = tt
+each_mpdu P Q (m ∷ ms) h e = (h m e.0, each_mpdu P Q ms h e.1)
+
+pub both_mpdu : (P N Q : Mpdu → Type 0) (ms : List Mpdu) → ((m : Mpdu) → P m → N m → Q m) → EachMpdu P ms →
+    EachMpdu N ms → EachMpdu Q ms
+both_mpdu P N Q [] h e n = tt
+both_mpdu P N Q (m ∷ ms) h e n = (h m e.0 n.0, both_mpdu P N Q ms h e.1 n.1)
+
+-- ---- they rise
+
+from_before : (lo lo' hi : ℕ) (is : List ℕ) → lo' ≤ lo → AreIndices lo hi is → AreIndices lo' hi is
+from_before lo lo' hi [] h r = tt
+from_before lo lo' hi (i ∷ is) h r = (omega (arith, r.0), r.1, r.2)
+
+indices_rise : (shown : ℕ → Bool) (i hi : ℕ) (ms : List Mpdu) → i + length ms ≤ hi →
+    AreIndices i hi (shown_indices shown i ms)
+indices_rise shown i hi [] h = tt
+indices_rise shown i hi (m ∷ ms) h =
+    let rest : AreIndices (suc i) hi (shown_indices shown (suc i) ms) =
+    indices_rise shown (suc i) hi ms (omega (arith, h)) in
+    on_if (AreIndices i hi) (shown m.number) (i ∷ shown_indices shown (suc i) ms)
+    (shown_indices shown (suc i) ms)
+    (λ _. (omega arith, omega (arith, h), rest)) (λ _.
+    from_before (suc i) i hi (shown_indices shown (suc i) ms) (omega arith) rest)
+
+pub told_rise : (shown : ℕ → Bool) (c : Content) → AreIndices 0 (transmissions c) (indices_told shown c)
+told_rise shown (Frames ms) = indices_rise shown 0 (length ms) ms (omega arith)
+told_rise shown (Request f) = (omega arith, omega arith, tt)
+
+-- ---- they are those of the numbers that are shown: ms stands in `all` from index i on
+
+abbrev StandsFrom : ℕ → List Mpdu → List Mpdu → Type 0
+StandsFrom i ms all = (k : ℕ) → at no_mpdu all (i + k) ≡ at no_mpdu ms k
+
+stands_first : (i : ℕ) (m : Mpdu) (ms all : List Mpdu) → StandsFrom i (m ∷ ms) all → at no_mpdu all i ≡ m
+stands_first i m ms all h = let here : i ≡ i + 0 = omega arith in ap (at no_mpdu all) here ∙ h 0
+
+stands_later : (i : ℕ) (m : Mpdu) (ms all : List Mpdu) → StandsFrom i (m ∷ ms) all → StandsFrom (suc i) ms all
+stands_later i m ms all h k = let next : suc i + k ≡ i + suc k = omega arith in
+    ap (at no_mpdu all) next ∙ h (suc k)
+
+among_shown : (shown : ℕ → Bool) (i : ℕ) (ms all : List Mpdu) (n : ℕ) → StandsFrom i ms all →
+    IsAmong (Frames all) (shown_indices shown i ms) n → shown n ≡ true
+among_shown shown i [] all n h a = absurd a
+among_shown shown i (m ∷ ms) all n h a = on_if (λ is. IsAmong (Frames all) is n → shown n ≡ true)
+    (shown m.number) (i ∷ shown_indices shown (suc i) ms) (shown_indices shown (suc i) ms)
+    (λ yes b. elim b [
+      | inl here ↦ ap shown (sym here ∙ ap (λ (q : Mpdu). q.number) (stands_first i m ms all h)) ∙ yes
+      | inr later ↦ among_shown shown (suc i) ms all n (stands_later i m ms all h) later
+    ])
+    (λ _ b. among_shown shown (suc i) ms all n (stands_later i m ms all h) b) a
+
+shown_among : (shown : ℕ → Bool) (i : ℕ) (ms all : List Mpdu) → StandsFrom i ms all →
+    EachMpdu (λ m. shown m.number ≡ true → IsAmong (Frames all) (shown_indices shown i ms) m.number) ms
+shown_among shown i [] all h = tt
+shown_among shown i (m ∷ ms) all h =
+    let rest : List ℕ = shown_indices shown (suc i) ms in
+    let later = shown_among shown (suc i) ms all (stands_later i m ms all h) in
+    on_if (λ is. EachMpdu (λ q. shown q.number ≡ true → IsAmong (Frames all) is q.number) (m ∷ ms))
+    (shown m.number) (i ∷ rest) rest
+    (λ _. (
+      (λ _. inl (ap (λ (q : Mpdu). q.number) (stands_first i m ms all h))),
+      each_mpdu (λ q. shown q.number ≡ true → IsAmong (Frames all) rest q.number)
+          (λ q. shown q.number ≡ true → IsAmong (Frames all) (i ∷ rest) q.number) ms
+          (λ q f yes. inr (f yes)) later,
+    ))
+    (λ no. ((λ yes. absurd (cc (yes, no))), later))
+
+pub told_shown : (shown : ℕ → Bool) (c : Content) (n : ℕ) → IsAmong c (indices_told shown c) n →
+    shown n ≡ true
+told_shown shown (Frames ms) n a = among_shown shown 0 ms ms n (λ k. ap (at no_mpdu ms) (omega arith)) a
+told_shown shown (Request f) n a = elim a [ inl never ↦ absurd never | inr never ↦ absurd never ]
+
+pub shown_told : (shown : ℕ → Bool) (c : Content) →
+    EachMpdu (λ m. shown m.number ≡ true → IsAmong c (indices_told shown c) m.number) (mpdus_of c)
+shown_told shown (Frames ms) = shown_among shown 0 ms ms (λ k. ap (at no_mpdu ms) (omega arith))
+shown_told shown (Request f) = tt
+
+-- ---- what holds of each number of an exchange holds of those that are told
+
+at_each : (P : ℕ → Type 0) (ms : List Mpdu) (k n : ℕ) → k < length ms → (at no_mpdu ms k).number ≡ n →
+    EachMpdu (λ m. P m.number) ms → P n
+at_each P [] k n h e all = absurd (omega (arith, h))
+at_each P (m ∷ ms) zero n h e all = subst P e all.0
+at_each P (m ∷ ms) (suc k) n h e all = at_each P ms k n (omega (arith, h)) e all.1
+
+pub among_each : (P : ℕ → Type 0) (c : Content) (lo : ℕ) (is : List ℕ) (n : ℕ) →
+    AreIndices lo (transmissions c) is → IsAmong c is n → EachMpdu (λ m. P m.number) (mpdus_of c) → P n
+among_each P c lo [] n r a all = absurd a
+among_each P (Request f) lo (i ∷ is) n r a all =
+    elim a [ inl never ↦ absurd never | inr later ↦ among_each P (Request f) (suc i) is n r.2 later all ]
+among_each P (Frames ms) lo (i ∷ is) n r a all =
+    elim a [
+      | inl here ↦ at_each P ms i n r.1 here all
+      | inr later ↦
+          among_each P (Frames ms) (suc i) is n r.2 later all
+    ]

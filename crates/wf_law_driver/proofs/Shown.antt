@@ -1,0 +1,73 @@
+-- How an exchange ends goes by what is shown of its numbers.
+use Rattle.std.proofs.Common.{◌≡◌, refl, ap, sym, ◌∙◌, subst, ℕ, Bool, true, false, List, [], ◌∷◌, Option, Some, None}
+use Rattle.wf_frame.specs.declared.notes.Ask.TheVariants.{Done}
+use Rattle.wf_frame.specs.declared.notes.Note.TheVariants.{Asked}
+use Rattle.wf_frame.specs.declared.notes.ReplyNote.TheVariants.{Ended}
+use Rattle.wf_def_agreement.specs.Receiver.{Score, shows}
+use Rattle.wf_def_agreement.specs.Session.{is_acknowledged, is_waiting, is_failed}
+use Rattle.wf_def_world.specs.World.{World, Exchange, Mpdu, Content, Frames, Request, exchange, without_exchange}
+use Rattle.wf_def_world.specs.CanSend.{is_request, with_listings_of}
+use Rattle.wf_def_world.specs.Exchanges.{is_acked, mpdus_of, after_charge, with_settled, with_all_settled, after_done, count_in}
+use Rattle.wf_def_world.specs.Refusals.{refusal}
+use Rattle.wf_def_world.specs.Step.{Outcome, done_outcome, outcome_where_open, outcome_of, judged_outcome, station_of, step}
+use Rattle.wf_law_runs.specs.Windows.{EachMpdu}
+use Rattle.wf_law_driver.specs.Shown.{SettlesAlike, EndsAsLost}
+use Rattle.wf_law_driver.proofs.Ended.{may_end_lost, may_end_heard}
+use Rattle.wf_law_driver.proofs.Indices.{each_mpdu}
+
+settled_alike : (ms : List Mpdu) (w : World) (s t : ℕ) (p q : ℕ → Bool) →
+    EachMpdu (λ m. p m.number ≡ q m.number) ms → with_all_settled w s t p ms ≡ with_all_settled w s t q ms
+unfolding with_all_settled
+settled_alike [] w s t p q h = refl
+settled_alike (m ∷ ms) w s t p q h = ap (λ (b : Bool). with_all_settled (with_settled w s t b m) s t p ms) h.0
+    ∙ settled_alike ms (with_settled w s t (q m.number) m) s t p q h.1
+
+pub settles_alike : (w : World) → SettlesAlike w
+settles_alike w s t p q mpdus h = settled_alike mpdus w s t p q h
+
+-- none of an aggregate's numbers is shown
+after_none : (c : Content) (v : World) (x : Exchange) (b : Score) → x.answer ≡ Some b → is_request c ≡ false →
+    EachMpdu (λ m. shows b m.number ≡ false) (mpdus_of c) → after_done v x true c ≡ after_done v x false c
+unfolding after_done
+after_none (Request f) v x b kept frames h = absurd (cc frames)
+after_none (Frames ms) v x b kept frames h =
+    settled_alike ms v x.station x.tid (is_acked true x.answer) (is_acked false x.answer)
+    (each_mpdu (λ m. shows b m.number ≡ false) (λ m. is_acked true x.answer m.number
+    ≡ is_acked false x.answer m.number) ms
+    (λ m none. subst (λ (o : Option Score). is_acked true o m.number ≡ is_acked false o m.number)
+    (sym kept) none) h)
+
+done_none : (w : World) (x : Exchange) (b : Score) → x.answer ≡ Some b → is_request x.content ≡ false →
+    EachMpdu (λ m. shows b m.number ≡ false) (mpdus_of x.content) →
+    done_outcome w x true ≡ done_outcome w x false
+unfolding done_outcome
+done_none w x b kept frames h =
+    ap {B = Outcome} (λ (v : World). record {
+      world = v;
+      reply =
+          Ended (count_in v x is_acknowledged) (count_in v x is_waiting) (count_in v x is_failed);
+    })
+    (after_none x.content (after_charge (without_exchange w x.number) x) x b kept frames h)
+
+-- an answered Done, by what it does to the exchange
+done_step : (w : World) (e : ℕ) (x : Exchange) (heard : Bool) → exchange w e ≡ Some x →
+    refusal w (Asked (Done e heard)) ≡ None →
+    step w (Asked (Done e heard)) ≡ record (done_outcome w x heard) {
+      world =
+          with_listings_of (done_outcome w x heard).world (Some x.station);
+    }
+unfolding step judged_outcome outcome_of outcome_where_open
+done_step w e x heard found fine =
+    ap (judged_outcome w (Asked (Done e heard))) fine
+    ∙ ap {B = Outcome} (λ (o : Option Exchange). record
+    (outcome_where_open w o (λ y. done_outcome w y heard)) {
+      world =
+          with_listings_of (outcome_where_open w o (λ y. done_outcome w y heard)).world (station_of o);
+    }) found
+
+pub ends_as_lost : (w : World) → EndsAsLost w
+ends_as_lost w e x b found kept frames h =
+    done_step w e x true found (may_end_heard w e x b found kept)
+    ∙ (ap {B = Outcome} (λ (o : Outcome). record o { world = with_listings_of o.world (Some x.station) })
+    (done_none w x b kept frames h)
+    ∙ sym (done_step w e x false found (may_end_lost w e x found)))

@@ -1,0 +1,180 @@
+-- Calls that tell of no receiver.
+use Rattle.std.proofs.Common.{◌≡◌, refl, ap, sym, ◌∙◌, subst, ℕ, ◌==◌, Bool, true, false, not, List, [], ◌∷◌, Option, Some, None, IfSome}
+use Rattle.wf_frame.specs.declared.settings.Config.{Config}
+use Rattle.wf_frame.specs.declared.classes.Class.{Class}
+use Rattle.wf_frame.specs.declared.notes.Ask.TheVariants.{Join, Leave, Rate, Tick, Pull, Arrive, Answer, Done, Sleep, Wake, Poll, Rx, Reap}
+use Rattle.wf_frame.specs.declared.notes.Note.{Note}
+use Rattle.wf_frame.specs.declared.notes.Note.TheVariants.{Enqueue, Asked}
+use Rattle.wf_frame.specs.declared.notes.Refusal.{Refusal}
+use Rattle.wf_frame.specs.declared.notes.Refusal.TheVariants.{Idle}
+use Rattle.wf_frame.specs.Classes.{all_classes}
+use Rattle.wf_def_lists.specs.Table.{has, upto}
+use Rattle.wf_law_rules.proofs.Lemmas.Tables.{each_put}
+use Rattle.wf_def_world.specs.World.{World, Station, Exchange, new_tid, session, receiver, rotation, is_live, exchange, with_station, without_exchange, opening}
+use Rattle.wf_def_world.specs.CanSend.{is_ready}
+use Rattle.wf_def_world.specs.Exchanges.{station_need, picked_station, after_pick, after_tid_turn, sending_tid, Prepared, exchange_of, with_exchange_opened}
+use Rattle.wf_def_world.specs.Refusals.{refusal}
+use Rattle.wf_def_world.specs.Step.{join_outcome, leave_outcome, rate_outcome, tick_outcome, send_outcome, pull_outcome_for, pull_outcome, done_outcome, outcome_where_open, sleep_outcome, wake_outcome, poll_outcome, rx_outcome, reap_outcome, outcome_of, concerned_station, after_refusal, judged_outcome, step}
+use Rattle.wf_def_world.specs.Run.{Entry, world_after}
+use Rattle.wf_law_runs.proofs.Windows.Sides.{Side, Same, sides_of, then_same, same_on_station, same_on_share, same_listed, same_after_pick, same_after_turn, same_spent}
+use Rattle.wf_law_runs.proofs.Windows.Opened.{Each, each_append, each_filter, eight, left_true, pick_ready, some_along}
+use Rattle.wf_law_runs.proofs.Windows.Agreed.{IsLawful, lawful, lawful_same, same_left_tids, same_off_lists}
+use Rattle.wf_law_runs.proofs.Frames.Delivered.{prepared_right, opened_ended, same_enqueued}
+use Rattle.wf_law_runs.proofs.Releases.Kept.{Kept, keep_ended, keep_pulled}
+use Rattle.wf_law_driver.specs.Unheard.{IsUnmarked, HasAcked, IsUnheard, IsSilent, SilentLaw}
+use Rattle.wf_law_driver.proofs.Opened.{to_each, of_each}
+use Rattle.wf_law_driver.proofs.Ended.{kept_after, live_acked, live_arrived, kept_acked}
+
+-- no receiver has anything new, and no exchange a mark
+record Silence (w v : World) : Type 0 where
+  arrived : (i j n : ℕ) → has (receiver v i j).arrived n ≡ true → has (receiver w i j).arrived n ≡ true
+  marks : Each IsUnmarked w.opened → Each IsUnmarked v.opened
+
+silence : (w : World) → Silence w w
+silence w = record { arrived = λ i j n h. h; marks = λ h. h }
+
+then_silence : (u v w : World) → Silence u v → Silence v w → Silence u w
+then_silence u v w h k = record {
+  arrived = λ i j n a. h.arrived i j n (k.arrived i j n a);
+  marks =
+      λ m. k.marks (h.marks m);
+}
+
+silence_same : (w v : World) → Same w v → Silence w v
+silence_same w v h = record {
+  arrived = λ i j n a. ap (λ (s : Side). has s.receiver.arrived n) (sym (h.sides i j)) ∙ a;
+  marks = λ m. subst (Each IsUnmarked) (sym h.opened) m;
+}
+
+silence_kept : (w v : World) → Kept w v → (Each IsUnmarked w.opened → Each IsUnmarked v.opened) → Silence w v
+silence_kept w v k m = record {
+  arrived = λ i j n a. ap (λ r. has r.arrived n) (sym (k.receivers i j)) ∙ a;
+  marks = m;
+}
+
+-- ---- joining and leaving
+
+silence_station : (w : World) (s : ℕ) (o : Option Station) →
+    ((j n : ℕ) → has (sides_of o j).receiver.arrived n ≡ true → ⊥) → Silence w (with_station w s o)
+unfolding with_station
+silence_station w s o new = record {
+  arrived = each_put (λ i p. (j n : ℕ) → has (sides_of p j).receiver.arrived n ≡ true →
+      has (receiver w i j).arrived n ≡ true) None w.stations s o (λ i j n h. h) (λ j n h. absurd (new j n h));
+  marks = λ m. m;
+}
+
+silence_joined : (w : World) (s window start exponent weight : ℕ) →
+    Silence w (join_outcome w s window start exponent weight).world
+unfolding join_outcome
+silence_joined w s window start exponent weight =
+    silence_station w s _ (λ j n. eight (λ y. has y.receiver.arrived n ≡ true → ⊥) (new_tid start window)
+    (λ h. cc h) (λ h. cc h) j)
+
+silence_gone : (w : World) (s : ℕ) → Silence w (leave_outcome w s).world
+unfolding leave_outcome
+silence_gone w s = then_silence w _ _ (silence_same w _
+    (then_same _ _ _ (same_left_tids (upto 8) w s) (same_off_lists all_classes _ s)))
+    (silence_station _ s None (λ j n h. cc h))
+
+-- ---- pulls
+
+marks_sent : (s t : ℕ) (c : Class) (w : World) (p : Prepared) → p.world.opened ≡ w.opened →
+    Each IsUnmarked w.opened → Each IsUnmarked (send_outcome s t c p).world.opened
+unfolding send_outcome with_exchange_opened
+marks_sent s t c w p e m = subst (Each IsUnmarked) (sym (same_spent _ s).opened)
+    (each_append IsUnmarked p.world.opened (exchange_of s t c p) (subst (Each IsUnmarked) (sym e) m)
+    (record { arrived = refl; answer = refl }))
+
+marks_pulled_by : (o : Option ℕ) (w : World) (c : Class) → IfSome o (λ s. is_live w s ≡ true) → IsLawful w →
+    Each IsUnmarked w.opened → Each IsUnmarked (pull_outcome_for w c o).world.opened
+unfolding pull_outcome_for
+marks_pulled_by None w c live i m = m
+marks_pulled_by (Some s) w c live i m =
+    let v : World = after_tid_turn w s c (sending_tid w s c) in
+    let k : Same w v = same_after_turn w s c (sending_tid w s c) in
+    marks_sent s _ c v _ (prepared_right v s _ (lawful_same _ _ k i) (k.live s ∙ live)).opened
+    (subst (Each IsUnmarked) (sym k.opened) m)
+
+marks_pulled : (w : World) (c : Class) → IsLawful w → Each IsUnmarked w.opened →
+    Each IsUnmarked (pull_outcome w c).world.opened
+unfolding pull_outcome
+marks_pulled w c i m =
+    let k : Same w (after_pick w c) = same_after_pick w c in
+    marks_pulled_by (picked_station w c).winner (after_pick w c) c
+    (some_along (λ s. is_ready w c s ≡ true) (λ s. is_live (after_pick w c) s ≡ true)
+    (picked_station w c).winner (λ s h. k.live s ∙ left_true (is_live w s) _ h)
+    (pick_ready (station_need w c) (is_ready w c) (rotation w c)))
+    (lawful_same _ _ k i) (subst (Each IsUnmarked) (sym k.opened) m)
+
+-- ---- ends
+
+marks_without : (w : World) (e : ℕ) → Each IsUnmarked w.opened → Each IsUnmarked (without_exchange w e).opened
+unfolding without_exchange
+marks_without w e m = each_filter IsUnmarked IsUnmarked (λ y. not (y.number == e)) w.opened (λ y _ h. h) m
+
+silence_ended : (o : Option Exchange) (w : World) (heard : Bool) →
+    Silence w (outcome_where_open w o (λ x. done_outcome w x heard)).world
+unfolding outcome_where_open
+silence_ended None w heard = silence w
+silence_ended (Some x) w heard = silence_kept w _ (keep_ended w x heard)
+    (λ m. subst (Each IsUnmarked) (sym (opened_ended w x heard)) (marks_without w x.number m))
+
+-- ---- the step
+
+silence_reaped : (ids : List ℕ) (w : World) → Silence w (reap_outcome w ids).world
+unfolding reap_outcome
+silence_reaped [] w = silence w
+silence_reaped (id ∷ ids) w = record { arrived = λ i j n h. h; marks = λ h. h }
+
+silence_done : (note : Note) (w : World) → IsSilent note → IsLawful w → Silence w (outcome_of w note).world
+unfolding outcome_of tick_outcome rate_outcome sleep_outcome wake_outcome poll_outcome rx_outcome
+silence_done (Enqueue s t flow len) w k i = silence_same w _ (same_enqueued w s t flow len)
+silence_done (Asked (Join s window start exponent weight)) w k i =
+    silence_joined w s window start exponent weight
+silence_done (Asked (Leave s)) w k i = silence_gone w s
+silence_done (Asked (Rate s mcs mhz short)) w k i = silence_same w _ (same_on_station w s _ (λ x t. refl))
+silence_done (Asked (Tick by)) w k i = record { arrived = λ i j n h. h; marks = λ h. h }
+silence_done (Asked (Pull c)) w k i = silence_kept w _ (keep_pulled w c) (marks_pulled w c i)
+silence_done (Asked (Arrive e n)) w k i = absurd k
+silence_done (Asked (Answer e)) w k i = absurd k
+silence_done (Asked (Done e true)) w k i = absurd k
+silence_done (Asked (Done e false)) w k i = silence_ended (exchange w e) w false
+silence_done (Asked (Sleep s)) w k i = silence_same w _ (same_on_station w s _ (λ x t. refl))
+silence_done (Asked (Wake s)) w k i = silence_same w _ (same_on_station w s _ (λ x t. refl))
+silence_done (Asked (Poll s)) w k i = silence_same w _ (same_on_station w s _ (λ x t. refl))
+silence_done (Asked (Rx s c air)) w k i = silence_same w _ (same_on_share w s c _)
+silence_done (Asked Reap) w k i = silence_reaped w.finished w
+
+silence_refused : (note : Note) (r : Refusal) (w : World) → Silence w (after_refusal w note r)
+unfolding after_refusal
+silence_refused (Asked (Pull c)) Idle w = silence_same w _ (same_after_pick w c)
+silence_refused _ _ w = silence w
+
+silence_answer : (r : Option Refusal) (w : World) (note : Note) → IsSilent note → IsLawful w →
+    Silence w (judged_outcome w note r).world
+unfolding judged_outcome
+silence_answer (Some r) w note k i = silence_refused note r w
+silence_answer None w note k i = then_silence w (outcome_of w note).world _ (silence_done note w k i)
+    (silence_same _ _ (same_listed (concerned_station w note) (outcome_of w note).world))
+
+silence_step : (w : World) (note : Note) → IsSilent note → IsLawful w → Silence w (step w note).world
+unfolding step
+silence_step w note k i = silence_answer (refusal w note) w note k i
+
+-- ---- the law
+
+pub silent_law : (config : Config) (h : List Entry) → SilentLaw config h
+silent_law config h note k un =
+    let w : World = world_after (opening config) h in
+    let v : World = (step w note).world in
+    let s : Silence w v = silence_step w note k (lawful config h) in
+    record {
+      marks = of_each IsUnmarked v.opened (s.marks (to_each IsUnmarked w.opened un.marks));
+      acked = λ i j n a.
+          let had : HasAcked (session w i j) n = un.acked i j n (s.arrived i j n a) in
+          kept_acked (session w i j) (session v i j) n ((kept_after config h note).numbers i j
+          (live_acked w i j n had) (live_arrived v i j n a)) had;
+    }
+
+pub opening_unheard : (config : Config) → IsUnheard (opening config)
+opening_unheard config = record { marks = tt; acked = λ i j n a. absurd (cc a) }

@@ -1,0 +1,355 @@
+-- What a transmit path keeps stays while it is told of a receiver.
+use Rattle.std.proofs.Common.{◌≡◌, refl, ap, ap₂, sym, ◌∙◌, subst, arith, ℕ, suc, ◌<◌, ◌==◌, nat_lt, Bool, true, false, not, ◌&&◌, ◌||◌, if◌then◌else◌, List, [], ◌∷◌, ◌++◌, length, map, find, sum_by, Option, Some, None, is_some, unwrap_or, option_map}
+use Rattle.std.specs.List.{list_any}
+use Rattle.std.proofs.Math.Seq.{take-length}
+use Rattle.wf_frame.specs.declared.settings.Config.{Config}
+use Rattle.wf_frame.specs.declared.classes.Class.{Class}
+use Rattle.wf_frame.specs.declared.notes.Ask.TheVariants.{Arrive, Answer}
+use Rattle.wf_frame.specs.declared.notes.Note.{Note}
+use Rattle.wf_frame.specs.declared.notes.Note.TheVariants.{Asked}
+use Rattle.wf_frame.specs.declared.notes.Refusal.{Refusal}
+use Rattle.wf_frame.specs.Classes.{all_classes, lower_tid, upper_tid, class_number}
+use Rattle.wf_frame.specs.Settings.{IsInRange}
+use Rattle.wf_def_lists.specs.Table.{at}
+use Rattle.wf_def_rotation.specs.Rotation.{Rotation, has_key, in_order, no_keys, with_new_key}
+use Rattle.wf_def_agreement.specs.Session.{Session, request_due, has_room, waiting_numbers}
+use Rattle.wf_law_rules.proofs.Lemmas.Numbers.{on_bool, both, not_eq, eq_yes}
+use Rattle.wf_law_rules.proofs.Lemmas.Tables.{each_put}
+use Rattle.wf_def_world.specs.World.{World, Station, Tid, Queue, Exchange, no_tid, no_station, new_queue, session, tid_of, station, rotation, is_live, exchange, with_station, on_station, on_tid, on_receiver, with_rotation, with_exchange, opening}
+use Rattle.wf_def_world.specs.CanSend.{is_request, request_open, can_send, can_send_in, has_credit, may_receive, is_ready, with_listing_in, with_listings_in, with_listings_of}
+use Rattle.wf_def_world.specs.Exchanges.{after_arrival}
+use Rattle.wf_def_world.specs.Refusals.{refusal}
+use Rattle.wf_def_world.specs.Step.{Outcome, arrive_outcome, answer_outcome, outcome_where_open, outcome_of, station_of, after_refusal, judged_outcome, step}
+use Rattle.wf_def_world.specs.Run.{Entry, world_after}
+use Rattle.wf_law_runs.specs.Windows.{OpenRises}
+use Rattle.wf_law_runs.proofs.Deficits.Law.{deficits}
+use Rattle.wf_law_runs.proofs.Frames.Fates.{world_after-append}
+use Rattle.wf_law_runs.proofs.Windows.Sides.{on_tids}
+use Rattle.wf_law_driver.specs.Told.{arrivals, answer_told, indices_told, told}
+use Rattle.wf_law_driver.specs.Transmit.{without_tids, HasSameTransmit, TransmitLaw}
+use Rattle.wf_law_driver.specs.Unheard.{unmarked}
+use Rattle.wf_law_driver.proofs.Opened.{with_replaced, found_number}
+use Rattle.wf_law_driver.proofs.Arrivals.{with_arrival, with_answer, answer_now}
+use Rattle.wf_law_driver.proofs.Ended.{windows_after}
+
+same_transmit : (w : World) → HasSameTransmit w w
+same_transmit w = record {
+  config = refl;
+  clock = refl;
+  exchanges = refl;
+  stations = λ s. refl;
+  sessions = λ s t. refl;
+  lists = λ s t. refl;
+  queues = refl;
+  rotations = refl;
+  opened = refl;
+  frames = refl;
+  finished = refl;
+}
+
+then_transmit : (u v w : World) → HasSameTransmit u v → HasSameTransmit v w → HasSameTransmit u w
+then_transmit u v w h k = record {
+  config = k.config ∙ h.config;
+  clock = k.clock ∙ h.clock;
+  exchanges = k.exchanges ∙ h.exchanges;
+  stations = λ s. k.stations s ∙ h.stations s;
+  sessions = λ s t. k.sessions s t ∙ h.sessions s t;
+  lists = λ s t. k.lists s t ∙ h.lists s t;
+  queues = k.queues ∙ h.queues;
+  rotations = k.rotations ∙ h.rotations;
+  opened = k.opened ∙ h.opened;
+  frames = k.frames ∙ h.frames;
+  finished = k.finished ∙ h.finished;
+}
+
+-- ---- one exchange is replaced by another that is the same but for its marks
+
+untouched : (lo hi : ℕ) (xs : List Exchange) (z : Exchange) → z.number < lo → OpenRises lo hi xs →
+    with_replaced z xs ≡ xs
+untouched lo hi [] z l r = refl
+untouched lo hi (y ∷ ys) z l r =
+    let other : (y.number == z.number) ≡ false = not_eq y.number z.number (λ e. omega (arith, e, l, r.0)) in
+    ap₂ (λ (q : Exchange) (qs : List Exchange). q ∷ qs) (ap (λ (b : Bool). if b then z else y) other)
+    (untouched (suc y.number) hi ys z (omega (arith, l, r.0)) r.2)
+
+first_found : (b : Bool) (y x : Exchange) (o : Option Exchange) → (if b then Some y else o) ≡ Some x →
+    b ≡ true → y ≡ x
+first_found true y x o h e = cc h
+first_found false y x o h e = absurd (cc e)
+
+later_found : (b : Bool) (y x : Exchange) (o : Option Exchange) → (if b then Some y else o) ≡ Some x →
+    b ≡ false → o ≡ Some x
+later_found true y x o h e = absurd (cc e)
+later_found false y x o h e = h
+
+replaced_same : (lo hi e : ℕ) (xs : List Exchange) (x z : Exchange) → OpenRises lo hi xs →
+    find (λ y. y.number == e) xs ≡ Some x → z.number ≡ e → unmarked z ≡ unmarked x →
+    map unmarked (with_replaced z xs) ≡ map unmarked xs
+replaced_same lo hi e [] x z r h n same = refl
+replaced_same lo hi e (y ∷ ys) x z r h n same = on_bool (y.number == e)
+    (λ yes. ap₂ (λ (q : Exchange) (qs : List Exchange). q ∷ qs)
+    (ap (λ (b : Bool). unmarked (if b then z else y)) (at_z ∙ yes)
+    ∙ (same ∙ ap unmarked (sym (first_found (y.number == e) y x _ h yes))))
+    (ap (map unmarked) (untouched (suc y.number) hi ys z (omega (arith, n, eq_yes y.number e yes)) r.2)))
+    (λ no_match. ap₂ (λ (q : Exchange) (qs : List Exchange). q ∷ qs)
+    (ap (λ (b : Bool). unmarked (if b then z else y)) (at_z ∙ no_match))
+    (replaced_same (suc y.number) hi e ys x z r.2 (later_found (y.number == e) y x _ h no_match) n same))
+  where
+    at_z : (y.number == z.number) ≡ (y.number == e)
+    at_z = ap (λ (k : ℕ). y.number == k) n
+
+-- ---- a receiver changes
+
+bare_on_tids : (t : ℕ) (f : Tid → Tid) (o : Option Station) →
+    option_map without_tids (option_map (on_tids t f) o) ≡ option_map without_tids o
+bare_on_tids t f None = refl
+bare_on_tids t f (Some x) = refl
+
+tid_on_tids : {X : Type 0} (R : Tid → X) (t : ℕ) (f : Tid → Tid) → ((y : Tid) → R (f y) ≡ R y) →
+    (o : Option Station) (j : ℕ) → R (at no_tid (unwrap_or (option_map (on_tids t f) o) no_station).tids j)
+    ≡ R (at no_tid (unwrap_or o no_station).tids j)
+tid_on_tids R t f h None j = refl
+tid_on_tids R t f h (Some x) j = each_put (λ i y. R y ≡ R (at no_tid x.tids i)) no_tid x.tids t
+    (f (at no_tid x.tids t)) (λ i. refl) (h (at no_tid x.tids t)) j
+
+tids_of : {X : Type 0} (R : Tid → X) (w : World) (s t : ℕ) (f : Tid → Tid) → ((y : Tid) → R (f y) ≡ R y) →
+    (i j : ℕ) → R (tid_of (on_tid w s t f) i j) ≡ R (tid_of w i j)
+unfolding on_tid on_station with_station
+tids_of R w s t f h = each_put (λ i o. (j : ℕ) →
+    R (at no_tid (unwrap_or o no_station).tids j) ≡ R (tid_of w i j)) None w.stations s _ (λ i j. refl)
+    (tid_on_tids R t f h (at None w.stations s))
+
+on_tid_transmit : (w : World) (s t : ℕ) (f : Tid → Tid) → ((y : Tid) → (f y).session ≡ y.session) →
+    ((y : Tid) → (f y).queues ≡ y.queues) → HasSameTransmit w (on_tid w s t f)
+unfolding on_tid on_station with_station
+on_tid_transmit w s t f h k = record {
+  config = refl;
+  clock = refl;
+  exchanges = refl;
+  stations = each_put (λ i o. option_map without_tids o ≡ option_map without_tids (at None w.stations i)) None
+      w.stations s _ (λ i. refl) (bare_on_tids t f (at None w.stations s));
+  sessions = tids_of (λ (y : Tid). y.session) w s t f h;
+  lists = tids_of (λ (y : Tid). y.queues) w s t f k;
+  queues = refl;
+  rotations = refl;
+  opened = refl;
+  frames = refl;
+  finished = refl;
+}
+
+with_exchange_transmit : (w : World) (e : ℕ) (x z : Exchange) → OpenRises 0 w.exchanges w.opened →
+    exchange w e ≡ Some x → z.number ≡ e → unmarked z ≡ unmarked x → HasSameTransmit w (with_exchange w z)
+unfolding with_exchange
+with_exchange_transmit w e x z r found n same = record {
+  config = refl;
+  clock = refl;
+  exchanges = refl;
+  stations = λ s. refl;
+  sessions = λ s t. refl;
+  lists = λ s t. refl;
+  queues = refl;
+  rotations = refl;
+  opened = replaced_same 0 w.exchanges e w.opened x z r found n same;
+  frames = refl;
+  finished = refl;
+}
+
+arrived_transmit : (w : World) (e : ℕ) (x : Exchange) (k : ℕ) → OpenRises 0 w.exchanges w.opened →
+    exchange w e ≡ Some x → HasSameTransmit w (arrive_outcome w x k).world
+unfolding arrive_outcome on_receiver on_tid on_station with_station
+arrived_transmit w e x k r found =
+    let f : Tid → Tid = λ (y : Tid). record y { receiver = after_arrival x.content k y.receiver } in
+    let u : World = on_tid w x.station x.tid f in
+    then_transmit w u _ (on_tid_transmit w x.station x.tid f (λ y. refl) (λ y. refl))
+    (with_exchange_transmit u e x (with_arrival k x) r found (found_number w e x found) refl)
+
+answered_transmit : (w : World) (e : ℕ) (x : Exchange) → OpenRises 0 w.exchanges w.opened →
+    exchange w e ≡ Some x → HasSameTransmit w (answer_outcome w x).world
+unfolding answer_outcome
+answered_transmit w e x r found = with_exchange_transmit w e x (with_answer (answer_now w x) x) r found
+    (found_number w e x found) refl
+
+-- ---- who is ready stays so
+
+any_unmarked : (s t : ℕ) (xs : List Exchange) →
+    list_any (λ x. (x.station == s) && ((x.tid == t) && is_request x.content)) xs
+    ≡ list_any (λ x. (x.station == s) && ((x.tid == t) && is_request x.content)) (map unmarked xs)
+any_unmarked s t [] = refl
+any_unmarked s t (x ∷ xs) = ap (λ (b : Bool). ((x.station == s) && ((x.tid == t) && is_request x.content))
+    || b) (any_unmarked s t xs)
+
+request_open_same : (w u : World) (s t : ℕ) → HasSameTransmit w u → request_open u s t ≡ request_open w s t
+request_open_same w u s t h = any_unmarked s t u.opened
+    ∙ (ap (list_any (λ (x : Exchange). (x.station == s) && ((x.tid == t) && is_request x.content))) h.opened
+    ∙ sym (any_unmarked s t w.opened))
+
+-- whether a TID can send, by its session, whether a request of it is open, the queues and those that it lists
+abbrev sends_by : Session → Bool → List Queue → Rotation → Bool
+sends_by y asked qs r = if request_due y then not asked
+    else (nat_lt 0 (length (waiting_numbers y))
+    || (nat_lt 0 (sum_by (λ q. length (at new_queue qs q).items) (in_order r)) && has_room y))
+
+can_send_same : (w u : World) (s t : ℕ) → HasSameTransmit w u → can_send u s t ≡ can_send w s t
+can_send_same w u s t h =
+    ap (λ (y : Session). sends_by y (request_open u s t) u.queues (tid_of u s t).queues) (h.sessions s t)
+    ∙ (ap (λ (b : Bool). sends_by (session w s t) b u.queues (tid_of u s t).queues)
+    (request_open_same w u s t h)
+    ∙ (ap (λ (qs : List Queue). sends_by (session w s t) (request_open w s t) qs (tid_of u s t).queues)
+    h.queues
+    ∙ ap (λ (r : Rotation). sends_by (session w s t) (request_open w s t) w.queues r) (h.lists s t)))
+
+read_bare : {X : Type 0} (R : Station → X) → ((x : Station) → R (without_tids x) ≡ R x) →
+    (o : Option Station) → R (unwrap_or (option_map without_tids o) no_station) ≡ R (unwrap_or o no_station)
+read_bare R h None = refl
+read_bare R h (Some x) = h x
+
+reads_same : {X : Type 0} (R : Station → X) → ((x : Station) → R (without_tids x) ≡ R x) →
+    (w u : World) (s : ℕ) → HasSameTransmit w u → R (station u s) ≡ R (station w s)
+reads_same R h w u s k = sym (read_bare R h (at None u.stations s))
+    ∙ (ap (λ (o : Option Station). R (unwrap_or o no_station)) (k.stations s)
+    ∙ read_bare R h (at None w.stations s))
+
+some_bare : (o : Option Station) → is_some (option_map without_tids o) ≡ is_some o
+some_bare None = refl
+some_bare (Some x) = refl
+
+live_same : (w u : World) (s : ℕ) → HasSameTransmit w u → is_live u s ≡ is_live w s
+live_same w u s k = sym (some_bare (at None u.stations s))
+    ∙ (ap is_some (k.stations s) ∙ some_bare (at None w.stations s))
+
+ready_same : (w u : World) (c : Class) (s : ℕ) → HasSameTransmit w u → is_ready u c s ≡ is_ready w c s
+ready_same w u c s h =
+    let live : is_live u s ≡ is_live w s = live_same w u s h in
+    let lower : can_send u s (lower_tid c) ≡ can_send w s (lower_tid c) =
+    can_send_same w u s (lower_tid c) h in
+    let upper : can_send u s (upper_tid c) ≡ can_send w s (upper_tid c) =
+    can_send_same w u s (upper_tid c) h in
+    let may : may_receive u s c ≡ may_receive w s c =
+    reads_same (λ (x : Station). not x.asleep || has_credit x.credit c) (λ x. refl) w u s h in
+    ap (λ (b : Bool). b && ((can_send u s (lower_tid c) || can_send u s (upper_tid c)) && may_receive u s c))
+    live
+    ∙ (ap (λ (b : Bool). is_live w s && ((b || can_send u s (upper_tid c)) && may_receive u s c)) lower
+    ∙ (ap (λ (b : Bool). is_live w s && ((can_send w s (lower_tid c) || b) && may_receive u s c)) upper
+    ∙ ap (λ (b : Bool). is_live w s && (can_send_in w s c && b)) may))
+
+-- ---- so nobody is listed anew
+
+-- each ready station is listed
+abbrev ListsReady : World → Type 0
+ListsReady w = (s : ℕ) (c : Class) → is_ready w c s ≡ true → has_key (rotation w c) s ≡ true
+
+unlisted : (a b : Bool) → (a ≡ true → b ≡ true) → (a && not b) ≡ false
+unlisted false b h = refl
+unlisted true b h = ap not (h refl)
+
+listed_in : (w : World) (s : ℕ) (c : Class) → ListsReady w → with_listing_in w s c ≡ w
+unfolding with_listing_in
+listed_in w s c h = ap (λ (b : Bool). if b then with_rotation w c (with_new_key (rotation w c) s) else w)
+    (unlisted (is_ready w c s) (has_key (rotation w c) s) (h s c))
+
+listed_in_all : (cs : List Class) (w : World) (s : ℕ) → ListsReady w → with_listings_in w s cs ≡ w
+unfolding with_listings_in
+listed_in_all [] w s h = refl
+listed_in_all (c ∷ cs) w s h = ap (λ (v : World). with_listings_in v s cs) (listed_in w s c h)
+    ∙ listed_in_all cs w s h
+
+listed_same : (o : Option ℕ) (w : World) → ListsReady w → with_listings_of w o ≡ w
+unfolding with_listings_of
+listed_same None w h = refl
+listed_same (Some s) w h = listed_in_all all_classes w s h
+
+lists_same : (w u : World) → HasSameTransmit w u → ListsReady w → ListsReady u
+lists_same w u k h s c is =
+    let same : rotation u c ≡ rotation w c = ap (λ (rs : List Rotation). at no_keys rs (class_number c))
+    k.rotations in
+    ap (λ (r : Rotation). has_key r s) same ∙ h s c (sym (ready_same w u c s k) ∙ is)
+
+then_listed : (o : Option ℕ) (w u : World) → ListsReady w → HasSameTransmit w u →
+    HasSameTransmit w (with_listings_of u o)
+then_listed o w u h k = subst (HasSameTransmit w) (sym (listed_same o u (lists_same w u k h))) k
+
+-- ---- the step
+
+open_transmit : (o : Option Exchange) (w : World) (f : Exchange → Outcome) → ListsReady w →
+    ((x : Exchange) → o ≡ Some x → HasSameTransmit w (f x).world) →
+    HasSameTransmit w (with_listings_of (outcome_where_open w o f).world (station_of o))
+unfolding outcome_where_open
+open_transmit None w f h k = then_listed None w w h (same_transmit w)
+open_transmit (Some x) w f h k = then_listed (Some x.station) w (f x).world h (k x refl)
+
+arrive_judged : (r : Option Refusal) (w : World) (e i : ℕ) → OpenRises 0 w.exchanges w.opened → ListsReady w →
+    HasSameTransmit w (judged_outcome w (Asked (Arrive e i)) r).world
+unfolding judged_outcome after_refusal outcome_of
+arrive_judged (Some r) w e i rise h = same_transmit w
+arrive_judged None w e i rise h = open_transmit (exchange w e) w (λ x. arrive_outcome w x i) h
+    (λ x found. arrived_transmit w e x i rise found)
+
+answer_judged : (r : Option Refusal) (w : World) (e : ℕ) → OpenRises 0 w.exchanges w.opened → ListsReady w →
+    HasSameTransmit w (judged_outcome w (Asked (Answer e)) r).world
+unfolding judged_outcome after_refusal outcome_of
+answer_judged (Some r) w e rise h = same_transmit w
+answer_judged None w e rise h = open_transmit (exchange w e) w (λ x. answer_outcome w x) h
+    (λ x found. answered_transmit w e x rise found)
+
+arrive_step : (w : World) (e i : ℕ) → OpenRises 0 w.exchanges w.opened → ListsReady w →
+    HasSameTransmit w (step w (Asked (Arrive e i))).world
+unfolding step
+arrive_step w e i rise h = arrive_judged (refusal w (Asked (Arrive e i))) w e i rise h
+
+answer_step : (w : World) (e : ℕ) → OpenRises 0 w.exchanges w.opened → ListsReady w →
+    HasSameTransmit w (step w (Asked (Answer e))).world
+unfolding step
+answer_step w e rise h = answer_judged (refusal w (Asked (Answer e))) w e rise h
+
+-- ---- the run
+
+lists_ready : (config : Config) (h : List Entry) → IsInRange config →
+    ListsReady (world_after (opening config) h)
+lists_ready config h range = subst (λ (es : List Entry). ListsReady (world_after (opening config) es))
+    (take-length h)
+    (λ s c is. (deficits config h range (length h) s c (both _ _ is).0).ready is)
+
+-- an Arrive or an Answer
+abbrev Tells : Note → Type 0
+Tells (Asked (Arrive e i)) = Unit {0}
+Tells (Asked (Answer e)) = Unit {0}
+Tells note = ⊥
+
+abbrev AllTell : List Entry → Type 0
+AllTell [] = Unit {0}
+AllTell (e ∷ es) = Tells e.1 × AllTell es
+
+tells_step : (note : Note) (config : Config) (h : List Entry) → IsInRange config → Tells note →
+    HasSameTransmit (world_after (opening config) h) (step (world_after (opening config) h) note).world
+tells_step (Asked (Arrive e i)) config h range k =
+    arrive_step (world_after (opening config) h) e i (windows_after config h).rising
+    (lists_ready config h range)
+tells_step (Asked (Answer e)) config h range k =
+    answer_step (world_after (opening config) h) e (windows_after config h).rising
+    (lists_ready config h range)
+tells_step _ config h range k = absurd k
+
+tells_run : (es : List Entry) (config : Config) (h : List Entry) → IsInRange config → AllTell es →
+    HasSameTransmit (world_after (opening config) h) (world_after (world_after (opening config) h) es)
+unfolding world_after
+tells_run [] config h range k = same_transmit (world_after (opening config) h)
+tells_run (e ∷ es) config h range k =
+    let w : World = world_after (opening config) h in
+    let one_more : world_after (opening config) (h ++ e ∷ []) ≡ (step w e.1).world =
+    world_after-append h (opening config) (e ∷ []) in
+    then_transmit w (step w e.1).world _ (tells_step e.1 config h range k.0)
+    (subst (λ (v : World). HasSameTransmit v (world_after v es)) one_more
+    (tells_run es config (h ++ e ∷ []) range k.1))
+
+told_tell : (is js : List ℕ) (caller e : ℕ) → AllTell (arrivals caller e is ++ answer_told caller e js)
+told_tell [] [] caller e = tt
+told_tell [] (j ∷ js) caller e = (tt, tt)
+told_tell (i ∷ is) js caller e = (tt, told_tell is js caller e)
+
+pub transmit_law : (config : Config) (h : List Entry) → IsInRange config → TransmitLaw config h
+transmit_law config h range = record {
+  arrive = λ e i. tells_step (Asked (Arrive e i)) config h range tt;
+  answer = λ e. tells_step (Asked (Answer e)) config h range tt;
+  told = λ caller e shown content. tells_run (told caller e shown content) config h range
+      (told_tell (indices_told shown content) (indices_told shown content) caller e);
+}

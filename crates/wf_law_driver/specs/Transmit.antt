@@ -1,0 +1,43 @@
+-- What a transmit path keeps of a world: all but what the receivers have, and the marks of the open
+-- exchanges.
+use Rattle.std.specs.Prelude.{◌≡◌, ℕ, Bool, List, [], None, option_map, map}
+use Rattle.wf_frame.specs.declared.settings.Config.{Config}
+use Rattle.wf_frame.specs.declared.notes.Ask.TheVariants.{Arrive, Answer}
+use Rattle.wf_frame.specs.declared.notes.Note.TheVariants.{Asked}
+use Rattle.wf_def_lists.specs.Table.{at}
+use Rattle.wf_def_world.specs.World.{World, Station, Content, session, tid_of, opening}
+use Rattle.wf_def_world.specs.Step.{step}
+use Rattle.wf_def_world.specs.Run.{Entry, world_after}
+use Rattle.wf_law_driver.specs.Told.{after_told}
+use Rattle.wf_law_driver.specs.Unheard.{unmarked}
+
+-- a station without its TIDs
+abbrev pub without_tids : Station → Station
+without_tids x = record x { tids = [] }
+
+-- two worlds that a transmit path does not tell apart
+pub record HasSameTransmit (w u : World) : Type 0 where
+  pub config : u.config ≡ w.config
+  pub clock : u.clock ≡ w.clock
+  pub exchanges : u.exchanges ≡ w.exchanges
+  pub stations : (s : ℕ) → option_map without_tids (at None u.stations s)
+      ≡ option_map without_tids (at None w.stations s)
+  pub sessions : (s t : ℕ) → session u s t ≡ session w s t
+  pub lists : (s t : ℕ) → (tid_of u s t).queues ≡ (tid_of w s t).queues
+  pub queues : u.queues ≡ w.queues
+  pub rotations : u.rotations ≡ w.rotations
+  pub opened : map unmarked u.opened ≡ map unmarked w.opened
+  pub frames : u.frames ≡ w.frames
+  pub finished : u.finished ≡ w.finished
+
+-- the calls by which a receiver is heard of before a Done, one by one and together, change nothing that a
+-- transmit path keeps
+pub record KeepsTransmit (w : World) : Type 0 where
+  pub arrive : (e i : ℕ) → HasSameTransmit w (step w (Asked (Arrive e i))).world
+  pub answer : (e : ℕ) → HasSameTransmit w (step w (Asked (Answer e))).world
+  pub told : (caller e : ℕ) (shown : ℕ → Bool) (content : Content) →
+      HasSameTransmit w (after_told w caller e shown content)
+
+-- in the world after a history
+abbrev pub TransmitLaw : Config → List Entry → Type 0
+TransmitLaw config history = KeepsTransmit (world_after (opening config) history)

@@ -1,0 +1,11 @@
+-- The worked example, computed both ways.
+use Rattle.std.proofs.Common.{refl}
+use Rattle.wf_def_rotation.specs.Rotation.{pick}
+use Rattle.wf_law_rules.specs.FourKeys.{LoopEnds, FourKeysGive}
+
+pub loop_ends : LoopEnds
+loop_ends = record { winner = refl; lists = refl; deficits = refl }
+
+pub pick_gives : FourKeysGive
+unfolding pick
+pick_gives = record { winner = refl; lists = refl; deficits = refl }

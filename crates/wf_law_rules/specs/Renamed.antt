@@ -1,0 +1,31 @@
+-- Rotations whose keys have other names.
+use Rattle.std.specs.Prelude.{◌≡◌, ℕ, Bool, true, false, map, option_map}
+use Rattle.wf_def_rotation.specs.Rotation.{Rotation, has_key, Picked}
+
+abbrev pub renamed : (ℕ → ℕ) → Rotation → Rotation
+renamed f r = record { new = map f r.new; old = map f r.old }
+
+-- no two keys get one name
+abbrev pub KeepsApart : (ℕ → ℕ) → Type 0
+KeepsApart f = (a b : ℕ) → f a ≡ f b → a ≡ b
+
+-- each listed key has its need and its readiness under its other name too
+pub record Agrees (f : ℕ → ℕ) (r : Rotation) (need other_need : ℕ → ℕ)
+    (ready other_ready : ℕ → Bool) : Type 0 where
+  pub needs : (key : ℕ) → has_key r key ≡ true → other_need (f key) ≡ need key
+  pub readiness : (key : ℕ) → has_key r key ≡ true → other_ready (f key) ≡ ready key
+
+-- q is p under the other names
+pub record IsRenamed (f : ℕ → ℕ) (p q : Picked) : Type 0 where
+  pub winner : q.winner ≡ option_map f p.winner
+  pub lists : q.lists ≡ renamed f p.lists
+  pub quanta : (key : ℕ) → q.quanta (f key) ≡ p.quanta key
+
+pub record IsSame (p q : Picked) : Type 0 where
+  pub winner : q.winner ≡ p.winner
+  pub lists : q.lists ≡ p.lists
+  pub quanta : (key : ℕ) → q.quanta key ≡ p.quanta key
+
+-- no listed key is ready
+abbrev pub IsIdle : (ℕ → Bool) → Rotation → Type 0
+IsIdle ready r = (key : ℕ) → has_key r key ≡ true → ready key ≡ false

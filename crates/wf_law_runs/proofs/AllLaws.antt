@@ -1,0 +1,59 @@
+-- All laws of a history together.
+use Rattle.std.specs.Prelude.{List}
+use Rattle.wf_frame.specs.declared.settings.Config.{Config}
+use Rattle.wf_frame.specs.Settings.{IsInRange}
+use Rattle.wf_def_world.specs.Run.{Entry}
+use Rattle.wf_law_runs.specs.Laws.{Laws}
+use Rattle.wf_law_rules.proofs.Lemmas.Turns.{turn_law}
+use Rattle.wf_law_runs.proofs.Windows.Law.{window_law}
+use Rattle.wf_law_runs.proofs.Windows.Answers.{answer_law}
+use Rattle.wf_law_runs.proofs.Releases.Named.{release_law}
+use Rattle.wf_law_runs.proofs.Releases.Placed.{once_law}
+use Rattle.wf_law_runs.proofs.Frames.DeliveryLaw.{delivery_law}
+use Rattle.wf_law_runs.proofs.Frames.FateLaw.{fate_law}
+use Rattle.wf_law_runs.proofs.Kept.Law.{kept_law}
+use Rattle.wf_law_runs.proofs.Frames.FinishedLaw.{finished_law}
+use Rattle.wf_law_runs.proofs.Frames.Tallies.{tally_law}
+use Rattle.wf_law_runs.proofs.Deficits.Law.{deficits}
+use Rattle.wf_law_runs.proofs.Deficits.Quiet.{quiet}
+use Rattle.wf_law_runs.proofs.Fairness.Law.{fairness}
+use Rattle.wf_law_runs.proofs.Rotations.Law.{rotation_law}
+use Rattle.wf_law_runs.proofs.Frames.Places.{place_law}
+use Rattle.wf_law_runs.proofs.Frames.Rooms.{room_law}
+use Rattle.wf_law_runs.proofs.Queues.Limit.{limit_law}
+use Rattle.wf_law_runs.proofs.Ranges.Law.{range_law}
+use Rattle.wf_law_runs.proofs.Deficits.Numbers.{number_law}
+use Rattle.wf_law_runs.proofs.Windows.TwelveBits.{twelve_bit_law}
+use Rattle.wf_law_runs.proofs.Sums.Law.{sum_law}
+use Rattle.wf_law_runs.proofs.Sent.Law.{sent_law}
+use Rattle.wf_law_runs.proofs.Attempts.Law.{attempts_law}
+use Rattle.wf_law_runs.proofs.Queues.Law.{queue_law, queue_deficit_law}
+
+pub laws : (config : Config) (history : List Entry) → IsInRange config → Laws config history
+laws config h range = record {
+  windows = window_law config h;
+  answers = answer_law config h;
+  releases = release_law config h range;
+  once = once_law config h;
+  delivery = delivery_law config h range;
+  fates = fate_law config h;
+  kept = kept_law config h;
+  finished = finished_law config h;
+  tallies = tally_law config h;
+  places = place_law config h range;
+  room = room_law config h range;
+  limit = limit_law config h range;
+  deficits = deficits config h range;
+  quiet = quiet config h range;
+  fairness = fairness config h range;
+  turns = turn_law;
+  rotations = rotation_law config h range;
+  twelve_bits = twelve_bit_law config h;
+  queues = queue_law config h range;
+  queue_deficits = queue_deficit_law config h range;
+  ranges = range_law config h range;
+  numbers = number_law config h range;
+  sums = sum_law config h range;
+  sent = sent_law config h;
+  attempts = attempts_law config h range;
+}

@@ -1,0 +1,377 @@
+-- The law of how often a number is sent in vain, in every world of a run, answered.
+use Rattle.std.proofs.Common.{◌≡◌, refl, ap, sym, ◌∙◌, subst, arith, ℕ, zero, suc, ◌+◌, ◌-◌, ◌<◌, ◌≤◌, nat_le, Bool, true, false, if◌then◌else◌, not, ◌==◌, List, [], ◌∷◌, ◌++◌, length, take, Option, Some, None, IfSome}
+use Rattle.wf_frame.specs.declared.settings.Config.{Config}
+use Rattle.wf_frame.specs.declared.classes.Class.{Class}
+use Rattle.wf_frame.specs.declared.notes.Ask.TheVariants.{Join, Leave, Rate, Tick, Pull, Arrive, Answer, Done, Sleep, Wake, Poll, Rx, Reap}
+use Rattle.wf_frame.specs.declared.notes.Note.{Note}
+use Rattle.wf_frame.specs.declared.notes.Note.TheVariants.{Enqueue, Asked}
+use Rattle.wf_frame.specs.declared.notes.Refusal.{Refusal}
+use Rattle.wf_frame.specs.declared.notes.Refusal.TheVariants.{Idle}
+use Rattle.wf_frame.specs.Classes.{all_classes}
+use Rattle.wf_frame.specs.Settings.{IsInRange}
+use Rattle.wf_def_lists.specs.Table.{at, upto}
+use Rattle.wf_def_codel.specs.Codel.{Item}
+use Rattle.wf_def_agreement.specs.Session.{Session, Slot, State, no_slot, slot, on_slot, with_state, with_number_given, after_miss, slot_after_miss, is_failed, request_due}
+use Rattle.wf_def_world.specs.World.{World, Station, Exchange, Mpdu, Content, Frames, Request, new_tid, session, is_live, exchange, with_station, on_station, on_tid, on_session, on_receiver, on_share, with_exchange, without_exchange, with_fate, with_frame_finished, opening}
+use Rattle.wf_def_world.specs.FlowQueues.{taken_for_tid}
+use Rattle.wf_def_world.specs.CanSend.{can_send_in, can_give}
+use Rattle.wf_def_world.specs.Exchanges.{Aggregate, Prepared, most_frames, is_acked, picked_station, sending_tid, waiting_mpdus, longest_fitting, with_number, with_fresh, aggregate_of, with_flying, prepared_data, prepared_exchange, with_exchange_opened, after_pick, after_tid_turn, after_arrival, after_charge, with_failed_finished, with_settled, with_all_settled, with_heard_start, after_done}
+use Rattle.wf_def_world.specs.Refusals.{refusal}
+use Rattle.wf_def_world.specs.Step.{Outcome, tick_outcome, rate_outcome, sleep_outcome, wake_outcome, poll_outcome, rx_outcome, join_outcome, leave_outcome, send_outcome, pull_outcome_for, pull_outcome, arrive_outcome, answer_outcome, done_outcome, outcome_where_open, reap_outcome, outcome_of, concerned_station, after_refusal, judged_outcome, step}
+use Rattle.wf_def_world.specs.Run.{Entry, world_after}
+use Rattle.wf_def_world.specs.Stretches.{world_at}
+use Rattle.wf_law_runs.specs.Attempts.{IsTried, AttemptsLaw}
+use Rattle.wf_law_rules.proofs.Lemmas.Numbers.{on_if, le_yes, le_no}
+use Rattle.wf_law_rules.proofs.Lemmas.Tables.{each_put}
+use Rattle.wf_law_runs.proofs.Sessions.Flights.{AllIn, Rises, all_in_later}
+use Rattle.wf_law_runs.proofs.Deficits.Configs.{config_step}
+use Rattle.wf_law_runs.proofs.Windows.Opened.{eight}
+use Rattle.wf_law_runs.proofs.Windows.Sides.{Same, sides_of, then_same, each_side_on, same_on_station, same_on_share, same_finish, same_listed, same_after_pick, same_after_turn, same_spent, same_take, same_charged}
+use Rattle.wf_law_runs.proofs.Windows.Agreed.{IsLawful, IsReady, IsEnding, IsFound, found, ready_filled, ending_settled, ending_of, lawful_same, lawful_step, lawful_at_first, session_same, winner_ready, same_left_tids, same_off_lists}
+use Rattle.wf_law_runs.proofs.Frames.Delivered.{same_enqueued}
+
+-- each number of a session
+abbrev AllTried : ℕ → Session → Type 0
+AllTried limit y = (i : ℕ) → IsTried limit (at no_slot y.slots i)
+
+-- each number of each session
+abbrev Tried : ℕ → World → Type 0
+Tried limit w = (s t : ℕ) → AllTried limit (session w s t)
+
+-- ---- sessions
+
+none_given : (limit : ℕ) → 1 ≤ limit → IsTried limit no_slot
+none_given limit some = record { fewer = λ _. omega (arith, some); failed = λ e. absurd (cc e) }
+
+tried_put : (limit : ℕ) (y : Session) (n : ℕ) (f : Slot → Slot) → IsTried limit (f (slot y n)) →
+    AllTried limit y → AllTried limit (on_slot n f y)
+tried_put limit y n f k h = each_put (λ i x. IsTried limit x) no_slot y.slots (n - y.first) (f (slot y n)) h k
+
+tried_append : (limit : ℕ) (xs : List Slot) (x : Slot) → IsTried limit x →
+    ((i : ℕ) → IsTried limit (at no_slot xs i)) → (i : ℕ)
+    → IsTried limit (at no_slot (xs ++ x ∷ []) i)
+tried_append limit [] x k h zero = k
+tried_append limit [] x k h (suc i) = h i
+tried_append limit (y ∷ xs) x k h zero = h zero
+tried_append limit (y ∷ xs) x k h (suc i) = tried_append limit xs x k (λ j. h (suc j)) i
+
+tried_give : (limit : ℕ) (y : Session) (id : ℕ) → 1 ≤ limit → AllTried limit y →
+    AllTried limit (with_number_given y id)
+tried_give limit y id some h = tried_append limit y.slots _
+    (record { fewer = λ _. omega (arith, some); failed = λ e. absurd (cc e) }) h
+
+-- numbers that wait fly
+tried_fly : (ms : List Mpdu) (limit : ℕ) (y : Session) (e lo hi : ℕ) → y.first ≤ lo → Rises lo hi ms →
+    AllIn y State.Waiting ms
+    → AllTried limit y → AllTried limit (with_flying e ms y)
+tried_fly [] limit y e lo hi b r a h = h
+tried_fly (m ∷ ms) limit y e lo hi b r a h =
+    let f : Slot → Slot = λ x. record x { state = State.Flying e } in
+    let flies : IsTried limit (f (slot y m.number)) =
+    record {
+      fewer = λ _. (h (m.number - y.first)).fewer (ap is_failed a.0);
+      failed =
+          λ no. absurd (cc no);
+    } in
+    tried_fly ms limit (on_slot m.number f y) e (suc m.number) hi (omega (arith, r.0)) r.2
+    (all_in_later y State.Waiting m.number hi f ms (omega (arith, r.0)) r.2 a.1)
+    (tried_put limit y m.number f flies h)
+
+-- one attempt more: below the limit it waits again, at the limit it fails
+tried_miss : (limit : ℕ) (x : Slot) → x.attempts < limit → IsTried limit (slot_after_miss limit x)
+tried_miss limit x few = go (nat_le limit (x.attempts + 1))
+    (λ e. omega (arith, few, le_yes limit (x.attempts + 1) e))
+    (λ e. omega (arith, le_no limit (x.attempts + 1) e))
+  where
+    go : (b : Bool) → (b ≡ true → x.attempts + 1 ≡ limit) → (b ≡ false → x.attempts + 1 < limit) →
+        IsTried limit (record {
+          id = x.id;
+          attempts = x.attempts + 1;
+          state =
+              if b then State.Failed else State.Waiting;
+        })
+    go true h k = record { fewer = λ no. absurd (cc no); failed = λ _. h refl }
+    go false h k = record { fewer = λ _. k refl; failed = λ no. absurd (cc no) }
+
+-- ---- worlds
+
+tried_same : (limit : ℕ) (w v : World) → Same w v → Tried limit w → Tried limit v
+tried_same limit w v h k s t = subst (AllTried limit) (sym (session_same w v h s t)) (k s t)
+
+tried_on_session : (limit : ℕ) (w : World) (s t : ℕ) (f : Session → Session) →
+    AllTried limit (f (session w s t)) → Tried limit w
+    → Tried limit (on_session w s t f)
+unfolding on_session
+tried_on_session limit w s t f k h = each_side_on (λ _ _ z. AllTried limit z.session) w s t
+    (λ y. record y { session = f y.session }) h k
+
+tried_with_station : (limit : ℕ) (w : World) (s : ℕ) (o : Option Station) →
+    ((t : ℕ) → AllTried limit (sides_of o t).session)
+    → Tried limit w → Tried limit (with_station w s o)
+unfolding with_station
+tried_with_station limit w s o k h = each_put
+    (λ _ z. (t : ℕ) → AllTried limit (sides_of z t).session) None w.stations s o h k
+
+-- ---- a pull
+
+tried_number : (o : Option Item) (limit : ℕ) (w : World) (s t : ℕ) → 1 ≤ limit → Tried limit w →
+    Tried limit (with_number w s t o)
+unfolding with_number
+tried_number None limit w s t some h = h
+tried_number (Some x) limit w s t some h = tried_on_session limit w s t _
+    (tried_give limit (session w s t) x.id some (h s t)) h
+
+filled_if : (b : Bool) (limit : ℕ) (x y : Aggregate) → Tried limit x.world → Tried limit y.world →
+    Tried limit (if b then x else y).world
+filled_if true limit x y h k = h
+filled_if false limit x y h k = k
+
+tried_fresh : (n limit : ℕ) (w : World) (s t : ℕ) (ms : List Mpdu) → 1 ≤ limit → Tried limit w →
+    Tried limit (with_fresh n w s t ms).world
+unfolding with_fresh
+tried_fresh zero limit w s t ms some h = h
+tried_fresh (suc n) limit w s t ms some h =
+    let taken = taken_for_tid w s t in
+    let numbered : Tried limit (with_number taken.world s t taken.item) =
+    tried_number taken.item limit taken.world s t some
+    (tried_same limit w taken.world (same_take w s t) h) in
+    filled_if (not (can_give w s t)) limit _ _ h (filled_if _ limit _ _
+    (tried_fresh n limit _ s t _ some numbered) numbered)
+
+tried_filled : (limit : ℕ) (w : World) (s t : ℕ) → 1 ≤ limit → Tried limit w →
+    Tried limit (aggregate_of w s t).world
+unfolding aggregate_of
+tried_filled limit w s t some h =
+    let chosen : List Mpdu = longest_fitting w s (waiting_mpdus w s t) in
+    filled_if (length chosen == length (waiting_mpdus w s t)) limit
+    (with_fresh (most_frames w s - length chosen) w s t chosen) (record { world = w; mpdus = chosen })
+    (tried_fresh (most_frames w s - length chosen) limit w s t chosen some h) h
+
+tried_flying : (limit s t : ℕ) (f : Aggregate) → IsReady s t f.world f.mpdus → Tried limit f.world →
+    Tried limit (prepared_data s t f).world
+unfolding prepared_data
+tried_flying limit s t f r h =
+    let y : Session = session f.world s t in
+    tried_on_session limit f.world s t _ (tried_fly f.mpdus limit y f.world.exchanges y.first _
+    (omega arith) r.chosen.rising r.chosen.waiting (h s t)) h
+
+prepared_if : (b : Bool) (limit : ℕ) (x y : Prepared) → Tried limit x.world →
+    (b ≡ false → Tried limit y.world) → Tried limit (if b then x else y).world
+prepared_if true limit x y h k = h
+prepared_if false limit x y h k = k refl
+
+tried_prepared : (limit : ℕ) (w : World) (s t : ℕ) → 1 ≤ limit → IsLawful w → is_live w s ≡ true →
+    Tried limit w → Tried limit (prepared_exchange w s t).world
+unfolding prepared_exchange
+tried_prepared limit w s t some i live h =
+    prepared_if (request_due (session w s t)) limit _ _ h
+    (λ quiet. tried_flying limit s t (aggregate_of w s t) (ready_filled w s t i live quiet)
+    (tried_filled limit w s t some h))
+
+tried_sent : (limit s t : ℕ) (c : Class) (p : Prepared) → Tried limit p.world →
+    Tried limit (send_outcome s t c p).world
+unfolding send_outcome with_exchange_opened
+tried_sent limit s t c p h = tried_same limit _ _ (same_spent _ s) h
+
+tried_pulled_by : (o : Option ℕ) (limit : ℕ) (w : World) (c : Class) →
+    IfSome o (λ s. (is_live w s ≡ true) × (can_send_in w s c ≡ true))
+    → 1 ≤ limit → IsLawful w → Tried limit w → Tried limit (pull_outcome_for w c o).world
+unfolding pull_outcome_for
+tried_pulled_by None limit w c ready some i h = h
+tried_pulled_by (Some s) limit w c ready some i h =
+    let k : Same w (after_tid_turn w s c (sending_tid w s c)) = same_after_turn w s c (sending_tid w s c) in
+    tried_sent limit s _ c _ (tried_prepared limit _ s _ some (lawful_same _ _ k i) (k.live s ∙ ready.0)
+    (tried_same limit _ _ k h))
+
+tried_pulled : (limit : ℕ) (w : World) (c : Class) → 1 ≤ limit → IsLawful w → Tried limit w →
+    Tried limit (pull_outcome w c).world
+unfolding pull_outcome
+tried_pulled limit w c some i h =
+    let k : Same w (after_pick w c) = same_after_pick w c in
+    tried_pulled_by (picked_station w c).winner limit (after_pick w c) c (winner_ready w c) some
+    (lawful_same _ _ k i) (tried_same limit _ _ k h)
+
+-- ---- the end of an exchange
+
+config_settled : (b : Bool) (w : World) (s t : ℕ) (m : Mpdu) → (with_settled w s t b m).config ≡ w.config
+unfolding with_settled with_failed_finished with_frame_finished with_fate on_session on_tid on_station
+    with_station
+config_settled true w s t m = refl
+config_settled false w s t m = on_if (λ (v : World). v.config ≡ w.config) _ _ _ (λ _. refl) (λ _. refl)
+
+-- a number that flies stops flying
+tried_settled : (b : Bool) (limit e : ℕ) (w : World) (s t : ℕ) (m : Mpdu) → w.config.attempts ≡ limit
+    → (slot (session w s t) m.number).state ≡ State.Flying e → Tried limit w →
+    Tried limit (with_settled w s t b m)
+unfolding with_settled with_failed_finished
+tried_settled true limit e w s t m same_limit flies h =
+    let y : Session = session w s t in
+    let few : (slot y m.number).attempts < limit = (h s t (m.number - y.first)).fewer (ap is_failed flies) in
+    tried_same limit _ _ (same_finish _ _ _) (tried_on_session limit w s t (with_state State.Acked m.number)
+    (tried_put limit y m.number (λ x. record x { state = State.Acked })
+    (record { fewer = λ _. few; failed = λ no. absurd (cc no) }) (h s t)) h)
+tried_settled false limit e w s t m same_limit flies h =
+    let y : Session = session w s t in
+    let few : (slot y m.number).attempts < limit = (h s t (m.number - y.first)).fewer (ap is_failed flies) in
+    let missed : AllTried limit (after_miss w.config.attempts m.number y) =
+    subst (λ (n : ℕ). AllTried limit (after_miss n m.number y)) (sym same_limit)
+    (tried_put limit y m.number (slot_after_miss limit) (tried_miss limit (slot y m.number) few) (h s t))
+    in
+    let v : World = on_session w s t (after_miss w.config.attempts m.number) in
+    let k : Tried limit v = tried_on_session limit w s t (after_miss w.config.attempts m.number) missed h in
+    on_if (Tried limit) (is_failed (slot (session v s t) m.number).state) _ v
+    (λ _. tried_same limit v _ (same_finish v _ _) k) (λ _. k)
+
+tried_all : (ms : List Mpdu) (limit e s t : ℕ) (w : World) (acked : ℕ → Bool) → w.config.attempts ≡ limit →
+    IsEnding e s t acked w ms
+    → Tried limit w → Tried limit (with_all_settled w s t acked ms)
+unfolding with_all_settled
+tried_all [] limit e s t w acked same_limit n h = h
+tried_all (m ∷ ms) limit e s t w acked same_limit n h =
+    tried_all ms limit e s t _ acked (ap (λ (c : Config). c.attempts)
+    (config_settled (acked m.number) w s t m) ∙ same_limit)
+    (ending_settled (acked m.number) e s t acked w m ms refl n)
+    (tried_settled (acked m.number) limit e w s t m same_limit n.flies.flying.0 h)
+
+tried_heard : (b : Bool) (limit f : ℕ) (y : Session) → AllTried limit y →
+    AllTried limit (with_heard_start b f y)
+tried_heard true limit f y h = h
+tried_heard false limit f y h = h
+
+tried_after : (c : Content) (limit : ℕ) (w : World) (i : IsLawful w) (x : Exchange) (heard : Bool)
+    (v : World) → x.content ≡ c
+    → v ≡ after_charge (without_exchange w x.number) x → v.config.attempts ≡ limit → IsFound w i x →
+    Tried limit v
+    → Tried limit (after_done v x heard c)
+unfolding after_done
+tried_after (Frames ms) limit w i x heard v e is same_limit f h =
+    tried_all ms limit x.number x.station x.tid v (is_acked heard x.answer) same_limit
+    (subst (λ (u : World). IsEnding x.number x.station x.tid (is_acked heard x.answer) u ms) (sym is)
+    (ending_of w i x ms heard e f)) h
+tried_after (Request g) limit w i x heard v e is same_limit f h =
+    tried_on_session limit v x.station x.tid _
+    (tried_heard heard limit g (session v x.station x.tid) (h x.station x.tid)) h
+
+config_charged : (w : World) (x : Exchange) → (after_charge (without_exchange w x.number) x).config ≡ w.config
+unfolding after_charge without_exchange on_share on_station with_station
+config_charged w x = refl
+
+tried_without : (limit : ℕ) (w : World) (e : ℕ) → Tried limit w → Tried limit (without_exchange w e)
+unfolding without_exchange
+tried_without limit w e h = h
+
+tried_ended : (limit : ℕ) (w : World) (i : IsLawful w) (x : Exchange) (heard : Bool) →
+    w.config.attempts ≡ limit → IsFound w i x
+    → Tried limit w → Tried limit (done_outcome w x heard).world
+unfolding done_outcome
+tried_ended limit w i x heard same_limit f h =
+    tried_after x.content limit w i x heard _ refl refl
+    (ap (λ (c : Config). c.attempts) (config_charged w x) ∙ same_limit) f
+    (tried_same limit _ _ (same_charged (without_exchange w x.number) x)
+    (tried_without limit w x.number h))
+
+-- ---- the other calls
+
+tried_arrived : (limit : ℕ) (w : World) (x : Exchange) (n : ℕ) → Tried limit w →
+    Tried limit (arrive_outcome w x n).world
+unfolding arrive_outcome with_exchange on_receiver
+tried_arrived limit w x n h = each_side_on (λ _ _ z. AllTried limit z.session) w x.station x.tid
+    (λ y. record y { receiver = after_arrival x.content n y.receiver }) h (h x.station x.tid)
+
+tried_answered : (limit : ℕ) (w : World) (x : Exchange) → Tried limit w →
+    Tried limit (answer_outcome w x).world
+unfolding answer_outcome with_exchange
+tried_answered limit w x h = h
+
+tried_joined : (limit : ℕ) (w : World) (s window start exponent weight : ℕ) → 1 ≤ limit → Tried limit w
+    → Tried limit (join_outcome w s window start exponent weight).world
+unfolding join_outcome
+tried_joined limit w s window start exponent weight some h =
+    tried_with_station limit w s _ (eight (λ y. AllTried limit y.session) (new_tid start window)
+    (λ _. none_given limit some) (λ _. none_given limit some)) h
+
+tried_gone : (limit : ℕ) (w : World) (s : ℕ) → 1 ≤ limit → Tried limit w →
+    Tried limit (leave_outcome w s).world
+unfolding leave_outcome
+tried_gone limit w s some h =
+    tried_with_station limit _ s None (λ _ _. none_given limit some)
+    (tried_same limit w _ (then_same _ _ _ (same_left_tids (upto 8) w s) (same_off_lists all_classes _ s))
+    h)
+
+tried_reaped : (ids : List ℕ) (limit : ℕ) (w : World) → Tried limit w → Tried limit (reap_outcome w ids).world
+unfolding reap_outcome
+tried_reaped [] limit w h = h
+tried_reaped (id ∷ ids) limit w h = h
+
+tried_open : (P : Exchange → Type 0) (o : Option Exchange) (limit : ℕ) (w : World) (f : Exchange → Outcome) →
+    IfSome o P
+    → ((x : Exchange) → P x → Tried limit (f x).world) → Tried limit w →
+    Tried limit (outcome_where_open w o f).world
+unfolding outcome_where_open
+tried_open P None limit w f p k h = h
+tried_open P (Some x) limit w f p k h = k x p
+
+-- ---- the step
+
+tried_done : (note : Note) (limit : ℕ) (w : World) → 1 ≤ limit → w.config.attempts ≡ limit → IsLawful w →
+    Tried limit w → Tried limit (outcome_of w note).world
+unfolding outcome_of tick_outcome rate_outcome sleep_outcome wake_outcome poll_outcome rx_outcome
+tried_done (Enqueue s t flow len) limit w some same_limit i h =
+    tried_same limit w _ (same_enqueued w s t flow len) h
+tried_done (Asked (Join s window start exponent weight)) limit w some same_limit i h =
+    tried_joined limit w s window start exponent weight some h
+tried_done (Asked (Leave s)) limit w some same_limit i h = tried_gone limit w s some h
+tried_done (Asked (Rate s mcs mhz short)) limit w some same_limit i h =
+    tried_same limit w _ (same_on_station w s _ (λ x t. refl)) h
+tried_done (Asked (Tick by)) limit w some same_limit i h = h
+tried_done (Asked (Pull c)) limit w some same_limit i h = tried_pulled limit w c some i h
+tried_done (Asked (Arrive e n)) limit w some same_limit i h =
+    tried_open (IsFound w i) (exchange w e) limit w _ (found w i e) (λ x _. tried_arrived limit w x n h) h
+tried_done (Asked (Answer e)) limit w some same_limit i h =
+    tried_open (IsFound w i) (exchange w e) limit w _ (found w i e) (λ x _. tried_answered limit w x h) h
+tried_done (Asked (Done e heard)) limit w some same_limit i h =
+    tried_open (IsFound w i) (exchange w e) limit w _ (found w i e)
+    (λ x f. tried_ended limit w i x heard same_limit f h) h
+tried_done (Asked (Sleep s)) limit w some same_limit i h =
+    tried_same limit w _ (same_on_station w s _ (λ x t. refl)) h
+tried_done (Asked (Wake s)) limit w some same_limit i h =
+    tried_same limit w _ (same_on_station w s _ (λ x t. refl)) h
+tried_done (Asked (Poll s)) limit w some same_limit i h =
+    tried_same limit w _ (same_on_station w s _ (λ x t. refl)) h
+tried_done (Asked (Rx s c air)) limit w some same_limit i h = tried_same limit w _ (same_on_share w s c _) h
+tried_done (Asked Reap) limit w some same_limit i h = tried_reaped w.finished limit w h
+
+tried_refused : (note : Note) (r : Refusal) (limit : ℕ) (w : World) → Tried limit w →
+    Tried limit (after_refusal w note r)
+unfolding after_refusal
+tried_refused (Asked (Pull c)) Idle limit w h = tried_same limit w _ (same_after_pick w c) h
+tried_refused _ _ limit w h = h
+
+tried_answer : (r : Option Refusal) (limit : ℕ) (w : World) (note : Note) → 1 ≤ limit →
+    w.config.attempts ≡ limit → IsLawful w
+    → Tried limit w → Tried limit (judged_outcome w note r).world
+unfolding judged_outcome
+tried_answer (Some r) limit w note some same_limit i h = tried_refused note r limit w h
+tried_answer None limit w note some same_limit i h =
+    tried_same limit (outcome_of w note).world _
+    (same_listed (concerned_station w note) (outcome_of w note).world)
+    (tried_done note limit w some same_limit i h)
+
+tried_step : (limit : ℕ) (w : World) (note : Note) → 1 ≤ limit → w.config.attempts ≡ limit → IsLawful w →
+    Tried limit w → Tried limit (step w note).world
+unfolding step
+tried_step limit w note some same_limit i h = tried_answer (refusal w note) limit w note some same_limit i h
+
+tried_run : (h : List Entry) (limit : ℕ) (w : World) → 1 ≤ limit → w.config.attempts ≡ limit → IsLawful w →
+    Tried limit w → Tried limit (world_after w h)
+unfolding world_after
+tried_run [] limit w some same_limit i h = h
+tried_run (e ∷ es) limit w some same_limit i h =
+    tried_run es limit (step w e.1).world some (ap (λ (c : Config). c.attempts) (config_step w e.1)
+    ∙ same_limit) (lawful_step w e.1 i) (tried_step limit w e.1 some same_limit i h)
+
+pub attempts_law : (config : Config) (h : List Entry) → IsInRange config → AttemptsLaw config h
+attempts_law config h range m s t n =
+    let some : 1 ≤ config.attempts = omega (arith, range.attempts.0) in
+    tried_run (take m h) config.attempts (opening config) some refl (lawful_at_first config)
+    (λ s t i. none_given config.attempts some) s t (n - (session (world_at config h m) s t).first)

@@ -1,0 +1,14 @@
+-- A share whose deficit is what it was given less what it was charged.
+use Rattle.std.specs.Prelude.{◌≡◌, ℕ, ◌+◌, ◌*◌, ◌<◌, pos, ◌-ℤ◌, None, IfSome}
+use Rattle.wf_def_lists.specs.Table.{at}
+use Rattle.wf_def_world.specs.World.{World, Station, Share, no_share}
+
+-- a share of a station whose quantum is q
+pub record IsBalanced (q : ℕ) (x : Share) : Type 0 where
+  pub deficit : x.deficit ≡ pos (q + q * x.quanta) -ℤ pos (x.charged + x.received)
+
+abbrev pub IsFairStation : ℕ → Station → Type 0
+IsFairStation q x = (k : ℕ) → k < 4 → IsBalanced (q * x.weight) (at no_share x.shares k)
+
+pub record IsFair (w : World) : Type 0 where
+  pub each : (s : ℕ) → IfSome (at None w.stations s) (IsFairStation w.config.quantum)

@@ -1,0 +1,108 @@
+-- No call changes the settings.
+use Rattle.std.proofs.Common.{◌≡◌, refl, ap, ◌∙◌, ℕ, Bool, true, false, if◌then◌else◌, List, [], ◌∷◌, Option, Some, None}
+use Rattle.wf_frame.specs.declared.classes.Class.{Class}
+use Rattle.wf_frame.specs.declared.notes.Ask.TheVariants.{Join, Leave, Rate, Tick, Pull, Arrive, Answer, Done, Sleep, Wake, Poll, Rx, Reap}
+use Rattle.wf_frame.specs.declared.notes.Note.{Note}
+use Rattle.wf_frame.specs.declared.notes.Note.TheVariants.{Enqueue, Asked}
+use Rattle.wf_frame.specs.declared.notes.Refusal.{Refusal}
+use Rattle.wf_frame.specs.declared.notes.Refusal.TheVariants.{Idle}
+use Rattle.wf_def_rotation.specs.Rotation.{with_new_key}
+use Rattle.wf_def_world.specs.World.{World, Exchange, rotation, exchange, with_rotation, with_exchange, on_receiver, on_tid, on_station, with_station}
+use Rattle.wf_frame.specs.Classes.{all_classes}
+use Rattle.wf_def_world.specs.CanSend.{with_listing_in, with_listings_in, with_listings_of}
+use Rattle.wf_def_world.specs.Exchanges.{Prepared, after_pick, after_tid_turn, prepared_exchange, sending_tid}
+use Rattle.wf_def_world.specs.Refusals.{refusal}
+use Rattle.wf_def_world.specs.Step.{Outcome, tick_outcome, outcome_where_open, pull_outcome_for, pull_outcome, arrive_outcome, answer_outcome, outcome_of, after_refusal, judged_outcome, step}
+use Rattle.wf_def_world.specs.Run.{Entry, world_after}
+use Rattle.wf_law_runs.proofs.Deficits.Books.{Books, books}
+use Rattle.wf_law_runs.proofs.Deficits.BookSteps.{books_after_turn, books_prepared, books_sent, books_ended, books_gone, books_enqueued, books_received, books_reaped, books_slept, books_woken, books_credited, books_with_rate, books_joined, books_after_pick}
+
+same : (w v : World) (b : Books) → books v ≡ b → b.config ≡ w.config → v.config ≡ w.config
+same w v b e h = ap (λ (z : Books). z.config) e ∙ h
+
+listed_if : (w : World) (s : ℕ) (c : Class) (b : Bool) →
+    (if b then with_rotation w c (with_new_key (rotation w c) s) else w).config ≡ w.config
+unfolding with_rotation
+listed_if w s c true = refl
+listed_if w s c false = refl
+
+config_listed_in_all : (cs : List Class) (w : World) (s : ℕ) → (with_listings_in w s cs).config ≡ w.config
+unfolding with_listings_in with_listing_in
+config_listed_in_all [] w s = refl
+config_listed_in_all (c ∷ cs) w s = config_listed_in_all cs _ s ∙ listed_if w s c _
+
+config_listed : (o : Option ℕ) (w : World) → (with_listings_of w o).config ≡ w.config
+unfolding with_listings_of
+config_listed None w = refl
+config_listed (Some s) w = config_listed_in_all all_classes w s
+
+config_after_pick : (w : World) (c : Class) → (after_pick w c).config ≡ w.config
+config_after_pick w c = same w (after_pick w c) _ (books_after_pick w c) refl
+
+config_pulled_by : (o : Option ℕ) (v : World) (c : Class) → (pull_outcome_for v c o).world.config ≡ v.config
+unfolding pull_outcome_for
+config_pulled_by None v c = refl
+config_pulled_by (Some s) v c =
+    let t : ℕ = sending_tid v s c in
+    let p : Prepared = prepared_exchange (after_tid_turn v s c t) s t in
+    let e : books p.world ≡ books v = books_prepared (after_tid_turn v s c t) s t
+    ∙ books_after_turn v s c t in
+    ap (λ (z : Books). z.config) (books_sent s t c p) ∙ ap (λ (z : Books). z.config) e
+
+config_pulled : (w : World) (c : Class) → (pull_outcome w c).world.config ≡ w.config
+unfolding pull_outcome
+config_pulled w c = config_pulled_by _ _ c ∙ config_after_pick w c
+
+config_open : (o : Option Exchange) (w : World) (f : Exchange → Outcome) →
+    ((x : Exchange) → (f x).world.config ≡ w.config) → (outcome_where_open w o f).world.config ≡ w.config
+unfolding outcome_where_open
+config_open None w f h = refl
+config_open (Some x) w f h = h x
+
+config_arrived : (w : World) (x : Exchange) (j : ℕ) → (arrive_outcome w x j).world.config ≡ w.config
+unfolding arrive_outcome with_exchange on_receiver on_tid on_station with_station
+config_arrived w x j = refl
+
+config_answered : (w : World) (x : Exchange) → (answer_outcome w x).world.config ≡ w.config
+unfolding answer_outcome with_exchange
+config_answered w x = refl
+
+config_done : (note : Note) (w : World) → (outcome_of w note).world.config ≡ w.config
+unfolding outcome_of tick_outcome
+config_done (Enqueue s t flow len) w = ap (λ (z : Books). z.config) (books_enqueued w s t flow len)
+config_done (Asked (Join s window start exponent weight)) w =
+    ap (λ (z : Books). z.config) (books_joined w s window start exponent weight)
+config_done (Asked (Leave s)) w = ap (λ (z : Books). z.config) (books_gone w s)
+config_done (Asked (Rate s mcs mhz short)) w =
+    ap (λ (z : Books). z.config) (books_with_rate w s mcs mhz short)
+config_done (Asked (Tick by)) w = refl
+config_done (Asked (Pull c)) w = config_pulled w c
+config_done (Asked (Arrive e j)) w = config_open (exchange w e) w _ (λ x. config_arrived w x j)
+config_done (Asked (Answer e)) w = config_open (exchange w e) w _ (λ x. config_answered w x)
+config_done (Asked (Done e heard)) w = config_open (exchange w e) w _
+    (λ x. ap (λ (z : Books). z.config) (books_ended w x heard))
+config_done (Asked (Sleep s)) w = ap (λ (z : Books). z.config) (books_slept w s)
+config_done (Asked (Wake s)) w = ap (λ (z : Books). z.config) (books_woken w s)
+config_done (Asked (Poll s)) w = ap (λ (z : Books). z.config) (books_credited w s)
+config_done (Asked (Rx s c air)) w = ap (λ (z : Books). z.config) (books_received w s c air)
+config_done (Asked Reap) w = ap (λ (z : Books). z.config) (books_reaped w.finished w)
+
+config_refused : (note : Note) (r : Refusal) (w : World) → (after_refusal w note r).config ≡ w.config
+unfolding after_refusal
+config_refused (Asked (Pull c)) Idle w = config_after_pick w c
+config_refused _ _ w = refl
+
+config_answer : (r : Option Refusal) (w : World) (note : Note) →
+    (judged_outcome w note r).world.config ≡ w.config
+unfolding judged_outcome
+config_answer (Some r) w note = config_refused note r w
+config_answer None w note = config_listed _ _ ∙ config_done note w
+
+pub config_step : (w : World) (note : Note) → (step w note).world.config ≡ w.config
+unfolding step
+config_step w note = config_answer (refusal w note) w note
+
+pub config_run : (h : List Entry) (w : World) → (world_after w h).config ≡ w.config
+unfolding world_after
+config_run [] w = refl
+config_run (e ∷ es) w = config_run es _ ∙ config_step w e.1

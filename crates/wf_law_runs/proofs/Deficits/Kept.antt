@@ -1,0 +1,472 @@
+-- What the books keep: each class's lists, the open exchanges and the bounds of the deficits.
+use Rattle.std.proofs.Common.{◌≡◌, ◌≢◌, refl, ap, sym, ◌∙◌, subst, arith, ℕ, zero, suc, ◌+◌, ◌*◌, ◌<◌, ◌≤◌, pos, ◌≤ℤ◌, Bool, true, false, List, [], ◌∷◌, ◌++◌, Option, Some, None, is_some, IfSome, option_map, not, ◌&&◌, find, ◌==◌, eq-eqb, inl, inr}
+use Rattle.std.proofs.lemmas.Bool.{cases_eq, eqb-true, or_parts, and_parts, not_from_true}
+use Rattle.wf_frame.specs.declared.settings.Config.{Config}
+use Rattle.wf_frame.specs.declared.classes.Class.{Class}
+use Rattle.wf_frame.specs.declared.classes.Class.TheVariants.{Bk, Be, Vi, Vo}
+use Rattle.wf_def_lists.specs.Table.{has}
+use Rattle.wf_def_rotation.specs.Rotation.{Rotation, without_key, with_new_key, has_key, in_order, Picked, need_of}
+use Rattle.wf_def_lists.specs.Bounds.{greatest_mcs}
+use Rattle.wf_def_world.specs.World.{Exchange}
+use Rattle.wf_frame.specs.Classes.{class_number, same_class}
+use Rattle.wf_frame.specs.Settings.{IsInRange}
+use Rattle.wf_law_runs.specs.Deficits.{longest_exchange, most_owed, owed}
+use Rattle.wf_def_lists.specs.Lists.{on}
+use Rattle.wf_law_rules.proofs.Lemmas.Counts.{on-nil, on-cons_same, on-cons_other, on-append, on-filter_le, on-filter_out, hasnot-on}
+use Rattle.wf_law_runs.proofs.Deficits.Books.{each_upd, upd_other, each_updc, updc_same, cases_class, same_number, Account, core, Books, with_account, with_lists, on_part}
+use Rattle.wf_law_runs.proofs.Deficits.BookSteps.{with_opened, without, charge_share, with_charge, off, all_off, fresh_account, pay_share, paid, all_paid, after}
+use Rattle.wf_law_runs.proofs.Deficits.Openings.{Every, every_map, every_append, every_filter, Rising, rising_append, rising_filter, many, many-more, many-other, many-filter, part_of, owed-append, owed-filter, owed-ended, owed_most}
+use Rattle.wf_law_runs.proofs.Deficits.Bounds.{IsBounded, paid_least, bounded_pay, bounded_open, bounded_less, bounded_charge, bounded_fresh}
+
+-- an open exchange
+pub record IsOpen (b : Books) (x : Exchange) : Type 0 where
+  pub live : is_some (b.accounts x.station) ≡ true
+  pub below : x.number < b.exchanges
+  pub charge : x.charge ≤ longest_exchange b.config
+  pub some : 1 ≤ x.charge
+
+-- a live station's account
+pub record IsGood (config : Config) (opened : List Exchange) (s : ℕ) (a : Account) : Type 0 where
+  pub weight : 0 < a.weight
+  pub mcs : a.rate.mcs ≤ greatest_mcs
+  pub bounds : (c : Class) → IsBounded config (owed s c opened) a.weight (a.shares c)
+
+pub record IsKept (b : Books) : Type 0 where
+  pub range : IsInRange b.config
+  pub once : (c : Class) (y : ℕ) → on (in_order (b.rotations c)) y ≤ 1
+  pub live : (c : Class) (y : ℕ) → 0 < on (in_order (b.rotations c)) y → is_some (b.accounts y) ≡ true
+  pub opens : Every (IsOpen b) b.opened
+  pub rising : Rising 0 b.opened
+  pub few : (c : Class) → many c b.opened ≤ b.config.inflight
+  pub goods : (s : ℕ) → IfSome (b.accounts s) (IsGood b.config b.opened s)
+
+-- ---- accounts
+
+pub if_map : (P Q : Account → Type 0) (g : Account → Account) (o : Option Account) → IfSome o P →
+    ((a : Account) → o ≡ Some a → P a → Q (g a)) → IfSome (option_map g o) Q
+if_map P Q g None h k = tt
+if_map P Q g (Some a) h k = k a refl h
+
+pub if_same : (P Q : Account → Type 0) (o : Option Account) → IfSome o P →
+    ((a : Account) → o ≡ Some a → P a → Q a) → IfSome o Q
+if_same P Q None h k = tt
+if_same P Q (Some a) h k = k a refl h
+
+pub some_map : (g : Account → Account) (o : Option Account) → is_some (option_map g o) ≡ is_some o
+some_map g None = refl
+some_map g (Some x) = refl
+
+live_upd : (b : Books) (s : ℕ) (g : Account → Account) (y : ℕ) →
+    is_some ((with_account b s (option_map g (b.accounts s))).accounts y) ≡ is_some (b.accounts y)
+live_upd b s g = each_upd (λ y o. is_some o ≡ is_some (b.accounts y)) b.accounts s _ (λ y. refl)
+    (some_map g (b.accounts s))
+
+pub kept_on : (b : Books) (s : ℕ) (g : Account → Account) → IsKept b →
+    ((a : Account) → b.accounts s ≡ Some a → IsGood b.config b.opened s a →
+    IsGood b.config b.opened s (g a)) → IsKept (with_account b s (option_map g (b.accounts s)))
+kept_on b s g i h = record {
+  range = i.range;
+  once = i.once;
+  live = λ c y stands. live_upd b s g y ∙ i.live c y stands;
+  opens = every_map (IsOpen b) (IsOpen (with_account b s (option_map g (b.accounts s))))
+      (λ x o. record {
+        live = live_upd b s g x.station ∙ o.live;
+        below = o.below;
+        charge = o.charge;
+        some =
+            o.some;
+      }) b.opened i.opens;
+  rising = i.rising;
+  few = i.few;
+  goods = each_upd (λ y o. IfSome o (IsGood b.config b.opened y)) b.accounts s _ i.goods
+      (if_map (IsGood b.config b.opened s) (IsGood b.config b.opened s) g (b.accounts s) (i.goods s) h);
+}
+
+-- ---- lists
+
+pub kept_lists : (b : Books) (c : Class) (r : Rotation) → IsKept b →
+    ((y : ℕ) → on (in_order r) y ≤ on (in_order (b.rotations c)) y) → IsKept (with_lists b c r)
+kept_lists b c r i h = record {
+  range = i.range;
+  once = each_updc (λ d z. (y : ℕ) → on (in_order z) y ≤ 1) b.rotations c r i.once
+      (λ y. omega (arith, h y, i.once c y));
+  live = each_updc (λ d z. (y : ℕ) → 0 < on (in_order z) y → is_some (b.accounts y) ≡ true) b.rotations c r
+      i.live (λ y stands. i.live c y (omega (arith, h y)));
+  opens = every_map (IsOpen b) (IsOpen (with_lists b c r))
+      (λ x o. record { live = o.live; below = o.below; charge = o.charge; some = o.some }) b.opened i.opens;
+  rising = i.rising;
+  few = i.few;
+  goods = i.goods;
+}
+
+pub unlisted-on : (r : Rotation) (s : ℕ) → has_key r s ≡ false → on (in_order r) s ≡ 0
+unlisted-on r s h =
+    let both : (has r.new s ≡ false) × (has r.old s ≡ false) = or_parts _ _ h in
+    omega (arith, on-append r.old r.new s, hasnot-on r.new s both.0, hasnot-on r.old s both.1)
+
+pub added-on : (r : Rotation) (s y : ℕ) → on (in_order (with_new_key r s)) y
+    ≡ on (in_order r) y + on (s ∷ []) y
+added-on r s y = omega (
+  arith,
+  on-append r.old (r.new ++ s ∷ []) y,
+  on-append r.new (s ∷ []) y,
+  on-append r.old r.new y,
+)
+
+pub kept_add : (b : Books) (c : Class) (s : ℕ) → IsKept b → has_key (b.rotations c) s ≡ false →
+    is_some (b.accounts s) ≡ true → IsKept (with_lists b c (with_new_key (b.rotations c) s))
+kept_add b c s i off_lists is = record {
+  range = i.range;
+  once = each_updc (λ d z. (y : ℕ) → on (in_order z) y ≤ 1) b.rotations c
+      (with_new_key (b.rotations c) s) i.once (λ y. elim (cases_eq s y) [
+        | inl e ↦
+            let none : on (in_order (b.rotations c)) y ≡ 0 =
+            subst (λ (z : ℕ). on (in_order (b.rotations c)) z ≡ 0) e
+            (unlisted-on (b.rotations c) s off_lists) in
+            let one : on (s ∷ []) y ≡ 1 = subst (λ (z : ℕ). on (s ∷ []) z ≡ 1) e
+            (omega (arith, on-cons_same s [], on-nil s)) in
+            omega (arith, added-on (b.rotations c) s y)
+        | inr other ↦ omega (
+          arith,
+          added-on (b.rotations c) s y,
+          on-cons_other s y [] other,
+          on-nil y,
+          i.once c y,
+        )
+      ]);
+  live = each_updc (λ d z. (y : ℕ) → 0 < on (in_order z) y → is_some (b.accounts y) ≡ true) b.rotations c
+      (with_new_key (b.rotations c) s) i.live (λ y stands. elim (cases_eq s y) [
+        | inl e ↦ subst (λ (z : ℕ). is_some (b.accounts z) ≡ true) e is
+        | inr other ↦ i.live c y (omega (
+          arith,
+          added-on (b.rotations c) s y,
+          on-cons_other s y [] other,
+          on-nil y,
+        ))
+      ]);
+  opens = every_map (IsOpen b) (IsOpen (with_lists b c (with_new_key (b.rotations c) s)))
+      (λ x o. record { live = o.live; below = o.below; charge = o.charge; some = o.some }) b.opened i.opens;
+  rising = i.rising;
+  few = i.few;
+  goods = i.goods;
+}
+
+-- ---- a join and a leave
+
+times_most : (m n l k : ℕ) → m ≤ n → k ≤ m * l → k ≤ n * l
+times_most m n l k h e = grind arith
+
+pub owed_kept : (b : Books) → IsKept b → (s : ℕ) (c : Class) → owed s c b.opened ≤ most_owed b.config
+owed_kept b i s c =
+    let each : owed s c b.opened ≤ many c b.opened * longest_exchange b.config =
+    owed_most s c (longest_exchange b.config) b.opened
+    (every_map (IsOpen b) (λ x. x.charge ≤ longest_exchange b.config) (λ x o. o.charge) b.opened i.opens)
+    in
+    let few : many c b.opened ≤ b.config.inflight = i.few c in
+    times_most (many c b.opened) b.config.inflight (longest_exchange b.config) (owed s c b.opened) few each
+
+pub kept_fresh : (b : Books) (s weight : ℕ) → IsKept b → 0 < weight →
+    IsKept (with_account b s (Some (fresh_account b.config.quantum weight)))
+kept_fresh b s weight i some = record {
+  range = i.range;
+  once = i.once;
+  live = λ c y stands. more y (i.live c y stands);
+  opens = every_map (IsOpen b) (IsOpen (with_account b s (Some (fresh_account b.config.quantum weight))))
+      (λ x o. record { live = more x.station o.live; below = o.below; charge = o.charge; some = o.some })
+      b.opened i.opens;
+  rising = i.rising;
+  few = i.few;
+  goods = each_upd (λ y o. IfSome o (IsGood b.config b.opened y)) b.accounts s _ i.goods
+      (record {
+        weight = some;
+        mcs = omega arith;
+        bounds =
+            λ c. bounded_fresh b.config (owed s c b.opened) weight (omega (arith, i.range.quantum.0)) some
+            (owed_kept b i s c);
+      });
+}
+  where
+    more : (y : ℕ) → is_some (b.accounts y) ≡ true →
+        is_some ((with_account b s (Some (fresh_account b.config.quantum weight))).accounts y) ≡ true
+    more = each_upd (λ y o. is_some (b.accounts y) ≡ true → is_some o ≡ true) b.accounts s
+        (Some (fresh_account b.config.quantum weight)) (λ y e. e) (λ _. refl)
+
+without-on : (r : Rotation) (s y : ℕ) → on (in_order (without_key r s)) y ≤ on (in_order r) y
+without-on r s y = omega (
+  arith,
+  on-append (without_key r s).old (without_key r s).new y,
+  on-append r.old r.new y,
+  on-filter_le (λ z. not (z == s)) r.old y,
+  on-filter_le (λ z. not (z == s)) r.new y,
+)
+
+pub without-on_self : (r : Rotation) (s : ℕ) → on (in_order (without_key r s)) s ≡ 0
+without-on_self r s =
+    let gone : not (s == s) ≡ false = not_from_true _ (eq-eqb s s refl) in
+    omega (
+      arith,
+      on-append (without_key r s).old (without_key r s).new s,
+      on-filter_out (λ z. not (z == s)) r.old s gone,
+      on-filter_out (λ z. not (z == s)) r.new s gone,
+    )
+
+pub kept_off : (b : Books) (s : ℕ) (c : Class) → IsKept b → IsKept (off b s c)
+kept_off b s c i = kept_lists b c _ i (without-on (b.rotations c) s)
+
+all_off-on : (b : Books) (s : ℕ) (c : Class) → on (in_order ((all_off b s).rotations c)) s ≡ 0
+all_off-on b s Bk = without-on_self (b.rotations Bk) s
+all_off-on b s Be = without-on_self (b.rotations Be) s
+all_off-on b s Vi = without-on_self (b.rotations Vi) s
+all_off-on b s Vo = without-on_self (b.rotations Vo) s
+
+pub kept_gone : (b : Books) (s : ℕ) → IsKept b → Every (λ x. x.station ≢ s) b.opened →
+    IsKept (with_account (all_off b s) s None)
+kept_gone b s i away = record {
+  range = i.range;
+  once = k.once;
+  live = λ c y stands. elim (cases_eq y s) [
+    | inl e ↦ absurd (let none : on (in_order ((all_off b s).rotations c)) y ≡ 0 =
+        subst (λ (z : ℕ). on (in_order ((all_off b s).rotations c)) z ≡ 0) (sym e) (all_off-on b s c) in
+        omega arith)
+    | inr other ↦ ap is_some (upd_other b.accounts s y None other) ∙ k.live c y stands
+  ];
+  opens = both b.opened i.opens away;
+  rising = i.rising;
+  few = i.few;
+  goods = each_upd (λ y o. IfSome o (IsGood b.config b.opened y)) b.accounts s None i.goods tt;
+}
+  where
+    k : IsKept (all_off b s)
+    k = kept_off _ s Vo (kept_off _ s Vi (kept_off _ s Be (kept_off b s Bk i)))
+
+    both : (xs : List Exchange) → Every (IsOpen b) xs → Every (λ x. x.station ≢ s) xs →
+        Every (IsOpen (with_account (all_off b s) s None)) xs
+    both [] e h = tt
+    both (x ∷ xs) e h = (
+      record {
+        live = ap is_some (upd_other b.accounts s x.station None h.0) ∙ e.0.live;
+        below = e.0.below;
+        charge = e.0.charge;
+        some = e.0.some;
+      },
+      both xs e.1 h.1,
+    )
+
+-- ---- exchanges
+
+pub kept_opened : (b : Books) (x : Exchange) → IsKept b → is_some (b.accounts x.station) ≡ true →
+    x.number ≡ b.exchanges → x.charge ≤ longest_exchange b.config → 1 ≤ x.charge →
+    many x.class b.opened < b.config.inflight
+    → IfSome (b.accounts x.station) (λ a. pos 1 ≤ℤ (a.shares x.class).deficit) → IsKept (with_opened b x)
+kept_opened b x i is number charge some room above = record {
+  range = i.range;
+  once = i.once;
+  live = i.live;
+  opens = opens;
+  rising = rising_append 0 b.opened (core x) i.rising
+      (every_map (IsOpen b) (λ y. y.number < x.number) (λ y o. omega (arith, o.below)) b.opened i.opens)
+      (omega arith);
+  few = few;
+  goods = λ s. if_same (IsGood b.config b.opened s) (IsGood b.config (b.opened ++ core x ∷ []) s)
+      (b.accounts s) (i.goods s) (λ a e good. record {
+        weight = good.weight;
+        mcs = good.mcs;
+        bounds =
+            bound s a e good;
+      });
+}
+  where
+    opens : Every (IsOpen (with_opened b x)) (b.opened ++ core x ∷ [])
+    opens = every_append (IsOpen (with_opened b x)) b.opened (core x)
+        (every_map (IsOpen b) (IsOpen (with_opened b x))
+        (λ y o. record {
+          live = o.live;
+          below = omega (arith, o.below);
+          charge = o.charge;
+          some =
+              o.some;
+        }) b.opened i.opens)
+        (record { live = is; below = omega arith; charge = charge; some = some })
+
+    few : (c : Class) → many c (b.opened ++ core x ∷ []) ≤ b.config.inflight
+    few c = elim (cases_class x.class c) [
+      | inl e ↦
+          let room' : many c b.opened < b.config.inflight =
+          subst (λ (d : Class). many d b.opened < b.config.inflight) e room in
+          omega (arith, many-more c b.opened (core x))
+      | inr other ↦ omega (arith, many-other c b.opened (core x) other, i.few c)
+    ]
+
+    total : (s : ℕ) (c : Class) → owed s c (b.opened ++ core x ∷ []) ≤ most_owed b.config
+    total s c =
+        let each : owed s c (b.opened ++ core x ∷ [])
+        ≤ many c (b.opened ++ core x ∷ []) * longest_exchange b.config =
+        owed_most s c (longest_exchange b.config) (b.opened ++ core x ∷ [])
+        (every_map (IsOpen (with_opened b x)) (λ y. y.charge ≤ longest_exchange b.config)
+        (λ y o. o.charge) (b.opened ++ core x ∷ []) opens) in
+        times_most (many c (b.opened ++ core x ∷ [])) b.config.inflight (longest_exchange b.config)
+        (owed s c (b.opened ++ core x ∷ [])) (few c) each
+
+    bound : (s : ℕ) (a : Account) → b.accounts s ≡ Some a → IsGood b.config b.opened s a → (c : Class) →
+        IsBounded b.config (owed s c (b.opened ++ core x ∷ [])) a.weight (a.shares c)
+    bound s a e good c = go ((x.station == s) && same_class x.class c) refl
+      where
+        go : (t : Bool) → ((x.station == s) && same_class x.class c) ≡ t →
+            IsBounded b.config (owed s c (b.opened ++ core x ∷ [])) a.weight (a.shares c)
+        go true t =
+            let both : ((x.station == s) ≡ true) × (same_class x.class c ≡ true) = and_parts _ _ t in
+            let here : IfSome (b.accounts s) (λ z. pos 1 ≤ℤ (z.shares x.class).deficit) =
+            subst (λ (n : ℕ). IfSome (b.accounts n) (λ z. pos 1 ≤ℤ (z.shares x.class).deficit))
+            (eqb-true _ _ both.0) above in
+            let there : IfSome (b.accounts s) (λ z. pos 1 ≤ℤ (z.shares c).deficit) =
+            subst (λ (d : Class). IfSome (b.accounts s) (λ z. pos 1 ≤ℤ (z.shares d).deficit))
+            (same_number _ _ (eqb-true _ _ both.1)) here in
+            let known : IfSome (Some a) (λ z. pos 1 ≤ℤ (z.shares c).deficit) =
+            subst (λ (o : Option Account). IfSome o (λ z. pos 1 ≤ℤ (z.shares c).deficit)) e there in
+            bounded_open b.config _ a.weight (a.shares c) known (total s c) (good.bounds c).most
+        go false t =
+            let none : part_of s c (core x) ≡ 0 = rw t refl in
+            bounded_less b.config (owed s c b.opened) _ a.weight (a.shares c)
+            (omega (arith, owed-append s c b.opened (core x))) (good.bounds c)
+
+-- an exchange ends, and its charge leaves the deficit
+pub kept_ended : (b : Books) (x : Exchange) (e : ℕ) → IsKept b → find (λ z. z.number == e) b.opened ≡ Some x →
+    IsKept (with_charge (without b e) x.station x.class x.charge)
+kept_ended b x e i found = record {
+  range = i.range;
+  once = i.once;
+  live = λ c y stands. same_live y ∙ i.live c y stands;
+  opens = every_filter (IsOpen (with_charge (without b e) x.station x.class x.charge)) _ b.opened
+      (every_map (IsOpen b) (IsOpen (with_charge (without b e) x.station x.class x.charge))
+      (λ y o. record {
+        live = same_live y.station ∙ o.live;
+        below = o.below;
+        charge = o.charge;
+        some =
+            o.some;
+      }) b.opened i.opens);
+  rising = rising_filter _ 0 b.opened i.rising;
+  few = λ c. omega (arith, many-filter c (λ y. not (y.number == e)) b.opened, i.few c);
+  goods = each_upd (λ y o. IfSome o (IsGood b.config (without b e).opened y)) b.accounts x.station _
+      (λ s. if_same (IsGood b.config b.opened s) (IsGood b.config (without b e).opened s) (b.accounts s)
+      (i.goods s) (λ a _ good. record {
+        weight = good.weight;
+        mcs = good.mcs;
+        bounds = λ c. less s c a (good.bounds c);
+      }))
+      (if_map (IsGood b.config b.opened x.station) (IsGood b.config (without b e).opened x.station)
+      (on_part x.class (charge_share x.charge)) (b.accounts x.station) (i.goods x.station)
+      (λ a _ good. record {
+        weight = good.weight;
+        mcs = good.mcs;
+        bounds = each_updc (λ c z. IsBounded b.config (owed x.station c (without b e).opened) a.weight z)
+            a.shares x.class (charge_share x.charge (a.shares x.class))
+            (λ c. less x.station c a (good.bounds c))
+            (bounded_charge b.config (owed x.station x.class b.opened) _ x.charge a.weight
+            (a.shares x.class) own (good.bounds x.class));
+      }));
+}
+  where
+    same_live : (y : ℕ) → is_some ((with_charge (without b e) x.station x.class x.charge).accounts y)
+        ≡ is_some (b.accounts y)
+    same_live = each_upd (λ y o. is_some o ≡ is_some (b.accounts y)) b.accounts x.station
+        (option_map (on_part x.class (charge_share x.charge)) (b.accounts x.station)) (λ y. refl)
+        (some_map (on_part x.class (charge_share x.charge)) (b.accounts x.station))
+
+    less : (s : ℕ) (c : Class) (a : Account) → IsBounded b.config (owed s c b.opened) a.weight (a.shares c) →
+        IsBounded b.config (owed s c (without b e).opened) a.weight (a.shares c)
+    less s c a h = bounded_less b.config (owed s c b.opened) (owed s c (without b e).opened) a.weight
+        (a.shares c) (owed-filter s c (λ y. not (y.number == e)) b.opened) h
+
+    own : owed x.station x.class (without b e).opened + x.charge ≤ owed x.station x.class b.opened
+    own =
+        let all : part_of x.station x.class x ≡ x.charge =
+        rw (eq-eqb x.station x.station refl, eq-eqb (class_number x.class) (class_number x.class) refl)
+        refl in
+        omega (arith, owed-ended x.station x.class b.opened x e found)
+
+-- ---- a pick
+
+pub record IsPick (b : Books) (c : Class) (p : Picked) : Type 0 where
+  pub lists : (y : ℕ) → on (in_order p.lists) y ≤ on (in_order (b.rotations c)) y
+  pub needed : (y : ℕ) → IfSome (b.accounts y) (λ a. p.quanta y
+      ≤ need_of (b.config.quantum * a.weight) (a.shares c).deficit)
+
+if_both : (P Q R : Account → Type 0) (o : Option Account) → IfSome o P → IfSome o Q →
+    ((a : Account) → P a → Q a → R a) → IfSome o R
+if_both P Q R None h k m = tt
+if_both P Q R (Some a) h k m = m a h k
+
+once_times : (m n k : ℕ) → m ≤ 1 → n ≤ k → m * n ≤ k
+once_times zero n k h e = omega arith
+once_times (suc zero) n k h e = omega arith
+once_times (suc (suc m)) n k h e = absurd (omega arith)
+
+pub kept_after : (b : Books) (c : Class) (p : Picked) → IsKept b → IsPick b c p → IsKept (after b c p)
+kept_after b c p i k = kept_lists (all_paid b c p.quanta (in_order (b.rotations c))) c p.lists all k.lists
+  where
+    ss : List ℕ
+    ss = in_order (b.rotations c)
+
+    same_live : (y : ℕ) → is_some ((all_paid b c p.quanta (in_order (b.rotations c))).accounts y)
+        ≡ is_some (b.accounts y)
+    same_live y = some_map _ (b.accounts y)
+
+    all : IsKept (all_paid b c p.quanta (in_order (b.rotations c)))
+    all = record {
+      range = i.range;
+      once = i.once;
+      live = λ d y stands. same_live y ∙ i.live d y stands;
+      opens = every_map (IsOpen b) (IsOpen (all_paid b c p.quanta (in_order (b.rotations c))))
+          (λ x o. record {
+            live = same_live x.station ∙ o.live;
+            below = o.below;
+            charge = o.charge;
+            some =
+                o.some;
+          }) b.opened i.opens;
+      rising = i.rising;
+      few = i.few;
+      goods = λ s. if_map (IsGood b.config b.opened s) (IsGood b.config b.opened s)
+          (paid b.config.quantum c (on (in_order (b.rotations c)) s * p.quanta s)) (b.accounts s) (i.goods s)
+          (λ a e good. record {
+            weight = good.weight;
+            mcs = good.mcs;
+            bounds = each_updc (λ d z. IsBounded b.config (owed s d b.opened) a.weight z) a.shares c _ good.bounds
+                (let need : p.quanta s ≤ need_of (b.config.quantum * a.weight) (a.shares c).deficit =
+                subst (λ (o : Option Account). IfSome o (λ a. p.quanta s
+                ≤ need_of (b.config.quantum * a.weight) (a.shares c).deficit)) e (k.needed s) in
+                bounded_pay b.config (owed s c b.opened) a.weight (on (in_order (b.rotations c)) s * p.quanta s)
+                (a.shares c) (once_times _ _ _ (i.once c s) need) (good.bounds c));
+          });
+    }
+
+-- the winner's deficit is above 0
+pub above_after : (b : Books) (c : Class) (p : Picked) (v : ℕ) → IsKept b →
+    0 < on (in_order (b.rotations c)) v → IfSome (b.accounts v)
+    (λ a. p.quanta v ≡ need_of (b.config.quantum * a.weight) (a.shares c).deficit) →
+    IfSome ((after b c p).accounts v) (λ a. pos 1 ≤ℤ (a.shares c).deficit)
+above_after b c p v i stands given = if_map (λ a.
+    (p.quanta v ≡ need_of (b.config.quantum * a.weight) (a.shares c).deficit) × (0 < a.weight))
+    (λ a. pos 1 ≤ℤ (a.shares c).deficit) _ (b.accounts v)
+    (if_both (λ a. p.quanta v ≡ need_of (b.config.quantum * a.weight) (a.shares c).deficit)
+    (IsGood b.config b.opened v) (λ a. (p.quanta v
+    ≡ need_of (b.config.quantum * a.weight) (a.shares c).deficit) × (0 < a.weight)) (b.accounts v) given
+    (i.goods v) (λ a e good. (e, good.weight)))
+    (λ a e h.
+    let one : on (in_order (b.rotations c)) v * p.quanta v
+    ≡ need_of (b.config.quantum * a.weight) (a.shares c).deficit =
+    all_once _ _ _ (i.once c v) stands h.0 in
+    let some : 0 < b.config.quantum * a.weight = product _ _ (omega (arith, i.range.quantum.0)) h.1 in
+    rw (
+      updc_same a.shares c (pay_share (b.config.quantum * a.weight)
+          (on (in_order (b.rotations c)) v * p.quanta v) (a.shares c)),
+      one,
+    )
+    (paid_least (b.config.quantum * a.weight) (a.shares c).deficit some))
+  where
+    all_once : (m n k : ℕ) → m ≤ 1 → 0 < m → n ≡ k → m * n ≡ k
+    all_once m n k h some e = let one : m ≡ 1 = omega arith in rw (one, e) (omega arith)
+
+    product : (m n : ℕ) → 0 < m → 0 < n → 0 < m * n
+    product m n h k = grind arith

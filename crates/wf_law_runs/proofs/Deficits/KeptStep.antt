@@ -1,0 +1,372 @@
+-- Each call keeps the books.
+use Rattle.std.proofs.Common.{◌≡◌, ◌≢◌, refl, ap, sym, ◌∙◌, subst, arith, ℕ, ◌+◌, ◌*◌, ◌<◌, ◌≤◌, ℤ, pos, ◌-ℤ◌, ◌≤ℤ◌, Bool, true, false, if◌then◌else◌, cond, List, [], ◌∷◌, Option, Some, None, is_some, IfSome, unwrap_or, option_map, not, ◌&&◌, ◌||◌, map, find, nat_lt, int_lt, zero-add, ◌==◌, count_by, nat_le}
+use Rattle.std.proofs.lemmas.Int.{ints}
+use Rattle.std.proofs.lemmas.Bool.{eqb-true, eqb-false, and_parts, or_parts, not-true, not-false, leb-true}
+use Rattle.std.proofs.lemmas.List.Sums.{sum_by-cons}
+use Rattle.wf_frame.specs.declared.settings.Config.{Config}
+use Rattle.wf_frame.specs.declared.classes.Class.{Class}
+use Rattle.wf_frame.specs.declared.notes.Ask.TheVariants.{Join, Leave, Rate, Tick, Pull, Arrive, Answer, Done, Sleep, Wake, Poll, Rx, Reap}
+use Rattle.wf_frame.specs.declared.notes.Note.{Note}
+use Rattle.wf_frame.specs.declared.notes.Note.TheVariants.{Enqueue, Asked}
+use Rattle.wf_frame.specs.declared.notes.Refusal.{Refusal}
+use Rattle.wf_frame.specs.declared.notes.Refusal.TheVariants.{Idle}
+use Rattle.wf_def_lists.specs.Table.{at}
+use Rattle.wf_def_rotation.specs.Rotation.{with_new_key, has_key, need_of}
+use Rattle.wf_def_lists.specs.Bounds.{greatest_mcs, greatest_air, deepest_deficit}
+use Rattle.wf_def_world.specs.World.{World, Station, Exchange, no_share, no_station, station, share, rotation, is_live, exchange, with_exchange, with_rotation, on_receiver, on_tid, on_station, with_station, opening}
+use Rattle.wf_law_rules.proofs.Lemmas.Numbers.{le_no}
+use Rattle.wf_frame.specs.Classes.{class_number, all_classes}
+use Rattle.wf_def_world.specs.CanSend.{is_ready, with_listing_in, with_listings_in, with_listings_of}
+use Rattle.wf_def_world.specs.Exchanges.{Prepared, station_need, picked_station, after_pick, after_tid_turn, prepared_exchange, exchange_of, after_arrival, sending_tid}
+use Rattle.wf_def_world.specs.Refusals.{first_refusal, refusals, refusal, open_of_class, is_within}
+use Rattle.wf_def_world.specs.Step.{Outcome, tick_outcome, send_outcome, pull_outcome_for, pull_outcome, arrive_outcome, answer_outcome, outcome_where_open, rx_outcome, outcome_of, after_refusal, judged_outcome, step}
+use Rattle.wf_def_world.specs.Run.{Entry, world_after}
+use Rattle.wf_frame.specs.Settings.{IsInRange}
+use Rattle.wf_law_runs.specs.Deficits.{longest_exchange, owed}
+use Rattle.wf_def_lists.specs.Lists.{on}
+use Rattle.wf_law_rules.proofs.Lemmas.Counts.{on-nil}
+use Rattle.wf_law_rules.proofs.Lemmas.Rotations.{pick_on, pick_need, IsWinner, pick_winner}
+use Rattle.wf_law_runs.proofs.Deficits.Books.{Account, account, core, Books, books, on_part, each_updc, books_with_rotation, books_on_receiver}
+use Rattle.wf_law_runs.proofs.Deficits.BookSteps.{books_after_turn, books_prepared, books_sent, books_ended, books_gone, books_enqueued, receive_share, books_received, books_reaped, books_slept, books_woken, books_credited, rated, books_with_rate, books_joined, books_after_pick}
+use Rattle.wf_law_runs.proofs.Deficits.Openings.{Every, every_map, every_find, only_one, many, many-count, many-core}
+use Rattle.wf_law_runs.proofs.Deficits.Bounds.{IsBounded, bounded_receive}
+use Rattle.wf_law_runs.proofs.Deficits.Kept.{IsGood, IsKept, some_map, if_same, kept_on, kept_add, owed_kept, kept_fresh, kept_gone, kept_opened, kept_ended, IsPick, kept_after, above_after}
+use Rattle.wf_law_runs.proofs.Deficits.LongestCharge.{charge_most, charge_some}
+
+-- ---- a call that is not refused
+
+abbrev pub NoRow : List (Bool × Refusal) → Type 0
+NoRow [] = Unit {0}
+NoRow (row ∷ rows) = (row.0 ≡ false) × NoRow rows
+
+pub no_row : (rows : List (Bool × Refusal)) → first_refusal rows ≡ None → NoRow rows
+unfolding first_refusal
+no_row [] h = tt
+no_row (row ∷ rows) h = go row.0 h (no_row rows)
+  where
+    go : (b : Bool) → (if b then Some row.1 else first_refusal rows) ≡ None →
+        (first_refusal rows ≡ None → NoRow rows) → (b ≡ false) × NoRow rows
+    go true k f = absurd (cc k)
+    go false k f = (refl, f k)
+
+pub is : (a b : Books) → a ≡ b → IsKept b → IsKept a
+is a b e i = subst IsKept (sym e) i
+
+pub live_account : (o : Option Station) → is_some (option_map account o) ≡ is_some o
+live_account None = refl
+live_account (Some x) = refl
+
+-- ---- listing
+
+listed_if : (w : World) (s : ℕ) (c : Class) (b : Bool) →
+    (is_ready w c s && not (has_key (rotation w c) s)) ≡ b → IsKept (books w) →
+    IsKept (books (if b then with_rotation w c (with_new_key (rotation w c) s) else w))
+listed_if w s c true e i =
+    let parts = and_parts _ _ e in
+    let live : is_live w s ≡ true = (and_parts _ _ parts.0).0 in
+    is _ _ (books_with_rotation w c _) (kept_add (books w) c s i (not-true _ parts.1)
+    (live_account (at None w.stations s) ∙ live))
+listed_if w s c false e i = i
+
+kept_listed_in : (w : World) (s : ℕ) (c : Class) → IsKept (books w) → IsKept (books (with_listing_in w s c))
+unfolding with_listing_in
+kept_listed_in w s c i = listed_if w s c (is_ready w c s && not (has_key (rotation w c) s)) refl i
+
+kept_listed_in_all : (cs : List Class) (w : World) (s : ℕ) → IsKept (books w) →
+    IsKept (books (with_listings_in w s cs))
+unfolding with_listings_in
+kept_listed_in_all [] w s i = i
+kept_listed_in_all (c ∷ cs) w s i = kept_listed_in_all cs _ s (kept_listed_in w s c i)
+
+kept_listed : (o : Option ℕ) (w : World) → IsKept (books w) → IsKept (books (with_listings_of w o))
+unfolding with_listings_of
+kept_listed None w i = i
+kept_listed (Some s) w i = kept_listed_in_all all_classes w s i
+
+-- ---- pulls
+
+pub need_is : (w : World) (c : Class) (s : ℕ) →
+    IfSome ((books w).accounts s) (λ a. station_need w c s
+    ≡ need_of (w.config.quantum * a.weight) (a.shares c).deficit)
+need_is w c s = go (at None w.stations s) refl
+  where
+    go : (o : Option Station) → at None w.stations s ≡ o →
+        IfSome (option_map account o) (λ a. station_need w c s
+        ≡ need_of (w.config.quantum * a.weight) (a.shares c).deficit)
+    go None e = tt
+    go (Some x) e = ap (λ (o : Option Station). need_of (w.config.quantum * (unwrap_or o no_station).weight)
+        (at no_share (unwrap_or o no_station).shares (class_number c)).deficit) e
+
+pub is_pick : (w : World) (c : Class) → IsPick (books w) c (picked_station w c)
+is_pick w c = record {
+  lists = pick_on (station_need w c) (is_ready w c) (rotation w c);
+  needed = λ s. if_same _ _ ((books w).accounts s) (need_is w c s)
+      (λ a _ e. subst (λ (n : ℕ). (picked_station w c).quanta s ≤ n) e
+      (pick_need (station_need w c) (is_ready w c) (rotation w c) s));
+}
+
+kept_after_pick : (w : World) (c : Class) → IsKept (books w) → IsKept (books (after_pick w c))
+kept_after_pick w c i = is _ _ (books_after_pick w c)
+    (kept_after (books w) c (picked_station w c) i (is_pick w c))
+
+-- a station may open an exchange
+record MaySend (c : Class) (s : ℕ) (b : Books) : Type 0 where
+  live : is_some (b.accounts s) ≡ true
+  room : many c b.opened < b.config.inflight
+  above : IfSome (b.accounts s) (λ a. pos 1 ≤ℤ (a.shares c).deficit)
+
+room_left : (w : World) (c : Class) → IsKept (books w) →
+    (nat_le w.config.inflight (open_of_class w c)) ≡ false → many c (map core w.opened) < w.config.inflight
+room_left w c i h =
+    let same : open_of_class w c ≡ many c (map core w.opened) =
+    many-count c w.opened ∙ sym (many-core c w.opened) in
+    omega (arith, same, le_no w.config.inflight (open_of_class w c) h)
+
+may_send : (w : World) (c : Class) (s : ℕ) → IsKept (books w) →
+    (nat_le w.config.inflight (open_of_class w c)) ≡ false → (picked_station w c).winner ≡ Some s →
+    MaySend c s (books (after_pick w c))
+may_send w c s i h won =
+    let winner : IsWinner (station_need w c) (is_ready w c) (rotation w c) (picked_station w c) s =
+    pick_winner (station_need w c) (is_ready w c) (rotation w c) s won in
+    subst (MaySend c s) (sym (books_after_pick w c)) (record {
+      live = some_map _ ((books w).accounts s) ∙ i.live c s winner.listed;
+      room = room_left w c i h;
+      above = above_after (books w) c (picked_station w c) s i winner.listed
+          (if_same _ _ ((books w).accounts s) (need_is w c s) (λ a _ e. winner.given ∙ e));
+    })
+
+-- the MCS of a station's rate has at most two streams
+rate_kept : (v : World) (s : ℕ) → IsKept (books v) → (station v s).rate.mcs ≤ greatest_mcs
+rate_kept v s i = go (at None v.stations s) (i.goods s)
+  where
+    go : (o : Option Station) → IfSome (option_map account o) (IsGood v.config (map core v.opened) s) →
+        (unwrap_or o no_station).rate.mcs ≤ greatest_mcs
+    go None g = omega arith
+    go (Some x) g = g.mcs
+
+kept_sent : (v : World) (c : Class) (s t : ℕ) → IsKept (books v) → MaySend c s (books v) →
+    IsKept (books (send_outcome s t c (prepared_exchange v s t)).world)
+kept_sent v c s t i m =
+    let p : Prepared = prepared_exchange v s t in
+    let e : books p.world ≡ books v = books_prepared v s t in
+    let k : IsKept (books p.world) = subst IsKept (sym e) i in
+    let n : MaySend c s (books p.world) = subst (MaySend c s) (sym e) m in
+    let cap : longest_exchange p.world.config ≡ longest_exchange v.config =
+    ap (λ (b : Books). longest_exchange b.config) e in
+    is _ _ (books_sent s t c p) (kept_opened (books p.world) (exchange_of s t c p) k n.live refl
+    (subst (λ (l : ℕ). p.charge ≤ l) (sym cap) (charge_most v s t (i.range.cap.0) (rate_kept v s i)))
+    (charge_some v s t) n.room n.above)
+
+kept_pulled_by : (o : Option ℕ) (v : World) (c : Class) → IsKept (books v) →
+    ((s : ℕ) → o ≡ Some s → MaySend c s (books v)) → IsKept (books (pull_outcome_for v c o).world)
+unfolding pull_outcome_for
+kept_pulled_by None v c i m = i
+kept_pulled_by (Some s) v c i m =
+    let e : books (after_tid_turn v s c (sending_tid v s c)) ≡ books v =
+    books_after_turn v s c (sending_tid v s c) in
+    kept_sent (after_tid_turn v s c (sending_tid v s c)) c s (sending_tid v s c) (subst IsKept (sym e) i)
+    (subst (MaySend c s) (sym e) (m s refl))
+
+kept_pulled : (w : World) (c : Class) → (nat_le w.config.inflight (open_of_class w c)) ≡ false →
+    IsKept (books w) → IsKept (books (pull_outcome w c).world)
+unfolding pull_outcome
+kept_pulled w c h i = kept_pulled_by (picked_station w c).winner (after_pick w c) c (kept_after_pick w c i)
+    (λ s won. may_send w c s i h won)
+
+-- ---- exchanges
+
+find_core : (e : ℕ) (xs : List Exchange) (x : Exchange) → find (λ z. z.number == e) xs ≡ Some x →
+    find (λ z. z.number == e) (map core xs) ≡ Some (core x)
+find_core e [] x k = absurd (cc k)
+find_core e (y ∷ ys) x k = go (y.number == e) refl k (find_core e ys x)
+  where
+    same : (a b : Exchange) → Some a ≡ Some b → Some (core a) ≡ Some (core b)
+    same a b k = ap (option_map core) k
+
+    go : (b : Bool) → (y.number == e) ≡ b → cond b (Some y) (find (λ z. z.number == e) ys) ≡ Some x →
+        (find (λ z. z.number == e) ys ≡ Some x → find (λ z. z.number == e) (map core ys) ≡ Some (core x)) →
+        cond (y.number == e) (Some (core y)) (find (λ z. z.number == e) (map core ys)) ≡ Some (core x)
+    go true t k below = rw t (same y x k)
+    go false t k below = rw t (below k)
+
+uncore : (P : Exchange → Type 0) (xs : List Exchange) → Every P (map core xs) → Every (λ y. P (core y)) xs
+uncore P [] e = tt
+uncore P (x ∷ xs) e = (e.0, uncore P xs e.1)
+
+pub replaced : (x : Exchange) (xs : List Exchange) → Every (λ y. y.number ≡ x.number → core y ≡ core x) xs →
+    map core (map (λ y. if y.number == x.number then x else y) xs) ≡ map core xs
+replaced x [] e = refl
+replaced x (y ∷ ys) e = go (y.number == x.number) refl (replaced x ys e.1)
+  where
+    go : (b : Bool) → (y.number == x.number) ≡ b →
+        map core (map (λ y. if y.number == x.number then x else y) ys) ≡ map core ys →
+        core (if y.number == x.number then x else y)
+        ∷ map core (map (λ y. if y.number == x.number then x else y) ys) ≡ core y ∷ map core ys
+    go true t k = rw (t, k) (ap (λ (z : Exchange). z ∷ map core ys) (sym (e.0 (eqb-true _ _ t))))
+    go false t k = rw (t, k) refl
+
+pub books_with_exchange : (w : World) (x : Exchange) →
+    Every (λ y. y.number ≡ x.number → core y ≡ core x) w.opened → books (with_exchange w x) ≡ books w
+unfolding with_exchange
+books_with_exchange w x h = ap (λ (t : List Exchange). record (books w) { opened = t })
+    (replaced x w.opened h)
+
+-- an exchange that is open
+abbrev pub IsFound : World → ℕ → Exchange → Type 0
+IsFound w e x = exchange w e ≡ Some x
+
+units : (xs : List Exchange) → Every (λ _. Unit {0}) xs
+units [] = tt
+units (x ∷ xs) = (tt, units xs)
+
+found_number : (w : World) (e : ℕ) (x : Exchange) → IsFound w e x → x.number ≡ e
+found_number w e x found = eqb-true _ _ (every_find (λ _. Unit {0}) (λ z. z.number == e) w.opened x
+    (units w.opened) found).0
+
+pub at_number : (w : World) (e : ℕ) (x : Exchange) → IsFound w e x →
+    find (λ z. z.number == x.number) (map core w.opened) ≡ Some (core x)
+at_number w e x found = subst (λ (n : ℕ). find (λ z. z.number == n) (map core w.opened) ≡ Some (core x))
+    (sym (found_number w e x found)) (find_core e w.opened x found)
+
+pub only_this : (w : World) (e : ℕ) (x : Exchange) → IsKept (books w) → IsFound w e x →
+    Every (λ y. y.number ≡ x.number → core y ≡ core x) w.opened
+only_this w e x i found =
+    let at_e : x.number ≡ e = found_number w e x found in
+    every_map (λ y. y.number ≡ e → core y ≡ core x) (λ y. y.number ≡ x.number → core y ≡ core x)
+    (λ y h k. h (k ∙ at_e)) w.opened
+    (uncore (λ z. z.number ≡ e → z ≡ core x) w.opened
+    (only_one 0 (map core w.opened) (core x) e i.rising (find_core e w.opened x found)))
+
+pub books_arrived : (w : World) (e j : ℕ) (x : Exchange) → IsKept (books w) → IsFound w e x →
+    books (arrive_outcome w x j).world ≡ books w
+unfolding arrive_outcome on_receiver on_tid on_station with_station
+books_arrived w e j x i found = books_with_exchange _ _ (only_this w e x i found)
+    ∙ books_on_receiver w x.station x.tid (after_arrival x.content j)
+
+pub books_answered : (w : World) (e : ℕ) (x : Exchange) → IsKept (books w) → IsFound w e x →
+    books (answer_outcome w x).world ≡ books w
+unfolding answer_outcome
+books_answered w e x i found = books_with_exchange w _ (only_this w e x i found)
+
+-- ---- the step
+
+kept_open : (w : World) (e : ℕ) (o : Option Exchange) (f : Exchange → Outcome) → exchange w e ≡ o →
+    IsKept (books w) → ((x : Exchange) → IsFound w e x → IsKept (books (f x).world)) →
+    IsKept (books (outcome_where_open w o f).world)
+unfolding outcome_where_open
+kept_open w e None f k i h = i
+kept_open w e (Some x) f k i h = h x k
+
+rate_few : (mcs : ℕ) (b : Bool) → (nat_lt greatest_mcs mcs || b) ≡ false → mcs ≤ greatest_mcs
+rate_few mcs b h = let few : nat_lt greatest_mcs mcs ≡ false = (or_parts _ _ h).0 in grind arith
+
+debt_fits : (d : ℤ) (n : ℕ) → int_lt (d -ℤ pos n) deepest_deficit ≡ false → deepest_deficit ≤ℤ (d -ℤ pos n)
+debt_fits d n h = omega (arith, ints)
+
+kept_received : (w : World) (s : ℕ) (c : Class) (air : ℕ) → not (is_within 1 greatest_air air) ≡ false →
+    int_lt ((share w s c).deficit -ℤ pos air) deepest_deficit ≡ false → IsKept (books w) →
+    IsKept (books (rx_outcome w s c air).world)
+kept_received w s c air h k i = is _ _ (books_received w s c air)
+    (kept_on (books w) s (on_part c (receive_share air)) i (λ a e good. record {
+      weight = good.weight;
+      mcs = good.mcs;
+      bounds = each_updc (λ d z. IsBounded w.config (owed s d (books w).opened) a.weight z) a.shares c
+          (receive_share air (a.shares c)) good.bounds
+          (bounded_receive w.config (owed s c (books w).opened) air a.weight (a.shares c)
+          (owed_kept (books w) i s c) (leb-true _ _ (and_parts _ _ (not-false _ h)).0) (known a e)
+          (good.bounds c));
+    }))
+  where
+    known : (a : Account) → (books w).accounts s ≡ Some a →
+        deepest_deficit ≤ℤ ((a.shares c).deficit -ℤ pos air)
+    known a e = go (at None w.stations s) refl e (debt_fits (share w s c).deficit air k)
+      where
+        go : (o : Option Station) → at None w.stations s ≡ o → option_map account o ≡ Some a →
+            deepest_deficit ≤ℤ ((share w s c).deficit -ℤ pos air) →
+            deepest_deficit ≤ℤ ((a.shares c).deficit -ℤ pos air)
+        go None f e h = absurd (cc e)
+        go (Some x) f e h =
+            let same : account x ≡ a = cc e in
+            subst (λ (z : Account). deepest_deficit ≤ℤ ((z.shares c).deficit -ℤ pos air)) same
+            (subst (λ (o : Option Station). deepest_deficit ≤ℤ
+            ((at no_share (unwrap_or o no_station).shares (class_number c)).deficit -ℤ pos air)) f h)
+
+none_open_if : (b : Bool) (x : Exchange) (xs : List Exchange) (s n : ℕ) → (x.station == s) ≡ b →
+    nat_lt 0 ((if b then 1 else 0) + n) ≡ false → (nat_lt 0 n ≡ false → Every (λ x. x.station ≢ s) xs) →
+    Every (λ x. x.station ≢ s) (x ∷ xs)
+none_open_if true x xs s n e k f = absurd (grind arith)
+none_open_if false x xs s n e k f = (
+  eqb-false _ _ e,
+  f (subst (λ (m : ℕ). nat_lt 0 m ≡ false) (zero-add n) k),
+)
+
+none_open : (xs : List Exchange) (s : ℕ) → nat_lt 0 (count_by (λ x. x.station == s) xs) ≡ false →
+    Every (λ x. x.station ≢ s) (map core xs)
+none_open [] s h = tt
+none_open (x ∷ xs) s h =
+    none_open_if (x.station == s) (core x) (map core xs) s (count_by (λ x. x.station == s) xs) refl
+    (subst (λ (n : ℕ). nat_lt 0 n ≡ false) (sum_by-cons
+    (λ (y : Exchange). if y.station == s then 1 else 0) x xs) h) (none_open xs s)
+
+kept_done : (note : Note) (w : World) → NoRow (refusals w note) → IsKept (books w) →
+    IsKept (books (outcome_of w note).world)
+unfolding outcome_of tick_outcome
+kept_done (Enqueue s t flow len) w e i = is _ _ (books_enqueued w s t flow len) i
+kept_done (Asked (Join s window start exponent weight)) w e i =
+    is _ _ (books_joined w s window start exponent weight)
+    (kept_fresh (books w) s weight i (leb-true _ _ (and_parts _ _ (not-false _ e.1.1.1.1.0)).0))
+kept_done (Asked (Leave s)) w e i = is _ _ (books_gone w s)
+    (kept_gone (books w) s i (none_open w.opened s e.1.1.0))
+kept_done (Asked (Rate s mcs mhz short)) w e i =
+    is _ _ (books_with_rate w s mcs mhz short)
+    (kept_on (books w) s (rated mcs mhz short) i
+    (λ a _ good. record { weight = good.weight; mcs = rate_few mcs _ e.1.0; bounds = good.bounds }))
+kept_done (Asked (Tick by)) w e i = i
+kept_done (Asked (Pull c)) w e i = kept_pulled w c e.0 i
+kept_done (Asked (Arrive e j)) w _ i = kept_open w e (exchange w e) _ refl i
+    (λ x f. is _ _ (books_arrived w e j x i f) i)
+kept_done (Asked (Answer e)) w _ i = kept_open w e (exchange w e) _ refl i
+    (λ x f. is _ _ (books_answered w e x i f) i)
+kept_done (Asked (Done e heard)) w _ i = kept_open w e (exchange w e) _ refl i
+    (λ x f. is _ _ (books_ended w x heard) (kept_ended (books w) (core x) x.number i (at_number w e x f)))
+kept_done (Asked (Sleep s)) w e i = is _ _ (books_slept w s) i
+kept_done (Asked (Wake s)) w e i = is _ _ (books_woken w s) i
+kept_done (Asked (Poll s)) w e i = is _ _ (books_credited w s) i
+kept_done (Asked (Rx s c air)) w e i = kept_received w s c air e.1.0 e.1.1.1.0 i
+kept_done (Asked Reap) w e i = is _ _ (books_reaped w.finished w) i
+
+kept_refused : (note : Note) (r : Refusal) (w : World) → IsKept (books w) →
+    IsKept (books (after_refusal w note r))
+unfolding after_refusal
+kept_refused (Asked (Pull c)) Idle w i = kept_after_pick w c i
+kept_refused _ _ w i = i
+
+kept_answer : (r : Option Refusal) (w : World) (note : Note) → refusal w note ≡ r → IsKept (books w) →
+    IsKept (books (judged_outcome w note r).world)
+unfolding judged_outcome
+kept_answer (Some r) w note e i = kept_refused note r w i
+kept_answer None w note e i = kept_listed _ _ (kept_done note w (no_row (refusals w note) e) i)
+
+pub kept_step : (w : World) (note : Note) → IsKept (books w) → IsKept (books (step w note).world)
+unfolding step
+kept_step w note i = kept_answer (refusal w note) w note refl i
+
+pub kept_run : (h : List Entry) (w : World) → IsKept (books w) → IsKept (books (world_after w h))
+unfolding world_after
+kept_run [] w i = i
+kept_run (e ∷ es) w i = kept_run es _ (kept_step w e.1 i)
+
+pub kept_opening : (config : Config) → IsInRange config → IsKept (books (opening config))
+kept_opening config range = record {
+  range = range;
+  once = λ c y. omega (arith, on-nil y);
+  live = λ c y stands. absurd (let none : on [] y ≡ 0 = on-nil y in omega arith);
+  opens = tt;
+  rising = tt;
+  few = λ c. omega arith;
+  goods = λ s. tt;
+}
+
+pub kept : (config : Config) (h : List Entry) → IsInRange config →
+    IsKept (books (world_after (opening config) h))
+kept config h range = kept_run h (opening config) (kept_opening config range)

@@ -1,0 +1,60 @@
+-- How large charges and deficits get, in figures that hold for all settings, answered.
+use Rattle.std.proofs.Common.{sym, subst, arith, ℕ, ◌*◌, ◌≤◌, List, [], ◌∷◌, map, take}
+use Rattle.std.proofs.lemmas.Int.{ints}
+use Rattle.std.proofs.Math.Nat.{mul-le-mul_left, mul-le-mul_right}
+use Rattle.wf_frame.specs.declared.settings.Config.{Config}
+use Rattle.wf_frame.specs.declared.settings.Field.TheVariants.{Inflight, Quantum}
+use Rattle.wf_frame.specs.Settings.{greatest_of, IsInRange}
+use Rattle.wf_def_lists.specs.Lengths.{greatest_body}
+use Rattle.wf_def_lists.specs.Bounds.{greatest_weight}
+use Rattle.wf_def_world.specs.World.{World, Exchange, opening}
+use Rattle.wf_def_world.specs.Run.{Entry}
+use Rattle.wf_def_world.specs.Stretches.{world_at}
+use Rattle.wf_law_runs.specs.Windows.{EachOpen}
+use Rattle.wf_law_runs.specs.Deficits.{IsAccounted, longest_exchange, most_owed}
+use Rattle.wf_law_runs.specs.Numbers.{greatest_charge, greatest_owed, NumberLaw}
+use Rattle.wf_law_runs.specs.Ranges.{KeepsRanges}
+use Rattle.wf_law_runs.proofs.Deficits.Books.{Books, core, books}
+use Rattle.wf_law_runs.proofs.Deficits.Configs.{config_run}
+use Rattle.wf_law_runs.proofs.Deficits.Kept.{IsOpen, IsKept}
+use Rattle.wf_law_runs.proofs.Deficits.KeptStep.{kept}
+use Rattle.wf_law_runs.proofs.Deficits.Law.{deficits}
+use Rattle.wf_law_runs.proofs.Deficits.Openings.{Every, many-count, many-core}
+use Rattle.wf_law_runs.proofs.Queues.Law.{queue_deficit_law}
+use Rattle.wf_law_runs.proofs.Ranges.Law.{range_law}
+
+times : (a b m n : ℕ) → a ≤ m → b ≤ n → a * b ≤ m * n
+times a b m n h k = let left : a * b ≤ m * b = mul-le-mul_right b h in
+    let right : m * b ≤ m * n = mul-le-mul_left m k in le_trans (a * b) (m * b) (m * n) left right
+  where
+    le_trans : (x y z : ℕ) → x ≤ y → y ≤ z → x ≤ z
+    le_trans x y z h k = omega (arith, h, k)
+
+-- what an open exchange is charged
+pub charged_within : (b : Books) (xs : List Exchange) → longest_exchange b.config ≤ greatest_charge →
+    Every (IsOpen b) (map core xs) → EachOpen (λ x. (1 ≤ x.charge) × (x.charge ≤ greatest_charge)) xs
+charged_within b [] h e = tt
+charged_within b (x ∷ xs) h e = ((e.0.some, omega (arith, e.0.charge, h)), charged_within b xs h e.1)
+
+pub number_law : (config : Config) (h : List Entry) → IsInRange config → NumberLaw config h
+number_law config h range m =
+    let w : World = world_at config h m in
+    let k : IsKept (books w) = kept config (take m h) range in
+    let r : KeepsRanges config w = range_law config h range m in
+    let owed : most_owed config ≤ greatest_owed =
+    times config.inflight (longest_exchange config)
+    (greatest_of Inflight) greatest_charge range.inflight.1 (omega (arith, range.cap.1)) in
+    record {
+      charges = charged_within (books w) w.opened (subst
+          (λ (c : Config). longest_exchange c ≤ greatest_charge)
+          (sym (config_run (take m h) (opening config))) (omega (arith, range.cap.1))) k.opens;
+      opened = λ c. omega (arith, k.few c, k.range.inflight.1, many-count c w.opened, many-core c w.opened);
+      deficits = λ s c live.
+          let d : IsAccounted config w s c = deficits config h range m s c live in
+          let quantum = times config.quantum _ (greatest_of Quantum) greatest_weight range.quantum.1
+          (r.stations s live).weight.1 in
+          (omega (arith, ints, d.least, owed), omega (arith, ints, d.most, quantum));
+      queue_deficits = λ short s t q listed.
+          let d = queue_deficit_law config h range greatest_body short m s t q listed in
+          (d.1, omega (arith, ints, d.0, range.flow_quantum.1));
+    }

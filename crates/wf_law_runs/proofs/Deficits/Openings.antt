@@ -1,0 +1,206 @@
+-- Lists of open exchanges: what each has, how many they are, and what they are charged.
+use Rattle.std.proofs.Common.{◌≡◌, refl, ap, ◌∙◌, subst, arith, ℕ, suc, ◌+◌, ◌*◌, ◌<◌, ◌≤◌, Bool, true, false, if◌then◌else◌, cond, List, [], ◌∷◌, ◌++◌, Some, not, ◌&&◌, map, filter, find, ◌==◌, count_by}
+use Rattle.std.proofs.lemmas.Bool.{ne_eqb, eqb-true, eqb-false}
+use Rattle.std.proofs.lemmas.List.Sums.{sum_by-cons}
+use Rattle.wf_frame.specs.declared.classes.Class.{Class}
+use Rattle.wf_def_world.specs.World.{Exchange}
+use Rattle.wf_frame.specs.Classes.{class_number, same_class}
+use Rattle.wf_law_runs.specs.Deficits.{owed}
+use Rattle.wf_law_runs.proofs.Deficits.Books.{core}
+
+abbrev pub Every : (Exchange → Type 0) → List Exchange → Type 0
+Every P [] = Unit {0}
+Every P (x ∷ xs) = P x × Every P xs
+
+pub every_map : (P Q : Exchange → Type 0) → ((x : Exchange) → P x → Q x) → (xs : List Exchange) → Every P xs →
+    Every Q xs
+every_map P Q h [] e = tt
+every_map P Q h (x ∷ xs) e = (h x e.0, every_map P Q h xs e.1)
+
+pub every_append : (P : Exchange → Type 0) (xs : List Exchange) (x : Exchange) → Every P xs → P x →
+    Every P (xs ++ x ∷ [])
+every_append P [] x e h = (h, tt)
+every_append P (y ∷ ys) x e h = (e.0, every_append P ys x e.1 h)
+
+every_if : (P : Exchange → Type 0) (b : Bool) (x : Exchange) (xs : List Exchange) → P x → Every P xs →
+    Every P (cond b (x ∷ xs) xs)
+every_if P true x xs h e = (h, e)
+every_if P false x xs h e = e
+
+pub every_filter : (P : Exchange → Type 0) (p : Exchange → Bool) (xs : List Exchange) → Every P xs →
+    Every P (filter p xs)
+every_filter P p [] e = tt
+every_filter P p (x ∷ xs) e = every_if P (p x) x (filter p xs) e.0 (every_filter P p xs e.1)
+
+same_some : (x y : Exchange) → Some x ≡ Some y → x ≡ y
+same_some x y e = cc
+
+every_find_step : (P : Exchange → Type 0) (p : Exchange → Bool) (xs : List Exchange) (x y : Exchange) → P y →
+    (find p xs ≡ Some x → (p x ≡ true) × P x) → (b : Bool) → p y ≡ b → cond b (Some y) (find p xs) ≡ Some x →
+    (p x ≡ true) × P x
+every_find_step P p xs x y h below true e k =
+    subst (λ (z : Exchange). (p z ≡ true) × P z) (same_some y x k) (e, h)
+every_find_step P p xs x y h below false e k = below k
+
+-- what is found passes the test, and has what every one has
+pub every_find : (P : Exchange → Type 0) (p : Exchange → Bool) (xs : List Exchange) (x : Exchange) →
+    Every P xs → find p xs ≡ Some x → (p x ≡ true) × P x
+every_find P p [] x e k = absurd (cc k)
+every_find P p (y ∷ ys) x e k = every_find_step P p ys x y e.0 (every_find P p ys x e.1) (p y) refl k
+
+-- ---- rising numbers
+
+abbrev pub Rising : ℕ → List Exchange → Type 0
+Rising lo [] = Unit {0}
+Rising lo (x ∷ xs) = (lo ≤ x.number) × Rising (suc x.number) xs
+
+pub rising_lower : (lo hi : ℕ) (xs : List Exchange) → lo ≤ hi → Rising hi xs → Rising lo xs
+rising_lower lo hi [] h e = tt
+rising_lower lo hi (x ∷ xs) h e = (omega (arith, e.0), e.1)
+
+pub rising_append : (lo : ℕ) (xs : List Exchange) (x : Exchange) → Rising lo xs →
+    Every (λ y. y.number < x.number) xs → lo ≤ x.number → Rising lo (xs ++ x ∷ [])
+rising_append lo [] x e h k = (k, tt)
+rising_append lo (y ∷ ys) x e h k = (e.0, rising_append (suc y.number) ys x e.1 h.1 h.0)
+
+rising_if : (b : Bool) (lo : ℕ) (x : Exchange) (xs : List Exchange) → lo ≤ x.number →
+    Rising (suc x.number) xs → Rising lo (cond b (x ∷ xs) xs)
+rising_if true lo x xs h e = (h, e)
+rising_if false lo x xs h e = rising_lower lo (suc x.number) xs (omega arith) e
+
+pub rising_filter : (p : Exchange → Bool) (lo : ℕ) (xs : List Exchange) → Rising lo xs →
+    Rising lo (filter p xs)
+rising_filter p lo [] e = tt
+rising_filter p lo (x ∷ xs) e = rising_if (p x) lo x (filter p xs) e.0 (rising_filter p (suc x.number) xs e.1)
+
+above : (lo : ℕ) (xs : List Exchange) → Rising lo xs → Every (λ y. lo ≤ y.number) xs
+above lo [] e = tt
+above lo (x ∷ xs) e = (
+  e.0,
+  every_map (λ y. suc x.number ≤ y.number) (λ y. lo ≤ y.number)
+      (λ y h. omega (arith, h, e.0)) xs (above (suc x.number) xs e.1),
+)
+
+only_step : (xs : List Exchange) (x y : Exchange) (e : ℕ) → Every (λ z. suc y.number ≤ z.number) xs →
+    (find (λ z. z.number == e) xs ≡ Some x → Every (λ z. z.number ≡ e → z ≡ x) xs) → (b : Bool) →
+    (y.number == e) ≡ b → cond b (Some y) (find (λ z. z.number == e) xs) ≡ Some x →
+    Every (λ z. z.number ≡ e → z ≡ x) (y ∷ xs)
+only_step xs x y e h below true t k =
+    let at_e : y.number ≡ e = eqb-true _ _ t in (
+      (λ _. same_some y x k),
+      every_map (λ z. suc y.number ≤ z.number) (λ z. z.number ≡ e → z ≡ x)
+          (λ z more is. absurd (omega arith)) xs h,
+    )
+only_step xs x y e h below false t k = ((λ is. absurd (eqb-false _ _ t is)), below k)
+
+-- one exchange has a number
+pub only_one : (lo : ℕ) (xs : List Exchange) (x : Exchange) (e : ℕ) → Rising lo xs →
+    find (λ z. z.number == e) xs ≡ Some x → Every (λ z. z.number ≡ e → z ≡ x) xs
+only_one lo [] x e r k = tt
+only_one lo (y ∷ ys) x e r k = only_step ys x y e (above (suc y.number) ys r.1)
+    (only_one (suc y.number) ys x e r.1) (y.number == e) refl k
+
+-- ---- how many
+
+abbrev pub many : Class → List Exchange → ℕ
+many c [] = 0
+many c (x ∷ xs) = (if same_class x.class c then 1 else 0) + many c xs
+
+pub many-count : (c : Class) (xs : List Exchange) → count_by (λ x. same_class x.class c) xs ≡ many c xs
+many-count c [] = refl
+many-count c (x ∷ xs) = sum_by-cons (λ (x : Exchange). cond (same_class x.class c) 1 0) x xs
+    ∙ ap (λ (n : ℕ). (if same_class x.class c then 1 else 0) + n) (many-count c xs)
+
+pub many-core : (c : Class) (xs : List Exchange) → many c (map core xs) ≡ many c xs
+many-core c [] = refl
+many-core c (x ∷ xs) = ap (λ (n : ℕ). (if same_class x.class c then 1 else 0) + n) (many-core c xs)
+
+pub many-append : (c : Class) (xs : List Exchange) (x : Exchange) →
+    many c (xs ++ x ∷ []) ≡ many c xs + (if same_class x.class c then 1 else 0)
+many-append c [] x = omega arith
+many-append c (y ∷ ys) x = omega (arith, many-append c ys x)
+
+more_if : (b : Bool) (m k : ℕ) → k ≡ m + (if b then 1 else 0) → k ≤ suc m
+more_if true m k e = omega arith
+more_if false m k e = omega arith
+
+-- one more at most
+pub many-more : (c : Class) (xs : List Exchange) (x : Exchange) → many c (xs ++ x ∷ []) ≤ suc (many c xs)
+many-more c xs x = more_if (same_class x.class c) (many c xs) (many c (xs ++ x ∷ [])) (many-append c xs x)
+
+other_if : (b : Bool) (m k : ℕ) → b ≡ false → k ≡ m + (if b then 1 else 0) → k ≡ m
+other_if true m k h e = absurd (cc h)
+other_if false m k h e = omega arith
+
+-- none more of another class
+pub many-other : (c : Class) (xs : List Exchange) (x : Exchange) →
+    (class_number x.class ≡ class_number c → ⊥) → many c (xs ++ x ∷ []) ≡ many c xs
+many-other c xs x other = other_if (same_class x.class c) (many c xs) (many c (xs ++ x ∷ []))
+    (ne_eqb (class_number x.class) (class_number c) other) (many-append c xs x)
+
+many_if : (b : Bool) (c : Class) (x : Exchange) (xs : List Exchange) (n : ℕ) → many c xs ≤ n →
+    many c (cond b (x ∷ xs) xs) ≤ (if same_class x.class c then 1 else 0) + n
+many_if true c x xs n h = omega arith
+many_if false c x xs n h = omega arith
+
+pub many-filter : (c : Class) (p : Exchange → Bool) (xs : List Exchange) → many c (filter p xs) ≤ many c xs
+many-filter c p [] = omega arith
+many-filter c p (x ∷ xs) = many_if (p x) c x (filter p xs) (many c xs) (many-filter c p xs)
+
+-- ---- what they are charged
+
+abbrev pub part_of : ℕ → Class → Exchange → ℕ
+part_of s c x = if (x.station == s) && same_class x.class c then x.charge else 0
+
+pub owed-core : (s : ℕ) (c : Class) (xs : List Exchange) → owed s c (map core xs) ≡ owed s c xs
+owed-core s c [] = refl
+owed-core s c (x ∷ xs) = ap (λ (n : ℕ). part_of s c x + n) (owed-core s c xs)
+
+pub owed-append : (s : ℕ) (c : Class) (xs : List Exchange) (x : Exchange) →
+    owed s c (xs ++ x ∷ []) ≡ owed s c xs + part_of s c x
+owed-append s c [] x = omega arith
+owed-append s c (y ∷ ys) x = omega (arith, owed-append s c ys x)
+
+owed_if : (b : Bool) (s : ℕ) (c : Class) (x : Exchange) (xs : List Exchange) (n : ℕ) → owed s c xs ≤ n →
+    owed s c (cond b (x ∷ xs) xs) ≤ part_of s c x + n
+owed_if true s c x xs n h = omega arith
+owed_if false s c x xs n h = omega arith
+
+pub owed-filter : (s : ℕ) (c : Class) (p : Exchange → Bool) (xs : List Exchange) →
+    owed s c (filter p xs) ≤ owed s c xs
+owed-filter s c p [] = omega arith
+owed-filter s c p (x ∷ xs) = owed_if (p x) s c x (filter p xs) (owed s c xs) (owed-filter s c p xs)
+
+ended_step : (s : ℕ) (c : Class) (xs : List Exchange) (x y : Exchange) (e : ℕ) →
+    (find (λ z. z.number == e) xs ≡ Some x → owed s c (filter (λ z. not (z.number == e)) xs) + part_of s c x
+    ≤ owed s c xs)
+    → (b : Bool) → (y.number == e) ≡ b → cond b (Some y) (find (λ z. z.number == e) xs) ≡ Some x →
+    owed s c (cond (not b) (y ∷ filter (λ z. not (z.number == e)) xs)
+    (filter (λ z. not (z.number == e)) xs)) + part_of s c x ≤ part_of s c y + owed s c xs
+ended_step s c xs x y e below true t k =
+    let same : part_of s c y ≡ part_of s c x = ap (part_of s c) (same_some y x k) in
+    omega (arith, owed-filter s c (λ z. not (z.number == e)) xs)
+ended_step s c xs x y e below false t k = omega (arith, below k)
+
+-- an exchange that ends owes no more
+pub owed-ended : (s : ℕ) (c : Class) (xs : List Exchange) (x : Exchange) (e : ℕ) →
+    find (λ z. z.number == e) xs ≡ Some x → owed s c (filter (λ z. not (z.number == e)) xs) + part_of s c x
+    ≤ owed s c xs
+owed-ended s c [] x e k = absurd (cc k)
+owed-ended s c (y ∷ ys) x e k = ended_step s c ys x y e (owed-ended s c ys x e) (y.number == e) refl k
+
+owed_one : (a b : Bool) (n l : ℕ) → n ≤ l → (if a && b then n else 0) ≤ (if b then 1 else 0) * l
+owed_one true true n l h = omega arith
+owed_one true false n l h = omega arith
+owed_one false true n l h = omega arith
+owed_one false false n l h = omega arith
+
+-- a class owes at most its number of exchanges times the longest
+pub owed_most : (s : ℕ) (c : Class) (l : ℕ) (xs : List Exchange) → Every (λ x. x.charge ≤ l) xs →
+    owed s c xs ≤ many c xs * l
+owed_most s c l [] e = omega arith
+owed_most s c l (x ∷ xs) e = both (part_of s c x) (if same_class x.class c then 1 else 0) (owed s c xs)
+    (many c xs) (owed_one (x.station == s) (same_class x.class c) x.charge l e.0) (owed_most s c l xs e.1)
+  where
+    both : (a b m n : ℕ) → a ≤ b * l → m ≤ n * l → a + m ≤ (b + n) * l
+    both a b m n h k = omega arith

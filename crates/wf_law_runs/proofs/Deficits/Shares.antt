@@ -1,0 +1,61 @@
+-- The deficit of a live station in a class, in every world of a run.
+use Rattle.std.proofs.Common.{◌≡◌, refl, sym, subst, arith, ℕ, ◌+◌, ◌*◌, pos, ◌-ℤ◌, ◌≤ℤ◌, true, List, Option, Some, None, is_some, IfSome, unwrap_or, option_map, map}
+use Rattle.std.proofs.lemmas.Int.{ints}
+use Rattle.wf_frame.specs.declared.settings.Config.{Config}
+use Rattle.wf_frame.specs.declared.classes.Class.{Class}
+use Rattle.wf_def_lists.specs.Table.{at}
+use Rattle.wf_def_lists.specs.Bounds.{greatest_debt}
+use Rattle.wf_def_world.specs.World.{World, Station, Share, no_share, no_station, station, share, is_live, opening}
+use Rattle.wf_frame.specs.Classes.{class_number}
+use Rattle.wf_def_world.specs.Run.{Entry, world_after}
+use Rattle.wf_frame.specs.Settings.{IsInRange}
+use Rattle.wf_law_runs.specs.Deficits.{most_owed, owed}
+use Rattle.wf_law_runs.proofs.Deficits.Balance.{IsBalanced, IsFairStation, IsFair}
+use Rattle.wf_law_runs.proofs.Deficits.Accounts.{accounts, below_four}
+use Rattle.wf_law_runs.proofs.Deficits.Books.{plain, account, core, books}
+use Rattle.wf_law_runs.proofs.Deficits.Openings.{owed-core}
+use Rattle.wf_law_runs.proofs.Deficits.Bounds.{IsBounded}
+use Rattle.wf_law_runs.proofs.Deficits.Kept.{IsGood, IsKept}
+use Rattle.wf_law_runs.proofs.Deficits.KeptStep.{kept}
+
+-- a share of a station of this weight, with m owed by open exchanges
+pub record IsMoney (config : Config) (m weight : ℕ) (x : Share) : Type 0 where
+  pub exact : x.deficit ≡ pos (config.quantum * weight + config.quantum * weight * x.quanta) -ℤ pos
+      (x.charged + x.received)
+  pub most : x.deficit ≤ℤ pos (config.quantum * weight)
+  pub least : (pos 0 -ℤ pos (greatest_debt + most_owed config)) ≤ℤ x.deficit
+  pub quiet : x.received ≡ 0 → (pos 1 -ℤ pos (most_owed config)) ≤ℤ (x.deficit -ℤ pos m)
+  pub floor : x.received ≡ 0 → (pos 1 -ℤ pos (most_owed config)) ≤ℤ x.deficit
+
+money_of : (config : Config) (m k weight : ℕ) (x : Share) → m ≡ k → IsBalanced (config.quantum * weight) x →
+    IsBounded config m weight (plain x) → IsMoney config k weight x
+money_of config m k weight x e h b = record {
+  exact = h.deficit;
+  most = b.most;
+  least = omega (arith, ints, b.least);
+  quiet = λ r. omega (arith, ints, b.quiet r);
+  floor = λ r. omega (arith, ints, b.quiet r);
+}
+
+pub money : (w : World) (s : ℕ) (c : Class) → IsFair w → IsKept (books w) → is_live w s ≡ true →
+    IsMoney w.config (owed s c w.opened) (station w s).weight (share w s c)
+money w s c f k live = go (at None w.stations s) refl live (f.each s) (k.goods s)
+  where
+    go : (o : Option Station) → at None w.stations s ≡ o → is_some o ≡ true →
+        IfSome o (IsFairStation w.config.quantum) →
+        IfSome (option_map account o) (IsGood w.config (map core w.opened) s) →
+        IsMoney w.config (owed s c w.opened) (station w s).weight (share w s c)
+    go None e is h g = absurd (cc is)
+    go (Some x) e is h g =
+        subst (λ (o : Option Station). IsMoney w.config (owed s c w.opened) (unwrap_or o no_station).weight
+        (at no_share (unwrap_or o no_station).shares (class_number c))) (sym e)
+        (money_of w.config (owed s c (map core w.opened)) (owed s c w.opened) x.weight
+        (at no_share x.shares (class_number c)) (owed-core s c w.opened)
+        (h (class_number c) (below_four c)) (g.bounds c))
+
+pub money_after : (config : Config) (h : List Entry) (s : ℕ) (c : Class) → IsInRange config →
+    is_live (world_after (opening config) h) s ≡ true
+    → IsMoney (world_after (opening config) h).config (owed s c (world_after (opening config) h).opened)
+    (station (world_after (opening config) h) s).weight (share (world_after (opening config) h) s c)
+money_after config h s c range live = money (world_after (opening config) h) s c (accounts config h)
+    (kept config h range) live

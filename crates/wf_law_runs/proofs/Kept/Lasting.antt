@@ -1,0 +1,235 @@
+-- What keeps the settled numbers of a session as they are.
+use Rattle.std.proofs.Common.{◌≡◌, refl, ap, sym, ◌∙◌, subst, arith, ℕ, zero, suc, ◌-◌, ◌<◌, ◌≤◌, Bool, true, false, not, ◌==◌, List, [], ◌∷◌, ◌++◌, length, Option, Some, None, IfSome}
+use Rattle.wf_frame.specs.declared.classes.Cause.TheVariants.{Retries}
+use Rattle.wf_frame.specs.declared.classes.Class.{Class}
+use Rattle.wf_frame.specs.declared.classes.Fate.TheVariants.{Dropped}
+use Rattle.wf_def_codel.specs.Codel.{Item}
+use Rattle.wf_def_agreement.specs.Session.{Session, Slot, State, request_due, with_state, is_settled, is_failed, slot_after_miss, slot, on_slot, with_number_given, after_miss, next_number}
+use Rattle.wf_def_world.specs.World.{World, Exchange, Mpdu, Content, Frames, Request, session, rotation, is_live, on_session, on_receiver, with_exchange, without_exchange, with_frame_finished}
+use Rattle.wf_def_world.specs.FlowQueues.{taken_for_tid}
+use Rattle.wf_def_world.specs.CanSend.{is_ready, can_give}
+use Rattle.wf_def_world.specs.Exchanges.{is_acked, station_need, most_frames, picked_station, sending_tid, with_heard_start, fits_in, Aggregate, Prepared, after_pick, after_tid_turn, with_fresh, aggregate_of, with_number, fresh_mpdus, with_flying, waiting_mpdus, longest_fitting, prepared_request, prepared_data, prepared_exchange, with_exchange_opened, after_arrival, after_charge, with_failed_finished, with_settled, with_all_settled, after_done}
+use Rattle.wf_def_world.specs.Step.{send_outcome, pull_outcome_for, pull_outcome, arrive_outcome, answer_outcome, done_outcome}
+use Rattle.wf_law_rules.proofs.Lemmas.Numbers.{on_if}
+use Rattle.wf_law_runs.proofs.Sessions.Flights.{AllIn, Rises, all_in_later}
+use Rattle.wf_law_runs.proofs.Windows.Sides.{Side, Same, each_side_on, on_live, same_finish, same_after_pick, same_after_turn, same_spent, same_take, same_charged}
+use Rattle.wf_law_runs.proofs.Windows.Agreement.{slot_give, slot_other}
+use Rattle.wf_law_runs.proofs.Windows.Opened.{some_along, pick_ready, left_true}
+use Rattle.wf_law_runs.proofs.Windows.Agreed.{IsLawful, IsReady, IsFound, IsEnding, ready_filled, lawful_same, ending_settled, ending_of}
+use Rattle.wf_law_runs.proofs.Releases.Kept.{KeptSession, kept_refl, then_kept, kept_on_slot, kept_give, kept_heard}
+
+-- ---- one session
+
+-- its numbers keep their ids, and its settled numbers stay as they are
+pub record Lasts (y z : Session) : Type 0 where
+  pub kept : KeptSession y z
+  pub settled : (n : ℕ) → y.first ≤ n → n < next_number y → is_settled (slot y n).state ≡ true →
+      slot z n ≡ slot y n
+
+pub lasts_refl : (y : Session) → Lasts y y
+lasts_refl y = record { kept = kept_refl y; settled = λ n l h e. refl }
+
+pub lasts_equal : (y z : Session) → z ≡ y → Lasts y z
+lasts_equal y z e = subst (Lasts y) (sym e) (lasts_refl y)
+
+pub then_lasts : (x y z : Session) → Lasts x y → Lasts y z → Lasts x z
+then_lasts x y z h k = record {
+  kept = then_kept x y z h.kept k.kept;
+  settled = λ n l b e.
+      let same : slot y n ≡ slot x n = h.settled n l b e in
+      k.settled n (omega (arith, h.kept.first, l)) (omega (arith, b, h.kept.next))
+      (ap (λ (x : Slot). is_settled x.state) same ∙ e) ∙ same;
+}
+
+-- a number that was not settled changes
+lasts_on_slot : (y : Session) (m : ℕ) (f : Slot → Slot) → ((x : Slot) → (f x).id ≡ x.id) → y.first ≤ m →
+    is_settled (slot y m).state ≡ false → Lasts y (on_slot m f y)
+lasts_on_slot y m f h l open_yet = record {
+  kept = kept_on_slot y m f h;
+  settled = λ n from below e. slot_other y m n f l from
+      (λ same. cc (ap (λ (k : ℕ). is_settled (slot y k).state) same, open_yet, e));
+}
+
+lasts_give : (y : Session) (id : ℕ) → Lasts y (with_number_given y id)
+lasts_give y id = record { kept = kept_give y id; settled = λ n l h e. slot_give y id n l h }
+
+lasts_fly : (ms : List Mpdu) (y : Session) (e lo hi : ℕ) → y.first ≤ lo → Rises lo hi ms →
+    AllIn y State.Waiting ms → Lasts y (with_flying e ms y)
+lasts_fly [] y e lo hi b r a = lasts_refl y
+lasts_fly (m ∷ ms) y e lo hi b r a =
+    let f : Slot → Slot = λ x. record x { state = State.Flying e } in
+    then_lasts y (on_slot m.number f y) _ (lasts_on_slot y m.number f (λ x. refl) (omega (arith, r.0))
+    (ap is_settled a.0))
+    (lasts_fly ms (on_slot m.number f y) e (suc m.number) hi (omega (arith, r.0)) r.2
+    (all_in_later y State.Waiting m.number hi f ms (omega (arith, r.0)) r.2 a.1))
+
+lasts_heard : (b : Bool) (f : ℕ) (y : Session) → Lasts y (with_heard_start b f y)
+lasts_heard true f y = record { kept = kept_heard true f y; settled = λ n l h e. refl }
+lasts_heard false f y = lasts_refl y
+
+-- ---- worlds
+
+pub record Last (w v : World) : Type 0 where
+  pub sessions : (s t : ℕ) → Lasts (session w s t) (session v s t)
+  pub live : (s : ℕ) → is_live v s ≡ is_live w s
+
+pub last_same : (w v : World) → Same w v → Last w v
+last_same w v h = record {
+  sessions = λ s t. lasts_equal (session w s t) (session v s t)
+      (ap (λ (a : Side). a.session) (h.sides s t));
+  live = h.live;
+}
+
+pub last_here : (w : World) → Last w w
+last_here w = record { sessions = λ s t. lasts_refl (session w s t); live = λ s. refl }
+
+then_last : (u v w : World) → Last u v → Last v w → Last u w
+then_last u v w h k = record {
+  sessions = λ s t. then_lasts (session u s t) (session v s t) (session w s t) (h.sessions s t)
+      (k.sessions s t);
+  live = λ s. k.live s ∙ h.live s;
+}
+
+last_on_session : (w : World) (s t : ℕ) (f : Session → Session) → Lasts (session w s t) (f (session w s t)) →
+    Last w (on_session w s t f)
+unfolding on_session
+last_on_session w s t f h = record {
+  sessions = each_side_on (λ i j z. Lasts (session w i j) z.session) w s t
+      (λ y. record y { session = f y.session }) (λ i j. lasts_refl (session w i j)) h;
+  live = on_live w s t (λ y. record y { session = f y.session });
+}
+
+-- ---- pulls
+
+last_number : (o : Option Item) (w : World) (s t : ℕ) → Last w (with_number w s t o)
+unfolding with_number
+last_number None w s t = last_here w
+last_number (Some x) w s t = last_on_session w s t (λ y. with_number_given y x.id)
+    (lasts_give (session w s t) x.id)
+
+last_fresh : (n : ℕ) (w : World) (s t : ℕ) (ms : List Mpdu) → Last w (with_fresh n w s t ms).world
+unfolding with_fresh
+last_fresh zero w s t ms = last_here w
+last_fresh (suc n) w s t ms =
+    let taken = taken_for_tid w s t in
+    let longer : List Mpdu = ms ++ fresh_mpdus w s t taken.item in
+    let numbered : World = with_number taken.world s t taken.item in
+    let lasting : Last w numbered = then_last w taken.world numbered
+    (last_same w taken.world (same_take w s t)) (last_number taken.item taken.world s t) in
+    on_if (λ (a : Aggregate). Last w a.world) (not (can_give w s t)) _ _ (λ _. last_here w) (λ _.
+    on_if (λ (a : Aggregate). Last w a.world) (fits_in w s longer) (with_fresh n numbered s t longer)
+    (record { world = numbered; mpdus = ms })
+    (λ _. then_last w numbered _ lasting (last_fresh n numbered s t longer)) (λ _. lasting))
+
+last_filled : (w : World) (s t : ℕ) → Last w (aggregate_of w s t).world
+unfolding aggregate_of
+last_filled w s t =
+    let chosen : List Mpdu = longest_fitting w s (waiting_mpdus w s t) in
+    on_if (λ (a : Aggregate). Last w a.world) (length chosen == length (waiting_mpdus w s t))
+    (with_fresh (most_frames w s - length chosen) w s t chosen) (record { world = w; mpdus = chosen })
+    (λ _. last_fresh (most_frames w s - length chosen) w s t chosen) (λ _. last_here w)
+
+last_frames : (w : World) (s t : ℕ) (f : Aggregate) → IsReady s t f.world f.mpdus → Last w f.world →
+    Last w (prepared_data s t f).world
+unfolding prepared_data
+last_frames w s t f r h =
+    let y : Session = session f.world s t in
+    then_last w f.world _ h (last_on_session f.world s t (with_flying f.world.exchanges f.mpdus)
+    (lasts_fly f.mpdus y f.world.exchanges y.first (next_number y)
+    (omega arith) r.chosen.rising r.chosen.waiting))
+
+last_prepared : (w : World) (s t : ℕ) → IsLawful w → is_live w s ≡ true →
+    Last w (prepared_exchange w s t).world
+unfolding prepared_exchange
+last_prepared w s t i live = on_if (λ (p : Prepared). Last w p.world) (request_due (session w s t))
+    (prepared_request w s t) (prepared_data s t (aggregate_of w s t))
+    (λ _. last_here w) (λ quiet. last_frames w s t (aggregate_of w s t) (ready_filled w s t i live quiet)
+    (last_filled w s t))
+
+last_sent : (w : World) (s t : ℕ) (c : Class) (p : Prepared) → Last w p.world →
+    Last w (send_outcome s t c p).world
+unfolding send_outcome with_exchange_opened
+last_sent w s t c p h = then_last w p.world _ h
+    (then_last p.world _ _ (record { sessions = λ i j. lasts_refl (session p.world i j); live = λ i. refl })
+    (last_same _ _ (same_spent _ s)))
+
+last_pulled_by : (o : Option ℕ) (w : World) (c : Class) → IfSome o (λ s. is_live w s ≡ true) → IsLawful w →
+    Last w (pull_outcome_for w c o).world
+unfolding pull_outcome_for
+last_pulled_by None w c live i = last_here w
+last_pulled_by (Some s) w c live i =
+    let k : Same w (after_tid_turn w s c (sending_tid w s c)) = same_after_turn w s c (sending_tid w s c) in
+    last_sent w s _ c _ (then_last w _ _ (last_same w _ k)
+    (last_prepared _ s _ (lawful_same _ _ k i) (k.live s ∙ live)))
+
+pub last_pulled : (w : World) (c : Class) → IsLawful w → Last w (pull_outcome w c).world
+unfolding pull_outcome
+last_pulled w c i =
+    let k : Same w (after_pick w c) = same_after_pick w c in
+    then_last w (after_pick w c) _ (last_same w _ k)
+    (last_pulled_by (picked_station w c).winner (after_pick w c) c
+    (some_along (λ s. is_ready w c s ≡ true) (λ s. is_live (after_pick w c) s ≡ true)
+    (picked_station w c).winner (λ s h. k.live s ∙ left_true (is_live w s) _ h)
+    (pick_ready (station_need w c) (is_ready w c) (rotation w c))) (lawful_same _ _ k i))
+
+-- ---- exchanges
+
+pub last_arrived : (w : World) (x : Exchange) (n : ℕ) → Last w (arrive_outcome w x n).world
+unfolding arrive_outcome with_exchange on_receiver
+last_arrived w x n = record {
+  sessions = each_side_on (λ i j z. Lasts (session w i j) z.session) w x.station x.tid
+      (λ y. record y { receiver = after_arrival x.content n y.receiver }) (λ i j. lasts_refl (session w i j))
+      (lasts_refl (session w x.station x.tid));
+  live = on_live w x.station x.tid (λ y. record y { receiver = after_arrival x.content n y.receiver });
+}
+
+pub last_answered : (w : World) (x : Exchange) → Last w (answer_outcome w x).world
+unfolding answer_outcome with_exchange
+last_answered w x = record { sessions = λ s t. lasts_refl (session w s t); live = λ s. refl }
+
+-- a number that flies is not settled before its exchange ends
+last_settled : (b : Bool) (e s t : ℕ) (acked : ℕ → Bool) (w : World) (m : Mpdu) (ms : List Mpdu) →
+    IsEnding e s t acked w (m ∷ ms) → Last w (with_settled w s t b m)
+unfolding with_settled with_failed_finished
+last_settled true e s t acked w m ms n =
+    then_last w _ _ (last_on_session w s t (with_state State.Acked m.number)
+    (lasts_on_slot (session w s t) m.number (λ x. record x { state = State.Acked })
+    (λ x. refl) n.flies.rising.0 (ap is_settled n.flies.flying.0))) (last_same _ _ (same_finish _ _ _))
+last_settled false e s t acked w m ms n =
+    let v : World = on_session w s t (after_miss w.config.attempts m.number) in
+    let k : Last w v = last_on_session w s t (after_miss w.config.attempts m.number)
+    (lasts_on_slot (session w s t) m.number (slot_after_miss w.config.attempts)
+    (λ x. refl) n.flies.rising.0 (ap is_settled n.flies.flying.0)) in
+    on_if (λ (u : World). Last w u) (is_failed (slot (session v s t) m.number).state)
+    (with_frame_finished v (Dropped Retries) m.id) v
+    (λ _. then_last w v _ k (last_same v _ (same_finish v _ _))) (λ _. k)
+
+last_all_settled : (ms : List Mpdu) (e s t : ℕ) (w : World) (acked : ℕ → Bool) → IsEnding e s t acked w ms →
+    Last w (with_all_settled w s t acked ms)
+unfolding with_all_settled
+last_all_settled [] e s t w acked n = last_here w
+last_all_settled (m ∷ ms) e s t w acked n =
+    then_last w _ _ (last_settled (acked m.number) e s t acked w m ms n)
+    (last_all_settled ms e s t _ acked (ending_settled (acked m.number) e s t acked w m ms refl n))
+
+last_without : (w : World) (e : ℕ) → Last w (without_exchange w e)
+unfolding without_exchange
+last_without w e = record { sessions = λ s t. lasts_refl (session w s t); live = λ s. refl }
+
+last_after_done : (c : Content) (w : World) (i : IsLawful w) (x : Exchange) (heard : Bool) → x.content ≡ c →
+    IsFound w i x
+    → Last w (after_charge (without_exchange w x.number) x) →
+    Last w (after_done (after_charge (without_exchange w x.number) x) x heard c)
+unfolding after_done
+last_after_done (Frames ms) w i x heard e f h =
+    then_last w _ _ h (last_all_settled ms x.number x.station x.tid _ (is_acked heard x.answer)
+    (ending_of w i x ms heard e f))
+last_after_done (Request g) w i x heard e f h =
+    then_last w _ _ h (last_on_session _ x.station x.tid (with_heard_start heard g) (lasts_heard heard g _))
+
+pub last_ended : (w : World) (i : IsLawful w) (x : Exchange) (heard : Bool) → IsFound w i x →
+    Last w (done_outcome w x heard).world
+unfolding done_outcome
+last_ended w i x heard f =
+    last_after_done x.content w i x heard refl f (then_last w _ _ (last_without w x.number)
+    (last_same _ _ (same_charged (without_exchange w x.number) x)))

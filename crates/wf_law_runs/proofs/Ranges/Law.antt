@@ -1,0 +1,44 @@
+-- The law of the ranges, in every world of a run, answered.
+use Rattle.std.proofs.Common.{◌≡◌, subst, ◌<◌, true, List, take, Option, Some, None, is_some, unwrap_or, IfSome}
+use Rattle.wf_frame.specs.declared.settings.Config.{Config}
+use Rattle.wf_frame.specs.Settings.{IsInRange}
+use Rattle.wf_def_lists.specs.Table.{at}
+use Rattle.wf_def_world.specs.World.{World, Station, no_station, station, opening}
+use Rattle.wf_def_world.specs.Run.{Entry}
+use Rattle.wf_def_world.specs.Stretches.{world_at}
+use Rattle.wf_law_runs.specs.Ranges.{RangeLaw}
+use Rattle.wf_law_runs.proofs.Deficits.Configs.{config_run}
+use Rattle.wf_law_runs.proofs.Windows.Agreed.{IsLawful, lawful}
+use Rattle.wf_law_runs.proofs.Windows.Sizes.{IsSized, sized}
+use Rattle.wf_law_runs.proofs.Queues.Shelves.{shelves}
+use Rattle.wf_law_runs.proofs.Queues.Shelved.{IsShelved}
+use Rattle.wf_law_runs.proofs.Queues.Law.{longest_in, within, shelved}
+use Rattle.wf_law_runs.proofs.Ranges.Traits.{HasTraits, has_traits}
+
+of_live : (o : Option Station) → is_some o ≡ true → IfSome o HasTraits → HasTraits (unwrap_or o no_station)
+of_live None e h = absurd (cc e)
+of_live (Some x) e h = h
+
+pub range_law : (config : Config) (h : List Entry) → IsInRange config → RangeLaw config h
+range_law config h range m =
+    let w : World = world_at config h m in
+    let i : IsShelved (longest_in (take m h)) (shelves w) =
+    shelved config (take m h) (longest_in (take m h)) range (within (take m h)) in
+    let k : IsSized w = sized config (take m h) in
+    let a : IsLawful w = lawful config (take m h) in
+    record {
+      stations = λ s live.
+          let x : HasTraits (station w s) = of_live (at None w.stations s) live
+          (has_traits config (take m h) s) in
+          record {
+            number = subst (λ (c : Config). s < c.stations) (config_run (take m h) (opening config))
+                (i.range s live);
+            weight = x.weight;
+            exponent = x.exponent;
+            rate = x.rate;
+            credit = x.credit;
+            window = λ t below. (k.some s t live below, k.size s t);
+            both = λ t. (a.agreed s t).size;
+          };
+      queues = i.counts;
+    }

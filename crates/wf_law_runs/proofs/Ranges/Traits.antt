@@ -1,0 +1,389 @@
+-- The weight, rate, exponent, sleep and credit of each live station stay in their ranges, in every world of a
+-- run.
+use Rattle.std.proofs.Common.{◌≡◌, refl, sym, ◌∙◌, ap, arith, ℕ, zero, suc, ◌-◌, ◌≤◌, ◌==◌, ◌||◌, inl, inr, not, nat_le, nat_lt, Bool, true, false, if◌then◌else◌, List, [], ◌∷◌, length, Option, Some, None, option_map, unwrap_or, IfSome}
+use Rattle.std.proofs.lemmas.Bool.{not-false, or_parts}
+use Rattle.wf_frame.specs.declared.settings.Config.{Config}
+use Rattle.wf_frame.specs.declared.classes.Class.{Class}
+use Rattle.wf_frame.specs.declared.classes.Fate.{Fate}
+use Rattle.wf_frame.specs.declared.notes.Ask.TheVariants.{Join, Leave, Rate, Tick, Pull, Arrive, Answer, Done, Sleep, Wake, Poll, Rx, Reap}
+use Rattle.wf_frame.specs.declared.notes.Note.{Note}
+use Rattle.wf_frame.specs.declared.notes.Note.TheVariants.{Enqueue, Asked}
+use Rattle.wf_frame.specs.declared.notes.Refusal.{Refusal}
+use Rattle.wf_frame.specs.declared.notes.Refusal.TheVariants.{Idle}
+use Rattle.wf_frame.specs.Classes.{all_classes}
+use Rattle.wf_def_lists.specs.Table.{at, upto}
+use Rattle.wf_def_air.specs.Airtime.{Rate as Airtime_rate}
+use Rattle.wf_def_codel.specs.Codel.{Item}
+use Rattle.wf_def_rotation.specs.Rotation.{in_order}
+use Rattle.wf_def_agreement.specs.Session.{Session, request_due}
+use Rattle.wf_def_lists.specs.Bounds.{greatest_exponent, greatest_weight, greatest_mcs}
+use Rattle.wf_def_world.specs.World.{World, Station, Share, Tid, Exchange, Mpdu, Content, Frames, Request, no_station, station, session, queue, rotation, exchange, with_station, on_station, on_tid, on_session, on_receiver, with_queues, on_share, on_queue, with_rotation, with_fate, with_frame_finished, with_frames_finished, with_exchange, without_exchange, opening}
+use Rattle.wf_def_world.specs.FlowQueues.{is_at_limit, without_head, after_limit, longest_queue, with_listed_queue, with_appended, after_put_in, with_queues_paid, taken_by_codel, taken_from_picked, taken_for_tid, after_queue_left, after_queues_left}
+use Rattle.wf_def_world.specs.CanSend.{with_listing_in, with_listings_in, with_listings_of, can_give}
+use Rattle.wf_def_world.specs.Exchanges.{picked_station, most_frames, waiting_mpdus, longest_fitting, Aggregate, Prepared, with_station_paid, with_stations_paid, after_pick, after_tid_turn, with_number, with_fresh, aggregate_of, prepared_data, prepared_exchange, without_credit, with_exchange_opened, after_charge, with_failed_finished, with_settled, with_all_settled, after_done}
+use Rattle.wf_def_world.specs.Refusals.{refusals, refusal, is_within}
+use Rattle.wf_def_world.specs.Step.{Outcome, join_outcome, after_tid_left, after_tids_left, without_listings, leave_outcome, rate_outcome, tick_outcome, with_frame, enqueue_outcome, send_outcome, pull_outcome_for, pull_outcome, arrive_outcome, answer_outcome, done_outcome, outcome_where_open, sleep_outcome, wake_outcome, poll_outcome, rx_outcome, reap_outcome, concerned_station, outcome_of, after_refusal, judged_outcome, step}
+use Rattle.wf_def_world.specs.Run.{Entry, world_after}
+use Rattle.wf_law_runs.specs.Ranges.{IsRate}
+use Rattle.wf_law_rules.proofs.Lemmas.Numbers.{both, le_yes, lt_no, eq_yes, either}
+use Rattle.wf_law_rules.proofs.Lemmas.Tables.{each_put}
+use Rattle.wf_law_runs.proofs.Windows.Opened.{NoRow, no_row}
+
+-- what a station has besides its shares and TIDs
+record Trait : Type 0 where
+  weight : ℕ
+  rate : Airtime_rate
+  exponent : ℕ
+  asleep : Bool
+  credit : Option Class
+
+abbrev trait : Station → Trait
+trait x = record {
+  weight = x.weight;
+  rate = x.rate;
+  exponent = x.exponent;
+  asleep = x.asleep;
+  credit =
+      x.credit;
+}
+
+record IsTrait (z : Trait) : Type 0 where
+  weight : (1 ≤ z.weight) × (z.weight ≤ 16)
+  rate : IsRate z.rate
+  exponent : z.exponent ≤ 3
+  credit : IfSome z.credit (λ _. z.asleep ≡ true)
+
+-- of each live station
+abbrev Traits : World → Type 0
+Traits w = (s : ℕ) → IfSome (at None w.stations s) (λ x. IsTrait (trait x))
+
+-- ---- stations
+
+put_station : (w : World) (s : ℕ) (o : Option Station) → IfSome o (λ x. IsTrait (trait x)) → Traits w →
+    Traits (with_station w s o)
+unfolding with_station
+put_station w s o k h = each_put (λ i y. IfSome y (λ x. IsTrait (trait x))) None w.stations s o h k
+
+mapped : (o : Option Station) (f : Station → Station) →
+    ((x : Station) → o ≡ Some x → IsTrait (trait x) → IsTrait (trait (f x))) →
+    IfSome o (λ x. IsTrait (trait x)) → IfSome (option_map f o) (λ x. IsTrait (trait x))
+mapped None f k h = tt
+mapped (Some x) f k h = k x refl h
+
+set_station : (w : World) (s : ℕ) (f : Station → Station) →
+    ((x : Station) → at None w.stations s ≡ Some x → IsTrait (trait x) → IsTrait (trait (f x))) → Traits w →
+    Traits (on_station w s f)
+unfolding on_station
+set_station w s f k h = put_station w s _ (mapped (at None w.stations s) f k (h s)) h
+
+kept_tid : (w : World) (s t : ℕ) (f : Tid → Tid) → Traits w → Traits (on_tid w s t f)
+unfolding on_tid
+kept_tid w s t f h = set_station w s _ (λ x e k. k) h
+
+kept_session : (w : World) (s t : ℕ) (f : Session → Session) → Traits w → Traits (on_session w s t f)
+unfolding on_session
+kept_session w s t f h = kept_tid w s t _ h
+
+kept_share : (w : World) (s : ℕ) (c : Class) (f : Share → Share) → Traits w → Traits (on_share w s c f)
+unfolding on_share
+kept_share w s c f h = set_station w s _ (λ x e k. k) h
+
+kept_if : (b : Bool) (u v : World) → Traits u → Traits v → Traits (if b then u else v)
+kept_if true u v h k = h
+kept_if false u v h k = k
+
+-- ---- frames and queues
+
+kept_finish_all : (ids : List ℕ) (w : World) (fate : Fate) → Traits w →
+    Traits (with_frames_finished w fate ids)
+unfolding with_frames_finished with_frame_finished with_fate
+kept_finish_all [] w fate h = h
+kept_finish_all (id ∷ ids) w fate h = kept_finish_all ids _ fate h
+
+kept_without_head : (items : List Item) (w : World) (q : ℕ) → Traits w → Traits (without_head w q items)
+unfolding without_head with_frame_finished with_fate on_queue
+kept_without_head [] w q h = h
+kept_without_head (x ∷ rest) w q h = h
+
+kept_within_limit : (w : World) → Traits w → Traits (after_limit w)
+unfolding after_limit
+kept_within_limit w h = kept_if (is_at_limit w)
+    (without_head w (longest_queue w) (queue w (longest_queue w)).items) w
+    (kept_without_head (queue w (longest_queue w)).items w (longest_queue w) h) h
+
+kept_put_in : (w : World) (s t q : ℕ) (x : Item) → Traits w → Traits (after_put_in w s t q x)
+unfolding after_put_in with_appended with_listed_queue with_queues on_queue
+kept_put_in w s t q x h = kept_if _ _ _ h (kept_tid _ s t _ h)
+
+kept_enqueued : (w : World) (s t flow len : ℕ) → Traits w → Traits (enqueue_outcome w s t flow len).world
+unfolding enqueue_outcome with_frame
+kept_enqueued w s t flow len h = kept_put_in (after_limit w) s t _ _ (kept_within_limit w h)
+
+kept_pay_queues : (qs : List ℕ) (w : World) (quanta : ℕ → ℕ) → Traits w →
+    Traits (with_queues_paid w quanta qs)
+unfolding with_queues_paid on_queue
+kept_pay_queues [] w quanta h = h
+kept_pay_queues (q ∷ qs) w quanta h = kept_pay_queues qs _ quanta h
+
+kept_taken_from : (o : Option ℕ) (w : World) (s : ℕ) → Traits w → Traits (taken_from_picked w s o).world
+unfolding taken_from_picked taken_by_codel on_queue
+kept_taken_from None w s h = h
+kept_taken_from (Some q) w s h = kept_finish_all _ _ _ h
+
+kept_take : (w : World) (s t : ℕ) → Traits w → Traits (taken_for_tid w s t).world
+unfolding taken_for_tid with_queues
+kept_take w s t h = kept_taken_from _ _ s (kept_tid _ s t _ (kept_pay_queues _ w _ h))
+
+kept_purge_queues : (qs : List ℕ) (w : World) → Traits w → Traits (after_queues_left w qs)
+unfolding after_queues_left after_queue_left on_queue
+kept_purge_queues [] w h = h
+kept_purge_queues (q ∷ qs) w h = kept_purge_queues qs _ (kept_finish_all _ _ _ h)
+
+-- ---- a pull
+
+kept_pay_stations : (ss : List ℕ) (w : World) (c : Class) (quanta : ℕ → ℕ) → Traits w →
+    Traits (with_stations_paid w c quanta ss)
+unfolding with_stations_paid with_station_paid
+kept_pay_stations [] w c quanta h = h
+kept_pay_stations (s ∷ ss) w c quanta h = kept_pay_stations ss _ c quanta (kept_share w s c _ h)
+
+kept_after_pick : (w : World) (c : Class) → Traits w → Traits (after_pick w c)
+unfolding after_pick with_rotation
+kept_after_pick w c h = kept_pay_stations (in_order (rotation w c)) w c _ h
+
+kept_number : (o : Option Item) (w : World) (s t : ℕ) → Traits w → Traits (with_number w s t o)
+unfolding with_number
+kept_number None w s t h = h
+kept_number (Some x) w s t h = kept_session w s t _ h
+
+filled_if : (b : Bool) (x y : Aggregate) → Traits x.world → Traits y.world → Traits (if b then x else y).world
+filled_if true x y h k = h
+filled_if false x y h k = k
+
+kept_fresh : (n : ℕ) (w : World) (s t : ℕ) (ms : List Mpdu) → Traits w → Traits (with_fresh n w s t ms).world
+unfolding with_fresh
+kept_fresh zero w s t ms h = h
+kept_fresh (suc n) w s t ms h =
+    let numbered : Traits (with_number (taken_for_tid w s t).world s t (taken_for_tid w s t).item) =
+    kept_number (taken_for_tid w s t).item (taken_for_tid w s t).world s t (kept_take w s t h) in
+    filled_if (not (can_give w s t)) _ _ h (filled_if _ _ _ (kept_fresh n _ s t _ numbered) numbered)
+
+kept_filled : (w : World) (s t : ℕ) → Traits w → Traits (aggregate_of w s t).world
+unfolding aggregate_of
+kept_filled w s t h =
+    let chosen : List Mpdu = longest_fitting w s (waiting_mpdus w s t) in
+    filled_if (length chosen == length (waiting_mpdus w s t))
+    (with_fresh (most_frames w s - length chosen) w s t chosen) (record { world = w; mpdus = chosen })
+    (kept_fresh (most_frames w s - length chosen) w s t chosen h) h
+
+kept_prepared_frames : (s t : ℕ) (f : Aggregate) → Traits f.world → Traits (prepared_data s t f).world
+unfolding prepared_data
+kept_prepared_frames s t f h = kept_session f.world s t _ h
+
+prepared_if : (b : Bool) (x y : Prepared) → Traits x.world → Traits y.world →
+    Traits (if b then x else y).world
+prepared_if true x y h k = h
+prepared_if false x y h k = k
+
+kept_prepared : (w : World) (s t : ℕ) → Traits w → Traits (prepared_exchange w s t).world
+unfolding prepared_exchange
+kept_prepared w s t h = prepared_if (request_due (session w s t)) _ _ h
+    (kept_prepared_frames s t (aggregate_of w s t) (kept_filled w s t h))
+
+-- a credit is spent
+no_credit : (z : Trait) → IsTrait z → IsTrait (record z { credit = None })
+no_credit z k = record { weight = k.weight; rate = k.rate; exponent = k.exponent; credit = tt }
+
+kept_sent : (s t : ℕ) (c : Class) (p : Prepared) → Traits p.world → Traits (send_outcome s t c p).world
+unfolding send_outcome without_credit with_exchange_opened
+kept_sent s t c p h = set_station _ s _ (λ x e k. no_credit (trait x) k) h
+
+kept_pulled_by : (o : Option ℕ) (w : World) (c : Class) → Traits w → Traits (pull_outcome_for w c o).world
+unfolding pull_outcome_for after_tid_turn
+kept_pulled_by None w c h = h
+kept_pulled_by (Some s) w c h = kept_sent s _ c _ (kept_prepared _ s _ (kept_share w s c _ h))
+
+kept_pulled : (w : World) (c : Class) → Traits w → Traits (pull_outcome w c).world
+unfolding pull_outcome
+kept_pulled w c h = kept_pulled_by (picked_station w c).winner (after_pick w c) c (kept_after_pick w c h)
+
+-- ---- exchanges
+
+kept_settled : (b : Bool) (w : World) (s t : ℕ) (m : Mpdu) → Traits w → Traits (with_settled w s t b m)
+unfolding with_settled with_failed_finished with_frame_finished with_fate
+kept_settled true w s t m h = kept_session w s t _ h
+kept_settled false w s t m h = let k = kept_session w s t _ h in kept_if _ _ _ k k
+
+kept_all_settled : (ms : List Mpdu) (w : World) (s t : ℕ) (acked : ℕ → Bool) → Traits w →
+    Traits (with_all_settled w s t acked ms)
+unfolding with_all_settled
+kept_all_settled [] w s t acked h = h
+kept_all_settled (m ∷ ms) w s t acked h = kept_all_settled ms _ s t acked
+    (kept_settled (acked m.number) w s t m h)
+
+kept_after_done : (content : Content) (w : World) (x : Exchange) (heard : Bool) → Traits w →
+    Traits (after_done w x heard content)
+unfolding after_done
+kept_after_done (Frames mpdus) w x heard h = kept_all_settled mpdus w _ _ _ h
+kept_after_done (Request start) w x heard h = kept_session w _ _ _ h
+
+kept_ended : (w : World) (x : Exchange) (heard : Bool) → Traits w → Traits (done_outcome w x heard).world
+unfolding done_outcome after_charge without_exchange
+kept_ended w x heard h = kept_after_done x.content _ x heard (kept_share _ x.station x.class _ h)
+
+kept_arrived : (w : World) (x : Exchange) (n : ℕ) → Traits w → Traits (arrive_outcome w x n).world
+unfolding arrive_outcome with_exchange on_receiver
+kept_arrived w x n h = kept_tid w x.station x.tid _ h
+
+kept_answered : (w : World) (x : Exchange) → Traits w → Traits (answer_outcome w x).world
+unfolding answer_outcome with_exchange
+kept_answered w x h = h
+
+kept_open : (o : Option Exchange) (w : World) (f : Exchange → Outcome) →
+    ((x : Exchange) → Traits (f x).world) → Traits w → Traits (outcome_where_open w o f).world
+unfolding outcome_where_open
+kept_open None w f k h = h
+kept_open (Some x) w f k h = k x
+
+kept_reaped : (ids : List ℕ) (w : World) → Traits w → Traits (reap_outcome w ids).world
+unfolding reap_outcome
+kept_reaped [] w h = h
+kept_reaped (id ∷ ids) w h = h
+
+-- ---- stations that come and go
+
+kept_left_tids : (ts : List ℕ) (w : World) (s : ℕ) → Traits w → Traits (after_tids_left w s ts)
+unfolding after_tids_left after_tid_left with_queues
+kept_left_tids [] w s h = h
+kept_left_tids (t ∷ ts) w s h = kept_left_tids ts _ s
+    (kept_tid _ s t _ (kept_purge_queues _ _ (kept_finish_all _ _ _ h)))
+
+kept_off_lists : (cs : List Class) (w : World) (s : ℕ) → Traits w → Traits (without_listings w s cs)
+unfolding without_listings with_rotation
+kept_off_lists [] w s h = h
+kept_off_lists (c ∷ cs) w s h = kept_off_lists cs _ s h
+
+kept_gone : (w : World) (s : ℕ) → Traits w → Traits (leave_outcome w s).world
+unfolding leave_outcome
+kept_gone w s h = put_station _ s None tt (kept_off_lists all_classes _ s (kept_left_tids (upto 8) w s h))
+
+kept_joined : (w : World) (s window start exponent weight : ℕ) → nat_lt greatest_exponent exponent ≡ false →
+    not (is_within 1 greatest_weight weight) ≡ false → Traits w →
+    Traits (join_outcome w s window start exponent weight).world
+unfolding join_outcome
+kept_joined w s window start exponent weight short some h =
+    let range = both (nat_le 1 weight) (nat_le weight 16) (not-false _ some) in
+    put_station w s _ (record {
+      weight = (le_yes 1 weight range.0, le_yes weight 16 range.1);
+      rate =
+          record { mcs = omega arith; mhz = inl refl };
+      exponent = lt_no 3 exponent short;
+      credit = tt;
+    }) h
+
+rate_in_range : (mcs mhz : ℕ) (short : Bool) →
+    (nat_lt greatest_mcs mcs || not ((mhz == 20) || (mhz == 40))) ≡ false →
+    IsRate (record { mcs = mcs; mhz = mhz; short = short })
+rate_in_range mcs mhz short h =
+    let parts = or_parts (nat_lt greatest_mcs mcs) (not ((mhz == 20) || (mhz == 40))) h in
+    record {
+      mcs = lt_no 15 mcs parts.0;
+      mhz = elim (either (mhz == 20) (mhz == 40) (not-false _ parts.1)) [
+        | inl e ↦
+            inl (eq_yes mhz 20 e)
+        | inr e ↦ inr (eq_yes mhz 40 e)
+      ];
+    }
+
+any_credit : (o : Option Class) → IfSome o (λ _. true ≡ true)
+any_credit None = tt
+any_credit (Some c) = refl
+
+kept_credited : (w : World) (s : ℕ) → not (station w s).asleep ≡ false → Traits w →
+    Traits (poll_outcome w s).world
+unfolding poll_outcome
+kept_credited w s sleeps h = set_station w s _ (λ x e k.
+    let asleep : x.asleep ≡ true = ap (λ (o : Option Station). (unwrap_or o no_station).asleep) (sym e)
+    ∙ not-false _ sleeps in
+    record { weight = k.weight; rate = k.rate; exponent = k.exponent; credit = asleep }) h
+
+-- ---- the step
+
+kept_done : (note : Note) (w : World) → NoRow (refusals w note) → Traits w → Traits (outcome_of w note).world
+unfolding outcome_of tick_outcome rate_outcome sleep_outcome wake_outcome rx_outcome
+kept_done (Enqueue s t flow len) w e h = kept_enqueued w s t flow len h
+kept_done (Asked (Join s window start exponent weight)) w e h =
+    kept_joined w s window start exponent weight e.1.1.1.0 e.1.1.1.1.0 h
+kept_done (Asked (Leave s)) w e h = kept_gone w s h
+kept_done (Asked (Rate s mcs mhz short)) w e h =
+    set_station w s _ (λ x _ k. record {
+      weight = k.weight;
+      rate = rate_in_range mcs mhz short e.1.0;
+      exponent = k.exponent;
+      credit = k.credit;
+    }) h
+kept_done (Asked (Tick by)) w e h = h
+kept_done (Asked (Pull c)) w e h = kept_pulled w c h
+kept_done (Asked (Arrive x n)) w e h = kept_open (exchange w x) w _ (λ y. kept_arrived w y n h) h
+kept_done (Asked (Answer x)) w e h = kept_open (exchange w x) w _ (λ y. kept_answered w y h) h
+kept_done (Asked (Done x heard)) w e h = kept_open (exchange w x) w _ (λ y. kept_ended w y heard h) h
+kept_done (Asked (Sleep s)) w e h = set_station w s _
+    (λ x _ k. record {
+      weight = k.weight;
+      rate = k.rate;
+      exponent = k.exponent;
+      credit =
+          any_credit x.credit;
+    }) h
+kept_done (Asked (Wake s)) w e h = set_station w s _
+    (λ x _ k. record { weight = k.weight; rate = k.rate; exponent = k.exponent; credit = tt }) h
+kept_done (Asked (Poll s)) w e h = kept_credited w s e.1.1.0 h
+kept_done (Asked (Rx s c air)) w e h = kept_share w s c _ h
+kept_done (Asked Reap) w e h = kept_reaped w.finished w h
+
+kept_refused : (note : Note) (r : Refusal) (w : World) → Traits w → Traits (after_refusal w note r)
+unfolding after_refusal
+kept_refused (Asked (Pull c)) Idle w h = kept_after_pick w c h
+kept_refused _ _ w h = h
+
+kept_listed_in_all : (cs : List Class) (w : World) (s : ℕ) → Traits w → Traits (with_listings_in w s cs)
+unfolding with_listings_in with_listing_in with_rotation
+kept_listed_in_all [] w s h = h
+kept_listed_in_all (c ∷ cs) w s h = kept_listed_in_all cs _ s (kept_if _ _ w h h)
+
+kept_listed : (o : Option ℕ) (w : World) → Traits w → Traits (with_listings_of w o)
+unfolding with_listings_of
+kept_listed None w h = h
+kept_listed (Some s) w h = kept_listed_in_all all_classes w s h
+
+kept_answer : (r : Option Refusal) (w : World) (note : Note) → refusal w note ≡ r → Traits w →
+    Traits (judged_outcome w note r).world
+unfolding judged_outcome
+kept_answer (Some r) w note e h = kept_refused note r w h
+kept_answer None w note e h = kept_listed (concerned_station w note) (outcome_of w note).world
+    (kept_done note w (no_row (refusals w note) e) h)
+
+kept_step : (w : World) (note : Note) → Traits w → Traits (step w note).world
+unfolding step
+kept_step w note h = kept_answer (refusal w note) w note refl h
+
+kept_run : (h : List Entry) (w : World) → Traits w → Traits (world_after w h)
+unfolding world_after
+kept_run [] w k = k
+kept_run (e ∷ es) w k = kept_run es _ (kept_step w e.1 k)
+
+-- the traits of a station that is live
+pub record HasTraits (x : Station) : Type 0 where
+  pub weight : (1 ≤ x.weight) × (x.weight ≤ 16)
+  pub rate : IsRate x.rate
+  pub exponent : x.exponent ≤ 3
+  pub credit : IfSome x.credit (λ _. x.asleep ≡ true)
+
+pub has_traits : (config : Config) (h : List Entry) (s : ℕ) →
+    IfSome (at None (world_after (opening config) h).stations s) HasTraits
+has_traits config h s = go (at None (world_after (opening config) h).stations s)
+    (kept_run h (opening config) (λ s. tt) s)
+  where
+    go : (o : Option Station) → IfSome o (λ x. IsTrait (trait x)) → IfSome o HasTraits
+    go None k = tt
+    go (Some x) k = record { weight = k.weight; rate = k.rate; exponent = k.exponent; credit = k.credit }

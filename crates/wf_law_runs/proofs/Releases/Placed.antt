@@ -1,0 +1,926 @@
+-- Each frame stands in one place, and is passed up at most once.
+use Rattle.std.proofs.Common.{◌≡◌, ◌≢◌, refl, ap, sym, ◌∙◌, subst, arith, ℕ, zero, suc, ◌+◌, ◌-◌, ◌<◌, ◌≤◌, nat_lt, append-nil, Bool, true, false, if◌then◌else◌, not, ◌&&◌, ◌==◌, ◌||◌, ◌⊎◌, inl, inr, List, [], ◌∷◌, ◌++◌, length, filter, nat_le, Option, Some, None, IfSome, length-append}
+use Rattle.wf_frame.specs.declared.settings.Config.{Config}
+use Rattle.wf_frame.specs.declared.classes.Class.{Class}
+use Rattle.wf_frame.specs.declared.classes.Fate.{Fate}
+use Rattle.wf_def_lists.specs.Table.{at, has, with_member, upto}
+use Rattle.wf_def_codel.specs.Codel.{Item}
+use Rattle.wf_def_agreement.specs.Receiver.{Receiver, with_arrived, with_start, release_start, greatest, released_between}
+use Rattle.wf_def_agreement.specs.Session.{request_due, Session, Slot, State, is_settled, is_failed, slot_after_miss, slot, on_slot, with_number_given, after_miss, next_number, no_slot}
+use Rattle.wf_def_world.specs.World.{receiver, World, Station, Tid, Exchange, Mpdu, Content, Frames, Request, new_tid, no_tid, rotation, session, is_live, exchange, with_station, on_station, on_tid, on_session, on_receiver, on_queue, with_frame_finished, with_exchange, without_exchange, opening, new_queue, queue, accepted_count}
+use Rattle.wf_frame.specs.Classes.{all_classes}
+use Rattle.wf_def_world.specs.FlowQueues.{after_limit, with_appended, after_put_in, taken_for_tid, queue_for}
+use Rattle.wf_def_world.specs.CanSend.{is_ready, can_give}
+use Rattle.wf_def_world.specs.Exchanges.{is_acked, transmissions, no_mpdu, station_need, most_frames, picked_station, after_arrival, sending_tid, with_heard_start, Prepared, mpdus_of, after_pick, after_tid_turn, with_fresh, aggregate_of, with_number, with_flying, waiting_mpdus, longest_fitting, prepared_data, prepared_exchange, with_exchange_opened, after_charge, with_failed_finished, with_settled, with_all_settled, after_done, ids_of, Aggregate}
+use Rattle.wf_frame.specs.declared.notes.Ask.TheVariants.{Join, Leave, Rate, Tick, Pull, Arrive, Answer, Done, Sleep, Wake, Poll, Rx, Reap}
+use Rattle.wf_frame.specs.declared.notes.Note.{Note}
+use Rattle.wf_frame.specs.declared.notes.Note.TheVariants.{Enqueue, Asked}
+use Rattle.wf_frame.specs.declared.notes.Refusal.{Refusal}
+use Rattle.wf_frame.specs.declared.notes.Refusal.TheVariants.{Idle}
+use Rattle.wf_def_world.specs.Refusals.{refusals, refusal}
+use Rattle.wf_def_world.specs.Step.{Outcome, join_outcome, after_tid_left, after_tids_left, without_listings, leave_outcome, rate_outcome, tick_outcome, with_frame, enqueue_outcome, send_outcome, pull_outcome_for, pull_outcome, arrive_outcome, answer_outcome, done_outcome, outcome_where_open, sleep_outcome, wake_outcome, poll_outcome, rx_outcome, reap_outcome, outcome_of, after_refusal, judged_outcome, step, concerned_station}
+use Rattle.wf_def_world.specs.Run.{Entry, world_after}
+use Rattle.wf_law_rules.proofs.Lemmas.Joined.{has_append, once_append}
+use Rattle.wf_law_rules.proofs.Lemmas.Tables.{each_put}
+use Rattle.wf_law_runs.proofs.Sessions.Starts.{length-change, at_append}
+use Rattle.wf_law_runs.proofs.Sessions.Flights.{flown, next-give}
+use Rattle.wf_law_rules.proofs.Lemmas.Numbers.{Climbs, climbs_from, on_bool, on_if, lt_yes, lt_no, eq_yes, eq_no, yes_eq, not_eq, le_yes, either, both, and_true, or_left, or_right, has_old, climbs_with, climbs_at, greatest_least, greatest_has, greatest_within}
+use Rattle.wf_law_runs.proofs.Windows.Sides.{Side, side_of, side, sides_of, Same, each_side_on, then_same, same_on_station, same_on_share, same_finish, same_listed, same_after_pick, same_after_turn, same_spent, same_within_limit, same_put_in, same_take, same_charged}
+use Rattle.wf_law_runs.proofs.Windows.Agreement.{slot_give, IsAgreed, agreed_arrived}
+use Rattle.wf_law_runs.proofs.Windows.Opened.{FlyIn, some_along, pick_ready, left_true, eight, NoRow, no_row}
+use Rattle.wf_frame.specs.declared.notes.ReplyNote.TheVariants.{Released, Refused}
+use Rattle.wf_frame.specs.declared.classes.Fate.TheVariants.{Held}
+use Rattle.wf_law_runs.proofs.Releases.Passing.{release_rises}
+use Rattle.wf_def_lists.specs.Lists.{IsOnce}
+use Rattle.wf_law_runs.specs.Releases.{named_by, named_from, OnceLaw}
+use Rattle.wf_law_runs.proofs.Releases.Kept.{KeptSession, kept_on_slot, kept_fly, kept_heard}
+use Rattle.wf_law_runs.proofs.Windows.Agreed.{IsLawful, IsOpenIn, IsReady, IsEnding, IsFound, found, ready_filled, ending_settled, ending_of, lawful_same, lawful_step, lawful_at_first, same_left_tids, same_off_lists, rises_at, if_on}
+use Rattle.wf_law_runs.proofs.Releases.Released.{side_taken, side_untaken, side_with_station, side_own_station, opened_in}
+use Rattle.wf_law_runs.proofs.Frames.Fewer.{Ordered, carries, fewer, Less, less, then_less, less_plain, less_on_station, less_on_tid, less_on_receiver, less_with_queues, less_on_share, less_with_rotation, less_finish, less_drop_all, less_listed, less_after_pick, less_after_turn, less_spent, less_within_limit, less_listed_queue, less_purge_queues, less_charged, less_take, IsTaken, given_take}
+
+pub data Place : Type 0 where
+  Queued : (queue : ℕ) → Place
+  Numbered : (station : ℕ) → (tid : ℕ) → (number : ℕ) → Place
+
+-- what is known of the id of a number: it is old, its place is that number, and it was passed up only if the
+-- number is below the release's start
+pub record IsLabel (home : ℕ → Place) (l : List ℕ) (c s t : ℕ) (a : Side) (n : ℕ) : Type 0 where
+  pub old : (slot a.session n).id < c
+  pub place : home (slot a.session n).id ≡ Numbered s t n
+  pub passed : has l (slot a.session n).id ≡ true → n < release_start a.receiver
+
+abbrev pub Labels : (ℕ → Place) → List ℕ → ℕ → ℕ → ℕ → Side → Type 0
+Labels home l c s t a = (n : ℕ) → a.session.first ≤ n → n < next_number a.session → IsLabel home l c s t a n
+
+pub record IsQueued (home : ℕ → Place) (l : List ℕ) (c q k : ℕ) : Type 0 where
+  pub old : k < c
+  pub place : home k ≡ Queued q
+  pub passed : has l k ≡ false
+
+-- l: the ids that were passed up so far
+pub record Placing (l : List ℕ) (w : World) : Type 0 where
+  pub home : ℕ → Place
+  pub ordered : (q : ℕ) → Ordered 0 (queue w q).items
+  pub queued : (q k : ℕ) → carries (queue w q).items k ≡ true → IsQueued home l (accepted_count w) q k
+  pub numbered : (s t : ℕ) → Labels home l (accepted_count w) s t (side w s t)
+  pub old : (k : ℕ) → has l k ≡ true → k < accepted_count w
+  pub once : IsOnce l
+
+-- any frames may be acknowledged
+abbrev pub Any : ℕ → Type 0
+Any k = Unit {0}
+
+labels_older : (home : ℕ → Place) (l : List ℕ) (c d s t : ℕ) (a : Side) → c ≤ d → Labels home l c s t a →
+    Labels home l d s t a
+labels_older home l c d s t a h k n from below = let i = k n from below in
+    record { old = omega (arith, i.old, h); place = i.place; passed = i.passed }
+
+-- fewer frames are queued, and the sides stay
+pub placed_less : (l : List ℕ) (w v : World) → Less Any w v → ((s t : ℕ) → side v s t ≡ side w s t) →
+    Placing l w → Placing l v
+placed_less l w v h d p = record {
+  home = p.home;
+  ordered = λ q. (h.queues q).ordered 0 (p.ordered q);
+  queued = λ q k e. let i = p.queued q k ((h.queues q).has k e) in
+      record { old = omega (arith, i.old, h.accepted); place = i.place; passed = i.passed };
+  numbered = λ s t. subst (Labels p.home l (accepted_count v) s t) (sym (d s t))
+      (labels_older p.home l (accepted_count w) (accepted_count v) s t (side w s t) h.accepted
+      (p.numbered s t));
+  old = λ k e. omega (arith, p.old k e, h.accepted);
+  once = p.once;
+}
+
+-- a session whose numbers keep their ids, and which has no other numbers
+pub placed_session : (l : List ℕ) (w : World) (s t : ℕ) (f : Session → Session) →
+    KeptSession (session w s t) (f (session w s t)) →
+    next_number (f (session w s t)) ≡ next_number (session w s t) → Placing l w →
+    Placing l (on_session w s t f)
+unfolding on_session
+placed_session l w s t f k e p =
+    let g : Tid → Tid = λ y. record y { session = f y.session } in
+    let h : Less Any w (on_tid w s t g) = less_on_tid Any w s t g in
+    record {
+      home = p.home;
+      ordered = λ q. (h.queues q).ordered 0 (p.ordered q);
+      queued = λ q i d. let j = p.queued q i ((h.queues q).has i d) in
+          record { old = omega (arith, j.old, h.accepted); place = j.place; passed = j.passed };
+      numbered = each_side_on (λ i j a. Labels p.home l (accepted_count (on_tid w s t g)) i j a) w s t g
+          (λ i j. labels_older p.home l (accepted_count w) _ i j (side w i j) h.accepted (p.numbered i j))
+          (λ n from below.
+          let low : (session w s t).first ≤ n = omega (arith, from, k.first) in
+          let high : n < next_number (session w s t) = omega (arith, below, e) in
+          let i = p.numbered s t n low high in
+          let d : (slot (f (session w s t)) n).id ≡ (slot (session w s t) n).id = k.ids n low high in
+          record {
+            old = omega (arith, i.old, h.accepted, d);
+            place = ap p.home d ∙ i.place;
+            passed =
+                λ q. i.passed (ap (has l) (sym d) ∙ q);
+          });
+      old = λ i d. omega (arith, p.old i d, h.accepted);
+      once = p.once;
+    }
+
+-- ---- a frame gets a number
+
+abbrev moved : (ℕ → Place) → ℕ → Place → ℕ → Place
+moved home id place k = if k == id then place else home k
+
+moved_same : (home : ℕ → Place) (id : ℕ) (place : Place) (k : ℕ) → k ≡ id → moved home id place k ≡ place
+moved_same home id place k e = ap (λ (b : Bool). if b then place else home k) (yes_eq k id e)
+
+moved_other : (home : ℕ → Place) (id : ℕ) (place : Place) (k : ℕ) → k ≢ id → moved home id place k ≡ home k
+moved_other home id place k e = ap (λ (b : Bool). if b then place else home k) (not_eq k id e)
+
+pub slot_new_id : (y : Session) (id n : ℕ) → n ≡ next_number y → (slot (with_number_given y id) n).id ≡ id
+slot_new_id y id n e =
+    let k : n - y.first ≡ length y.slots = omega (arith, e) in
+    ap (λ (i : ℕ). (at no_slot (with_number_given y id).slots i).id) k
+    ∙ ap (λ (x : Slot). x.id) (at_append y.slots _)
+
+placed_give : (l : List ℕ) (u v : World) (s t : ℕ) (x : Item) → Same u v → Less Any u v → IsTaken u v x →
+    Placing l u → Placing l (on_session v s t (λ y. with_number_given y x.id))
+unfolding on_session
+placed_give l u v s t x k h taken p =
+    let y : Session = session v s t in
+    let g : Tid → Tid = λ z. record z { session = with_number_given z.session x.id } in
+    let w : World = on_tid v s t g in
+    let m : Less Any u w = then_less Any u v w h (less_on_tid Any v s t g) in
+    let home : ℕ → Place = moved p.home x.id (Numbered s t (next_number y)) in
+    let own : IsQueued p.home l (accepted_count u) taken.place x.id = p.queued taken.place x.id taken.there in
+    let apart : (n i j : ℕ) → (id : ℕ) → p.home id ≡ Numbered i j n →
+    id ≢ x.id = λ n i j id e d. cc (e, ap p.home d, own.place) in
+    let stays : (i j : ℕ) (a : Side) → Labels p.home l (accepted_count u) i j a →
+    Labels home l (accepted_count w) i j a = λ i j a q n from below.
+    let b = q n from below in
+    record {
+      old = omega (arith, b.old, m.accepted);
+      place =
+          moved_other p.home x.id _ (slot a.session n).id (apart n i j _ b.place) ∙ b.place;
+      passed = b.passed;
+    }
+    in
+    record {
+      home = home;
+      ordered = λ q. (m.queues q).ordered 0 (p.ordered q);
+      queued = λ q i d.
+          let j : IsQueued p.home l (accepted_count u) q i = p.queued q i ((m.queues q).has i d) in
+          let ne : i ≢ x.id = λ e. (
+          let same_queue : q ≡ taken.place = cc (j.place, own.place, ap p.home e) in
+          let carried : carries (queue v q).items i ≡ true = ((less_on_tid Any v s t g).queues q).has i d in
+          let there : carries (queue v taken.place).items x.id ≡ true =
+          subst (λ (c : ℕ). carries (queue v taken.place).items c ≡ true) e
+          (subst (λ (c : ℕ). carries (queue v c).items i ≡ true) same_queue carried) in
+          cc (there, taken.gone p.ordered))
+          in
+          record {
+            old = omega (arith, j.old, m.accepted);
+            place = moved_other p.home x.id _ i ne ∙ j.place;
+            passed = j.passed;
+          };
+      numbered = each_side_on (λ i j a. Labels home l (accepted_count w) i j a) v s t g
+          (λ i j. stays i j (side v i j) (subst (Labels p.home l (accepted_count u) i j) (sym (k.sides i j))
+          (p.numbered i j)))
+          (λ n from below. on_bool (nat_lt n (next_number y))
+          (λ b.
+          let q : IsLabel p.home l (accepted_count u) s t (side v s t) n =
+          subst (Labels p.home l (accepted_count u) s t) (sym (k.sides s t)) (p.numbered s t) n from
+          (lt_yes n (next_number y) b) in
+          let d : (slot (with_number_given y x.id) n).id ≡ (slot y n).id =
+          ap (λ (z : Slot). z.id) (slot_give y x.id n from (lt_yes n (next_number y) b)) in
+          record {
+            old = omega (arith, q.old, m.accepted, d);
+            place =
+                ap home d ∙ moved_other p.home x.id _ (slot y n).id (apart n s t _ q.place) ∙ q.place;
+            passed =
+                λ z. q.passed (ap (has l) (sym d) ∙ z);
+          })
+          (λ b.
+          let here : n ≡ next_number y = omega (arith, next-give y x.id, below, lt_no n (next_number y) b) in
+          let d : (slot (with_number_given y x.id) n).id ≡ x.id = slot_new_id y x.id n here in
+          record {
+            old = omega (arith, own.old, m.accepted, d);
+            place =
+                moved_same p.home x.id _ _ d ∙ ap (Numbered s t) (sym here);
+            passed =
+                λ z. absurd (cc (z, own.passed));
+          }));
+      old = λ i d. omega (arith, p.old i d, m.accepted);
+      once = p.once;
+    }
+
+pub placed_number : (o : Option Item) (l : List ℕ) (u v : World) (s t : ℕ) → Same u v → Less Any u v →
+    IfSome o (IsTaken u v) → Placing l u → Placing l (with_number v s t o)
+unfolding with_number
+placed_number None l u v s t k h taken p = placed_less l u v h k.sides p
+placed_number (Some x) l u v s t k h taken p = placed_give l u v s t x k h taken p
+
+placed_filled_if : (b : Bool) (l : List ℕ) (x y : Aggregate) → Placing l x.world → Placing l y.world →
+    Placing l (if b then x else y).world
+placed_filled_if true l x y h k = h
+placed_filled_if false l x y h k = k
+
+placed_fresh : (n : ℕ) (l : List ℕ) (w : World) (s t : ℕ) (ms : List Mpdu) → Placing l w →
+    Placing l (with_fresh n w s t ms).world
+unfolding with_fresh
+placed_fresh zero l w s t ms p = p
+placed_fresh (suc n) l w s t ms p =
+    let taken = taken_for_tid w s t in
+    let numbered : Placing l (with_number taken.world s t taken.item) =
+    placed_number taken.item l w taken.world s t (same_take w s t) (less_take Any w s t)
+    (given_take w s t) p in
+    placed_filled_if (not (can_give w s t)) l _ _ p
+    (placed_filled_if _ l _ _ (placed_fresh n l _ s t _ numbered) numbered)
+
+placed_filled : (l : List ℕ) (w : World) (s t : ℕ) → Placing l w → Placing l (aggregate_of w s t).world
+unfolding aggregate_of
+placed_filled l w s t p =
+    let chosen : List Mpdu = longest_fitting w s (waiting_mpdus w s t) in
+    placed_filled_if (length chosen == length (waiting_mpdus w s t)) l
+    (with_fresh (most_frames w s - length chosen) w s t chosen) (record { world = w; mpdus = chosen })
+    (placed_fresh (most_frames w s - length chosen) l w s t chosen p) p
+
+-- ---- pulls
+
+pub placed_frames : (l : List ℕ) (s t : ℕ) (f : Aggregate) → IsReady s t f.world f.mpdus → Placing l f.world →
+    Placing l (prepared_data s t f).world
+unfolding prepared_data
+placed_frames l s t f r p =
+    let y : Session = session f.world s t in
+    placed_session l f.world s t (with_flying f.world.exchanges f.mpdus)
+    (kept_fly f.mpdus y f.world.exchanges)
+    (flown f.mpdus y f.world.exchanges (next_number y) y.first
+    (omega arith) r.chosen.rising r.chosen.waiting).next p
+
+placed_prepared_if : (b : Bool) (l : List ℕ) (x y : Prepared) → Placing l x.world →
+    (b ≡ false → Placing l y.world) → Placing l (if b then x else y).world
+placed_prepared_if true l x y h k = h
+placed_prepared_if false l x y h k = k refl
+
+placed_prepared : (l : List ℕ) (w : World) (s t : ℕ) → IsLawful w → is_live w s ≡ true → Placing l w →
+    Placing l (prepared_exchange w s t).world
+unfolding prepared_exchange
+placed_prepared l w s t i live p = placed_prepared_if (request_due (session w s t)) l _ _ p
+    (λ quiet. placed_frames l s t (aggregate_of w s t) (ready_filled w s t i live quiet)
+    (placed_filled l w s t p))
+
+placed_sent : (l : List ℕ) (s t : ℕ) (c : Class) (q : Prepared) → Placing l q.world →
+    Placing l (send_outcome s t c q).world
+unfolding send_outcome with_exchange_opened
+placed_sent l s t c q p = placed_less l _ _ (less_spent Any _ s) (same_spent _ s).sides
+    (placed_less l q.world _ (less_plain Any q.world _ refl refl) (λ i j. refl) p)
+
+placed_same : (l : List ℕ) (w v : World) → Same w v → Less Any w v → Placing l w → Placing l v
+placed_same l w v k h p = placed_less l w v h k.sides p
+
+placed_pulled_by : (o : Option ℕ) (l : List ℕ) (w : World) (c : Class) → IfSome o (λ s. is_live w s ≡ true) →
+    IsLawful w → Placing l w → Placing l (pull_outcome_for w c o).world
+unfolding pull_outcome_for
+placed_pulled_by None l w c live i p = p
+placed_pulled_by (Some s) l w c live i p =
+    let k : Same w (after_tid_turn w s c (sending_tid w s c)) = same_after_turn w s c (sending_tid w s c) in
+    placed_sent l s _ c _ (placed_prepared l _ s _ (lawful_same _ _ k i) (k.live s ∙ live)
+    (placed_same l w _ k (less_after_turn Any w s c _) p))
+
+pub placed_pulled : (l : List ℕ) (w : World) (c : Class) → IsLawful w → Placing l w →
+    Placing l (pull_outcome w c).world
+unfolding pull_outcome
+placed_pulled l w c i p =
+    let k : Same w (after_pick w c) = same_after_pick w c in
+    placed_pulled_by (picked_station w c).winner l (after_pick w c) c
+    (some_along (λ s. is_ready w c s ≡ true) (λ s. is_live (after_pick w c) s ≡ true)
+    (picked_station w c).winner (λ s h. k.live s ∙ left_true (is_live w s) _ h)
+    (pick_ready (station_need w c) (is_ready w c) (rotation w c))) (lawful_same _ _ k i)
+    (placed_same l w _ k (less_after_pick Any w c) p)
+
+-- ---- the end of an exchange
+
+unit_any : (k : ℕ) → Any k
+unit_any k = tt
+
+placed_slot : (l : List ℕ) (e s t : ℕ) (acked : ℕ → Bool) (w : World) (m : Mpdu) (ms : List Mpdu)
+    (f : Slot → Slot) → ((x : Slot) → (f x).id ≡ x.id) → IsEnding e s t acked w (m ∷ ms) → Placing l w →
+    Placing l (on_session w s t (on_slot m.number f))
+placed_slot l e s t acked w m ms f h n p =
+    let y : Session = session w s t in
+    let unsettled : is_settled (slot y m.number).state ≡ false = ap is_settled n.flies.flying.0 in
+    placed_session l w s t (on_slot m.number f) (kept_on_slot y m.number f h)
+    (ap (λ (k : ℕ). y.first + k) (length-change y.slots (m.number - y.first) f unsettled)) p
+
+placed_if : (b : Bool) (l : List ℕ) (w v : World) → Placing l w → Placing l v → Placing l (if b then w else v)
+placed_if true l w v h k = h
+placed_if false l w v h k = k
+
+placed_finish : (l : List ℕ) (w : World) (fate : Fate) (id : ℕ) → Placing l w →
+    Placing l (with_frame_finished w fate id)
+placed_finish l w fate id p = placed_same l w _ (same_finish w fate id)
+    (less_finish Any w fate id (λ _. tt)) p
+
+pub placed_settled : (b : Bool) (l : List ℕ) (e s t : ℕ) (acked : ℕ → Bool) (w : World) (m : Mpdu)
+    (ms : List Mpdu) → IsEnding e s t acked w (m ∷ ms) → Placing l w → Placing l (with_settled w s t b m)
+unfolding with_settled with_failed_finished
+placed_settled true l e s t acked w m ms n p =
+    placed_finish l _ _ _ (placed_slot l e s t acked w m ms (λ x. record x { state = State.Acked })
+    (λ x. refl) n p)
+placed_settled false l e s t acked w m ms n p =
+    let v : World = on_session w s t (after_miss w.config.attempts m.number) in
+    let k : Placing l v = placed_slot l e s t acked w m ms (slot_after_miss w.config.attempts)
+    (λ x. refl) n p in
+    placed_if (is_failed (slot (session v s t) m.number).state) l _ v (placed_finish l v _ _ k) k
+
+placed_all : (ms : List Mpdu) (l : List ℕ) (e s t : ℕ) (acked : ℕ → Bool) (w : World) →
+    IsEnding e s t acked w ms → Placing l w → Placing l (with_all_settled w s t acked ms)
+unfolding with_all_settled
+placed_all [] l e s t acked w n p = p
+placed_all (m ∷ ms) l e s t acked w n p = placed_all ms l e s t acked _
+    (ending_settled (acked m.number) e s t acked w m ms refl n)
+    (placed_settled (acked m.number) l e s t acked w m ms n p)
+
+pub next-heard : (b : Bool) (f : ℕ) (y : Session) → next_number (with_heard_start b f y) ≡ next_number y
+next-heard true f y = refl
+next-heard false f y = refl
+
+pub placed_without : (l : List ℕ) (w : World) (e : ℕ) → Placing l w → Placing l (without_exchange w e)
+unfolding without_exchange
+placed_without l w e p = placed_less l w _ (less_plain Any w _ refl refl) (λ s t. refl) p
+
+pub placed_after : (c : Content) (l : List ℕ) (w : World) (i : IsLawful w) (x : Exchange) (heard : Bool) →
+    x.content ≡ c → IsFound w i x → Placing l (after_charge (without_exchange w x.number) x) →
+    Placing l (after_done (after_charge (without_exchange w x.number) x) x heard c)
+unfolding after_done
+placed_after (Frames ms) l w i x heard e f p =
+    placed_all ms l x.number x.station x.tid (is_acked heard x.answer) _ (ending_of w i x ms heard e f) p
+placed_after (Request g) l w i x heard e f p =
+    placed_session l _ x.station x.tid (with_heard_start heard g) (kept_heard heard g _)
+    (next-heard heard g _) p
+
+pub placed_ended : (l : List ℕ) (w : World) (i : IsLawful w) (x : Exchange) (heard : Bool) → IsFound w i x →
+    Placing l w → Placing l (done_outcome w x heard).world
+unfolding done_outcome
+placed_ended l w i x heard f p = placed_after x.content l w i x heard refl f
+    (placed_same l _ _ (same_charged _ x) (less_charged Any _ x) (placed_without l w x.number p))
+
+-- ---- arrivals
+
+pub record IsIdOf (y : Session) (ns : List ℕ) (k : ℕ) : Type 0 where
+  pub number : ℕ
+  pub among : has ns number ≡ true
+  pub id : (slot y number).id ≡ k
+
+pub has_ids : (ns : List ℕ) (y : Session) (k : ℕ) → has (ids_of y ns) k ≡ true → IsIdOf y ns k
+has_ids [] y k h = absurd (cc h)
+has_ids (n ∷ ns) y k h = elim (either ((slot y n).id == k) (has (ids_of y ns) k) h) [
+  | inl e ↦ record { number = n; among = or_left (n == n) (has ns n) (yes_eq n n refl); id = eq_yes _ _ e }
+  | inr e ↦ (let i = has_ids ns y k e in record {
+    number = i.number;
+    among =
+        or_right (n == i.number) (has ns i.number) i.among;
+    id = i.id;
+  })
+]
+
+-- ids of rising numbers, each at its place
+pub once_ids : (ns : List ℕ) (lo : ℕ) (y : Session) (home : ℕ → Place) (s t : ℕ) → Climbs lo ns →
+    ((n : ℕ) → has ns n ≡ true → home (slot y n).id ≡ Numbered s t n) → IsOnce (ids_of y ns)
+once_ids [] lo y home s t c h = tt
+once_ids (n ∷ ns) lo y home s t c h = (
+  on_bool (has (ids_of y ns) (slot y n).id) (λ e.
+      let i : IsIdOf y ns (slot y n).id = has_ids ns y (slot y n).id e in
+      let there : home (slot y i.number).id ≡ Numbered s t i.number =
+      h i.number (or_right (n == i.number) (has ns i.number) i.among) in
+      let here : home (slot y n).id ≡ Numbered s t n = h n (or_left (n == n) (has ns n) (yes_eq n n refl)) in
+      let same_number : i.number ≡ n = cc (there, here, ap home i.id) in
+      absurd (omega (arith, same_number, climbs_at ns (suc n) i.number c.1 i.among))) (λ e. e),
+  once_ids ns (suc n) y home s t c.1 (λ m e. h m (or_right (n == m) (has ns m) e)),
+)
+
+pub climbs_filter : (p : ℕ → Bool) (xs : List ℕ) (lo : ℕ) → Climbs lo xs → Climbs lo (filter p xs)
+climbs_filter p [] lo c = tt
+climbs_filter p (x ∷ xs) lo c = on_if (Climbs lo) (p x) (x ∷ filter p xs) (filter p xs)
+    (λ _. (c.0, climbs_filter p xs (suc x) c.1))
+    (λ _. climbs_from (suc x) lo (filter p xs) (omega (arith, c.0)) (climbs_filter p xs (suc x) c.1))
+
+filter_has : (p : ℕ → Bool) (xs : List ℕ) (n : ℕ) → has (filter p xs) n ≡ true → (has xs n ≡ true) ×
+    (p n ≡ true)
+filter_has p [] n h = absurd (cc h)
+filter_has p (x ∷ xs) n h = on_if (λ (ys : List ℕ). has ys n ≡ true → (((x == n) || has xs n) ≡ true) ×
+    (p n ≡ true)) (p x) (x ∷ filter p xs) (filter p xs)
+    (λ yes_x e. elim (either (x == n) (has (filter p xs) n) e) [
+      | inl d ↦ (or_left (x == n) (has xs n) d, ap p (sym (eq_yes x n d)) ∙ yes_x)
+      | inr d ↦ (let q = filter_has p xs n d in (or_right (x == n) (has xs n) q.0, q.1))
+    ])
+    (λ _ e. let q = filter_has p xs n e in (or_right (x == n) (has xs n) q.0, q.1)) h
+
+-- what a receiver passes up when it becomes q
+record Grows (y : Session) (r q : Receiver) : Type 0 where
+  rising : Climbs 0 q.arrived
+  within : (n : ℕ) → has q.arrived n ≡ true → (y.first ≤ n) × (n < next_number y)
+  rises : release_start r ≤ release_start q
+
+passes_more : (l : List ℕ) (w v : World) (s t : ℕ) (q : Receiver) → Less Any w v →
+    ((i j : ℕ) → (i ≡ s → j ≡ t → ⊥) → side v i j ≡ side w i j) →
+    side v s t ≡ record { session = session w s t; receiver = q } → Grows (session w s t) (receiver w s t) q →
+    Placing l w
+    → Placing (l ++ ids_of (session w s t) (released_between (receiver w s t) q)) v
+passes_more l w v s t q h apart own g p =
+    let y : Session = session w s t in
+    let r : Receiver = receiver w s t in
+    let ns : List ℕ = released_between r q in
+    let among : (n : ℕ) → has ns n ≡ true → (y.first ≤ n) × (n < next_number y) × (release_start r ≤ n) ×
+    (n < release_start q) = λ n e.
+    let f = filter_has (λ n. nat_le (release_start r) n && nat_lt n (release_start q)) q.arrived n e in
+    let b = both (nat_le (release_start r) n) (nat_lt n (release_start q)) f.1 in
+    let k = g.within n f.0 in
+    (k.0, k.1, le_yes _ _ b.0, lt_yes _ _ b.1)
+    in
+    let label : (n : ℕ) → has ns n ≡ true → IsLabel p.home l (accepted_count w) s t (side w s t) n =
+    λ n e. p.numbered s t n (among n e).0 (among n e).1 in
+    let fresh : (k : ℕ) → has (ids_of y ns) k ≡ true → has l k ≡ false = λ k e.
+    let i : IsIdOf y ns k = has_ids ns y k e in
+    on_bool (has l k) (λ d. absurd (let low : release_start r ≤ i.number = (among i.number i.among).2 in
+    omega (arith, low, (label i.number i.among).passed (ap (has l) i.id ∙ d)))) (λ d. d)
+    in
+    let was : (k : ℕ) → has (l ++ ids_of y ns) k ≡ true → (has l k ≡ true) ⊎
+    (has (ids_of y ns) k ≡ true) = λ k e. either (has l k) (has (ids_of y ns) k)
+    (sym (has_append l (ids_of y ns) k) ∙ e) in
+    -- of a number of any TID: where its id is named now, it is this one
+    let labels : (i j : ℕ) (a : Side) → a.session ≡ session w i j →
+    ((n : ℕ) → (n < release_start (receiver w i j)) ⊎ ((i ≡ s) × (j ≡ t) × (has ns n ≡ true)) →
+    n < release_start a.receiver) → Labels p.home (l ++ ids_of y ns) (accepted_count v) i j a =
+    λ i j a same_session below n from to.
+    let e : (slot a.session n).id ≡ (slot (session w i j) n).id =
+    ap (λ (z : Session). (slot z n).id) same_session in
+    let b : IsLabel p.home l (accepted_count w) i j (side w i j) n =
+    p.numbered i j n (omega (arith, from, ap (λ (z : Session). z.first) same_session))
+    (omega (arith, to, ap next_number same_session)) in
+    record {
+      old = omega (arith, b.old, h.accepted, e);
+      place = ap p.home e ∙ b.place;
+      passed = λ d. below n (elim (was (slot (session w i j) n).id
+          (ap (has (l ++ ids_of y ns)) (sym e) ∙ d)) [
+            | inl old ↦ inl (b.passed old)
+            | inr new ↦ (
+                let k : IsIdOf y ns (slot (session w i j) n).id = has_ids ns y (slot (session w i j) n).id new in
+                let there : p.home (slot y k.number).id ≡ Numbered s t k.number =
+                (label k.number k.among).place in
+                let is_i : i ≡ s = cc (there, b.place, ap p.home k.id) in
+                let is_j : j ≡ t = cc (there, b.place, ap p.home k.id) in
+                let is_n : k.number ≡ n = cc (there, b.place, ap p.home k.id) in
+                inr (is_i, is_j, ap (has ns) (sym is_n) ∙ k.among))
+          ]);
+    }
+    in
+    record {
+      home = p.home;
+      ordered = λ c. (h.queues c).ordered 0 (p.ordered c);
+      queued = λ c k e.
+          let i : IsQueued p.home l (accepted_count w) c k = p.queued c k ((h.queues c).has k e) in
+          record {
+            old = omega (arith, i.old, h.accepted);
+            place = i.place;
+            passed = has_append l (ids_of y ns) k ∙ ap (λ (b : Bool). b || has (ids_of y ns) k) i.passed
+                ∙ on_bool (has (ids_of y ns) k) (λ d.
+                let j : IsIdOf y ns k = has_ids ns y k d in
+                absurd (cc ((label j.number j.among).place, i.place, ap p.home j.id))) (λ d. d);
+          };
+      numbered = λ i j. on_bool ((i == s) && (j == t))
+          (λ here.
+          let b = both (i == s) (j == t) here in
+          let es : s ≡ i = sym (eq_yes i s b.0) in
+          let et : t ≡ j = sym (eq_yes j t b.1) in
+          subst (λ (a : ℕ). Labels p.home (l ++ ids_of y ns) (accepted_count v) a j (side v a j)) es
+          (subst (λ (c : ℕ). Labels p.home (l ++ ids_of y ns) (accepted_count v) s c (side v s c)) et
+          (subst (Labels p.home (l ++ ids_of y ns) (accepted_count v) s t) (sym own)
+          (labels s t (record { session = y; receiver = q }) refl
+          (λ n d. elim d [ inl old ↦ omega (arith, old, g.rises) | inr new ↦ (among n new.2).3 ])))))
+          (λ other.
+          let not_here : i ≡ s → j ≡ t → ⊥ = λ es et. cc
+          (other, and_true (i == s) (j == t) (yes_eq i s es) (yes_eq j t et)) in
+          subst (Labels p.home (l ++ ids_of y ns) (accepted_count v) i j) (sym (apart i j not_here))
+          (labels i j (side w i j) refl (λ n d. elim
+          d [ inl old ↦ old | inr new ↦ absurd (not_here new.0 new.1) ])));
+      old = λ k e. elim (was k e) [
+        | inl old ↦ omega (arith, p.old k old, h.accepted)
+        | inr new ↦ (let i : IsIdOf y ns k = has_ids ns y k new in
+            omega (arith, (label i.number i.among).old, i.id, h.accepted))
+      ];
+      once = once_append l (ids_of y ns) p.once (once_ids ns 0 y p.home s t
+          (climbs_filter _ q.arrived 0 g.rising) (λ n e. (label n e).place)) fresh;
+    }
+
+grows_arrived : (y : Session) (r : Receiver) (m : ℕ) → IsAgreed y r → y.first ≤ m → m < next_number y →
+    Grows y r (with_arrived m r)
+grows_arrived y r m a l b =
+    let c : Climbs 0 (with_arrived m r).arrived = climbs_with r.arrived 0 m (omega arith) a.rising in
+    record {
+      rising = c;
+      within = (agreed_arrived y r m l b a).arrived;
+      rises = release_rises r (with_arrived m r) (omega arith) c (λ n h. has_old r.arrived m n h);
+    }
+
+grows_start : (y : Session) (r : Receiver) (f : ℕ) → IsAgreed y r → Grows y r (with_start f r)
+grows_start y r f a = record {
+  rising = a.rising;
+  within = a.arrived;
+  rises = release_rises r (with_start f r) (greatest_within r.starts r.first
+      (greatest (with_start f r).first (with_start f r).starts)
+      (greatest_least (with_start f r).starts r.first)
+      (λ k h. greatest_has (with_start f r).starts r.first k (has_old r.starts f k h))) a.rising (λ n h. h);
+}
+
+grows_after : (c : Content) (w : World) (i : IsLawful w) (x : Exchange) (n : ℕ) → x.content ≡ c →
+    IsOpenIn w x → n < transmissions c → Grows (session w x.station x.tid) (receiver w x.station x.tid)
+    (after_arrival c n (receiver w x.station x.tid))
+grows_after (Frames ms) w i x n e o l =
+    let y : Session = session w x.station x.tid in
+    let flies : FlyIn x.number ms y = subst (λ (c : Content). FlyIn x.number (mpdus_of c) y) e o.opened.flies
+    in
+    let p = rises_at y.first (next_number y) ms n l flies.rising in
+    grows_arrived y (receiver w x.station x.tid) (at no_mpdu ms n).number (i.agreed x.station x.tid) p.0 p.1
+grows_after (Request f) w i x n e o l = grows_start (session w x.station x.tid) (receiver w x.station x.tid) f
+    (i.agreed x.station x.tid)
+
+less_taken : (w : World) (x z : Exchange) (g : Receiver → Receiver) →
+    Less Any w (with_exchange (on_receiver w x.station x.tid g) z)
+unfolding with_exchange
+less_taken w x z g = then_less Any w _ _ (less_on_receiver Any w x.station x.tid g)
+    (less_plain Any _ _ refl refl)
+
+placed_arrived : (l : List ℕ) (w : World) (i : IsLawful w) (x : Exchange) (n : ℕ) → IsOpenIn w x →
+    nat_le (transmissions x.content) n ≡ false → Placing l w →
+    Placing (l ++ named_by (arrive_outcome w x n).reply) (arrive_outcome w x n).world
+unfolding arrive_outcome
+placed_arrived l w i x n o few p =
+    let g : Receiver → Receiver = after_arrival x.content n in
+    let z : Exchange = record x { arrived = with_member n x.arrived } in
+    passes_more l w (with_exchange (on_receiver w x.station x.tid g) z) x.station x.tid
+    (g (receiver w x.station x.tid)) (less_taken w x z g) (side_untaken w x z g)
+    (side_taken w x z g o.live) (grows_after x.content w i x n refl o (not_le _ _ few)) p
+  where
+    not_le : (a b : ℕ) → nat_le a b ≡ false → b < a
+    not_le a b e = grind arith
+
+-- nothing is named
+placed_plain : (l : List ℕ) (o : Outcome) → named_by o.reply ≡ [] → Placing l o.world →
+    Placing (l ++ named_by o.reply) o.world
+placed_plain l o e p = subst (λ (k : List ℕ). Placing k o.world)
+    (sym (ap (λ (ids : List ℕ). l ++ ids) e ∙ append-nil l)) p
+
+placed_arrive : (o : Option Exchange) (l : List ℕ) (w : World) (i : IsLawful w) (n : ℕ) →
+    IfSome o (IsOpenIn w) → IfSome o (λ x. nat_le (transmissions x.content) n ≡ false) → Placing l w →
+    Placing (l ++ named_by (outcome_where_open w o (λ x. arrive_outcome w x n)).reply)
+    (outcome_where_open w o (λ x. arrive_outcome w x n)).world
+unfolding outcome_where_open
+placed_arrive None l w i n f few p = placed_plain l (record { world = w; reply = Released [] }) refl p
+placed_arrive (Some x) l w i n f few p = placed_arrived l w i x n f few p
+
+-- ---- joining and leaving
+
+pub less_with_station : (w : World) (s : ℕ) (o : Option Station) → Less Any w (with_station w s o)
+unfolding with_station
+less_with_station w s o = less_plain Any w _ refl refl
+
+abbrev IsBare : Side → Type 0
+IsBare a = next_number a.session ≡ a.session.first
+
+placed_station : (l : List ℕ) (w : World) (i : ℕ) (o : Option Station) → ((t : ℕ) → IsBare (sides_of o t)) →
+    Placing l w → Placing l (with_station w i o)
+placed_station l w i o bare p =
+    let v : World = with_station w i o in
+    let h : Less Any w v = less_with_station w i o in
+    record {
+      home = p.home;
+      ordered = λ q. (h.queues q).ordered 0 (p.ordered q);
+      queued = λ q k e. let j = p.queued q k ((h.queues q).has k e) in
+          record { old = omega (arith, j.old, h.accepted); place = j.place; passed = j.passed };
+      numbered = λ s t. on_bool (i == s)
+          (λ own. subst (λ (a : ℕ). Labels p.home l (accepted_count v) a t (side v a t)) (eq_yes i s own)
+          (subst (Labels p.home l (accepted_count v) i t) (sym (side_own_station w i t o))
+          (λ n from below. absurd (omega (arith, from, below, bare t)))))
+          (λ other. subst (Labels p.home l (accepted_count v) s t)
+          (sym (side_with_station w i s t o (eq_no i s other)))
+          (labels_older p.home l (accepted_count w) (accepted_count v) s t (side w s t) h.accepted
+          (p.numbered s t)));
+      old = λ k e. omega (arith, p.old k e, h.accepted);
+      once = p.once;
+    }
+
+new_bare : (first size : ℕ) → IsBare (side_of (new_tid first size))
+new_bare first size = omega arith
+
+pub placed_joined : (l : List ℕ) (w : World) (s window start exponent weight : ℕ) → Placing l w →
+    Placing l (join_outcome w s window start exponent weight).world
+unfolding join_outcome
+placed_joined l w s window start exponent weight p =
+    placed_station l w s _ (eight (λ y. IsBare (side_of y)) (new_tid start window) (new_bare start window)
+    (new_bare 0 0)) p
+
+pub less_left_tids : (ts : List ℕ) (w : World) (s : ℕ) → Less Any w (after_tids_left w s ts)
+unfolding after_tids_left after_tid_left
+less_left_tids [] w s = less Any w
+less_left_tids (t ∷ ts) w s = then_less Any _ _ _
+    (then_less Any _ _ _ (then_less Any _ _ _ (less_drop_all Any _ w _ (λ h. cc h))
+    (less_purge_queues Any _ _)) (less_with_queues Any _ s t _)) (less_left_tids ts _ s)
+
+pub less_off_lists : (cs : List Class) (w : World) (s : ℕ) → Less Any w (without_listings w s cs)
+unfolding without_listings
+less_off_lists [] w s = less Any w
+less_off_lists (c ∷ cs) w s = then_less Any _ _ _ (less_with_rotation Any w c _) (less_off_lists cs _ s)
+
+pub placed_gone : (l : List ℕ) (w : World) (s : ℕ) → Placing l w → Placing l (leave_outcome w s).world
+unfolding leave_outcome
+placed_gone l w s p =
+    placed_station l _ s None (λ t. new_bare 0 0)
+    (placed_same l w _ (then_same _ _ _ (same_left_tids (upto 8) w s) (same_off_lists all_classes _ s))
+    (then_less Any _ _ _ (less_left_tids (upto 8) w s) (less_off_lists all_classes _ s)) p)
+
+-- ---- a frame is queued
+
+ordered_append : (xs : List Item) (x : Item) (lo : ℕ) → Ordered lo xs → lo ≤ x.id →
+    ((k : ℕ) → carries xs k ≡ true → k < x.id) → Ordered lo (xs ++ x ∷ [])
+ordered_append [] x lo o h f = (h, tt)
+ordered_append (y ∷ xs) x lo o h f =
+    let first_old : y.id < x.id = f y.id (or_left (y.id == y.id) (carries xs y.id) (yes_eq y.id y.id refl)) in (
+      o.0,
+      ordered_append xs x (suc y.id) o.1 (omega arith)
+          (λ k e. f k (or_right (y.id == k) (carries xs k) e)),
+    )
+
+carries_append : (xs : List Item) (x : Item) (k : ℕ) → carries (xs ++ x ∷ []) k ≡ true →
+    (carries xs k ≡ true) ⊎ (k ≡ x.id)
+carries_append [] x k h = elim (either (x.id == k) false h) [
+  | inl e ↦ inr (sym (eq_yes x.id k e))
+  | inr e ↦
+      absurd (cc e)
+]
+carries_append (y ∷ xs) x k h = elim (either (y.id == k) (carries (xs ++ x ∷ []) k) h) [
+  | inl e ↦ inl (or_left (y.id == k) (carries xs k) e)
+  | inr e ↦ elim (carries_append xs x k e) [
+    | inl d ↦ inl (or_right (y.id == k) (carries xs k) d)
+    | inr d ↦
+        inr d
+  ]
+]
+
+-- of a frame in the queue q' after x went into q: it was in q' before, or it is x in q
+pub queue_appended : (u : World) (q : ℕ) (x : Item) (c k : ℕ) →
+    carries (queue (with_appended u q x) c).items k ≡ true → (carries (queue u c).items k ≡ true) ⊎
+    ((c ≡ q) × (k ≡ x.id))
+unfolding with_appended on_queue
+queue_appended u q x c k = each_put (λ i y. i ≡ c → carries y.items k ≡ true →
+    (carries (queue u c).items k ≡ true) ⊎ ((c ≡ q) × (k ≡ x.id))) new_queue u.queues q _
+    (λ i e h. inl (subst (λ (j : ℕ). carries (queue u j).items k ≡ true) e h))
+    (λ e h. elim (carries_append (queue u q).items x k h) [
+      | inl d ↦
+          inl (subst (λ (j : ℕ). carries (queue u j).items k ≡ true) e d)
+      | inr d ↦ inr (sym e, d)
+    ]) c refl
+
+ordered_appended : (u : World) (q : ℕ) (x : Item) → ((c : ℕ) → Ordered 0 (queue u c).items) →
+    ((c k : ℕ) → carries (queue u c).items k ≡ true → k < x.id) → (c : ℕ) →
+    Ordered 0 (queue (with_appended u q x) c).items
+unfolding with_appended on_queue
+ordered_appended u q x o f = each_put (λ i y. Ordered 0 y.items) new_queue u.queues q _ o
+    (ordered_append (queue u q).items x 0 (o q) (omega arith) (f q))
+
+placed_put : (l : List ℕ) (w u v : World) (q : ℕ) (x : Item) → x.id ≡ accepted_count w → Less Any w u →
+    Less Any (with_appended u q x) v → ((s t : ℕ) → side v s t ≡ side w s t) →
+    accepted_count w < accepted_count v → Placing l w → Placing l v
+placed_put l w u v q x e h k d more p =
+    let home : ℕ → Place = moved p.home x.id (Queued q) in
+    let older : (c i : ℕ) → carries (queue u c).items i ≡ true →
+    IsQueued p.home l (accepted_count w) c i = λ c i b. p.queued c i ((h.queues c).has i b) in
+    record {
+      home = home;
+      ordered = λ c. (k.queues c).ordered 0 (ordered_appended u q x
+          (λ c. (h.queues c).ordered 0 (p.ordered c)) (λ c i b. omega (arith, e, (older c i b).old)) c);
+      queued = λ c i b. elim (queue_appended u q x c i ((k.queues c).has i b)) [
+        | inl was ↦ (
+            let j : IsQueued p.home l (accepted_count w) c i = older c i was in
+            let ne : i ≢ x.id = λ same_id. omega (arith, same_id, e, j.old) in
+            record {
+              old = omega (arith, j.old, more);
+              place =
+                  moved_other p.home x.id (Queued q) i ne ∙ j.place;
+              passed = j.passed;
+            })
+        | inr new ↦ record {
+          old = omega (arith, new.1, e, more);
+          place = moved_same p.home x.id (Queued q) i new.1 ∙ ap Queued (sym new.0);
+          passed = on_bool (has l i) (λ z. absurd (omega (arith, p.old i z, new.1, e))) (λ z. z);
+        }
+      ];
+      numbered = λ s t. subst (Labels home l (accepted_count v) s t) (sym (d s t)) (λ n from below.
+          let j : IsLabel p.home l (accepted_count w) s t (side w s t) n = p.numbered s t n from below in
+          let ne : (slot (session w s t) n).id ≢ x.id = λ same_id. omega (arith, same_id, e, j.old) in
+          record {
+            old = omega (arith, j.old, more);
+            place =
+                moved_other p.home x.id (Queued q) _ ne ∙ j.place;
+            passed = j.passed;
+          });
+      old = λ i b. omega (arith, p.old i b, more);
+      once = p.once;
+    }
+
+pub less_put_in : (u : World) (s t q : ℕ) (x : Item) → Less Any (with_appended u q x) (after_put_in u s t q x)
+unfolding after_put_in
+less_put_in u s t q x = less_listed_queue Any (with_appended u q x) s t q
+
+accepted_appended : (u : World) (q : ℕ) (x : Item) → accepted_count (with_appended u q x) ≡ accepted_count u
+unfolding with_appended on_queue
+accepted_appended u q x = refl
+
+pub less_with_frame : (w : World) (note : Note) → Less Any w (with_frame w note)
+unfolding with_frame
+less_with_frame w note = record {
+  queues = λ q. fewer (queue w q).items;
+  accepted = omega (arith, length-append w.frames (record { note = note; fate = Held } ∷ []));
+  fates = λ id h. inr tt;
+}
+
+pub accepted_with_frame : (w : World) (note : Note) →
+    accepted_count (with_frame w note) ≡ suc (accepted_count w)
+unfolding with_frame
+accepted_with_frame w note = omega (arith, length-append w.frames (record { note = note; fate = Held } ∷ []))
+
+pub side_with_frame : (w : World) (note : Note) (s t : ℕ) → side (with_frame w note) s t ≡ side w s t
+unfolding with_frame
+side_with_frame w note s t = refl
+
+pub placed_enqueued : (l : List ℕ) (w : World) (s t flow len : ℕ) → Placing l w →
+    Placing l (enqueue_outcome w s t flow len).world
+unfolding enqueue_outcome
+placed_enqueued l w s t flow len p =
+    let u : World = after_limit w in
+    let q : ℕ = queue_for u s t flow in
+    let x : Item = record { id = accepted_count w; stamp = w.clock; len = len } in
+    let a : World = after_put_in u s t q x in
+    let h : Less Any w u = less_within_limit Any w in
+    let k : Less Any (with_appended u q x) a = less_put_in u s t q x in
+    placed_put l w u (with_frame a (Enqueue s t flow len)) q x refl h
+    (then_less Any _ a _ k (less_with_frame a (Enqueue s t flow len)))
+    (λ i j. side_with_frame a (Enqueue s t flow len) i j
+    ∙ (then_same w u a (same_within_limit w) (same_put_in u s t q x)).sides i j)
+    (omega (
+      arith,
+      accepted_with_frame a (Enqueue s t flow len),
+      k.accepted,
+      h.accepted,
+      accepted_appended u q x,
+    )) p
+
+-- ---- the step
+
+placed_open : (P Q : Exchange → Type 0) (o : Option Exchange) (l : List ℕ) (w : World)
+    (f : Exchange → Outcome) → IfSome o P → ((x : Exchange) → P x → Placing l (f x).world) → Placing l w →
+    Placing l (outcome_where_open w o f).world
+unfolding outcome_where_open
+placed_open P Q None l w f h k p = p
+placed_open P Q (Some x) l w f h k p = k x h
+
+any_some : (o : Option Exchange) → IfSome o (λ _. Unit {0})
+any_some None = tt
+any_some (Some x) = tt
+
+named_open : (o : Option Exchange) (w : World) (f : Exchange → Outcome) →
+    ((x : Exchange) → named_by (f x).reply ≡ []) → named_by (outcome_where_open w o f).reply ≡ []
+unfolding outcome_where_open
+named_open None w f h = refl
+named_open (Some x) w f h = h x
+
+named_pulled_by : (o : Option ℕ) (w : World) (c : Class) → named_by (pull_outcome_for w c o).reply ≡ []
+unfolding pull_outcome_for send_outcome
+named_pulled_by None w c = refl
+named_pulled_by (Some s) w c = refl
+
+named_reaped : (ids : List ℕ) (w : World) → named_by (reap_outcome w ids).reply ≡ []
+unfolding reap_outcome
+named_reaped [] w = refl
+named_reaped (id ∷ ids) w = refl
+
+placed_reaped : (ids : List ℕ) (l : List ℕ) (w : World) → Placing l w → Placing l (reap_outcome w ids).world
+unfolding reap_outcome
+placed_reaped [] l w p = p
+placed_reaped (id ∷ ids) l w p = placed_less l w _ (less_plain Any w _ refl refl) (λ s t. refl) p
+
+placed_on_station : (l : List ℕ) (w : World) (s : ℕ) (f : Station → Station) →
+    ((x : Station) (t : ℕ) → side_of (at no_tid (f x).tids t) ≡ side_of (at no_tid x.tids t)) → Placing l w →
+    Placing l (on_station w s f)
+placed_on_station l w s f h p = placed_same l w _ (same_on_station w s f h) (less_on_station Any w s f) p
+
+placed_answered : (l : List ℕ) (w : World) (x : Exchange) → Placing l w → Placing l (answer_outcome w x).world
+unfolding answer_outcome with_exchange
+placed_answered l w x p = placed_less l w _ (less_plain Any w _ refl refl) (λ s t. refl) p
+
+-- what the reply to a call that is no arrival names
+named_done : (note : Note) (w : World) → (named_by (outcome_of w note).reply ≡ []) ⊎
+    ((e : ℕ) × (n : ℕ) × (note ≡ Asked (Arrive e n)))
+unfolding outcome_of enqueue_outcome join_outcome leave_outcome rate_outcome tick_outcome pull_outcome
+    answer_outcome done_outcome sleep_outcome wake_outcome poll_outcome rx_outcome
+named_done (Enqueue s t flow len) w = inl refl
+named_done (Asked (Join s window start exponent weight)) w = inl refl
+named_done (Asked (Leave s)) w = inl refl
+named_done (Asked (Rate s mcs mhz short)) w = inl refl
+named_done (Asked (Tick by)) w = inl refl
+named_done (Asked (Pull c)) w = inl (named_pulled_by (picked_station w c).winner (after_pick w c) c)
+named_done (Asked (Arrive e n)) w = inr (e, n, refl)
+named_done (Asked (Answer e)) w = inl (named_open (exchange w e) w _ (λ x. refl))
+named_done (Asked (Done e heard)) w = inl (named_open (exchange w e) w _ (λ x. refl))
+named_done (Asked (Sleep s)) w = inl refl
+named_done (Asked (Wake s)) w = inl refl
+named_done (Asked (Poll s)) w = inl refl
+named_done (Asked (Rx s c air)) w = inl refl
+named_done (Asked Reap) w = inl (named_reaped w.finished w)
+
+-- a call that names nothing
+placed_call : (note : Note) (l : List ℕ) (w : World) (i : IsLawful w) → NoRow (refusals w note) →
+    Placing l w → named_by (outcome_of w note).reply ≡ [] → Placing l (outcome_of w note).world
+unfolding outcome_of tick_outcome rate_outcome sleep_outcome wake_outcome poll_outcome rx_outcome
+placed_call (Enqueue s t flow len) l w i e p r = placed_enqueued l w s t flow len p
+placed_call (Asked (Join s window start exponent weight)) l w i e p r =
+    placed_joined l w s window start exponent weight p
+placed_call (Asked (Leave s)) l w i e p r = placed_gone l w s p
+placed_call (Asked (Rate s mcs mhz short)) l w i e p r = placed_on_station l w s _ (λ x t. refl) p
+placed_call (Asked (Tick by)) l w i e p r = placed_less l w _ (less_plain Any w _ refl refl) (λ s t. refl) p
+placed_call (Asked (Pull c)) l w i e p r = placed_pulled l w c i p
+placed_call (Asked (Arrive x n)) l w i e p r =
+    subst (λ (k : List ℕ). Placing k (outcome_where_open w (exchange w x) (λ y. arrive_outcome w y n)).world)
+    (ap (λ (ids : List ℕ). l ++ ids) r ∙ append-nil l)
+    (placed_arrive (exchange w x) l w i n (opened_in w i x)
+    (if_on (exchange w x) (λ y. nat_le (transmissions y.content) n) e.1.0) p)
+placed_call (Asked (Answer x)) l w i e p r = placed_open (λ _. Unit {0}) (λ _. Unit {0}) (exchange w x) l w _
+    (any_some (exchange w x)) (λ y _. placed_answered l w y p) p
+placed_call (Asked (Done x heard)) l w i e p r =
+    placed_open (IsFound w i) (λ _. Unit {0}) (exchange w x) l w _ (found w i x)
+    (λ y f. placed_ended l w i y heard f p) p
+placed_call (Asked (Sleep s)) l w i e p r = placed_on_station l w s _ (λ x t. refl) p
+placed_call (Asked (Wake s)) l w i e p r = placed_on_station l w s _ (λ x t. refl) p
+placed_call (Asked (Poll s)) l w i e p r = placed_on_station l w s _ (λ x t. refl) p
+placed_call (Asked (Rx s c air)) l w i e p r =
+    placed_same l w _ (same_on_share w s c _) (less_on_share Any w s c _) p
+placed_call (Asked Reap) l w i e p r = placed_reaped w.finished l w p
+
+placed_arrival : (l : List ℕ) (w : World) (i : IsLawful w) (e n : ℕ) →
+    NoRow (refusals w (Asked (Arrive e n))) → Placing l w →
+    Placing (l ++ named_by (outcome_of w (Asked (Arrive e n))).reply)
+    (outcome_of w (Asked (Arrive e n))).world
+unfolding outcome_of
+placed_arrival l w i e n r p = placed_arrive (exchange w e) l w i n (opened_in w i e)
+    (if_on (exchange w e) (λ y. nat_le (transmissions y.content) n) r.1.0) p
+
+placed_done : (note : Note) (l : List ℕ) (w : World) (i : IsLawful w) → NoRow (refusals w note) →
+    Placing l w → Placing (l ++ named_by (outcome_of w note).reply) (outcome_of w note).world
+placed_done note l w i e p = elim (named_done note w) [
+  | inl r ↦ placed_plain l (outcome_of w note) r (placed_call note l w i e p r)
+  | inr a ↦ subst (λ (c : Note). NoRow (refusals w c) →
+      Placing (l ++ named_by (outcome_of w c).reply) (outcome_of w c).world) (sym a.2)
+      (λ d. placed_arrival l w i a.0 a.1 d p) e
+]
+
+placed_refused : (note : Note) (r : Refusal) (l : List ℕ) (w : World) → Placing l w →
+    Placing l (after_refusal w note r)
+unfolding after_refusal
+placed_refused (Asked (Pull c)) Idle l w p = placed_same l w _ (same_after_pick w c)
+    (less_after_pick Any w c) p
+placed_refused _ _ l w p = p
+
+placed_answer : (r : Option Refusal) (l : List ℕ) (w : World) (i : IsLawful w) (note : Note) →
+    refusal w note ≡ r → Placing l w → Placing (l ++ named_by (judged_outcome w note r).reply)
+    (judged_outcome w note r).world
+unfolding judged_outcome
+placed_answer (Some r) l w i note e p = placed_plain l
+    (record { world = after_refusal w note r; reply = Refused r }) refl (placed_refused note r l w p)
+placed_answer None l w i note e p = placed_same _ _ _
+    (same_listed (concerned_station w note) (outcome_of w note).world)
+    (less_listed Any (concerned_station w note) (outcome_of w note).world)
+    (placed_done note l w i (no_row (refusals w note) e) p)
+
+pub placed_step : (l : List ℕ) (w : World) (i : IsLawful w) (note : Note) → Placing l w →
+    Placing (l ++ named_by (step w note).reply) (step w note).world
+unfolding step
+placed_step l w i note p = placed_answer (refusal w note) l w i note refl p
+
+pub placed_run : (h : List Entry) (l : List ℕ) (w : World) (i : IsLawful w) → Placing l w →
+    Placing (named_from w l h) (world_after w h)
+unfolding named_from world_after
+placed_run [] l w i p = p
+placed_run (e ∷ es) l w i p = placed_run es _ (step w e.1).world (lawful_step w e.1 i)
+    (placed_step l w i e.1 p)
+
+pub placed_at_first : (config : Config) → Placing [] (opening config)
+placed_at_first config = record {
+  home = λ k. Queued 0;
+  ordered = λ q. tt;
+  queued = λ q k e. absurd (cc e);
+  numbered = λ s t n from below. absurd (omega (arith, from, below));
+  old = λ k e. absurd (cc e);
+  once = tt;
+}
+
+pub placed : (config : Config) (h : List Entry) →
+    Placing (named_from (opening config) [] h) (world_after (opening config) h)
+placed config h = placed_run h [] (opening config) (lawful_at_first config) (placed_at_first config)
+
+pub once_law : (config : Config) (h : List Entry) → OnceLaw config h
+once_law config h = (placed config h).once

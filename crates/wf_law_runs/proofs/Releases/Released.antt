@@ -1,0 +1,409 @@
+-- What the receivers pass up, over every run.
+use Rattle.std.proofs.Common.{◌≡◌, ◌≢◌, refl, ap, sym, ◌∙◌, subst, arith, ℕ, suc, ◌<◌, ◌≤◌, nat_lt, ◌*◌, Bool, true, false, if◌then◌else◌, ◌==◌, ◌||◌, inl, inr, List, [], ◌∷◌, ◌++◌, filter, nat_le, Option, Some, None, IfSome, is_some}
+use Rattle.wf_frame.specs.declared.settings.Config.{Config}
+use Rattle.wf_frame.specs.declared.classes.Class.{Class}
+use Rattle.wf_def_lists.specs.Table.{at, has, with_member, upto}
+use Rattle.wf_def_agreement.specs.Receiver.{Receiver, with_arrived, with_start, release_start, greatest, released_between}
+use Rattle.wf_def_agreement.specs.Session.{Session, State, is_settled, slot, next_number}
+use Rattle.wf_def_world.specs.World.{receiver, World, Station, Exchange, Content, Frames, Request, new_tid, no_tid, session, is_live, exchange, with_station, on_station, on_receiver, with_exchange, opening, new_share}
+use Rattle.wf_frame.specs.Classes.{all_classes}
+use Rattle.wf_def_world.specs.CanSend.{with_listings_of}
+use Rattle.wf_def_world.specs.Exchanges.{transmissions, no_mpdu, after_arrival, mpdus_of, ids_of}
+use Rattle.wf_frame.specs.declared.notes.Ask.TheVariants.{Join, Leave, Rate, Tick, Pull, Arrive, Answer, Done, Sleep, Wake, Poll, Rx, Reap}
+use Rattle.wf_frame.specs.declared.notes.Note.{Note}
+use Rattle.wf_frame.specs.declared.notes.Note.TheVariants.{Enqueue, Asked}
+use Rattle.wf_frame.specs.declared.notes.Refusal.{Refusal}
+use Rattle.wf_frame.specs.declared.notes.Refusal.TheVariants.{Idle}
+use Rattle.wf_def_world.specs.Refusals.{refusals, refusal}
+use Rattle.wf_def_world.specs.Step.{Outcome, join_outcome, after_tids_left, without_listings, leave_outcome, rate_outcome, tick_outcome, enqueue_outcome, pull_outcome, arrive_outcome, answer_outcome, done_outcome, outcome_where_open, sleep_outcome, wake_outcome, poll_outcome, rx_outcome, reap_outcome, outcome_of, after_refusal, judged_outcome, step, concerned_station}
+use Rattle.wf_def_world.specs.Run.{Entry, world_after}
+use Rattle.wf_law_rules.proofs.Lemmas.Tables.{at_put_same, at_put_other}
+use Rattle.wf_law_rules.proofs.Lemmas.Numbers.{Climbs, on_bool, on_if, lt_yes, lt_no, eq_yes, eq_no, yes_eq, either, both, and_true, or_left, or_right, has_old, climbs_with, greatest_least, greatest_has, greatest_within}
+use Rattle.wf_law_runs.proofs.Windows.Sides.{Side, side_of, side, sides_of, Same, each_side_on, side_on, on_live, same, then_same, same_on_station, same_on_share, same_listed, same_after_pick}
+use Rattle.wf_law_runs.proofs.Windows.Agreement.{unsettled_ge, IsAgreed, released_arrived}
+use Rattle.wf_law_runs.proofs.Windows.Opened.{each_find, FlyIn, eight, NoRow, no_row}
+use Rattle.wf_frame.specs.declared.notes.ReplyNote.{ReplyNote}
+use Rattle.wf_frame.specs.declared.notes.ReplyNote.TheVariants.{Joined, Released}
+use Rattle.wf_def_lists.specs.Lists.{IsRising}
+use Rattle.wf_law_runs.specs.Releases.{is_join_of, is_at, is_arrival_for, passed_by, passed_from, passed, numbers_passed}
+use Rattle.wf_law_runs.proofs.Releases.Passing.{filter_split, filter_with, member_known, release_rises}
+use Rattle.wf_law_runs.proofs.Releases.Kept.{KeptSession, Kept, kept_same, keep_pulled, keep_ended, keep_answered, keep_plain, keep_enqueued, keep_reaped}
+use Rattle.wf_law_runs.proofs.Windows.Agreed.{IsLawful, IsOpenIn, all_at, rises_at, if_on, same_left_tids, same_off_lists, lawful_step, lawful, lawful_at_first}
+use Rattle.wf_def_air.specs.Airtime.{lowest_rate}
+
+-- ---- numbers and their ids
+
+has_filter : (p : ℕ → Bool) (xs : List ℕ) (n : ℕ) → has (filter p xs) n ≡ true → has xs n ≡ true
+has_filter p [] n h = h
+has_filter p (x ∷ xs) n h = on_if (λ (ys : List ℕ). has ys n ≡ true → ((x == n) || has xs n) ≡ true) (p x)
+    (x ∷ filter p xs) (filter p xs)
+    (λ _ e. elim (either (x == n) (has (filter p xs) n) e) [
+      | inl d ↦ or_left (x == n) (has xs n) d
+      | inr d ↦
+          or_right (x == n) (has xs n) (has_filter p xs n d)
+    ])
+    (λ _ e. or_right (x == n) (has xs n) (has_filter p xs n e)) h
+
+ids_kept : (ns : List ℕ) (y z : Session) → KeptSession y z →
+    ((n : ℕ) → has ns n ≡ true → (y.first ≤ n) × (n < next_number y)) → ids_of z ns ≡ ids_of y ns
+ids_kept [] y z k h = refl
+ids_kept (n ∷ ns) y z k h =
+    let here = h n (or_left (n == n) (has ns n) (yes_eq n n refl)) in
+    ap (λ (i : ℕ). i ∷ ids_of z ns) (k.ids n here.0 here.1)
+    ∙ ap (λ (is : List ℕ). (slot y n).id ∷ is)
+    (ids_kept ns y z k (λ m e. h m (or_right (n == m) (has ns m) e)))
+
+ids_append : (y : Session) (ns ms : List ℕ) → ids_of y (ns ++ ms) ≡ ids_of y ns ++ ids_of y ms
+ids_append y [] ms = refl
+ids_append y (n ∷ ns) ms = ap (λ (is : List ℕ). (slot y n).id ∷ is) (ids_append y ns ms)
+
+rising_filter : (p : ℕ → Bool) (xs : List ℕ) (lo : ℕ) → Climbs lo xs → IsRising lo (filter p xs)
+rising_filter p [] lo c = tt
+rising_filter p (x ∷ xs) lo c = on_if (λ (ys : List ℕ). IsRising lo ys) (p x) (x ∷ filter p xs) (filter p xs)
+    (λ _. (c.0, rising_filter p xs (suc x) c.1))
+    (λ _. lower (filter p xs) (suc x) lo (omega (arith, c.0)) (rising_filter p xs (suc x) c.1))
+  where
+    lower : (ys : List ℕ) (a b : ℕ) → b ≤ a → IsRising a ys → IsRising b ys
+    lower [] a b h r = tt
+    lower (y ∷ ys) a b h r = (omega (arith, r.0, h), r.1)
+
+-- ---- what arrives
+
+grown_arrived : (y : Session) (r : Receiver) (m e : ℕ) → IsAgreed y r → y.first ≤ m →
+    (slot y m).state ≡ State.Flying e → numbers_passed (with_arrived m r) ≡ numbers_passed r
+    ++ released_between r (with_arrived m r)
+grown_arrived y r m e a from f =
+    let q : Receiver = with_arrived m r in
+    let climbs : Climbs 0 q.arrived = climbs_with r.arrived 0 m (omega arith) a.rising in
+    filter_split q.arrived 0 (release_start r) (release_start q)
+    (release_rises r q (omega arith) climbs (λ n h. has_old r.arrived m n h)) climbs
+    ∙ ap (λ (ns : List ℕ). ns ++ released_between r q) (on_bool (nat_lt m (release_start r))
+    (λ l. ap (filter (λ n. nat_lt n (release_start r)))
+    (member_known r.arrived 0 m a.rising (released_arrived y r a m
+    (unsettled_ge y m from (ap is_settled f)) (lt_yes m (release_start r) l))))
+    (λ l. filter_with r.arrived m (release_start r) (lt_no m (release_start r) l)))
+
+grown_start : (y : Session) (r : Receiver) (f : ℕ) → IsAgreed y r →
+    numbers_passed (with_start f r) ≡ numbers_passed r ++ released_between r (with_start f r)
+grown_start y r f a =
+    let q : Receiver = with_start f r in
+    let starts : greatest r.first r.starts ≤ greatest q.first q.starts =
+    greatest_within r.starts r.first (greatest q.first q.starts) (greatest_least q.starts q.first)
+    (λ k h. greatest_has q.starts q.first k (has_old r.starts f k h)) in
+    filter_split q.arrived 0 (release_start r) (release_start q)
+    (release_rises r q starts a.rising (λ n h. h)) a.rising
+
+pub grown : (c : Content) (w : World) (i : IsLawful w) (x : Exchange) (n : ℕ) → x.content ≡ c → IsOpenIn w x →
+    n < transmissions c → numbers_passed (after_arrival c n (receiver w x.station x.tid))
+    ≡ numbers_passed (receiver w x.station x.tid)
+    ++ released_between (receiver w x.station x.tid) (after_arrival c n (receiver w x.station x.tid))
+grown (Frames ms) w i x n e o l =
+    let y : Session = session w x.station x.tid in
+    let flies : FlyIn x.number ms y = subst (λ (c : Content). FlyIn x.number (mpdus_of c) y) e o.opened.flies
+    in
+    grown_arrived y (receiver w x.station x.tid) (at no_mpdu ms n).number x.number (i.agreed x.station x.tid)
+    (rises_at y.first (next_number y) ms n l flies.rising).0
+    (all_at y (State.Flying x.number) ms n l flies.flying)
+grown (Request f) w i x n e o l = grown_start (session w x.station x.tid) (receiver w x.station x.tid) f
+    (i.agreed x.station x.tid)
+
+-- ---- what was passed up
+
+-- of a live station: the ids of its numbers that are passed up
+abbrev Passed : World → ℕ → ℕ → List ℕ → Type 0
+Passed w s t l = is_live w s ≡ true → l ≡ ids_of (session w s t) (numbers_passed (receiver w s t))
+
+passed_at : (w v : World) (s t : ℕ) (l : List ℕ) → is_live v s ≡ is_live w s → side v s t ≡ side w s t →
+    Passed w s t l → Passed v s t l
+passed_at w v s t l e d h live = h (sym e ∙ live)
+    ∙ sym (ap (λ (a : Side). ids_of a.session (numbers_passed a.receiver)) d)
+
+passed_kept : (w v : World) (s t : ℕ) (l : List ℕ) → IsLawful w → Kept w v → Passed w s t l → Passed v s t l
+passed_kept w v s t l i k h live =
+    h (sym (k.live s) ∙ live)
+    ∙ sym (ids_kept (numbers_passed (receiver w s t)) (session w s t) (session v s t) (k.sessions s t)
+    (λ n e. (i.agreed s t).arrived n (has_filter _ (receiver w s t).arrived n e)))
+    ∙ sym (ap (λ (r : Receiver). ids_of (session v s t) (numbers_passed r)) (k.receivers s t))
+
+-- the sides after an arrival
+pub side_taken : (w : World) (x z : Exchange) (g : Receiver → Receiver) → is_live w x.station ≡ true →
+    side (with_exchange (on_receiver w x.station x.tid g) z) x.station x.tid
+    ≡ record { session = session w x.station x.tid; receiver = g (receiver w x.station x.tid) }
+unfolding with_exchange on_receiver
+side_taken w x z g live = side_on w x.station x.tid (λ y. record y { receiver = g y.receiver }) live
+
+pub side_untaken : (w : World) (x z : Exchange) (g : Receiver → Receiver) (s t : ℕ) →
+    (s ≡ x.station → t ≡ x.tid → ⊥) → side (with_exchange (on_receiver w x.station x.tid g) z) s t
+    ≡ side w s t
+unfolding with_exchange on_receiver
+side_untaken w x z g = each_side_on (λ a b y. (a ≡ x.station → b ≡ x.tid → ⊥) → y ≡ side w a b) w x.station
+    x.tid (λ y. record y { receiver = g y.receiver }) (λ a b _. refl) (λ apart. absurd (apart refl refl))
+
+pub live_taken : (w : World) (x z : Exchange) (g : Receiver → Receiver) (s : ℕ) →
+    is_live (with_exchange (on_receiver w x.station x.tid g) z) s ≡ is_live w s
+unfolding with_exchange on_receiver
+live_taken w x z g s = on_live w x.station x.tid (λ y. record y { receiver = g y.receiver }) s
+
+passed_taken : (w : World) (x z : Exchange) (g : Receiver → Receiver) (s t : ℕ) (l : List ℕ) →
+    is_live w x.station ≡ true
+    → numbers_passed (g (receiver w x.station x.tid)) ≡ numbers_passed (receiver w x.station x.tid)
+    ++ released_between (receiver w x.station x.tid) (g (receiver w x.station x.tid))
+    → Passed w s t l → Passed (with_exchange (on_receiver w x.station x.tid g) z) s t
+    (if is_at s t (Some x) then l ++ ids_of (session w x.station x.tid)
+    (released_between (receiver w x.station x.tid) (g (receiver w x.station x.tid))) else l)
+passed_taken w x z g s t l live grows h =
+    let v : World = with_exchange (on_receiver w x.station x.tid g) z in
+    let y : Session = session w x.station x.tid in
+    let r : Receiver = receiver w x.station x.tid in
+    on_if (Passed v s t) (is_at s t (Some x)) (l ++ ids_of y (released_between r (g r))) l
+    (λ own.
+    let p = both (x.station == s) (x.tid == t) own in
+    let es : x.station ≡ s = eq_yes _ _ p.0 in
+    let et : x.tid ≡ t = eq_yes _ _ p.1 in
+    subst (λ (a : ℕ). Passed v a t (l ++ ids_of y (released_between r (g r)))) es
+    (subst (λ (b : ℕ). Passed v x.station b (l ++ ids_of y (released_between r (g r)))) et (λ _.
+    let here : l ≡ ids_of y (numbers_passed r) = subst (λ (a : ℕ). Passed w a x.tid l) (sym es)
+    (subst (λ (b : ℕ). Passed w s b l) (sym et) h) live in
+    ap (λ (k : List ℕ). k ++ ids_of y (released_between r (g r))) here
+    ∙ sym (ids_append y (numbers_passed r) (released_between r (g r)))
+    ∙ ap (ids_of y) (sym grows)
+    ∙ sym (ap (λ (a : Side). ids_of a.session (numbers_passed a.receiver)) (side_taken w x z g live)))))
+    (λ other. passed_at w v s t l (live_taken w x z g s)
+    (side_untaken w x z g s t (λ es et. cc (
+      other,
+      and_true (x.station == s) (x.tid == t) (yes_eq x.station s (sym es)) (yes_eq x.tid t (sym et)),
+    ))) h)
+
+passed_arrived : (w : World) (i : IsLawful w) (x : Exchange) (n s t : ℕ) (l : List ℕ) → IsOpenIn w x →
+    nat_le (transmissions x.content) n ≡ false → Passed w s t l
+    → Passed (arrive_outcome w x n).world s t (if is_at s t (Some x)
+    then l ++ ids_of (session w x.station x.tid)
+    (released_between (receiver w x.station x.tid)
+    (after_arrival x.content n (receiver w x.station x.tid))) else l)
+unfolding arrive_outcome
+passed_arrived w i x n s t l o few h = passed_taken w x (record x { arrived = with_member n x.arrived })
+    (after_arrival x.content n) s t l o.live (grown x.content w i x n refl o (not_le _ _ few)) h
+  where
+    not_le : (a b : ℕ) → nat_le a b ≡ false → b < a
+    not_le a b e = grind arith
+
+passed_arrive : (o : Option Exchange) (w : World) (i : IsLawful w) (e n s t : ℕ) (l : List ℕ) →
+    exchange w e ≡ o → IfSome o (IsOpenIn w) → IfSome o (λ x. nat_le (transmissions x.content) n ≡ false) →
+    Passed w s t l
+    → Passed (outcome_where_open w o (λ x. arrive_outcome w x n)).world s t
+    (passed_by w s t (Asked (Arrive e n)) l (outcome_where_open w o (λ x. arrive_outcome w x n)).reply)
+unfolding outcome_where_open arrive_outcome
+passed_arrive None w i e n s t l d f few h = subst
+    (λ (o : Option Exchange). Passed w s t (if is_at s t o then l ++ [] else l)) (sym d) h
+passed_arrive (Some x) w i e n s t l d f few h =
+    subst (λ (o : Option Exchange). Passed (arrive_outcome w x n).world s t
+    (if is_at s t o then l ++ ids_of (session w x.station x.tid)
+    (released_between (receiver w x.station x.tid)
+    (after_arrival x.content n (receiver w x.station x.tid))) else l)) (sym d)
+    (passed_arrived w i x n s t l f few h)
+
+-- ---- joining and leaving
+
+pub side_with_station : (w : World) (i s t : ℕ) (o : Option Station) → i ≢ s →
+    side (with_station w i o) s t ≡ side w s t
+unfolding with_station
+side_with_station w i s t o ne = ap (λ (p : Option Station). sides_of p t)
+    (at_put_other None w.stations i s o ne)
+
+pub side_own_station : (w : World) (i t : ℕ) (o : Option Station) →
+    side (with_station w i o) i t ≡ sides_of o t
+unfolding with_station
+side_own_station w i t o = ap (λ (p : Option Station). sides_of p t) (at_put_same None w.stations i o)
+
+pub live_with_station : (w : World) (i s : ℕ) (o : Option Station) → i ≢ s →
+    is_live (with_station w i o) s ≡ is_live w s
+unfolding with_station
+live_with_station w i s o ne = ap is_some (at_put_other None w.stations i s o ne)
+
+pub live_own_station : (w : World) (i : ℕ) (o : Option Station) → is_live (with_station w i o) i ≡ is_some o
+unfolding with_station
+live_own_station w i o = ap is_some (at_put_same None w.stations i o)
+
+-- a TID to which nothing was passed up
+abbrev Untouched : Side → Type 0
+Untouched a = ids_of a.session (numbers_passed a.receiver) ≡ []
+
+passed_joined : (w : World) (i window start exponent weight s t : ℕ) (l : List ℕ) → Passed w s t l →
+    Passed (join_outcome w i window start exponent weight).world s t (if i == s then [] else l)
+unfolding join_outcome
+passed_joined w i window start exponent weight s t l h =
+    let o : Option Station = Some (record {
+      weight = weight;
+      rate = lowest_rate;
+      exponent = exponent;
+      asleep = false;
+      credit = None;
+      shares = new_share (w.config.quantum * weight) ∷ new_share (w.config.quantum * weight)
+          ∷ new_share (w.config.quantum * weight) ∷ new_share (w.config.quantum * weight) ∷ [];
+      tids = new_tid start window ∷ new_tid start window ∷ new_tid start window ∷ new_tid start window
+          ∷ new_tid start window ∷ new_tid start window ∷ new_tid start window ∷ new_tid start window ∷ [];
+    }) in
+    on_if (Passed (with_station w i o) s t) (i == s) [] l
+    (λ own. subst (λ (a : ℕ). Passed (with_station w i o) a t []) (eq_yes i s own) (λ _.
+    sym (ap (λ (a : Side). ids_of a.session (numbers_passed a.receiver)) (side_own_station w i t o)
+    ∙ eight (λ y. Untouched (side_of y)) (new_tid start window) refl refl t)))
+    (λ other. passed_at w (with_station w i o) s t l (live_with_station w i s o (eq_no i s other))
+    (side_with_station w i s t o (eq_no i s other)) h)
+
+passed_gone : (w : World) (i s t : ℕ) (l : List ℕ) → Passed w s t l → Passed (leave_outcome w i).world s t l
+unfolding leave_outcome
+passed_gone w i s t l h =
+    let u : World = without_listings (after_tids_left w i (upto 8)) i all_classes in
+    let k : Same w u = then_same _ _ _ (same_left_tids (upto 8) w i) (same_off_lists all_classes _ i) in
+    on_bool (i == s)
+    (λ own live. absurd (cc (
+      subst (λ (a : ℕ). is_live (with_station u i None) a ≡ false) (eq_yes i s own)
+          (live_own_station u i None),
+      live,
+    )))
+    (λ other. passed_at w (with_station u i None) s t l
+    (live_with_station u i s None (eq_no i s other) ∙ k.live s)
+    (side_with_station u i s t None (eq_no i s other) ∙ k.sides s t) h)
+
+-- ---- the step
+
+quiet_reply : (r : ReplyNote) (w : World) (s t : ℕ) (note : Note) (l : List ℕ) → is_join_of s note ≡ false →
+    is_arrival_for w s t note ≡ false → passed_by w s t note l r ≡ l
+quiet_reply Joined w s t note l h k = ap (λ (b : Bool). if b then [] else l) h
+quiet_reply (Released ids) w s t note l h k = ap (λ (b : Bool). if b then l ++ ids else l) k
+quiet_reply _ w s t note l h k = refl
+
+-- a call that neither joins nor arrives
+passed_quiet : (w : World) (note : Note) (o : Outcome) (s t : ℕ) (l : List ℕ) → is_join_of s note ≡ false →
+    is_arrival_for w s t note ≡ false → Passed o.world s t l →
+    Passed o.world s t (passed_by w s t note l o.reply)
+passed_quiet w note o s t l h k p = subst (Passed o.world s t) (sym (quiet_reply o.reply w s t note l h k)) p
+
+pub keep_open : (o : Option Exchange) (w : World) (f : Exchange → Outcome) →
+    ((x : Exchange) → Kept w (f x).world) → Kept w (outcome_where_open w o f).world
+unfolding outcome_where_open
+keep_open None w f h = kept_same w w (same w)
+keep_open (Some x) w f h = h x
+
+keep_station : (w : World) (s : ℕ) (f : Station → Station) →
+    ((x : Station) (t : ℕ) → side_of (at no_tid (f x).tids t) ≡ side_of (at no_tid x.tids t)) →
+    Kept w (on_station w s f)
+keep_station w s f h = kept_same w _ (same_on_station w s f h)
+
+pub keep_rate : (w : World) (a mcs mhz : ℕ) (short : Bool) → Kept w (rate_outcome w a mcs mhz short).world
+unfolding rate_outcome
+keep_rate w a mcs mhz short = keep_station w a _ (λ x t. refl)
+
+pub keep_tick : (w : World) (by : ℕ) → Kept w (tick_outcome w by).world
+unfolding tick_outcome
+keep_tick w by = keep_plain w _ refl
+
+pub keep_slept : (w : World) (a : ℕ) → Kept w (sleep_outcome w a).world
+unfolding sleep_outcome
+keep_slept w a = keep_station w a _ (λ x t. refl)
+
+pub keep_woken : (w : World) (a : ℕ) → Kept w (wake_outcome w a).world
+unfolding wake_outcome
+keep_woken w a = keep_station w a _ (λ x t. refl)
+
+pub keep_credited : (w : World) (a : ℕ) → Kept w (poll_outcome w a).world
+unfolding poll_outcome
+keep_credited w a = keep_station w a _ (λ x t. refl)
+
+pub keep_received : (w : World) (a : ℕ) (c : Class) (air : ℕ) → Kept w (rx_outcome w a c air).world
+unfolding rx_outcome
+keep_received w a c air = kept_same w _ (same_on_share w a c _)
+
+pub opened_in : (w : World) (i : IsLawful w) (e : ℕ) → IfSome (exchange w e) (IsOpenIn w)
+opened_in w i e = each_find (IsOpenIn w) (IsOpenIn w) (λ x. x.number == e) w.opened (λ x _ f. f) i.opened
+
+joins_by : (w : World) (a window start exponent weight s t : ℕ) (l : List ℕ) → Passed w s t l →
+    Passed (join_outcome w a window start exponent weight).world s t
+    (passed_by w s t (Asked (Join a window start exponent weight)) l
+    (join_outcome w a window start exponent weight).reply)
+unfolding join_outcome
+joins_by w a window start exponent weight s t l h = passed_joined w a window start exponent weight s t l h
+
+passed_done : (note : Note) (w : World) (i : IsLawful w) (s t : ℕ) (l : List ℕ) → NoRow (refusals w note) →
+    Passed w s t l → Passed (outcome_of w note).world s t (passed_by w s t note l (outcome_of w note).reply)
+unfolding outcome_of
+passed_done (Enqueue a b flow len) w i s t l e h =
+    passed_quiet w (Enqueue a b flow len) (enqueue_outcome w a b flow len) s t l refl refl
+    (passed_kept w _ s t l i (keep_enqueued w a b flow len) h)
+passed_done (Asked (Join a window start exponent weight)) w i s t l e h =
+    joins_by w a window start exponent weight s t l h
+passed_done (Asked (Leave a)) w i s t l e h =
+    passed_quiet w (Asked (Leave a)) (leave_outcome w a) s t l refl refl (passed_gone w a s t l h)
+passed_done (Asked (Rate a mcs mhz short)) w i s t l e h =
+    passed_quiet w (Asked (Rate a mcs mhz short)) (rate_outcome w a mcs mhz short) s t l refl refl
+    (passed_kept w _ s t l i (keep_rate w a mcs mhz short) h)
+passed_done (Asked (Tick by)) w i s t l e h =
+    passed_quiet w (Asked (Tick by)) (tick_outcome w by) s t l refl refl
+    (passed_kept w _ s t l i (keep_tick w by) h)
+passed_done (Asked (Pull c)) w i s t l e h = passed_quiet w (Asked (Pull c))
+    (pull_outcome w c) s t l refl refl (passed_kept w _ s t l i (keep_pulled w c) h)
+passed_done (Asked (Arrive x n)) w i s t l r h =
+    passed_arrive (exchange w x) w i x n s t l refl (opened_in w i x)
+    (if_on (exchange w x) (λ y. nat_le (transmissions y.content) n) r.1.0) h
+passed_done (Asked (Answer x)) w i s t l e h =
+    passed_quiet w (Asked (Answer x)) (outcome_where_open w (exchange w x) (λ y. answer_outcome w y)) s t l
+    refl refl (passed_kept w _ s t l i (keep_open (exchange w x) w _ (keep_answered w)) h)
+passed_done (Asked (Done x heard)) w i s t l e h =
+    passed_quiet w (Asked (Done x heard)) (outcome_where_open w (exchange w x) (λ y. done_outcome w y heard))
+    s t l refl refl (passed_kept w _ s t l i (keep_open (exchange w x) w _ (λ y. keep_ended w y heard)) h)
+passed_done (Asked (Sleep a)) w i s t l e h =
+    passed_quiet w (Asked (Sleep a)) (sleep_outcome w a) s t l refl refl
+    (passed_kept w _ s t l i (keep_slept w a) h)
+passed_done (Asked (Wake a)) w i s t l e h = passed_quiet w (Asked (Wake a))
+    (wake_outcome w a) s t l refl refl (passed_kept w _ s t l i (keep_woken w a) h)
+passed_done (Asked (Poll a)) w i s t l e h = passed_quiet w (Asked (Poll a))
+    (poll_outcome w a) s t l refl refl (passed_kept w _ s t l i (keep_credited w a) h)
+passed_done (Asked (Rx a c air)) w i s t l e h =
+    passed_quiet w (Asked (Rx a c air)) (rx_outcome w a c air) s t l refl refl
+    (passed_kept w _ s t l i (keep_received w a c air) h)
+passed_done (Asked Reap) w i s t l e h = passed_quiet w (Asked Reap)
+    (reap_outcome w w.finished) s t l refl refl (passed_kept w _ s t l i (keep_reaped w.finished w) h)
+
+-- ---- the run
+
+pub refused_kept : (note : Note) (r : Refusal) (w : World) → Kept w (after_refusal w note r)
+unfolding after_refusal
+refused_kept (Asked (Pull c)) Idle w = kept_same w _ (same_after_pick w c)
+refused_kept _ _ w = kept_same w w (same w)
+
+passed_answer : (r : Option Refusal) (w : World) (i : IsLawful w) (note : Note) (s t : ℕ) (l : List ℕ) →
+    refusal w note ≡ r → Passed w s t l → Passed (judged_outcome w note r).world s t
+    (passed_by w s t note l (judged_outcome w note r).reply)
+unfolding judged_outcome
+passed_answer (Some r) w i note s t l e h = passed_kept w (after_refusal w note r) s t l i
+    (refused_kept note r w) h
+passed_answer None w i note s t l e h =
+    let k : Same (outcome_of w note).world (with_listings_of (outcome_of w note).world
+    (concerned_station w note)) = same_listed (concerned_station w note) (outcome_of w note).world in
+    passed_at (outcome_of w note).world (with_listings_of (outcome_of w note).world
+    (concerned_station w note)) s t _ (k.live s) (k.sides s t)
+    (passed_done note w i s t l (no_row (refusals w note) e) h)
+
+passed_step : (w : World) (i : IsLawful w) (note : Note) (s t : ℕ) (l : List ℕ) → Passed w s t l →
+    Passed (step w note).world s t (passed_by w s t note l (step w note).reply)
+unfolding step
+passed_step w i note s t l h = passed_answer (refusal w note) w i note s t l refl h
+
+passed_run : (h : List Entry) (w : World) (i : IsLawful w) (s t : ℕ) (l : List ℕ) → Passed w s t l →
+    Passed (world_after w h) s t (passed_from w l h s t)
+unfolding world_after passed_from
+passed_run [] w i s t l p = p
+passed_run (e ∷ es) w i s t l p = passed_run es (step w e.1).world (lawful_step w e.1 i) s t _
+    (passed_step w i e.1 s t l p)
+
+pub passed_all : (config : Config) (h : List Entry) (s t : ℕ) →
+    is_live (world_after (opening config) h) s ≡ true →
+    passed config h s t ≡ ids_of (session (world_after (opening config) h) s t)
+    (numbers_passed (receiver (world_after (opening config) h) s t))
+passed_all config h s t live = passed_run h (opening config) (lawful_at_first config) s t []
+    (λ dead. absurd (cc dead)) live
+
+pub rising_passed : (config : Config) (h : List Entry) (s t : ℕ) →
+    IsRising 0 (numbers_passed (receiver (world_after (opening config) h) s t))
+rising_passed config h s t = rising_filter _ (receiver (world_after (opening config) h) s t).arrived 0
+    ((lawful config h).agreed s t).rising

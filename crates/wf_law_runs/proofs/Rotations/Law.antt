@@ -1,0 +1,141 @@
+-- The law of the lists of stations, in every world of a run, answered.
+use Rattle.std.proofs.Common.{◌≡◌, refl, arith, ℕ, ◌*◌, ◌<◌, ◌≤◌, nat_le, Bool, true, false, if◌then◌else◌, List, [], ◌∷◌, Option, Some, None, is_some, is_none, IfSome, unwrap_or, option_map, take, ◌↔◌}
+use Rattle.wf_frame.specs.declared.settings.Config.{Config}
+use Rattle.wf_frame.specs.Settings.{IsInRange}
+use Rattle.wf_frame.specs.declared.classes.Class.{Class}
+use Rattle.wf_frame.specs.declared.notes.Refusal.{Refusal}
+use Rattle.wf_frame.specs.declared.notes.Refusal.TheVariants.{Full, Idle}
+use Rattle.wf_def_lists.specs.Table.{at}
+use Rattle.wf_def_rotation.specs.Rotation.{in_order}
+use Rattle.wf_def_world.specs.World.{World, Station, no_station, share, quantum, queue, rotation, tid_of, is_live}
+use Rattle.wf_def_world.specs.FlowQueues.{has_frames}
+use Rattle.wf_def_world.specs.CanSend.{is_ready}
+use Rattle.wf_def_world.specs.Exchanges.{station_need, picked_station}
+use Rattle.wf_def_world.specs.Refusals.{first_refusal, open_of_class}
+use Rattle.wf_def_world.specs.Run.{Entry}
+use Rattle.wf_def_world.specs.Stretches.{world_at}
+use Rattle.wf_law_runs.specs.Rotations.{NoneReady, MayOpen, KeepsRotations, RotationLaw}
+use Rattle.wf_law_runs.specs.Queues.{KeepsQueues}
+use Rattle.wf_law_rules.proofs.Lemmas.Numbers.{on_bool}
+use Rattle.wf_law_rules.proofs.Lemmas.Rotations.{IsWinner, pick_winner, pick_none}
+use Rattle.wf_law_rules.proofs.Lemmas.Turns.{turn_law}
+use Rattle.wf_law_runs.proofs.Deficits.Books.{account, books}
+use Rattle.wf_law_runs.proofs.Deficits.Kept.{IsGood, IsKept}
+use Rattle.wf_law_runs.proofs.Deficits.Ready.{IsOrderly, IsListed, on-lists, orderly}
+use Rattle.wf_law_runs.proofs.Queues.Law.{once_list, queue_law}
+
+-- ---- the winner of a pick
+
+none_ready : (w : World) (c : Class) → IsListed w → (picked_station w c).winner ≡ None → NoneReady w c
+none_ready w c listed none s = on_bool (is_ready w c s)
+    (λ is. absurd (omega (
+      arith,
+      listed.all s c is,
+      pick_none (station_need w c) (is_ready w c) (rotation w c) none s is,
+    )))
+    (λ not_ready. not_ready)
+
+ready_none : (w : World) (c : Class) → NoneReady w c → (picked_station w c).winner ≡ None
+ready_none w c none = go (picked_station w c).winner refl
+  where
+    go : (o : Option ℕ) → (picked_station w c).winner ≡ o → o ≡ None
+    go None e = refl
+    go (Some s) e =
+        let k : IsWinner (station_need w c) (is_ready w c) (rotation w c) (picked_station w c) s =
+        pick_winner (station_need w c) (is_ready w c) (rotation w c) s e in
+        absurd (cc (k.is_ready, none s))
+
+-- ---- the refusal of a Pull
+
+full_or_idle : ℕ → Bool → Bool → Option Refusal
+full_or_idle count full idle = if full then Some (Full count) else (if idle then Some Idle else None)
+
+both_where_idle : (count : ℕ) (full idle : Bool) → full_or_idle count full idle ≡ Some Idle → (full ≡ false) ×
+    (idle ≡ true)
+unfolding full_or_idle
+both_where_idle count true idle e = absurd (cc e)
+both_where_idle count false true e = (refl, refl)
+both_where_idle count false false e = absurd (cc e)
+
+idle_where_both : (count : ℕ) (full idle : Bool) → full ≡ false → idle ≡ true →
+    full_or_idle count full idle ≡ Some Idle
+unfolding full_or_idle
+idle_where_both count full idle e f = rw (e, f) refl
+
+is_none_of : (o : Option ℕ) → is_none o ≡ true → o ≡ None
+is_none_of None e = refl
+is_none_of (Some s) e = absurd (cc e)
+
+refused_idle : (w : World) (c : Class) → IsListed w →
+    (full_or_idle (open_of_class w c) (nat_le w.config.inflight (open_of_class w c))
+    (is_none (picked_station w c).winner) ≡ Some Idle) ↔ (MayOpen w c × NoneReady w c)
+refused_idle w c listed = (
+  (λ e.
+      let k = both_where_idle (open_of_class w c) (nat_le w.config.inflight (open_of_class w c))
+      (is_none (picked_station w c).winner) e in (
+        below w.config.inflight (open_of_class w c) k.0,
+        none_ready w c listed (is_none_of (picked_station w c).winner k.1),
+      )),
+  (λ h. idle_where_both (open_of_class w c) (nat_le w.config.inflight (open_of_class w c))
+      (is_none (picked_station w c).winner) (not_full w.config.inflight (open_of_class w c) h.0)
+      (rw (ready_none w c h.1) refl)),
+)
+  where
+    below : (m n : ℕ) → nat_le m n ≡ false → n < m
+    below m n e = grind arith
+
+    not_full : (m n : ℕ) → n < m → nat_le m n ≡ false
+    not_full m n h = grind arith
+
+idle_pull : (w : World) (c : Class) → IsListed w →
+    (first_refusal ((nat_le w.config.inflight (open_of_class w c), Full (open_of_class w c))
+    ∷ (is_none (picked_station w c).winner, Idle) ∷ []) ≡ Some Idle) ↔ (MayOpen w c × NoneReady w c)
+unfolding first_refusal full_or_idle
+idle_pull w c listed = refused_idle w c listed
+
+-- ---- quanta
+
+weight_some : (w : World) (s : ℕ) → IsKept (books w) →
+    1 ≤ (unwrap_or (at None w.stations s) no_station).weight
+weight_some w s k = go (at None w.stations s) (k.goods s)
+  where
+    go : (o : Option Station) → IfSome (option_map account o) (IsGood w.config (books w).opened s) →
+        1 ≤ (unwrap_or o no_station).weight
+    go None h = omega arith
+    go (Some x) h = omega (arith, h.weight)
+
+product : (m n : ℕ) → 1 ≤ m → 1 ≤ n → 1 ≤ m * n
+product m n h k = grind arith
+
+quantum_some : (w : World) (s : ℕ) → IsKept (books w) → 1 ≤ quantum w s
+quantum_some w s k = product w.config.quantum (unwrap_or (at None w.stations s) no_station).weight
+    (omega (arith, k.range.quantum.0)) (weight_some w s k)
+
+-- ---- the law
+
+keeps_rotations : (w : World) → IsOrderly w → KeepsQueues w → KeepsRotations w
+keeps_rotations w i q =
+    let k : IsKept (books w) = i.kept in
+    let octets : 1 ≤ w.config.flow_quantum = omega (arith, k.range.flow_quantum.0) in
+    record {
+      live = λ c s listed. some_live w s (k.live c s (on-lists (rotation w c) s listed));
+      once = λ c. once_list (in_order (rotation w c)) (k.once c);
+      idle = λ c. idle_pull w c i.listed;
+      quanta = λ s. quantum_some w s k;
+      octets = octets;
+      stations = λ c. turn_law (quantum w) (λ s. (share w s c).deficit) (is_ready w c) (rotation w c)
+          (λ s. quantum_some w s k) (once_list (in_order (rotation w c)) (k.once c));
+      queues = λ s t. turn_law (λ y. w.config.flow_quantum) (λ y. (queue w y).deficit) (has_frames w)
+          (tid_of w s t).queues (λ y. octets) (q.once s t);
+    }
+  where
+    some_live : (w : World) (s : ℕ) → is_some ((books w).accounts s) ≡ true → is_live w s ≡ true
+    some_live w s = go (at None w.stations s)
+      where
+        go : (o : Option Station) → is_some (option_map account o) ≡ true → is_some o ≡ true
+        go None e = e
+        go (Some x) e = refl
+
+pub rotation_law : (config : Config) (h : List Entry) → IsInRange config → RotationLaw config h
+rotation_law config h range m = keeps_rotations (world_at config h m) (orderly config (take m h) range)
+    (queue_law config h range m)

@@ -1,0 +1,1082 @@
+-- The window law: each agreement and each open exchange is right, in every world of a run.
+use Rattle.std.proofs.Common.{◌≡◌, ◌≢◌, refl, ap, sym, ◌∙◌, subst, arith, ℕ, zero, suc, ◌+◌, ◌-◌, ◌<◌, ◌≤◌, nat_lt, append-nil, max, pos, ◌+ℤ◌, ◌*◌, Bool, true, false, if◌then◌else◌, not, ◌&&◌, ◌==◌, ◌||◌, inl, inr, is_none, sum_by, List, [], ◌∷◌, ◌++◌, length, map, filter, nat_le, Option, Some, None, IfSome, is_some, unwrap_or, option_map}
+use Rattle.wf_frame.specs.declared.settings.Config.{Config}
+use Rattle.wf_frame.specs.declared.classes.Class.{Class}
+use Rattle.wf_def_lists.specs.Table.{at, has, with_member, put, change, upto}
+use Rattle.wf_def_codel.specs.Codel.{Item}
+use Rattle.wf_def_rotation.specs.Rotation.{in_order}
+use Rattle.wf_def_agreement.specs.Receiver.{Receiver, with_arrived, with_start, Score, score, shows}
+use Rattle.wf_def_agreement.specs.Session.{request_due, waiting_numbers, Session, Slot, State, is_settled, is_failed, slot_after_miss, slot, on_slot, with_number_given, after_miss, next_number, has_room}
+use Rattle.wf_def_world.specs.World.{quantum, new_queue, no_share, receiver, share, World, Station, Share, Tid, Queue, Exchange, Mpdu, Content, Frames, Request, new_tid, no_tid, no_station, rotation, session, tid_of, is_live, exchange, with_station, on_station, on_tid, on_session, on_receiver, on_share, with_rotation, with_exchange, without_exchange, opening}
+use Rattle.wf_frame.specs.Classes.{lower_tid, upper_tid, class_number, all_classes}
+use Rattle.wf_def_world.specs.FlowQueues.{taken_for_tid}
+use Rattle.wf_def_world.specs.CanSend.{is_request, request_open, can_send, can_send_in, is_ready, can_give}
+use Rattle.wf_def_world.specs.Exchanges.{is_acked, transmissions, no_mpdu, station_need, most_frames, picked_station, after_arrival, exchange_of, sending_tid, with_heard_start, Aggregate, Prepared, mpdus_of, with_station_paid, with_stations_paid, after_pick, after_tid_turn, with_fresh, aggregate_of, with_number, fresh_mpdus, with_flying, waiting_mpdus, longest_fitting, prepared_data, prepared_exchange, with_exchange_opened, after_charge, with_failed_finished, with_settled, with_all_settled, after_done}
+use Rattle.wf_frame.specs.declared.notes.Ask.TheVariants.{Join, Leave, Rate, Tick, Pull, Arrive, Answer, Done, Sleep, Wake, Poll, Rx, Reap}
+use Rattle.wf_frame.specs.declared.notes.Note.{Note}
+use Rattle.wf_frame.specs.declared.notes.Note.TheVariants.{Enqueue, Asked}
+use Rattle.wf_frame.specs.declared.notes.Refusal.{Refusal}
+use Rattle.wf_frame.specs.declared.notes.Refusal.TheVariants.{Idle}
+use Rattle.wf_def_world.specs.Refusals.{exchange_has, open_of_station, refusals, refusal}
+use Rattle.wf_def_world.specs.Step.{Outcome, join_outcome, after_tid_left, after_tids_left, without_listings, leave_outcome, rate_outcome, tick_outcome, with_frame, enqueue_outcome, send_outcome, pull_outcome_for, pull_outcome, arrive_outcome, answer_outcome, done_outcome, outcome_where_open, sleep_outcome, wake_outcome, poll_outcome, rx_outcome, reap_outcome, outcome_of, after_refusal, judged_outcome, step}
+use Rattle.wf_def_world.specs.Run.{Entry, world_after}
+use Rattle.std.specs.List.{list_any}
+use Rattle.wf_law_rules.proofs.Lemmas.Tables.{each_put, at_put_other}
+use Rattle.wf_law_runs.proofs.Sessions.Starts.{start_ge, length-change}
+use Rattle.wf_law_runs.proofs.Sessions.Flights.{AllIn, Rises, rises_weaken, all_in_later, IsFlown, flown, IsChosen, chosen_fitting, chosen_waiting, chosen_give, chosen_fresh}
+use Rattle.wf_law_rules.proofs.Lemmas.Numbers.{on_bool, on_if, eq_yes, eq_no, yes_eq, either, both, and_true, has_new}
+use Rattle.wf_law_runs.proofs.Windows.Sides.{Side, side_of, side, sides_of, Same, each_side_on, at_side_on, side_on, on_live, on_opened, on_exchanges, same, then_same, same_on_station, same_with_queues, same_on_share, same_with_rotation, same_finish, same_finish_all, same_listed, same_after_pick, same_after_turn, same_spent, same_within_limit, same_put_in, same_take, same_purge_queues, same_charged}
+use Rattle.wf_law_runs.proofs.Windows.Agreement.{IsAgreed, agreed_on_slot, not_due_give, agreed_give, agreed_heard, agreed_arrived, agreed_start, agreed_new, IsAsked, IsOpen, request_map, open_on_slot, open_flies, open_arrived, open_start, open_heard, agreed_fly, answer_right, AllRight, IfRequest}
+use Rattle.wf_law_runs.proofs.Windows.Opened.{Each, each_map, each_both, each_append, each_filter, each_find, FlyIn, fly_give, differ, some_along, pick_ready, can_give-room, eight, none_open, NoRow, no_row}
+
+-- ---- worlds in which each agreement and each open exchange is right
+
+abbrev pub AgreedAt : Side → Type 0
+AgreedAt a = IsAgreed a.session a.receiver
+
+abbrev pub OpenAt : Exchange → Side → Type 0
+OpenAt x a = IsOpen x a.session a.receiver
+
+pub record IsOpenIn (w : World) (x : Exchange) : Type 0 where
+  pub live : is_live w x.station ≡ true
+  pub below : x.number < w.exchanges
+  pub opened : OpenAt x (side w x.station x.tid)
+
+abbrev pub asks : ℕ → ℕ → Exchange → Bool
+asks s t x = (x.station == s) && ((x.tid == t) && is_request x.content)
+
+-- at most one of them is a request of this TID
+pub record IsSole (xs : List Exchange) (s t : ℕ) : Type 0 where
+  pub who : ℕ
+  pub only : Each (λ x. asks s t x ≡ true → x.number ≡ who) xs
+
+pub record IsLawful (w : World) : Type 0 where
+  pub agreed : (s t : ℕ) → AgreedAt (side w s t)
+  pub opened : Each (IsOpenIn w) w.opened
+  pub sole : (s t : ℕ) → IsSole w.opened s t
+
+pub open_same : (w v : World) (x : Exchange) → Same w v → IsOpenIn w x → IsOpenIn v x
+open_same w v x h o = record {
+  live = h.live x.station ∙ o.live;
+  below = subst (λ (n : ℕ). x.number < n) (sym h.exchanges) o.below;
+  opened = subst (OpenAt x) (sym (h.sides x.station x.tid)) o.opened;
+}
+
+pub lawful_same : (w v : World) → Same w v → IsLawful w → IsLawful v
+lawful_same w v h i = record {
+  agreed = λ s t. subst AgreedAt (sym (h.sides s t)) (i.agreed s t);
+  opened = subst (Each (IsOpenIn v)) (sym h.opened)
+      (each_map (IsOpenIn w) (IsOpenIn v) w.opened (λ x o. open_same w v x h o) i.opened);
+  sole = λ s t. subst (λ (xs : List Exchange). IsSole xs s t) (sym h.opened) (i.sole s t);
+}
+
+-- one TID changes
+pub lawful_on_tid : (N : Exchange → Type 0) (w : World) (s t : ℕ) (f : Tid → Tid) → Each N w.opened →
+    AgreedAt (side_of (f (tid_of w s t)))
+    → ((x : Exchange) → x.number < w.exchanges → N x → s ≡ x.station → t ≡ x.tid → OpenAt x (side w s t) →
+    OpenAt x (side_of (f (tid_of w s t))))
+    → IsLawful w → IsLawful (on_tid w s t f)
+lawful_on_tid N w s t f n a k i = record {
+  agreed = each_side_on (λ _ _ z. AgreedAt z) w s t f i.agreed a;
+  opened = subst (Each (IsOpenIn (on_tid w s t f))) (sym (on_opened w s t f))
+      (each_both (IsOpenIn w) N (IsOpenIn (on_tid w s t f)) w.opened (λ x o m. record {
+        live = on_live w s t f x.station ∙ o.live;
+        below = subst (λ (c : ℕ). x.number < c) (sym (on_exchanges w s t f)) o.below;
+        opened = at_side_on (OpenAt x) w s t f x.station x.tid o.opened (λ e d. k x o.below m e d);
+      }) i.opened n);
+  sole = λ a b. subst (λ (xs : List Exchange). IsSole xs a b) (sym (on_opened w s t f)) (i.sole a b);
+}
+
+pub lawful_on_session : (N : Exchange → Type 0) (w : World) (s t : ℕ) (f : Session → Session) →
+    Each N w.opened → IsAgreed (f (session w s t)) (receiver w s t)
+    → ((x : Exchange) → x.number < w.exchanges → N x → s ≡ x.station → t ≡ x.tid →
+    IsOpen x (session w s t) (receiver w s t) → IsOpen x (f (session w s t)) (receiver w s t))
+    → IsLawful w → IsLawful (on_session w s t f)
+unfolding on_session
+lawful_on_session N w s t f n a k i = lawful_on_tid N w s t (λ y. record y { session = f y.session }) n a k i
+
+pub any_exchange : (xs : List Exchange) → Each (λ _. Unit {0}) xs
+any_exchange [] = tt
+any_exchange (x ∷ xs) = (tt, any_exchange xs)
+
+pub side_on_session : (w : World) (s t : ℕ) (f : Session → Session) → is_live w s ≡ true →
+    side (on_session w s t f) s t ≡ record { session = f (session w s t); receiver = receiver w s t }
+unfolding on_session
+side_on_session w s t f live = side_on w s t _ live
+
+pub session_on_session : (w : World) (s t : ℕ) (f : Session → Session) → is_live w s ≡ true →
+    session (on_session w s t f) s t ≡ f (session w s t)
+session_on_session w s t f live = ap (λ (a : Side). a.session) (side_on_session w s t f live)
+
+pub receiver_on_session : (w : World) (s t : ℕ) (f : Session → Session) → is_live w s ≡ true →
+    receiver (on_session w s t f) s t ≡ receiver w s t
+receiver_on_session w s t f live = ap (λ (a : Side). a.receiver) (side_on_session w s t f live)
+
+pub live_on_session : (w : World) (s t : ℕ) (f : Session → Session) (i : ℕ) →
+    is_live (on_session w s t f) i ≡ is_live w i
+unfolding on_session
+live_on_session w s t f i = on_live w s t _ i
+
+pub opened_on_session : (w : World) (s t : ℕ) (f : Session → Session) → (on_session w s t f).opened ≡ w.opened
+unfolding on_session
+opened_on_session w s t f = on_opened w s t _
+
+pub exchanges_on_session : (w : World) (s t : ℕ) (f : Session → Session) →
+    (on_session w s t f).exchanges ≡ w.exchanges
+unfolding on_session
+exchanges_on_session w s t f = on_exchanges w s t _
+
+-- ---- fresh numbers
+
+-- a world in which numbers of a session were chosen, while no request is due
+pub record IsReady (s t : ℕ) (w : World) (ms : List Mpdu) : Type 0 where
+  pub lawful : IsLawful w
+  pub live : is_live w s ≡ true
+  pub quiet : request_due (session w s t) ≡ false
+  pub chosen : IsChosen (session w s t) ms
+
+pub session_same : (w v : World) → Same w v → (s t : ℕ) → session v s t ≡ session w s t
+session_same w v h s t = ap (λ (a : Side). a.session) (h.sides s t)
+
+pub ready_same : (w v : World) (s t : ℕ) (ms : List Mpdu) → Same w v → IsReady s t w ms → IsReady s t v ms
+ready_same w v s t ms h r = record {
+  lawful = lawful_same w v h r.lawful;
+  live = h.live s ∙ r.live;
+  quiet = ap request_due (session_same w v h s t) ∙ r.quiet;
+  chosen = subst (λ (y : Session). IsChosen y ms) (sym (session_same w v h s t)) r.chosen;
+}
+
+pub lawful_give : (w : World) (s t id : ℕ) → has_room (session w s t) ≡ true →
+    request_due (session w s t) ≡ false → IsLawful w →
+    IsLawful (on_session w s t (λ y. with_number_given y id))
+lawful_give w s t id room quiet i =
+    lawful_on_session (λ _. Unit {0}) w s t (λ y. with_number_given y id) (any_exchange w.opened)
+    (agreed_give (session w s t) (receiver w s t) id room quiet (i.agreed s t))
+    (λ x b n e d o. open_flies x (session w s t) (with_number_given (session w s t) id) (receiver w s t) quiet
+    (λ f. fly_give (session w s t) id x.number _ f) o) i
+
+pub ready_give : (w : World) (s t id : ℕ) (ms : List Mpdu) → has_room (session w s t) ≡ true →
+    IsReady s t w ms → IsReady s t (on_session w s t (λ y. with_number_given y id)) ms
+ready_give w s t id ms room r = record {
+  lawful = lawful_give w s t id room r.quiet r.lawful;
+  live = live_on_session w s t _ s ∙ r.live;
+  quiet = ap request_due (session_on_session w s t (λ y. with_number_given y id) r.live)
+      ∙ not_due_give (session w s t) id r.quiet;
+  chosen = subst (λ (y : Session). IsChosen y ms) (sym (session_on_session w s t _ r.live))
+      (chosen_give (session w s t) id ms r.chosen);
+}
+
+pub longer_give : (w : World) (s t id : ℕ) (m : Mpdu) (ms : List Mpdu) →
+    m.number ≡ next_number (session w s t) → has_room (session w s t) ≡ true → IsReady s t w ms →
+    IsReady s t (on_session w s t (λ y. with_number_given y id)) (ms ++ m ∷ [])
+longer_give w s t id m ms e room r = record {
+  lawful = (ready_give w s t id ms room r).lawful;
+  live = (ready_give w s t id ms room r).live;
+  quiet = (ready_give w s t id ms room r).quiet;
+  chosen = subst (λ (y : Session). IsChosen y (ms ++ m ∷ [])) (sym (session_on_session w s t _ r.live))
+      (chosen_fresh (session w s t) id m ms e r.chosen);
+}
+
+pub ready_number : (o : Option Item) (w : World) (s t : ℕ) (ms : List Mpdu) →
+    has_room (session w s t) ≡ true → IsReady s t w ms → IsReady s t (with_number w s t o) ms
+unfolding with_number
+ready_number None w s t ms room r = r
+ready_number (Some x) w s t ms room r = ready_give w s t x.id ms room r
+
+-- u is the world before the take, whose session gives the number
+pub longer_number : (o : Option Item) (u w : World) (s t : ℕ) (ms : List Mpdu) → Same u w →
+    has_room (session w s t) ≡ true → IsReady s t w ms →
+    IsReady s t (with_number w s t o) (ms ++ fresh_mpdus u s t o)
+unfolding with_number
+longer_number None u w s t ms h room r = subst (IsReady s t w) (sym (append-nil ms)) r
+longer_number (Some x) u w s t ms h room r = longer_give w s t x.id _ ms
+    (ap next_number (sym (session_same u w h s t))) room r
+
+pub if_ready : (b : Bool) (s t : ℕ) (x y : Aggregate) → (b ≡ true → IsReady s t x.world x.mpdus) →
+    (b ≡ false → IsReady s t y.world y.mpdus) →
+    IsReady s t (if b then x else y).world (if b then x else y).mpdus
+if_ready true s t x y h k = h refl
+if_ready false s t x y h k = k refl
+
+pub ready_fresh : (n : ℕ) (w : World) (s t : ℕ) (ms : List Mpdu) → IsReady s t w ms →
+    IsReady s t (with_fresh n w s t ms).world (with_fresh n w s t ms).mpdus
+unfolding with_fresh
+ready_fresh zero w s t ms r = r
+ready_fresh (suc n) w s t ms r =
+    let taken = taken_for_tid w s t in
+    let kept : Same w taken.world = same_take w s t in
+    let ready : IsReady s t taken.world ms = ready_same w taken.world s t ms kept r in
+    if_ready (not (can_give w s t)) s t _ _ (λ _. r) (λ none.
+    let room : has_room (session taken.world s t) ≡ true =
+    ap has_room (session_same w taken.world kept s t) ∙ can_give-room w s t none in
+    if_ready _ s t _ _
+    (λ _. ready_fresh n _ s t _ (longer_number taken.item w taken.world s t ms kept room ready))
+    (λ _. ready_number taken.item taken.world s t ms room ready))
+
+pub ready_start : (w : World) (s t : ℕ) → IsLawful w → is_live w s ≡ true →
+    request_due (session w s t) ≡ false → IsReady s t w (longest_fitting w s (waiting_mpdus w s t))
+ready_start w s t i live quiet = record {
+  lawful = i;
+  live = live;
+  quiet = quiet;
+  chosen =
+      chosen_fitting (waiting_mpdus w s t) w s (session w s t) (chosen_waiting w s t);
+}
+
+pub ready_filled : (w : World) (s t : ℕ) → IsLawful w → is_live w s ≡ true →
+    request_due (session w s t) ≡ false → IsReady s t (aggregate_of w s t).world (aggregate_of w s t).mpdus
+unfolding aggregate_of
+ready_filled w s t i live quiet =
+    let r : IsReady s t w (longest_fitting w s (waiting_mpdus w s t)) = ready_start w s t i live quiet in
+    let chosen : List Mpdu = longest_fitting w s (waiting_mpdus w s t) in
+    if_ready (length chosen == length (waiting_mpdus w s t)) s t
+    (with_fresh (most_frames w s - length chosen) w s t chosen) (record { world = w; mpdus = chosen })
+    (λ _. ready_fresh (most_frames w s - length chosen) w s t chosen r) (λ _. r)
+
+-- ---- what is sent flies
+
+pub record IsAloft (s t : ℕ) (p : Prepared) : Type 0 where
+  pub lawful : IsLawful p.world
+  pub live : is_live p.world s ≡ true
+  pub flies : FlyIn p.world.exchanges (mpdus_of p.content) (session p.world s t)
+  pub asked : IfRequest p.content (λ f. IsAsked f (session p.world s t))
+  pub alone : IfRequest p.content (λ f. request_open p.world s t ≡ false)
+
+pub aloft_frames : (s t : ℕ) (f : Aggregate) → IsReady s t f.world f.mpdus → IsAloft s t (prepared_data s t f)
+unfolding prepared_data
+aloft_frames s t f r =
+    let e : ℕ = f.world.exchanges in
+    let y : Session = session f.world s t in
+    let z : IsFlown e f.mpdus y (with_flying e f.mpdus y) =
+    flown f.mpdus y e (next_number y) y.first (omega arith) r.chosen.rising r.chosen.waiting in
+    let fly : (n : ℕ) (ms : List Mpdu) → FlyIn n ms y → AllIn (with_flying e f.mpdus y) (State.Flying n) ms →
+    FlyIn n ms (with_flying e f.mpdus y) =
+    λ n ms g a. record {
+      rising = subst (λ (k : ℕ). Rises k (next_number (with_flying e f.mpdus y)) ms)
+          (sym z.first) (subst (λ (k : ℕ). Rises y.first k ms) (sym z.next) g.rising);
+      flying = a;
+    }
+    in
+    record {
+      lawful = lawful_on_session (λ _. Unit {0}) f.world s t (with_flying e f.mpdus)
+          (any_exchange f.world.opened)
+          (agreed_fly f.mpdus y (receiver f.world s t) e y.first (next_number y)
+          (omega arith) r.chosen.rising r.chosen.waiting (r.lawful.agreed s t))
+          (λ x b n _ _ o. open_flies x y (with_flying e f.mpdus y) (receiver f.world s t) r.quiet
+          (λ g. fly x.number _ g (z.others x.number _ g.flying)) o) r.lawful;
+      live = live_on_session f.world s t _ s ∙ r.live;
+      flies = subst (λ (n : ℕ). FlyIn n f.mpdus (session
+          (on_session f.world s t (with_flying e f.mpdus)) s t)) (sym (exchanges_on_session f.world s t _))
+          (subst (FlyIn e f.mpdus) (sym (session_on_session f.world s t _ r.live))
+          (record {
+            rising = subst (λ (k : ℕ). Rises k (next_number (with_flying e f.mpdus y)) f.mpdus)
+                (sym z.first) (subst (λ (k : ℕ). Rises y.first k f.mpdus) (sym z.next) r.chosen.rising);
+            flying = z.flying;
+          }));
+      asked = tt;
+      alone = tt;
+    }
+
+pub if_aloft : (b : Bool) (s t : ℕ) (x y : Prepared) → (b ≡ true → IsAloft s t x) →
+    (b ≡ false → IsAloft s t y) → IsAloft s t (if b then x else y)
+if_aloft true s t x y h k = h refl
+if_aloft false s t x y h k = k refl
+
+pub aloft : (w : World) (s t : ℕ) → IsLawful w → is_live w s ≡ true →
+    (request_due (session w s t) ≡ true → request_open w s t ≡ false) → IsAloft s t (prepared_exchange w s t)
+unfolding prepared_exchange
+aloft w s t i live may = if_aloft (request_due (session w s t)) s t _ _
+    (λ due. record {
+      lawful = i;
+      live = live;
+      flies = record { rising = tt; flying = tt };
+      asked = record {
+        due = due;
+        from = start_ge (session w s t).slots (session w s t).first;
+        start =
+            omega arith;
+        next = (i.agreed s t).within.within;
+      };
+      alone = may due;
+    })
+    (λ quiet. aloft_frames s t _ (ready_filled w s t i live quiet))
+
+-- ---- pulls
+
+pub asks_is : (s t : ℕ) (x : Exchange) → asks s t x ≡ true → (x.station ≡ s) × (x.tid ≡ t) ×
+    (is_request x.content ≡ true)
+asks_is s t x h =
+    let p = both _ _ h in
+    let q = both _ _ p.1 in
+    (eq_yes _ _ p.0, eq_yes _ _ q.0, q.1)
+
+pub none_asks : (s t : ℕ) (xs : List Exchange) →
+    list_any (λ x. (x.station == s) && ((x.tid == t) && is_request x.content)) xs ≡ false →
+    Each (λ x. asks s t x ≡ false) xs
+none_asks s t [] h = tt
+none_asks s t (x ∷ xs) h =
+    let p = neither (asks s t x) (list_any (λ x. (x.station == s) && ((x.tid == t) && is_request x.content))
+    xs) h in
+    (p.0, none_asks s t xs p.1)
+  where
+    neither : (a b : Bool) → (a || b) ≡ false → (a ≡ false) × (b ≡ false)
+    neither true b h = absurd (cc h)
+    neither false b h = (refl, h)
+
+pub sole_append : (xs : List Exchange) (x : Exchange) (s t : ℕ) → IsSole xs s t →
+    (asks s t x ≡ true → Each (λ y. asks s t y ≡ false) xs) → IsSole (xs ++ x ∷ []) s t
+sole_append xs x s t k f = on_bool (asks s t x)
+    (λ yes_asks. record {
+      who = x.number;
+      only = each_append
+          (λ y. asks s t y ≡ true → y.number ≡ x.number) xs x
+          (each_map (λ y. asks s t y ≡ false) (λ y. asks s t y ≡ true → y.number ≡ x.number) xs
+          (λ y n h. absurd (cc (n, h))) (f yes_asks)) (λ _. refl);
+    })
+    (λ not_asks. record {
+      who = k.who;
+      only = each_append
+          (λ y. asks s t y ≡ true → y.number ≡ k.who) xs x k.only (λ h. absurd (cc (not_asks, h)));
+    })
+
+pub sole_opened : (c : Content) (w : World) (x : Exchange) (s t : ℕ) → x.content ≡ c →
+    IfRequest c (λ f. request_open w x.station x.tid ≡ false) → IsSole w.opened s t →
+    IsSole (w.opened ++ x ∷ []) s t
+sole_opened (Frames ms) w x s t e alone k = sole_append w.opened x s t k
+    (λ h. absurd (cc ((asks_is s t x h).2, ap is_request e)))
+sole_opened (Request f) w x s t e alone k = sole_append w.opened x s t k (λ h.
+    let p = asks_is s t x h in
+    subst (λ (i : ℕ). Each (λ y. asks i t y ≡ false) w.opened) p.0
+    (subst (λ (j : ℕ). Each (λ y. asks x.station j y ≡ false) w.opened) p.1
+    (none_asks x.station x.tid w.opened alone)))
+
+pub lawful_opening : (w : World) (x : Exchange) → x.number ≡ w.exchanges → IsLawful w →
+    is_live w x.station ≡ true → IsOpen x (session w x.station x.tid) (receiver w x.station x.tid) →
+    IfRequest x.content (λ f. request_open w x.station x.tid ≡ false) → IsLawful (with_exchange_opened w x)
+unfolding with_exchange_opened
+lawful_opening w x e i live o alone = record {
+  agreed = i.agreed;
+  opened = each_append (IsOpenIn (record w { exchanges = w.exchanges + 1; opened = w.opened ++ x ∷ [] }))
+      w.opened x
+      (each_map (IsOpenIn w) (IsOpenIn (record w {
+        exchanges = w.exchanges + 1;
+        opened =
+            w.opened ++ x ∷ [];
+      })) w.opened (λ y g. record {
+        live = g.live;
+        below = omega (arith, g.below);
+        opened = g.opened;
+      }) i.opened)
+      (record { live = live; below = omega (arith, e); opened = o });
+  sole = λ s t. sole_opened x.content w x s t refl alone (i.sole s t);
+}
+
+pub lawful_sent : (s t : ℕ) (c : Class) (p : Prepared) → IsAloft s t p → IsLawful (send_outcome s t c p).world
+unfolding send_outcome
+lawful_sent s t c p a = lawful_same _ _ (same_spent _ s)
+    (lawful_opening p.world (exchange_of s t c p) refl a.lawful a.live
+    (record {
+      flies = a.flies;
+      kept = tt;
+      asked = a.asked;
+      told =
+          request_map p.content (λ f. IsAsked f (session p.world s t))
+          (λ f. (length {A = ℕ} [] == 0) ≡ false → has (receiver p.world s t).starts f ≡ true)
+          (λ f h none. absurd (cc none)) a.asked;
+      marked = λ h. absurd (cc h);
+    }) a.alone)
+
+-- the TID that sends can send
+pub sends : (p : ℕ → Bool) (u : Bool) (lo up : ℕ) → (p lo || p up) ≡ true →
+    p (if p (if u then up else lo) then (if u then up else lo) else (if u then lo else up)) ≡ true
+sends p true lo up h = on_if (λ k. p k ≡ true) (p up) up lo (λ e. e)
+    (λ e. elim (either (p lo) (p up) h) [ inl d ↦ d | inr d ↦ absurd (cc (d, e)) ])
+sends p false lo up h = on_if (λ k. p k ≡ true) (p lo) lo up (λ e. e)
+    (λ e. elim (either (p lo) (p up) h) [ inl d ↦ absurd (cc (d, e)) | inr d ↦ d ])
+
+pub may_send : (w : World) (s t : ℕ) → can_send w s t ≡ true → request_due (session w s t) ≡ true →
+    request_open w s t ≡ false
+may_send w s t h due = go (request_due (session w s t)) (request_open w s t) _ h due
+  where
+    go : (a b c : Bool) → (if a then not b else c) ≡ true → a ≡ true → b ≡ false
+    go true true c h e = absurd (cc h)
+    go true false c h e = refl
+    go false b c h e = absurd (cc e)
+
+pub lawful_pulled_by : (o : Option ℕ) (w : World) (c : Class) →
+    IfSome o (λ s. (is_live w s ≡ true) × (can_send_in w s c ≡ true)) → IsLawful w →
+    IsLawful (pull_outcome_for w c o).world
+unfolding pull_outcome_for
+lawful_pulled_by None w c ready i = i
+lawful_pulled_by (Some s) w c ready i =
+    let t : ℕ = sending_tid w s c in
+    let k : Same w (after_tid_turn w s c t) = same_after_turn w s c t in
+    let may : request_due (session w s t) ≡ true →
+    request_open w s t ≡ false = may_send w s t
+    (sends (can_send w s) (share w s c).upper (lower_tid c) (upper_tid c) ready.1) in
+    lawful_sent s _ c _ (aloft _ s _ (lawful_same _ _ k i) (k.live s ∙ ready.0)
+    (λ due. ap (λ (xs : List Exchange). list_any
+    (λ x. (x.station == s) && ((x.tid == t) && is_request x.content)) xs) k.opened
+    ∙ may (ap request_due (sym (session_same w _ k s t)) ∙ due)))
+
+-- the pick pays stations and moves them, and changes no queue
+pub record Unmoved (w v : World) : Type 0 where
+  pub tids : (s t : ℕ) → tid_of v s t ≡ tid_of w s t
+  pub queues : v.queues ≡ w.queues
+
+pub tid_on_share : (o : Option Station) (k : ℕ) (f : Share → Share) (t : ℕ) →
+    at no_tid (unwrap_or (option_map (λ (x : Station). record x { shares = change no_share x.shares k f }) o)
+    no_station).tids t ≡ at no_tid (unwrap_or o no_station).tids t
+tid_on_share None k f t = refl
+tid_on_share (Some x) k f t = refl
+
+pub unmoved_on_share : (w : World) (s : ℕ) (c : Class) (f : Share → Share) → Unmoved w (on_share w s c f)
+unfolding on_share on_station with_station
+unmoved_on_share w s c f = record {
+  tids = each_put (λ i o. (j : ℕ) → at no_tid (unwrap_or o no_station).tids j ≡ tid_of w i j) None w.stations
+      s _ (λ i j. refl) (λ t. tid_on_share (at None w.stations s) (class_number c) f t);
+  queues = refl;
+}
+
+pub unmoved_pay : (ss : List ℕ) (w : World) (c : Class) (quanta : ℕ → ℕ) →
+    Unmoved w (with_stations_paid w c quanta ss)
+unfolding with_stations_paid with_station_paid
+unmoved_pay [] w c quanta = record { tids = λ s t. refl; queues = refl }
+unmoved_pay (s ∷ ss) w c quanta =
+    let a = unmoved_on_share w s c (λ x. record x {
+      deficit = x.deficit +ℤ pos (quanta s * quantum w s);
+      quanta = x.quanta + quanta s;
+    }) in
+    let b = unmoved_pay ss (on_share w s c (λ x. record
+    x { deficit = x.deficit +ℤ pos (quanta s * quantum w s); quanta = x.quanta + quanta s })) c quanta in
+    record { tids = λ i t. b.tids i t ∙ a.tids i t; queues = b.queues ∙ a.queues }
+
+pub unmoved_after_pick : (w : World) (c : Class) → Unmoved w (after_pick w c)
+unfolding after_pick with_rotation
+unmoved_after_pick w c =
+    let a = unmoved_pay (in_order (rotation w c)) w c (picked_station w c).quanta in
+    record { tids = a.tids; queues = a.queues }
+
+abbrev pub sends_by : ℕ → ℕ → Session → List Exchange → ℕ → Bool
+sends_by s t y xs q = if request_due y then not
+    (list_any (λ x. (x.station == s) && ((x.tid == t) && is_request x.content)) xs)
+    else (nat_lt 0 (length (waiting_numbers y)) || (nat_lt 0 q && has_room y))
+
+abbrev pub queued_by : List Queue → Tid → ℕ
+queued_by qs y = sum_by (λ q. length (at new_queue qs q).items) (in_order y.queues)
+
+pub can_send_same : (w v : World) (s t : ℕ) → Same w v → Unmoved w v → can_send v s t ≡ can_send w s t
+can_send_same w v s t h k =
+    ap (λ (y : Tid). sends_by s t y.session v.opened (queued_by v.queues y)) (k.tids s t)
+    ∙ ap (λ (xs : List Exchange). sends_by s t (session w s t) xs (queued_by v.queues (tid_of w s t)))
+    h.opened
+    ∙ ap (λ (qs : List Queue). sends_by s t (session w s t) w.opened (queued_by qs (tid_of w s t))) k.queues
+
+pub winner_ready : (w : World) (c : Class) → IfSome (picked_station w c).winner
+    (λ s. (is_live (after_pick w c) s ≡ true) × (can_send_in (after_pick w c) s c ≡ true))
+winner_ready w c =
+    let k : Same w (after_pick w c) = same_after_pick w c in
+    let u : Unmoved w (after_pick w c) = unmoved_after_pick w c in
+    some_along (λ s. is_ready w c s ≡ true) (λ s. (is_live (after_pick w c) s ≡ true) ×
+    (can_send_in (after_pick w c) s c ≡ true)) (picked_station w c).winner (λ s h.
+    let p = both (is_live w s) _ h in
+    let q = both (can_send_in w s c) _ p.1 in (
+      k.live s ∙ p.0,
+      ap (λ (b : Bool). b || can_send (after_pick w c) s (upper_tid c))
+          (can_send_same w (after_pick w c) s (lower_tid c) k u)
+          ∙ ap (λ (b : Bool). can_send w s (lower_tid c) || b)
+          (can_send_same w (after_pick w c) s (upper_tid c) k u) ∙ q.0,
+    )) (pick_ready (station_need w c) (is_ready w c) (rotation w c))
+
+pub lawful_pulled : (w : World) (c : Class) → IsLawful w → IsLawful (pull_outcome w c).world
+unfolding pull_outcome
+lawful_pulled w c i = lawful_pulled_by (picked_station w c).winner (after_pick w c) c (winner_ready w c)
+    (lawful_same _ _ (same_after_pick w c) i)
+
+-- ---- arrivals and answers
+
+pub each_map_if : (P Q : Exchange → Type 0) (p : Exchange → Bool) (x : Exchange) (xs : List Exchange) → Q x →
+    ((y : Exchange) → p y ≡ false → P y → Q y) → Each P xs → Each Q (map (λ y. if p y then x else y) xs)
+each_map_if P Q p x [] h k e = tt
+each_map_if P Q p x (y ∷ xs) h k e = (
+  on_if Q (p y) x y (λ _. h) (λ other. k y other e.0),
+  each_map_if P Q p x xs h k e.1,
+)
+
+-- an exchange found among the open ones
+pub record IsFound (w : World) (i : IsLawful w) (x : Exchange) : Type 0 where
+  pub open_in : IsOpenIn w x
+  pub only : (s t : ℕ) → asks s t x ≡ true → x.number ≡ (i.sole s t).who
+
+pub sole_replaced : (w : World) (i : IsLawful w) (x z : Exchange) (s t : ℕ) → z.number ≡ x.number →
+    asks s t z ≡ asks s t x → IsFound w i x →
+    IsSole (map (λ y. if y.number == z.number then z else y) w.opened) s t
+sole_replaced w i x z s t n a f = record {
+  who = (i.sole s t).who;
+  only = each_map_if (λ y. asks s t y ≡ true → y.number ≡ (i.sole s t).who)
+      (λ y. asks s t y ≡ true → y.number ≡ (i.sole s t).who) (λ y. y.number == z.number) z w.opened
+      (λ h. n ∙ f.only s t (sym a ∙ h)) (λ y _ h. h) (i.sole s t).only;
+}
+
+pub lawful_answered : (w : World) (i : IsLawful w) (x : Exchange) → IsFound w i x →
+    (length x.arrived == 0) ≡ false → IsLawful (answer_outcome w x).world
+unfolding answer_outcome with_exchange
+lawful_answered w i x f some =
+    let b : Score = score (receiver w x.station x.tid) in
+    let z : Exchange = record x { answer = Some b } in
+    let v : World = record w { opened = map (λ y. if y.number == z.number then z else y) w.opened } in
+    let o : IsOpenIn w x = f.open_in in
+    record {
+      agreed = i.agreed;
+      opened = each_map_if (IsOpenIn w) (IsOpenIn v) (λ y. y.number == z.number) z w.opened (record {
+        live = o.live;
+        below = o.below;
+        opened = record {
+          flies = o.opened.flies;
+          kept = answer_right (mpdus_of x.content) (session w x.station x.tid)
+              (receiver w x.station x.tid) x.number (session w x.station x.tid).first
+              (next_number (session w x.station x.tid)) (omega arith)
+              (omega arith) o.opened.flies.rising o.opened.flies.flying (i.agreed x.station x.tid);
+          asked = o.opened.asked;
+          told = o.opened.told;
+          marked = λ _. some;
+        };
+      }) (λ y _ g. record { live = g.live; below = g.below; opened = g.opened }) i.opened;
+      sole = λ s t. sole_replaced w i x z s t refl refl f;
+    }
+
+pub with_member_some : (xs : List ℕ) (n : ℕ) → (length (with_member n xs) == 0) ≡ false
+with_member_some [] n = refl
+with_member_some (x ∷ xs) n = on_if (λ (ys : List ℕ). (length ys == 0) ≡ false) (nat_lt n x) (n ∷ x ∷ xs)
+    (if x == n then x ∷ xs else x ∷ with_member n xs)
+    (λ _. positive (length (x ∷ xs))) (λ _. on_if (λ (ys : List ℕ). (length ys == 0) ≡ false) (x == n)
+    (x ∷ xs) (x ∷ with_member n xs) (λ _. positive (length xs))
+    (λ _. positive (length (with_member n xs))))
+  where
+    positive : (k : ℕ) → (suc k == 0) ≡ false
+    positive k = grind arith
+
+-- the receiver of one TID changes, and the exchange x with it
+pub lawful_taken : (w : World) (i : IsLawful w) (x : Exchange) (n : ℕ) (g : Receiver → Receiver) →
+    IsFound w i x
+    → IsAgreed (session w x.station x.tid) (g (receiver w x.station x.tid))
+    → IsOpen (record x { arrived = with_member n x.arrived }) (session w x.station x.tid)
+    (g (receiver w x.station x.tid))
+    → ((y : Exchange) → y.number ≢ x.number → IsOpen y (session w x.station x.tid)
+    (receiver w x.station x.tid) → IsOpen y (session w x.station x.tid) (g (receiver w x.station x.tid)))
+    → IsLawful (with_exchange (on_receiver w x.station x.tid g)
+    (record x { arrived = with_member n x.arrived }))
+unfolding with_exchange on_receiver
+lawful_taken w i x n g f a o k =
+    let h : Tid → Tid = λ (y : Tid). record y { receiver = g y.receiver } in
+    let u : World = on_tid w x.station x.tid h in
+    let z : Exchange = record x { arrived = with_member n x.arrived } in
+    let v : World = record u { opened = map (λ y. if y.number == z.number then z else y) u.opened } in
+    let at_own : side u x.station x.tid ≡ record {
+      session = session w x.station x.tid;
+      receiver =
+          g (receiver w x.station x.tid);
+    } = side_on w x.station x.tid h f.open_in.live in
+    record {
+      agreed = each_side_on (λ _ _ y. AgreedAt y) w x.station x.tid h i.agreed a;
+      opened = subst (λ (xs : List Exchange). Each (IsOpenIn v)
+          (map (λ y. if y.number == z.number then z else y) xs)) (sym (on_opened w x.station x.tid h))
+          (each_map_if (IsOpenIn w) (IsOpenIn v) (λ y. y.number == z.number) z w.opened
+          (record {
+            live = on_live w x.station x.tid h x.station ∙ f.open_in.live;
+            below = subst (λ (c : ℕ). x.number < c) (sym (on_exchanges w x.station x.tid h)) f.open_in.below;
+            opened = subst (OpenAt z) (sym at_own) o;
+          })
+          (λ y other p. record {
+            live = on_live w x.station x.tid h y.station ∙ p.live;
+            below = subst (λ (c : ℕ). y.number < c) (sym (on_exchanges w x.station x.tid h)) p.below;
+            opened = at_side_on (OpenAt y) w x.station x.tid h y.station y.tid p.opened
+                (λ e d q. k y (eq_no _ _ other) q);
+          }) i.opened);
+      sole = λ s t. subst (λ (xs : List Exchange). IsSole
+          (map (λ y. if y.number == z.number then z else y) xs) s t) (sym (on_opened w x.station x.tid h))
+          (sole_replaced w i x z s t refl refl f);
+    }
+
+pub all_at : (y : Session) (st : State) (ms : List Mpdu) (i : ℕ) → i < length ms → AllIn y st ms →
+    (slot y (at no_mpdu ms i).number).state ≡ st
+all_at y st [] i h a = absurd (omega (arith, h))
+all_at y st (m ∷ ms) zero h a = a.0
+all_at y st (m ∷ ms) (suc i) h a = all_at y st ms i (omega (arith, h)) a.1
+
+pub rises_at : (lo hi : ℕ) (ms : List Mpdu) (i : ℕ) → i < length ms → Rises lo hi ms →
+    (lo ≤ (at no_mpdu ms i).number) × ((at no_mpdu ms i).number < hi)
+rises_at lo hi [] i h r = absurd (omega (arith, h))
+rises_at lo hi (m ∷ ms) zero h r = (r.0, r.1)
+rises_at lo hi (m ∷ ms) (suc i) h r =
+    let p = rises_at (suc m.number) hi ms i (omega (arith, h)) r.2 in
+    let low : suc m.number ≤ (at no_mpdu ms i).number = p.0 in
+    (omega (arith, low, r.0), p.1)
+
+pub no_answer : (P : Score → Type 0) (o : Option Score) → is_some o ≡ false → IfSome o P
+no_answer P None h = tt
+no_answer P (Some b) h = absurd (cc h)
+
+pub taken_by : (c : Content) (w : World) (i : IsLawful w) (x : Exchange) (n : ℕ) → x.content ≡ c →
+    IsFound w i x → is_some x.answer ≡ false → n < transmissions c →
+    IsLawful (with_exchange (on_receiver w x.station x.tid (after_arrival c n))
+    (record x { arrived = with_member n x.arrived }))
+taken_by (Frames ms) w i x n e f none l =
+    let y : Session = session w x.station x.tid in
+    let r : Receiver = receiver w x.station x.tid in
+    let m : ℕ = (at no_mpdu ms n).number in
+    let flies : FlyIn x.number ms y = subst (λ (c : Content). FlyIn x.number (mpdus_of c) y) e
+    f.open_in.opened.flies in
+    let p : (y.first ≤ m) × (m < next_number y) = rises_at y.first (next_number y) ms n l flies.rising in
+    lawful_taken w i x n (with_arrived m) f (agreed_arrived y r m p.0 p.1 (i.agreed x.station x.tid))
+    (record {
+      flies = f.open_in.opened.flies;
+      kept = no_answer (λ b. AllRight b (with_arrived m r) (mpdus_of x.content)) x.answer none;
+      asked = f.open_in.opened.asked;
+      told = subst (λ (c : Content). IfRequest c (λ g. (length (with_member n x.arrived) == 0) ≡ false →
+          has (with_arrived m r).starts g ≡ true)) (sym e) tt;
+      marked = λ h. absurd (cc (h, none));
+    })
+    (λ z other o. open_arrived z y r x.number m (all_at y (State.Flying x.number) ms n l flies.flying) other
+    o)
+taken_by (Request g) w i x n e f none l =
+    let y : Session = session w x.station x.tid in
+    let r : Receiver = receiver w x.station x.tid in
+    let asked : IsAsked g y = subst (λ (c : Content). IfRequest c (λ k. IsAsked k y)) e f.open_in.opened.asked
+    in
+    lawful_taken w i x n (with_start g) f (agreed_start y r g asked.from asked.start
+    (i.agreed x.station x.tid))
+    (record {
+      flies = f.open_in.opened.flies;
+      kept = no_answer (λ b. AllRight b (with_start g r) (mpdus_of x.content)) x.answer none;
+      asked = f.open_in.opened.asked;
+      told = subst (λ (c : Content). IfRequest c (λ k. (length (with_member n x.arrived) == 0) ≡ false →
+          has (with_start g r).starts k ≡ true)) (sym e) (λ _. has_new r.starts g);
+      marked = λ h. absurd (cc (h, none));
+    })
+    (λ z other o. open_start z y r g o)
+
+pub lawful_arrived : (w : World) (i : IsLawful w) (x : Exchange) (n : ℕ) → IsFound w i x →
+    is_some x.answer ≡ false → nat_le (transmissions x.content) n ≡ false →
+    IsLawful (arrive_outcome w x n).world
+unfolding arrive_outcome
+lawful_arrived w i x n f none l = taken_by x.content w i x n refl f none (not_le _ _ l)
+  where
+    not_le : (a b : ℕ) → nat_le a b ≡ false → b < a
+    not_le a b e = grind arith
+
+-- ---- the end of an exchange
+
+-- of these numbers, those that are to become acked arrived
+abbrev pub AllBacked : (ℕ → Bool) → Receiver → List Mpdu → Type 0
+AllBacked acked r [] = Unit {0}
+AllBacked acked r (m ∷ ms) = (acked m.number ≡ true → has r.arrived m.number ≡ true) × AllBacked acked r ms
+
+-- a world in which the exchange e has ended, but its numbers still fly
+pub record IsEnding (e s t : ℕ) (acked : ℕ → Bool) (w : World) (ms : List Mpdu) : Type 0 where
+  pub lawful : IsLawful w
+  pub others : Each (λ x. x.number ≢ e) w.opened
+  pub flies : FlyIn e ms (session w s t)
+  pub backed : AllBacked acked (receiver w s t) ms
+  pub live : is_live w s ≡ true
+
+pub ending_same : (e s t : ℕ) (acked : ℕ → Bool) (w v : World) (ms : List Mpdu) → Same w v →
+    IsEnding e s t acked w ms → IsEnding e s t acked v ms
+ending_same e s t acked w v ms h n = record {
+  lawful = lawful_same w v h n.lawful;
+  others = subst (Each (λ x. x.number ≢ e)) (sym h.opened) n.others;
+  flies = subst (λ (a : Side). FlyIn e ms a.session) (sym (h.sides s t)) n.flies;
+  backed = subst (λ (a : Side). AllBacked acked a.receiver ms) (sym (h.sides s t)) n.backed;
+  live = h.live s ∙ n.live;
+}
+
+pub if_ending : (b : Bool) (e s t : ℕ) (acked : ℕ → Bool) (w v : World) (ms : List Mpdu) →
+    IsEnding e s t acked w ms → IsEnding e s t acked v ms → IsEnding e s t acked (if b then w else v) ms
+if_ending true e s t acked w v ms h k = h
+if_ending false e s t acked w v ms h k = k
+
+-- one of its numbers stops flying
+pub ending_slot : (e s t : ℕ) (acked : ℕ → Bool) (w : World) (m : Mpdu) (ms : List Mpdu) (f : Slot → Slot) →
+    ((f (slot (session w s t) m.number)).state ≡ State.Acked → acked m.number ≡ true) →
+    IsEnding e s t acked w (m ∷ ms) → IsEnding e s t acked (on_session w s t (on_slot m.number f)) ms
+ending_slot e s t acked w m ms f k n =
+    let y : Session = session w s t in
+    let r : Receiver = receiver w s t in
+    let unsettled : is_settled (slot y m.number).state ≡ false = ap is_settled n.flies.flying.0 in
+    let next : next_number (on_slot m.number f y) ≡ next_number y =
+    ap (λ (k : ℕ). y.first + k) (length-change y.slots (m.number - y.first) f unsettled) in
+    record {
+      lawful = lawful_on_session (λ x. x.number ≢ e) w s t (on_slot m.number f) n.others
+          (agreed_on_slot y r m.number f n.flies.rising.0 unsettled (λ h. n.backed.0 (k h))
+          (n.lawful.agreed s t))
+          (λ x b other _ _ o. open_on_slot x y r m.number f n.flies.rising.0 unsettled
+          (λ h. absurd (other (cc (h, n.flies.flying.0)))) o) n.lawful;
+      others = subst (Each (λ x. x.number ≢ e)) (sym (opened_on_session w s t _)) n.others;
+      flies = subst (FlyIn e ms) (sym (session_on_session w s t (on_slot m.number f) n.live)) (record {
+        rising = subst (λ (k : ℕ). Rises y.first k ms) (sym next)
+            (rises_weaken (suc m.number) y.first (next_number y) (next_number y) ms
+            (omega (arith, n.flies.rising.0)) (omega arith) n.flies.rising.2);
+        flying = all_in_later y (State.Flying e) m.number
+            (next_number y) f ms n.flies.rising.0 n.flies.rising.2 n.flies.flying.1;
+      });
+      backed = subst (λ (r : Receiver). AllBacked acked r ms)
+          (sym (receiver_on_session w s t (on_slot m.number f) n.live)) n.backed.1;
+      live = live_on_session w s t _ s ∙ n.live;
+    }
+
+pub missed_not_acked : (limit : ℕ) (x : Slot) → (slot_after_miss limit x).state ≡ State.Acked → ⊥
+missed_not_acked limit x = on_if (λ st. st ≡ State.Acked → ⊥)
+    (nat_le limit (x.attempts + 1)) State.Failed State.Waiting (λ _ h. cc h) (λ _ h. cc h)
+
+pub ending_settled : (b : Bool) (e s t : ℕ) (acked : ℕ → Bool) (w : World) (m : Mpdu) (ms : List Mpdu) →
+    acked m.number ≡ b → IsEnding e s t acked w (m ∷ ms) → IsEnding e s t acked (with_settled w s t b m) ms
+unfolding with_settled with_failed_finished
+ending_settled true e s t acked w m ms h n =
+    ending_same e s t acked _ _ ms (same_finish _ _ _)
+    (ending_slot e s t acked w m ms (λ x. record x { state = State.Acked }) (λ _. h) n)
+ending_settled false e s t acked w m ms h n =
+    let v : World = on_session w s t (after_miss w.config.attempts m.number) in
+    let k : IsEnding e s t acked v ms = ending_slot e s t acked w m ms (slot_after_miss w.config.attempts)
+    (λ h. absurd (missed_not_acked w.config.attempts (slot (session w s t) m.number) h)) n in
+    if_ending (is_failed (slot (session v s t) m.number).state) e s t acked _ v ms
+    (ending_same e s t acked _ _ ms (same_finish v _ _) k) k
+
+pub ending_all : (ms : List Mpdu) (e s t : ℕ) (w : World) (acked : ℕ → Bool) → IsEnding e s t acked w ms →
+    IsLawful (with_all_settled w s t acked ms)
+unfolding with_all_settled
+ending_all [] e s t w acked n = n.lawful
+ending_all (m ∷ ms) e s t w acked n = ending_all ms e s t _ acked
+    (ending_settled (acked m.number) e s t acked w m ms refl n)
+
+pub lawful_without : (w : World) (i : IsLawful w) (e : ℕ) → IsLawful (without_exchange w e)
+unfolding without_exchange
+lawful_without w i e =
+    let v : World = record w { opened = filter (λ y. not (y.number == e)) w.opened } in
+    record {
+      agreed = i.agreed;
+      opened = each_map (IsOpenIn w) (IsOpenIn v) v.opened
+          (λ y g. record { live = g.live; below = g.below; opened = g.opened })
+          (each_filter (IsOpenIn w) (IsOpenIn w) (λ y. not (y.number == e)) w.opened (λ y _ g. g) i.opened);
+      sole = λ s t. record {
+        who = (i.sole s t).who;
+        only =
+            each_filter (λ y. asks s t y ≡ true → y.number ≡ (i.sole s t).who)
+            (λ y. asks s t y ≡ true → y.number ≡ (i.sole s t).who) (λ y. not (y.number == e)) w.opened
+            (λ y _ h. h) (i.sole s t).only;
+      };
+    }
+
+pub sole_without : (w : World) (i : IsLawful w) (e s t : ℕ) →
+    Each (λ y. asks s t y ≡ true → y.number ≡ (i.sole s t).who) (without_exchange w e).opened
+unfolding without_exchange
+sole_without w i e s t = each_filter (λ y. asks s t y ≡ true → y.number ≡ (i.sole s t).who)
+    (λ y. asks s t y ≡ true → y.number ≡ (i.sole s t).who) (λ y. not (y.number == e)) w.opened (λ y _ h. h)
+    (i.sole s t).only
+
+pub others_without : (w : World) (i : IsLawful w) (e : ℕ) →
+    Each (λ y. y.number ≢ e) (without_exchange w e).opened
+unfolding without_exchange
+others_without w i e = each_filter (IsOpenIn w) (λ y. y.number ≢ e) (λ y. not (y.number == e)) w.opened
+    (λ y keeps g. differ y.number e keeps) i.opened
+
+pub same_sides_without : (w : World) (e s t : ℕ) → side (without_exchange w e) s t ≡ side w s t
+unfolding without_exchange
+same_sides_without w e s t = refl
+
+pub live_without : (w : World) (e s : ℕ) → is_live (without_exchange w e) s ≡ is_live w s
+unfolding without_exchange
+live_without w e s = refl
+
+pub backed_by : (ms : List Mpdu) (heard : Bool) (o : Option Score) (r : Receiver) →
+    IfSome o (λ b. AllRight b r ms) → AllBacked (is_acked heard o) r ms
+backed_by [] heard o r k = tt
+backed_by (m ∷ ms) heard None r k = ((λ h. absurd (cc h)), backed_by ms heard None r tt)
+backed_by (m ∷ ms) heard (Some b) r k = (
+  (λ h. sym k.0.shown ∙ (both heard (shows b m.number) h).1),
+  backed_by ms heard (Some b) r k.1,
+)
+
+-- requests apart from this one
+pub record IsApart (s t e : ℕ) (x : Exchange) : Type 0 where
+  pub other : x.number ≢ e
+  pub silent : asks s t x ≡ false
+
+pub silent_of : (s t : ℕ) (x : Exchange) → s ≡ x.station → t ≡ x.tid → asks s t x ≡ false →
+    IfRequest x.content (λ f. ⊥)
+silent_of s t x e d h = go x.content (cc (
+  h,
+  ap (λ (b : Bool). b && ((x.tid == t) && is_request x.content))
+      (yes_eq x.station s (sym e)) ∙ ap (λ (b : Bool). b && is_request x.content) (yes_eq x.tid t (sym d)),
+))
+  where
+    go : (c : Content) → is_request c ≡ false → IfRequest c (λ f. ⊥)
+    go (Frames ms) h = tt
+    go (Request f) h = cc h
+
+pub agreed_heard_start : (b : Bool) (y : Session) (r : Receiver) (f : ℕ) →
+    (b ≡ true → has r.starts f ≡ true) → IsAgreed y r → IsAgreed (with_heard_start b f y) r
+agreed_heard_start true y r f h a = agreed_heard y r f (h refl) a
+agreed_heard_start false y r f h a = a
+
+pub open_heard_start : (b : Bool) (x : Exchange) (y : Session) (r : Receiver) (f : ℕ) →
+    IfRequest x.content (λ f. ⊥) → IsOpen x y r → IsOpen x (with_heard_start b f y) r
+open_heard_start true x y r f h o = open_heard x y r (max y.heard f) h o
+open_heard_start false x y r f h o = o
+
+-- the world in which the exchange has ended, and its charge is made
+pub ending_of : (w : World) (i : IsLawful w) (x : Exchange) (ms : List Mpdu) (heard : Bool) →
+    x.content ≡ Frames ms → IsFound w i x → IsEnding x.number x.station x.tid (is_acked heard x.answer)
+    (after_charge (without_exchange w x.number) x) ms
+ending_of w i x ms heard e f =
+    ending_same x.number x.station x.tid (is_acked heard x.answer) (without_exchange w x.number) _ ms
+    (same_charged (without_exchange w x.number) x) (record {
+      lawful = lawful_without w i x.number;
+      others = others_without w i x.number;
+      flies = subst (λ (a : Side). FlyIn x.number ms a.session)
+          (sym (same_sides_without w x.number x.station x.tid))
+          (subst (λ (c : Content). FlyIn x.number (mpdus_of c) (session w x.station x.tid)) e
+          f.open_in.opened.flies);
+      backed = subst (λ (a : Side). AllBacked (is_acked heard x.answer) a.receiver ms)
+          (sym (same_sides_without w x.number x.station x.tid))
+          (backed_by ms heard x.answer (receiver w x.station x.tid)
+          (subst (λ (c : Content). IfSome x.answer (λ b.
+          AllRight b (receiver w x.station x.tid) (mpdus_of c))) e f.open_in.opened.kept));
+      live = live_without w x.number x.station ∙ f.open_in.live;
+    })
+
+pub ended_by : (c : Content) (w : World) (i : IsLawful w) (x : Exchange) (heard : Bool) (v : World) →
+    x.content ≡ c → IsFound w i x → (heard ≡ true → is_some x.answer ≡ true) →
+    Same (without_exchange w x.number) v → IsLawful (after_done v x heard c)
+unfolding after_done
+ended_by (Frames ms) w i x heard v e f told k =
+    ending_all ms x.number x.station x.tid v (is_acked heard x.answer)
+    (ending_same x.number x.station x.tid (is_acked heard x.answer) (without_exchange w x.number) v ms k
+    (record {
+      lawful = lawful_without w i x.number;
+      others = others_without w i x.number;
+      flies = subst (λ (a : Side). FlyIn x.number ms a.session)
+          (sym (same_sides_without w x.number x.station x.tid))
+          (subst (λ (c : Content). FlyIn x.number (mpdus_of c) (session w x.station x.tid)) e
+          f.open_in.opened.flies);
+      backed = subst (λ (a : Side). AllBacked (is_acked heard x.answer) a.receiver ms)
+          (sym (same_sides_without w x.number x.station x.tid))
+          (backed_by ms heard x.answer (receiver w x.station x.tid)
+          (subst (λ (c : Content). IfSome x.answer (λ b.
+          AllRight b (receiver w x.station x.tid) (mpdus_of c))) e f.open_in.opened.kept));
+      live = live_without w x.number x.station ∙ f.open_in.live;
+    }))
+ended_by (Request g) w i x heard v e f told k =
+    let same_side : side v x.station x.tid ≡ side w x.station x.tid =
+    k.sides x.station x.tid ∙ same_sides_without w x.number x.station x.tid in
+    let lawful : IsLawful v = lawful_same _ v k (lawful_without w i x.number) in
+    let own : asks x.station x.tid x ≡ true = and_true (x.station == x.station)
+    ((x.tid == x.tid) && is_request x.content) (yes_eq x.station x.station refl)
+    (and_true (x.tid == x.tid) (is_request x.content) (yes_eq x.tid x.tid refl) (ap is_request e)) in
+    let who : x.number ≡ (i.sole x.station x.tid).who = f.only x.station x.tid own in
+    let apart : Each (λ y. asks x.station x.tid y ≡ false) v.opened =
+    each_both (λ y. y.number ≢ x.number) (λ y. asks x.station x.tid y ≡ true →
+    y.number ≡ (i.sole x.station x.tid).who) (λ y. asks x.station x.tid y ≡ false) v.opened
+    (λ y other only. on_bool (asks x.station x.tid y) (λ yes_asks. absurd (other (only yes_asks ∙ sym who)))
+    (λ h. h))
+    (subst (Each (λ y. y.number ≢ x.number)) (sym k.opened) (others_without w i x.number))
+    (subst (Each (λ y. asks x.station x.tid y ≡ true → y.number ≡ (i.sole x.station x.tid).who))
+    (sym k.opened) (sole_without w i x.number x.station x.tid))
+    in
+    let told_start : (length x.arrived == 0) ≡ false →
+    has (receiver w x.station x.tid).starts g ≡ true =
+    subst (λ (c : Content). IfRequest c (λ k. (length x.arrived == 0) ≡ false →
+    has (receiver w x.station x.tid).starts k ≡ true)) e f.open_in.opened.told in
+    lawful_on_session (λ y. asks x.station x.tid y ≡ false) v x.station x.tid (with_heard_start heard g) apart
+    (agreed_heard_start heard (session v x.station x.tid) (receiver v x.station x.tid) g
+    (λ h. ap (λ (a : Side). has a.receiver.starts g) same_side
+    ∙ told_start (f.open_in.opened.marked (told h))) (lawful.agreed x.station x.tid))
+    (λ y b silent s t o. open_heard_start heard y (session v x.station x.tid) (receiver v x.station x.tid) g
+    (silent_of x.station x.tid y s t silent) o) lawful
+
+pub lawful_ended : (w : World) (i : IsLawful w) (x : Exchange) (heard : Bool) → IsFound w i x →
+    (heard ≡ true → is_some x.answer ≡ true) → IsLawful (done_outcome w x heard).world
+unfolding done_outcome
+lawful_ended w i x heard f told = ended_by x.content w i x heard _ refl f told (same_charged _ x)
+
+-- ---- joining and leaving
+
+pub lawful_with_station : (w : World) (s : ℕ) (o : Option Station) → Each (λ x. s ≢ x.station) w.opened →
+    ((t : ℕ) → AgreedAt (sides_of o t)) → IsLawful w → IsLawful (with_station w s o)
+unfolding with_station
+lawful_with_station w s o away new i = record {
+  agreed = each_put (λ i o. (t : ℕ) → AgreedAt (sides_of o t)) None w.stations s o i.agreed new;
+  opened = each_both (IsOpenIn w) (λ x. s ≢ x.station)
+      (IsOpenIn (record w { stations = put None w.stations s o })) w.opened (λ x f ne. record {
+        live = ap is_some (at_put_other None w.stations s x.station o ne) ∙ f.live;
+        below = f.below;
+        opened = subst (λ (p : Option Station). OpenAt x (sides_of p x.tid))
+            (sym (at_put_other None w.stations s x.station o ne)) f.opened;
+      }) i.opened away;
+  sole = i.sole;
+}
+
+pub lawful_joined : (w : World) (s window start exponent weight : ℕ) → is_live w s ≡ false → IsLawful w →
+    IsLawful (join_outcome w s window start exponent weight).world
+unfolding join_outcome
+lawful_joined w s window start exponent weight dead i =
+    lawful_with_station w s _ (each_map (IsOpenIn w) (λ x. s ≢ x.station) w.opened
+    (λ x f e. cc (ap (is_live w) e, f.live, dead)) i.opened)
+    (eight (λ y. AgreedAt (side_of y)) (new_tid start window) (agreed_new start window) (agreed_new 0 0)) i
+
+pub same_left_tids : (ts : List ℕ) (w : World) (s : ℕ) → Same w (after_tids_left w s ts)
+unfolding after_tids_left after_tid_left
+same_left_tids [] w s = same w
+same_left_tids (t ∷ ts) w s = then_same _ _ _
+    (then_same _ _ _ (then_same _ _ _ (same_finish_all _ w _) (same_purge_queues _ _))
+    (same_with_queues _ s t _)) (same_left_tids ts _ s)
+
+pub same_off_lists : (cs : List Class) (w : World) (s : ℕ) → Same w (without_listings w s cs)
+unfolding without_listings
+same_off_lists [] w s = same w
+same_off_lists (c ∷ cs) w s = then_same _ _ _ (same_with_rotation w c _) (same_off_lists cs _ s)
+
+pub lawful_gone : (w : World) (s : ℕ) → nat_lt 0 (open_of_station w s) ≡ false → IsLawful w →
+    IsLawful (leave_outcome w s).world
+unfolding leave_outcome
+lawful_gone w s h i =
+    let k = then_same _ _ _ (same_left_tids (upto 8) w s) (same_off_lists all_classes _ s) in
+    lawful_with_station _ s None (subst (Each (λ x. s ≢ x.station)) (sym k.opened) (none_open w.opened s h))
+    (λ t. agreed_new 0 0) (lawful_same _ _ k i)
+
+-- ---- the step
+
+pub if_on : (o : Option Exchange) (p : Exchange → Bool) → exchange_has o p ≡ false →
+    IfSome o (λ x. p x ≡ false)
+if_on None p h = tt
+if_on (Some x) p h = h
+
+pub some_for_all : (o : Option Exchange) (P : ℕ → ℕ → Exchange → Type 0) → ((s t : ℕ) → IfSome o (P s t)) →
+    IfSome o (λ x. (s t : ℕ) → P s t x)
+some_for_all None P h = tt
+some_for_all (Some x) P h = λ s t. h s t
+
+pub some_found : (w : World) (i : IsLawful w) (o : Option Exchange) → IfSome o (IsOpenIn w) →
+    IfSome o (λ x. (s t : ℕ) → asks s t x ≡ true → x.number ≡ (i.sole s t).who) → IfSome o (IsFound w i)
+some_found w i None h k = tt
+some_found w i (Some x) h k = record { open_in = h; only = k }
+
+pub found : (w : World) (i : IsLawful w) (e : ℕ) → IfSome (exchange w e) (IsFound w i)
+found w i e = some_found w i (exchange w e) (each_find (IsOpenIn w) (IsOpenIn w) (λ x. x.number == e) w.opened
+    (λ x _ f. f) i.opened)
+    (some_for_all (exchange w e) (λ s t x. asks s t x ≡ true → x.number ≡ (i.sole s t).who)
+    (λ s t. each_find (λ x. asks s t x ≡ true → x.number ≡ (i.sole s t).who)
+    (λ x. asks s t x ≡ true → x.number ≡ (i.sole s t).who) (λ x. x.number == e) w.opened (λ x _ f. f)
+    (i.sole s t).only))
+
+pub lawful_on_open : (P Q : Exchange → Type 0) (o : Option Exchange) (w : World) (f : Exchange → Outcome) →
+    IfSome o P → IfSome o Q → IsLawful w → ((x : Exchange) → P x → Q x → IsLawful (f x).world) →
+    IsLawful (outcome_where_open w o f).world
+unfolding outcome_where_open
+lawful_on_open P Q None w f h j i k = i
+lawful_on_open P Q (Some x) w f h j i k = k x h j
+
+pub both_some : (P Q : Exchange → Type 0) (o : Option Exchange) → IfSome o P → IfSome o Q →
+    IfSome o (λ x. P x × Q x)
+both_some P Q None h k = tt
+both_some P Q (Some x) h k = (h, k)
+
+pub heard_told : (o : Option Exchange) (heard : Bool) →
+    (heard && exchange_has o (λ x. is_none x.answer)) ≡ false →
+    IfSome o (λ x. heard ≡ true → is_some x.answer ≡ true)
+heard_told None heard h = tt
+heard_told (Some x) heard h = go heard x.answer h
+  where
+    go : (b : Bool) (a : Option Score) → (b && is_none a) ≡ false → b ≡ true → is_some a ≡ true
+    go true None h e = absurd (cc h)
+    go true (Some s) h e = refl
+    go false a h e = absurd (cc e)
+
+pub lawful_on_station : (w : World) (s : ℕ) (f : Station → Station) →
+    ((x : Station) (t : ℕ) → side_of (at no_tid (f x).tids t) ≡ side_of (at no_tid x.tids t)) → IsLawful w →
+    IsLawful (on_station w s f)
+lawful_on_station w s f h i = lawful_same w _ (same_on_station w s f h) i
+
+pub lawful_plain : (w v : World) → w.stations ≡ v.stations → w.opened ≡ v.opened → w.exchanges ≡ v.exchanges →
+    IsLawful w → IsLawful v
+lawful_plain w v a b c i = lawful_same w v (record {
+  sides =
+      λ s t. ap (λ (x : List (Option Station)). sides_of (at None x s) t) (sym a);
+  live =
+      λ s. ap (λ (x : List (Option Station)). is_some (at None x s)) (sym a);
+  opened = sym b;
+  exchanges =
+      sym c;
+}) i
+
+pub lawful_reaped : (ids : List ℕ) (w : World) → IsLawful w → IsLawful (reap_outcome w ids).world
+unfolding reap_outcome
+lawful_reaped [] w i = i
+lawful_reaped (id ∷ ids) w i = lawful_plain w _ refl refl refl i
+
+pub lawful_enqueued : (w : World) (s t flow len : ℕ) → IsLawful w →
+    IsLawful (enqueue_outcome w s t flow len).world
+unfolding enqueue_outcome with_frame
+lawful_enqueued w s t flow len i =
+    let v = then_same _ _ _ (same_within_limit w) (same_put_in _ s t _ _) in
+    lawful_plain _ _ refl refl refl (lawful_same _ _ v i)
+
+pub lawful_done : (note : Note) (w : World) → NoRow (refusals w note) → IsLawful w →
+    IsLawful (outcome_of w note).world
+unfolding outcome_of tick_outcome rate_outcome sleep_outcome wake_outcome poll_outcome rx_outcome
+lawful_done (Enqueue s t flow len) w e i = lawful_enqueued w s t flow len i
+lawful_done (Asked (Join s window start exponent weight)) w e i =
+    lawful_joined w s window start exponent weight e.1.1.1.1.1.0 i
+lawful_done (Asked (Leave s)) w e i = lawful_gone w s e.1.1.0 i
+lawful_done (Asked (Rate s mcs mhz short)) w e i = lawful_on_station w s _ (λ x t. refl) i
+lawful_done (Asked (Tick by)) w e i = lawful_plain w _ refl refl refl i
+lawful_done (Asked (Pull c)) w e i = lawful_pulled w c i
+lawful_done (Asked (Arrive e n)) w r i = lawful_on_open (IsFound w i)
+    (λ x. (is_some x.answer ≡ false) × (nat_le (transmissions x.content) n ≡ false)) (exchange w e) w _
+    (found w i e)
+    (both_some (λ x. is_some x.answer ≡ false) (λ x. nat_le (transmissions x.content) n ≡ false)
+    (exchange w e) (if_on (exchange w e) (λ x. is_some x.answer) r.1.1.0)
+    (if_on (exchange w e) (λ x. nat_le (transmissions x.content) n) r.1.0)) i
+    (λ x f g. lawful_arrived w i x n f g.0 g.1)
+lawful_done (Asked (Answer e)) w r i = lawful_on_open (IsFound w i) (λ x. (length x.arrived == 0) ≡ false)
+    (exchange w e) w _ (found w i e) (if_on (exchange w e) (λ x. length x.arrived == 0) r.1.1.0) i
+    (λ x f g. lawful_answered w i x f g)
+lawful_done (Asked (Done e heard)) w r i = lawful_on_open (IsFound w i)
+    (λ x. heard ≡ true → is_some x.answer ≡ true) (exchange w e) w _ (found w i e)
+    (heard_told (exchange w e) heard r.1.0) i (λ x f g. lawful_ended w i x heard f g)
+lawful_done (Asked (Sleep s)) w e i = lawful_on_station w s _ (λ x t. refl) i
+lawful_done (Asked (Wake s)) w e i = lawful_on_station w s _ (λ x t. refl) i
+lawful_done (Asked (Poll s)) w e i = lawful_on_station w s _ (λ x t. refl) i
+lawful_done (Asked (Rx s c air)) w e i = lawful_same w _ (same_on_share w s c _) i
+lawful_done (Asked Reap) w e i = lawful_reaped w.finished w i
+
+pub lawful_refused : (note : Note) (r : Refusal) (w : World) → IsLawful w → IsLawful (after_refusal w note r)
+unfolding after_refusal
+lawful_refused (Asked (Pull c)) Idle w i = lawful_same w _ (same_after_pick w c) i
+lawful_refused _ _ w i = i
+
+pub lawful_answer : (r : Option Refusal) (w : World) (note : Note) → refusal w note ≡ r → IsLawful w →
+    IsLawful (judged_outcome w note r).world
+unfolding judged_outcome
+lawful_answer (Some r) w note e i = lawful_refused note r w i
+lawful_answer None w note e i = lawful_same _ _ (same_listed _ _)
+    (lawful_done note w (no_row (refusals w note) e) i)
+
+pub lawful_step : (w : World) (note : Note) → IsLawful w → IsLawful (step w note).world
+unfolding step
+lawful_step w note i = lawful_answer (refusal w note) w note refl i
+
+pub lawful_run : (h : List Entry) (w : World) → IsLawful w → IsLawful (world_after w h)
+unfolding world_after
+lawful_run [] w i = i
+lawful_run (e ∷ es) w i = lawful_run es _ (lawful_step w e.1 i)
+
+pub lawful_at_first : (config : Config) → IsLawful (opening config)
+lawful_at_first config = record {
+  agreed = λ s t. agreed_new 0 0;
+  opened = tt;
+  sole =
+      λ s t. record { who = 0; only = tt };
+}
+
+pub lawful : (config : Config) (h : List Entry) → IsLawful (world_after (opening config) h)
+lawful config h = lawful_run h (opening config) (lawful_at_first config)

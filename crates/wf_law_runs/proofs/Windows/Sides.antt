@@ -1,0 +1,231 @@
+-- The two sides of each agreement, and what leaves them and the open exchanges alone.
+use Rattle.std.proofs.Common.{◌≡◌, refl, ap, sym, ◌∙◌, subst, ℕ, Bool, true, false, if◌then◌else◌, List, [], ◌∷◌, Option, Some, None, is_some, unwrap_or, option_map}
+use Rattle.wf_frame.specs.declared.classes.Class.{Class}
+use Rattle.wf_frame.specs.declared.classes.Fate.{Fate}
+use Rattle.wf_def_lists.specs.Table.{at, change}
+use Rattle.wf_def_codel.specs.Codel.{Item}
+use Rattle.wf_def_rotation.specs.Rotation.{Rotation}
+use Rattle.wf_def_agreement.specs.Receiver.{Receiver}
+use Rattle.wf_def_agreement.specs.Session.{Session}
+use Rattle.wf_def_world.specs.World.{World, Station, Share, Tid, Queue, Exchange, no_tid, no_station, tid_of, is_live, with_station, on_station, on_tid, with_queues, on_share, on_queue, with_rotation, with_fate, with_frame_finished, with_frames_finished}
+use Rattle.wf_def_world.specs.FlowQueues.{without_head, after_limit, with_listed_queue, with_appended, after_put_in, with_queues_paid, taken_by_codel, taken_from_picked, taken_for_tid, after_queue_left, after_queues_left}
+use Rattle.wf_def_world.specs.CanSend.{with_listing_in, with_listings_in, with_listings_of}
+use Rattle.wf_def_world.specs.Exchanges.{with_station_paid, with_stations_paid, after_pick, after_tid_turn, without_credit, after_charge}
+use Rattle.wf_law_rules.proofs.Lemmas.Tables.{each_put, at_put_same}
+
+-- ---- reading a session after a change of one
+
+-- the two sides of a TID's agreement
+pub record Side : Type 0 where
+  pub session : Session
+  pub receiver : Receiver
+
+abbrev pub side_of : Tid → Side
+side_of y = record { session = y.session; receiver = y.receiver }
+
+abbrev pub side : World → ℕ → ℕ → Side
+side w s t = side_of (tid_of w s t)
+
+abbrev pub sides_of : Option Station → ℕ → Side
+sides_of o t = side_of (at no_tid (unwrap_or o no_station).tids t)
+
+abbrev pub on_tids : ℕ → (Tid → Tid) → Station → Station
+on_tids t f x = record x { tids = change no_tid x.tids t f }
+
+pub each_tid_on : (P : ℕ → Side → Type 0) (t : ℕ) (f : Tid → Tid) (o : Option Station) →
+    ((j : ℕ) → P j (sides_of o j)) → P t (side_of (f (at no_tid (unwrap_or o no_station).tids t))) → (j : ℕ) →
+    P j (sides_of (option_map (on_tids t f) o) j)
+each_tid_on P t f None h k j = h j
+each_tid_on P t f (Some x) h k j = each_put (λ j y. P j (side_of y)) no_tid x.tids t _ h k j
+
+pub each_side_on : (P : ℕ → ℕ → Side → Type 0) (w : World) (s t : ℕ) (f : Tid → Tid) →
+    ((i j : ℕ) → P i j (side w i j)) → P s t (side_of (f (tid_of w s t))) → (i j : ℕ) →
+    P i j (side (on_tid w s t f) i j)
+unfolding on_tid on_station with_station
+each_side_on P w s t f h k =
+    each_put (λ i o. (j : ℕ) → P i j (sides_of o j)) None w.stations s _ h
+    (each_tid_on (P s) t f (at None w.stations s) (h s) k)
+
+-- a fact about the sides of one TID
+pub at_side_on : (Q : Side → Type 0) (w : World) (s t : ℕ) (f : Tid → Tid) (i j : ℕ) → Q (side w i j) →
+    (s ≡ i → t ≡ j → Q (side w s t) → Q (side_of (f (tid_of w s t)))) → Q (side (on_tid w s t f) i j)
+at_side_on Q w s t f i j q k =
+    each_side_on (λ a b z. a ≡ i → b ≡ j → Q z) w s t f
+    (λ a b e d. subst (λ (n : ℕ). Q (side w a n)) (sym d) (subst (λ (n : ℕ). Q (side w n j)) (sym e) q))
+    (λ e d. k e d (subst (λ (n : ℕ). Q (side w s n)) (sym d) (subst (λ (n : ℕ). Q (side w n j)) (sym e) q))) i
+    j refl refl
+
+pub side_on : (w : World) (s t : ℕ) (f : Tid → Tid) → is_live w s ≡ true →
+    side (on_tid w s t f) s t ≡ side_of (f (tid_of w s t))
+unfolding on_tid on_station with_station
+side_on w s t f live =
+    ap (λ (o : Option Station). sides_of o t) (at_put_same None w.stations s _)
+    ∙ go (at None w.stations s) live
+  where
+    go : (o : Option Station) → is_some o ≡ true →
+        sides_of (option_map (on_tids t f) o) t ≡ side_of (f (at no_tid (unwrap_or o no_station).tids t))
+    go None h = absurd (cc h)
+    go (Some x) h = ap side_of (at_put_same no_tid x.tids t _)
+
+pub some_map : (f : Station → Station) (o : Option Station) → is_some (option_map f o) ≡ is_some o
+some_map f None = refl
+some_map f (Some x) = refl
+
+pub live_on : (w : World) (s : ℕ) (f : Station → Station) (i : ℕ) → is_live (on_station w s f) i ≡ is_live w i
+unfolding on_station with_station
+live_on w s f = each_put (λ i o. is_some o ≡ is_live w i) None w.stations s _ (λ i. refl)
+    (some_map f (at None w.stations s))
+
+pub on_live : (w : World) (s t : ℕ) (f : Tid → Tid) (i : ℕ) → is_live (on_tid w s t f) i ≡ is_live w i
+unfolding on_tid
+on_live w s t f i = live_on w s _ i
+
+pub on_opened : (w : World) (s t : ℕ) (f : Tid → Tid) → (on_tid w s t f).opened ≡ w.opened
+unfolding on_tid on_station with_station
+on_opened w s t f = refl
+
+pub on_exchanges : (w : World) (s t : ℕ) (f : Tid → Tid) → (on_tid w s t f).exchanges ≡ w.exchanges
+unfolding on_tid on_station with_station
+on_exchanges w s t f = refl
+
+-- ---- what leaves sessions and exchanges alone
+
+pub record Same (w v : World) : Type 0 where
+  pub sides : (s t : ℕ) → side v s t ≡ side w s t
+  pub live : (s : ℕ) → is_live v s ≡ is_live w s
+  pub opened : v.opened ≡ w.opened
+  pub exchanges : v.exchanges ≡ w.exchanges
+
+pub same : (w : World) → Same w w
+same w = record { sides = λ s t. refl; live = λ s. refl; opened = refl; exchanges = refl }
+
+pub then_same : (u v w : World) → Same u v → Same v w → Same u w
+then_same u v w h k = record {
+  sides = λ s t. k.sides s t ∙ h.sides s t;
+  live = λ s. k.live s ∙ h.live s;
+  opened = k.opened ∙ h.opened;
+  exchanges = k.exchanges ∙ h.exchanges;
+}
+
+pub if_same : (b : Bool) (w u v : World) → Same w u → Same w v → Same w (if b then u else v)
+if_same true w u v h k = h
+if_same false w u v h k = k
+
+pub known_sessions : (f : Station → Station) →
+    ((x : Station) (t : ℕ) → side_of (at no_tid (f x).tids t) ≡ side_of (at no_tid x.tids t)) →
+    (o : Option Station) (t : ℕ) → sides_of (option_map f o) t ≡ sides_of o t
+known_sessions f h None t = refl
+known_sessions f h (Some x) t = h x t
+
+pub same_on_station : (w : World) (s : ℕ) (f : Station → Station) →
+    ((x : Station) (t : ℕ) → side_of (at no_tid (f x).tids t) ≡ side_of (at no_tid x.tids t)) →
+    Same w (on_station w s f)
+unfolding on_station with_station
+same_on_station w s f h = record {
+  sides = each_put (λ i o. (j : ℕ) → sides_of o j ≡ side w i j) None w.stations s _ (λ i j. refl)
+      (known_sessions f h (at None w.stations s));
+  live = live_on w s f;
+  opened = refl;
+  exchanges = refl;
+}
+
+pub same_on_tid : (w : World) (s t : ℕ) (f : Tid → Tid) → ((y : Tid) → side_of (f y) ≡ side_of y) →
+    Same w (on_tid w s t f)
+unfolding on_tid
+same_on_tid w s t f h = same_on_station w s _
+    (λ x. each_put (λ j y. side_of y ≡ side_of (at no_tid x.tids j)) no_tid x.tids t _ (λ j. refl)
+    (h (at no_tid x.tids t)))
+
+pub same_with_queues : (w : World) (s t : ℕ) (r : Rotation) → Same w (with_queues w s t r)
+unfolding with_queues
+same_with_queues w s t r = same_on_tid w s t _ (λ y. refl)
+
+pub same_on_share : (w : World) (s : ℕ) (c : Class) (f : Share → Share) → Same w (on_share w s c f)
+unfolding on_share
+same_on_share w s c f = same_on_station w s _ (λ x t. refl)
+
+pub same_on_queue : (w : World) (q : ℕ) (f : Queue → Queue) → Same w (on_queue w q f)
+unfolding on_queue
+same_on_queue w q f = record { sides = λ s t. refl; live = λ s. refl; opened = refl; exchanges = refl }
+
+pub same_with_rotation : (w : World) (c : Class) (r : Rotation) → Same w (with_rotation w c r)
+unfolding with_rotation
+same_with_rotation w c r = record { sides = λ s t. refl; live = λ s. refl; opened = refl; exchanges = refl }
+
+pub same_finish : (w : World) (fate : Fate) (id : ℕ) → Same w (with_frame_finished w fate id)
+unfolding with_frame_finished with_fate
+same_finish w fate id = record { sides = λ s t. refl; live = λ s. refl; opened = refl; exchanges = refl }
+
+pub same_finish_all : (ids : List ℕ) (w : World) (fate : Fate) → Same w (with_frames_finished w fate ids)
+unfolding with_frames_finished
+same_finish_all [] w fate = same w
+same_finish_all (id ∷ ids) w fate = then_same _ _ _ (same_finish w fate id) (same_finish_all ids _ fate)
+
+pub same_listed_in_all : (cs : List Class) (w : World) (s : ℕ) → Same w (with_listings_in w s cs)
+unfolding with_listings_in with_listing_in
+same_listed_in_all [] w s = same w
+same_listed_in_all (c ∷ cs) w s = then_same _ _ _ (if_same _ w _ _ (same_with_rotation w c _) (same w))
+    (same_listed_in_all cs _ s)
+
+pub same_listed : (o : Option ℕ) (w : World) → Same w (with_listings_of w o)
+unfolding with_listings_of
+same_listed None w = same w
+same_listed (Some s) w = same_listed_in_all _ w s
+
+pub same_pay_stations : (ss : List ℕ) (w : World) (c : Class) (quanta : ℕ → ℕ) →
+    Same w (with_stations_paid w c quanta ss)
+unfolding with_stations_paid with_station_paid
+same_pay_stations [] w c quanta = same w
+same_pay_stations (s ∷ ss) w c quanta = then_same _ _ _ (same_on_share w s c _)
+    (same_pay_stations ss _ c quanta)
+
+pub same_after_pick : (w : World) (c : Class) → Same w (after_pick w c)
+unfolding after_pick
+same_after_pick w c = then_same _ _ _ (same_pay_stations _ w c _) (same_with_rotation _ c _)
+
+pub same_after_turn : (w : World) (s : ℕ) (c : Class) (t : ℕ) → Same w (after_tid_turn w s c t)
+unfolding after_tid_turn
+same_after_turn w s c t = same_on_share w s c _
+
+pub same_spent : (w : World) (s : ℕ) → Same w (without_credit w s)
+unfolding without_credit
+same_spent w s = same_on_station w s _ (λ x t. refl)
+
+pub same_without_head : (items : List Item) (w : World) (q : ℕ) → Same w (without_head w q items)
+unfolding without_head
+same_without_head [] w q = same w
+same_without_head (x ∷ rest) w q = then_same _ _ _ (same_on_queue w q _) (same_finish _ _ _)
+
+pub same_within_limit : (w : World) → Same w (after_limit w)
+unfolding after_limit
+same_within_limit w = if_same _ w _ _ (same_without_head _ w _) (same w)
+
+pub same_put_in : (w : World) (s t q : ℕ) (x : Item) → Same w (after_put_in w s t q x)
+unfolding after_put_in with_appended with_listed_queue
+same_put_in w s t q x = then_same _ _ _ (same_on_queue w q _)
+    (if_same _ _ _ _ (same _) (then_same _ _ _ (same_on_queue _ q _) (same_with_queues _ s t _)))
+
+pub same_pay_queues : (qs : List ℕ) (w : World) (quanta : ℕ → ℕ) → Same w (with_queues_paid w quanta qs)
+unfolding with_queues_paid
+same_pay_queues [] w quanta = same w
+same_pay_queues (q ∷ qs) w quanta = then_same _ _ _ (same_on_queue w q _) (same_pay_queues qs _ quanta)
+
+pub same_taken_from : (o : Option ℕ) (w : World) (s : ℕ) → Same w (taken_from_picked w s o).world
+unfolding taken_from_picked taken_by_codel
+same_taken_from None w s = same w
+same_taken_from (Some q) w s = then_same _ _ _ (same_on_queue w q _) (same_finish_all _ _ _)
+
+pub same_take : (w : World) (s t : ℕ) → Same w (taken_for_tid w s t).world
+unfolding taken_for_tid
+same_take w s t = then_same _ _ _ (then_same _ _ _ (same_pay_queues _ w _) (same_with_queues _ s t _))
+    (same_taken_from _ _ s)
+
+pub same_purge_queues : (qs : List ℕ) (w : World) → Same w (after_queues_left w qs)
+unfolding after_queues_left after_queue_left
+same_purge_queues [] w = same w
+same_purge_queues (q ∷ qs) w = then_same _ _ _ (then_same _ _ _ (same_on_queue w q _) (same_finish_all _ _ _))
+    (same_purge_queues qs _)
+
+pub same_charged : (w : World) (x : Exchange) → Same w (after_charge w x)
+unfolding after_charge
+same_charged w x = same_on_share w _ _ _

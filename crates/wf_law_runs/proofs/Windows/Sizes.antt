@@ -1,0 +1,164 @@
+-- Each window of a live station is 1 to 256.
+use Rattle.std.proofs.Common.{◌≡◌, ◌≢◌, refl, ap, sym, ◌∙◌, subst, arith, ℕ, zero, suc, ◌<◌, ◌≤◌, ◌==◌, not, nat_le, true, false, List, [], ◌∷◌, Option, Some, None, is_some}
+use Rattle.std.proofs.lemmas.Bool.{not-false}
+use Rattle.wf_frame.specs.declared.settings.Config.{Config}
+use Rattle.wf_frame.specs.declared.notes.Note.{Note}
+use Rattle.wf_frame.specs.declared.notes.Note.TheVariants.{Enqueue, Asked}
+use Rattle.wf_frame.specs.declared.notes.Ask.TheVariants.{Join, Leave, Rate, Tick, Pull, Arrive, Answer, Done, Sleep, Wake, Poll, Rx, Reap}
+use Rattle.wf_frame.specs.declared.notes.Refusal.{Refusal}
+use Rattle.wf_frame.specs.Classes.{all_classes}
+use Rattle.wf_def_lists.specs.Table.{at, upto}
+use Rattle.wf_law_rules.proofs.Lemmas.Tables.{at_put_same, at_put_other}
+use Rattle.wf_def_agreement.specs.Session.{Session}
+use Rattle.wf_def_lists.specs.Bounds.{greatest_window}
+use Rattle.wf_def_world.specs.World.{with_exchange, on_receiver, World, Station, Exchange, Tid, no_tid, is_live, new_tid, session, exchange, with_station, opening}
+use Rattle.wf_def_world.specs.Exchanges.{after_arrival}
+use Rattle.wf_def_world.specs.Refusals.{refusals, refusal, is_within}
+use Rattle.wf_def_world.specs.Step.{Outcome, join_outcome, leave_outcome, arrive_outcome, outcome_where_open, concerned_station, outcome_of, judged_outcome, step}
+use Rattle.wf_def_world.specs.Run.{Entry, world_after}
+use Rattle.wf_law_rules.proofs.Lemmas.Numbers.{on_bool, eq_yes, eq_no, both, le_yes}
+use Rattle.wf_law_runs.proofs.Windows.Sides.{each_side_on, on_live, Side, sides_of, same_listed}
+use Rattle.wf_law_runs.proofs.Windows.Opened.{eight, NoRow, no_row}
+use Rattle.wf_law_runs.proofs.Windows.Agreed.{same_left_tids, same_off_lists}
+use Rattle.wf_law_runs.proofs.Releases.Kept.{Kept, kept_same, then_keep, keep_pulled, keep_ended, keep_answered, keep_enqueued, keep_reaped}
+use Rattle.wf_law_runs.proofs.Releases.Released.{side_with_station, side_own_station, keep_rate, keep_tick, keep_slept, keep_woken, keep_credited, keep_received, refused_kept}
+
+pub record IsSized (w : World) : Type 0 where
+  pub size : (s t : ℕ) → (session w s t).size ≤ 256
+  pub some : (s t : ℕ) → is_live w s ≡ true → t < 8 → 1 ≤ (session w s t).size
+
+sized_kept : (w v : World) → Kept w v → IsSized w → IsSized v
+sized_kept w v k i = record {
+  size = λ s t. subst (λ (n : ℕ). n ≤ 256) (sym (k.sessions s t).size) (i.size s t);
+  some = λ s t live below. subst (λ (n : ℕ). 1 ≤ n) (sym (k.sessions s t).size)
+      (i.some s t (sym (k.live s) ∙ live) below);
+}
+
+live_station : (w : World) (s : ℕ) (o : Option Station) (i : ℕ) → s ≢ i →
+    is_live (with_station w s o) i ≡ is_live w i
+unfolding with_station
+live_station w s o i ne = ap (λ (x : Option Station). is_some x) (at_put_other None w.stations s i o ne)
+
+live_own : (w : World) (s : ℕ) (o : Option Station) → is_live (with_station w s o) s ≡ is_some o
+unfolding with_station
+live_own w s o = ap (λ (x : Option Station). is_some x) (at_put_same None w.stations s o)
+
+sized_station : (w : World) (s : ℕ) (o : Option Station) → ((t : ℕ) → (sides_of o t).session.size ≤ 256) →
+    (is_some o ≡ true → (t : ℕ) → t < 8 → 1 ≤ (sides_of o t).session.size) → IsSized w →
+    IsSized (with_station w s o)
+sized_station w s o h k i = record {
+  size = λ j t. on_bool (s == j)
+      (λ own.
+      let e : session (with_station w s o) j t ≡ (sides_of o t).session =
+      ap (λ (k : ℕ). session (with_station w s o) k t) (sym (eq_yes s j own))
+      ∙ ap (λ (b : Side). b.session) (side_own_station w s t o) in
+      subst (λ (y : Session). y.size ≤ 256) (sym e) (h t))
+      (λ other.
+      let e : session (with_station w s o) j t ≡ session w j t =
+      ap (λ (b : Side). b.session) (side_with_station w s j t o (eq_no s j other)) in
+      subst (λ (y : Session). y.size ≤ 256) (sym e) (i.size j t));
+  some = λ j t live below. on_bool (s == j)
+      (λ own.
+      let same_s : s ≡ j = eq_yes s j own in
+      let e : session (with_station w s o) j t ≡ (sides_of o t).session =
+      ap (λ (k : ℕ). session (with_station w s o) k t) (sym same_s)
+      ∙ ap (λ (b : Side). b.session) (side_own_station w s t o) in
+      subst (λ (y : Session). 1 ≤ y.size) (sym e) (k
+      (sym (live_own w s o) ∙ (ap (is_live (with_station w s o)) same_s ∙ live)) t below))
+      (λ other.
+      let e : session (with_station w s o) j t ≡ session w j t =
+      ap (λ (b : Side). b.session) (side_with_station w s j t o (eq_no s j other)) in
+      subst (λ (y : Session). 1 ≤ y.size) (sym e) (i.some j t
+      (sym (live_station w s o j (eq_no s j other)) ∙ live) below));
+}
+
+-- each of a station's eight TIDs
+each_eight : (P : Tid → Type 0) (y : Tid) → P y → (j : ℕ) → j < 8 →
+    P (at no_tid (y ∷ y ∷ y ∷ y ∷ y ∷ y ∷ y ∷ y ∷ []) j)
+each_eight P y h zero b = h
+each_eight P y h (suc zero) b = h
+each_eight P y h (suc (suc zero)) b = h
+each_eight P y h (suc (suc (suc zero))) b = h
+each_eight P y h (suc (suc (suc (suc zero)))) b = h
+each_eight P y h (suc (suc (suc (suc (suc zero))))) b = h
+each_eight P y h (suc (suc (suc (suc (suc (suc zero)))))) b = h
+each_eight P y h (suc (suc (suc (suc (suc (suc (suc zero))))))) b = h
+each_eight P y h (suc (suc (suc (suc (suc (suc (suc (suc j)))))))) b = absurd (omega (arith, b))
+
+sized_joined : (w : World) (s window start exponent weight : ℕ) →
+    not (is_within 1 greatest_window window) ≡ false → IsSized w →
+    IsSized (join_outcome w s window start exponent weight).world
+unfolding join_outcome
+sized_joined w s window start exponent weight h i =
+    let range = both (nat_le 1 window) (nat_le window 256) (not-false _ h) in
+    sized_station w s _ (eight (λ y. y.session.size ≤ 256) (new_tid start window) (le_yes window 256 range.1)
+    (omega arith)) (λ _. each_eight (λ y. 1 ≤ y.session.size) (new_tid start window)
+    (le_yes 1 window range.0)) i
+
+sized_gone : (w : World) (s : ℕ) → IsSized w → IsSized (leave_outcome w s).world
+unfolding leave_outcome
+sized_gone w s i =
+    sized_station _ s None (λ t. omega arith) (λ e. absurd (cc e))
+    (sized_kept w _ (then_keep w _ _ (kept_same w _ (same_left_tids (upto 8) w s))
+    (kept_same _ _ (same_off_lists all_classes _ s))) i)
+
+sized_open : (o : Option Exchange) (w : World) (f : Exchange → Outcome) →
+    ((x : Exchange) → IsSized (f x).world) → IsSized w → IsSized (outcome_where_open w o f).world
+unfolding outcome_where_open
+sized_open None w f k i = i
+sized_open (Some x) w f k i = k x
+
+sized_arrived : (w : World) (x : Exchange) (n : ℕ) → IsSized w → IsSized (arrive_outcome w x n).world
+unfolding arrive_outcome with_exchange on_receiver
+sized_arrived w x n i = record {
+  size = each_side_on (λ s t y. y.session.size ≤ 256) w x.station x.tid
+      (λ y. record y { receiver = after_arrival x.content n y.receiver }) (λ s t. i.size s t)
+      (i.size x.station x.tid);
+  some = λ s t live below. each_side_on (λ s t y. is_live w s ≡ true → t < 8 → 1 ≤ y.session.size) w x.station
+      x.tid (λ y. record y { receiver = after_arrival x.content n y.receiver }) (λ s t. i.some s t)
+      (i.some x.station x.tid) s t
+      (sym (on_live w x.station x.tid (λ y. record y { receiver = after_arrival x.content n y.receiver }) s)
+      ∙ live) below;
+}
+
+sized_done : (note : Note) (w : World) → NoRow (refusals w note) → IsSized w →
+    IsSized (outcome_of w note).world
+unfolding outcome_of
+sized_done (Enqueue s t flow len) w e i = sized_kept w _ (keep_enqueued w s t flow len) i
+sized_done (Asked (Join s window start exponent weight)) w e i =
+    sized_joined w s window start exponent weight e.1.0 i
+sized_done (Asked (Leave s)) w e i = sized_gone w s i
+sized_done (Asked (Rate s mcs mhz short)) w e i = sized_kept w _ (keep_rate w s mcs mhz short) i
+sized_done (Asked (Tick by)) w e i = sized_kept w _ (keep_tick w by) i
+sized_done (Asked (Pull c)) w e i = sized_kept w _ (keep_pulled w c) i
+sized_done (Asked (Arrive x n)) w e i = sized_open (exchange w x) w _ (λ y. sized_arrived w y n i) i
+sized_done (Asked (Answer x)) w e i = sized_open (exchange w x) w _
+    (λ y. sized_kept w _ (keep_answered w y) i) i
+sized_done (Asked (Done x heard)) w e i = sized_open (exchange w x) w _
+    (λ y. sized_kept w _ (keep_ended w y heard) i) i
+sized_done (Asked (Sleep s)) w e i = sized_kept w _ (keep_slept w s) i
+sized_done (Asked (Wake s)) w e i = sized_kept w _ (keep_woken w s) i
+sized_done (Asked (Poll s)) w e i = sized_kept w _ (keep_credited w s) i
+sized_done (Asked (Rx s c air)) w e i = sized_kept w _ (keep_received w s c air) i
+sized_done (Asked Reap) w e i = sized_kept w _ (keep_reaped w.finished w) i
+
+sized_answer : (r : Option Refusal) (w : World) (note : Note) → refusal w note ≡ r → IsSized w →
+    IsSized (judged_outcome w note r).world
+unfolding judged_outcome
+sized_answer (Some r) w note e i = sized_kept w _ (refused_kept note r w) i
+sized_answer None w note e i = sized_kept (outcome_of w note).world _
+    (kept_same _ _ (same_listed (concerned_station w note) (outcome_of w note).world))
+    (sized_done note w (no_row (refusals w note) e) i)
+
+sized_step : (w : World) (note : Note) → IsSized w → IsSized (step w note).world
+unfolding step
+sized_step w note i = sized_answer (refusal w note) w note refl i
+
+sized_run : (h : List Entry) (w : World) → IsSized w → IsSized (world_after w h)
+unfolding world_after
+sized_run [] w i = i
+sized_run (e ∷ es) w i = sized_run es _ (sized_step w e.1 i)
+
+pub sized : (config : Config) (h : List Entry) → IsSized (world_after (opening config) h)
+sized config h = sized_run h (opening config)
+    (record { size = λ s t. omega arith; some = λ s t live. absurd (cc live) })

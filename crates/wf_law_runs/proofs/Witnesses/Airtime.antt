@@ -1,0 +1,67 @@
+-- A history in which the two laws speak of something: weights 1 and 3, sixteen exchanges.
+use Rattle.std.proofs.Common.{◌≡◌, refl, ℕ, zero, suc, Bool, true, ◌&&◌, List, [], ◌∷◌, ◌++◌, map, replicate}
+use Rattle.wf_frame.specs.declared.settings.Config.{Config}
+use Rattle.wf_frame.specs.declared.classes.Class.TheVariants.{Be}
+use Rattle.wf_frame.specs.declared.notes.Ask.TheVariants.{Join, Pull, Arrive, Answer, Done}
+use Rattle.wf_frame.specs.declared.notes.Note.{Note}
+use Rattle.wf_frame.specs.declared.notes.Note.TheVariants.{Enqueue, Asked}
+use Rattle.wf_def_lists.specs.Table.{has, count_from}
+use Rattle.wf_def_world.specs.World.{rotation}
+use Rattle.wf_def_world.specs.Run.{Entry, by}
+use Rattle.wf_def_world.specs.Stretches.{world_at, charged_between}
+use Rattle.wf_law_runs.specs.Deficits.{got_between}
+use Rattle.wf_def_world.specs.Computed.{the_machine}
+
+abbrev config : Config
+config = record {
+  stations = 16;
+  flows = 1024;
+  limit = 8192;
+  room = 65536;
+  flow_quantum = 300;
+  quantum = 300;
+  inflight = 2;
+  attempts = 10;
+  agg = 1;
+  cap = 4000;
+  sleeping = 64;
+  calls = 1048576;
+}
+
+abbrev rounds : ℕ → ℕ → List Note
+rounds zero e = []
+rounds (suc n) e = Asked (Pull Be) ∷ Asked (Arrive e 0) ∷ Asked (Answer e) ∷ Asked (Done e true)
+    ∷ rounds n (suc e)
+
+abbrev history : List Entry
+history = map (by 0) (Asked (Join 0 64 0 3 1) ∷ Asked (Join 1 64 0 3 3) ∷ replicate 6 (Enqueue 0 0 1 100)
+    ++ replicate 12 (Enqueue 1 0 2 100) ++ rounds 16 0)
+
+abbrev on_old : ℕ → Bool
+on_old m = has (rotation (world_at config history m) Be).old 0
+    && has (rotation (world_at config history m) Be).old 1
+
+abbrev all_on_old : List ℕ → Bool
+all_on_old [] = true
+all_on_old (m ∷ ms) = on_old m && all_on_old ms
+
+-- both stations stay on the old list after each of the first 45 to 84 entries
+stays : all_on_old (count_from 45 40) ≡ true
+unfolding the_machine
+stays = refl
+
+charged_first : charged_between config history 0 Be 45 84 ≡ 768
+unfolding the_machine
+charged_first = refl
+
+charged_second : charged_between config history 1 Be 45 84 ≡ 1792
+unfolding the_machine
+charged_second = refl
+
+got_first : got_between config history 0 Be 45 84 ≡ 2
+unfolding the_machine
+got_first = refl
+
+got_second : got_between config history 1 Be 45 84 ≡ 2
+unfolding the_machine
+got_second = refl

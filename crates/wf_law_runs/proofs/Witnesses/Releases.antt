@@ -1,0 +1,81 @@
+-- The words of the release and delivery laws, computed on one history: two sessions of a station, with a
+-- frame that is sent twice.
+use Rattle.std.proofs.Common.{◌≡◌, refl, true, List, [], ◌∷◌, map}
+use Rattle.wf_frame.specs.declared.settings.Config.{Config}
+use Rattle.wf_frame.specs.declared.classes.Class.TheVariants.{Be}
+use Rattle.wf_frame.specs.declared.classes.Fate.TheVariants.{Acked}
+use Rattle.wf_frame.specs.declared.notes.Ask.TheVariants.{Join, Leave, Pull, Arrive, Answer, Done}
+use Rattle.wf_frame.specs.declared.notes.Note.TheVariants.{Enqueue, Asked}
+use Rattle.wf_def_world.specs.World.{opening, frame}
+use Rattle.wf_def_world.specs.Run.{Entry, by, world_after}
+use Rattle.wf_def_world.specs.Computed.{the_machine}
+use Rattle.wf_law_runs.specs.Releases.{passed_from, passed, named_from}
+
+abbrev config : Config
+config = record {
+  stations = 16;
+  flows = 1024;
+  limit = 8192;
+  room = 65536;
+  flow_quantum = 300;
+  quantum = 300;
+  inflight = 2;
+  attempts = 10;
+  agg = 32;
+  cap = 4000;
+  sleeping = 64;
+  calls = 1048576;
+}
+
+abbrev first_part : List Entry
+first_part = map (by 0) (
+    Asked (Join 0 4 4094 3 1) ∷
+    Enqueue 0 0 7 100 ∷
+    Enqueue 0 0 7 100 ∷
+    Enqueue 0 0 7 100 ∷
+    Asked (Pull Be) ∷
+    Asked (Arrive 0 1) ∷
+    Asked (Arrive 0 0) ∷
+    Asked (Answer 0) ∷
+    Asked (Done 0 true) ∷
+    Asked (Pull Be) ∷
+    Asked (Arrive 1 0) ∷
+    Asked (Answer 1) ∷
+    Asked (Done 1 true) ∷ [])
+
+abbrev whole : List Entry
+whole = map (by 0) (
+    Asked (Join 0 4 4094 3 1) ∷
+    Enqueue 0 0 7 100 ∷
+    Enqueue 0 0 7 100 ∷
+    Enqueue 0 0 7 100 ∷
+    Asked (Pull Be) ∷
+    Asked (Arrive 0 1) ∷
+    Asked (Arrive 0 0) ∷
+    Asked (Answer 0) ∷
+    Asked (Done 0 true) ∷
+    Asked (Pull Be) ∷
+    Asked (Arrive 1 0) ∷
+    Asked (Answer 1) ∷
+    Asked (Done 1 true) ∷
+    Asked (Leave 0) ∷
+    Asked (Join 0 4 4094 3 1) ∷
+    Enqueue 0 0 7 100 ∷
+    Asked (Pull Be) ∷
+    Asked (Arrive 2 0) ∷ [])
+
+passed_first : passed config first_part 0 0 ≡ 0 ∷ 1 ∷ 2 ∷ []
+unfolding the_machine passed_from
+passed_first = refl
+
+passed_whole : passed config whole 0 0 ≡ 3 ∷ []
+unfolding the_machine passed_from
+passed_whole = refl
+
+named_whole : named_from (opening config) [] whole ≡ 0 ∷ 1 ∷ 2 ∷ 3 ∷ []
+unfolding the_machine named_from
+named_whole = refl
+
+fate_second : (frame (world_after (opening config) first_part) 1).fate ≡ Acked
+unfolding the_machine
+fate_second = refl

@@ -1,0 +1,5 @@
+use Rattle.wf_law_runs.proofs.Deficits.Law.{deficits}
+use Rattle.wf_law_runs.proofs.deficit_law.Goals as goal
+
+pub returns : goal.returns
+returns c = deficits

@@ -1,0 +1,5 @@
+use Rattle.wf_law_runs.proofs.Releases.Placed.{once_law}
+use Rattle.wf_law_runs.proofs.once_law.Goals as goal
+
+pub returns : goal.returns
+returns c = once_law

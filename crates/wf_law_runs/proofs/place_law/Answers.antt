@@ -1,0 +1,5 @@
+use Rattle.wf_law_runs.proofs.Frames.Places.{place_law}
+use Rattle.wf_law_runs.proofs.place_law.Goals as goal
+
+pub returns : goal.returns
+returns c = place_law

@@ -1,0 +1,5 @@
+use Rattle.wf_law_runs.proofs.Releases.Named.{release_law}
+use Rattle.wf_law_runs.proofs.release_law.Goals as goal
+
+pub returns : goal.returns
+returns c = release_law

@@ -1,0 +1,5 @@
+use Rattle.wf_law_runs.proofs.Sums.Law.{sum_law}
+use Rattle.wf_law_runs.proofs.sum_law.Goals as goal
+
+pub returns : goal.returns
+returns c = sum_law

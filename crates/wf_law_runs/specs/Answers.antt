@@ -1,0 +1,35 @@
+-- An answer stands: what had arrived of an exchange when its Answer was made is what has arrived of it as
+-- long as it is open.
+use Rattle.std.specs.Prelude.{◌≡◌, ℕ, List, ◌∷◌, ◌++◌, IfSome}
+use Rattle.wf_frame.specs.declared.settings.Config.{Config}
+use Rattle.wf_frame.specs.declared.notes.Ask.TheVariants.{Answer}
+use Rattle.wf_frame.specs.declared.notes.Note.TheVariants.{Asked}
+use Rattle.wf_frame.specs.declared.notes.ReplyNote.{ReplyNote}
+use Rattle.wf_frame.specs.declared.notes.ReplyNote.TheVariants.{Ba}
+use Rattle.wf_def_lists.specs.Table.{has}
+use Rattle.wf_def_world.specs.World.{World, Exchange, receiver, exchange, opening}
+use Rattle.wf_def_world.specs.Exchanges.{mpdus_of}
+use Rattle.wf_def_world.specs.Step.{step}
+use Rattle.wf_def_world.specs.Run.{Entry, by, world_after}
+use Rattle.wf_law_runs.specs.Windows.{EachMpdu}
+
+abbrev pub IsBa : ReplyNote → Type 0
+IsBa (Ba start b0 b1 b2 b3 wide) = Unit {0}
+IsBa reply = ⊥
+
+-- u: the world in which the Answer was made; w: a later one
+abbrev pub StandsAsThen : World → World → Exchange → Type 0
+StandsAsThen u w x =
+    EachMpdu (λ m. has (receiver w x.station x.tid).arrived m.number
+    ≡ has (receiver u x.station x.tid).arrived m.number) (mpdus_of x.content)
+
+-- Where an Answer was made for an exchange after the entries `before`, and the exchange is open after
+-- `after`, its answer stands as then.
+abbrev pub AnswerLaw : Config → List Entry → Type 0
+AnswerLaw config history =
+    (before : List Entry) (caller e : ℕ) (after rest : List Entry) →
+    history ≡ before ++ by caller (Asked (Answer e)) ∷ (after ++ rest) →
+    IsBa (step (world_after (opening config) before) (Asked (Answer e))).reply →
+    IfSome (exchange (world_after (opening config) (before ++ by caller (Asked (Answer e)) ∷ after)) e)
+    (StandsAsThen (world_after (opening config) before)
+    (world_after (opening config) (before ++ by caller (Asked (Answer e)) ∷ after)))

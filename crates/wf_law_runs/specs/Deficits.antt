@@ -1,0 +1,96 @@
+-- The laws of the deficits: how far they go, and that they are fair.
+use Rattle.std.specs.Prelude.{◌≡◌, ℕ, ◌+◌, ◌-◌, ◌*◌, ◌≤◌, ◌==◌, pos, ◌-ℤ◌, ◌≤ℤ◌, ◌&&◌, List, [], ◌∷◌, IsTrue, if◌then◌else◌, is_none, take}
+use Rattle.wf_frame.specs.declared.settings.Config.{Config}
+use Rattle.wf_frame.specs.declared.classes.Class.{Class}
+use Rattle.wf_frame.specs.declared.notes.Ask.TheVariants.{Join, Rx}
+use Rattle.wf_frame.specs.declared.notes.Note.{Note}
+use Rattle.wf_frame.specs.declared.notes.Note.TheVariants.{Asked}
+use Rattle.wf_def_air.specs.Airtime.{longest_answer}
+use Rattle.wf_def_rotation.specs.Rotation.{has_key}
+use Rattle.wf_def_lists.specs.Bounds.{greatest_debt}
+use Rattle.wf_def_world.specs.World.{World, Exchange, station, share, rotation, is_live, opening}
+use Rattle.wf_frame.specs.Classes.{same_class}
+use Rattle.wf_def_world.specs.CanSend.{is_ready}
+use Rattle.wf_def_world.specs.Refusals.{refusal}
+use Rattle.wf_def_world.specs.Step.{step}
+use Rattle.wf_def_world.specs.Run.{Entry}
+use Rattle.wf_def_world.specs.Stretches.{world_at, charged_between, IsStretch, IsQuiet}
+
+-- the greatest charge of an exchange, in microseconds: the greatest time of its data, the pause and the
+-- longest BlockAck
+abbrev pub longest_exchange : Config → ℕ
+longest_exchange config = config.cap + longest_answer
+
+-- what the open exchanges of a class can be charged together, in microseconds
+abbrev pub most_owed : Config → ℕ
+most_owed config = config.inflight * longest_exchange config
+
+-- the charges of the open exchanges of a station in a class
+abbrev pub owed : ℕ → Class → List Exchange → ℕ
+owed s c [] = 0
+owed s c (x ∷ xs) = (if (x.station == s) && same_class x.class c then x.charge else 0) + owed s c xs
+
+-- a station's quantum: its weight's share of the setting
+abbrev pub own_quantum : Config → World → ℕ → ℕ
+own_quantum config w s = config.quantum * (station w s).weight
+
+-- what holds of the deficit of a live station in a class
+pub record IsAccounted (config : Config) (w : World) (s : ℕ) (c : Class) : Type 0 where
+  pub exact : (share w s c).deficit ≡ pos (own_quantum config w s + own_quantum config w s *
+      (share w s c).quanta) -ℤ pos ((share w s c).charged + (share w s c).received)
+  pub most : (share w s c).deficit ≤ℤ pos (own_quantum config w s)
+  pub least : (pos 0 -ℤ pos (greatest_debt + most_owed config)) ≤ℤ (share w s c).deficit
+  pub quiet : IsQuiet w s c → (pos 1 -ℤ pos (most_owed config)) ≤ℤ
+      ((share w s c).deficit -ℤ pos (owed s c w.opened))
+  pub floor : IsQuiet w s c → (pos 1 -ℤ pos (most_owed config)) ≤ℤ (share w s c).deficit
+  pub ready : IsTrue (is_ready w c s) → IsTrue (has_key (rotation w c) s)
+
+-- after each entry, for each live station and class
+abbrev pub DeficitLaw : Config → List Entry → Type 0
+DeficitLaw config h = (m s : ℕ) (c : Class) → IsTrue (is_live (world_at config h m) s) →
+    IsAccounted config (world_at config h m) s c
+
+-- the quanta that a station got after the first a entries and among the first b
+abbrev pub got_between : Config → List Entry → ℕ → Class → ℕ → ℕ → ℕ
+got_between config h s c a b = (share (world_at config h b) s c).quanta -
+    (share (world_at config h a) s c).quanta
+
+-- m and n differ by at most d
+abbrev pub IsNear : ℕ → ℕ → ℕ → Type 0
+IsNear d m n = (m ≤ n + d) × (n ≤ m + d)
+
+abbrev pub weight_at : Config → List Entry → ℕ → ℕ → ℕ
+weight_at config h m s = (station (world_at config h m) s).weight
+
+abbrev pub fair_bound : Config → ℕ → ℕ → ℕ
+fair_bound config g h = 3 * config.quantum * g * h + (g + h) * most_owed config
+
+pub record IsFairStretch (config : Config) (h : List Entry) (i j : ℕ) (c : Class) (a b : ℕ) : Type 0 where
+  pub quanta : IsNear 1 (got_between config h i c a b) (got_between config h j c a b)
+  pub charged : IsNear (fair_bound config (weight_at config h b i) (weight_at config h b j))
+      (charged_between config h i c a b * weight_at config h b j)
+      (charged_between config h j c a b * weight_at config h b i)
+
+-- two stations that stay on one class's old list with no receive charge are charged alike
+abbrev pub FairnessLaw : Config → List Entry → Type 0
+FairnessLaw config h = (i j : ℕ) (c : Class) (a b : ℕ) → IsStretch config h i j c a b →
+    IsQuiet (world_at config h b) i c → IsQuiet (world_at config h b) j c → IsFairStretch config h i j c a b
+
+-- how many receive charges of a class a station had since its join, after a call: n is how many before it
+abbrev pub receive_charges_by : World → ℕ → Class → Note → ℕ → ℕ
+receive_charges_by w s c (Asked (Join i window start exponent weight)) n =
+    if is_none (refusal w (Asked (Join i window start exponent weight))) && (i == s) then 0 else n
+receive_charges_by w s c (Asked (Rx i d air)) n =
+    if is_none (refusal w (Asked (Rx i d air))) && ((i == s) && same_class d c) then n + 1 else n
+receive_charges_by w s c _ n = n
+
+abbrev pub receive_charges_in : World → ℕ → Class → List Entry → ℕ → ℕ
+receive_charges_in w s c [] n = n
+receive_charges_in w s c (e ∷ es) n = receive_charges_in (step w e.1).world s c es
+    (receive_charges_by w s c e.1 n)
+
+-- a live station is quiet exactly where none of its calls Rx in the class was answered Charged since its join
+abbrev pub QuietLaw : Config → List Entry → Type 0
+QuietLaw config h = (m s : ℕ) (c : Class) → IsTrue (is_live (world_at config h m) s) →
+    (receive_charges_in (opening config) s c (take m h) 0 ≡ 0 → IsQuiet (world_at config h m) s c) ×
+    (IsQuiet (world_at config h m) s c → receive_charges_in (opening config) s c (take m h) 0 ≡ 0)

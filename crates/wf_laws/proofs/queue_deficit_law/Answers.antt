@@ -1,5 +1,0 @@
-use Rattle.wf_laws.proofs.Queues.Law.{queue_deficit_law}
-use Rattle.wf_laws.proofs.queue_deficit_law.Goals as goal
-
-pub returns : goal.returns
-returns c = queue_deficit_law

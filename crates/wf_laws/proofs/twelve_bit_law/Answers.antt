@@ -1,5 +1,0 @@
-use Rattle.wf_laws.proofs.Windows.TwelveBits.{twelve_bit_law}
-use Rattle.wf_laws.proofs.twelve_bit_law.Goals as goal
-
-pub returns : goal.returns
-returns c = twelve_bit_law

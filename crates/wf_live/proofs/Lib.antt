@@ -1,2 +1,0 @@
-pub mod SoakLemmas
-pub mod SoakLengths

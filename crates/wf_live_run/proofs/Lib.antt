@@ -1,5 +1,0 @@
-mod Places
-mod Closing
-mod Quotas
-mod Texts
-pub mod Printable

@@ -1,0 +1,6 @@
+mod Names
+pub mod Openings
+pub mod Prints
+mod Sendings
+mod Walks
+mod Words

@@ -1,0 +1,6 @@
+pub mod Desks
+pub mod Drivers
+pub mod Makings
+pub mod Opening
+pub mod Walks
+pub mod Workloads

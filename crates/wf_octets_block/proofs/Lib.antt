@@ -1,0 +1,2 @@
+mod Checked
+pub mod Written

@@ -1,0 +1,114 @@
+-- An open exchange, as the half keeps it and as the world has it.
+use Rattle.std.proofs.Common.{◌≡◌, refl, ap, sym, ◌∙◌, subst, arith, ℕ, ◌<◌, ◌==◌, Bool, true, false, List, Some, None, option_map}
+use Rattle.std.specs.Prelude.{find}
+use Rattle.std.specs.Option.{option_map_or}
+use Rattle.std.proofs.lemmas.List.{length-map}
+use Rattle.wf_frame.specs.declared.settings.Config.{Config}
+use Rattle.wf_frame.specs.Frames.{FrameValue}
+use Rattle.wf_def_world.specs.World.{World, Exchange, Content, Frames, Request, is_live, exchange, is_wide}
+use Rattle.wf_def_world.specs.CanSend.{is_request}
+use Rattle.wf_def_world.specs.Exchanges.{transmissions}
+use Rattle.wf_send_window.specs.Window.{on_air}
+use Rattle.wf_send_exchanges.specs.declared.opened.Open.{Open}
+use Rattle.wf_send_exchanges.specs.Exchanges.{transmissions_of, sending_is_request as asks_for}
+use Rattle.wf_send_half_refines.specs.Half.{TransmitValue}
+use Rattle.wf_send_half_refines.specs.Standing.{sending_of, numbers_on_air, StandsFor}
+use Rattle.wf_send_half_refines.proofs.Endings.{open_live}
+use Rattle.wf_send_half_refines.proofs.Dones.{request_tid}
+use Rattle.wf_send_half_refines.specs.Pulling.{is_wide_of}
+use Rattle.wf_send_half_refines.proofs.Pulls.{wide_same}
+use Rattle.wf_send_half.specs.Half.{HasWorld}
+use Rattle.wf_send_half.proofs.Dones.{IsKnown, known_of, none_open}
+use Rattle.wf_send_half.proofs.Ends.{begun}
+use Rattle.wf_path.specs.Transmissions.{sent_of}
+use Rattle.wf_path.specs.Answers.{answer_fault, read_fault}
+use Rattle.wf_path.specs.declared.faults.DoneFault.TheVariants.{NoExchange}
+
+-- its station is live and within the settings, and its TID is below 8
+module _ (v : TransmitValue) (w : World) (bodies : ℕ → FrameValue) (h : StandsFor v w bodies) (e : ℕ)
+    (x : Exchange) (known : exchange w e ≡ Some x) where
+  pub live : is_live w x.station ≡ true
+  live = open_live w h.reached e x known
+
+  pub low : x.tid < 8
+  low = by_content x.content refl
+    where
+      by_content : (c : Content) → x.content ≡ c → x.tid < 8
+      by_content (Frames mpdus) is = (begun v w bodies h e x known (numbers_on_air mpdus) (ap sending_of is)
+          (λ n. false)).tid
+      by_content (Request start) is = request_tid v w bodies h e x known start is
+
+  pub within : x.station < v.config.stations
+  within = omega (
+    arith,
+    h.parts.others.turns.live x.station live,
+    ap (λ (k : Config). k.stations) h.parts.others.config,
+  )
+
+-- the same of what the half keeps
+module _ (v : TransmitValue) (some : HasWorld v) (e : ℕ) (o : Open)
+    (is : Some o ≡ find (λ x. x.number == e) v.opened) where
+  it : IsKnown some.world e o
+  it = known_of v some.world some.bodies some.stands e o is
+
+  pub open_within : o.station < v.config.stations
+  open_within = subst (λ (k : Open). k.station < v.config.stations) (sym it.same)
+      (within v some.world some.bodies some.stands e it.exchange_is it.known)
+
+  pub open_low : o.tid < 8
+  open_low = subst (λ (k : Open). k.tid < 8) (sym it.same)
+      (low v some.world some.bodies some.stands e it.exchange_is it.known)
+
+-- ---- its answer
+
+module _ (v : TransmitValue) (w : World) (bodies : ℕ → FrameValue) (h : StandsFor v w bodies) (e : ℕ)
+    (octets : List ℕ) where
+  pub none_answered : None ≡ find (λ x. x.number == e) v.opened → Some NoExchange ≡ read_fault w e octets
+  none_answered is = sym (ap (λ o. option_map_or
+      (λ x. answer_fault (is_wide w x.station x.tid) x.station x.tid octets) o (Some NoExchange))
+      (none_open v w bodies h e is))
+
+  pub some_answered : (o : Open) (wide : Bool) → Some o ≡ find (λ x. x.number == e) v.opened →
+      wide ≡ is_wide_of v o.station o.tid → answer_fault wide o.station o.tid octets ≡ read_fault w e octets
+  some_answered o wide is told =
+      let k : IsKnown w e o = known_of v w bodies h e o is in
+      let x : Exchange = k.exchange_is in
+      let same : is_wide_of v x.station x.tid ≡ is_wide w x.station x.tid =
+      wide_same v w bodies x.station x.tid h.parts (live v w bodies h e x k.known)
+      (low v w bodies h e x k.known) in
+      ap (λ b. answer_fault b o.station o.tid octets) told
+      ∙ ap (λ (z : Open). answer_fault (is_wide_of v z.station z.tid) z.station z.tid octets) k.same
+      ∙ ap (λ b. answer_fault b x.station x.tid octets) same
+      ∙ sym (ap (λ o. option_map_or (λ y. answer_fault (is_wide w y.station y.tid) y.station y.tid octets) o
+      (Some NoExchange)) k.known)
+
+-- ---- what it sends, in short
+
+count_same : (c : Content) → transmissions_of (sending_of c) ≡ transmissions c
+count_same (Frames mpdus) = length-map mpdus (λ m. on_air m.number)
+count_same (Request start) = refl
+
+request_same : (c : Content) → asks_for (sending_of c) ≡ is_request c
+request_same (Frames mpdus) = refl
+request_same (Request start) = refl
+
+module _ (v : TransmitValue) (w : World) (bodies : ℕ → FrameValue) (h : StandsFor v w bodies) (e : ℕ) where
+  pub none_sent : None ≡ find (λ x. x.number == e) v.opened → None ≡ option_map sent_of (exchange w e)
+  none_sent is = ap (option_map sent_of) (sym (none_open v w bodies h e is))
+
+  pub some_sent : (o : Open) (count : ℕ) (request : Bool) → Some o ≡ find (λ x. x.number == e) v.opened →
+      count ≡ transmissions_of o.sending → request ≡ asks_for o.sending →
+      Some (record { station = o.station; tid = o.tid; count = count; request = request })
+      ≡ option_map sent_of (exchange w e)
+  some_sent o count request is count_is request_is =
+      let k : IsKnown w e o = known_of v w bodies h e o is in
+      let x : Exchange = k.exchange_is in
+      let station : o.station ≡ x.station = ap (λ (z : Open). z.station) k.same in
+      let tid : o.tid ≡ x.tid = ap (λ (z : Open). z.tid) k.same in
+      let transmissions_are : count ≡ transmissions x.content =
+      count_is ∙ ap (λ (z : Open). transmissions_of z.sending) k.same ∙ count_same x.content in
+      let asks : request ≡ is_request x.content = request_is ∙ ap (λ (z : Open). asks_for z.sending) k.same
+      ∙ request_same x.content in
+      let same : Some (record { station = o.station; tid = o.tid; count = count; request = request })
+      ≡ Some (sent_of x) = cc (station, tid, transmissions_are, asks) in
+      same ∙ ap (option_map sent_of) (sym k.known)

@@ -1,0 +1,41 @@
+use Rattle.std.proofs.Common.{◌≡◌, refl, sym, ap, ◌∙◌, subst, true, nat_lt, arith}
+use Rattle.wf_send_exchanges.specs.declared.opened.Open.{Open}
+use Rattle.wf_octets_header.specs.Addresses.{address_of_station}
+use Rattle.wf_send_window.specs.Window.{WindowValue, WindowStandsFor, state_at, holds_parcel}
+use Rattle.wf_def_world.specs.World.{session}
+use Rattle.wf_path.specs.Transmissions.{is_retried}
+use Rattle.wf_path.proofs.Flying.{window_stands, is_number, air, some_within, some_low, some_held}
+use Rattle.wf_path.proofs.flights.header_of.Goals as goal
+
+pub window-requires-clause-within : goal.window-requires-clause-within
+window-requires-clause-within c = some_within c.args.half.now c.args.open.now c.args.index c.args.seq
+    c.requires
+
+pub window-requires-clause-tid : goal.window-requires-clause-tid
+window-requires-clause-tid c = some_low c.args.half.now c.args.open.now c.args.index c.args.seq c.requires
+
+pub attempts-attempts-requires : goal.attempts-attempts-requires
+attempts-attempts-requires c = subst (λ (z : WindowValue). holds_parcel (state_at z c.args.seq) ≡ true)
+    (sym c.window.ensures) (some_held c.args.half.now c.args.open.now c.args.index c.args.seq c.requires)
+
+pub returns-clause-plain : goal.returns-clause-plain
+returns-clause-plain c = record {
+  not_both = refl;
+  tid =
+      omega (arith, some_low c.args.half.now c.args.open.now c.args.index c.args.seq c.requires);
+}
+
+pub returns-clause-header : goal.returns-clause-header
+returns-clause-header c w bodies x m f =
+    let stands : WindowStandsFor c.window.result.now (session w x.station x.tid) bodies =
+    subst (λ (z : WindowValue). WindowStandsFor z (session w x.station x.tid) bodies) (sym c.window.ensures)
+    (window_stands c.args.half.now c.args.open.now c.args.index w bodies x m f) in
+    let retry : nat_lt 0 c.attempts-attempts.result ≡ is_retried w x.station x.tid m.number =
+    ap (nat_lt 0) (c.attempts-attempts.ensures (session w x.station x.tid) bodies m.number stands
+    (is_number c.args.half.now c.args.open.now c.args.index w bodies x m f c.args.seq c.requires.carries))
+    in
+    let more = ap (λ (k : Open). k.more) f.same in
+    let tid = ap (λ (k : Open). k.tid) f.same in
+    let recipient = c.station_address.ensures ∙ ap (λ (k : Open). address_of_station k.station) f.same in
+    let seq = air c.args.half.now c.args.open.now c.args.index w bodies x m f c.args.seq c.requires.carries in
+    cc (retry, more, tid, recipient, seq, c.base_address.ensures, c.source_address.ensures)

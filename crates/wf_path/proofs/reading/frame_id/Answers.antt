@@ -1,0 +1,22 @@
+use Rattle.std.proofs.Common.{◌∙◌, sym}
+use Rattle.wf_path.proofs.Flying.{some_flies, id_is, no_exchange, no_number}
+use Rattle.wf_path.proofs.reading.frame_id.Goals as goal
+
+pub returns-in_err-open : goal.returns-in_err-open
+returns-in_err-open c w bodies h = c.from_residual.ensures
+    ∙ no_exchange c.args.half.now w bodies h c.args.number c.args.index c.in_err-open.ensures
+
+pub returns-in_err-seq : goal.returns-in_err-seq
+returns-in_err-seq c w bodies h =
+    c.from_residual-in_err-seq.ensures ∙ no_number c.args.half.now w bodies h c.args.number c.args.index
+    c.in_ok-open.open.now c.in_ok-open.ensures (sym c.in_err-seq.ensures)
+
+pub frame_of-requires : goal.frame_of-requires
+frame_of-requires c = some_flies c.args.half.now c.args.number c.in_ok-open.open.now c.args.index
+    c.in_ok-seq.seq c.in_ok-open.ensures (sym c.in_ok-seq.ensures) c.requires
+
+pub returns : goal.returns
+returns c w bodies h =
+    id_is c.args.half.now c.args.number c.in_ok-open.open.now c.args.index c.in_ok-seq.seq
+    c.in_ok-open.ensures (sym c.in_ok-seq.ensures) w bodies h c.frame_of.result.now c.id.result
+    (λ x m f. c.frame_of.ensures w bodies x m f) c.id.ensures

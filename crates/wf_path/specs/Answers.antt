@@ -1,0 +1,66 @@
+-- The checks of octets that are to be the BlockAck to an open exchange, in their order, and what they then
+-- say (IEEE 802.11-2012, 8.3.1.9).
+use Rattle.std.specs.Prelude.{ℕ, ◌/◌, ◌==◌, Bool, ◌&&◌, List, drop, slice_index, Option, Some, None, if◌then◌else◌}
+use Rattle.std.specs.Option.{option_map, option_map_or, option_or}
+use Rattle.std.specs.Str.{bytes_eq}
+use Rattle.wf_def_air.specs.Airtime.{block_ack_octets}
+use Rattle.wf_octets_bits.specs.Offsets.{offsets_in}
+use Rattle.wf_octets_fields.specs.Fields.{number_at, part}
+use Rattle.wf_octets_header.specs.Addresses.{base, address_of_station}
+use Rattle.wf_octets_header.specs.Layout.{address_1_at, address_2_at, address_octets}
+use Rattle.wf_octets_block.specs.Layout.{answer}
+use Rattle.wf_octets_block.specs.Faults.{first_block_fault}
+use Rattle.wf_def_world.specs.World.{World, exchange, is_wide}
+use Rattle.wf_path.specs.declared.faults.DoneFault.{DoneFault}
+use Rattle.wf_path.specs.declared.faults.DoneFault.TheVariants.{NoExchange, Block, NotMine, WrongTid}
+
+-- ---- what a BlockAck says
+
+-- where its fields begin, in octets: the second octet of BA Control, whose high four bits are the TID,
+-- Starting Sequence Control, whose high twelve bits are the start, and the bitmap
+abbrev pub tid_octet : ℕ
+tid_octet = 17
+
+abbrev pub start_at : ℕ
+start_at = 18
+
+abbrev pub bitmap_at : ℕ
+bitmap_at = 20
+
+abbrev pub recipient_in : List ℕ → List ℕ
+recipient_in octets = part octets address_1_at address_octets
+
+abbrev pub transmitter_in : List ℕ → List ℕ
+transmitter_in octets = part octets address_2_at address_octets
+
+abbrev pub tid_in : List ℕ → ℕ
+tid_in octets = slice_index octets tid_octet / 16
+
+-- its start, and the offsets from there of the numbers that arrived
+abbrev pub block_ack_in : List ℕ → ℕ × List ℕ
+block_ack_in octets = (number_at octets start_at / 16, offsets_in (drop bitmap_at octets))
+
+-- ---- the checks: each has its fault, or none
+
+-- it is a BlockAck of the session's width: of 256 numbers where that is wide, else of 64
+abbrev pub layout_fault : Bool → List ℕ → Option DoneFault
+layout_fault wide octets = option_map Block (first_block_fault (block_ack_octets wide) answer wide octets)
+
+-- it is to the access point, from station s
+abbrev pub address_fault : ℕ → List ℕ → Option DoneFault
+address_fault s octets = if bytes_eq (recipient_in octets) base
+    && bytes_eq (transmitter_in octets) (address_of_station s) then None else Some NotMine
+
+-- it is of TID t
+abbrev pub tid_fault : ℕ → List ℕ → Option DoneFault
+tid_fault t octets = if tid_in octets == t then None else Some (WrongTid (tid_in octets))
+
+-- the first check that fails, of an answer to what is sent to TID t of station s
+abbrev pub answer_fault : Bool → ℕ → ℕ → List ℕ → Option DoneFault
+answer_fault wide s t octets = option_or (layout_fault wide octets)
+    (option_or (address_fault s octets) (tid_fault t octets))
+
+-- the first check that fails, of an answer to exchange e
+abbrev pub read_fault : World → ℕ → List ℕ → Option DoneFault
+read_fault w e octets = option_map_or (λ x. answer_fault (is_wide w x.station x.tid) x.station x.tid octets)
+    (exchange w e) (Some NoExchange)

@@ -1,0 +1,104 @@
+-- What an open exchange sends, as octets on the air (IEEE 802.11-2012, 8.2.4, 8.3.1.8 and 8.3.2.1).
+--
+-- A world w has the exchange, and `bodies` the frame of each id as it was accepted.
+use Rattle.std.specs.Prelude.{ℕ, ◌+◌, nat_lt, Bool, true, false, List, [], ◌∷◌, ◌++◌, map, slice_get, Option, option_and_then, option_map}
+use Rattle.wf_frame.specs.Frames.{FrameValue}
+use Rattle.wf_def_air.specs.Airtime.{sifs, answer_time}
+use Rattle.wf_def_agreement.specs.Session.{slot}
+use Rattle.wf_octets_header.specs.Addresses.{base, address_of_station, source}
+use Rattle.wf_octets_header.specs.Layout.{header_as_octets}
+use Rattle.wf_octets_header.specs.declared.header.Header.{Header}
+use Rattle.wf_octets_header.specs.declared.header.Kind.TheVariants.{QosData}
+use Rattle.wf_octets_block.specs.Layout.{head_octets, request, narrow_form}
+use Rattle.wf_octets_block.specs.declared.frames.Bar.{Bar}
+use Rattle.wf_send_window.specs.Window.{on_air}
+use Rattle.wf_def_world.specs.World.{World, Mpdu, Content, Frames, Request, Exchange, session, exchange}
+use Rattle.wf_def_world.specs.CanSend.{is_request}
+use Rattle.wf_def_world.specs.Exchanges.{mpdus_of, transmissions}
+use Rattle.wf_path.specs.declared.reading.Sent.{Sent}
+
+-- ---- one transmission
+
+-- the Duration of each transmission, in microseconds (8.2.5): how long the medium is taken after it, by the
+-- pause and a BlockAck of 64 numbers. It is 48.
+abbrev pub duration : ℕ
+duration = sifs + answer_time false
+
+-- whether the frame of number n of TID t of station s was sent in vain before: the Retry bit (8.2.4.1.6)
+abbrev pub is_retried : World → ℕ → ℕ → ℕ → Bool
+is_retried w s t n = nat_lt 0 (slot (session w s t) n).attempts
+
+-- the header of a transmission of data (8.3.2.1), from the distribution system: to the station, of the access
+-- point, from the source of every data frame. It has its sequence number modulo 4096, and the More Data bit
+-- of its exchange (8.2.4.1.8).
+abbrev pub header_of : World → Exchange → Mpdu → Header
+header_of w x m = record {
+  kind = QosData;
+  to_ds = false;
+  from_ds = true;
+  retry = is_retried w x.station x.tid m.number;
+  power = false;
+  more = x.more;
+  duration = duration;
+  a1 = address_of_station x.station;
+  a2 = base;
+  a3 = source;
+  seq = on_air m.number;
+  tid = x.tid;
+}
+
+-- the octets of a transmission of data: the header, and the body of the frame that it carries
+abbrev pub data_octets : World → (ℕ → FrameValue) → Exchange → Mpdu → List ℕ
+data_octets w bodies x m = header_as_octets (header_of w x m) ++ (bodies m.id).body
+
+-- the BlockAckReq of an exchange with this start (8.3.1.8): to the station, of the access point
+abbrev pub bar_of : Exchange → ℕ → Bar
+bar_of x start = record {
+  ra = address_of_station x.station;
+  ta = base;
+  duration = duration;
+  tid = x.tid;
+  start = on_air start;
+}
+
+-- the octets of a transmission of a BlockAckReq
+abbrev pub bar_octets : Exchange → ℕ → List ℕ
+bar_octets x start = head_octets request narrow_form (bar_of x start)
+
+-- ---- all that an exchange sends
+
+-- the octets of each transmission of such a content: one for each frame, or the one BlockAckReq
+abbrev pub octets_of_content : World → (ℕ → FrameValue) → Exchange → Content → List (List ℕ)
+octets_of_content w bodies x (Frames mpdus) = map (data_octets w bodies x) mpdus
+octets_of_content w bodies x (Request start) = bar_octets x start ∷ []
+
+-- the octets of each transmission of an exchange, in order
+abbrev pub frames_on_air : World → (ℕ → FrameValue) → Exchange → List (List ℕ)
+frames_on_air w bodies x = octets_of_content w bodies x x.content
+
+-- the octets of the transmission of this index, counted from 0: none where the exchange has no such
+-- transmission
+abbrev pub transmission_octets : World → (ℕ → FrameValue) → Exchange → ℕ → Option (List ℕ)
+transmission_octets w bodies x index = slice_get (frames_on_air w bodies x) index
+
+-- the id of the frame that it carries: none where it is a BlockAckReq
+abbrev pub transmission_id : Exchange → ℕ → Option ℕ
+transmission_id x index = option_map (λ m. m.id) (slice_get (mpdus_of x.content) index)
+
+-- what an exchange sends, in short
+abbrev pub sent_of : Exchange → Sent
+sent_of x = record {
+  station = x.station;
+  tid = x.tid;
+  count = transmissions x.content;
+  request =
+      is_request x.content;
+}
+
+-- ---- the same of the exchange with number e: none where it is not open
+
+abbrev pub octets_sent : World → (ℕ → FrameValue) → ℕ → ℕ → Option (List ℕ)
+octets_sent w bodies e index = option_and_then (λ x. transmission_octets w bodies x index) (exchange w e)
+
+abbrev pub id_sent : World → ℕ → ℕ → Option ℕ
+id_sent w e index = option_and_then (λ x. transmission_id x index) (exchange w e)

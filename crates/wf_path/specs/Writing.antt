@@ -1,0 +1,19 @@
+-- The checks of a transmission that is to be written, in their order.
+use Rattle.std.specs.Prelude.{ℕ, nat_lt, List, length, Option, Some, None, if◌then◌else◌}
+use Rattle.std.specs.Option.{option_map_or}
+use Rattle.wf_frame.specs.Frames.{FrameValue}
+use Rattle.wf_def_world.specs.World.{World, exchange}
+use Rattle.wf_path.specs.declared.faults.PathFault.{PathFault}
+use Rattle.wf_path.specs.declared.faults.PathFault.TheVariants.{NoExchange, BadIndex, SmallBuffer}
+use Rattle.wf_path.specs.Transmissions.{transmission_octets}
+
+-- there is such a transmission, and there is room for so many octets at least as it has
+abbrev pub room_fault : ℕ → Option (List ℕ) → Option PathFault
+room_fault room None = Some BadIndex
+room_fault room (Some octets) = if nat_lt room (length octets) then Some (SmallBuffer (length octets))
+    else None
+
+-- the first check that fails, of a transmission of exchange e, where there is room for so many octets
+abbrev pub write_fault : World → (ℕ → FrameValue) → ℕ → ℕ → ℕ → Option PathFault
+write_fault w bodies e index room = option_map_or
+    (λ x. room_fault room (transmission_octets w bodies x index)) (exchange w e) (Some NoExchange)

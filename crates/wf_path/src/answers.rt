@@ -1,0 +1,105 @@
+//! The BlockAck to an open exchange, read back.
+
+ghost use Rattle.std.specs.Prelude.{◌≡◌, ◌&&◌, ℕ, IfOk};
+ghost use Rattle.std.specs.Str.{bytes_eq};
+ghost use Rattle.wf_frame.specs.Frames.{FrameValue};
+ghost use Rattle.wf_def_world.specs.World.{World};
+ghost use Rattle.wf_send_half.specs.Half.{HasWorld};
+ghost use Rattle.wf_send_half_refines.specs.Standing.{StandsFor};
+ghost use Rattle.wf_def_air.specs.Airtime.{block_ack_octets};
+ghost use Rattle.wf_octets_header.specs.Addresses.{base, address_of_station};
+ghost use Rattle.wf_octets_block.specs.Layout.{answer};
+ghost use Rattle.std.specs.Result.{result_err};
+ghost use Rattle.wf_octets_block.specs.Faults.{first_block_fault};
+ghost use Rattle.std.specs.Result.{result_err};
+ghost use Rattle.wf_path.specs.Answers.{recipient_in, transmitter_in, tid_in, answer_fault, read_fault, block_ack_in};
+
+use crate::DoneFault;
+use wf_octets_bits::Bits256;
+use wf_octets_block::{Ba, BlockFault, WideBa, decode_ba, decode_wide};
+use wf_octets_header::{base_address, station_address};
+use wf_octets_seq12::Seq12;
+use wf_send_exchanges::widened;
+use wf_send_half::Transmit;
+
+/// The greatest window of a session that is not wide, in numbers: a BlockAck's bitmap of 8 octets has a bit
+/// for each.
+const NARROW_WINDOW: u16 = 64;
+
+/// Reads the BlockAck to the exchange with this number: its start, and the offsets from there of the numbers
+/// that arrived (IEEE 802.11-2012, 8.3.1.9). A session whose window is above 64 has the BlockAck of 256
+/// numbers, each other one that of 64.
+pub fn read_block_ack(
+    half: &Transmit,
+    number: u64,
+    octets: &[u8],
+) -> Result<(Seq12, Bits256), DoneFault>
+    requires { HasWorld half.now }
+
+    // refused exactly where a check fails, for the first that does
+    ensures fault { (w : World) (bodies : ℕ → FrameValue) → StandsFor half.now w bodies →
+        result_err result ≡ read_fault w number octets.now }
+    ensures read { IfOk result (λ read. read ≡ block_ack_in octets.now) }
+{
+    let Some(open) = half.exchange(number) else {
+        return Err(DoneFault::NoExchange);
+    };
+    let wide = half.window(open.station, open.tid).size() > NARROW_WINDOW;
+    read_answer(open.station, open.tid, wide, octets)
+}
+
+/// Reads the BlockAck of this width from a station to what was sent to one of its TIDs.
+fn read_answer(
+    station: u16,
+    tid: u8,
+    wide: bool,
+    octets: &[u8],
+) -> Result<(Seq12, Bits256), DoneFault>
+    ensures fault { result_err result ≡ answer_fault wide station tid octets.now }
+    ensures read { IfOk result (λ read. read ≡ block_ack_in octets.now) }
+{
+    let answer = decode(wide, octets).map_err(DoneFault::Block)?;
+    if !is_from(station, &answer) {
+        return Err(DoneFault::NotMine);
+    }
+    if answer.tid != tid {
+        return Err(DoneFault::WrongTid { found: answer.tid });
+    }
+    Ok((answer.start, answer.bits))
+}
+
+/// Reads a BlockAck of 256 numbers, or one of 64 as one of 256.
+fn decode(wide: bool, octets: &[u8]) -> Result<WideBa, BlockFault>
+    ensures fault { result_err result ≡ first_block_fault (block_ack_octets wide) answer wide octets.now }
+    ensures recipient { IfOk result (λ ba. ba.ra ≡ recipient_in octets.now) }
+    ensures transmitter { IfOk result (λ ba. ba.ta ≡ transmitter_in octets.now) }
+    ensures tid { IfOk result (λ ba. ba.tid ≡ tid_in octets.now) }
+    ensures says { IfOk result (λ ba. (ba.start, ba.bits) ≡ block_ack_in octets.now) }
+{
+    if wide {
+        return decode_wide(octets);
+    }
+    let Ba {
+        ra,
+        ta,
+        duration,
+        tid,
+        start,
+        bits,
+    } = decode_ba(octets)?;
+    Ok(WideBa {
+        ra,
+        ta,
+        duration,
+        tid,
+        start,
+        bits: widened(bits),
+    })
+}
+
+/// Whether a BlockAck goes from a station to the access point.
+fn is_from(station: u16, ba: &WideBa) -> bool
+    ensures { result ≡ (bytes_eq ba.now.ra base && bytes_eq ba.now.ta (address_of_station station)) }
+{
+    ba.ra == base_address() && ba.ta == station_address(station)
+}

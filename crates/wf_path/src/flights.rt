@@ -1,0 +1,55 @@
+//! A transmission of data: its frame and its header.
+
+ghost use Rattle.std.specs.Prelude.{◌≡◌, ℕ, true};
+ghost use Rattle.wf_frame.specs.Frames.{FrameValue};
+ghost use Rattle.wf_octets_header.specs.Layout.{IsPlain};
+ghost use Rattle.wf_octets_header.specs.declared.header.Kind.TheVariants.{QosData};
+ghost use Rattle.wf_def_world.specs.World.{World, Exchange, Mpdu};
+ghost use Rattle.wf_path.specs.Transmissions.{header_of};
+ghost use Rattle.wf_path.specs.Flights.{IsInFlight, Flies};
+
+use wf_frame::Frame;
+use wf_octets_header::{Header, Kind, base_address, source_address, station_address};
+use wf_octets_seq12::Seq12;
+use wf_send_exchanges::Open;
+use wf_send_half::Transmit;
+
+/// How long the medium is taken after a transmission, in microseconds: by the pause, 16, and a BlockAck of 64
+/// numbers, 32.
+pub(crate) const DURATION: u16 = 48;
+
+/// The frame of a transmission that carries this number.
+pub(crate) fn frame_of<'a>(half: &'a Transmit, open: &Open, index: u16, seq: Seq12) -> &'a Frame
+    requires { Flies half.now open.now index seq }
+    ensures { (w : World) (bodies : ℕ → FrameValue) (x : Exchange) (m : Mpdu) →
+        IsInFlight half.now open.now index w bodies x m →
+        result.now ≡ bodies m.id }
+{
+    half.window(open.station, open.tid).frame(seq)
+}
+
+/// The header of a transmission that carries this number.
+pub(crate) fn header_of(half: &Transmit, open: &Open, index: u16, seq: Seq12) -> Header
+    requires { Flies half.now open.now index seq }
+    ensures kind { result.kind ≡ QosData }
+    ensures plain { IsPlain result }
+    ensures header { (w : World) (bodies : ℕ → FrameValue) (x : Exchange) (m : Mpdu) →
+        IsInFlight half.now open.now index w bodies x m →
+        result ≡ header_of w x m }
+{
+    let attempts = half.window(open.station, open.tid).attempts(seq);
+    Header {
+        kind: Kind::QosData,
+        to_ds: false,
+        from_ds: true,
+        retry: attempts > 0,
+        power: false,
+        more: open.more,
+        duration: DURATION,
+        a1: station_address(open.station),
+        a2: base_address(),
+        a3: source_address(),
+        seq,
+        tid: open.tid,
+    }
+}

@@ -1,0 +1,91 @@
+//! The octets of a transmission.
+
+ghost use Rattle.std.specs.Prelude.{◌≡◌, ◌<◌, ◌≤◌, ◌++◌, ℕ, Some, length, take, drop, IfOk, OnErr};
+ghost use Rattle.wf_frame.specs.Frames.{FrameValue};
+ghost use Rattle.wf_def_world.specs.World.{World};
+ghost use Rattle.wf_send_half.specs.Half.{HasWorld};
+ghost use Rattle.wf_send_half_refines.specs.Standing.{StandsFor};
+ghost use Rattle.wf_path.specs.Transmissions.{octets_sent};
+ghost use Rattle.std.specs.Result.{result_err};
+ghost use Rattle.wf_path.specs.Writing.{write_fault, room_fault};
+
+use crate::PathFault;
+use crate::flights::{DURATION, frame_of, header_of};
+use wf_octets_block::{Bar, encode_bar};
+use wf_octets_fields::put;
+use wf_octets_header::{base_address, encode, station_address};
+use wf_send_exchanges::Sending;
+use wf_send_half::Transmit;
+
+/// The octets of a data frame's header.
+const HEADER: usize = 26;
+
+/// The octets of a BlockAckReq.
+const REQUEST: usize = 20;
+
+/// Writes the octets of a transmission of the exchange with this number, by the transmission's index, counted
+/// from 0: a QoS Data frame with its body, or the BlockAckReq (IEEE 802.11-2012, 8.3.2.1 and 8.3.1.8).
+/// Answers how many they are; the rest of `out` stays. After a fault all of it does.
+pub fn write_transmission(
+    half: &Transmit,
+    number: u64,
+    index: u16,
+    out: &mut [u8],
+) -> Result<usize, PathFault>
+    requires { HasWorld half.now }
+
+    // refused exactly where a check fails, for the first that does
+    ensures fault { (w : World) (bodies : ℕ → FrameValue) → StandsFor half.now w bodies →
+        result_err result ≡ write_fault w bodies number index (length out.old) }
+    ensures unchanged { OnErr result (out.new ≡ out.old) }
+
+    // else the first octets are the transmission's
+    ensures octets { IfOk result (λ n. (w : World) (bodies : ℕ → FrameValue) → StandsFor half.now w bodies →
+        octets_sent w bodies number index ≡ Some (take n out.new)) }
+    ensures within { IfOk result (λ n. n ≤ length out.new) }
+    ensures rest { IfOk result (λ n. drop n out.new ≡ drop n out.old) }
+{
+    let Some(open) = half.exchange(number) else {
+        return Err(PathFault::NoExchange);
+    };
+    if index >= open.count() {
+        return Err(PathFault::BadIndex);
+    }
+    match &open.sending {
+        Sending::Data(numbers) => {
+            let seq = numbers.at(index);
+            let mut header = [0; HEADER];
+            encode(&header_of(half, open, index, seq), &mut header);
+            write_parts(&header, frame_of(half, open, index, seq).body(), out)
+        }
+        Sending::Request(start) => {
+            let bar = Bar {
+                ra: station_address(open.station),
+                ta: base_address(),
+                duration: DURATION,
+                tid: open.tid,
+                start: *start,
+            };
+            let mut request = [0; REQUEST];
+            encode_bar(&bar, &mut request);
+            write_parts(&request, &[], out)
+        }
+    }
+}
+
+/// Writes a head and a body to the front of `out`, where there is room for both.
+fn write_parts(head: &[u8], body: &[u8], out: &mut [u8]) -> Result<usize, PathFault>
+    requires { length head.now ≤ 26 }
+    ensures fault { result_err result ≡ room_fault (length out.old) (Some (head.now ++ body.now)) }
+    ensures unchanged { OnErr result (out.new ≡ out.old) }
+    ensures octets { IfOk result (λ n. take n out.new ≡ head.now ++ body.now) }
+    ensures within { IfOk result (λ n. n ≤ length out.new) }
+    ensures rest { IfOk result (λ n. drop n out.new ≡ drop n out.old) }
+{
+    let need = head.len() + body.len();
+    if out.len() < need {
+        return Err(PathFault::SmallBuffer { need });
+    }
+    let end = put(out, 0, head);
+    Ok(put(out, end, body))
+}

@@ -1,3 +1,0 @@
-pub mod CostLemmas
-pub mod Descent
-pub mod TreeLemmas

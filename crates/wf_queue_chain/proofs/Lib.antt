@@ -1,0 +1,6 @@
+mod Linked
+mod Nodes
+mod NodeSend
+mod Sharing
+mod Steps
+pub mod Values

@@ -1,0 +1,3 @@
+mod CostLemmas
+mod Descent
+mod TreeLemmas

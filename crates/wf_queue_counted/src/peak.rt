@@ -1,0 +1,157 @@
+//! A tournament tree over numbered leaves: which leaf has the greatest value is known at each moment, and a
+//! leaf is set in a step for each level.
+
+ghost use Rattle.std.specs.Prelude.{◌≡◌, ℕ, ◌+◌, ◌-◌, ◌*◌, ◌^◌, ◌<◌, ◌≤◌, length, replicate, slice_index, slice_set, IfOk, IfNone, IfSome};
+ghost use Rattle.wf_queue_counted.specs.Best.{IsBest, IsFirstFrom, IsPowerOfTwo};
+ghost use Rattle.wf_queue_counted.specs.Tree.{node_at, winner_of};
+
+use crate::Steps;
+use std::alloc::{AllocError, Global};
+use std::marker::{Brand, Model};
+use std::sync::ledger::{Blank, Ledger};
+
+/// A leaf with its value, as it stands on the nodes that it has won.
+#[derive(Clone, Copy)]
+struct Candidate {
+    value: u64,
+    leaf: u32,
+}
+
+/// Numbered leaves, each with a value. Contracts see the list of the values.
+#[derive(Drop)]
+pub struct Peak {
+    nodes: Vec<Candidate>,
+    count: usize,
+}
+
+impl Model for Peak {
+    ghost use Rattle.std.specs.Prelude.{List, ℕ};
+    ghost use Rattle.wf_queue_counted.specs.Tree.{IsPlayedBut, values_of};
+
+    ghost Value = { List ℕ };
+
+    ghost view = { λ p. values_of p.nodes.items p.count };
+
+    ghost invariant = { λ p. IsPlayedBut p.nodes.items p.count 0 };
+}
+
+/// The winner of two: the greater value, and on a tie the lesser leaf.
+fn winner_of(first: Candidate, second: Candidate) -> Candidate
+    ensures { result ≡ winner_of first second }
+{
+    let is_greater = second.value > first.value;
+    let is_before = second.value == first.value && second.leaf < first.leaf;
+    if is_greater || is_before {
+        second
+    } else {
+        first
+    }
+}
+
+/// What a node holds before any leaf is set: a leaf itself, or the winner of its two children.
+fn opening_of(nodes: &[Candidate], count: usize, node: usize) -> Candidate
+    requires size { length nodes.now ≡ 2 * count }
+    requires within { node < 2 * count }
+    requires small { count ≤ 65536 }
+    ensures inner { node < count →
+        result ≡ winner_of (node_at nodes.now (2 * node)) (node_at nodes.now (2 * node + 1)) }
+    ensures leaf { count ≤ node → result ≡ record { value = 0; leaf = node - count } }
+{
+    if node < count {
+        winner_of(nodes[2 * node], nodes[2 * node + 1])
+    } else {
+        Candidate {
+            value: 0,
+            leaf: (node - count) as u32,
+        }
+    }
+}
+
+impl Peak {
+    /// All leaves are 0. Takes memory for twice as many nodes as there are leaves.
+    pub fn new(alloc: Global, leaves: u32) -> Result<Peak, AllocError>
+        requires some { 1 ≤ leaves }
+        requires small { leaves ≤ 65536 }
+        ensures { IfOk result (λ peak. peak ≡ replicate leaves 0) }
+    {
+        let count = leaves as usize;
+        let empty = Candidate { value: 0, leaf: 0 };
+        let mut nodes = vec![in alloc; empty; 2 * count]?;
+        let mut node = 2 * count;
+        while node > 1 {
+            node -= 1;
+            nodes[node] = opening_of(&nodes, count, node);
+        }
+        Ok(Peak { nodes, count })
+    }
+
+    /// Sets the value of a leaf, in one step for each level above it: at most as many as the number of leaves
+    /// has binary digits.
+    pub fn set<L: Ledger>(&mut self, leaf: u32, value: u64, steps: &mut Steps<L>)
+        requires { leaf < length self.old }
+        ensures values { self.new ≡ slice_set self.old leaf value }
+        ensures counted { steps.old ≤ steps.new }
+        ensures cost { 2 ^ (steps.new - steps.old) ≤ 2 * length self.old }
+        ensures levels { length self.old + leaf < 2 * 2 ^ (steps.new - steps.old) }
+    {
+        let mut node = self.count + leaf as usize;
+        self.nodes[node] = Candidate { value, leaf };
+        while node > 1 {
+            steps.tick();
+            node /= 2;
+            let winner = winner_of(self.nodes[2 * node], self.nodes[2 * node + 1]);
+            self.nodes[node] = winner;
+        }
+    }
+
+    /// Sets the value of a leaf as `set` does, for a caller that counts no steps.
+    pub fn set_uncounted(&mut self, leaf: u32, value: u64)
+        requires { leaf < length self.old }
+        ensures { self.new ≡ slice_set self.old leaf value }
+    {
+        self.set_from::<Brand>(leaf, value, Blank::new(1));
+    }
+
+    /// Sets the value of a leaf, with a counter made from this blank.
+    fn set_from<L: Ledger>(&mut self, leaf: u32, value: u64, blank: Blank)
+        requires name { blank.name ≡ L.name }
+        requires parts { blank.parts ≡ L.parts }
+        requires one_part { blank.parts ≡ 1 }
+        requires within { leaf < length self.old }
+        ensures { self.new ≡ slice_set self.old leaf value }
+    {
+        let mut steps = Steps::<L>::new(blank);
+        self.set(leaf, value, &mut steps);
+    }
+
+    /// The leaf of the greatest value, the least of these on a tie. None where all values are 0.
+    pub fn best(&self) -> Option<u32>
+        ensures none { IfNone result ((leaf : ℕ) → slice_index self.now leaf ≡ 0) }
+        ensures some { IfSome result (λ leaf. IsBest self.now leaf) }
+    {
+        let top = self.nodes[1];
+        if top.value > 0 { Some(top.leaf) } else { None }
+    }
+
+    /// The least leaf whose value is at least `least`, in one look for each level. None where no leaf has
+    /// such a value. The leaves must be as many as a power of two, so that those below a node follow one
+    /// another.
+    pub fn first_from(&self, least: u64) -> Option<u32>
+        requires { IsPowerOfTwo (length self.now) }
+        ensures none { IfNone result
+            ((leaf : ℕ) → leaf < length self.now → slice_index self.now leaf < least) }
+        ensures some { IfSome result (λ leaf. IsFirstFrom self.now least leaf) }
+    {
+        if self.nodes[1].value < least {
+            return None;
+        }
+        let mut node = 1;
+        while node < self.count {
+            node *= 2;
+            if self.nodes[node].value < least {
+                node += 1;
+            }
+        }
+        Some(self.nodes[node].leaf)
+    }
+}

@@ -1,0 +1,4 @@
+//! The tests, by the module that they are of.
+
+mod peak;
+mod steps;

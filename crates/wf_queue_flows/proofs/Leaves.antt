@@ -1,0 +1,251 @@
+-- What dropping a head and purging a queue keep and leave, and which queue a frame goes to.
+use Rattle.std.proofs.Common.{◌≡◌, ℕ, ◌+◌, ◌*◌, ◌-◌, ◌<◌, ◌≤◌, true, false, not, List, [], ◌∷◌, Option, None, length, get_or, set, drop, map, refl, sym, ap, ◌∙◌, subst, inl, inr, arith, length-drop, eq-eqb}
+use Rattle.std.specs.Prelude.{◌==◌, ◌%◌, is_some}
+use Rattle.std.proofs.lemmas.List.{get_or-map, get_or_past, length-map, get_or_read, nil_from_length}
+use Rattle.std.proofs.lemmas.Bool.{cases_eq, cases_lt, cases_Bool, both_ways, ne_eqb, cond-true, cond-false}
+use Rattle.wf_frame.specs.Frames.{FrameValue}
+use Rattle.wf_def_rotation.specs.Rotation.{Rotation, no_keys, in_order, without_key}
+use Rattle.wf_def_lists.specs.Lists.{on}
+use Rattle.wf_sched_rotation.specs.declared.Side.{Side}
+use Rattle.wf_sched_rotation.specs.Lists.{lists_at, on_at, has_on}
+use Rattle.wf_sched_rotation.specs.Rotas.{Rotas, IsUnlisted}
+use Rattle.wf_law_rules.proofs.Lemmas.Counts.{on_order-none}
+use Rattle.wf_law_rules.proofs.Lemmas.Counts.{on-nil, on-append}
+use Rattle.wf_queue_flows.specs.Backlog.{BacklogValue, frames_at, first_id, after_head_drop, after_flush}
+use Rattle.wf_queue_flows.specs.Flows.{FlowsValue, tids, queues, is_listed, is_listed_by_another, queue_for}
+use Rattle.wf_queue_flows.specs.Kept.{depth, AreFlowsKept, CanList, without_queue}
+use Rattle.wf_queue_flows.proofs.Flags.{nothing_dropped, changed_at}
+use Rattle.wf_queue_flows.proofs.Picks.{on-filter, on-filter_le, on-filter_out}
+use Rattle.wf_queue_flows.proofs.Owners.{listed_elsewhere, on-listed}
+use Rattle.wf_queue_flows.proofs.Keeps.{kept_frames, kept_lists, unlisted_empty, depth_counted}
+use Rattle.wf_queue_flows.proofs.Moves.{has_lists}
+
+first_some : (xs : List FrameValue) (o : Option ℕ) → o ≡ first_id xs → is_some o ≡ true → 0 < length xs
+first_some [] o e is = absurd (cc (e, is))
+first_some (f ∷ fs) o e is = omega arith
+
+none-others : (k y : ℕ) → (y ≡ k → ⊥) → not (y == k) ≡ true
+none-others k y other = rw (ne_eqb y k other) refl
+
+none-self : (k : ℕ) → not (k == k) ≡ false
+none-self k = rw (eq-eqb k k refl) refl
+
+-- a key that is taken out of a rotation
+on-without_self : (r : Rotation) (k : ℕ) → on (in_order (without_key r k)) k ≡ 0
+on-without_self r k =
+    omega (
+      arith,
+      on-append (without_key r k).old (without_key r k).new k,
+      on-filter_out (λ y. not (y == k)) r.new k (none-self k),
+      on-filter_out (λ y. not (y == k)) r.old k (none-self k),
+    )
+
+on-without_other : (r : Rotation) (k y : ℕ) → (y ≡ k → ⊥) →
+    on (in_order (without_key r k)) y ≡ on (in_order r) y
+on-without_other r k y other =
+    omega (
+      arith,
+      on-append (without_key r k).old (without_key r k).new y,
+      on-append r.old r.new y,
+      on-filter (λ x. not (x == k)) r.new y (none-others k y other),
+      on-filter (λ x. not (x == k)) r.old y (none-others k y other),
+    )
+
+on-without_le : (r : Rotation) (k y : ℕ) → on (in_order (without_key r k)) y ≤ on (in_order r) y
+on-without_le r k y =
+    omega (
+      arith,
+      on-append (without_key r k).old (without_key r k).new y,
+      on-append r.old r.new y,
+      on-filter_le (λ x. not (x == k)) r.new y,
+      on-filter_le (λ x. not (x == k)) r.old y,
+    )
+
+abbrev all_without : List Rotation → ℕ → List Rotation
+all_without all k = map (λ r. without_key r k) all
+
+at-without : (all : List Rotation) (k j : ℕ) → lists_at (all_without all k) j ≡ without_key (lists_at all j) k
+at-without all k j = elim (cases_lt j (length all)) [
+  | inl low ↦ get_or-map (λ r. without_key r k) all j no_keys no_keys low
+  | inr past ↦ get_or_past (all_without all k) j no_keys
+      (omega (arith, length-map all (λ r. without_key r k)))
+      ∙ sym (ap (λ (r : Rotation). without_key r k) (get_or_past all j no_keys past))
+]
+
+module _ (v now : FlowsValue) (counts : List ℕ) (same : v ≡ now) (ok : AreFlowsKept v counts) where
+  low_queue : (q : ℕ) → q < queues now → q < v.flows + 8 * v.stations
+  low_queue q low = subst (λ (w : FlowsValue). q < queues w) (sym same) low
+
+  low_place : (place : ℕ) → place < length v.rotas.lists → place < 8 * v.stations
+  low_place place low = omega (arith, low, ok.sized.lists)
+
+  read : (i x : ℕ) → i < length v.rotas.lists → x ≡ get_or counts i x → x ≡ get_or counts i 0
+  read i x low is = get_or_read counts i x (omega (arith, ok.sized.tids, low, ok.sized.lists)) is 0
+
+  stands : (q place : ℕ) (side : Side) → has_on v.rotas.lists place side q ≡ true →
+      0 < on_at v.rotas.lists place q
+  stands q place side is = on-listed v place q (has_lists (lists_at v.rotas.lists place) side q is)
+
+  -- ---- drop_head
+
+  module _ (q x place : ℕ) (side : Side) (o : Option ℕ) (low_q : q < queues now)
+      (low : place < length v.rotas.lists) (is : has_on v.rotas.lists place side q ≡ true)
+      (read_x : x ≡ get_or counts place x) (has : is_some o ≡ true)
+      (id : o ≡ first_id (frames_at v.backlog q)) where
+    pub drop_fits : 1 ≤ x
+    drop_fits = omega (
+      arith,
+      first_some (frames_at v.backlog q) o id has,
+      read place x low read_x,
+      depth_counted v counts ok place q (low_place place low) (low_queue q low_q) (stands q place side is),
+    )
+
+    pub drop_keeps : (after : BacklogValue) → after ≡ after_head_drop v.backlog q →
+        AreFlowsKept (record v { backlog = after }) (set counts place (x - 1))
+    drop_keeps after dropped =
+        kept_frames v counts ok after place q (x - 1) (drop 1 (frames_at v.backlog q))
+        (ap (λ (b : BacklogValue). b.queues) dropped) (ap (λ (b : BacklogValue). b.room) dropped)
+        (low_place place low) (low_queue q low_q) (stands q place side is)
+        (omega (
+          arith,
+          drop_fits,
+          first_some (frames_at v.backlog q) o id has,
+          read place x low read_x,
+          length-drop 1 (frames_at v.backlog q),
+        ))
+
+  no_frames : (q : ℕ) → IsUnlisted v.rotas.lists q → frames_at v.backlog q ≡ []
+  no_frames q none = nil_from_length (frames_at v.backlog q)
+      (unlisted_empty v counts ok q (λ j. on_order-none (lists_at v.rotas.lists j) q (none j)))
+
+  pub none_dropped : (q : ℕ) → IsUnlisted v.rotas.lists q →
+      now ≡ record now { backlog = after_head_drop now.backlog q }
+  none_dropped q none = subst (λ (w : FlowsValue). w ≡ record w { backlog = after_head_drop w.backlog q })
+      same (ap (λ (b : BacklogValue). let w : FlowsValue = record v { backlog = b } in w)
+      (sym (nothing_dropped v.backlog q (no_frames q none))))
+
+  pub none_id : (q : ℕ) → IsUnlisted v.rotas.lists q → None ≡ first_id (frames_at now.backlog q)
+  none_id q none = subst (λ (w : FlowsValue). None ≡ first_id (frames_at w.backlog q)) same
+      (ap first_id (sym (no_frames q none)))
+
+  -- ---- purge_queue
+
+  module _ (i q x gone place : ℕ) (side : Side) (low : place < length v.rotas.lists)
+      (is : has_on v.rotas.lists place side q ≡ true) (here : place ≡ i) (read_x : x ≡ get_or counts i x)
+      (count : gone ≡ depth v.backlog.queues q) where
+    low_i : i < length v.rotas.lists
+    low_i = omega arith
+
+    stands_i : 0 < on_at v.rotas.lists i q
+    stands_i = subst (λ (m : ℕ). 0 < on_at v.rotas.lists m q) here (stands q place side is)
+
+    low_q : q < v.flows + 8 * v.stations
+    low_q = ok.listed.apart.below i q stands_i
+
+    pub purge_fits : gone ≤ x
+    purge_fits = omega (
+      arith,
+      count,
+      read i x low_i read_x,
+      depth_counted v counts ok i q (low_place i low_i) low_q stands_i,
+    )
+
+    pub purge_keeps : (after : BacklogValue) (rotas : Rotas) → after ≡ after_flush v.backlog q →
+        rotas ≡ record v.rotas { lists = all_without v.rotas.lists q } →
+        AreFlowsKept (record v { backlog = after; rotas = rotas }) (set counts i (x - gone))
+    purge_keeps after rotas flush removed =
+        subst (λ (r : Rotas). AreFlowsKept (record v { backlog = after; rotas = r })
+        (set counts i (x - gone))) (sym removed)
+        (kept_lists (record v { backlog = after }) (set counts i (x - gone)) kept
+        (record v.rotas { lists = all_without v.rotas.lists q })
+        (length-map v.rotas.lists (λ r. without_key r q))
+        (λ j k. omega (
+          arith,
+          ap (λ (r : Rotation). on (in_order r) k) (at-without v.rotas.lists q j),
+          on-without_le (lists_at v.rotas.lists j) q k,
+        ))
+        (λ j k some. ap (λ (r : Rotation). on (in_order r) k) (at-without v.rotas.lists q j)
+        ∙ on-without_other (lists_at v.rotas.lists j) q k
+        (λ e. omega (arith, ap (depth after.queues) e, empty)))
+        refl refl ok.sized.low)
+      where
+        changed : after.queues ≡ set v.backlog.queues q []
+        changed = ap (λ (b : BacklogValue). b.queues) flush
+
+        empty : depth after.queues q ≡ 0
+        empty = ap length (changed_at v.backlog after q [] (omega (arith, low_q, ok.sized.queues)) changed)
+
+        kept : AreFlowsKept (record v { backlog = after }) (set counts i (x - gone))
+        kept = kept_frames v counts ok after i q (x - gone) [] changed
+            (ap (λ (b : BacklogValue). b.room) flush) (low_place i low_i) low_q stands_i
+            (omega (arith, purge_fits, count, read i x low_i read_x))
+
+  pub purge_other : (i q place : ℕ) (side : Side) → has_on v.rotas.lists place side q ≡ true →
+      (place ≡ i → ⊥) → now ≡ without_queue now i q
+  purge_other i q place side is other =
+      let fails : is_listed v i q ≡ false = elim (cases_Bool (is_listed v i q)) [
+        | inl holds ↦ absurd (other (ok.listed.apart.one_list place i q (stands q place side is)
+            (on-listed v i q holds)))
+        | inr off ↦ off
+      ] in
+      sym (cond-false (is_listed now i q) _ now (subst
+      (λ (w : FlowsValue). is_listed w i q ≡ false) same fails))
+
+  -- ---- queue_for, where the code reads `flows` of the fields
+
+  flows_same : v.flows ≡ now.flows
+  flows_same = ap (λ (w : FlowsValue). w.flows) same
+
+  pub overflow_by : (i flow : ℕ) → is_listed_by_another now i (flow % v.flows) ≡ true →
+      v.flows + i ≡ queue_for now i flow
+  unfolding queue_for
+  overflow_by i flow is = subst (λ (n : ℕ). is_listed_by_another now i (flow % n) ≡ true →
+      n + i ≡ queue_for now i flow) (sym flows_same)
+      (λ e. sym (cond-true (is_listed_by_another now i (flow % now.flows)) (now.flows + i)
+      (flow % now.flows) e)) is
+
+  pub shared_by : (i flow : ℕ) → is_listed_by_another now i (flow % v.flows) ≡ false →
+      flow % v.flows ≡ queue_for now i flow
+  unfolding queue_for
+  shared_by i flow is = subst (λ (n : ℕ). is_listed_by_another now i (flow % n) ≡ false →
+      flow % n ≡ queue_for now i flow) (sym flows_same)
+      (λ e. sym (cond-false (is_listed_by_another now i (flow % now.flows)) (now.flows + i)
+      (flow % now.flows) e)) is
+
+  on_now : (j q : ℕ) → is_listed now j q ≡ true → 0 < on_at v.rotas.lists j q
+  on_now j q is = on-listed v j q (subst (λ (w : FlowsValue). is_listed w j q ≡ true) (sym same) is)
+
+  pub can_overflow : (i q : ℕ) → q ≡ v.flows + i → CanList now i q
+  can_overflow i q e = record {
+    own = λ j is. (let at : q ≡ v.flows + j = ok.listed.overflow j q (on_now j q is) (omega arith) in
+        omega arith);
+    overflow = λ past. omega (arith, e, flows_same);
+  }
+
+  pub can_share : (i flow : ℕ) → is_listed_by_another now i (flow % v.flows) ≡ false →
+      CanList now i (flow % v.flows)
+  can_share i flow is = record {
+    own = λ j at. own_is j at;
+    overflow = λ past. absurd (omega (arith, flows_same, below));
+  }
+    where
+      below : flow % v.flows < v.flows
+      below = omega (arith, ok.sized.some_flows)
+
+      low_tid : (j : ℕ) → is_listed now j (flow % v.flows) ≡ true → j < tids now
+      low_tid j at = elim (cases_lt j (tids now)) [
+        | inl low ↦ low
+        | inr past ↦ absurd (
+            let stations : v.stations ≡ now.stations = ap (λ (w : FlowsValue). w.stations) same in
+            let none : on_at v.rotas.lists j (flow % v.flows) ≡ on [] (flow % v.flows) =
+            ap (λ (r : Rotation). on (in_order r) (flow % v.flows))
+            (get_or_past v.rotas.lists j no_keys (omega (arith, ok.sized.lists))) in
+            omega (arith, on_now j (flow % v.flows) at, on-nil (flow % v.flows)))
+      ]
+
+      own_is : (j : ℕ) → is_listed now j (flow % v.flows) ≡ true → j ≡ i
+      own_is j at = elim (cases_eq j i) [
+        | inl e ↦ e
+        | inr other ↦ absurd (both_ways (is_listed_by_another now i (flow % v.flows)) is
+            (listed_elsewhere now i (flow % v.flows) j (low_tid j at) other at))
+      ]

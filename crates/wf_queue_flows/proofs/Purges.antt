@@ -1,0 +1,309 @@
+-- A walk over the queues' numbers purges the queues of one TID.
+use Rattle.std.proofs.Common.{◌≡◌, ℕ, zero, suc, ◌+◌, ◌*◌, ◌<◌, Bool, true, false, not, List, [], ◌∷◌, ◌++◌, length, map, set, refl, sym, ap, ◌∙◌, subst, inl, inr, arith, add-one, eq-eqb, length-set}
+use Rattle.std.specs.Prelude.{◌==◌, ◌||◌, nat_le}
+use Rattle.std.specs.List.{filter}
+use Rattle.std.proofs.lemmas.List.{append-nil, set-get_or, map-set, get_or-map, length-map, get_or-set_same, get_or-set_other, ext_get_or}
+use Rattle.std.proofs.lemmas.List.Elements.{filter-append}
+use Rattle.std.proofs.lemmas.Bool.{cases_eq, cases_lt, cases_Bool, ne_eqb, le-leb, lt-leb, cond-true, cond-false}
+use Rattle.wf_def_lists.specs.Table.{has, count_from, upto}
+use Rattle.wf_def_rotation.specs.Rotation.{Rotation, no_keys, has_key, in_order, without_key}
+use Rattle.wf_def_lists.specs.Lists.{on}
+use Rattle.wf_sched_rotation.specs.Lists.{AreDisjoint, lists_at, on_at}
+use Rattle.wf_law_rules.proofs.Lemmas.Counts.{on-first, on-cons_same, on-append}
+use Rattle.wf_law_rules.proofs.Lemmas.Counts.{on_order-none}
+use Rattle.wf_queue_flows.specs.Backlog.{BacklogValue, after_flush}
+use Rattle.wf_queue_flows.specs.Flows.{FlowsValue, tids, tid_rotation, is_listed, queues, queues_of, all_flushed, after_purge}
+use Rattle.wf_queue_flows.specs.Kept.{AreFlowsKept, rest_from, without_queue, purged_below}
+use Rattle.wf_queue_flows.proofs.Owners.{on-listed}
+
+-- ---- filters
+
+-- two tests agree on what stands on the list
+filter_agree : (p q : ℕ → Bool) (xs : List ℕ) → ((x : ℕ) → 0 < on xs x → p x ≡ q x) →
+    filter p xs ≡ filter q xs
+filter_agree p q [] same = refl
+filter_agree p q (x ∷ xs) same =
+    let here : p x ≡ q x = same x (omega (arith, on-cons_same x xs)) in
+    let rest : filter p xs ≡ filter q xs = filter_agree p q xs
+    (λ y stands. same y (omega (arith, on-first x y xs))) in
+    elim (cases_Bool (q x)) [
+      | inl holds ↦ rw (here, holds) (ap (λ (t : List ℕ). x ∷ t) rest)
+      | inr fails ↦ rw (here, fails) rest
+    ]
+
+filter_all : (xs : List ℕ) → filter (λ x. true) xs ≡ xs
+filter_all [] = refl
+filter_all (x ∷ xs) = ap (λ (t : List ℕ). x ∷ t) (filter_all xs)
+
+filter_no : (xs : List ℕ) → filter (λ x. false) xs ≡ []
+filter_no [] = refl
+filter_no (x ∷ xs) = filter_no xs
+
+has-filter : (p : ℕ → Bool) (xs : List ℕ) (k : ℕ) → p k ≡ true → has (filter p xs) k ≡ has xs k
+has-filter p [] k is = refl
+has-filter p (x ∷ xs) k is = elim (cases_Bool (p x)) [
+  | inl holds ↦ rw holds (ap (λ (b : Bool). (x == k) || b) (has-filter p xs k is))
+  | inr fails ↦
+      let other : x ≡ k → ⊥ = λ e. absurd (cc (ap p e)) in
+      rw (fails, ne_eqb x k other) (has-filter p xs k is)
+]
+
+-- the keys from k on without k
+next_rest : (k : ℕ) (xs : List ℕ) → filter (λ y. not (y == k)) (filter (nat_le k) xs)
+    ≡ filter (nat_le (suc k)) xs
+next_rest k [] = refl
+next_rest k (x ∷ xs) = elim (cases_lt x k) [
+  | inl low ↦ rw (lt-leb k x low, lt-leb (suc k) x (omega arith)) (next_rest k xs)
+  | inr high ↦ elim (cases_eq x k) [
+    | inl e ↦ rw (le-leb k x high, eq-eqb x k e, lt-leb (suc k) x (omega arith)) (next_rest k xs)
+    | inr other ↦ rw (le-leb k x high, ne_eqb x k other, le-leb (suc k) x (omega arith))
+        (ap (λ (t : List ℕ). x ∷ t) (next_rest k xs))
+  ]
+]
+
+-- a key that is not on the list
+without_off : (k : ℕ) (xs : List ℕ) → on xs k ≡ 0 → filter (λ y. not (y == k)) xs ≡ xs
+without_off k xs off = filter_agree (λ y. not (y == k)) (λ y. true) xs
+    (λ y stands. go y (λ e. omega (arith, ap (on xs) e))) ∙ filter_all xs
+  where
+    go : (y : ℕ) → (y ≡ k → ⊥) → not (y == k) ≡ true
+    go y other = rw (ne_eqb y k other) refl
+
+same_rest : (k : ℕ) (xs : List ℕ) → on xs k ≡ 0 → filter (nat_le k) xs ≡ filter (nat_le (suc k)) xs
+same_rest k xs off = filter_agree (nat_le k) (nat_le (suc k)) xs (λ y stands.
+    let other : y ≡ k → ⊥ = λ e. omega (arith, ap (on xs) e) in
+    elim (cases_lt y k) [
+      | inl low ↦ lt-leb k y low ∙ sym (lt-leb (suc k) y (omega arith))
+      | inr high ↦ le-leb k y high ∙ sym (le-leb (suc k) y (omega arith))
+    ])
+
+rest_all : (xs : List ℕ) → filter (nat_le 0) xs ≡ xs
+rest_all xs = filter_agree (nat_le 0) (λ y. true) xs (λ y stands. le-leb 0 y (omega arith)) ∙ filter_all xs
+
+rest_none : (n : ℕ) (xs : List ℕ) → ((y : ℕ) → 0 < on xs y → y < n) → filter (nat_le n) xs ≡ []
+rest_none n xs low = filter_agree (nat_le n) (λ y. false) xs (λ y stands. lt-leb n y (low y stands))
+    ∙ filter_no xs
+
+count_from-more : (from n : ℕ) → count_from from (suc n) ≡ count_from from n ++ (from + n) ∷ []
+count_from-more from zero = (let e : from + 0 ≡ from = omega arith in rw e refl)
+count_from-more from (suc n) =
+    let e : from + suc n ≡ suc from + n = omega arith in
+    rw e (ap (λ (t : List ℕ). from ∷ t) (count_from-more (suc from) n))
+
+upto-more : (p : ℕ → Bool) (k : ℕ) → filter p (upto (suc k)) ≡ filter p (upto k) ++ filter p (k ∷ [])
+upto-more p k =
+    let e : 0 + k ≡ k = omega arith in
+    ap (filter p) (count_from-more 0 k ∙ ap (λ (m : ℕ). upto k ++ m ∷ []) e)
+    ∙ filter-append p (upto k) (k ∷ [])
+
+flushed-append : (b : BacklogValue) (xs ys : List ℕ) →
+    all_flushed b (xs ++ ys) ≡ all_flushed (all_flushed b xs) ys
+unfolding all_flushed
+flushed-append b [] ys = refl
+flushed-append b (x ∷ xs) ys = flushed-append (after_flush b x) xs ys
+
+-- ---- the walk
+
+module _ (v : FlowsValue) (i : ℕ) (apart : AreDisjoint
+    (record { lists = v.rotas.lists; keys = v.flows + 8 * v.stations }))
+    (low : i < length v.rotas.lists) where
+  abbrev with_lists : BacklogValue → List Rotation → FlowsValue
+  with_lists b all = record v { backlog = b; rotas = record v.rotas { lists = all } }
+
+  rest_0 : (r : Rotation) → rest_from 0 r ≡ r
+  rest_0 r = ap (λ (xs : List ℕ). let s : Rotation = record { new = xs; old = filter (nat_le 0) r.old } in s)
+      (rest_all r.new) ∙ ap (λ (xs : List ℕ). let s : Rotation = record { new = r.new; old = xs } in s)
+      (rest_all r.old)
+
+  pub purged-first : v ≡ purged_below v i 0
+  unfolding purged_below all_flushed
+  purged-first = sym (ap (with_lists v.backlog)
+      (ap (set v.rotas.lists i) (rest_0 (tid_rotation v i)) ∙ set-get_or v.rotas.lists i no_keys))
+
+  rest_rotation : (k : ℕ) → lists_at (set v.rotas.lists i (rest_from k (tid_rotation v i))) i
+      ≡ rest_from k (tid_rotation v i)
+  rest_rotation k = get_or-set_same v.rotas.lists i (rest_from k (tid_rotation v i)) no_keys low
+
+  lists-rest : (k : ℕ) (r : Rotation) → has_key (rest_from k r) k ≡ has_key r k
+  lists-rest k r =
+      let is : nat_le k k ≡ true = le-leb k k (omega arith) in
+      rw (has-filter (nat_le k) r.new k is, has-filter (nat_le k) r.old k is) refl
+
+  off : (j k : ℕ) → (j ≡ i → ⊥) → is_listed v i k ≡ true → on_at v.rotas.lists j k ≡ 0
+  off j k other is = elim (cases_lt 0 (on_at v.rotas.lists j k)) [
+    | inl some ↦ absurd (other (apart.one_list j i k some (on-listed v i k is)))
+    | inr few ↦ omega arith
+  ]
+
+  abbrev without : ℕ → Rotation → Rotation
+  without k r = without_key r k
+
+  without_same : (k : ℕ) (r : Rotation) → on (in_order r) k ≡ 0 → without k r ≡ r
+  without_same k r none =
+      ap (λ (xs : List ℕ). let s : Rotation = record { new = xs; old = filter (λ y. not (y == k)) r.old } in
+      s) (without_off k r.new (omega (arith, on-append r.old r.new k)))
+      ∙ ap (λ (xs : List ℕ). let s : Rotation = record { new = r.new; old = xs } in s)
+      (without_off k r.old (omega (arith, on-append r.old r.new k)))
+
+  next_rotation : (k : ℕ) (r : Rotation) → without k (rest_from k r) ≡ rest_from (suc k) r
+  next_rotation k r =
+      ap (λ (xs : List ℕ). let s : Rotation = record {
+        new = xs;
+        old =
+            filter (λ y. not (y == k)) (filter (nat_le k) r.old);
+      } in s) (next_rest k r.new)
+      ∙ ap (λ (xs : List ℕ). let s : Rotation = record { new = filter (nat_le (suc k)) r.new; old = xs } in s)
+      (next_rest k r.old)
+
+  same_rotation : (k : ℕ) (r : Rotation) → on (in_order r) k ≡ 0 → rest_from k r ≡ rest_from (suc k) r
+  same_rotation k r none =
+      ap (λ (xs : List ℕ). let s : Rotation = record { new = xs; old = filter (nat_le k) r.old } in s)
+      (same_rest k r.new (omega (arith, on-append r.old r.new k)))
+      ∙ ap (λ (xs : List ℕ). let s : Rotation = record { new = filter (nat_le (suc k)) r.new; old = xs } in s)
+      (same_rest k r.old (omega (arith, on-append r.old r.new k)))
+
+  abbrev last : ℕ → Rotation
+  last k = rest_from (suc k) (tid_rotation v i)
+
+  -- the key leaves the one list that has it
+  lists-next : (k : ℕ) → is_listed v i k ≡ true →
+      map (without k) (set v.rotas.lists i (rest_from k (tid_rotation v i)))
+      ≡ set v.rotas.lists i (rest_from (suc k) (tid_rotation v i))
+  lists-next k is =
+      map-set (without k) v.rotas.lists i (rest_from k (tid_rotation v i))
+      ∙ ap (set (map (without k) v.rotas.lists) i) (next_rotation k (tid_rotation v i))
+      ∙ ext_get_or no_keys (set (map (without k) v.rotas.lists) i (last k))
+      (set v.rotas.lists i (last k)) long (λ j within. elim (cases_eq j i) [
+        | inl e ↦ ap (λ (m : ℕ). lists_at (set (map (without k) v.rotas.lists) i (last k)) m) e
+            ∙ get_or-set_same (map (without k) v.rotas.lists) i (last k) no_keys
+            (omega (arith, length-map v.rotas.lists (without k)))
+            ∙ sym (ap (λ (m : ℕ). lists_at (set v.rotas.lists i (last k)) m) e
+            ∙ get_or-set_same v.rotas.lists i (last k) no_keys low)
+        | inr other ↦ get_or-set_other (map (without k) v.rotas.lists) i j (last k) no_keys other
+            ∙ get_or-map (without k) v.rotas.lists j no_keys no_keys
+            (omega (
+              arith,
+              length-set (map (without k) v.rotas.lists) i (last k),
+              length-map v.rotas.lists (without k),
+            ))
+            ∙ without_same k (lists_at v.rotas.lists j) (off j k other is)
+            ∙ sym (get_or-set_other v.rotas.lists i j (last k) no_keys other)
+      ])
+    where
+      long : length (set (map (without k) v.rotas.lists) i (last k)) ≡ length (set v.rotas.lists i (last k))
+      long = omega (
+        arith,
+        length-set (map (without k) v.rotas.lists) i (last k),
+        length-map v.rotas.lists (without k),
+        length-set v.rotas.lists i (last k),
+      )
+
+  one_passes : (k : ℕ) → is_listed v i k ≡ true → filter (is_listed v i) (k ∷ []) ≡ k ∷ []
+  one_passes k holds = rw holds refl
+
+  one_fails : (k : ℕ) → is_listed v i k ≡ false → filter (is_listed v i) (k ∷ []) ≡ []
+  one_fails k fails = rw fails refl
+
+  flushed-next : (k : ℕ) → is_listed v i k ≡ true →
+      after_flush (all_flushed v.backlog (filter (is_listed v i) (upto k))) k
+      ≡ all_flushed v.backlog (filter (is_listed v i) (upto (suc k)))
+  unfolding all_flushed
+  flushed-next k holds =
+      sym (ap (all_flushed v.backlog) (upto-more (is_listed v i) k
+      ∙ ap (λ (t : List ℕ). filter (is_listed v i) (upto k) ++ t) (one_passes k holds))
+      ∙ flushed-append v.backlog (filter (is_listed v i) (upto k)) (k ∷ []))
+
+  flushed-same : (k : ℕ) → is_listed v i k ≡ false →
+      all_flushed v.backlog (filter (is_listed v i) (upto k))
+      ≡ all_flushed v.backlog (filter (is_listed v i) (upto (suc k)))
+  flushed-same k fails =
+      ap (all_flushed v.backlog) (sym (upto-more (is_listed v i) k
+      ∙ ap (λ (t : List ℕ). filter (is_listed v i) (upto k) ++ t) (one_fails k fails)
+      ∙ append-nil (filter (is_listed v i) (upto k))))
+
+  is_same : (k : ℕ) → is_listed (purged_below v i k) i k ≡ is_listed v i k
+  unfolding purged_below
+  is_same k = ap (λ (r : Rotation). has_key r k) (rest_rotation k) ∙ lists-rest k (tid_rotation v i)
+
+  abbrev gone : FlowsValue → ℕ → FlowsValue
+  gone w k = record w {
+    backlog = after_flush w.backlog k;
+    rotas =
+        record w.rotas { lists = map (λ r. without_key r k) w.rotas.lists };
+  }
+
+  next_gone : (k : ℕ) → is_listed v i k ≡ true → gone (purged_below v i k) k ≡ purged_below v i (suc k)
+  unfolding purged_below
+  next_gone k holds =
+      ap (λ (b : BacklogValue). with_lists b (map (without k)
+      (set v.rotas.lists i (rest_from k (tid_rotation v i))))) (flushed-next k holds)
+      ∙ ap (with_lists (all_flushed v.backlog (filter (is_listed v i) (upto (suc k))))) (lists-next k holds)
+
+  next_same : (k : ℕ) → is_listed v i k ≡ false → purged_below v i k ≡ purged_below v i (suc k)
+  unfolding purged_below
+  next_same k fails =
+      ap (λ (b : BacklogValue). with_lists b (set v.rotas.lists i (rest_from k (tid_rotation v i))))
+      (flushed-same k fails)
+      ∙ ap (λ (r : Rotation). with_lists (all_flushed v.backlog (filter (is_listed v i) (upto (suc k))))
+      (set v.rotas.lists i r)) (same_rotation k (tid_rotation v i)
+      (on_order-none (tid_rotation v i) k fails))
+
+  pub purged-next : (k : ℕ) → without_queue (purged_below v i k) i k ≡ purged_below v i (k + 1)
+  purged-next k =
+      let more : k + 1 ≡ suc k = add-one k in
+      rw more (elim (cases_Bool (is_listed v i k)) [
+        | inl holds ↦
+            let taken : without_queue (purged_below v i k) i k ≡ gone (purged_below v i k) k =
+            cond-true (is_listed (purged_below v i k) i k) _ _ (is_same k ∙ holds) in
+            taken ∙ next_gone k holds
+        | inr fails ↦
+            let left : without_queue (purged_below v i k) i k ≡ purged_below v i k =
+            cond-false (is_listed (purged_below v i k) i k) _ _ (is_same k ∙ fails) in
+            left ∙ next_same k fails
+      ])
+
+  rest_end : rest_from (queues v) (tid_rotation v i) ≡ no_keys
+  rest_end =
+      ap (λ (xs : List ℕ). let s : Rotation = record {
+        new = xs;
+        old =
+            filter (nat_le (queues v)) (tid_rotation v i).old;
+      } in s)
+      (rest_none (queues v) (tid_rotation v i).new
+      (λ y at. apart.below i y (omega (
+        arith,
+        at,
+        on-append (tid_rotation v i).old (tid_rotation v i).new y,
+      ))))
+      ∙ ap (λ (xs : List ℕ). let s : Rotation = record { new = []; old = xs } in s)
+      (rest_none (queues v) (tid_rotation v i).old
+      (λ y at. apart.below i y (omega (
+        arith,
+        at,
+        on-append (tid_rotation v i).old (tid_rotation v i).new y,
+      ))))
+
+  pub purged_last : (k : ℕ) → k ≡ queues v → purged_below v i k ≡ after_purge v i
+  unfolding purged_below after_purge
+  purged_last k e = ap (purged_below v i) e ∙ ap
+      (λ (r : Rotation). with_lists (all_flushed v.backlog (queues_of v i)) (set v.rotas.lists i r)) rest_end
+
+pub tids_below : (v : FlowsValue) (i k : ℕ) → tids (purged_below v i k) ≡ tids v
+unfolding purged_below
+tids_below v i k = refl
+
+pub queues_below : (v : FlowsValue) (i k : ℕ) → queues (purged_below v i k) ≡ queues v
+unfolding purged_below
+queues_below v i k = refl
+
+pub kept_apart : (v now : FlowsValue) (counts : List ℕ) → v ≡ now → AreFlowsKept v counts →
+    AreDisjoint (record { lists = now.rotas.lists; keys = now.flows + 8 * now.stations })
+kept_apart v now counts same ok = subst (λ (w : FlowsValue).
+    AreDisjoint (record { lists = w.rotas.lists; keys = w.flows + 8 * w.stations })) same ok.listed.apart
+
+pub kept_low : (v now : FlowsValue) (counts : List ℕ) (i : ℕ) → v ≡ now → AreFlowsKept v counts →
+    i < tids now → i < length now.rotas.lists
+kept_low v now counts i same ok low =
+    let long : length now.rotas.lists ≡ tids now =
+    subst (λ (w : FlowsValue). length w.rotas.lists ≡ tids w) same ok.sized.lists in
+    omega arith

@@ -1,0 +1,18 @@
+use Rattle.std.proofs.Common.{◌<◌, ◌+◌, ℕ, [], ◌∷◌, length, set, sym, ap, subst, arith, length-append, ◌∙◌}
+use Rattle.wf_queue_flows.specs.Store.{StoreValue}
+use Rattle.wf_queue_flows.proofs.Stores.{kept_set}
+use Rattle.wf_queue_flows.proofs.store.Store.push.Goals as goal
+
+pub invariant_of-self : goal.invariant_of-self
+invariant_of-self c =
+    let here = subst (λ (s : StoreValue). c.args.q < length s.lists) (sym c.self.view_is) c.requires in
+    let was = c.index_mut-queue.result.now in
+    let kept = c.self.invariant in
+    let longer = ap length c.push.ensures ∙ length-append was (c.args.parcel ∷ []) in
+    let leaf = c.weigh.ensures ∙ ap (λ (n : ℕ). set c.self.inside.peak c.args.q n)
+    c.octets-octets.ensures.number in
+    kept_set c.self.inside.queues.items c.self.inside.peak c.weigh.new.peak c.self.inside.counted
+    c.self.inside.room c.self.inside.held (c.self.inside.held + 1) c.args.q c.push.new.self was here kept
+    leaf
+    (omega (arith, ap length c.index_mut-queue.ensures.value, longer))
+    (omega (arith, kept.fits, c.if-self.false)) c.octets-octets.ensures.sized

@@ -1,0 +1,94 @@
+-- Numbered queues of frames, each with its CoDel state, and the list of the frames that are finished.
+use Rattle.std.specs.Prelude.{ℕ, suc, ◌+◌, List, [], ◌∷◌, ◌++◌, Option, Some, None, length, map, take, drop, sum_by, slice_get, slice_index_or, slice_set}
+use Rattle.wf_frame.specs.Frames.{FrameValue}
+use Rattle.wf_frame.specs.declared.classes.Fate.{Fate}
+use Rattle.wf_frame.specs.declared.classes.Fate.TheVariants.{Dropped}
+use Rattle.wf_frame.specs.declared.classes.Cause.TheVariants.{Overlimit, Codel as By_codel, Left}
+use Rattle.wf_def_codel.specs.Codel.{Item, Params, Codel, new_codel, Dequeued, dequeue}
+use Rattle.wf_queue_flows.specs.Queues.{queue_octets}
+use Rattle.wf_queue_flows.specs.Store.{StoreValue}
+
+-- the queues by number, the CoDel state of each, and the finished frames in the order in which they will be
+-- reaped
+pub record BacklogValue : Type 0 where
+  pub room : ℕ
+  pub queues : List (List FrameValue)
+  pub codels : List Codel
+  pub finished : List FrameValue
+
+-- ---- reading a backlog
+
+-- the frames of queue q, none past the last queue
+abbrev pub frames_at : BacklogValue → ℕ → List FrameValue
+frames_at v q = slice_index_or v.queues q []
+
+abbrev pub codel_at : BacklogValue → ℕ → Codel
+codel_at v q = slice_index_or v.codels q new_codel
+
+-- how many frames wait in the queues, and how many there are in all
+abbrev pub in_queues : BacklogValue → ℕ
+in_queues v = sum_by length v.queues
+
+abbrev pub held_in_backlog : BacklogValue → ℕ
+held_in_backlog v = in_queues v + length v.finished
+
+abbrev pub first_id : List FrameValue → Option ℕ
+first_id [] = None
+first_id (f ∷ rest) = Some f.id
+
+-- a frame as CoDel sees it
+abbrev pub item_of : FrameValue → Item
+item_of f = record { id = f.id; stamp = f.stamp; len = length f.body }
+
+-- the octets of each queue
+abbrev pub octets_per_queue : BacklogValue → List ℕ
+octets_per_queue v = map queue_octets v.queues
+
+-- the queues as a store, all of which count for the longest
+abbrev pub as_store : BacklogValue → StoreValue
+as_store v = record { room = v.room; counted = length v.queues; lists = v.queues }
+
+-- ---- changing it
+
+abbrev pub frame_with_fate : Fate → FrameValue → FrameValue
+frame_with_fate fate f = record f { fate = fate }
+
+-- v with these frames in queue q
+abbrev pub with_frames : BacklogValue → ℕ → List FrameValue → BacklogValue
+with_frames v q frames = record v { queues = slice_set v.queues q frames }
+
+-- the first frame of queue q goes last on the finished list, as dropped for the limit
+abbrev pub after_head_drop : BacklogValue → ℕ → BacklogValue
+after_head_drop v q = record v {
+  queues = slice_set v.queues q (drop 1 (frames_at v q));
+  finished = v.finished ++ map (frame_with_fate (Dropped Overlimit)) (take 1 (frames_at v q));
+}
+
+-- all frames of queue q go in order last on the finished list, as dropped since their station left, and its
+-- CoDel state is new
+abbrev pub after_flush : BacklogValue → ℕ → BacklogValue
+after_flush v q = record v {
+  queues = slice_set v.queues q [];
+  codels = slice_set v.codels q new_codel;
+  finished = v.finished ++ map (frame_with_fate (Dropped Left)) (frames_at v q);
+}
+
+-- CoDel's dequeue on queue q, and how many frames it drops
+abbrev pub dequeue_at : Params → ℕ → BacklogValue → ℕ → Dequeued
+dequeue_at p now v q = dequeue p now (codel_at v q) (map item_of (frames_at v q))
+
+abbrev pub drops_at : Params → ℕ → BacklogValue → ℕ → ℕ
+drops_at p now v q = length (dequeue_at p now v q).dropped
+
+-- the frame that it gives: the one behind those that it drops
+abbrev pub given_at : Params → ℕ → BacklogValue → ℕ → Option FrameValue
+given_at p now v q = slice_get (frames_at v q) (drops_at p now v q)
+
+-- the frames that it drops go in order last on the finished list, and the one that it gives leaves the queue
+abbrev pub backlog_after_take : Params → ℕ → BacklogValue → ℕ → BacklogValue
+backlog_after_take p now v q = record v {
+  queues = slice_set v.queues q (drop (suc (drops_at p now v q)) (frames_at v q));
+  codels = slice_set v.codels q (dequeue_at p now v q).state;
+  finished = v.finished ++ map (frame_with_fate (Dropped By_codel))
+      (take (drops_at p now v q) (frames_at v q));
+}

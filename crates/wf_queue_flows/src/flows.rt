@@ -1,0 +1,363 @@
+//! Putting frames into the flow queues, and taking them out.
+
+ghost use Rattle.std.specs.Prelude.{◌≡◌, ℕ, ◌+◌, ◌<◌, ◌≤◌, ◌^◌, ◌↔◌, true, [], ◌∷◌, ◌++◌, length, pos, ◌<ℤ◌, IfOk, IfSome, IfNone, OnSome, IsSome, IsNone, MatchOption, Some, None};
+ghost use Rattle.wf_frame.specs.Settings.{first_out_of_range};
+ghost use Rattle.wf_queue_codel.specs.Params.{params_of};
+ghost use Rattle.wf_sched_rotation.specs.Rotas.{deficit_at};
+ghost use Rattle.wf_queue_flows.specs.Store.{IsLongest};
+ghost use Rattle.wf_queue_flows.specs.Backlog.{as_store, frames_at, in_queues, held_in_backlog, first_id, after_head_drop};
+ghost use Rattle.wf_frame.specs.Classes.{tid_number};
+ghost use Rattle.wf_queue_flows.specs.Flows.{settings, tids, queues, is_listed, frames_of_tid, longest_queue, loses_next, after_limit, dropped_for_limit, is_listed_by_another, queue_for, with_listed_queue, with_appended, after_put, pick_of_tid, after_pick, taken_from_picked, taken_for_tid, after_purge, empty_flows, AreListedOnce, TakeGives};
+ghost use Rattle.wf_queue_flows.specs.Kept.{CanList, without_queue};
+
+use crate::Parcel;
+use crate::flagged::Flagged;
+use std::alloc::{AllocError, Global};
+use std::marker::Model;
+use wf_frame::{Config, tid_number};
+use wf_queue_codel::Params;
+use wf_sched_rotation::Rota;
+
+/// The flow queues of all stations, and the list of the frames that are finished.
+///
+/// There are `flows` queues for all, and one more for each TID, its overflow queue. A queue belongs to the
+/// TID whose rotation lists it.
+#[derive(Drop)]
+pub struct Flows {
+    flows: u32,
+    stations: u32,
+    limit: u32,
+    flow_quantum: u32,
+    waiting: Flagged,
+    rota: Rota,
+    queued: Vec<u32>,
+}
+
+impl Model for Flows {
+    ghost use Rattle.wf_queue_flows.specs.Flows.{FlowsValue};
+    ghost use Rattle.wf_queue_flows.specs.Kept.{AreFlowsKept};
+
+    ghost Value = { FlowsValue };
+
+    ghost view = { λ f. record {
+      flows = f.flows;
+      stations = f.stations;
+      limit = f.limit;
+      flow_quantum = f.flow_quantum;
+      backlog = f.waiting;
+      rotas = f.rota;
+    } };
+
+    ghost invariant = { λ f. AreFlowsKept
+        (record {
+          flows = f.flows;
+          stations = f.stations;
+          limit = f.limit;
+          flow_quantum = f.flow_quantum;
+          backlog = f.waiting;
+          rotas = f.rota;
+        }) f.queued.items };
+}
+
+impl Flows {
+    /// No frame, with the numbers of stations and queues, the limit, the room and the flow quantum of these
+    /// settings.
+    pub fn new(alloc: Global, config: Config) -> Result<Flows, AllocError>
+        requires { first_out_of_range config ≡ None }
+        ensures made { IfOk result (λ f. f ≡ empty_flows config) }
+        ensures empty { IfOk result (λ f. held_in_backlog f.backlog ≡ 0) }
+    {
+        let tids = 8 * config.stations;
+        let queues = config.flows + tids;
+        let queued = vec![in alloc; 0; tids as usize]?;
+        let rota = Rota::new(alloc, queues, tids, config.flow_quantum)?;
+        let waiting = Flagged::new(alloc, queues, config.room)?;
+        Ok(Flows {
+            flows: config.flows,
+            stations: config.stations,
+            limit: config.limit,
+            flow_quantum: config.flow_quantum,
+            waiting,
+            rota,
+            queued,
+        })
+    }
+
+    /// How many frames of a TID are in queues.
+    pub fn queued(&self, station: u16, tid: u8) -> u32
+        requires station { station < self.now.stations }
+        requires tid { tid < 8 }
+        ensures { result ≡ frames_of_tid self.now (tid_number station tid) }
+    {
+        self.queued[tid_number(station, tid) as usize]
+    }
+
+    /// How many frames are in queues, those of all TIDs. For whoever uses the queues alone and shows how full
+    /// they are; the contract says too what the queues keep at each moment, that a queue with frames is
+    /// listed by exactly one TID.
+    pub fn total(&self) -> u32
+        ensures total { result ≡ in_queues self.now.backlog }
+        ensures listed { AreListedOnce self.now }
+    {
+        self.waiting.total()
+    }
+
+    /// The station and the TID whose frame the next `put` drops for the limit: those that list the longest
+    /// queue, where the queues hold `limit` frames or more; else None.
+    pub fn next_drop(&self) -> Option<(u16, u8)>
+        ensures none { IsNone result ↔ (in_queues self.now.backlog < self.now.limit) }
+        ensures station { IfSome result (λ x. x.0 < self.now.stations) }
+        ensures tid { IfSome result (λ x. x.1 < 8) }
+        ensures loses { IfSome result (λ x. loses_next self.now x.0 x.1 ≡ true) }
+        ensures only { (s t : ℕ) → t < 8 → loses_next self.now s t ≡ true → result ≡ Some (s, t) }
+    {
+        if self.waiting.total() < self.limit {
+            return None;
+        }
+        let longest = self.waiting.longest()?;
+        let (list, _) = self.rota.where_is(longest)?;
+        Some(((list / 8) as u16, (list % 8) as u8))
+    }
+
+    /// Puts a frame into a queue of its station and TID, and gives the id of the frame that is dropped for
+    /// the limit, if any: where the queues hold `limit` frames or more, this is the head of the longest. The
+    /// queue is the flow's number modulo `flows`, or the TID's overflow queue where another TID lists that
+    /// queue.
+    pub fn put(&mut self, parcel: Parcel, now: u64) -> Option<u64>
+        requires station { parcel.station < self.old.stations }
+        requires tid { parcel.tid < 8 }
+        requires stamp { parcel.stamp ≡ now }
+        requires room { held_in_backlog self.old.backlog < self.old.backlog.room }
+        ensures put { self.new ≡ after_put self.old (tid_number parcel.station parcel.tid) parcel }
+        ensures dropped { result ≡ dropped_for_limit self.old }
+        ensures full { IsSome result ↔ (self.old.limit ≤ in_queues self.old.backlog) }
+        ensures greatest { OnSome result
+            (IsLongest (as_store self.old.backlog) (longest_queue self.old.backlog)) }
+        ensures held { held_in_backlog self.new.backlog ≡ held_in_backlog self.old.backlog + 1 }
+        ensures settings { settings self.new ≡ settings self.old }
+    {
+        let list = tid_number(parcel.frame().station(), parcel.frame().tid());
+        let flow = parcel.frame().flow();
+        let dropped = self.make_room();
+        let q = self.queue_for(list, flow);
+        self.list_queue(list, q);
+        self.append(list, q, parcel);
+        dropped
+    }
+
+    /// Takes a frame of a TID out, by deficit rounds among its queues and CoDel on the queue that is picked;
+    /// `now` is the clock in microseconds. None exactly where no frame of the TID is in a queue, and then
+    /// nothing changes: an emptied queue stays listed until a later take passes over it.
+    pub fn take(&mut self, station: u16, tid: u8, now: u64, params: Params) -> Option<Parcel>
+        requires station { station < self.old.stations }
+        requires tid { tid < 8 }
+        requires time { now < 2 ^ 62 }
+        ensures none { IfNone result (frames_of_tid self.old (tid_number station tid) ≡ 0) }
+        ensures unchanged { IfNone result (self.new ≡ self.old) }
+        ensures some { IfSome result (λ _. 0 < frames_of_tid self.old (tid_number station tid)) }
+        ensures taken { IfSome result (λ p.
+            TakeGives self.new p (taken_for_tid self.old (tid_number station tid) now (params_of params))) }
+        ensures held { IfSome result
+            (λ _. held_in_backlog self.new.backlog + 1 ≡ held_in_backlog self.old.backlog) }
+        ensures settings { settings self.new ≡ settings self.old }
+    {
+        let list = tid_number(station, tid);
+        if self.queued[list as usize] == 0 {
+            return None;
+        }
+        let q = self.pick(list)?;
+        self.take_from(list, q, now, params)
+    }
+
+    /// Drops all frames of a TID as its station leaves, and gives their count. They go last on the finished
+    /// list, by queue number, each queue from its head. The TID's queues leave its rotation, and their CoDel
+    /// states become new.
+    ///
+    /// It asks each queue who lists it, since a leave is rare and the frames go by rising queue number.
+    pub fn purge(&mut self, station: u16, tid: u8) -> u32
+        requires station { station < self.old.stations }
+        requires tid { tid < 8 }
+        ensures purged { self.new ≡ after_purge self.old (tid_number station tid) }
+        ensures count { result ≡ frames_of_tid self.old (tid_number station tid) }
+        ensures held { held_in_backlog self.new.backlog ≡ held_in_backlog self.old.backlog }
+        ensures settings { settings self.new ≡ settings self.old }
+    {
+        let list = tid_number(station, tid);
+        let count = self.queued[list as usize];
+        for q in 0..self.flows + 8 * self.stations {
+            self.purge_queue(list, q);
+        }
+        count
+    }
+
+    /// Puts a frame last on the finished list.
+    pub fn finish(&mut self, parcel: Parcel)
+        requires { held_in_backlog self.old.backlog < self.old.backlog.room }
+        ensures { self.new ≡ record self.old {
+          backlog = record self.old.backlog { finished = self.old.backlog.finished ++ parcel ∷ [] };
+        } }
+    {
+        self.waiting.finish(parcel);
+    }
+
+    /// Takes the first frame off the finished list; None exactly where it is empty.
+    pub fn reap(&mut self) -> Option<Parcel>
+        ensures first { MatchOption result (self.old.backlog.finished ≡ [])
+            (λ p. self.old.backlog.finished ≡ p ∷ self.new.backlog.finished) }
+        ensures unchanged { IfNone result (self.new ≡ self.old) }
+        ensures others { self.new ≡ record self.old {
+          backlog = record self.old.backlog { finished = self.new.backlog.finished };
+        } }
+    {
+        self.waiting.reap()
+    }
+
+    // Drops the head of the longest queue where the queues hold `limit` frames or more.
+    fn make_room(&mut self) -> Option<u64>
+        ensures within { self.new ≡ after_limit self.old }
+        ensures id { result ≡ dropped_for_limit self.old }
+        ensures full { IsSome result ↔ (self.old.limit ≤ in_queues self.old.backlog) }
+        ensures greatest { OnSome result
+            (IsLongest (as_store self.old.backlog) (longest_queue self.old.backlog)) }
+        ensures held { held_in_backlog self.new.backlog ≡ held_in_backlog self.old.backlog }
+        ensures room { self.new.backlog.room ≡ self.old.backlog.room }
+        ensures stations { self.new.stations ≡ self.old.stations }
+    {
+        if self.waiting.total() < self.limit {
+            return None;
+        }
+        match self.waiting.longest() {
+            None => None,
+            Some(q) => self.drop_head(q),
+        }
+    }
+
+    // Drops the head of a queue for the limit, and gives its id.
+    fn drop_head(&mut self, q: u32) -> Option<u64>
+        requires { q < queues self.old }
+        ensures dropped { self.new ≡ record self.old { backlog = after_head_drop self.old.backlog q } }
+        ensures id { result ≡ first_id (frames_at self.old.backlog q) }
+        ensures held { held_in_backlog self.new.backlog ≡ held_in_backlog self.old.backlog }
+    {
+        match self.rota.where_is(q) {
+            None => None,
+            Some(place) => {
+                let id = self.waiting.drop_head(q);
+                if id.is_some() {
+                    self.queued[place.0 as usize] -= 1;
+                }
+                id
+            }
+        }
+    }
+
+    // Whether another TID lists a queue.
+    fn is_listed_elsewhere(&self, list: u32, q: u32) -> bool
+        requires list { list < tids self.now }
+        requires queue { q < queues self.now }
+        ensures { result ≡ is_listed_by_another self.now list q }
+    {
+        match self.rota.where_is(q) {
+            None => false,
+            Some(place) => place.0 != list,
+        }
+    }
+
+    // The queue for a frame of a flow: the shared one, or the overflow queue of the TID where another TID
+    // lists that one.
+    fn queue_for(&self, list: u32, flow: u32) -> u32
+        requires { list < tids self.now }
+        ensures queue { result ≡ queue_for self.now list flow }
+        ensures below { result < queues self.now }
+        ensures own { CanList self.now list result }
+    {
+        let shared = flow % self.flows;
+        if self.is_listed_elsewhere(list, shared) {
+            self.flows + list
+        } else {
+            shared
+        }
+    }
+
+    // Lists a queue that no other TID lists, with a fresh deficit, where it is not listed.
+    fn list_queue(&mut self, list: u32, q: u32)
+        requires list { list < tids self.old }
+        requires queue { q < queues self.old }
+        requires own { CanList self.old list q }
+        ensures listed { self.new ≡ with_listed_queue self.old list q }
+        ensures stands { is_listed self.new list q ≡ true }
+        ensures backlog { self.new.backlog ≡ self.old.backlog }
+        ensures flows { self.new.flows ≡ self.old.flows }
+        ensures stations { self.new.stations ≡ self.old.stations }
+    {
+        match self.rota.where_is(q) {
+            None => self.rota.add_fresh(list, q),
+            Some(_) => {}
+        }
+    }
+
+    // Appends a frame to a queue that its TID lists.
+    fn append(&mut self, list: u32, q: u32, parcel: Parcel)
+        requires list { list < tids self.old }
+        requires queue { q < queues self.old }
+        requires listed { is_listed self.old list q ≡ true }
+        requires room { held_in_backlog self.old.backlog < self.old.backlog.room }
+        ensures appended { self.new ≡ with_appended self.old q parcel }
+        ensures held { held_in_backlog self.new.backlog ≡ held_in_backlog self.old.backlog + 1 }
+    {
+        self.waiting.push(q, parcel);
+        self.queued[list as usize] += 1;
+    }
+
+    // Picks a queue of a TID.
+    fn pick(&mut self, list: u32) -> Option<u32>
+        requires { list < tids self.old }
+        ensures picked { self.new ≡ after_pick self.old list }
+        ensures stations { self.new.stations ≡ self.old.stations }
+        ensures backlog { self.new.backlog ≡ self.old.backlog }
+        ensures winner { result ≡ (pick_of_tid self.old list).winner }
+        ensures none { IfNone result (frames_of_tid self.old list ≡ 0) }
+        ensures listed { IfSome result (λ q. is_listed self.new list q ≡ true) }
+        ensures positive { IfSome result (λ q. pos 0 <ℤ deficit_at self.new.rotas.deficits q) }
+        ensures frames { IfSome result (λ q. 0 < length (frames_at self.new.backlog q)) }
+    {
+        self.rota.pick_uncounted(list, self.waiting.ready())
+    }
+
+    // Takes a frame out of a queue that was picked, and subtracts its length from the queue's deficit.
+    fn take_from(&mut self, list: u32, q: u32, now: u64, params: Params) -> Option<Parcel>
+        requires list { list < tids self.old }
+        requires listed { is_listed self.old list q ≡ true }
+        requires positive { pos 0 <ℤ deficit_at self.old.rotas.deficits q }
+        requires frames { 0 < length (frames_at self.old.backlog q) }
+        requires time { now < 2 ^ 62 }
+        ensures some { IsSome result }
+        ensures held { held_in_backlog self.new.backlog + 1 ≡ held_in_backlog self.old.backlog }
+        ensures taken { IfSome result (λ p.
+            TakeGives self.new p (taken_from_picked self.old (Some q) now (params_of params))) }
+    {
+        let before = self.waiting.count(q);
+        let parcel = self.waiting.take(q, now, params)?;
+        self.queued[list as usize] -= before - self.waiting.count(q);
+        self.rota.charge(q, u32::from(parcel.frame().len()));
+        Some(parcel)
+    }
+
+    // Drops the frames of a queue that a TID lists, and takes the queue off its rotation; else nothing.
+    fn purge_queue(&mut self, list: u32, q: u32)
+        requires list { list < tids self.old }
+        requires queue { q < queues self.old }
+        ensures gone { self.new ≡ without_queue self.old list q }
+        ensures held { held_in_backlog self.new.backlog ≡ held_in_backlog self.old.backlog }
+    {
+        match self.rota.where_is(q) {
+            None => {}
+            Some(place) => {
+                if place.0 == list {
+                    self.queued[list as usize] -= self.waiting.flush(q);
+                    self.rota.remove(q);
+                }
+            }
+        }
+    }
+}

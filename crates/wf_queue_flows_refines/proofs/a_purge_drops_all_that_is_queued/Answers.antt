@@ -1,0 +1,6 @@
+use Rattle.wf_queue_flows_refines.specs.Standing.{flows_part}
+use Rattle.wf_queue_flows_refines.proofs.Lefts.{purge_grows}
+use Rattle.wf_queue_flows_refines.proofs.a_purge_drops_all_that_is_queued.Goals as goal
+
+pub returns : goal.returns
+returns c = λ v w i st. purge_grows v (flows_part w) st i

@@ -1,0 +1,5 @@
+use Rattle.wf_queue_flows_refines.proofs.Opening.{stands_opening}
+use Rattle.wf_queue_flows_refines.proofs.the_flow_queues_open.Goals as goal
+
+pub returns : goal.returns
+returns c = stands_opening

@@ -1,0 +1,2 @@
+mod Boards
+pub mod Places

@@ -1,0 +1,6 @@
+use Rattle.wf_recv_peer.proofs.Parts.{offsets_within}
+use Rattle.wf_recv_peer.proofs.agreement.write_narrow.Goals as goal
+
+pub narrowed-requires : goal.narrowed-requires
+narrowed-requires c = offsets_within c.args.score.now.size c.answer-start.result.1 c.requires.narrow
+    c.answer-start.ensures.within

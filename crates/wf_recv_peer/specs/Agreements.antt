@@ -1,0 +1,74 @@
+-- The receive half of one station: for each traffic identifier (TID) a scoreboard and a reordering buffer,
+-- which hear the same numbers.
+use Rattle.std.specs.Prelude.{◌≡◌, ℕ, List, [], ◌++◌, replicate, slice_set, slice_index_or, Option, MatchOption}
+use Rattle.wf_recv_agreement.specs.Board.{Board, empty_board}
+use Rattle.wf_recv_agreement.specs.Board.{after_number as board_arrived, after_start as board_requested}
+use Rattle.wf_recv_agreement.specs.Buffer.{Buffer, BufferOutcome, empty_buffer, items_of, HasOneMore}
+use Rattle.wf_recv_agreement.specs.Buffer.{number_outcome as buffer_arrived, request_outcome as buffer_requested}
+use Rattle.wf_recv_peer.specs.declared.reading.Reading.{Reading}
+use Rattle.wf_recv_peer.specs.declared.reading.Reading.TheVariants.{Data, Request}
+use Rattle.wf_recv_peer.specs.Receiving.{tid_read}
+
+pub record AgreementValue : Type 0 where
+  pub board : Board
+  pub buffer : Buffer
+
+pub record PeerValue : Type 0 where
+  pub station : ℕ
+  pub agreements : List AgreementValue  -- eight, by their TIDs
+
+-- nothing has arrived
+abbrev pub new_agreement : ℕ → ℕ → AgreementValue
+new_agreement start size = record { board = empty_board start size; buffer = empty_buffer 256 start size }
+
+abbrev pub new_peer : ℕ → ℕ → ℕ → PeerValue
+new_peer station start size = record {
+  station = station;
+  agreements =
+      replicate 8 (new_agreement start size);
+}
+
+-- the agreement of a TID
+abbrev pub agreement : PeerValue → ℕ → AgreementValue
+agreement p tid = slice_index_or p.agreements tid (new_agreement 0 256)
+
+-- ---- a frame is heard
+
+abbrev pub board_after : Reading → Board → Board
+board_after (Data tid number) b = board_arrived number b
+board_after (Request tid start) b = board_requested start b
+
+-- a data frame's item has this id
+abbrev pub buffer_outcome : Reading → ℕ → Buffer → BufferOutcome
+buffer_outcome (Data tid number) id b = buffer_arrived number id b
+buffer_outcome (Request tid start) id b = buffer_requested start b
+
+abbrev pub agreement_after : Reading → ℕ → AgreementValue → AgreementValue
+agreement_after reading id a = record {
+  board = board_after reading a.board;
+  buffer =
+      (buffer_outcome reading id a.buffer).after;
+}
+
+-- the agreement of the frame's TID hears it, and the others stay
+abbrev pub after_frame : Reading → ℕ → PeerValue → PeerValue
+after_frame reading id p = record p {
+  agreements =
+      slice_set p.agreements (tid_read reading) (agreement_after reading id (agreement p (tid_read reading)));
+}
+
+-- the buffer of the frame's TID
+abbrev pub buffer_of_tid : Reading → PeerValue → Buffer
+buffer_of_tid reading p = (agreement p (tid_read reading)).buffer
+
+-- what that buffer releases
+abbrev pub outcome_of_frame : Reading → ℕ → PeerValue → BufferOutcome
+outcome_of_frame reading id p = buffer_outcome reading id (buffer_of_tid reading p)
+
+-- Each item once. Of data: where the new item is not given back, what is passed up and what is stored are
+-- what was stored and it. Of a request: they are what was stored.
+abbrev pub IsEachOnce : Reading → ℕ → List ℕ → Option ℕ → Buffer → Buffer → Type 0
+IsEachOnce (Data tid number) id up back before after =
+    MatchOption back (HasOneMore id (items_of before.places) (up ++ items_of after.places))
+    (λ item. (item ≡ id) × (up ≡ []) × (after ≡ before))
+IsEachOnce (Request tid start) id up back before after = up ++ items_of after.places ≡ items_of before.places

@@ -1,0 +1,46 @@
+-- The BlockAck that a station answers with: from it to the access point, with Duration 0 and what the
+-- scoreboard of the TID shows.
+use Rattle.std.specs.Prelude.{◌≡◌, ℕ, nat_lt, List, take, MatchBool, if◌then◌else◌}
+use Rattle.wf_octets_header.specs.Addresses.{base, address_of_station}
+use Rattle.wf_recv_agreement.specs.Board.{Board}
+use Rattle.wf_octets_block.specs.declared.frames.Ba.{Ba}
+use Rattle.wf_octets_block.specs.declared.frames.WideBa.{WideBa}
+use Rattle.wf_octets_block.specs.Layout.{IsBlockAck, IsWideBa, answer, narrow_form, wide_form, head_octets, head_of_ba, head_of_wide}
+
+abbrev pub narrow_answer : ℕ → ℕ → Board → Ba
+narrow_answer station tid b = record {
+  ra = base;
+  ta = address_of_station station;
+  duration = 0;
+  tid = tid;
+  start = b.start;
+  bits = b.offsets;
+}
+
+abbrev pub wide_answer : ℕ → ℕ → Board → WideBa
+wide_answer station tid b = record {
+  ra = base;
+  ta = address_of_station station;
+  duration = 0;
+  tid = tid;
+  start = b.start;
+  bits = b.offsets;
+}
+
+-- the octets have the layout, and each free bit is 0
+pub record IsWritten (octets : List ℕ) (ba : Ba) : Type 0 where
+  pub layout : IsBlockAck octets ba
+  pub head : take 20 octets ≡ head_octets answer narrow_form (head_of_ba ba)
+
+pub record IsWrittenWide (octets : List ℕ) (ba : WideBa) : Type 0 where
+  pub layout : IsWideBa octets ba
+  pub head : take 20 octets ≡ head_octets answer wide_form (head_of_wide ba)
+
+-- the wide one answers where the window is above 64
+abbrev pub answer_size : Board → ℕ
+answer_size b = if nat_lt 64 b.size then 52 else 28
+
+abbrev pub IsAnswer : ℕ → ℕ → Board → List ℕ → Type 0
+IsAnswer station tid b octets =
+    MatchBool (nat_lt 64 b.size) (IsWrittenWide octets (wide_answer station tid b))
+    (IsWritten octets (narrow_answer station tid b))

@@ -1,0 +1,24 @@
+use thiserror::Error;
+use wf_octets_block::BlockFault;
+use wf_octets_header::HeaderFault;
+
+/// Why octets off the air are no frame for the station. The variants stand in the order of the checks, and
+/// the first check that fails is told.
+#[derive(Clone, Copy, Debug, PartialEq, Eq, Error)]
+pub enum PeerFault {
+    /// They begin with no header.
+    #[error(transparent)]
+    Header(HeaderFault),
+    /// The frame is neither QoS Data nor a BlockAckReq. This is its first octet.
+    #[error("a frame that is neither data nor a request, {0:#04x}")]
+    Kind(u8),
+    /// It begins as a BlockAckReq and is none.
+    #[error(transparent)]
+    Block(BlockFault),
+    /// Address 1 is not the station's, or Address 2 not the access point's.
+    #[error("a frame from or to another station")]
+    NotMine,
+    /// The traffic identifier is above 7.
+    #[error("traffic identifier {0}, past 7")]
+    Tid(u8),
+}

@@ -1,0 +1,134 @@
+//! The receive half of one station.
+
+ghost use Rattle.std.specs.Prelude.{◌≡◌, ◌≤◌, ◌<◌, [], IfOk, IsOk, OnOk, OnErr, length, replicate, take, drop};
+ghost use Rattle.wf_octets_header.specs.declared.header.Header.{Header};
+ghost use Rattle.wf_octets_block.specs.declared.frames.Bar.{Bar};
+ghost use Rattle.wf_recv_peer.specs.declared.reading.Reading.TheVariants.{Data, Request};
+ghost use Rattle.wf_recv_peer.specs.Frames.{IsDataFor, IsRequestFor};
+ghost use Rattle.std.specs.Result.{result_err};
+ghost use Rattle.wf_recv_peer.specs.Receiving.{reading_of, first_peer_fault};
+ghost use Rattle.wf_recv_peer.specs.Agreements.{new_agreement, new_peer, agreement, after_frame, outcome_of_frame, IsEachOnce, buffer_of_tid};
+ghost use Rattle.wf_recv_peer.specs.Answering.{answer_size, IsAnswer};
+
+use crate::PeerFault;
+use crate::agreement::Agreement;
+use crate::reading::read;
+use std::alloc::{AllocError, Global};
+use std::marker::Model;
+use wf_frame::Ids;
+use wf_octets_seq12::Seq12;
+
+/// How many traffic identifiers have an agreement.
+const TIDS: usize = 8;
+
+/// The receive half of one station: for each traffic identifier 0 to 7 a block acknowledgement agreement with
+/// the access point.
+#[derive(Drop)]
+pub struct Peer {
+    station: u16,
+    agreements: Vec<Agreement>,
+}
+
+impl Model for Peer {
+    ghost use Rattle.std.specs.Prelude.{◌≡◌, length};
+    ghost use Rattle.wf_recv_peer.specs.Agreements.{PeerValue};
+
+    ghost Value = { PeerValue };
+
+    ghost view = { λ p. record { station = p.station; agreements = p.agreements.items } };
+
+    ghost invariant = { λ p. length p.agreements.items ≡ 8 };
+}
+
+fn new_agreements(alloc: Global) -> Result<Vec<Agreement>, AllocError>
+    ensures { IfOk result (λ made. made.items ≡ replicate 8 (new_agreement 0 256)) }
+{
+    let mut made = Vec::with_capacity(alloc, TIDS)?;
+    for _ in 0..TIDS {
+        made.push(Agreement::new(alloc)?)?;
+    }
+    Ok(made)
+}
+
+fn reset_all(agreements: &mut [Agreement], start: Seq12, size: u16)
+    requires { (1 ≤ size) × (size ≤ 256) }
+    ensures { agreements.new ≡ replicate (length agreements.old) (new_agreement start size) }
+{
+    for agreement in agreements {
+        agreement.reset(start, size);
+    }
+}
+
+impl Peer {
+    /// The receive half of the station with this number. Each window is of 256 numbers from 0 on, and nothing
+    /// has arrived.
+    ///
+    /// Fails for want of memory, which no other call takes.
+    pub fn new(alloc: Global, station: u16) -> Result<Peer, AllocError>
+        ensures { IfOk result (λ p. p ≡ new_peer station 0 256) }
+    {
+        let agreements = new_agreements(alloc)?;
+        Ok(Peer {
+            station,
+            agreements,
+        })
+    }
+
+    /// New agreements for all eight traffic identifiers: their first number, and their window size, 1 to 256
+    /// numbers. What is stored goes.
+    pub fn reset(&mut self, start: Seq12, size: u16)
+        requires { (1 ≤ size) × (size ≤ 256) }
+        ensures { self.new ≡ new_peer self.old.station start size }
+    {
+        reset_all(&mut self.agreements, start, size);
+    }
+
+    /// Octets reached the station: a data frame, whose item has this id, or a BlockAckReq. The scoreboard and
+    /// the reordering buffer of its traffic identifier hear of it. What the buffer passes up, in the order of
+    /// its numbers, is put into `up`, which must be empty. The id is handed back exactly where its item is
+    /// discarded: its number is stored already, or stands behind the window.
+    pub fn receive(
+        &mut self,
+        octets: &[u8],
+        id: u64,
+        up: &mut Ids,
+    ) -> Result<Option<u64>, PeerFault>
+        requires { up.old ≡ [] }
+
+        // refused exactly where a check fails, for the first that does
+        ensures fault { result_err result ≡ first_peer_fault self.old.station octets.now }
+        ensures unchanged { OnErr result (self.new ≡ self.old) }
+        ensures nothing_up { OnErr result (up.new ≡ []) }
+
+        // so each frame for the station is taken, and read as its header or its fields say
+        ensures data { (h : Header) → IsDataFor self.old.station octets.now h →
+            IsOk result × (reading_of octets.now ≡ Data h.tid h.seq) }
+        ensures request { (b : Bar) → IsRequestFor self.old.station octets.now b →
+            IsOk result × (reading_of octets.now ≡ Request b.tid b.start) }
+
+        // then one agreement hears of it, and the others stay
+        ensures after { OnOk result (self.new ≡ after_frame (reading_of octets.now) id self.old) }
+        ensures up { OnOk result (up.new ≡ (outcome_of_frame (reading_of octets.now) id self.old).up) }
+        ensures back { IfOk result (λ back. back
+            ≡ (outcome_of_frame (reading_of octets.now) id self.old).back) }
+        ensures each_once { IfOk result (λ back. let reading = reading_of octets.now in
+            IsEachOnce reading id up.new back (buffer_of_tid reading self.old)
+            (buffer_of_tid reading self.new)) }
+        ensures eight { length self.new.agreements ≡ 8 }
+    {
+        let reading = read(self.station, octets)?;
+        let agreement = &mut self.agreements[usize::from(reading.tid())];
+        Ok(agreement.hear(reading, id, up))
+    }
+
+    /// Writes the BlockAck of a traffic identifier below 8, and answers its size in octets: 52 where the
+    /// window is above 64 numbers, else 28. The rest of `out` stays.
+    pub fn answer(&self, tid: u8, out: &mut [u8; 52]) -> usize
+        requires { tid < 8 }
+        ensures length { result ≡ answer_size (agreement self.now tid).board }
+        ensures octets { IsAnswer self.now.station tid (agreement self.now tid).board (take result out.new) }
+        ensures rest { drop result out.new ≡ drop result out.old }
+    {
+        self.agreements[usize::from(tid)].answer(self.station, tid, out)
+    }
+}

@@ -1,0 +1,86 @@
+//! What octets off the air mean to a station.
+
+ghost use Rattle.std.specs.Prelude.{◌≡◌, ◌<◌, ◌&&◌, IfOk, OnOk};
+ghost use Rattle.std.specs.Option.{option_or};
+ghost use Rattle.std.specs.Str.{bytes_eq};
+ghost use Rattle.wf_octets_fields.specs.Fields.{part};
+ghost use Rattle.wf_octets_header.specs.Addresses.{base, address_of_station};
+ghost use Rattle.wf_octets_header.specs.Layout.{BeginsWithHeader};
+ghost use Rattle.std.specs.Result.{result_err};
+ghost use Rattle.wf_recv_peer.specs.Receiving.{tid_read, reading_of, peer_kind_fault, block_fault, first_peer_fault};
+
+use crate::PeerFault;
+use wf_octets_block::decode_bar;
+use wf_octets_header::{Header, Kind, base_address, decode, station_address};
+use wf_octets_seq12::Seq12;
+
+/// A frame for the station, as far as its agreements go.
+#[derive(Clone, Copy)]
+pub(crate) enum Reading {
+    /// A number of a TID arrived.
+    Data { tid: u8, number: Seq12 },
+    /// The originator asks for a BlockAck of a TID, from this number on.
+    Request { tid: u8, start: Seq12 },
+}
+
+impl Reading {
+    /// The traffic identifier.
+    pub(crate) fn tid(&self) -> u8
+        ensures { result ≡ tid_read self.now }
+    {
+        match self {
+            Reading::Data { tid, .. } | Reading::Request { tid, .. } => *tid,
+        }
+    }
+}
+
+/// Reads octets that reach a station.
+pub(crate) fn read(station: u16, octets: &[u8]) -> Result<Reading, PeerFault>
+    ensures fault { result_err result ≡ first_peer_fault station octets.now }
+    ensures reading { IfOk result (λ reading. reading ≡ reading_of octets.now) }
+    ensures tid { IfOk result (λ reading. tid_read reading < 8) }
+{
+    let (header, _) = decode(octets).map_err(PeerFault::Header)?;
+    let reading = carried(&header, octets)?;
+    if !is_mine(station, &header) {
+        return Err(PeerFault::NotMine);
+    }
+    let tid = reading.tid();
+    if tid > 7 {
+        return Err(PeerFault::Tid(tid));
+    }
+    Ok(reading)
+}
+
+/// What a frame with this header carries.
+fn carried(header: &Header, octets: &[u8]) -> Result<Reading, PeerFault>
+    requires { BeginsWithHeader octets.now header.now }
+    ensures fault { result_err result ≡ option_or (peer_kind_fault octets.now) (block_fault octets.now) }
+    ensures reading { IfOk result (λ reading. reading ≡ reading_of octets.now) }
+    ensures recipient { OnOk result (part octets.now 4 6 ≡ header.now.a1) }
+    ensures transmitter { OnOk result (part octets.now 10 6 ≡ header.now.a2) }
+{
+    match header.kind {
+        Kind::QosData => Ok(Reading::Data {
+            tid: header.tid,
+            number: header.seq,
+        }),
+        Kind::BlockAckReq => {
+            let bar = decode_bar(octets).map_err(PeerFault::Block)?;
+            Ok(Reading::Request {
+                tid: bar.tid,
+                start: bar.start,
+            })
+        }
+        Kind::QosNull | Kind::PsPoll | Kind::Ack | Kind::BlockAck => {
+            Err(PeerFault::Kind(octets[0]))
+        }
+    }
+}
+
+/// Whether a frame goes from the access point to the station.
+fn is_mine(station: u16, header: &Header) -> bool
+    ensures { result ≡ (bytes_eq header.now.a1 (address_of_station station) && bytes_eq header.now.a2 base) }
+{
+    header.a1 == station_address(station) && header.a2 == base_address()
+}

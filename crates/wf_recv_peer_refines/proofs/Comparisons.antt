@@ -1,0 +1,23 @@
+-- Two numbers that are at most 2047 apart, and the 12-bit numbers that stand for them.
+use Rattle.std.proofs.Common.{◌≡◌, ℕ, ◌+◌, ◌-◌, ◌%◌, ◌<◌, ◌≤◌, arith}
+use Rattle.wf_octets_seq12.specs.Distance.{distance}
+use Rattle.wf_recv_peer_refines.specs.Half.{ComparesRight}
+
+-- as far ahead
+pub distance_ahead : (n b : ℕ) → b ≤ n → n ≤ b + 2047 → distance (n % 4096) (b % 4096) ≡ n - b
+distance_ahead n b p q = omega arith
+
+-- behind
+pub distance_back : (n b : ℕ) → n < b → b ≤ n + 2047 → 2047 < distance (n % 4096) (b % 4096)
+distance_back n b p q = omega arith
+
+pub compares : (n b : ℕ) → n ≤ b + 2047 → b ≤ n + 2047 → ComparesRight n b
+compares n b p q = record {
+  ahead = λ h. omega (arith, distance_ahead n b h p);
+  near = λ h. omega (arith, distance_ahead n b h p);
+  behind = λ h. distance_back n b h q;
+}
+
+-- the 12-bit number that is so many past another
+pub moved_start : (b d : ℕ) → (b % 4096 + d) % 4096 ≡ (b + d) % 4096
+moved_start b d = omega arith

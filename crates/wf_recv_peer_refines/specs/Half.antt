@@ -1,0 +1,71 @@
+-- The receive half of one agreement, a scoreboard and a reordering buffer over sequence numbers of 12 bits,
+-- beside a receiver, whose numbers have no bound (IEEE 802.11-2012, 9.21.7.3 to 9.21.7.6).
+--
+-- Of a receiver r with a window of w numbers: `release_start r` is the least number that has not arrived and
+-- is below no start that did, and `score_start r` is where its scoreboard starts.
+use Rattle.std.specs.Prelude.{◌≡◌, ℕ, ◌+◌, ◌%◌, ◌<◌, ◌≤◌, List, map, Option, Some, None, if◌then◌else◌}
+use Rattle.wf_def_lists.specs.Table.{has, count_from}
+use Rattle.wf_def_agreement.specs.Receiver.{Receiver, release_start, score_start, score}
+use Rattle.wf_octets_bits.specs.Offsets.{RisesBetween}
+use Rattle.wf_octets_seq12.specs.Distance.{distance}
+use Rattle.wf_recv_agreement.specs.Board.{Board}
+use Rattle.wf_recv_agreement.specs.Buffer.{Buffer}
+
+-- the scoreboard that stands for r: its start modulo 4096, and how far past it each number of the window
+-- stands that arrived
+abbrev pub board_of : Receiver → Board
+board_of r = record { start = score_start r % 4096; size = r.size; offsets = (score r).offsets }
+
+-- what is stored of the number n, where these arrived: the id that it carries
+abbrev pub stored_of : (ℕ → ℕ) → List ℕ → ℕ → Option ℕ
+stored_of ids arrived n = if has arrived n then Some (ids n) else None
+
+-- the buffer that stands for r, where the number n carries the id `ids n`: its start modulo 4096, and what is
+-- stored of each number of the window
+abbrev pub buffer_of : ℕ → (ℕ → ℕ) → Receiver → Buffer
+buffer_of capacity ids r =
+    record {
+      capacity = capacity;
+      start = release_start r % 4096;
+      size = r.size;
+      places =
+          map (stored_of ids r.arrived) (count_from (release_start r) r.size);
+    }
+
+-- What holds of a receiver that only numbers within reach arrive at: its numbers rise, the last is in the
+-- scoreboard's window, and the scoreboard does not start past what was passed up.
+pub record IsOrderly (r : Receiver) : Type 0 where
+  pub least : 1 ≤ r.size
+  pub most : r.size ≤ 256
+  pub rising : RisesBetween 0 (score_start r + r.size) r.arrived
+  pub score_release : score_start r ≤ release_start r
+
+-- a receive half stands for a receiver, whose numbers carry these ids
+pub record ReceiveHalfStandsFor (ids : ℕ → ℕ) (r : Receiver) (board : Board) (buffer : Buffer) : Type 0 where
+  pub receiver : IsOrderly r
+  pub scoreboard : board ≡ board_of r
+  pub reordering : buffer ≡ buffer_of buffer.capacity ids r
+
+-- A number that may arrive in a frame: the scoreboard has not left it behind, and it is less than a window
+-- past what was passed up. The window law has both of each number in flight.
+pub record IsInReach (r : Receiver) (n : ℕ) : Type 0 where
+  pub score : score_start r ≤ n
+  pub release : n < release_start r + r.size
+
+-- A start that may arrive in a BlockAckReq: at most a window behind the scoreboard's start, and at most a
+-- window past what was passed up. The window law has both of the start of each open request.
+pub record IsRequestInReach (r : Receiver) (f : ℕ) : Type 0 where
+  pub score : score_start r ≤ f + r.size
+  pub release : f ≤ release_start r + r.size
+
+-- of two numbers, the 12-bit ones that stand for them compare as they do: as far ahead, or more than 2047
+-- ahead where the number is behind
+pub record ComparesRight (n b : ℕ) : Type 0 where
+  pub ahead : b ≤ n → b + distance (n % 4096) (b % 4096) ≡ n
+  pub near : b ≤ n → distance (n % 4096) (b % 4096) ≤ 2047
+  pub behind : n < b → 2047 < distance (n % 4096) (b % 4096)
+
+-- all comparisons that the half makes, of a number or of a start, are those of the whole numbers
+pub record ComparesBoth (r : Receiver) (n : ℕ) : Type 0 where
+  pub score : ComparesRight n (score_start r)
+  pub release : ComparesRight n (release_start r)

@@ -1,0 +1,96 @@
+//! The recipient's 12-bit receive half stands for the receiver of the definitions.
+//!
+//! The scoreboard and the reordering buffer (`wf_recv_agreement`) follow the rules of IEEE 802.11-2012,
+//! 9.21.7.3 to 9.21.7.6, modulo 4096, for every sequence of numbers whatever. A receiver (`wf_def_agreement`)
+//! has whole numbers with no bound: those that arrived, and the starts of requests. The two agree as long as
+//! each number that arrives is within reach, as the window law has it of each frame and request in flight.
+//! Each law is a function without a body that names it in its contract.
+#![tactic(auto)]
+
+ghost use Rattle.std.specs.Prelude.{◌≡◌, ℕ, ◌+◌, ◌%◌, ◌≤◌, true, map, Some, None, if◌then◌else◌};
+ghost use Rattle.wf_def_lists.specs.Table.{has, bits_word};
+ghost use Rattle.wf_def_agreement.specs.Receiver.{Receiver, new_receiver, with_arrived, with_start, score_start, released_between, score, bitmap_word};
+ghost use Rattle.wf_octets_seq12.specs.Distance.{distance};
+ghost use Rattle.wf_recv_agreement.specs.Board.{Board, empty_board, after_number as board_arrived, after_start as board_requested};
+ghost use Rattle.wf_recv_agreement.specs.Buffer.{Buffer, empty_buffer, number_outcome as buffer_arrived, request_outcome as buffer_requested};
+ghost use Rattle.wf_recv_peer_refines.specs.Half.{ReceiveHalfStandsFor, IsInReach, IsRequestInReach, ComparesRight, ComparesBoth};
+
+/// Two numbers that are at most 2047 apart compare by their 12 bits as they do themselves (8.2.4.4.2). So
+/// each comparison that the half makes of a number within reach, with either of its starts, is the one of the
+/// whole numbers.
+pub fn comparisons_are_whole()
+    ensures near { (n b : ℕ) → n ≤ b + 2047 → b ≤ n + 2047 → ComparesRight n b }
+    ensures data { (ids : ℕ → ℕ) (r : Receiver) (board : Board) (buffer : Buffer) (n : ℕ) →
+        ReceiveHalfStandsFor ids r board buffer → IsInReach r n → ComparesBoth r n }
+    ensures request { (ids : ℕ → ℕ) (r : Receiver) (board : Board) (buffer : Buffer) (f : ℕ) →
+        ReceiveHalfStandsFor ids r board buffer → IsRequestInReach r f → ComparesBoth r f }
+{}
+
+/// A new agreement (9.21.2): an empty scoreboard and an empty buffer, from the first number on, stand for a
+/// new receiver of that number, for every window of 1 to 256 numbers.
+pub fn a_new_agreement()
+    ensures { (ids : ℕ → ℕ) (capacity first size : ℕ) → 1 ≤ size → size ≤ 256 →
+        ReceiveHalfStandsFor ids (new_receiver first size) (empty_board (first % 4096) size)
+        (empty_buffer capacity (first % 4096) size) }
+{}
+
+/// A number within reach arrives with its id. The half stands for the receiver with that number: the
+/// scoreboard shows it (9.21.7.3), the buffer stores it and passes up, in the order of their numbers, the ids
+/// of exactly those numbers that the receiver passes up (9.21.7.6.2). The id is given back exactly where its
+/// number had arrived already.
+pub fn a_number_arrives()
+    ensures stands { (ids : ℕ → ℕ) (r : Receiver) (board : Board) (buffer : Buffer) (n : ℕ) →
+        ReceiveHalfStandsFor ids r board buffer → IsInReach r n →
+        ReceiveHalfStandsFor ids (with_arrived n r) (board_arrived (n % 4096) board)
+        (buffer_arrived (n % 4096) (ids n) buffer).after }
+    ensures up { (ids : ℕ → ℕ) (r : Receiver) (board : Board) (buffer : Buffer) (n : ℕ) →
+        ReceiveHalfStandsFor ids r board buffer → IsInReach r n →
+        (buffer_arrived (n % 4096) (ids n) buffer).up ≡ map ids (released_between r (with_arrived n r)) }
+    ensures back { (ids : ℕ → ℕ) (r : Receiver) (board : Board) (buffer : Buffer) (n : ℕ) →
+        ReceiveHalfStandsFor ids r board buffer → IsInReach r n →
+        (buffer_arrived (n % 4096) (ids n) buffer).back ≡ (if has r.arrived n then Some (ids n) else None) }
+{}
+
+/// The start of a BlockAckReq within reach arrives. The half stands for the receiver with that start: the
+/// scoreboard's window and the buffer's move to it, or it stands behind them and they stay (9.21.7.3,
+/// 9.21.7.6.3). The buffer passes up the ids of exactly those numbers that the receiver passes up, in the
+/// order of their numbers.
+pub fn a_request_arrives()
+    ensures stands { (ids : ℕ → ℕ) (r : Receiver) (board : Board) (buffer : Buffer) (f : ℕ) →
+        ReceiveHalfStandsFor ids r board buffer → IsRequestInReach r f →
+        ReceiveHalfStandsFor ids (with_start f r) (board_requested (f % 4096) board)
+        (buffer_requested (f % 4096) buffer).after }
+    ensures up { (ids : ℕ → ℕ) (r : Receiver) (board : Board) (buffer : Buffer) (f : ℕ) →
+        ReceiveHalfStandsFor ids r board buffer → IsRequestInReach r f →
+        (buffer_requested (f % 4096) buffer).up ≡ map ids (released_between r (with_start f r)) }
+    ensures back { (ids : ℕ → ℕ) (r : Receiver) (board : Board) (buffer : Buffer) (f : ℕ) →
+        ReceiveHalfStandsFor ids r board buffer → IsRequestInReach r f →
+        (buffer_requested (f % 4096) buffer).back ≡ None }
+{}
+
+/// What a BlockAck says (9.21.7.5): its start is the score's modulo 4096, and its offsets are the score's, so
+/// their words are too. A number from the start on, and at most 2047 past it, is shown exactly where it
+/// arrived.
+pub fn the_answer_is_the_score()
+    ensures start { (ids : ℕ → ℕ) (r : Receiver) (board : Board) (buffer : Buffer) →
+        ReceiveHalfStandsFor ids r board buffer →
+        board.start ≡ (score r).start % 4096 }
+    ensures offsets { (ids : ℕ → ℕ) (r : Receiver) (board : Board) (buffer : Buffer) →
+        ReceiveHalfStandsFor ids r board buffer →
+        board.offsets ≡ (score r).offsets }
+    ensures words { (ids : ℕ → ℕ) (r : Receiver) (board : Board) (buffer : Buffer) (k : ℕ) →
+        ReceiveHalfStandsFor ids r board buffer →
+        bits_word k board.offsets ≡ bitmap_word (score r) k }
+    ensures shown { (ids : ℕ → ℕ) (r : Receiver) (board : Board) (buffer : Buffer) (n : ℕ) →
+        ReceiveHalfStandsFor ids r board buffer →
+        score_start r ≤ n → n ≤ score_start r + 2047 →
+        has board.offsets (distance (n % 4096) board.start) ≡ has r.arrived n }
+{}
+
+/// Only the ids of numbers that arrived matter: a half stands for its receiver also where other numbers carry
+/// other ids, as once fresh numbers are given.
+pub fn only_arrived_ids_matter()
+    ensures { (ids others : ℕ → ℕ) (r : Receiver) (board : Board) (buffer : Buffer) →
+        ((n : ℕ) → has r.arrived n ≡ true → ids n ≡ others n) → ReceiveHalfStandsFor ids r board buffer →
+        ReceiveHalfStandsFor others r board buffer }
+{}

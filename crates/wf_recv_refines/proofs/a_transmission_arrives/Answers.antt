@@ -1,0 +1,13 @@
+use Rattle.wf_recv_refines.proofs.Sent.{station_now, tid_now, index_now, reach_now}
+use Rattle.wf_recv_refines.proofs.Arriving.{arrived_hears, arrived_up}
+use Rattle.wf_recv_refines.proofs.a_transmission_arrives.Goals as goal
+
+pub returns : goal.returns
+returns c = record {
+  station = station_now;
+  tid = λ w e x reached. tid_now w reached e x;
+  index = index_now;
+  reach = reach_now;
+  hears = λ peers marks w e i id x reached h. arrived_hears peers marks w e i id x reached h;
+  up = λ peers marks w e i id x reached h. arrived_up peers marks w e i id x reached h;
+}

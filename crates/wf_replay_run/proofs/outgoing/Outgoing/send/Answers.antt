@@ -1,6 +1,0 @@
-use Rattle.wf_reading.proofs.Octets.{partly}
-use Rattle.wf_replay_run.proofs.outgoing.Outgoing.send.Goals as goal
-
-pub returns-in_err-write_all-clause-front : goal.returns-in_err-write_all-clause-front
-returns-in_err-write_all-clause-front g c =
-    rw (← c.self.view_is, ← c.as_slice.ensures.value) (partly c.as_slice.result.now _ _ c.write_all.ensures.prefix)

@@ -1,7 +1,0 @@
-use Rattle.wf_world.specs.Run.{world_of}
-use Rattle.wf_report.proofs.standing.clock.Goals as goal
-
-pub returns : goal.returns
-returns c =
-    let stands = c.path.ensures.stands in
-    c.now.ensures.world (world_of c.args.cell.now.past) stands.0 (rw (c.path.ensures.value) stands.1)

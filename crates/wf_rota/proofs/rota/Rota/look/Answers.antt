@@ -1,8 +1,0 @@
-use Rattle.std.proofs.Common.{◌∙◌, refl, arith, []}
-use Rattle.wf_rota.specs.Rotas.{is_ready}
-use Rattle.wf_rule_laws.proofs.Lemmas.Counts.{on-cons_same}
-use Rattle.wf_rota.proofs.rota.Rota.look.Goals as goal
-
-pub returns-clause-found : goal.returns-clause-found
-returns-clause-found c = λ order seen before rounds.
-    c.looked.ensures.found (is_ready c.args.ready.now) order seen before refl (rounds c.args.key (omega (arith, on-cons_same c.args.key [])) ∙ omega (arith, c.need.ensures.need, c.first_round_of.ensures))

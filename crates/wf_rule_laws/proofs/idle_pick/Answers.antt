@@ -1,5 +1,0 @@
-use Rattle.wf_rule_laws.proofs.Lemmas.Picks.{none_idle, idle_none}
-use Rattle.wf_rule_laws.proofs.idle_pick.Goals as goal
-
-pub returns : goal.returns
-returns c = λ r need ready. (none_idle r need ready, idle_none r need ready)

@@ -1,9 +1,0 @@
-use Rattle.wf_rule_laws.proofs.LoopEnds.{end_law}
-use Rattle.wf_rule_laws.proofs.LoopLaw.{loop_law}
-use Rattle.wf_rule_laws.proofs.loop_law.Goals as goal
-
-pub returns-clause-ends : goal.returns-clause-ends
-returns-clause-ends c = end_law
-
-pub returns-clause-picks : goal.returns-clause-picks
-returns-clause-picks c = loop_law

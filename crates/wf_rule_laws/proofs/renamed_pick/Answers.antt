@@ -1,5 +1,0 @@
-use Rattle.wf_rule_laws.proofs.Lemmas.Picks.{renamed_pick}
-use Rattle.wf_rule_laws.proofs.renamed_pick.Goals as goal
-
-pub returns : goal.returns
-returns c = λ f r need other ready others apart same. renamed_pick f apart r need other ready others same

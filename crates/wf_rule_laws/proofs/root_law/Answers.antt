@@ -1,8 +1,0 @@
-use Rattle.wf_rule_laws.proofs.Lemmas.Roots.{root-is, same_root}
-use Rattle.wf_rule_laws.proofs.root_law.Goals as goal
-
-pub returns-clause-computed : goal.returns-clause-computed
-returns-clause-computed c = root-is
-
-pub returns-clause-one : goal.returns-clause-one
-returns-clause-one c = λ n d e is same. same_root n d e is same

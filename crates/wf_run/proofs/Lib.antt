@@ -1,0 +1,2 @@
+mod SoakText
+mod LiveText

@@ -1,0 +1,109 @@
+//! The commands, by the words of the command line.
+
+ghost use Rattle.std.specs.Prelude.{◌≡◌, ◌≤◌, IfSome, map, string_bytes};
+ghost use Rattle.wf_run.specs.Commands.{number_within, soak_of, live_of, command_of, HasCallsInRange};
+
+use wf_io::value_of;
+use wf_trace::is_plain_number;
+
+/// What the words of the command line ask for.
+#[derive(Clone, Copy, Debug, PartialEq, Eq)]
+pub enum Command {
+    /// Replay the trace on standard input.
+    Replay,
+    /// Replay the trace on standard input as a capture file.
+    Capture,
+    /// Play the soak of this seed, and of so many calls: 1 to 1,000,000.
+    Soak {
+        seed: u64,
+        calls: u32,
+    },
+    /// Run so many senders on threads, 1 to 8, each with so many frames: 1 to 10,000; and four drivers.
+    Live {
+        seed: u64,
+        senders: u32,
+        frames: u32,
+    },
+    /// Play the script on standard input on two ends of an agreement.
+    Session,
+    /// Play the script on standard input on the uplink of 256 stations.
+    Uplink,
+    /// List the packets of the capture file on standard input.
+    Frames,
+}
+
+/// The number that a word is, where it lies between two.
+fn number_within(low: u64, high: u64, word: &[u8]) -> Option<u64>
+    ensures value { result ≡ number_within low high word.now }
+    ensures within { IfSome result (λ n. (low ≤ n) × (n ≤ high)) }
+{
+    if !is_plain_number(word) {
+        return None;
+    }
+    match value_of(word) {
+        None => None,
+        Some(value) => {
+            if low <= value && value <= high {
+                Some(value)
+            } else {
+                None
+            }
+        }
+    }
+}
+
+fn soak_of(seed: Option<u64>, calls: Option<u64>) -> Option<Command>
+    requires { IfSome calls (λ n. (1 ≤ n) × (n ≤ 1000000)) }
+    ensures command { result ≡ soak_of seed calls }
+    ensures calls { IfSome result HasCallsInRange }
+{
+    match (seed, calls) {
+        (Some(seed), Some(calls)) => Some(Command::Soak {
+            seed,
+            calls: calls as u32,
+        }),
+        _ => None,
+    }
+}
+
+fn live_of(seed: Option<u64>, senders: Option<u64>, frames: Option<u64>) -> Option<Command>
+    requires senders { IfSome senders (λ n. (1 ≤ n) × (n ≤ 8)) }
+    requires frames { IfSome frames (λ n. (1 ≤ n) × (n ≤ 10000)) }
+    ensures command { result ≡ live_of seed senders frames }
+    ensures calls { IfSome result HasCallsInRange }
+{
+    match (seed, senders, frames) {
+        (Some(seed), Some(senders), Some(frames)) => Some(Command::Live {
+            seed,
+            senders: senders as u32,
+            frames: frames as u32,
+        }),
+        _ => None,
+    }
+}
+
+/// The command that the words are, if they are one.
+pub fn command_from(words: &[String]) -> Option<Command>
+    ensures command { result ≡ command_of (map string_bytes words.now) }
+    ensures calls { IfSome result HasCallsInRange }
+{
+    match words {
+        [word] if word.as_str() == "replay" => Some(Command::Replay),
+        [word] if word.as_str() == "session" => Some(Command::Session),
+        [word] if word.as_str() == "uplink" => Some(Command::Uplink),
+        [word] if word.as_str() == "frames" => Some(Command::Frames),
+        [word, option] if word.as_str() == "replay" && option.as_str() == "--pcap" => {
+            Some(Command::Capture)
+        }
+        [word, seed, calls] if word.as_str() == "soak" => soak_of(
+            number_within(0, u64::MAX, seed.as_bytes()),
+            number_within(1, 1_000_000, calls.as_bytes()),
+        ),
+        [word, seed, senders, frames] if word.as_str() == "live" => live_of(
+            number_within(0, u64::MAX, seed.as_bytes()),
+            number_within(1, 8, senders.as_bytes()),
+            number_within(1, 10_000, frames.as_bytes()),
+        ),
+        _ => None,
+    }
+}

@@ -1,0 +1,19 @@
+-- What the status of `replay --pcap` says.
+use Rattle.std.specs.Prelude.{◌≤◌, ℕ, List, length, true}
+use Rattle.wf_trace.specs.Reading.{reading}
+use Rattle.wf_io.specs.declared.status.Status.{Status}
+use Rattle.wf_run_frames.specs.Packets.{most_octets_read}
+use Rattle.wf_run_frames.specs.Law.{IsListed}
+use Rattle.wf_law_trace.specs.Outcomes.{TraceOutcome}
+use Rattle.wf_run_capture.specs.Captured.{packets_captured, captured}
+
+-- By the octets of the input, those of them that were taken, and those that were written: the capture of the
+-- calls. A trace with a fault has that of the calls before it.
+abbrev pub CaptureOutcome : Status → List ℕ → List ℕ → List ℕ → Type 0
+CaptureOutcome status input taken written = TraceOutcome captured captured status input taken written
+
+-- the law of `frames` over it: a capture that is not too big lists each of its packets in order, with its
+-- fields, and no fault
+abbrev pub CaptureLaw : List ℕ → Type 0
+CaptureLaw input = length (captured (reading true input)) ≤ most_octets_read →
+    IsListed (packets_captured (reading true input))

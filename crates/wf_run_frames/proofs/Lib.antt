@@ -1,0 +1,11 @@
+-- Octets that were taken; the header that octets begin with; what is wrong with a packet; one packet behind
+-- another; a part of one; a capture that is being listed; its file header; captures that are written.
+mod Taken
+mod Heads
+mod Flaws
+mod Packets
+mod Parts
+mod Listings
+mod Openings
+mod Complete
+pub mod Captures

@@ -1,0 +1,119 @@
+//! The command.
+
+ghost use Rattle.std.specs.Prelude.{◌≡◌, ◌≢◌, ℕ, List, Some, length};
+ghost use Rattle.std.specs.Io.KnownBytes.{prepend_known, append_known};
+ghost use Rattle.wf_io.specs.Faults.{HasRisen};
+ghost use Rattle.wf_run_frames.specs.Packets.{behind_head};
+ghost use Rattle.wf_run_frames.specs.Outcome.{OutcomeOf, FramesOutcome, FramesAnswered};
+ghost use Rattle.wf_run_frames.specs.Law.{FramesLaw};
+
+use crate::fault::{Fault, FaultKind};
+use crate::lines::{write_count, write_fault, write_packet};
+use crate::octets::fill;
+use crate::reader::{MOST_CAPTURED, Next, PACKET_HEAD, next_packet};
+use std::alloc::Global;
+use wf_io::{Sink, Source, Status};
+use wf_pcap::{Form, read_head};
+
+/// The octets of a file header.
+const FILE_HEAD: usize = 24;
+
+/// Reads a capture file from the source and writes a line for each packet before it reads the next; behind
+/// them how many there were, or the line of the first fault. After a fault of the source the lines of the
+/// packets that were taken whole stand written, and no other.
+///
+/// It takes memory for the octets of one packet, and only before it reads.
+pub fn frames<S: Source, K: Sink>(alloc: Global, source: &mut S, sink: &mut K) -> Status
+    ensures text { (taken written : List ℕ) × (S.left source.old ≡ prepend_known taken (S.left source.new))
+        × (K.held sink.new ≡ append_known (K.held sink.old) written)
+        × ((input : List ℕ) → S.left source.old ≡ Some input → FramesOutcome result input taken written) }
+    ensures read { result ≡ Status.ReadFault → HasRisen (S.faults source.old) (S.faults source.new) }
+    ensures source_quiet { result ≢ Status.ReadFault → S.faults source.new ≡ S.faults source.old }
+    ensures write { result ≡ Status.WriteFault → HasRisen (K.faults sink.old) (K.faults sink.new) }
+    ensures sink_quiet { result ≢ Status.WriteFault → K.faults sink.new ≡ K.faults sink.old }
+    ensures command { result ≢ Status.Usage }
+    ensures law { (input : List ℕ) → S.left source.old ≡ Some input → FramesLaw input }
+    ensures complete { (HasRisen (S.faults source.old) (S.faults source.new) → ⊥) →
+        (HasRisen (K.faults sink.old) (K.faults sink.new) → ⊥) →
+        (input : List ℕ) → S.left source.old ≡ Some input → FramesAnswered input result }
+{
+    let Ok(mut body) = vec![in alloc; 0; MOST_CAPTURED] else {
+        return Status::NoMemory;
+    };
+    list_capture(&mut body, source, sink)
+}
+
+// Lists a capture from its file header on; the buffer has room for the octets of a packet.
+fn list_capture<S: Source, K: Sink>(body: &mut [u8], source: &mut S, sink: &mut K) -> Status
+    requires { length body.old ≡ 262144 }
+    ensures text { (taken written : List ℕ) × (S.left source.old ≡ prepend_known taken (S.left source.new))
+        × (K.held sink.new ≡ append_known (K.held sink.old) written)
+        × ((input : List ℕ) → S.left source.old ≡ Some input → FramesOutcome result input taken written) }
+    ensures read { result ≡ Status.ReadFault → HasRisen (S.faults source.old) (S.faults source.new) }
+    ensures source_quiet { result ≢ Status.ReadFault → S.faults source.new ≡ S.faults source.old }
+    ensures write { result ≡ Status.WriteFault → HasRisen (K.faults sink.old) (K.faults sink.new) }
+    ensures sink_quiet { result ≢ Status.WriteFault → K.faults sink.new ≡ K.faults sink.old }
+    ensures command { result ≢ Status.Usage }
+{
+    let mut head = [0; FILE_HEAD];
+    let Ok(have) = fill(source, &mut head) else {
+        return Status::ReadFault;
+    };
+    match read_head(&head[..have]) {
+        Ok(form) => list_packets(form, body, source, sink),
+        Err(fault) => {
+            let kind = FaultKind::of(fault);
+            match write_fault(Fault { packet: 0, kind }, sink) {
+                Ok(()) => Status::BadTrace,
+                Err(_) => Status::WriteFault,
+            }
+        }
+    }
+}
+
+// Lists the packets behind a file header.
+fn list_packets<S: Source, K: Sink>(
+    form: Form,
+    body: &mut [u8],
+    source: &mut S,
+    sink: &mut K,
+) -> Status
+    requires { length body.old ≡ 262144 }
+    ensures text { (taken written : List ℕ) × (S.left source.old ≡ prepend_known taken (S.left source.new))
+        × (K.held sink.new ≡ append_known (K.held sink.old) written)
+        × ((input : List ℕ) → S.left source.old ≡ Some input →
+        OutcomeOf (behind_head form) result input taken written) }
+    ensures read { result ≡ Status.ReadFault → HasRisen (S.faults source.old) (S.faults source.new) }
+    ensures source_quiet { result ≢ Status.ReadFault → S.faults source.new ≡ S.faults source.old }
+    ensures write { result ≡ Status.WriteFault → HasRisen (K.faults sink.old) (K.faults sink.new) }
+    ensures sink_quiet { result ≢ Status.WriteFault → K.faults sink.new ≡ K.faults sink.old }
+    ensures command { result ≢ Status.Usage }
+{
+    let mut place = FILE_HEAD as u64;
+    let mut count = 0;
+    'packets: loop {
+        match next_packet(form, place, body, source) {
+            Err(_) => return Status::ReadFault,
+            Ok(Next::Packet(packet)) => {
+                let octets = &body[..packet.captured as usize];
+                match write_packet(packet, octets, sink) {
+                    Ok(()) => {}
+                    Err(_) => return Status::WriteFault,
+                }
+                place += PACKET_HEAD as u64 + u64::from(packet.captured);
+                count += 1;
+            }
+            Ok(Next::Bad(kind)) => {
+                let packet = count + 1;
+                match write_fault(Fault { packet, kind }, sink) {
+                    Ok(()) => return Status::BadTrace,
+                    Err(_) => return Status::WriteFault,
+                }
+            }
+            Ok(Next::Over) => match write_count(count, sink) {
+                Ok(()) => return Status::Done,
+                Err(_) => return Status::WriteFault,
+            },
+        }
+    }
+}

@@ -1,0 +1,7 @@
+mod Closing
+mod Places
+pub mod Printable
+mod Quotas
+mod Standing
+mod Texts
+mod Workers

@@ -1,0 +1,111 @@
+//! A worker's desk at the gate.
+
+ghost use Rattle.std.specs.Prelude.{◌≡◌, is_some, true, OnOk, OnErr, IfOk, IsOk, IsErr};
+ghost use Rattle.wf_gate.specs.Seats.{IsOf};
+ghost use Rattle.wf_path.specs.Jobs.{note_of};
+ghost use Rattle.wf_live_workers.specs.Desks.{Adds, Refuses};
+ghost use Rattle.wf_run_live.specs.Sitting.{HasMade, left_of, reply_in};
+
+use crate::calls::{Back, call_at, call_at_once};
+use std::alloc::Global;
+use std::sync::Wait;
+use wf_cell::{Asking, Cell, Job};
+use wf_frame::{Answer, Ask};
+use wf_gate::{Gate, Seat, Turnstile};
+use wf_live_workers::{Desk, Spent};
+use wf_queue_chain::Parcel;
+
+/// Where one worker sits: its seat at a gate, and the answer that goes in with each call and comes back.
+#[derive(Drop)]
+pub(crate) struct GateDesk<'a, R, T> {
+    pub(crate) rt: &'a R,
+    pub(crate) gate: &'a Gate<Cell>,
+    pub(crate) turnstile: &'a T,
+    pub(crate) seat: Seat<Cell>,
+    pub(crate) answer: Option<Box<Answer, Global>>,
+    ghost own: { IsOf gate.now seat },
+    ghost ready: { is_some answer ≡ true },
+}
+
+// Puts the answer's box back in its place. Tells whether the call was made.
+fn put_back(place: &mut Option<Box<Answer, Global>>, back: Back) -> Result<(), Spent>
+    ensures made { OnOk result (IfOk back (λ answer. place.new ≡ Some answer)) }
+    ensures was_made { OnOk result (IsOk back) }
+    ensures spent { OnErr result (IsErr back) }
+    ensures there { is_some place.new ≡ true }
+{
+    match back {
+        Ok(answer) => {
+            *place = Some(answer);
+            Ok(())
+        }
+        Err(answer) => {
+            *place = Some(answer);
+            Err(Spent)
+        }
+    }
+}
+
+impl<'a, R: Wait, T: Turnstile> GateDesk<'a, R, T> {
+    // A call that waits for its turn.
+    fn call(&mut self, job: Job) -> Result<(), Spent>
+        ensures made { OnOk result (Adds HasMade left_of self.old.seat self.new.seat (note_of job)
+            (reply_in self.new.answer)) }
+        ensures spent { OnErr result (Refuses HasMade left_of self.old.seat self.new.seat) }
+    {
+        let Some(answer) = self.answer.take() else {
+            unreachable!()
+        };
+        let asking = Asking { job, answer };
+        let back = call_at(self.rt, self.gate, self.turnstile, &mut self.seat, asking);
+        put_back(&mut self.answer, back)
+    }
+
+    // A call by a try first.
+    fn call_at_once(&mut self, job: Job) -> Result<(), Spent>
+        ensures made { OnOk result (Adds HasMade left_of self.old.seat self.new.seat (note_of job)
+            (reply_in self.new.answer)) }
+        ensures spent { OnErr result (Refuses HasMade left_of self.old.seat self.new.seat) }
+    {
+        let Some(answer) = self.answer.take() else {
+            unreachable!()
+        };
+        let asking = Asking { job, answer };
+        let back = call_at_once(self.rt, self.gate, self.turnstile, &mut self.seat, asking);
+        put_back(&mut self.answer, back)
+    }
+}
+
+impl<'a, R: Wait, T: Turnstile> Desk for GateDesk<'a, R, T> {
+    // The gate, and the number of the seat.
+    type Place = (Gate<Cell>, u32);
+
+    ghost has = { λ desk place made. HasMade desk.seat place made };
+
+    ghost left = { λ desk. left_of desk.seat };
+
+    ghost reply = { λ desk. reply_in desk.answer };
+
+    fn left(&self) -> u32 {
+        self.seat.quota() - self.seat.used()
+    }
+
+    fn answer(&self) -> &Answer {
+        match &self.answer {
+            Some(answer) => answer,
+            None => unreachable!(),
+        }
+    }
+
+    fn give(&mut self, parcel: Parcel) -> Result<(), Spent> {
+        self.call(Job::Give(parcel))
+    }
+
+    fn ask(&mut self, ask: Ask) -> Result<(), Spent> {
+        self.call(Job::Call(ask))
+    }
+
+    fn ask_at_once(&mut self, ask: Ask) -> Result<(), Spent> {
+        self.call_at_once(Job::Call(ask))
+    }
+}

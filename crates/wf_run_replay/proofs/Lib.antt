@@ -1,0 +1,3 @@
+pub mod Cells
+mod Sendings
+mod Texts

@@ -1,0 +1,86 @@
+-- What a replay tells call by call is its text.
+use Rattle.std.proofs.Common.{◌≡◌, ℕ, List, [], ◌∷◌, ◌++◌, length, append-nil, refl, sym, ◌∙◌, ap, subst}
+use Rattle.std.specs.Prelude.{Option, Some, None, option_map, map}
+use Rattle.std.specs.List.{concat}
+use Rattle.std.specs.Io.KnownBytes.{prepend_known, append_known}
+use Rattle.wf_frame.specs.declared.settings.Config.{Config}
+use Rattle.wf_trace.specs.declared.fault.Fault.{Fault}
+use Rattle.wf_trace.specs.declared.reader.Item.{Item}
+use Rattle.wf_trace.specs.declared.reader.Item.TheVariants.{Head, Entry, Finish, Bad}
+use Rattle.wf_trace.specs.Faults.{fault_line}
+use Rattle.wf_trace.specs.Reading.{Reading}
+use Rattle.wf_io.specs.declared.status.Status.{Status}
+use Rattle.wf_def_world.specs.World.{World, opening}
+use Rattle.wf_def_world.specs.Step.{Outcome, step}
+use Rattle.wf_def_world.specs.Run.{Entry as Called, Past, replies, world_of, world_after}
+use Rattle.wf_def_world.specs.Text.{answer_line, summary}
+use Rattle.wf_law_trace.specs.Histories.{settings_among, history_among}
+use Rattle.wf_law_trace.specs.Tellings.{told_calls, begun, world_behind, told_so_far, told_whole}
+use Rattle.wf_law_trace.proofs.Tellings.{Ended, said_as}
+use Rattle.wf_run_replay.specs.Outcome.{StatusSays}
+use Rattle.wf_run_replay.specs.Running.{closing, closing_of, telling}
+use Rattle.wf_run_replay.specs.Texts.{answers_of, text_by, answers, text}
+
+calls_are : (w : World) (es : List Called) → told_calls telling w es ≡ concat (map answer_line (replies w es))
+unfolding replies
+calls_are w [] = refl
+calls_are w (e ∷ es) = let o : Outcome = step w e.1 in
+    ap (λ l. answer_line o.reply ++ l) (calls_are o.world es)
+
+so_far_of : (config : Option Config) (history : List Called) →
+    begun telling config history ≡ answers_of config history
+so_far_of None history = refl
+so_far_of (Some config) history = calls_are (opening config) history
+
+so_far_is : (r : Reading) → told_so_far telling r ≡ answers r
+so_far_is r = so_far_of (settings_among r.items) (history_among r.items)
+
+none_closes : (history : List Called) (ending : Option Item) →
+    closing None (length history) ending ≡ text_by None history ending
+none_closes history None = refl
+none_closes history (Some Finish) = refl
+none_closes history (Some (Bad fault)) = refl
+none_closes history (Some (Head config)) = refl
+none_closes history (Some (Entry caller note)) = refl
+
+some_closes : (config : Config) (history : List Called) (ending : Option Item) →
+    answers_of (Some config) history ++ closing (Some (world_after (opening config) history))
+    (length history) ending ≡ text_by (Some config) history ending
+some_closes config history None = append-nil (answers_of (Some config) history)
+some_closes config history (Some Finish) = refl
+some_closes config history (Some (Bad fault)) = refl
+some_closes config history (Some (Head other)) = append-nil (answers_of (Some config) history)
+some_closes config history (Some (Entry caller note)) = append-nil (answers_of (Some config) history)
+
+whole_of : (config : Option Config) (history : List Called) (ending : Option Item) →
+    begun telling config history ++ closing (world_behind config history) (length history) ending
+    ≡ text_by config history ending
+whole_of None history ending = none_closes history ending
+whole_of (Some config) history ending =
+    ap (λ l. l ++ closing (Some (world_after (opening config) history)) (length history) ending)
+    (so_far_of (Some config) history) ∙ some_closes config history ending
+
+whole_is : (r : Reading) → told_whole telling r ≡ text r
+whole_is r = whole_of (settings_among r.items) (history_among r.items) r.ending
+
+-- a status said item by item says what its contract states
+pub said : (status : Status) (left left_new held held_new : Option (List ℕ)) →
+    Ended telling status left left_new held held_new →
+    (taken written : List ℕ) × (left ≡ prepend_known taken left_new) ×
+    (held_new ≡ append_known held written) × ((input : List ℕ) → left ≡ Some input →
+    StatusSays status input taken written)
+said = said_as telling answers text so_far_is whole_is
+
+-- the last lines of a stage with this history
+pub closing_is : {T : Type 0} → (past : T → Past) (stage : Option T) (x : T) (p : Past) → stage ≡ Some x →
+    p ≡ past x →
+    summary (world_of p) (length p.history) ≡ closing_of (option_map past stage)
+closing_is past stage x p some is =
+    subst (λ y. summary (world_of p) (length p.history) ≡ closing_of (option_map past y)) (sym some)
+    (ap (λ (q : Past). summary (world_of q) (length q.history)) is)
+
+-- the line of a fault is the last one, whatever came before
+pub fault_closes : (w : Option World) (calls : ℕ) (fault : Fault) →
+    fault_line fault ≡ closing w calls (Some (Bad fault))
+fault_closes None calls fault = refl
+fault_closes (Some w) calls fault = refl

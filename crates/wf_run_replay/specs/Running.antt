@@ -1,0 +1,37 @@
+-- What a replay writes, call by call.
+use Rattle.std.specs.Prelude.{ℕ, List, [], Option, Some, None}
+use Rattle.wf_frame.specs.declared.notes.Note.{Note}
+use Rattle.wf_trace.specs.declared.reader.Item.{Item}
+use Rattle.wf_trace.specs.declared.reader.Item.TheVariants.{Head, Entry, Finish, Bad}
+use Rattle.wf_trace.specs.Faults.{fault_line}
+use Rattle.wf_def_world.specs.World.{World}
+use Rattle.wf_def_world.specs.Step.{Outcome, step}
+use Rattle.wf_def_world.specs.Run.{Past}
+use Rattle.wf_def_world.specs.Text.{answer_line, summary}
+use Rattle.wf_law_trace.specs.Running.{progress_of}
+use Rattle.wf_law_trace.specs.Tellings.{Telling, told_item}
+
+-- the answer line to a call
+abbrev pub answer_in : World → Note → List ℕ
+answer_in w note = let o : Outcome = step w note in answer_line o.reply
+
+-- the last lines, after so many calls
+abbrev pub closing : Option World → ℕ → Option Item → List ℕ
+closing (Some w) calls (Some Finish) = summary w calls
+closing None calls (Some Finish) = []
+closing w calls (Some (Bad fault)) = fault_line fault
+closing w calls (Some (Head config)) = []
+closing w calls (Some (Entry caller note)) = []
+closing w calls None = []
+
+-- nothing ahead, the answer line to each call, and the last lines
+abbrev pub telling : Telling
+telling = record { front = []; call = answer_in; last = closing }
+
+-- what an item adds
+abbrev pub answer_to : Option World → Item → List ℕ
+answer_to w item = told_item telling w item
+
+-- the last lines of a history, where the trace ends
+abbrev pub closing_of : Option Past → List ℕ
+closing_of p = closing (progress_of p).world (progress_of p).calls (Some Finish)

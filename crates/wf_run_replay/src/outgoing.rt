@@ -1,0 +1,100 @@
+//! Lines that wait to be written together.
+
+ghost use Rattle.std.specs.Prelude.{◌≡◌, ◌+◌, ◌<◌, ◌≤◌, ◌++◌, [], List, ℕ, length, IsTrue, IfOk, OnOk};
+ghost use Rattle.std.specs.Io.KnownBytes.{append_known};
+ghost use Rattle.wf_io.specs.Faults.{CountsFaults};
+ghost use Rattle.wf_io.specs.Fronts.{HoldsFront};
+ghost use Rattle.wf_law_trace.specs.Leaving.{Leaves};
+ghost use Rattle.wf_run_replay.specs.Sending.{room};
+
+use std::alloc::{AllocError, Global};
+use std::marker::Model;
+use wf_io::{Failed, Sink, write_all};
+
+// How many octets may wait.
+const ROOM: usize = 65_536;
+
+/// Lines that wait to be written to a sink, in the order in which they came.
+#[derive(Drop)]
+pub struct Outgoing {
+    octets: Vec<u8>,
+}
+
+impl Model for Outgoing {
+    ghost use Rattle.std.specs.Prelude.{◌≤◌, List, ℕ, vec_len, vec_capacity};
+    ghost use Rattle.wf_run_replay.specs.Sending.{room};
+
+    ghost Value = { List ℕ };
+
+    ghost view = { λ o. o.octets.items };
+
+    ghost invariant = { λ o. (vec_len o.octets ≤ room) × (room ≤ vec_capacity o.octets) };
+}
+
+impl Outgoing {
+    /// Nothing waits. The room for 65,536 octets is taken here, and no memory later.
+    pub fn new(alloc: Global) -> Result<Self, AllocError>
+        ensures { IfOk result (λ o. o ≡ []) }
+    {
+        let octets = Vec::with_capacity(alloc, ROOM)?;
+        Ok(Outgoing { octets })
+    }
+
+    /// Writes all that waits. After a fault some of it, from its front, has been written.
+    pub fn send<K: Sink>(&mut self, sink: &mut K) -> Result<(), Failed>
+        ensures none { OnOk result (self.new ≡ []) }
+        ensures sent { OnOk result (K.held sink.new ≡ append_known (K.held sink.old) self.old) }
+        ensures front { HoldsFront (K.held sink.old) (K.held sink.new) self.old }
+        ensures cause { CountsFaults (K.faults sink.old) (K.faults sink.new) result }
+    {
+        write_all(sink, self.octets.as_slice())?;
+        self.octets.clear();
+        Ok(())
+    }
+
+    // Makes room for a line, where it is not longer than all the room: else nothing waits.
+    fn make_room<K: Sink>(&mut self, len: usize, sink: &mut K) -> Result<(), Failed>
+        ensures fits { OnOk result (len ≤ room → length self.new + len ≤ room) }
+        ensures long { OnOk result (room < len → self.new ≡ []) }
+        ensures leaves { OnOk result (Leaves (K.held sink.old) (K.held sink.new) self.old self.new) }
+        ensures front { HoldsFront (K.held sink.old) (K.held sink.new) self.old }
+        ensures cause { CountsFaults (K.faults sink.old) (K.faults sink.new) result }
+    {
+        if len <= ROOM - self.octets.len() {
+            return Ok(());
+        }
+        self.send(sink)
+    }
+
+    // Adds a line behind what waits, some of which may be written.
+    fn add<K: Sink>(&mut self, line: &[u8], sink: &mut K) -> Result<(), Failed>
+        ensures leaves { OnOk result (Leaves (K.held sink.old) (K.held sink.new)
+            (self.old ++ line.now) self.new) }
+        ensures front { HoldsFront (K.held sink.old) (K.held sink.new) (self.old ++ line.now) }
+        ensures cause { CountsFaults (K.faults sink.old) (K.faults sink.new) result }
+    {
+        self.make_room(line.len(), sink)?;
+        if line.len() > ROOM {
+            return write_all(sink, line);
+        }
+        self.octets.extend_from_slice(line).unwrap();
+        Ok(())
+    }
+
+    /// Adds a line behind what waits, and writes it all where it is due. Where the line does not fit, what
+    /// waits is written before it. After a fault some octets, from the front of what waited and of the line,
+    /// have been written.
+    pub fn put<K: Sink>(&mut self, line: &[u8], due: bool, sink: &mut K) -> Result<(), Failed>
+        ensures leaves { OnOk result (Leaves (K.held sink.old) (K.held sink.new)
+            (self.old ++ line.now) self.new) }
+        ensures none { OnOk result (IsTrue due → self.new ≡ []) }
+        ensures front { HoldsFront (K.held sink.old) (K.held sink.new) (self.old ++ line.now) }
+        ensures cause { CountsFaults (K.faults sink.old) (K.faults sink.new) result }
+    {
+        self.add(line, sink)?;
+        if !due {
+            return Ok(());
+        }
+        self.send(sink)
+    }
+}

@@ -1,0 +1,143 @@
+//! What a trace is played on.
+
+ghost use Rattle.std.specs.Prelude.{◌≡◌, ◌<◌, [], IfOk, IfSome, OnOk};
+ghost use Rattle.wf_captures.specs.Samples.{IsSample, IsSampled};
+ghost use Rattle.wf_cell.specs.Cells.{room_in, with_entry};
+ghost use Rattle.wf_frame.specs.Answers.{reply_of};
+ghost use Rattle.wf_frame.specs.Settings.{IsInRange};
+ghost use Rattle.wf_law_runs.specs.Queues.{HasLength, IsAtMost};
+ghost use Rattle.wf_path.specs.Jobs.{frame_of, note_of};
+ghost use Rattle.wf_def_lists.specs.Lengths.{greatest_body};
+ghost use Rattle.wf_def_world.specs.Run.{Past, by, world_of};
+ghost use Rattle.wf_def_world.specs.Step.{step};
+
+use std::alloc::{AllocError, Global};
+use std::marker::Model;
+use wf_cell::{Cell, Job};
+use wf_frame::{Answer, Config, Frame, Note};
+use wf_queue_chain::Parcel;
+
+/// What the calls of a trace are made to. The commands that play one are proved for whatever has these three
+/// calls, so their proofs see nothing of what a cell is made of.
+pub trait Plays: Drop {
+    /// The settings and the calls that were made.
+    ghost past: { Self → Past };
+
+    /// A stage with the settings of a head, on which no call was made.
+    fn open(alloc: Global, config: Config) -> Result<Self, AllocError>
+    where
+        Self: Sized,
+        requires { IsInRange config }
+        ensures { IfOk result (λ stage. past stage ≡ record { config = config; history = [] }) };
+
+    /// Makes the call that a line names. A frame that comes back is dropped.
+    fn call(&mut self, caller: u32, note: Note, answer: &mut Answer) -> Result<(), AllocError>
+        requires room { 0 < room_in (past self.old) }
+        requires some { HasLength note }
+        requires most { IsAtMost greatest_body note }
+        ensures past { OnOk result (past self.new ≡ with_entry (by caller note) (past self.old)) }
+        ensures reply { OnOk result (reply_of answer.new ≡ (step (world_of (past self.old)) note).reply) };
+
+    /// The cell that it is played on. Its frames are those that the calls of a trace bring: octet j of a body
+    /// is the low octet of its flow's number plus j.
+    fn cell(&self) -> &Cell
+        ensures past { result.now.past ≡ past self.now }
+        ensures samples { IsSampled result.now };
+}
+
+/// A cell, and the memory from which the frames of its calls are made.
+#[derive(Drop)]
+pub struct Stage {
+    cell: Cell,
+    alloc: Global,
+}
+
+impl Model for Stage {
+    ghost use Rattle.wf_captures.specs.Samples.{IsSampled};
+    ghost use Rattle.wf_def_world.specs.Run.{Past};
+
+    ghost Value = { Past };
+
+    ghost view = { λ s. s.cell.past };
+
+    ghost invariant = { λ s. IsSampled s.cell };
+}
+
+// A cell with the settings of a head.
+fn cell_for(alloc: Global, config: Config) -> Result<Cell, AllocError>
+    requires { IsInRange config }
+    ensures past { IfOk result (λ cell. cell.past ≡ record { config = config; history = [] }) }
+    ensures samples { IfOk result IsSampled }
+{
+    match Cell::of(alloc, config) {
+        Ok(cell) => Ok(cell),
+        Err(fault) => Err(fault),
+    }
+}
+
+// The call that a line names, with the frame that it brings.
+fn job_of(alloc: Global, note: Note) -> Result<Job, AllocError>
+    requires some { HasLength note }
+    requires most { IsAtMost greatest_body note }
+    ensures note { IfOk result (λ job. note_of job ≡ note) }
+    ensures frame { IfOk result (λ job. IfSome (frame_of job) IsSample) }
+{
+    match note {
+        Note::Enqueue {
+            station,
+            tid,
+            flow,
+            len,
+        } => {
+            let frame = Frame::sample(alloc, station, tid, flow, len)?;
+            match Parcel::new(alloc, frame) {
+                Ok(parcel) => Ok(Job::Give(parcel)),
+                Err((refused, _)) => Err(refused),
+            }
+        }
+        Note::Asked(ask) => Ok(Job::Call(ask)),
+    }
+}
+
+// Makes a call of a trace to a cell. A frame that comes back is dropped.
+fn make(cell: &mut Cell, caller: u32, job: Job, answer: &mut Answer)
+    requires room { 0 < room_in cell.old.past }
+    requires samples { IsSampled cell.old }
+    requires frame { IfSome (frame_of job) IsSample }
+    ensures past { cell.new.past ≡ with_entry (by caller (note_of job)) cell.old.past }
+    ensures reply { reply_of answer.new ≡ (step (world_of cell.old.past) (note_of job)).reply }
+    ensures samples { IsSampled cell.new }
+{
+    let _ = cell.step(caller, job, answer);
+}
+
+impl Plays for Stage {
+    ghost past = { λ s. s };
+
+    fn open(alloc: Global, config: Config) -> Result<Self, AllocError>
+        requires { IsInRange config }
+        ensures { IfOk result (λ stage. stage ≡ record { config = config; history = [] }) }
+    {
+        let cell = cell_for(alloc, config)?;
+        Ok(Stage { cell, alloc })
+    }
+
+    fn call(&mut self, caller: u32, note: Note, answer: &mut Answer) -> Result<(), AllocError>
+        requires room { 0 < room_in self.old }
+        requires some { HasLength note }
+        requires most { IsAtMost greatest_body note }
+        ensures past { OnOk result (self.new ≡ with_entry (by caller note) self.old) }
+        ensures reply { OnOk result (reply_of answer.new ≡ (step (world_of self.old) note).reply) }
+    {
+        let job = job_of(self.alloc, note)?;
+        make(&mut self.cell, caller, job, answer);
+        Ok(())
+    }
+
+    fn cell(&self) -> &Cell
+        ensures past { result.now.past ≡ self.now }
+        ensures samples { IsSampled result.now }
+    {
+        &self.cell
+    }
+}

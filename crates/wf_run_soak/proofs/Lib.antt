@@ -1,0 +1,2 @@
+mod SoakLemmas
+pub mod SoakLengths

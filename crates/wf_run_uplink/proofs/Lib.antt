@@ -1,0 +1,7 @@
+-- Arguments in their ranges; the line of what goes up; calls one after the other, and that nothing is due
+-- behind a tick; the laws.
+mod Arguments
+mod Writing
+mod Calls
+mod Quiet
+pub mod Scripts

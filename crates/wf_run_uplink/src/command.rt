@@ -1,0 +1,78 @@
+//! The command.
+
+ghost use Rattle.std.specs.Prelude.{◌≡◌, ◌≢◌, ℕ, List, Some};
+ghost use Rattle.std.specs.Io.KnownBytes.{prepend_known, append_known};
+ghost use Rattle.wf_io.specs.Faults.{HasRisen};
+ghost use Rattle.wf_run_uplink.specs.Outcome.{UplinkOutcome, UplinkAnswered, UplinkLaw};
+
+use crate::event::Event;
+use crate::lines::event_from;
+use crate::reception::Reception;
+use std::alloc::Global;
+use wf_io::{Sink, Source, Status};
+use wf_script::{Answers, Unanswered, converse};
+use wf_trace::FaultKind;
+
+impl Answers for Reception {
+    ghost use Rattle.wf_run_uplink.specs.Lines.{IsValid, grammar};
+    ghost use Rattle.wf_run_uplink.specs.Answers.{manner};
+
+    type Event = Event;
+
+    ghost grammar = { grammar };
+
+    ghost manner = { manner };
+
+    ghost valid = { IsValid };
+
+    fn most() -> Option<u64> {
+        None
+    }
+
+    fn read(line: &[u8]) -> Result<Event, FaultKind> {
+        event_from(line)
+    }
+
+    fn answer<K: Sink>(&mut self, event: Event, sink: &mut K) -> Result<(), Unanswered> {
+        match event {
+            Event::Open {
+                station,
+                window,
+                start,
+            } => self.open(station, window, start, sink),
+            Event::Rate { station, rate } => self.set_rate(station, rate, sink),
+            Event::Tick { by } => self.tick(by, sink),
+            Event::Frame(frame) => self.receive(frame.octets(), sink),
+        }
+    }
+
+    fn close<K: Sink>(&self, sink: &mut K) -> Result<(), Unanswered> {
+        self.tell(sink)
+    }
+}
+
+/// Reads a script from the source and plays it on an uplink of 256 stations. Writes the answer of each event
+/// before it reads the next, and behind the line `end` how many frames there were and what became of them;
+/// where the script has a fault, the line of the fault in place of that. Octets after the `end` line are not
+/// looked at.
+///
+/// It takes memory only before it reads.
+pub fn uplink<S: Source, K: Sink>(alloc: Global, source: &mut S, sink: &mut K) -> Status
+    ensures text { (taken written : List ℕ) × (S.left source.old ≡ prepend_known taken (S.left source.new))
+        × (K.held sink.new ≡ append_known (K.held sink.old) written)
+        × ((input : List ℕ) → S.left source.old ≡ Some input → UplinkOutcome result input taken written) }
+    ensures read { result ≡ Status.ReadFault → HasRisen (S.faults source.old) (S.faults source.new) }
+    ensures source_quiet { result ≢ Status.ReadFault → S.faults source.new ≡ S.faults source.old }
+    ensures write { result ≡ Status.WriteFault → HasRisen (K.faults sink.old) (K.faults sink.new) }
+    ensures sink_quiet { result ≢ Status.WriteFault → K.faults sink.new ≡ K.faults sink.old }
+    ensures command { result ≢ Status.Usage }
+    ensures law { (input : List ℕ) → S.left source.old ≡ Some input → UplinkLaw input }
+    ensures complete { (HasRisen (S.faults source.old) (S.faults source.new) → ⊥) →
+        (HasRisen (K.faults sink.old) (K.faults sink.new) → ⊥) →
+        (input : List ℕ) → S.left source.old ≡ Some input → UplinkAnswered input result }
+{
+    let Ok(mut reception) = Reception::new(alloc) else {
+        return Status::NoMemory;
+    };
+    converse(alloc, &mut reception, source, sink)
+}

@@ -1,4 +1,0 @@
-use Rattle.wf_sched.proofs.sched.Sched.pick.Given as goal
-
-abbrev pub ghosts-pick_from : goal.ghosts-pick_from
-ghosts-pick_from a = record { name = a.blank.name; parts = a.blank.parts }

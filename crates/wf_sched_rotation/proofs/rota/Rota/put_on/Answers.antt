@@ -1,0 +1,14 @@
+use Rattle.std.proofs.Common.{◌<◌, length, set, Some, sym, subst}
+use Rattle.wf_sched_rotation.specs.Lists.{AllLists}
+use Rattle.wf_sched_rotation.specs.Rotas.{Rotas}
+use Rattle.wf_sched_rotation.specs.Homes.{AreKept}
+use Rattle.wf_sched_rotation.proofs.HomeLemmas.{kept_put}
+use Rattle.wf_sched_rotation.proofs.rota.Rota.put_on.Goals as goal
+
+pub invariant_of-self : goal.invariant_of-self
+invariant_of-self c = subst (λ (q : AllLists).
+    AreKept q (set c.self.inside.homes.items c.args.key
+    (Some (record { list = c.args.list; side = c.args.side }))) c.self.inside.deficits.items
+    c.self.inside.quanta.items) (sym c.put_last.ensures)
+    (kept_put _ _ _ _ c.self.invariant c.args.list c.args.side c.args.key
+    (subst (λ (v : Rotas). c.args.list < length v.lists) (sym c.self.view_is) c.requires.in_lists))

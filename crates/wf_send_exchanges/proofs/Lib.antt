@@ -1,0 +1,4 @@
+mod Changed
+mod Kept
+mod Rising
+mod Wide

@@ -1,0 +1,239 @@
+-- A whole Done, from what it does to the parts of the half.
+use Rattle.std.proofs.Common.{◌≡◌, refl, ap, ap₂, sym, ◌∙◌, subst, arith, ℕ, ◌-◌, ◌^◌, ◌<◌, ◌≤◌, ◌==◌, pos, negsuc, ◌-ℤ◌, ◌≤ℤ◌, Bool, true, false, not, List, [], ◌∷◌, length, Option, Some, None, is_none, option_map, if◌then◌else◌}
+use Rattle.std.specs.Prelude.{find, filter, IfSome, IfNone}
+use Rattle.wf_frame.specs.declared.notes.Note.TheVariants.{Asked}
+use Rattle.wf_frame.specs.declared.notes.Ask.TheVariants.{Done}
+use Rattle.wf_frame.specs.declared.notes.ReplyNote.{ReplyNote}
+use Rattle.wf_frame.specs.declared.notes.ReplyNote.TheVariants.{Refused}
+use Rattle.wf_frame.specs.declared.notes.Refusal.TheVariants.{NoExchange}
+use Rattle.wf_frame.specs.declared.settings.Config.{Config}
+use Rattle.wf_frame.specs.Frames.{FrameValue}
+use Rattle.wf_def_agreement.specs.Receiver.{Score, shows}
+use Rattle.wf_def_world.specs.World.{World, Exchange, Mpdu, exchange, is_live, is_wide}
+use Rattle.wf_def_world.specs.CanSend.{is_request}
+use Rattle.wf_def_world.specs.Exchanges.{mpdus_of, is_acked}
+use Rattle.wf_def_world.specs.Refusals.{refusal}
+use Rattle.wf_def_world.specs.Step.{done_outcome}
+use Rattle.wf_law_runs.specs.Windows.{EachMpdu, EachOpen}
+use Rattle.wf_law_runs.specs.Numbers.{greatest_charge}
+use Rattle.wf_law_runs.proofs.Deficits.Numbers.{number_law}
+use Rattle.wf_send_exchanges.specs.declared.opened.Open.{Open}
+use Rattle.wf_send_stations.specs.declared.members.Member.{Member}
+use Rattle.wf_send_stations.specs.Members.{member, charged_in, on_member, with_charge}
+use Rattle.wf_sched_stations.specs.ClassRotas.{SchedValue, deficit}
+use Rattle.wf_sched_stations_refines.specs.Standing.{SchedulerStandsFor as TurnsStandFor, with_deficit_charged as with_turns_charged}
+use Rattle.wf_sched_stations_refines.proofs.Calls.{charge_fits}
+use Rattle.wf_law_driver.proofs.Opened.{found_number, first_refuses}
+use Rattle.wf_send_half_refines.specs.Half.{TransmitValue}
+use Rattle.wf_send_half_refines.specs.Standing.{open_of, Parts, StandsFor, Meets}
+use Rattle.wf_send_half_refines.specs.Changes.{after_listing}
+use Rattle.wf_send_half_refines.specs.Ending.{after_close}
+use Rattle.wf_send_half_refines.proofs.Dones.{done_meets}
+use Rattle.wf_send_half_refines.proofs.Endings.{found, open_live}
+use Rattle.wf_send_half_refines.proofs.Meets.{refused_meets}
+use Rattle.wf_send_half_refines.proofs.Reached.{now_is, by_law}
+use Rattle.wf_send_half_refines.proofs.Readers.{exchange_same}
+use Rattle.wf_send_half.specs.Bits.{is_shown, AreShown, NoneIsShown, GoesBy, IsClosed, IsChargeSmall, ended_reply}
+use Rattle.wf_send_half.specs.Half.{HasWorld}
+use Rattle.wf_send_half.specs.declared.finish.Ended.{Ended}
+
+-- ---- the exchange that is open
+
+pub record IsKnown (w : World) (e : ℕ) (o : Open) : Type 0 where
+  pub exchange_is : Exchange
+  pub known : exchange w e ≡ Some exchange_is
+  pub same : o ≡ open_of exchange_is
+
+known_by : (w : World) (e : ℕ) (o : Open) (found : Option Exchange) → exchange w e ≡ found →
+    Some o ≡ option_map open_of found → IsKnown w e o
+known_by w e o None is h = absurd (cc h)
+known_by w e o (Some x) is h = record { exchange_is = x; known = is; same = cc h }
+
+none_by : (found : Option Exchange) → None ≡ option_map open_of found → found ≡ None
+none_by None h = refl
+none_by (Some x) h = absurd (cc h)
+
+module _ (v : TransmitValue) (w : World) (bodies : ℕ → FrameValue) (h : StandsFor v w bodies) (e : ℕ) where
+  pub known_of : (o : Open) → Some o ≡ find (λ x. x.number == e) v.opened → IsKnown w e o
+  known_of o is = known_by w e o (exchange w e) refl (is ∙ exchange_same v w bodies e h.parts)
+
+  pub none_open : None ≡ find (λ x. x.number == e) v.opened → exchange w e ≡ None
+  none_open is = none_by (exchange w e) (is ∙ exchange_same v w bodies e h.parts)
+
+  pub refused_done : (answered : Bool) → None ≡ find (λ x. x.number == e) v.opened →
+      Meets w bodies (Asked (Done e answered)) v (Refused NoExchange)
+  refused_done answered is =
+      refused_meets v w bodies (Asked (Done e answered)) NoExchange h
+      (first_refuses (is_none (exchange w e), NoExchange) _ (ap is_none (none_open is))) (λ i. cc i)
+
+-- ---- its charge
+
+module _ (v : TransmitValue) (some : HasWorld v) (e : ℕ) (o : Open)
+    (is : Some o ≡ find (λ x. x.number == e) v.opened) where
+  it : IsKnown some.world e o
+  it = known_of v some.world some.bodies some.stands e o is
+
+  station_live : is_live some.world o.station ≡ true
+  station_live = ap (λ (k : Open). is_live some.world k.station) it.same
+      ∙ open_live some.world some.stands.reached e it.exchange_is it.known
+
+  pub within_turns : o.station < v.sched.stations
+  within_turns =
+      let turns = some.stands.parts.others.turns in
+      omega (arith, turns.live o.station station_live, turns.stations)
+
+  pub within_members : o.station < length v.members
+  within_members = omega (
+    arith,
+    some.stands.parts.others.turns.live o.station station_live,
+    some.stands.parts.others.stations.sized.0,
+  )
+
+  pub within_config : o.station < v.config.stations
+  within_config = omega (
+    arith,
+    some.stands.parts.others.turns.live o.station station_live,
+    ap (λ (k : Config). k.stations) some.stands.parts.others.config,
+  )
+
+  charge_few : o.charge < 2 ^ 32
+  charge_few =
+      let r = some.stands.reached in
+      let each : EachOpen (λ y. (1 ≤ y.charge) × (y.charge ≤ greatest_charge)) some.world.opened =
+      by_law (λ u. EachOpen (λ y. (1 ≤ y.charge) × (y.charge ≤ greatest_charge)) u.opened) some.world r
+      (λ m. (number_law some.world.config r.history r.in_range m).charges) in
+      let few = found (λ y. (1 ≤ y.charge) × (y.charge ≤ greatest_charge)) some.world.opened e it.exchange_is
+      it.known each in
+      omega (arith, ap (λ (k : Open). k.charge) it.same, few.1)
+
+  pub charge_low : negsuc (2 ^ 62 - 1) ≤ℤ (deficit v.sched o.class o.station -ℤ pos o.charge)
+  charge_low =
+      let r = some.stands.reached in
+      let back = sym (now_is some.world r) in
+      charge_fits some.world.config r.history (length r.history) v.sched o.station o.class o.charge r.in_range
+      (subst (TurnsStandFor v.sched) back some.stands.parts.others.turns)
+      (subst (λ (u : World). is_live u o.station ≡ true) back station_live) charge_few
+
+  pub charge_small : IsChargeSmall v e → IfSome (member v.members o.station)
+      (λ m. charged_in m o.class < 2 ^ 62)
+  charge_small small = subst (λ (f : Option Open).
+      IfSome f (λ x. IfSome (member v.members x.station) (λ m. charged_in m x.class < 2 ^ 62))) (sym is) small
+
+  pub closes : (opened : List Open) (turns : SchedValue) (members : List (Option Member)) →
+      opened ≡ filter (λ x. not (x.number == e)) v.opened →
+      turns ≡ with_turns_charged v.sched o.station o.class o.charge →
+      members ≡ on_member v.members o.station (with_charge o.class o.charge) →
+      record v { opened = opened; sched = turns; members = members } ≡ after_close v o
+  closes opened turns members a b c =
+      let number : e ≡ o.number = sym (ap (λ (k : Open). k.number) it.same
+      ∙ found_number some.world e it.exchange_is it.known) in
+      ap₂ (λ (z : List Open) (y : SchedValue). record v { opened = z; sched = y; members = members })
+      (a ∙ ap (λ (n : ℕ). filter (λ (x : Open). not (x.number == n)) v.opened) number) b
+      ∙ ap (λ (m : List (Option Member)). record (after_close v o) { members = m }) c
+
+  pub closed_now : (self : TransmitValue) → self ≡ after_close v o → IsClosed self o
+  closed_now self is_closed = record {
+    before = v;
+    world = some.world;
+    bodies = some.bodies;
+    number = e;
+    exchange_is = it.exchange_is;
+    stands = some.stands;
+    known = it.known;
+    same = it.same;
+    closed =
+        is_closed;
+  }
+
+-- where it is not open, none is taken out
+pub unopened : (e : ℕ) (xs : List Open) → None ≡ find (λ x. x.number == e) xs →
+    filter (λ x. not (x.number == e)) xs ≡ xs
+unopened e [] h = refl
+unopened e (x ∷ xs) h = go (x.number == e) h (unopened e xs)
+  where
+    go : (b : Bool) → None ≡ (if b then Some x else find (λ y. y.number == e) xs) →
+        (None ≡ find (λ y. y.number == e) xs → filter (λ y. not (y.number == e)) xs ≡ xs) →
+        (if not b then x ∷ filter (λ y. not (y.number == e)) xs else filter (λ y. not (y.number == e)) xs) ≡ x
+        ∷ xs
+    go true k later = absurd (cc k)
+    go false k later = ap (λ (l : List Open). x ∷ l) (later k)
+
+-- ---- what was heard, or was not
+
+pub where_none : {X : Type 0} (P : Type 0) (heard : Option X) → (heard ≡ None → P) → IfNone heard P
+where_none P None f = f refl
+where_none P (Some s) f = tt
+
+pub from_none : {X : Type 0} (P : Type 0) (heard : Option X) → heard ≡ None → IfNone heard P → P
+from_none P None e p = p
+from_none P (Some s) e p = absurd (cc e)
+
+pub where_some : {X : Type 0} (P : X → Type 0) (heard : Option X) → ((s : X) → heard ≡ Some s → P s) →
+    IfSome heard P
+where_some P None f = tt
+where_some P (Some s) f = f s refl
+
+-- ---- by what it goes
+
+shown_numbers : (b : Score) (x : Exchange) (p : ℕ → Bool) → x.answer ≡ Some b → (ms : List Mpdu) →
+    EachMpdu (λ m. shows b m.number ≡ p m.number) ms →
+    EachMpdu (λ m. is_acked true x.answer m.number ≡ p m.number) ms
+shown_numbers b x p kept [] h = tt
+shown_numbers b x p kept (m ∷ ms) h = (
+  ap (λ (a : Option Score). is_acked true a m.number) kept ∙ h.0,
+  shown_numbers b x p kept ms h.1,
+)
+
+none_acked : (a : Option Score) (n : ℕ) → is_acked false a n ≡ false
+none_acked None n = refl
+none_acked (Some b) n = refl
+
+lost_numbers : (a : Option Score) (p : ℕ → Bool) (ms : List Mpdu) → EachMpdu (λ m. p m.number ≡ false) ms →
+    EachMpdu (λ m. is_acked false a m.number ≡ p m.number) ms
+lost_numbers a p [] h = tt
+lost_numbers a p (m ∷ ms) h = (none_acked a m.number ∙ sym h.0, lost_numbers a p ms h.1)
+
+all_lost : (ms : List Mpdu) → EachMpdu (λ m. false ≡ false) ms
+all_lost [] = tt
+all_lost (m ∷ ms) = (refl, all_lost ms)
+
+pub goes_lost : (w : World) (x : Exchange) → GoesBy w x None false
+goes_lost w x = record {
+  numbers = lost_numbers x.answer (λ n. false) (mpdus_of x.content)
+      (all_lost (mpdus_of x.content));
+  request = λ is. refl;
+}
+
+pub goes_shown : (w : World) (x : Exchange) (b : Score) (score : ℕ × List ℕ) → x.answer ≡ Some b →
+    AreShown w x b (Some score) → GoesBy w x (Some score) true
+goes_shown w x b score kept shown = record {
+  numbers =
+      shown_numbers b x (is_shown (is_wide w x.station x.tid) (Some score)) kept (mpdus_of x.content) shown;
+  request = λ is. refl;
+}
+
+pub goes_unshown : (w : World) (x : Exchange) (heard : Option (ℕ × List ℕ)) → is_request x.content ≡ false →
+    NoneIsShown w x heard → GoesBy w x heard false
+goes_unshown w x heard data_is none = record {
+  numbers =
+      lost_numbers x.answer (is_shown (is_wide w x.station x.tid) heard) (mpdus_of x.content) none;
+  request =
+      λ is. absurd (cc (is, data_is));
+}
+
+-- ---- the whole call
+
+module _ (v : TransmitValue) (w : World) (bodies : ℕ → FrameValue) (h : StandsFor v w bodies) (e : ℕ)
+    (x : Exchange) (known : exchange w e ≡ Some x) (o : Open) (same : o ≡ open_of x) (answered : Bool)
+    (allowed : refusal w (Asked (Done e answered)) ≡ None)
+    (z y : TransmitValue) (ended : Ended) where
+  pub done_whole : Parts z (done_outcome w x answered).world bodies →
+      ended_reply ended ≡ (done_outcome w x answered).reply → y ≡ after_listing z o.station →
+      Meets w bodies (Asked (Done e answered)) y (ended_reply ended)
+  done_whole parts told listed =
+      let met : Meets w bodies (Asked (Done e answered)) (after_listing z x.station)
+      (done_outcome w x answered).reply = done_meets v z w bodies e answered x h known allowed parts in
+      let is : y ≡ after_listing z x.station = listed ∙ ap (λ (k : Open). after_listing z k.station) same in
+      subst (λ (k : TransmitValue). Meets w bodies (Asked (Done e answered)) k (ended_reply ended)) (sym is)
+      (subst (λ (r : ReplyNote). Meets w bodies (Asked (Done e answered)) (after_listing z x.station) r)
+      (sym told) met)

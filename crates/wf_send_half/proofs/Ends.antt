@@ -1,0 +1,442 @@
+-- An exchange that is open ends: what the half finds of it, and what is left once its numbers are settled.
+use Rattle.std.proofs.Common.{◌≡◌, refl, ap, ap₂, sym, ◌∙◌, subst, arith, ℕ, ◌+◌, ◌-◌, ◌<◌, ◌≤◌, ◌%◌, ◌==◌, Bool, true, false, not, cond, List, [], ◌∷◌, map, length, Option, Some, None, is_some, unwrap_or, max, eq-eqb}
+use Rattle.std.specs.Prelude.{count_by, sum_by}
+use Rattle.std.proofs.lemmas.Bool.{or_left}
+use Rattle.std.proofs.lemmas.List.{length-map}
+use Rattle.wf_frame.specs.declared.notes.ReplyNote.TheVariants.{Ended as Ends}
+use Rattle.wf_frame.specs.Frames.{FrameValue}
+use Rattle.wf_def_agreement.specs.Session.{Session, Slot, State, no_slot, slot, start_of, next_number, is_settled, is_acknowledged, is_waiting, is_failed}
+use Rattle.wf_def_lists.specs.Table.{at, has}
+use Rattle.wf_law_rules.proofs.Lemmas.Sums.{sum_put, sum_put_within}
+use Rattle.wf_def_world.specs.World.{World, Station, Tid, Exchange, Mpdu, Content, Frames, Request, no_station, no_tid, is_live, session, exchange, without_exchange, is_wide}
+use Rattle.wf_def_world.specs.CanSend.{is_request}
+use Rattle.wf_def_world.specs.Exchanges.{mpdus_of, is_acked, after_charge, with_all_settled, count_in}
+use Rattle.wf_def_world.specs.Step.{done_outcome}
+use Rattle.wf_law_runs.specs.Room.{unsettled_of, in_windows_of, in_windows}
+use Rattle.wf_law_runs.specs.Sent.{HasSome}
+use Rattle.wf_law_runs.specs.Attempts.{IsTried}
+use Rattle.wf_law_runs.specs.Tallies.{AddsUp}
+use Rattle.wf_law_runs.specs.Windows.{EachMpdu, EachOpen, IsPending}
+use Rattle.wf_law_runs.proofs.Attempts.Law.{attempts_law}
+use Rattle.wf_law_runs.proofs.Frames.Tallies.{tally_law}
+use Rattle.wf_law_runs.proofs.Sent.Law.{sent_law}
+use Rattle.wf_send_stations.specs.Tally.{Counts, held_in}
+use Rattle.wf_frame.specs.Classes.{tid_number}
+use Rattle.wf_queue_flows.specs.Flows.{SettingsValue}
+use Rattle.wf_queue_flows_refines.proofs.Readers.{same_total}
+use Rattle.wf_send_window.proofs.Numbers.{open_number}
+use Rattle.wf_send_window.proofs.Callers.{heard_near}
+use Rattle.wf_send_window.specs.Window.{WindowValue, WindowStandsFor as WindowStandsFor}
+use Rattle.wf_octets_seq12.specs.Distance.{distance}
+use Rattle.wf_send_window.specs.Windows.{WindowsHaveRoom, window_of, with_window}
+use Rattle.wf_send_window.specs.Ending.{Ending, IsFlyingIn, AreFlying}
+use Rattle.wf_send_window.proofs.Ends.{still_fly}
+use Rattle.wf_send_exchanges.specs.declared.opened.Open.{Open}
+use Rattle.wf_send_exchanges.specs.declared.opened.Sending.TheVariants.{Data, Request as Starts_at}
+use Rattle.wf_send_half_refines.specs.Half.{TransmitValue}
+use Rattle.wf_send_half_refines.specs.Standing.{sending_of, open_of, numbers_on_air, Parts, StandsFor}
+use Rattle.wf_send_half_refines.specs.Ending.{after_close, ending_of, IsEnding}
+use Rattle.wf_send_half_refines.specs.Views.{Agreements}
+use Rattle.wf_send_half_refines.proofs.Reached.{by_law}
+use Rattle.wf_send_half_refines.proofs.Dropping.{held_counted, finished_known}
+use Rattle.wf_send_half_refines.proofs.Leavings.{HasPlace, has_place}
+use Rattle.wf_send_half_refines.proofs.Endings.{found, begins, of_windows, open_live, closed_agreements}
+use Rattle.wf_send_half_refines.proofs.Dones.{data_world, done_reply, pending, request_tid, unheard_parts, heard_parts}
+use Rattle.wf_law_driver.proofs.Shown.{settles_alike}
+use Rattle.wf_send_half.specs.Bits.{is_shown, CanFinish, IsToSettle, ended_reply, GoesBy}
+use Rattle.wf_send_half_refines.specs.Pulling.{is_wide_of}
+use Rattle.wf_send_half_refines.proofs.Pulls.{wide_same}
+use Rattle.wf_send_half.specs.Counts.{AreCounted}
+use Rattle.wf_send_half.specs.declared.finish.Ended.{Ended}
+
+-- ---- as many numbers fly as frames are held at them
+
+as_one : Bool → ℕ
+as_one b = cond b 1 0
+
+flown_few : (numbers : List ℕ) (y : Session) (ending : Ending) → AreFlying y ending numbers →
+    length numbers ≤ count_by (λ x. not (is_settled x.state)) y.slots
+unfolding as_one
+flown_few [] y ending flying = omega arith
+flown_few (n ∷ ns) y ending flying =
+    let first : IsFlyingIn y ending n = flying.each n (or_left (n == n) (has ns n) (eq-eqb n n refl)) in
+    let open_one : is_settled (slot y n).state ≡ false = ap is_settled first.flies in
+    let below : n - y.first < length y.slots = omega
+    (arith, (open_number y n (n % 4096) first.from_first open_one refl).given, first.from_first) in
+    let f : Slot → ℕ = λ x. cond (not (is_settled x.state)) 1 0 in
+    let one : cond (not (is_settled (slot y n).state)) 1 0 ≡ as_one true =
+    ap (λ (b : Bool). as_one (not b)) open_one in
+    omega (
+      arith,
+      one,
+      sum_put_within f no_slot y.slots (n - y.first)
+          (record (slot y n) { state = State.Acked }) below,
+      flown_few ns _ ending (still_fly true y ending n ns flying),
+    )
+
+of_station : (o : Option Station) → sum_by unsettled_of (unwrap_or o no_station).tids ≡ in_windows_of o
+of_station None = refl
+of_station (Some x) = refl
+
+in_session : (w : World) (s t : ℕ) → count_by (λ x. not (is_settled x.state)) (session w s t).slots
+    ≤ in_windows w
+in_session w s t =
+    let tids : List Tid = (unwrap_or (at None w.stations s) no_station).tids in
+    omega (
+      arith,
+      sum_put unsettled_of no_tid tids t no_tid refl,
+      of_station (at None w.stations s),
+      sum_put in_windows_of None w.stations s None refl,
+    )
+
+-- ---- an exchange of data
+
+-- what it sends, as the world has it
+pub record IsData (c : Content) (numbers : List ℕ) : Type 0 where
+  pub mpdus : List Mpdu
+  pub content : c ≡ Frames mpdus
+  pub air : numbers ≡ numbers_on_air mpdus
+
+pub is_data : (c : Content) (numbers : List ℕ) → sending_of c ≡ Data numbers → IsData c numbers
+is_data (Frames mpdus) numbers e = record { mpdus = mpdus; content = refl; air = cc e }
+is_data (Request start) numbers e = absurd (cc e)
+
+-- what a request sends
+pub record IsRequest (c : Content) (seq : ℕ) : Type 0 where
+  pub start : ℕ
+  pub content : c ≡ Request start
+  pub air : seq ≡ start % 4096
+
+pub is_request_of : (c : Content) (seq : ℕ) → sending_of c ≡ Starts_at seq → IsRequest c seq
+is_request_of (Frames mpdus) seq e = absurd (cc e)
+is_request_of (Request start) seq e = record { start = start; content = refl; air = cc e }
+
+record HasFirst (ms : List Mpdu) : Type 0 where
+  first : Mpdu
+  behind : List Mpdu
+  is : ms ≡ first ∷ behind
+
+some_first : (ms : List Mpdu) → 1 ≤ length ms → HasFirst ms
+some_first [] h = absurd (omega (arith, h))
+some_first (m ∷ ms) h = record { first = m; behind = ms; is = refl }
+
+module _ (v : TransmitValue) (w : World) (bodies : ℕ → FrameValue) (h : StandsFor v w bodies) (e : ℕ)
+    (x : Exchange) (known : exchange w e ≡ Some x) where
+  abbrev closed : World
+  closed = after_charge (without_exchange w x.number) x
+
+  tried : (ms : List Mpdu) → EachMpdu (λ m. (slot (session w x.station x.tid) m.number).state
+      ≡ State.Flying x.number) ms → EachMpdu (λ k. (slot (session w x.station x.tid) k.number).attempts
+      < w.config.attempts) ms
+  tried [] k = tt
+  tried (m ∷ ms) k =
+      let law : IsTried w.config.attempts (slot (session w x.station x.tid) m.number) =
+      by_law (λ u. IsTried w.config.attempts (slot (session u x.station x.tid) m.number)) w h.reached
+      (λ i. attempts_law w.config h.reached.history h.reached.in_range i x.station x.tid m.number) in
+      (law.fewer (ap is_failed k.0), tried ms k.1)
+
+  module _ (numbers : List ℕ) (is : sending_of x.content ≡ Data numbers) where
+    pub sends : IsData x.content numbers
+    sends = is_data x.content numbers is
+
+    abbrev ms : List Mpdu
+    ms = sends.mpdus
+
+    content_is : mpdus_of x.content ≡ ms
+    content_is = ap mpdus_of sends.content
+
+    some_sent : 1 ≤ length ms
+    some_sent =
+        let sent : EachOpen HasSome w.opened = by_law (λ u. EachOpen HasSome u.opened) w h.reached
+        (λ m. (sent_law w.config h.reached.history m).some h.reached.in_range h.reached.lengths.1) in
+        subst (λ (l : List Mpdu). 1 ≤ length l) content_is
+        (found HasSome w.opened e x known sent (ap is_request sends.content))
+
+    -- its numbers begin to be settled
+    pub begun : (acked : ℕ → Bool) → IsEnding (after_close v (open_of x)) closed bodies x.station x.tid
+        x.number acked ms (with_all_settled closed x.station x.tid acked ms)
+    begun acked =
+        let f : HasFirst ms = some_first ms some_sent in
+        let both : mpdus_of x.content ≡ f.first ∷ f.behind = content_is ∙ f.is in
+        subst (λ (l : List Mpdu). IsEnding (after_close v (open_of x)) closed bodies x.station x.tid x.number
+        acked l (with_all_settled closed x.station x.tid acked l)) (sym f.is)
+        (begins v w bodies h e x known acked f.first f.behind both
+        (tried (f.first ∷ f.behind) (subst (EachMpdu (λ m. (slot (session w x.station x.tid) m.number).state
+        ≡ State.Flying x.number)) both (of_windows v w bodies h e x known).flies)))
+
+    same_session : session closed x.station x.tid ≡ session w x.station x.tid
+    same_session = ap (λ (a : Agreements). a.sessions x.station x.tid) (closed_agreements w x)
+
+    few : length ms ≤ in_windows w
+    few =
+        let left = begun (λ n. false) in
+        let flying : AreFlying (session w x.station x.tid) (ending_of closed.config x.number (λ n. false))
+        (map (λ m. m.number) ms) =
+        subst (λ (y : Session). AreFlying y (ending_of closed.config x.number (λ n. false))
+        (map (λ m. m.number) ms)) same_session left.flying in
+        omega (
+          arith,
+          flown_few (map (λ m. m.number) ms) (session w x.station x.tid)
+              (ending_of closed.config x.number (λ n. false)) flying,
+          in_session w x.station x.tid,
+          length-map ms (λ (m : Mpdu). m.number),
+        )
+
+    -- and there is room to finish each of its frames
+    pub place : CanFinish (after_close v (open_of x)) (length numbers)
+    place =
+        let room : HasPlace w.config.room w = has_place w h.reached in
+        let flows = h.parts.others.flows in
+        let same_room : v.flows.backlog.room ≡ w.config.room =
+        ap (λ (c : SettingsValue). c.room) flows.settings in
+        let adds : AddsUp w = by_law AddsUp w h.reached (tally_law w.config h.reached.history) in
+        let total : length numbers ≡ length ms = ap (length {A = ℕ}) sends.air
+        ∙ length-map ms (λ m. m.number % 4096) in
+        record {
+          room = omega (
+            arith,
+            room.placed,
+            room.within,
+            same_room,
+            total,
+            few,
+            same_total v.flows w flows,
+            finished_known v.flows w flows,
+          );
+          held = subst (λ (c : Counts). length numbers ≤ held_in c) (sym h.parts.others.tally)
+              (omega (arith, adds, held_counted w, room.placed, total, few));
+        }
+
+    -- what its numbers leave is what the machine's Done leaves
+    module _ (z : TransmitValue) (ended : Ended) (heard : Option (ℕ × List ℕ)) (answered : Bool)
+        (alike : EachMpdu (λ m. is_acked answered x.answer m.number
+        ≡ is_shown (is_wide w x.station x.tid) heard m.number) (mpdus_of x.content)) where
+      abbrev shown : ℕ → Bool
+      shown = is_shown (is_wide w x.station x.tid) heard
+
+      same_world : (done_outcome w x answered).world ≡ with_all_settled closed x.station x.tid shown ms
+      same_world =
+          data_world w x answered ms sends.content
+          ∙ settles_alike closed x.station x.tid (is_acked answered x.answer) shown ms
+          (subst (EachMpdu (λ m. is_acked answered x.answer m.number ≡ shown m.number)) content_is alike)
+
+      pub data_parts : Parts z (with_all_settled closed x.station x.tid shown ms) bodies →
+          Parts z (done_outcome w x answered).world bodies
+      data_parts parts = subst (λ (u : World). Parts z u bodies) (sym same_world) parts
+
+      pub data_reply : AreCounted (with_all_settled closed x.station x.tid shown ms) x.station x.tid ms
+          ended → ended_reply ended ≡ (done_outcome w x answered).reply
+      data_reply counted =
+          let c : AreCounted (done_outcome w x answered).world x.station x.tid (mpdus_of x.content) ended =
+          subst (λ (l : List Mpdu). AreCounted (done_outcome w x answered).world x.station x.tid l ended)
+          (sym content_is)
+          (subst (λ (u : World). AreCounted u x.station x.tid ms ended) (sym same_world) counted) in
+          ap₂ (λ (i j : ℕ). Ends i j ended.failed) c.acked c.waiting
+          ∙ ap (λ (k : ℕ). Ends (count_in (done_outcome w x answered).world x is_acknowledged)
+          (count_in (done_outcome w x answered).world x is_waiting) k) c.failed
+          ∙ sym (done_reply w x answered)
+
+  -- ---- an exchange of a request
+
+  module _ (seq : ℕ) (is : sending_of x.content ≡ Starts_at seq) where
+    asked : IsRequest x.content seq
+    asked = is_request_of x.content seq is
+
+    live : is_live w x.station ≡ true
+    live = open_live w h.reached e x known
+
+    waits : IsPending asked.start (session w x.station x.tid)
+    waits = pending v w bodies h e x known asked.start asked.content
+
+    pub low : x.tid < 8
+    low = request_tid v w bodies h e x known asked.start asked.content
+
+    pub near : distance (window_of v.windows x.station x.tid).start seq + length
+        (window_of v.windows x.station x.tid).places ≤ (window_of v.windows x.station x.tid).size
+    near = heard_near (window_of v.windows x.station x.tid) (session w x.station x.tid) bodies
+        (h.parts.windows.all.stands x.station x.tid live low) asked.start seq asked.air waits.start waits.next
+
+    request_reply : (answered : Bool) → Ends 0 0 0 ≡ (done_outcome w x answered).reply
+    request_reply answered =
+        let none : mpdus_of x.content ≡ [] = ap mpdus_of asked.content in
+        let u : World = (done_outcome w x answered).world in
+        let count : (p : State → Bool) → 0 ≡ count_in u x p =
+        λ p. ap (λ (l : List Mpdu). count_by (λ (m : Mpdu).
+        p (slot (session u x.station x.tid) m.number).state) l) (sym none) in
+        ap₂ (λ (i j : ℕ). Ends i j 0) (count is_acknowledged) (count is_waiting)
+        ∙ ap (λ (k : ℕ). Ends (count_in u x is_acknowledged) (count_in u x is_waiting) k)
+        (count is_failed) ∙ sym (done_reply w x answered)
+
+    pub reply_by : (heard : Option (ℕ × List ℕ)) (answered : Bool) → GoesBy w x heard answered →
+        Ends 0 0 0 ≡ (done_outcome w x answered).reply
+    reply_by heard answered goes = request_reply answered
+
+    answered_is : (heard : Option (ℕ × List ℕ)) (answered : Bool) → GoesBy w x heard answered →
+        answered ≡ is_some heard
+    answered_is heard answered goes = goes.request (ap is_request asked.content)
+
+    pub lost_parts : (heard : Option (ℕ × List ℕ)) (answered : Bool) → GoesBy w x heard answered →
+        is_some heard ≡ false → Parts (after_close v (open_of x)) (done_outcome w x answered).world bodies
+    lost_parts heard answered goes off =
+        subst (λ (b : Bool). Parts (after_close v (open_of x)) (done_outcome w x b).world bodies)
+        (sym (answered_is heard answered goes ∙ off))
+        (unheard_parts v w bodies h e x known asked.start asked.content)
+
+    pub told_parts : (heard : Option (ℕ × List ℕ)) (answered : Bool) → GoesBy w x heard answered →
+        is_some heard ≡ true → (windows : List WindowValue) → WindowsHaveRoom windows →
+        windows ≡ with_window v.windows x.station x.tid (window_of windows x.station x.tid) →
+        ((y : Session) (bs : ℕ → FrameValue) (f : ℕ) →
+        WindowStandsFor (window_of v.windows x.station x.tid) y bs → seq ≡ f % 4096 → f ≤ start_of y →
+        next_number y ≤ f + y.size →
+        WindowStandsFor (window_of windows x.station x.tid) (record y { heard = max y.heard f }) bs) →
+        Parts (record (after_close v (open_of x)) { windows = windows })
+        (done_outcome w x answered).world bodies
+    told_parts heard answered goes on windows room others stands =
+        let z : WindowValue = window_of windows x.station x.tid in
+        let now = stands (session w x.station x.tid) bodies asked.start
+        (h.parts.windows.all.stands x.station x.tid live low) asked.air waits.start waits.next in
+        let there : Parts (record (after_close v (open_of x)) {
+          windows =
+              with_window v.windows x.station x.tid z;
+        }) (done_outcome w x true).world bodies =
+        heard_parts v w bodies h e x known asked.start asked.content z
+        (subst WindowsHaveRoom others room) now in
+        subst (λ (b : Bool). Parts (record (after_close v (open_of x)) { windows = windows })
+        (done_outcome w x b).world bodies) (sym (answered_is heard answered goes ∙ on))
+        (subst (λ (l : List WindowValue). Parts (record (after_close v (open_of x)) { windows = l })
+        (done_outcome w x true).world bodies) (sym others) there)
+
+  -- ---- of the half that was just closed, and of what it kept of the exchange
+
+  module _ (self : TransmitValue) (o : Open) (same : o ≡ open_of x) (closed_is : self ≡ after_close v o) where
+    carried : (P : Open → TransmitValue → Type 0) → P (open_of x) (after_close v (open_of x)) → P o self
+    carried P p = subst (P o) (sym closed_is) (subst (λ k. P k (after_close v k)) (sym same) p)
+
+    there : is_live w x.station ≡ true
+    there = open_live w h.reached e x known
+
+    within : x.tid < 8 → tid_number x.station x.tid < length v.windows
+    within low = omega (arith, h.parts.windows.sized, h.parts.others.turns.live x.station there, low)
+
+    pub data_tid : (numbers : List ℕ) → o.sending ≡ Data numbers → o.tid < 8
+    data_tid numbers = carried (λ k z. k.sending ≡ Data numbers → k.tid < 8)
+        (λ is. (begun numbers is (λ n. false)).tid)
+
+    pub data_within : (numbers : List ℕ) → o.sending ≡ Data numbers →
+        tid_number o.station o.tid < length self.windows
+    data_within numbers = carried (λ k z. k.sending ≡ Data numbers →
+        tid_number k.station k.tid < length z.windows) (λ is. within (begun numbers is (λ n. false)).tid)
+
+    pub data_place : (numbers : List ℕ) → o.sending ≡ Data numbers → CanFinish self (length numbers)
+    data_place numbers = carried (λ k z. k.sending ≡ Data numbers → CanFinish z (length numbers))
+        (place numbers)
+
+    pub data_some : (numbers : List ℕ) (acked : ℕ → Bool) → o.sending ≡ Data numbers →
+        IsToSettle self o.station o.tid numbers acked
+    data_some numbers acked = carried (λ k z. k.sending ≡ Data numbers →
+        IsToSettle z k.station k.tid numbers acked)
+        (λ is. record {
+          world = closed;
+          bodies = bodies;
+          exchange = x.number;
+          mpdus =
+              (sends numbers is).mpdus;
+          after = with_all_settled closed x.station x.tid acked
+              (sends numbers is).mpdus;
+          ending = begun numbers is acked;
+          numbers_are = (sends numbers is).air;
+        })
+
+    module _ (numbers : List ℕ) (wide : Bool) (heard : Option (ℕ × List ℕ)) (answered : Bool)
+        (goes : GoesBy w x heard answered) where
+      wide_is : (is : sending_of x.content ≡ Data numbers) → wide ≡ is_wide_of v x.station x.tid →
+          wide ≡ is_wide w x.station x.tid
+      wide_is is told = told ∙ wide_same v w bodies x.station x.tid h.parts there
+          (begun numbers is (λ n. false)).tid
+
+      ends_here : (is : sending_of x.content ≡ Data numbers) → wide ≡ is_wide_of v x.station x.tid →
+          IsEnding (after_close v (open_of x)) closed bodies x.station x.tid x.number (is_shown wide heard)
+          (sends numbers is).mpdus (with_all_settled closed x.station x.tid
+          (is_shown (is_wide w x.station x.tid) heard) (sends numbers is).mpdus)
+      ends_here is told =
+          subst (λ (b : Bool). IsEnding (after_close v (open_of x)) closed bodies x.station x.tid x.number
+          (is_shown b heard) (sends numbers is).mpdus
+          (with_all_settled closed x.station x.tid (is_shown (is_wide w x.station x.tid) heard)
+          (sends numbers is).mpdus)) (sym (wide_is is told))
+          (begun numbers is (is_shown (is_wide w x.station x.tid) heard))
+
+      pub data_settled : (z : TransmitValue) → o.sending ≡ Data numbers →
+          wide ≡ is_wide_of self o.station o.tid →
+          ((u after : World) (bs : ℕ → FrameValue) (n : ℕ) (mpdus : List Mpdu) →
+          IsEnding self u bs o.station o.tid n (is_shown wide heard) mpdus after →
+          numbers ≡ numbers_on_air mpdus → Parts z after bs) →
+          Parts z (done_outcome w x answered).world bodies
+      data_settled z = carried (λ k y. k.sending ≡ Data numbers → wide ≡ is_wide_of y k.station k.tid →
+          ((u after : World) (bs : ℕ → FrameValue) (n : ℕ) (mpdus : List Mpdu) →
+          IsEnding y u bs k.station k.tid n (is_shown wide heard) mpdus after →
+          numbers ≡ numbers_on_air mpdus → Parts z after bs) →
+          Parts z (done_outcome w x answered).world bodies)
+          (λ is told all. data_parts numbers is z (record { acked = 0; waiting = 0; failed = 0 }) heard
+          answered goes.numbers (all closed _ bodies x.number (sends numbers is).mpdus (ends_here is told)
+          (sends numbers is).air))
+
+      pub data_told : (ended : Ended) → o.sending ≡ Data numbers → wide ≡ is_wide_of self o.station o.tid →
+          ((u after : World) (bs : ℕ → FrameValue) (n : ℕ) (mpdus : List Mpdu) →
+          IsEnding self u bs o.station o.tid n (is_shown wide heard) mpdus after →
+          numbers ≡ numbers_on_air mpdus → AreCounted after o.station o.tid mpdus ended) →
+          ended_reply ended ≡ (done_outcome w x answered).reply
+      data_told ended = carried (λ k y. k.sending ≡ Data numbers → wide ≡ is_wide_of y k.station k.tid →
+          ((u after : World) (bs : ℕ → FrameValue) (n : ℕ) (mpdus : List Mpdu) →
+          IsEnding y u bs k.station k.tid n (is_shown wide heard) mpdus after →
+          numbers ≡ numbers_on_air mpdus → AreCounted after k.station k.tid mpdus ended) →
+          ended_reply ended ≡ (done_outcome w x answered).reply)
+          (λ is told all. data_reply numbers is v ended heard answered goes.numbers
+          (all closed _ bodies x.number (sends numbers is).mpdus (ends_here is told)
+          (sends numbers is).air))
+
+    -- a request
+    pub request_low : (seq : ℕ) → o.sending ≡ Starts_at seq → o.tid < 8
+    request_low seq = carried (λ k z. k.sending ≡ Starts_at seq → k.tid < 8) (low seq)
+
+    pub request_within : (seq : ℕ) → o.sending ≡ Starts_at seq →
+        tid_number o.station o.tid < length self.windows
+    request_within seq = carried (λ k z. k.sending ≡ Starts_at seq →
+        tid_number k.station k.tid < length z.windows) (λ is. within (low seq is))
+
+    pub request_near : (seq : ℕ) → o.sending ≡ Starts_at seq →
+        distance (window_of self.windows o.station o.tid).start seq + length
+        (window_of self.windows o.station o.tid).places ≤ (window_of self.windows o.station o.tid).size
+    request_near seq = carried (λ k z. k.sending ≡ Starts_at seq →
+        distance (window_of z.windows k.station k.tid).start seq + length
+        (window_of z.windows k.station k.tid).places ≤ (window_of z.windows k.station k.tid).size) (near seq)
+
+    pub request_told : (seq : ℕ) (heard : Option (ℕ × List ℕ)) (answered : Bool) → GoesBy w x heard answered →
+        o.sending ≡ Starts_at seq → Ends 0 0 0 ≡ (done_outcome w x answered).reply
+    request_told seq heard answered goes = carried
+        (λ k z. k.sending ≡ Starts_at seq → Ends 0 0 0 ≡ (done_outcome w x answered).reply)
+        (λ is. reply_by seq is heard answered goes)
+
+    pub request_lost : (seq : ℕ) (heard : Option (ℕ × List ℕ)) (answered : Bool) → GoesBy w x heard answered →
+        is_some heard ≡ false → o.sending ≡ Starts_at seq →
+        Parts self (done_outcome w x answered).world bodies
+    request_lost seq heard answered goes off = carried
+        (λ k z. k.sending ≡ Starts_at seq → Parts z (done_outcome w x answered).world bodies)
+        (λ is. lost_parts seq is heard answered goes off)
+
+    pub request_heard : (seq : ℕ) (heard : Option (ℕ × List ℕ)) (answered : Bool) →
+        GoesBy w x heard answered → is_some heard ≡ true → (windows : List WindowValue) →
+        WindowsHaveRoom windows → o.sending ≡ Starts_at seq →
+        windows ≡ with_window self.windows o.station o.tid (window_of windows o.station o.tid) →
+        ((y : Session) (bs : ℕ → FrameValue) (f : ℕ) →
+        WindowStandsFor (window_of self.windows o.station o.tid) y bs → seq ≡ f % 4096 → f ≤ start_of y →
+        next_number y ≤ f + y.size →
+        WindowStandsFor (window_of windows o.station o.tid) (record y { heard = max y.heard f }) bs) →
+        Parts (record self { windows = windows }) (done_outcome w x answered).world bodies
+    request_heard seq heard answered goes on windows room = carried (λ k z. k.sending ≡ Starts_at seq →
+        windows ≡ with_window z.windows k.station k.tid (window_of windows k.station k.tid) →
+        ((y : Session) (bs : ℕ → FrameValue) (f : ℕ) →
+        WindowStandsFor (window_of z.windows k.station k.tid) y bs → seq ≡ f % 4096 → f ≤ start_of y →
+        next_number y ≤ f + y.size →
+        WindowStandsFor (window_of windows k.station k.tid) (record y { heard = max y.heard f }) bs) →
+        Parts (record z { windows = windows }) (done_outcome w x answered).world bodies)
+        (λ is. told_parts seq is heard answered goes on windows room)

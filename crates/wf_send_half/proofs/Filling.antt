@@ -1,0 +1,202 @@
+-- An aggregate is filled, one number after the other.
+use Rattle.std.proofs.Common.{◌≡◌, ap, sym, ◌∙◌, subst, arith, ℕ, ◌+◌, ◌%◌, ◌<◌, ◌≤◌, ◌&&◌, nat_lt, Bool, true, false, if◌then◌else◌, List, [], ◌∷◌, ◌++◌, length, map, Option, Some, None, option_map}
+use Rattle.std.proofs.lemmas.List.{length-map}
+use Rattle.wf_frame.specs.Frames.{FrameValue}
+use Rattle.wf_def_air.specs.Fit.{fits}
+use Rattle.wf_def_agreement.specs.Session.{Session, slot, start_of, next_number, with_number_given}
+use Rattle.wf_def_world.specs.World.{World, Mpdu, session, codel_params}
+use Rattle.wf_def_world.specs.Exchanges.{Aggregate, aggregate_of, lens_of, mpdu_of}
+use Rattle.wf_air_fit.specs.Rooms.{RoomValue, RoomStandsFor as RoomStandsFor}
+use Rattle.wf_frame.specs.Classes.{tid_number}
+use Rattle.wf_queue_flows.specs.Flows.{frames_of_tid}
+use Rattle.wf_octets_tim.specs.Sleepers.{sleeper}
+use Rattle.wf_send_window.specs.Listing.{IsListedNext}
+use Rattle.wf_send_window.specs.Window.{WindowStandsFor as WindowStandsFor, IsNumber, can_take, on_air, waiting_from}
+use Rattle.wf_send_window.proofs.Listing.{listing_next}
+use Rattle.wf_send_window.specs.Windows.{window_of}
+use Rattle.wf_send_half_refines.specs.Half.{TransmitValue}
+use Rattle.wf_send_half_refines.specs.Filling.{IsToFill, IsChoosing, IsFilling, IsFilled, after_giving}
+use Rattle.wf_send_half_refines.proofs.Asked.{params_read}
+use Rattle.wf_send_half_refines.proofs.Fills.{choosing_ends, choosing_len, choosing_next, choosing_stops}
+use Rattle.wf_send_half_refines.proofs.Gives.{fresh_own, fresh_goes_on, fresh_stops}
+use Rattle.wf_send_half.specs.Pulls.{most_of, IsSameButFrames, HasTurn, AggregateGoesOn, HasLens, IsGivenNumber}
+
+-- ---- how many there are
+
+pub choosing_lens : (room : RoomValue) (numbers : List ℕ) (from : ℕ) (w : World) (s t : ℕ) →
+    IsChoosing room numbers from w s t → room.agg ≤ 256 → HasLens room numbers
+choosing_lens room numbers from w s t h few = record {
+  lens = lens_of (map (mpdu_of w s t) h.chosen);
+  stands = h.room_is.lens;
+  as_many = omega (
+    arith,
+    ap (length {A = ℕ}) h.on_air,
+    length-map h.chosen on_air,
+    length-map h.chosen (mpdu_of w s t),
+    length-map (map (mpdu_of w s t) h.chosen) (λ (m : Mpdu). m.len),
+  );
+  few = few;
+}
+
+pub filling_lens : (v : TransmitValue) (bodies : ℕ → FrameValue) (s t : ℕ) (room : RoomValue)
+    (numbers : List ℕ) (after : Aggregate) → AggregateGoesOn v bodies s t room numbers after →
+    room.agg ≤ 256 → HasLens room numbers
+filling_lens v bodies s t room numbers after h few = record {
+  lens = lens_of h.mpdus;
+  stands = h.filling.room_is.lens;
+  as_many = omega (
+    arith,
+    ap (length {A = ℕ}) h.filling.on_air,
+    length-map h.mpdus (λ (m : Mpdu). on_air m.number),
+    length-map h.mpdus (λ (m : Mpdu). m.len),
+  );
+  few = few;
+}
+
+-- a room takes at most 256 frames
+pub few_most : (v : TransmitValue) (s : ℕ) (room : RoomValue) → room.agg ≡ most_of v s → v.config.agg ≤ 256 →
+    room.agg ≤ 256
+few_most v s room is few = subst (λ (n : ℕ). n ≤ 256) (sym is) (at (sleeper v.sleepers s).asleep)
+  where
+    at : (b : Bool) → (if b then 1 else v.config.agg) ≤ 256
+    at true = omega arith
+    at false = few
+
+pub same_agg : (room more : RoomValue) → more ≡ record room { count = more.count; octets = more.octets } →
+    more.agg ≡ room.agg
+same_agg room more kept = ap (λ (r : RoomValue). r.agg) kept
+
+-- ---- waiting numbers
+
+module _ (v : TransmitValue) (w : World) (bodies : ℕ → FrameValue) (s t : ℕ) (to : IsToFill v w bodies s t)
+    (room : RoomValue) (numbers : List ℕ) (from : ℕ) (so_far : IsChoosing room numbers from w s t) where
+  abbrev y : Session
+  y = session w s t
+
+  stands : WindowStandsFor (window_of v.windows s t) y bodies
+  stands = to.turned.parts.windows.all.stands s t to.turned.live to.turned.tid
+
+  pub next_read : (result : Option ℕ) →
+      ((z : Session) (all : ℕ → FrameValue) (n : ℕ) → WindowStandsFor (window_of v.windows s t) z all →
+      from ≡ n % 4096 → start_of z ≤ n → n ≤ next_number z →
+      result ≡ option_map on_air (waiting_from z n)) →
+      option_map on_air (waiting_from y so_far.listed.number) ≡ result
+  next_read result given = sym (given y bodies so_far.listed.number stands so_far.listed.on_air
+      so_far.listed.from_start so_far.listed.to_next)
+
+  module _ (seq : ℕ) (is : option_map on_air (waiting_from y so_far.listed.number) ≡ Some seq) where
+    next : IsListedNext y so_far.chosen seq
+    next = listing_next y so_far.chosen from so_far.listed seq is
+
+    module _ (f : FrameValue) (read : (z : Session) (all : ℕ → FrameValue) (n : ℕ) →
+        WindowStandsFor (window_of v.windows s t) z all → IsNumber z n seq → f ≡ all (slot z n).id) (len : ℕ)
+        (octets : len ≡ length f.body) where
+      len_is : len ≡ (mpdu_of w s t next.number).len
+      len_is = octets ∙ ap (λ (g : FrameValue). length g.body)
+          (read y bodies next.number stands next.is_number)
+          ∙ choosing_len v w bodies s t to room numbers from so_far seq next
+
+      abbrev lens : List ℕ
+      lens = lens_of (map (mpdu_of w s t) so_far.chosen)
+
+      pub waiting_goes_on : (more : RoomValue) → ((ls : List ℕ) → RoomStandsFor room ls →
+          true ≡ fits room.rate room.exponent room.agg room.cap (ls ++ len ∷ [])) →
+          ((ls : List ℕ) → RoomStandsFor room ls → RoomStandsFor more (ls ++ len ∷ [])) →
+          more ≡ record room { count = more.count; octets = more.octets } →
+          IsChoosing more (numbers ++ seq ∷ []) ((seq + 1) % 4096) w s t
+      waiting_goes_on more exact taken kept =
+          choosing_next v w bodies s t to room numbers from so_far seq next more
+          (ap (λ (n : ℕ). fits room.rate room.exponent room.agg room.cap (lens ++ n ∷ [])) (sym len_is)
+          ∙ sym (exact lens so_far.room_is.lens)) kept
+          (subst (λ (n : ℕ). RoomStandsFor more (lens ++ n ∷ [])) len_is (taken lens so_far.room_is.lens))
+
+      pub waiting_ends : ((ls : List ℕ) → RoomStandsFor room ls →
+          false ≡ fits room.rate room.exponent room.agg room.cap (ls ++ len ∷ [])) →
+          IsFilled v bodies s t room numbers (aggregate_of w s t)
+      waiting_ends exact =
+          choosing_stops v w bodies s t to room numbers from so_far seq next
+          (ap (λ (n : ℕ). fits room.rate room.exponent room.agg room.cap (lens ++ n ∷ [])) (sym len_is)
+          ∙ sym (exact lens so_far.room_is.lens))
+
+  pub all_waiting : option_map on_air (waiting_from y so_far.listed.number) ≡ None →
+      AggregateGoesOn v bodies s t room numbers (aggregate_of w s t)
+  all_waiting none = record {
+    world = w;
+    mpdus = map (mpdu_of w s t) so_far.chosen;
+    filling =
+        choosing_ends v w bodies s t to room numbers from so_far none;
+  }
+
+-- ---- fresh frames
+
+module _ (v : TransmitValue) (bodies : ℕ → FrameValue) (s t : ℕ) (room : RoomValue) (numbers : List ℕ)
+    (after : Aggregate) (h : AggregateGoesOn v bodies s t room numbers after)
+    (few : length numbers < room.agg)
+    (gives : (nat_lt 0 (frames_of_tid v.flows (tid_number s t)) && can_take (window_of v.windows s t)) ≡ true)
+    (u : TransmitValue) (number len : ℕ) (given : IsGivenNumber v u s t number len) where
+  left : IsFilling v h.world bodies s t room numbers h.mpdus after
+  left = h.filling
+
+  right : given.params ≡ codel_params h.world s
+  right = given.read.is ∙ params_read v h.world bodies s left.parts left.live given.read.rate
+      given.read.is_rate
+
+  own : given.frame ≡ bodies given.frame.id
+  own = fresh_own v h.world bodies s t room numbers h.mpdus after left given.params right given.frame
+      given.out
+
+  stays : (number ≡ next_number (session h.world s t) % 4096) ×
+      WindowStandsFor given.window (with_number_given (session h.world s t) given.frame.id) bodies
+  stays = given.waits (session h.world s t) bodies (left.parts.windows.all.stands s t left.live left.tid) own
+
+  pub goes_on_fresh : (more : RoomValue) → ((ls : List ℕ) → RoomStandsFor room ls →
+      true ≡ fits room.rate room.exponent room.agg room.cap (ls ++ len ∷ [])) →
+      ((ls : List ℕ) → RoomStandsFor room ls → RoomStandsFor more (ls ++ len ∷ [])) →
+      more ≡ record room { count = more.count; octets = more.octets } →
+      AggregateGoesOn u bodies s t more (numbers ++ number ∷ []) after
+  goes_on_fresh more exact taken kept =
+      subst (λ (z : TransmitValue). AggregateGoesOn z bodies s t more (numbers ++ number ∷ []) after)
+      (sym given.is)
+      (subst (λ (n : ℕ). AggregateGoesOn (after_giving v s t given.params given.window) bodies s t more
+      (numbers ++ n ∷ []) after) (sym stays.0) (record {
+        world = _;
+        mpdus = _;
+        filling = fresh_goes_on v h.world bodies s t room numbers h.mpdus after left given.params right
+            given.frame given.out given.window given.room stays.1 few gives more
+            (ap (λ (n : ℕ). fits room.rate room.exponent room.agg room.cap (lens_of h.mpdus ++ n ∷ []))
+            (sym given.octets) ∙ sym (exact (lens_of h.mpdus) left.room_is.lens)) kept
+            (subst (λ (n : ℕ). RoomStandsFor more (lens_of h.mpdus ++ n ∷ [])) given.octets
+            (taken (lens_of h.mpdus) left.room_is.lens));
+      }))
+
+  pub ends_fresh : ((ls : List ℕ) → RoomStandsFor room ls →
+      false ≡ fits room.rate room.exponent room.agg room.cap (ls ++ len ∷ [])) →
+      IsFilled u bodies s t room numbers after
+  ends_fresh exact =
+      subst (λ (z : TransmitValue). IsFilled z bodies s t room numbers after) (sym given.is)
+      (fresh_stops v h.world bodies s t room numbers h.mpdus after left given.params right given.frame
+      given.out given.window given.room stays.1 few gives
+      (ap (λ (n : ℕ). fits room.rate room.exponent room.agg room.cap (lens_of h.mpdus ++ n ∷ []))
+      (sym given.octets) ∙ sym (exact (lens_of h.mpdus) left.room_is.lens)))
+
+pub turn_of : (v : TransmitValue) (bodies : ℕ → FrameValue) (s t : ℕ) (room : RoomValue) (numbers : List ℕ)
+    (after : Aggregate) → AggregateGoesOn v bodies s t room numbers after → HasTurn v s t
+turn_of v bodies s t room numbers after h = record {
+  world = h.world;
+  bodies = bodies;
+  turned = record {
+    parts = h.filling.parts;
+    live = h.filling.live;
+    tid = h.filling.tid;
+    underway =
+        h.filling.underway;
+  };
+}
+
+pub same_given : (v x u : TransmitValue) (s t number len : ℕ) → IsSameButFrames v x →
+    IsGivenNumber x u s t number len → IsSameButFrames v u
+same_given v x u s t number len same given =
+    given.is
+    ∙ ap (λ (z : TransmitValue). after_giving z s t given.params given.window) same
+    ∙ ap (λ (z : TransmitValue). record v { flows = z.flows; windows = z.windows; tally = z.tally })
+    (sym (given.is ∙ ap (λ (z : TransmitValue). after_giving z s t given.params given.window) same))

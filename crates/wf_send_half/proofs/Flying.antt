@@ -1,0 +1,150 @@
+-- The numbers of an aggregate take off, one after the other.
+use Rattle.std.proofs.Common.{◌≡◌, refl, ap, ap₂, sym, ◌∙◌, subst, arith, ℕ, zero, suc, ◌+◌, ◌%◌, ◌≤◌, List, [], ◌∷◌, ◌++◌, length, length-append, take, drop, Some}
+use Rattle.std.proofs.lemmas.List.{map-append, length-map, length-take}
+use Rattle.std.specs.Prelude.{slice_get}
+use Rattle.wf_frame.specs.Frames.{FrameValue}
+use Rattle.wf_def_agreement.specs.Session.{Session, State, slot, with_state}
+use Rattle.wf_def_world.specs.World.{World, Mpdu, session, on_session}
+use Rattle.wf_send_window.specs.Window.{WindowValue, WindowStandsFor as WindowStandsFor, IsNumber, state_at, on_air}
+use Rattle.wf_send_window.specs.Windows.{WindowsHaveRoom, window_of, with_window}
+use Rattle.wf_send_half_refines.specs.Half.{TransmitValue}
+use Rattle.wf_send_half_refines.specs.Standing.{numbers_on_air}
+use Rattle.wf_send_half_refines.specs.Filling.{IsTakingOff, IsFilled}
+use Rattle.wf_def_air.specs.Airtime.{data_charge}
+use Rattle.wf_def_air.specs.Fit.{aggregate_octets}
+use Rattle.wf_air_fit.specs.Rooms.{RoomValue, RoomStandsFor as RoomStandsFor}
+use Rattle.wf_def_world.specs.Exchanges.{Aggregate, aggregate_of, prepared_data, lens_of}
+use Rattle.wf_send_half_refines.proofs.Sends.{filled_charge}
+use Rattle.wf_send_half_refines.proofs.Flies.{off_begins, off_number, off_waits, off_frame, off_next}
+use Rattle.wf_send_half.specs.Pulls.{IsFlying, pairs_of, IsPreparedAs, IsPrepared}
+
+-- the transmission at place i sends this number
+record IsAt (mpdus : List Mpdu) (i number : ℕ) : Type 0 where
+  m : Mpdu
+  rest : drop i mpdus ≡ m ∷ drop (suc i) mpdus
+  front : take (suc i) mpdus ≡ take i mpdus ++ m ∷ []
+  on_air_is : number ≡ on_air m.number
+
+is_at : (mpdus : List Mpdu) (i number : ℕ) → slice_get (numbers_on_air mpdus) i ≡ Some number →
+    IsAt mpdus i number
+is_at [] i number e = absurd (cc e)
+is_at (m ∷ ms) zero number e = record { m = m; rest = refl; front = refl; on_air_is = cc e }
+is_at (m ∷ ms) (suc i) number e =
+    let k = is_at ms i number e in
+    record { m = k.m; rest = k.rest; front = ap (λ (l : List Mpdu). m ∷ l) k.front; on_air_is = k.on_air_is }
+
+drop_all : (ms : List Mpdu) → drop (length ms) ms ≡ []
+drop_all [] = refl
+drop_all (m ∷ ms) = drop_all ms
+
+take_all : (ms : List Mpdu) → take (length ms) ms ≡ ms
+take_all [] = refl
+take_all (m ∷ ms) = ap (λ (l : List Mpdu). m ∷ l) (take_all ms)
+
+pub flying_begins : (v : TransmitValue) (w : World) (bodies : ℕ → FrameValue) (s t e : ℕ) (mpdus : List Mpdu)
+    (after : World) (pairs : List (ℕ × ℕ)) → IsTakingOff v w bodies s t e mpdus after → pairs ≡ [] →
+    IsFlying v bodies s t e mpdus after 0 pairs
+flying_begins v w bodies s t e mpdus after pairs off none = record { world = w; off = off; pairs_are = none }
+
+module _ (v : TransmitValue) (bodies : ℕ → FrameValue) (s t e : ℕ) (mpdus : List Mpdu) (after : World) (i : ℕ)
+    (pairs : List (ℕ × ℕ)) (h : IsFlying v bodies s t e mpdus after i pairs) (number : ℕ)
+    (at : slice_get (numbers_on_air mpdus) i ≡ Some number) where
+  k : IsAt mpdus i number
+  k = is_at mpdus i number at
+
+  off : IsTakingOff v h.world bodies s t e (k.m ∷ drop (suc i) mpdus) after
+  off = subst (λ (ms : List Mpdu). IsTakingOff v h.world bodies s t e ms after) k.rest h.off
+
+  pub flying_waits : state_at (window_of v.windows s t) number ≡ State.Waiting
+  flying_waits = off_waits v h.world bodies s t e k.m (drop (suc i) mpdus) after off number k.on_air_is
+
+  is_number : IsNumber (session h.world s t) k.m.number number
+  is_number = off_number v h.world bodies s t e k.m (drop (suc i) mpdus) after off number k.on_air_is
+
+  stands : WindowStandsFor (window_of v.windows s t) (session h.world s t) bodies
+  stands = off.parts.windows.all.stands s t off.live off.tid
+
+  pub flying_next : (f : FrameValue) → ((y : Session) (all : ℕ → FrameValue) (n : ℕ) →
+      WindowStandsFor (window_of v.windows s t) y all → IsNumber y n number → f ≡ all (slot y n).id) →
+      (windows : List WindowValue) → windows ≡ with_window v.windows s t (window_of windows s t) →
+      WindowsHaveRoom windows →
+      ((y : Session) (all : ℕ → FrameValue) (n : ℕ) → WindowStandsFor (window_of v.windows s t) y all →
+      IsNumber y n number → WindowStandsFor (window_of windows s t)
+      (with_state (State.Flying e) n y) all) →
+      IsFlying (record v { windows = windows }) bodies s t e mpdus after (i + 1)
+      (pairs ++ (f.id, number) ∷ [])
+  flying_next f read windows others room flies = let one : suc i ≡ i + 1 = omega arith in
+      subst (λ (n : ℕ). IsFlying (record v { windows = windows }) bodies s t e mpdus after n
+      (pairs ++ (f.id, number) ∷ [])) one (record {
+        world = on_session h.world s t (with_state (State.Flying e) k.m.number);
+        off =
+            subst (λ (ws : List WindowValue). IsTakingOff (record v { windows = ws })
+            (on_session h.world s t (with_state (State.Flying e) k.m.number)) bodies s t e
+            (drop (suc i) mpdus) after) (sym others)
+            (off_next v h.world bodies s t e k.m (drop (suc i) mpdus) after off (window_of windows s t)
+            (subst WindowsHaveRoom others room) (flies
+            (session h.world s t) bodies k.m.number stands is_number));
+        pairs_are =
+            ap₂ (λ (l : List (ℕ × ℕ)) (p : ℕ × ℕ). l ++ p ∷ []) h.pairs_are
+            (ap₂ (λ (a b : ℕ). (a, b)) (ap (λ (g : FrameValue). g.id)
+            (read (session h.world s t) bodies k.m.number stands is_number)
+            ∙ off_frame v h.world bodies s t e k.m (drop (suc i) mpdus) after off) k.on_air_is)
+            ∙ sym (map-append (λ (m : Mpdu). (m.id, m.number % 4096)) (take i mpdus) (k.m ∷ []))
+            ∙ ap pairs_of (sym k.front);
+      })
+
+pub as_many : (mpdus : List Mpdu) (numbers : List ℕ) → numbers ≡ numbers_on_air mpdus →
+    length numbers ≡ length mpdus
+as_many mpdus numbers is = ap (length {A = ℕ}) is ∙ length-map mpdus (λ (m : Mpdu). on_air m.number)
+
+-- as many pairs as places: all have taken off
+pub all_fly : (v : TransmitValue) (bodies : ℕ → FrameValue) (s t e : ℕ) (mpdus : List Mpdu) (after : World)
+    (i : ℕ) (pairs : List (ℕ × ℕ)) → IsFlying v bodies s t e mpdus after i pairs → length pairs ≡ i →
+    length mpdus ≤ i →
+    IsFlying v bodies s t e mpdus after (length mpdus) pairs
+all_fly v bodies s t e mpdus after i pairs h count past =
+    let short : i ≡ length mpdus = omega (
+      arith,
+      count,
+      past,
+      ap (length {A = ℕ × ℕ}) h.pairs_are,
+      length-map {B = ℕ × ℕ} (take i mpdus) (λ (m : Mpdu). (m.id, m.number % 4096)),
+      length-take i mpdus,
+    ) in
+    subst (λ (n : ℕ). IsFlying v bodies s t e mpdus after n pairs) short h
+
+pub one_more_pair : (pairs more : List (ℕ × ℕ)) (p : ℕ × ℕ) (i : ℕ) → more ≡ pairs ++ p ∷ [] →
+    length pairs ≡ i → length more ≡ i + 1
+one_more_pair pairs more p i is count = omega
+    (arith, ap (length {A = ℕ × ℕ}) is, length-append pairs (p ∷ []), count)
+
+-- ---- an aggregate that is filled takes off
+
+module _ (v : TransmitValue) (bodies : ℕ → FrameValue) (s t : ℕ) (room : RoomValue) (numbers : List ℕ)
+    (a : Aggregate) (h : IsFilled v bodies s t room numbers a) where
+  pub filled_off : IsTakingOff v a.world bodies s t v.exchanges a.mpdus (prepared_data s t a).world
+  filled_off =
+      subst (λ (e : ℕ). IsTakingOff v a.world bodies s t e a.mpdus (prepared_data s t a).world)
+      (sym h.parts.others.exchanges)
+      (off_begins v a bodies s t h.parts h.live h.tid h.waiting)
+
+  pub some_room : 1 ≤ length a.mpdus → 1 ≤ room.count
+  some_room some = omega (arith, some, h.room_is.lens.count, length-map a.mpdus (λ (m : Mpdu). m.len))
+
+  module _ (w : World) (is : aggregate_of w s t ≡ a) where
+    pub filled_flies : (u : TransmitValue) (pairs : List (ℕ × ℕ)) (charge : ℕ) →
+        IsFlying u bodies s t v.exchanges a.mpdus (prepared_data s t a).world (length a.mpdus) pairs →
+        ((lens : List ℕ) → RoomStandsFor room lens → charge
+        ≡ data_charge room.rate (aggregate_octets lens) room.wide) →
+        IsPrepared u w bodies s t charge numbers pairs
+    filled_flies u pairs charge flying air =
+        subst (λ (b : Aggregate). IsPreparedAs u b bodies s t charge numbers pairs) (sym is) (record {
+          world = flying.world;
+          off = subst (λ (e : ℕ). IsTakingOff u flying.world bodies s t e [] (prepared_data s t a).world)
+              h.parts.others.exchanges
+              (subst (λ (ms : List Mpdu). IsTakingOff u flying.world bodies s t v.exchanges ms
+              (prepared_data s t a).world) (drop_all a.mpdus) flying.off);
+          charge_is = air (lens_of a.mpdus) h.room_is.lens ∙ filled_charge v bodies s t room numbers a h;
+          numbers_are = h.on_air;
+          pairs_are = flying.pairs_are ∙ ap pairs_of (take_all a.mpdus);
+        })

@@ -1,0 +1,85 @@
+-- A new half, from what its parts are.
+use Rattle.std.proofs.Common.{◌≡◌, refl, ap, sym, ◌∙◌, subst, ℕ, ◌*◌, List, [], Option, None, replicate}
+use Rattle.std.proofs.lemmas.List.{length-replicate}
+use Rattle.wf_frame.specs.declared.settings.Config.{Config}
+use Rattle.wf_frame.specs.declared.classes.Fate.TheVariants.{Held}
+use Rattle.wf_frame.specs.Frames.{FrameValue}
+use Rattle.wf_frame.specs.Settings.{IsInRange}
+use Rattle.wf_def_world.specs.World.{opening}
+use Rattle.wf_send_stations.specs.Tally.{Counts, no_counts}
+use Rattle.wf_queue_flows.specs.Flows.{FlowsValue, empty_flows}
+use Rattle.wf_sched_stations.specs.ClassRotas.{SchedValue, new_scheduler as empty_sched}
+use Rattle.wf_send_window.specs.Window.{WindowValue}
+use Rattle.wf_send_window.specs.Windows.{new_window}
+use Rattle.wf_send_exchanges.specs.declared.opened.Open.{Open}
+use Rattle.wf_send_stations.specs.declared.members.Member.{Member}
+use Rattle.wf_octets_tim.specs.declared.sleepers.Sleeper.{Sleeper}
+use Rattle.wf_octets_tim.specs.Sleepers.{awake}
+use Rattle.wf_send_half_refines.specs.Half.{TransmitValue, opening_half}
+use Rattle.wf_send_half_refines.specs.Standing.{StandsFor}
+use Rattle.wf_send_half_refines.proofs.Opening.{new_stands}
+use Rattle.wf_send_half.specs.Half.{HasSizes}
+
+-- some frame, for the ids that are not accepted yet
+abbrev pub a_frame : FrameValue
+a_frame = record { body = []; id = 0; stamp = 0; station = 0; tid = 0; flow = 0; fate = Held }
+
+opening_sizes : (c : Config) → IsInRange c → HasSizes (opening_half c)
+opening_sizes c range = record {
+  in_range = range;
+  flows = refl;
+  sched = refl;
+  windows = length-replicate (8 * c.stations) new_window;
+  members = length-replicate {A = Option Member} c.stations None;
+  sleepers = length-replicate c.stations awake;
+}
+
+module _ (c : Config) (flows : FlowsValue) (sched : SchedValue) (windows : List WindowValue)
+    (members : List (Option Member)) (sleepers : List Sleeper) (opened : List Open) (tally : Counts)
+    (range : IsInRange c)
+    (a : flows ≡ empty_flows c) (b : sched ≡ empty_sched c.stations c.quantum)
+    (d : windows ≡ replicate (8 * c.stations) new_window) (e : members ≡ replicate c.stations None)
+    (f : sleepers ≡ replicate c.stations awake) (g : opened ≡ []) (i : tally ≡ no_counts) where
+  abbrev made : TransmitValue
+  made = record {
+    config = c;
+    clock = 0;
+    exchanges = 0;
+    inside = 0;
+    flows = flows;
+    sched = sched;
+    windows =
+        windows;
+    members = members;
+    sleepers = sleepers;
+    opened = opened;
+    tally = tally;
+  }
+
+  made_is : made ≡ opening_half c
+  made_is =
+      ap (λ (x : FlowsValue). record made { flows = x }) a
+      ∙ ap (λ (x : SchedValue). record made { flows = empty_flows c; sched = x }) b
+      ∙ ap (λ (x : List WindowValue). record made {
+        flows = empty_flows c;
+        sched =
+            empty_sched c.stations c.quantum;
+        windows = x;
+      }) d
+      ∙ ap (λ (x : List (Option Member)). record (opening_half c) {
+        members = x;
+        sleepers = sleepers;
+        opened =
+            opened;
+        tally = tally;
+      }) e
+      ∙ ap (λ (x : List Sleeper). record (opening_half c) { sleepers = x; opened = opened; tally = tally }) f
+      ∙ ap (λ (x : List Open). record (opening_half c) { opened = x; tally = tally }) g
+      ∙ ap (λ (x : Counts). record (opening_half c) { tally = x }) i
+
+  pub sizes : HasSizes made
+  sizes = subst HasSizes (sym made_is) (opening_sizes c range)
+
+  pub stands : (bodies : ℕ → FrameValue) → StandsFor made (opening c) bodies
+  stands bodies = subst (λ (v : TransmitValue). StandsFor v (opening c) bodies) (sym made_is)
+      (new_stands c bodies range)

@@ -1,0 +1,286 @@
+-- A whole pull: the station that is picked sends what is prepared.
+use Rattle.std.proofs.Common.{◌≡◌, refl, ap, sym, ◌∙◌, subst, arith, ℕ, ◌<◌, ◌≤◌, ◌==◌, Bool, true, false, not, ◌||◌, if◌then◌else◌, List, [], length, Option, Some, None, IfSome, is_some, option_map, unwrap_or}
+use Rattle.std.specs.Prelude.{All, nat_le, count_by}
+use Rattle.std.proofs.lemmas.Bool.Decides.{nat_tests}
+use Rattle.std.proofs.lemmas.List.{get_or-set_same}
+use Rattle.wf_frame.specs.declared.answers.Brief.{Brief}
+use Rattle.wf_frame.specs.declared.answers.Brief.TheVariants.{Send}
+use Rattle.wf_frame.specs.declared.classes.Class.{Class}
+use Rattle.wf_frame.specs.declared.notes.Ask.TheVariants.{Pull}
+use Rattle.wf_frame.specs.declared.notes.Note.TheVariants.{Asked}
+use Rattle.wf_frame.specs.declared.notes.Part.TheVariants.{Mpdus, Request as Starts}
+use Rattle.wf_frame.specs.declared.notes.ReplyNote.TheVariants.{Send as Sends, Refused as Refuses}
+use Rattle.wf_frame.specs.declared.notes.Refusal.TheVariants.{Idle, Full}
+use Rattle.wf_frame.specs.Answers.{reply_with}
+use Rattle.wf_frame.specs.Classes.{lower_tid, same_class}
+use Rattle.wf_frame.specs.Frames.{FrameValue}
+use Rattle.wf_def_lists.specs.Lengths.{greatest_body}
+use Rattle.wf_def_rotation.specs.Rotation.{Rotation, has_key}
+use Rattle.wf_def_agreement.specs.Session.{request_due}
+use Rattle.wf_def_lists.specs.Table.{at}
+use Rattle.wf_def_world.specs.World.{World, Station, no_station, is_live, station, session}
+use Rattle.wf_def_world.specs.CanSend.{can_give, can_send, has_waiting, request_open}
+use Rattle.wf_def_world.specs.Exchanges.{aggregate_of, picked_station, after_pick, sending_tid, after_tid_turn}
+use Rattle.wf_law_runs.proofs.Deficits.Books.{books}
+use Rattle.wf_law_runs.proofs.Deficits.Kept.{IsKept}
+use Rattle.wf_law_runs.proofs.Deficits.KeptStep.{kept}
+use Rattle.wf_law_runs.proofs.Ranges.Law.{range_law}
+use Rattle.wf_law_runs.proofs.Sent.Lengths.{IsStocked, stocked}
+use Rattle.wf_law_runs.proofs.Sent.Some.{IsApt, apt, apt_picked, apt_turned, some_filled}
+use Rattle.wf_sched_stations.specs.ClassRotas.{SchedValue, IsAfterPick, class_rota, with_class_rota, pick_of_class}
+use Rattle.wf_sched_stations_refines.specs.Calls.{HasPickedInClass}
+use Rattle.wf_sched_stations_refines.specs.Standing.{TellsReady}
+use Rattle.wf_sched_stations_refines.proofs.Picks.{pick_same}
+use Rattle.wf_send_exchanges.specs.declared.opened.Sending.{Sending}
+use Rattle.wf_send_exchanges.specs.declared.opened.Sending.TheVariants.{Data, Request as Starts_at}
+use Rattle.wf_send_window.proofs.Calls.{due_is}
+use Rattle.wf_send_stations.specs.declared.members.Member.{Member}
+use Rattle.wf_send_stations.specs.Members.{member, with_upper}
+use Rattle.wf_send_window.specs.Windows.{window_of}
+use Rattle.wf_send_half_refines.specs.Half.{TransmitValue, can_send_of}
+use Rattle.wf_send_half_refines.specs.Standing.{IsMember, AreBoth, IsReached, Parts, StandsFor, Meets}
+use Rattle.wf_send_half_refines.specs.Changes.{after_listing}
+use Rattle.wf_send_half_refines.specs.Filling.{IsTurned}
+use Rattle.wf_send_half_refines.specs.Pulling.{sending_tid_of, after_turn, open_next, after_sending}
+use Rattle.wf_send_half_refines.proofs.Asked.{turn_sends, full_refused, idle_refused, not_refused}
+use Rattle.wf_send_half_refines.proofs.Meets.{refused_meets}
+use Rattle.wf_send_half_refines.proofs.Openings.{opens_above, opens_within}
+use Rattle.wf_send_half_refines.proofs.Pulls.{pick_parts, idle_pull}
+use Rattle.wf_send_half_refines.proofs.Reached.{by_law}
+use Rattle.wf_send_half_refines.proofs.Readers.{can_send_same, live_same, ready_same}
+use Rattle.wf_send_half_refines.proofs.Sends.{winner_live, turn_tid, turned, request_meets, data_meets}
+use Rattle.wf_send_half.specs.Pulls.{IsExponentSmall, IsSameButFrames, IsPreparedAs, TellsWhoIsReady, IsPickedInClass, HasToPrepare, IsRequestDue, IsData, IsPreparedFor, start_sent}
+
+-- ---- what holds in the world of a run
+
+apt_reached : (w : World) → IsReached w → IsApt w
+apt_reached w r =
+    apt w (subst (λ (z : World). IsKept (books z)) (sym r.after) (kept w.config r.history r.in_range))
+    (subst (IsStocked greatest_body) (sym r.after) (stocked greatest_body w.config r.history r.lengths.1))
+
+exponent_reached : (w : World) → IsReached w → (s : ℕ) → is_live w s ≡ true → (station w s).exponent ≤ 3
+exponent_reached w r s = by_law (λ u. is_live u s ≡ true → (station u s).exponent ≤ 3) w r
+    (λ m live. ((range_law w.config r.history r.in_range m).stations s live).exponent)
+
+exponent_of : (m : Option Member) (o : Option Station) → AreBoth IsMember m o →
+    (is_some o ≡ true → (unwrap_or o no_station).exponent ≤ 3) → IfSome m (λ k. k.exponent ≤ 3)
+exponent_of None o h few = tt
+exponent_of (Some m) None h few = absurd h
+exponent_of (Some m) (Some x) h few = omega (arith, h.exponent, few refl)
+
+pub exponent_small : (v : TransmitValue) (w : World) (bodies : ℕ → FrameValue) → StandsFor v w bodies →
+    (s : ℕ) → IsExponentSmall v s
+exponent_small v w bodies h s = exponent_of (member v.members s) (at None w.stations s)
+    (h.parts.others.stations.live s) (exponent_reached w h.reached s)
+
+upper_small : (o : Option Member) (c : Class) (b : Bool) → IfSome o (λ m. m.exponent ≤ 3) →
+    IfSome (option_map (with_upper c b) o) (λ m. m.exponent ≤ 3)
+upper_small None c b h = tt
+upper_small (Some m) c b h = h
+
+turn_small : (v : TransmitValue) (s t : ℕ) (c : Class) → s < length v.members → IsExponentSmall v s →
+    IsExponentSmall (after_turn v s c t) s
+turn_small v s t c low h =
+    subst (λ (o : Option Member). IfSome o (λ m. m.exponent ≤ 3))
+    (sym (get_or-set_same v.members s (option_map (with_upper c (t == lower_tid c)) (member v.members s))
+    None low))
+    (upper_small (member v.members s) c (t == lower_tid c) h)
+
+-- ---- the station that is picked
+
+sends_data : (b x y : Bool) → (if b then x else y) ≡ true → b ≡ false → y ≡ true
+sends_data true x y h quiet = absurd (cc quiet)
+sends_data false x y h quiet = h
+
+module _ (v u : TransmitValue) (w : World) (bodies : ℕ → FrameValue) (s : ℕ) (c : Class)
+    (h : IsPickedInClass v u w bodies s c) where
+  abbrev picked_half : TransmitValue
+  picked_half = record v { sched = u.sched }
+
+  pub tid_of : sending_tid_of u s c ≡ sending_tid (after_pick w c) s c
+  tid_of = ap (λ (z : TransmitValue). sending_tid_of z s c) h.others
+      ∙ turn_tid v w bodies h.stands c s h.won u.sched h.picked
+
+  picked_parts : Parts picked_half (after_pick w c) bodies
+  picked_parts = pick_parts v w bodies c u.sched h.picked h.stands.parts
+
+  picked_within : s < length v.members
+  picked_within = omega (
+    arith,
+    picked_parts.others.turns.live s (winner_live v w bodies h.stands c s h.won),
+    picked_parts.others.stations.sized.0,
+  )
+
+  pub live_picked : is_some (member u.members s) ≡ true
+  live_picked =
+      ap (λ (z : TransmitValue). is_some (member z.members s)) h.others
+      ∙ live_same picked_half (after_pick w c) bodies s picked_parts
+      ∙ winner_live v w bodies h.stands c s h.won
+
+  module _ (t : ℕ) (t_is : t ≡ sending_tid_of u s c) (y : TransmitValue) (y_is : y ≡ after_turn u s c t) where
+    abbrev turned_world : World
+    turned_world = after_tid_turn (after_pick w c) s c t
+
+    own_tid : t ≡ sending_tid_of picked_half s c
+    own_tid = t_is ∙ ap (λ (z : TransmitValue). sending_tid_of z s c) h.others
+
+    half_is : y ≡ after_turn picked_half s c t
+    half_is = y_is ∙ ap (λ (z : TransmitValue). after_turn z s c t) h.others
+
+    pub turned_half : IsTurned y turned_world bodies s t
+    turned_half = subst (λ (z : TransmitValue). IsTurned z turned_world bodies s t) (sym half_is)
+        (turned v w bodies h.stands c s h.won u.sched h.picked t own_tid)
+
+    can_send_turned : can_send turned_world s t ≡ true
+    can_send_turned =
+        sym (can_send_same y turned_world bodies s t turned_half.parts turned_half.live turned_half.tid)
+        ∙ ap (λ (z : TransmitValue). can_send_of z s t) half_is
+        ∙ ap (λ (k : ℕ). can_send_of picked_half s k) own_tid
+        ∙ turn_sends v w bodies h.stands c s h.won u.sched h.picked
+
+    pub to_prepare : HasToPrepare y s t
+    to_prepare = record {
+      world = turned_world;
+      bodies = bodies;
+      turned = turned_half;
+      some = λ quiet.
+          some_filled turned_world s t turned_half.live
+          (sends_data (request_due (session turned_world s t)) (not (request_open turned_world s t))
+          (has_waiting turned_world s t || can_give turned_world s t) can_send_turned quiet)
+          (apt_turned (after_pick w c) s c t (apt_picked w c (apt_reached w h.stands.reached)));
+    }
+
+    pub live_turned : is_some (member y.members s) ≡ true
+    live_turned = live_same y turned_world bodies s turned_half.parts ∙ turned_half.live
+
+    pub exponent_turned : IsExponentSmall y s
+    exponent_turned = subst (λ (z : TransmitValue). IsExponentSmall z s) (sym half_is)
+        (turn_small picked_half s t c picked_within (exponent_small v w bodies h.stands s))
+
+    -- ---- what it sends
+
+    module _ (z : TransmitValue) (charge : ℕ) (pairs : List (ℕ × ℕ)) where
+      request_sent : (start : ℕ) → IsRequestDue y z s t charge start →
+          Meets w bodies (Asked (Pull c)) (after_listing (after_sending z s t c charge (Starts_at start)) s)
+          (Sends z.exchanges s t charge (Starts start) (open_next z s t c charge (Starts_at start)).more)
+      request_sent start k =
+          subst (λ (x : TransmitValue). Meets w bodies (Asked (Pull c))
+          (after_listing (after_sending x s t c charge (Starts_at start)) s)
+          (Sends x.exchanges s t charge (Starts start) (open_next x s t c charge (Starts_at start)).more))
+          (sym k.same)
+          (subst (λ (n : ℕ). Meets w bodies (Asked (Pull c))
+          (after_listing (after_sending y s t c charge (Starts_at n)) s)
+          (Sends y.exchanges s t charge (Starts n) (open_next y s t c charge (Starts_at n)).more))
+          (sym k.start_is)
+          (request_meets v w bodies h.stands c s h.passes h.won t
+          (t_is ∙ tid_of) y turned_half k.due charge k.charge_is))
+
+      data_sent : (numbers : List ℕ) → IsData y z s t charge pairs numbers →
+          Meets w bodies (Asked (Pull c)) (after_listing (after_sending z s t c charge (Data numbers)) s)
+          (Sends z.exchanges s t charge (Mpdus pairs) (open_next z s t c charge (Data numbers)).more)
+      data_sent numbers k =
+          let quiet : request_due (session turned_world s t) ≡ false =
+          sym (due_is (window_of y.windows s t) (session turned_world s t) bodies
+          (turned_half.parts.windows.all.stands s t turned_half.live turned_half.tid)) ∙ k.quiet in
+          let p : IsPreparedAs z (aggregate_of turned_world s t) bodies s t charge numbers pairs =
+          k.prepared turned_world bodies (record { turned = turned_half; quiet = quiet }) in
+          subst (λ (l : List (ℕ × ℕ)). Meets w bodies (Asked (Pull c))
+          (after_listing (after_sending z s t c charge (Data numbers)) s)
+          (Sends z.exchanges s t charge (Mpdus l) (open_next z s t c charge (Data numbers)).more))
+          (sym p.pairs_are)
+          (data_meets v w bodies h.stands c s h.passes h.won t (t_is ∙ tid_of)
+          (aggregate_of turned_world s t) refl quiet z p.world p.off charge numbers p.charge_is
+          p.numbers_are)
+
+      part_sent : (sending : Sending) → IsPreparedFor y z s t charge pairs sending →
+          Meets w bodies (Asked (Pull c)) (after_listing (after_sending z s t c charge sending) s)
+          (reply_with (Send z.exchanges s t charge (start_sent sending)
+          (open_next z s t c charge sending).more) pairs [])
+      part_sent (Data numbers) k = data_sent numbers k
+      part_sent (Starts_at start) k = request_sent start k
+
+      pub pull_done : (sending : Sending) → IsPreparedFor y z s t charge pairs sending → (a : TransmitValue) →
+          a ≡ after_listing (after_sending z s t c charge sending) s →
+          (brief : Brief) → brief ≡ Send z.exchanges s t charge (start_sent sending)
+          (open_next z s t c charge sending).more →
+          Meets w bodies (Asked (Pull c)) a (reply_with brief pairs [])
+      pull_done sending k a a_is brief brief_is =
+          subst (λ (x : TransmitValue). Meets w bodies (Asked (Pull c)) x (reply_with brief pairs []))
+          (sym a_is)
+          (subst (λ (b : Brief). Meets w bodies (Asked (Pull c))
+          (after_listing (after_sending z s t c charge sending) s) (reply_with b pairs [])) (sym brief_is)
+          (part_sent sending k))
+
+    -- its number is past all that are open
+    pub opens_next : (z : TransmitValue) → IsSameButFrames y z → All (λ o. o.number < z.exchanges) z.opened
+    opens_next z same =
+        subst (λ (x : TransmitValue). All (λ o. o.number < x.exchanges) x.opened) (sym same)
+        (subst (λ (x : TransmitValue). All (λ o. o.number < x.exchanges) x.opened) (sym half_is)
+        (opens_above v w bodies h.stands))
+
+-- ---- as many are open as may be
+
+few_open : (n m k : ℕ) → m < n → m ≡ k → nat_le n k ≡ false
+few_open n m k h e = grind (arith, nat_tests)
+
+many_open : (n m k : ℕ) → n ≤ m → m ≡ k → nat_le n k ≡ true
+many_open n m k h e = grind (arith, nat_tests)
+
+abbrev open_in : TransmitValue → Class → ℕ
+open_in v c = count_by (λ x. same_class x.class c) v.opened
+
+pub pull_full : (x v : TransmitValue) → x ≡ v → (w : World) (bodies : ℕ → FrameValue) → StandsFor v w bodies →
+    (c : Class) (n : ℕ) → n ≡ open_in x c → x.config.inflight ≤ n →
+    Meets w bodies (Asked (Pull c)) v (Refuses (Full n))
+pull_full x v same w bodies h c n is full =
+    let at_x : StandsFor x w bodies = subst (λ (z : TransmitValue). StandsFor z w bodies) (sym same) h in
+    subst (λ (z : TransmitValue). Meets w bodies (Asked (Pull c)) z (Refuses (Full n))) same
+    (subst (λ (k : ℕ). Meets w bodies (Asked (Pull c)) x (Refuses (Full k))) (sym is)
+    (refused_meets x w bodies (Asked (Pull c)) (Full (open_in x c)) at_x
+    (full_refused x w bodies c at_x.parts (many_open x.config.inflight n (open_in x c) full is))
+    (λ e. cc e)))
+
+-- ---- the pick
+
+-- x is what the fields of the half v are
+module _ (x v : TransmitValue) (same : x ≡ v) (w : World) (bodies : ℕ → FrameValue)
+    (stands : StandsFor v w bodies) (c : Class) (ready : List Bool) (told : TellsWhoIsReady v c ready) (n : ℕ)
+    (count : n ≡ open_in x c) (less : n < x.config.inflight) where
+  at_x : StandsFor x w bodies
+  at_x = subst (λ (z : TransmitValue). StandsFor z w bodies) (sym same) stands
+
+  few : nat_le x.config.inflight (open_in x c) ≡ false
+  few = few_open x.config.inflight n (open_in x c) less count
+
+  pub room_next : length x.opened < 32
+  room_next = opens_within x w bodies at_x c few
+
+  tells : TellsReady w c ready
+  tells s listed =
+      let to_x : TellsWhoIsReady x c ready = subst (λ (z : TransmitValue). TellsWhoIsReady z c ready)
+      (sym same) told in
+      to_x.tells s (ap (λ (r : Rotation). has_key r s) (at_x.parts.others.turns.rotations c) ∙ listed)
+      ∙ ready_same x w bodies c s at_x.parts
+
+  winner_is : (picked_station w c).winner ≡ (pick_of_class x.sched c ready).winner
+  winner_is = sym (pick_same x.sched w c ready at_x.parts.others.turns tells).winner
+
+  module _ (turns : SchedValue) (after : IsAfterPick (class_rota x.sched c) (pick_of_class x.sched c ready)
+      (class_rota turns c)) (others : turns ≡ with_class_rota x.sched c (class_rota turns c)) where
+    has_picked : HasPickedInClass w c x.sched turns
+    has_picked = record { ready = ready; tells = tells; turned = after; others = others }
+
+    pub picked_one : (s : ℕ) → Some s ≡ (pick_of_class x.sched c ready).winner →
+        IsPickedInClass x (record x { sched = turns }) w bodies s c
+    picked_one s is = record {
+      stands = at_x;
+      passes = not_refused x w bodies c at_x.parts few s (winner_is ∙ sym is);
+      won = winner_is ∙ sym is;
+      picked = has_picked;
+      others = refl;
+    }
+
+    pub picked_none : None ≡ (pick_of_class x.sched c ready).winner →
+        Meets w bodies (Asked (Pull c)) (record x { sched = turns }) (Refuses Idle)
+    picked_none is = idle_pull x w bodies at_x c turns
+        (idle_refused x w bodies c at_x.parts few (winner_is ∙ sym is)) has_picked

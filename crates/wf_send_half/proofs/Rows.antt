@@ -1,0 +1,193 @@
+-- The rows of a refusal, one after the other: a test of the half refuses where the world's test does.
+use Rattle.std.proofs.Common.{◌≡◌, refl, ap, sym, ◌∙◌, ℕ, Bool, true, false, not, ◌||◌, ◌==◌, nat_lt, pos, ◌-ℤ◌, arith, List, [], ◌∷◌, ◌++◌, Option, Some, None, if◌then◌else◌, is_some}
+use Rattle.std.specs.Prelude.{nat_le, int_lt, Result, Ok, Err, IfOk, IfErr}
+use Rattle.std.proofs.lemmas.Bool.Decides.{nat_tests}
+use Rattle.wf_frame.specs.Frames.{FrameValue}
+use Rattle.wf_frame.specs.declared.settings.Config.{Config}
+use Rattle.wf_frame.specs.declared.notes.Note.{Note}
+use Rattle.wf_frame.specs.declared.notes.Refusal.{Refusal}
+use Rattle.wf_frame.specs.declared.notes.Refusal.TheVariants.{Idle, BadStation, NoStation, BadAir, Debt}
+use Rattle.wf_frame.specs.declared.notes.Note.TheVariants.{Asked}
+use Rattle.wf_frame.specs.declared.notes.Ask.TheVariants.{Rx}
+use Rattle.wf_frame.specs.declared.classes.Class.{Class}
+use Rattle.wf_def_lists.specs.Bounds.{greatest_mcs, greatest_air, deepest_deficit}
+use Rattle.wf_air_time.specs.Rates.{IsRateOfCode, IsNoRate}
+use Rattle.std.specs.Result.{result_err}
+use Rattle.wf_frame.specs.declared.notes.ReplyNote.TheVariants.{Refused}
+use Rattle.wf_def_world.specs.World.{World, is_live, station, share}
+use Rattle.wf_def_world.specs.Refusals.{first_refusal, is_bad_station, is_within, refusals, refusal}
+use Rattle.wf_send_stations.specs.Members.{member}
+use Rattle.wf_octets_tim.specs.Sleepers.{sleeper}
+use Rattle.wf_send_half_refines.specs.Half.{TransmitValue}
+use Rattle.wf_send_half_refines.specs.Standing.{StandsFor, Meets}
+use Rattle.wf_send_half_refines.proofs.Readers.{live_same}
+use Rattle.wf_send_half_refines.proofs.Meets.{refused_meets}
+
+-- ---- one row
+
+-- the last row
+pub last_row : (a b : Bool) (r : Refusal) → b ≡ a → (if a then Some r else None) ≡ first_refusal ((b, r) ∷ [])
+unfolding first_refusal
+last_row true b r e = ap (λ (x : Bool). if x then Some r else None) (sym e)
+last_row false b r e = ap (λ (x : Bool). if x then Some r else None) (sym e)
+
+-- a row that refuses
+pub row_refuses : (a b : Bool) (r given : Refusal) (rows : List (Bool × Refusal)) → b ≡ a →
+    Some given ≡ (if a then Some r else None) → Some given ≡ first_refusal ((b, r) ∷ rows)
+unfolding first_refusal
+row_refuses true true r given rows e is = is
+row_refuses true false r given rows e is = absurd (cc e)
+row_refuses false b r given rows e is = absurd (cc is)
+
+-- a row that does not
+pub row_passes : (a b : Bool) (r : Refusal) (rows : List (Bool × Refusal)) → b ≡ a →
+    None ≡ (if a then Some r else None) → first_refusal ((b, r) ∷ rows) ≡ first_refusal rows
+unfolding first_refusal
+row_passes true b r rows e is = absurd (cc is)
+row_passes false true r rows e is = absurd (cc e)
+row_passes false false r rows e is = refl
+
+-- ---- the tests
+
+module _ (v : TransmitValue) (w : World) (bodies : ℕ → FrameValue) (h : StandsFor v w bodies) (s : ℕ) where
+  pub bad_same : is_bad_station w s ≡ nat_le v.config.stations s
+  bad_same = ap (λ (c : Config). nat_le c.stations s) (sym h.parts.others.config)
+
+  -- the rows of a station that is to be there
+  pub out_of_range : (rows : List (Bool × Refusal)) (r : Refusal) →
+      Some r ≡ (if nat_le v.config.stations s then Some BadStation else None) →
+      Some r ≡ first_refusal ((is_bad_station w s, BadStation) ∷ rows)
+  out_of_range rows r e = row_refuses (nat_le v.config.stations s)
+      (is_bad_station w s) BadStation r rows bad_same e
+
+  pub in_range : (rows : List (Bool × Refusal)) →
+      None ≡ (if nat_le v.config.stations s then Some BadStation else None) →
+      first_refusal ((is_bad_station w s, BadStation) ∷ rows) ≡ first_refusal rows
+  in_range rows e = row_passes (nat_le v.config.stations s) (is_bad_station w s) BadStation rows bad_same e
+
+  pub absent_same : not (is_live w s) ≡ not (is_some (member v.members s))
+  absent_same = ap not (sym (live_same v w bodies s h.parts))
+
+  pub not_there : (rows : List (Bool × Refusal)) (r : Refusal) →
+      Some r ≡ (if not (is_some (member v.members s)) then Some NoStation else None) →
+      Some r ≡ first_refusal ((not (is_live w s), NoStation) ∷ rows)
+  not_there rows r e = row_refuses (not (is_some (member v.members s)))
+      (not (is_live w s)) NoStation r rows absent_same e
+
+  pub there : (rows : List (Bool × Refusal)) → None
+      ≡ (if not (is_some (member v.members s)) then Some NoStation else None) →
+      first_refusal ((not (is_live w s), NoStation) ∷ rows) ≡ first_refusal rows
+  there rows e = row_passes (not (is_some (member v.members s)))
+      (not (is_live w s)) NoStation rows absent_same e
+
+  pub credit_same : is_live w s ≡ true → (station w s).credit ≡ (sleeper v.sleepers s).credit
+  credit_same live = sym (h.parts.others.stations.credit s live)
+
+  pub asleep_same : is_live w s ≡ true → (station w s).asleep ≡ (sleeper v.sleepers s).asleep
+  asleep_same live = sym (h.parts.others.stations.asleep s live)
+
+  pub live_of : is_some (member v.members s) ≡ true → is_live w s ≡ true
+  live_of is = sym (live_same v w bodies s h.parts) ∙ is
+
+-- ---- several rows
+
+either_refuses : (b : Bool) (r first : Refusal) (o p : Option Refusal) → (Some r ≡ o → Some r ≡ p) →
+    Some r ≡ (if b then Some first else o) → Some r ≡ (if b then Some first else p)
+either_refuses true r first o p later e = e
+either_refuses false r first o p later e = later e
+
+pub rows_refuse : (xs ys : List (Bool × Refusal)) (r : Refusal) → Some r ≡ first_refusal xs →
+    Some r ≡ first_refusal (xs ++ ys)
+unfolding first_refusal
+rows_refuse [] ys r is = absurd (cc is)
+rows_refuse (x ∷ xs) ys r is = either_refuses x.0 r x.1 (first_refusal xs) (first_refusal (xs ++ ys))
+    (rows_refuse xs ys r) is
+
+both_pass : (b : Bool) (first : Refusal) (o p q : Option Refusal) → (None ≡ o → p ≡ q) →
+    None ≡ (if b then Some first else o) → (if b then Some first else p) ≡ q
+both_pass true first o p q later e = absurd (cc e)
+both_pass false first o p q later e = later e
+
+pub rows_pass : (xs ys : List (Bool × Refusal)) → None ≡ first_refusal xs →
+    first_refusal (xs ++ ys) ≡ first_refusal ys
+unfolding first_refusal
+rows_pass [] ys is = refl
+rows_pass (x ∷ xs) ys is = both_pass x.0 x.1 (first_refusal xs) (first_refusal (xs ++ ys)) (first_refusal ys)
+    (rows_pass xs ys) is
+
+-- ---- a refused call
+
+abbrev pub NoIdle : List (Bool × Refusal) → Type 0
+NoIdle [] = Unit {0}
+NoIdle (row ∷ rows) = (row.1 ≡ Idle → ⊥) × NoIdle rows
+
+neither_idle : (b : Bool) (r first : Refusal) (o : Option Refusal) → (first ≡ Idle → ⊥) →
+    (Some r ≡ o → r ≡ Idle → ⊥) → Some r ≡ (if b then Some first else o) → r ≡ Idle → ⊥
+neither_idle true r first o here later e idle = let same : r ≡ first = cc e in here (sym same ∙ idle)
+neither_idle false r first o here later e idle = later e idle
+
+not_idle : (rows : List (Bool × Refusal)) → NoIdle rows → (r : Refusal) → Some r ≡ first_refusal rows →
+    r ≡ Idle → ⊥
+unfolding first_refusal
+not_idle [] none r is = absurd (cc is)
+not_idle (row ∷ rows) none r is = neither_idle row.0 r row.1 (first_refusal rows) none.0
+    (not_idle rows none.1 r) is
+
+-- what is refused, but as Idle, leaves all as it is
+pub refused_call : (v : TransmitValue) (w : World) (bodies : ℕ → FrameValue) (note : Note) (r : Refusal) →
+    NoIdle (refusals w note) → StandsFor v w bodies → Some r ≡ refusal w note →
+    Meets w bodies note v (Refused r)
+refused_call v w bodies note r none h is = refused_meets v w bodies note r h (sym is)
+    (not_idle (refusals w note) none r is)
+
+-- ---- rows of a rate and of a receive charge
+
+pub no_row_left : None ≡ first_refusal []
+unfolding first_refusal
+no_row_left = refl
+
+abbrev bad_rate : ℕ → ℕ → Bool
+bad_rate mcs mhz = nat_lt greatest_mcs mcs || not ((mhz == 20) || (mhz == 40))
+
+pub no_rate_is : (mcs mhz : ℕ) → IsNoRate mcs mhz → bad_rate mcs mhz ≡ true
+no_rate_is mcs mhz h = grind (arith, nat_tests, h)
+
+pub rate_is : (mcs mhz : ℕ) → IsRateOfCode mcs mhz → bad_rate mcs mhz ≡ false
+rate_is mcs mhz h = grind (arith, nat_tests, h)
+
+-- the last check of a receive charge: who is not live is refused, and else the debt is still to be looked at
+module _ (result : Result (Unit {0}) Refusal) (v : TransmitValue) (s : ℕ) (c : Class) (air : ℕ)
+    (is : result_err result ≡ (if not (is_some (member v.members s)) then Some NoStation else None))
+    (low : None ≡ (if nat_le v.config.stations s then Some BadStation else None))
+    {b : Bool} (same : is_within 1 greatest_air air ≡ b)
+    (fine : None ≡ (if not b then Some BadAir else None)) where
+  module _ (w : World) (bodies : ℕ → FrameValue) (h : StandsFor v w bodies) where
+    before : (rows : List (Bool × Refusal)) → first_refusal
+        ((is_bad_station w s, BadStation) ∷ (not (is_within 1 greatest_air air), BadAir) ∷ rows)
+        ≡ first_refusal rows
+    before rows = in_range v w bodies h s _ low ∙ row_passes _ _ _ _ (ap not same) fine
+
+  fails_at : (r : Result (Unit {0}) Refusal) → result_err r
+      ≡ (if not (is_some (member v.members s)) then Some NoStation else None) →
+      IfErr r (λ reason. (w : World) (bodies : ℕ → FrameValue) → StandsFor v w bodies →
+      refusal w (Asked (Rx s c air)) ≡ Some reason)
+  fails_at (Ok u) e = tt
+  fails_at (Err r) e = λ w bodies h. before w bodies h _ ∙ sym (not_there v w bodies h s _ r e)
+
+  passes_at : (r : Result (Unit {0}) Refusal) →
+      result_err r ≡ (if not (is_some (member v.members s)) then Some NoStation else None) →
+      IfOk r (λ _. (w : World) (bodies : ℕ → FrameValue) → StandsFor v w bodies →
+      refusal w (Asked (Rx s c air)) ≡ (if int_lt ((share w s c).deficit -ℤ pos air) deepest_deficit
+      then Some (Debt (share w s c).deficit) else None))
+  passes_at (Ok u) e = λ w bodies h. before w bodies h _ ∙ there v w bodies h s _ e
+      ∙ sym (last_row _ _ _ refl)
+  passes_at (Err r) e = tt
+
+  pub receipt_fails : IfErr result (λ reason. (w : World) (bodies : ℕ → FrameValue) → StandsFor v w bodies →
+      refusal w (Asked (Rx s c air)) ≡ Some reason)
+  receipt_fails = fails_at result is
+
+  pub receipt_passes : IfOk result (λ _. (w : World) (bodies : ℕ → FrameValue) → StandsFor v w bodies →
+      refusal w (Asked (Rx s c air)) ≡ (if int_lt ((share w s c).deficit -ℤ pos air) deepest_deficit
+      then Some (Debt (share w s c).deficit) else None))
+  receipt_passes = passes_at result is

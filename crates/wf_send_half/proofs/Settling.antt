@@ -1,0 +1,422 @@
+-- The numbers of an aggregate are settled, one after the other.
+use Rattle.std.proofs.Common.{◌≡◌, ◌≢◌, nat_le, length-append, append_assoc, append-nil, refl, ap, ap₂, sym, ◌∙◌, subst, arith, ℕ, suc, ◌+◌, ◌-◌, ◌<◌, ◌≤◌, nat_lt, Bool, true, false, ◌&&◌, cond, if◌then◌else◌, List, [], ◌∷◌, ◌++◌, map, take, get_or, length, Option, Some, None, inl, inr}
+use Rattle.std.specs.Prelude.{slice_get, count_by}
+use Rattle.std.proofs.lemmas.Bool.{cases_Bool}
+use Rattle.std.proofs.lemmas.List.{length-map, take_all}
+use Rattle.std.proofs.lemmas.List.Sums.{sum_by-cons, count_by_more_yes, count_by_more_no}
+use Rattle.std.proofs.lemmas.Option.{get_or_from_slice_get}
+use Rattle.wf_frame.specs.declared.classes.Cause.TheVariants.{Overlimit, Codel, Retries, Left}
+use Rattle.wf_frame.specs.declared.classes.Fate.{Fate}
+use Rattle.wf_frame.specs.declared.classes.Fate.TheVariants.{Held, Acked as Is_acked, Dropped}
+use Rattle.wf_frame.specs.declared.settings.Config.{Config}
+use Rattle.wf_frame.specs.Frames.{FrameValue}
+use Rattle.wf_def_agreement.specs.Session.{Session, Slot, State, slot, is_acknowledged, is_waiting, is_failed}
+use Rattle.wf_def_lists.specs.Table.{has}
+use Rattle.wf_def_world.specs.World.{World, Mpdu, session}
+use Rattle.wf_def_world.specs.Exchanges.{with_settled}
+use Rattle.wf_frame.specs.Classes.{tid_number}
+use Rattle.wf_send_stations.specs.Tally.{held_in, settled_as}
+use Rattle.wf_octets_seq12.specs.Distance.{distance}
+use Rattle.wf_send_window.specs.Answers.{settling_answer, with_fate}
+use Rattle.wf_send_window.specs.declared.window.Settled.{Settled}
+use Rattle.wf_send_window.specs.declared.window.Settled.TheVariants.{Acked, Waiting, Failed}
+use Rattle.wf_send_window.specs.Window.{WindowValue, WindowStandsFor as WindowStandsFor, IsNumber, session_settled, on_air}
+use Rattle.wf_send_window.specs.Ending.{Ending, all_settled, HasLeft, IsSettledNext}
+use Rattle.wf_send_window.specs.Windows.{WindowsHaveRoom, window_of, with_window}
+use Rattle.wf_send_window.proofs.Ends.{ending_number, ending_flies}
+use Rattle.wf_send_half_refines.specs.Half.{TransmitValue}
+use Rattle.wf_send_half_refines.specs.Standing.{numbers_on_air, Parts}
+use Rattle.wf_send_half_refines.specs.Ending.{after_finish, after_answer, ending_of, IsEnding, state_left}
+use Rattle.wf_send_half_refines.proofs.Settles.{ending_next_one, ending_done}
+use Rattle.wf_send_half_refines.proofs.Ended.{state_at_end}
+use Rattle.wf_send_half.specs.declared.finish.Ended.{Ended}
+use Rattle.wf_send_half.specs.Bits.{is_shown, CanFinish, IsToSettle, with_one_more, all_ended}
+use Rattle.wf_send_half.specs.Counts.{count_of, AreCounted, HasFate}
+
+-- ---- what is shown goes by a number modulo 4096
+
+distance_on_air : (n b : ℕ) → distance (on_air n) b ≡ distance n b
+distance_on_air n b = omega arith
+
+pub shown_on_air : (wide : Bool) (heard : Option (ℕ × List ℕ)) (n : ℕ) →
+    is_shown wide heard (on_air n) ≡ is_shown wide heard n
+shown_on_air wide None n = refl
+shown_on_air wide (Some score) n = ap (λ (d : ℕ). nat_lt d (if wide then 256 else 64) && has score.1 d)
+    (distance_on_air n score.0)
+
+-- ---- the number that is settled next
+
+-- the first of these transmissions has the number that is seq on the air
+pub record IsNext (left : List Mpdu) (seq : ℕ) : Type 0 where
+  pub mpdu : Mpdu
+  pub behind : List Mpdu
+  pub first : left ≡ mpdu ∷ behind
+  pub air : seq ≡ on_air mpdu.number
+
+next_of : (before left : List Mpdu) (seq : ℕ) →
+    slice_get (numbers_on_air (before ++ left)) (length before) ≡ Some seq → IsNext left seq
+next_of [] [] seq e = absurd (cc e)
+next_of [] (m ∷ ms) seq e = record { mpdu = m; behind = ms; first = refl; air = cc e }
+next_of (k ∷ ks) left seq e = next_of ks left seq e
+
+-- after i of the numbers: these transmissions are settled, those are left
+pub record HasSettled (v : TransmitValue) (bodies : ℕ → FrameValue) (s t e : ℕ) (acked : ℕ → Bool) (i : ℕ)
+    (mpdus : List Mpdu) (after : World) (ended : Ended) : Type 0 where
+  pub world : World
+  pub before : List Mpdu
+  pub left : List Mpdu
+  pub all : before ++ left ≡ mpdus
+  pub count : length before ≡ i
+  pub ending : IsEnding v world bodies s t e acked left after
+  pub counted : AreCounted after s t before ended
+
+pub record IsSettling (start v : TransmitValue) (s t : ℕ) (numbers : List ℕ) (acked : ℕ → Bool) (i : ℕ)
+    (ended : Ended) : Type 0 where
+  pub low : i ≤ length numbers
+  pub config : v.config ≡ start.config
+  pub place : CanFinish v (length numbers - i)
+  pub few : all_ended ended ≡ i
+  pub shown : ended.acked ≡ count_by acked (take i numbers)
+  pub each : (w after : World) (bodies : ℕ → FrameValue) (e : ℕ) (mpdus : List Mpdu) →
+      IsEnding start w bodies s t e acked mpdus after → numbers ≡ numbers_on_air mpdus →
+      HasSettled v bodies s t e acked i mpdus after ended
+
+pub settling_begins : (v : TransmitValue) (s t : ℕ) (numbers : List ℕ) (acked : ℕ → Bool) →
+    CanFinish v (length numbers) → IsSettling v v s t numbers acked 0
+    (record { acked = 0; waiting = 0; failed = 0 })
+settling_begins v s t numbers acked place = record {
+  low = omega arith;
+  config = refl;
+  place = record { room = omega (arith, place.room); held = omega (arith, place.held) };
+  few = refl;
+  shown = refl;
+  each = λ w after bodies e mpdus ending is. record {
+    world = w;
+    before = [];
+    left = mpdus;
+    all = refl;
+    count = refl;
+    ending = ending;
+    counted = record { acked = refl; waiting = refl; failed = refl };
+  };
+}
+
+-- ---- one number
+
+-- a window may be asked to settle a number, of which it then tells this
+module _ (v : TransmitValue) (w : World) (bodies : ℕ → FrameValue) (s t e : ℕ) (acked : ℕ → Bool) (m : Mpdu)
+    (ms : List Mpdu) (after : World) (ending : IsEnding v w bodies s t e acked (m ∷ ms) after) (seq : ℕ)
+    (air : seq ≡ on_air m.number) where
+  abbrev window : WindowValue
+  window = window_of v.windows s t
+
+  stands : WindowStandsFor window (session w s t) bodies
+  stands = ending.parts.windows.all.stands s t ending.live ending.tid
+
+  abbrev ending_e : Ending
+  ending_e = ending_of w.config e acked
+
+  abbrev numbers : List ℕ
+  numbers = map (λ k. k.number) ms
+
+  abbrev begun : HasLeft window bodies ending_e (m.number ∷ numbers)
+      (all_settled ending_e (m.number ∷ numbers) (session w s t))
+  begun = record { now = session w s t; stands = stands; flying = ending.flying; leads = refl }
+
+  pub is_number : IsNumber (session w s t) m.number seq
+  is_number = ending_number window bodies ending_e m.number numbers
+      (all_settled ending_e (m.number ∷ numbers) (session w s t)) begun seq air
+
+  pub may_settle : IsSettledNext window seq v.config.attempts
+  may_settle = subst (λ (c : Config). IsSettledNext window seq c.attempts) (sym ending.parts.others.config)
+      (ending_flies window bodies ending_e m.number numbers
+      (all_settled ending_e (m.number ∷ numbers) (session w s t)) begun seq air)
+
+-- one number more is counted
+count_more : (p : State → Bool) (after : World) (s t : ℕ) (m : Mpdu) (ms : List Mpdu) →
+    count_of after s t (ms ++ m ∷ []) p ≡ count_of after s t ms p + cond
+    (p (slot (session after s t) m.number).state) 1 0
+count_more p after s t m [] = omega (
+  arith,
+  sum_by-cons
+      (λ (k : Mpdu). cond (p (slot (session after s t) k.number).state) 1 0) m [],
+)
+count_more p after s t m (k ∷ ks) =
+    let f : Mpdu → ℕ = λ k. cond (p (slot (session after s t) k.number).state) 1 0 in
+    omega (arith, sum_by-cons f k ks, sum_by-cons f k (ks ++ m ∷ []), count_more p after s t m ks)
+
+as_one : Bool → ℕ
+as_one b = cond b 1 0
+
+counted_more : (after : World) (s t : ℕ) (m : Mpdu) (ms : List Mpdu) (ended : Ended) (a : Settled) →
+    (slot (session after s t) m.number).state ≡ state_left a → AreCounted after s t ms ended →
+    AreCounted after s t (ms ++ m ∷ []) (with_one_more ended a)
+unfolding as_one
+counted_more after s t m ms ended a is h =
+    by_answer a (count_then is_acknowledged) (count_then is_waiting) (count_then is_failed)
+  where
+    count_then : (p : State → Bool) → count_of after s t (ms ++ m ∷ []) p
+        ≡ count_of after s t ms p + as_one (p (state_left a))
+    count_then p = count_more p after s t m ms ∙ ap
+        (λ (z : State). count_of after s t ms p + cond (p z) 1 0) is
+
+    by_answer : (b : Settled) → count_of after s t (ms ++ m ∷ []) is_acknowledged
+        ≡ count_of after s t ms is_acknowledged + as_one (is_acknowledged (state_left b)) →
+        count_of after s t (ms ++ m ∷ []) is_waiting ≡ count_of after s t ms is_waiting + as_one
+        (is_waiting (state_left b)) →
+        count_of after s t (ms ++ m ∷ []) is_failed ≡ count_of after s t ms is_failed + as_one
+        (is_failed (state_left b)) → AreCounted after s t (ms ++ m ∷ []) (with_one_more ended b)
+    by_answer (Acked f) x y z = record {
+      acked = omega (arith, x, h.acked);
+      waiting =
+          omega (arith, y, h.waiting);
+      failed = omega (arith, z, h.failed);
+    }
+    by_answer Waiting x y z = record {
+      acked = omega (arith, x, h.acked);
+      waiting =
+          omega (arith, y, h.waiting);
+      failed = omega (arith, z, h.failed);
+    }
+    by_answer (Failed f) x y z = record {
+      acked = omega (arith, x, h.acked);
+      waiting =
+          omega (arith, y, h.waiting);
+      failed = omega (arith, z, h.failed);
+    }
+
+-- one that is shown is one more that is acknowledged
+acked_more : (b : Bool) (limit : ℕ) (bodies : ℕ → FrameValue) (x : Slot) (ended : Ended) →
+    (with_one_more ended (settling_answer b limit bodies x)).acked ≡ ended.acked + as_one b
+unfolding as_one
+acked_more true limit bodies x ended = omega arith
+acked_more false limit bodies x ended = by_limit (nat_le limit (x.attempts + 1))
+  where
+    by_limit : (c : Bool) → (with_one_more ended (if c then Failed (with_fate (Dropped Retries) (bodies x.id))
+        else Waiting)).acked ≡ ended.acked + as_one false
+    by_limit true = omega arith
+    by_limit false = omega arith
+
+shown_more : (p : ℕ → Bool) (numbers : List ℕ) (i n : ℕ) → i < length numbers → slice_get numbers i ≡ Some n →
+    count_by p (take (i + 1) numbers) ≡ count_by p (take i numbers) + as_one (p n)
+unfolding as_one
+shown_more p numbers i n below is =
+    let at : p (get_or numbers i 0) ≡ p n = ap p (get_or_from_slice_get numbers i n 0 is) in
+    elim (cases_Bool (p n)) [
+      | inl so ↦ count_by_more_yes p numbers i 0 below (at ∙ so)
+          ∙ ap (λ (b : Bool). count_by p (take i numbers) + as_one b) (sym so)
+      | inr not_so ↦ omega (arith, count_by_more_no p numbers i 0 below (at ∙ not_so), ap as_one not_so)
+    ]
+
+one_more : (ended : Ended) (a : Settled) → all_ended (with_one_more ended a) ≡ all_ended ended + 1
+one_more ended (Acked f) = omega arith
+one_more ended Waiting = omega arith
+one_more ended (Failed f) = omega arith
+
+-- a frame that is finished takes the place of one that was outside the queues
+finish_leaves : (v : TransmitValue) (n : ℕ) (f : FrameValue) → f.fate ≢ Held → CanFinish v (suc n) →
+    CanFinish (after_finish v f) n
+finish_leaves v n f session_settled place = record {
+  room = omega (arith, place.room, length-append v.flows.backlog.finished (f ∷ []));
+  held = one_less f.fate session_settled;
+}
+  where
+    one_less : (fate : Fate) → fate ≢ Held → n ≤ held_in (settled_as fate v.tally)
+    one_less Held other = absurd (other refl)
+    one_less Is_acked other = omega (arith, place.held)
+    one_less (Dropped Overlimit) other = omega (arith, place.held)
+    one_less (Dropped Codel) other = omega (arith, place.held)
+    one_less (Dropped Retries) other = omega (arith, place.held)
+    one_less (Dropped Left) other = omega (arith, place.held)
+
+fewer : (v : TransmitValue) (n : ℕ) → CanFinish v (suc n) → CanFinish v n
+fewer v n place = record { room = omega (arith, place.room); held = omega (arith, place.held) }
+
+answer_leaves : (v : TransmitValue) (n : ℕ) (a : Settled) → HasFate a → CanFinish v (suc n) →
+    CanFinish (after_answer v a) n
+answer_leaves v n (Acked f) fate place = finish_leaves v n f fate place
+answer_leaves v n Waiting fate place = fewer v n place
+answer_leaves v n (Failed f) fate place = finish_leaves v n f fate place
+
+same_config : (v : TransmitValue) (a : Settled) → (after_answer v a).config ≡ v.config
+same_config v (Acked f) = refl
+same_config v Waiting = refl
+same_config v (Failed f) = refl
+
+-- a window gives no frame that is still held
+answer_fate : (b : Bool) (limit : ℕ) (bodies : ℕ → FrameValue) (x : Slot) →
+    HasFate (settling_answer b limit bodies x)
+answer_fate true limit bodies x = λ e. cc e
+answer_fate false limit bodies x = by_limit (nat_le limit (x.attempts + 1))
+  where
+    by_limit : (c : Bool) → HasFate (if c then Failed (with_fate (Dropped Retries) (bodies x.id))
+        else Waiting)
+    by_limit true = λ e. cc e
+    by_limit false = tt
+
+-- ---- in the loop
+
+module _ (start v : TransmitValue) (s t : ℕ) (numbers : List ℕ) (acked : ℕ → Bool) (i : ℕ) (ended : Ended)
+    (so_far : IsSettling start v s t numbers acked i ended) (seq : ℕ)
+    (at_i : slice_get numbers i ≡ Some seq) where
+  next_in : (bodies : ℕ → FrameValue) (e : ℕ) (mpdus : List Mpdu) (after : World) →
+      numbers ≡ numbers_on_air mpdus → (h : HasSettled v bodies s t e acked i mpdus after ended) →
+      IsNext h.left seq
+  next_in bodies e mpdus after is h =
+      next_of h.before h.left seq (ap₂ (λ (l : List ℕ) (k : ℕ). slice_get l k)
+      (ap numbers_on_air h.all ∙ sym is) h.count ∙ at_i)
+
+  module _ (some : IsToSettle start s t numbers acked) where
+    at_some : HasSettled v some.bodies s t some.exchange acked i some.mpdus some.after ended
+    at_some = so_far.each some.world some.after some.bodies some.exchange some.mpdus some.ending
+        some.numbers_are
+
+    next : IsNext at_some.left seq
+    next = next_in some.bodies some.exchange some.mpdus some.after some.numbers_are at_some
+
+    ending_here : IsEnding v at_some.world some.bodies s t some.exchange acked
+        (next.mpdu ∷ next.behind) some.after
+    ending_here = subst (λ (l : List Mpdu). IsEnding v at_some.world some.bodies s t some.exchange acked l
+        some.after) next.first at_some.ending
+
+    pub next_settles : IsSettledNext (window_of v.windows s t) seq v.config.attempts
+    next_settles = may_settle v at_some.world some.bodies s t some.exchange acked next.mpdu next.behind
+        some.after ending_here seq next.air
+
+    pub next_within : tid_number s t < length v.windows
+    next_within =
+        let parts = ending_here.parts in
+        omega (arith, parts.windows.sized, parts.others.turns.live s ending_here.live, ending_here.tid)
+
+    -- what the window then gives
+    module _ (windows : List WindowValue) (a : Settled) (b : Bool) (limit : ℕ) (b_is : b ≡ acked seq)
+        (limit_is : limit ≡ v.config.attempts) (alike : (n : ℕ) → acked (on_air n) ≡ acked n)
+        (room : WindowsHaveRoom windows)
+        (stands_then : (y : Session) (bodies : ℕ → FrameValue) (n : ℕ) →
+        WindowStandsFor (window_of v.windows s t) y bodies → IsNumber y n seq →
+        WindowStandsFor (window_of windows s t) (session_settled b limit n y) bodies)
+        (answer : (y : Session) (bodies : ℕ → FrameValue) (n : ℕ) →
+        WindowStandsFor (window_of v.windows s t) y bodies → IsNumber y n seq →
+        a ≡ settling_answer b limit bodies (slot y n))
+        (others : windows ≡ with_window v.windows s t (window_of windows s t)) where
+      abbrev slot_here : Slot
+      slot_here = slot (session at_some.world s t) next.mpdu.number
+
+      answer_here : a ≡ settling_answer b limit some.bodies slot_here
+      answer_here = answer (session at_some.world s t) some.bodies next.mpdu.number
+          (stands v at_some.world some.bodies s t some.exchange acked next.mpdu next.behind some.after
+          ending_here seq next.air) (is_number v at_some.world some.bodies s t some.exchange acked next.mpdu
+          next.behind some.after ending_here seq next.air)
+
+      pub fate_given : HasFate a
+      fate_given = subst HasFate (sym answer_here) (answer_fate b limit some.bodies slot_here)
+
+      shown_next : i < length numbers → (with_one_more ended a).acked ≡ count_by acked (take (i + 1) numbers)
+      shown_next below =
+          let one : (with_one_more ended a).acked ≡ ended.acked + as_one b =
+          subst (λ (z : Settled). (with_one_more ended z).acked ≡ ended.acked + as_one b)
+          (sym answer_here) (acked_more b limit some.bodies slot_here ended) in
+          omega (arith, one, shown_more acked numbers i seq below at_i, so_far.shown, ap as_one b_is)
+
+      abbrev moved : TransmitValue
+      moved = record v { windows = windows }
+
+      settled_next : (bodies : ℕ → FrameValue) (e : ℕ) (mpdus : List Mpdu) (after : World) →
+          numbers ≡ numbers_on_air mpdus → HasSettled v bodies s t e acked i mpdus after ended →
+          HasSettled (after_answer moved a) bodies s t e acked (i + 1) mpdus after (with_one_more ended a)
+      settled_next bodies e mpdus after is h =
+          let k : IsNext h.left seq = next_in bodies e mpdus after is h in
+          let m : Mpdu = k.mpdu in
+          let y : Session = session h.world s t in
+          let here : IsEnding v h.world bodies s t e acked (m ∷ k.behind) after =
+          subst (λ (l : List Mpdu). IsEnding v h.world bodies s t e acked l after) k.first h.ending in
+          let x : WindowValue = window_of windows s t in
+          let standing : WindowStandsFor (window_of v.windows s t) y bodies =
+          stands v h.world bodies s t e acked m k.behind after here seq k.air in
+          let number : IsNumber y m.number seq = is_number v h.world bodies s t e acked m k.behind after here
+          seq k.air in
+          let shown : b ≡ acked m.number = b_is ∙ ap acked k.air ∙ alike m.number in
+          let told : a ≡ settling_answer (acked m.number) v.config.attempts bodies (slot y m.number) =
+          answer y bodies m.number standing number ∙ ap₂
+          (λ (c : Bool) (l : ℕ). settling_answer c l bodies (slot y m.number)) shown limit_is in
+          let now : WindowStandsFor x (session_settled (acked m.number) v.config.attempts m.number y) bodies =
+          subst (λ (l : ℕ). WindowStandsFor x (session_settled (acked m.number) l m.number y) bodies) limit_is
+          (subst (λ (c : Bool). WindowStandsFor x (session_settled c limit m.number y) bodies) shown
+          (stands_then y bodies m.number standing number)) in
+          let then_is = ending_next_one v h.world bodies s t e acked m k.behind after x here
+          (subst WindowsHaveRoom others room) now in
+          let joined : (h.before ++ m ∷ []) ++ k.behind ≡ mpdus =
+          append_assoc h.before (m ∷ []) k.behind ∙ ap (λ (l : List Mpdu). h.before ++ l) (sym k.first)
+          ∙ h.all in
+          record {
+            world = with_settled h.world s t (acked m.number) m;
+            before = h.before ++ m ∷ [];
+            left = k.behind;
+            all = joined;
+            count = omega (arith, length-append h.before (m ∷ []), h.count);
+            ending = subst (λ (l : List WindowValue). IsEnding (after_answer (record v { windows = l }) a)
+                (with_settled h.world s t (acked m.number) m) bodies s t e acked k.behind after) (sym others)
+                (subst (λ (z : Settled). IsEnding (after_answer
+                (record v { windows = with_window v.windows s t x }) z)
+                (with_settled h.world s t (acked m.number) m) bodies s t e acked k.behind after)
+                (sym told) then_is);
+            counted = counted_more after s t m h.before ended a
+                (state_at_end v h.world bodies s t e acked m k.behind after here ∙ ap state_left (sym told))
+                h.counted;
+          }
+
+      pub settling_next : i < length numbers → IsSettling start (after_answer moved a) s t numbers acked
+          (i + 1) (with_one_more ended a)
+      settling_next below =
+          let rest : length numbers - i ≡ suc (length numbers - (i + 1)) = omega (arith, below) in
+          record {
+            low = omega (arith, below);
+            config = same_config moved a ∙ so_far.config;
+            place = answer_leaves moved (length numbers - (i + 1)) a fate_given
+                (let p = subst (CanFinish v) rest so_far.place in record { room = p.room; held = p.held });
+            few = omega (arith, one_more ended a, so_far.few);
+            shown = shown_next below;
+            each = λ w after bodies e mpdus ending is. settled_next bodies e mpdus after is
+                (so_far.each w after bodies e mpdus ending is);
+          }
+
+-- ---- at the end
+
+none_behind : (before left : List Mpdu) → length (before ++ left) ≤ length before → left ≡ []
+none_behind before [] h = refl
+none_behind before (m ∷ ms) h = absurd (omega (arith, h, length-append before (m ∷ ms)))
+
+module _ (start v : TransmitValue) (s t : ℕ) (numbers : List ℕ) (acked : ℕ → Bool) (i : ℕ) (ended : Ended)
+    (so_far : IsSettling start v s t numbers acked i ended) (all : length numbers ≤ i)
+    (w after : World) (bodies : ℕ → FrameValue) (e : ℕ) (mpdus : List Mpdu)
+    (ending : IsEnding start w bodies s t e acked mpdus after) (is : numbers ≡ numbers_on_air mpdus) where
+  last : HasSettled v bodies s t e acked i mpdus after ended
+  last = so_far.each w after bodies e mpdus ending is
+
+  none_left : last.left ≡ []
+  none_left =
+      let total : length numbers ≡ length mpdus = ap (length {A = ℕ}) is
+      ∙ length-map mpdus (λ m. on_air m.number) in
+      none_behind last.before last.left (omega (
+        arith,
+        total,
+        all,
+        last.count,
+        ap (length {A = Mpdu}) last.all,
+      ))
+
+  pub all_stand : Parts v after bodies
+  all_stand = ending_done v last.world bodies s t e acked after
+      (subst (λ (l : List Mpdu). IsEnding v last.world bodies s t e acked l after) none_left last.ending)
+
+  pub all_counted : AreCounted after s t mpdus ended
+  all_counted =
+      let whole : last.before ≡ mpdus = sym (append-nil last.before)
+      ∙ ap (λ (l : List Mpdu). last.before ++ l) (sym none_left) ∙ last.all in
+      subst (λ (l : List Mpdu). AreCounted after s t l ended) whole last.counted
+
+pub all_shown : (start v : TransmitValue) (s t : ℕ) (numbers : List ℕ) (acked : ℕ → Bool) (i : ℕ)
+    (ended : Ended) → IsSettling start v s t numbers acked i ended → length numbers ≤ i →
+    ended.acked ≡ count_by acked numbers
+all_shown start v s t numbers acked i ended so_far all =
+    so_far.shown ∙ ap (count_by acked) (take_all i numbers all)

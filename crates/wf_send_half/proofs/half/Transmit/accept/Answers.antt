@@ -1,0 +1,19 @@
+use Rattle.std.proofs.Common.{◌<◌, ◌∙◌, sym, ap, subst}
+use Rattle.wf_frame.specs.Frames.{FrameValue}
+use Rattle.wf_send_half_refines.specs.Half.{TransmitValue}
+use Rattle.wf_send_half.specs.Half.{HasWorld}
+use Rattle.wf_send_half.proofs.Calls.{view_of}
+use Rattle.wf_send_half.proofs.Enqueues.{held_few, accepted_is}
+use Rattle.wf_send_half.proofs.half.Transmit.accept.Goals as goal
+
+pub put-dropped-requires-clause-room : goal.put-dropped-requires-clause-room
+put-dropped-requires-clause-room c =
+    held_few (view_of c.self.inside) (subst HasWorld (sym c.self.view_is) c.requires.some)
+    (subst (λ (z : TransmitValue). z.inside < z.config.room) (sym c.self.view_is) c.requires.room)
+
+pub returns-clause-accepted : goal.returns-clause-accepted
+returns-clause-accepted c =
+    accepted_is c.args.self.now (view_of c.self.inside) c.self.view_is c.args.parcel c.marked.result
+    c.station-station.result c.put-dropped.new.self c.put-dropped.result _ c.list.new.self
+    c.marked.ensures.marked (c.station-station.ensures ∙ ap (λ (f : FrameValue). f.station) c.frame.ensures)
+    c.put-dropped.ensures.put c.put-dropped.ensures.dropped c.count_accepted.ensures c.list.ensures

@@ -1,0 +1,17 @@
+use Rattle.std.proofs.Common.{◌≡◌, ℕ, ◌-◌, length}
+use Rattle.wf_frame.specs.Frames.{FrameValue}
+use Rattle.wf_def_world.specs.Exchanges.{Aggregate}
+use Rattle.wf_send_half.specs.Pulls.{IsSameButFrames, AggregateGoesOn}
+use Rattle.wf_send_half.proofs.half.Transmit.add_fresh.Given as goal
+
+abbrev pub invariant-fresh : goal.invariant-fresh
+invariant-fresh l = record {
+  on : (bodies : ℕ → FrameValue) (after : Aggregate) →
+      AggregateGoesOn l.fn.self bodies l.station l.tid l.fn.aggregate.room l.fn.aggregate.numbers after →
+      AggregateGoesOn l.self bodies l.station l.tid l.aggregate.room l.aggregate.numbers after;
+  same : IsSameButFrames l.fn.self l.self;
+  most : l.aggregate.room.agg ≡ l.most;
+}
+
+abbrev pub decreases-fresh : goal.decreases-fresh
+decreases-fresh l = 256 - length l.aggregate.numbers

@@ -1,0 +1,37 @@
+-- What is true of every transmit half, and what its calls ask of it.
+use Rattle.std.specs.Prelude.{◌≡◌, ◌<◌, ℕ, ◌*◌, ◌^◌, Bool, true, ◌||◌, length, is_some, IfSome}
+use Rattle.wf_frame.specs.declared.classes.Class.{Class}
+use Rattle.wf_frame.specs.Classes.{lower_tid, upper_tid}
+use Rattle.wf_frame.specs.Frames.{FrameValue}
+use Rattle.wf_frame.specs.Settings.{IsInRange}
+use Rattle.wf_def_world.specs.World.{World}
+use Rattle.wf_send_stations.specs.Members.{member, received_in}
+use Rattle.wf_send_half_refines.specs.Half.{TransmitValue, can_send_of}
+use Rattle.wf_send_half_refines.specs.Standing.{StandsFor}
+
+-- each setting is in its range, and each part has as many places as there are stations
+pub record HasSizes (v : TransmitValue) : Type 0 where
+  pub in_range : IsInRange v.config
+  pub flows : v.flows.stations ≡ v.config.stations
+  pub sched : v.sched.stations ≡ v.config.stations
+  pub windows : length v.windows ≡ 8 * v.config.stations
+  pub members : length v.members ≡ v.config.stations
+  pub sleepers : length v.sleepers ≡ v.config.stations
+
+-- it stands for the transmit half of some world of a run
+pub record HasWorld (v : TransmitValue) : Type 0 where
+  pub world : World
+  pub bodies : ℕ → FrameValue
+  pub stands : StandsFor v world bodies
+
+-- the airtime that a station used in a class, where it is live, is below 2^62 microseconds
+abbrev pub IsReceiptSmall : TransmitValue → ℕ → Class → Type 0
+IsReceiptSmall v s c = IfSome (member v.members s) (λ m. received_in m c < 2 ^ 62)
+
+-- whether a station is live
+abbrev pub IsLive : TransmitValue → ℕ → Type 0
+IsLive v s = is_some (member v.members s) ≡ true
+
+-- whether one of the two TIDs of a class can send
+abbrev pub can_send_in_of : TransmitValue → ℕ → Class → Bool
+can_send_in_of v s c = can_send_of v s (lower_tid c) || can_send_of v s (upper_tid c)

@@ -1,0 +1,205 @@
+-- In the middle of a pull, what its steps ask for and what each has done.
+use Rattle.std.specs.Prelude.{◌≡◌, ℕ, ◌%◌, ◌≤◌, Bool, true, false, List, [], length, Option, None, Some, is_some, option_map, map, take, drop, IfSome, if◌then◌else◌}
+use Rattle.wf_frame.specs.declared.classes.Class.{Class}
+use Rattle.wf_frame.specs.declared.notes.Ask.TheVariants.{Pull}
+use Rattle.wf_frame.specs.declared.notes.Note.TheVariants.{Asked}
+use Rattle.wf_frame.specs.Frames.{FrameValue}
+use Rattle.wf_def_air.specs.Airtime.{Rate, request_charge}
+use Rattle.wf_def_codel.specs.Codel.{Params}
+use Rattle.wf_def_codel.specs.Parameters.{params_at}
+use Rattle.wf_def_rotation.specs.Rotation.{has_key}
+use Rattle.wf_def_agreement.specs.Session.{Session, next_number, request_due, with_number_given}
+use Rattle.wf_def_world.specs.World.{World, Mpdu, session}
+use Rattle.wf_def_world.specs.Exchanges.{Aggregate, aggregate_of, aggregate_charge, prepared_data, picked_station}
+use Rattle.wf_def_world.specs.Refusals.{refusal}
+use Rattle.wf_sched_rotation.specs.Rotas.{is_ready as entry}
+use Rattle.wf_sched_stations.specs.ClassRotas.{class_rotation}
+use Rattle.wf_sched_stations_refines.specs.Calls.{HasPickedInClass}
+use Rattle.wf_send_exchanges.specs.declared.opened.Sending.{Sending}
+use Rattle.wf_send_exchanges.specs.declared.opened.Sending.TheVariants.{Data, Request as Starts_at}
+use Rattle.wf_air_fit.specs.Rooms.{RoomValue, RoomStandsFor as RoomStandsFor}
+use Rattle.wf_frame.specs.Classes.{tid_number}
+use Rattle.wf_queue_flows.specs.Flows.{taken_for_tid}
+use Rattle.wf_send_stations.specs.Members.{member}
+use Rattle.wf_octets_tim.specs.Sleepers.{sleeper}
+use Rattle.wf_send_window.specs.Window.{WindowValue, WindowStandsFor as WindowStandsFor}
+use Rattle.wf_send_window.specs.Windows.{WindowsHaveRoom, window_of, with_window}
+use Rattle.wf_send_half_refines.specs.Half.{TransmitValue, is_ready_of}
+use Rattle.wf_send_half_refines.specs.Standing.{StandsFor, numbers_on_air}
+use Rattle.wf_send_half_refines.specs.Pulling.{is_wide_of}
+use Rattle.wf_send_half_refines.specs.Filling.{IsTurned, IsToFill, IsFilling, IsTakingOff, after_take, after_giving}
+
+-- the most frames of one aggregate of a station: one where it sleeps
+abbrev pub most_of : TransmitValue → ℕ → ℕ
+most_of v s = if (sleeper v.sleepers s).asleep then 1 else v.config.agg
+
+-- the maximum A-MPDU length exponent of a station is at most 3, where it is live
+abbrev pub IsExponentSmall : TransmitValue → ℕ → Type 0
+IsExponentSmall v s = IfSome (member v.members s) (λ m. m.exponent ≤ 3)
+
+-- all is the same but the frames: where they are, and what became of them
+abbrev pub IsSameButFrames : TransmitValue → TransmitValue → Type 0
+IsSameButFrames v u = u ≡ record v { flows = u.flows; windows = u.windows; tally = u.tally }
+
+-- ---- some world under way
+
+-- in some world TID t of station s has had its turn
+pub record HasTurn (v : TransmitValue) (s t : ℕ) : Type 0 where
+  pub world : World
+  pub bodies : ℕ → FrameValue
+  pub turned : IsTurned v world bodies s t
+
+-- in some world no request of TID t of station s is due
+pub record HasToFill (v : TransmitValue) (s t : ℕ) : Type 0 where
+  pub world : World
+  pub bodies : ℕ → FrameValue
+  pub to_fill : IsToFill v world bodies s t
+
+-- in some world this aggregate to TID t of station s goes on, up to that one
+pub record AggregateGoesOn (v : TransmitValue) (bodies : ℕ → FrameValue) (s t : ℕ) (room : RoomValue)
+    (numbers : List ℕ) (after : Aggregate) : Type 0 where
+  pub world : World
+  pub mpdus : List Mpdu
+  pub filling : IsFilling v world bodies s t room numbers mpdus after
+
+-- it goes on up to some aggregate
+pub record HasFilling (v : TransmitValue) (s t : ℕ) (room : RoomValue) (numbers : List ℕ) : Type 0 where
+  pub bodies : ℕ → FrameValue
+  pub after : Aggregate
+  pub goes_on : AggregateGoesOn v bodies s t room numbers after
+
+-- the numbers of an aggregate are as many as the frames that its room has, which takes at most 256
+pub record HasLens (room : RoomValue) (numbers : List ℕ) : Type 0 where
+  pub lens : List ℕ
+  pub stands : RoomStandsFor room lens
+  pub as_many : length numbers ≡ length lens
+  pub few : room.agg ≤ 256
+
+-- ---- a frame is taken out
+
+-- CoDel's parameters are those of the rate of station s
+pub record IsParamsOf (v : TransmitValue) (s : ℕ) (params : Params) : Type 0 where
+  pub rate : Rate
+  pub is_rate : option_map (λ m. m.rate) (member v.members s) ≡ Some rate
+  pub is : params ≡ params_at rate
+
+-- this frame was taken out of the queues of TID t of station s
+pub record IsTaken (v u : TransmitValue) (s t : ℕ) (f : FrameValue) : Type 0 where
+  pub params : Params
+  pub read : IsParamsOf v s params
+  pub out : (taken_for_tid v.flows (tid_number s t) v.clock params).frame ≡ Some f
+  pub is : u ≡ after_take v (tid_number s t) params
+
+-- a frame with so many octets was taken out and got this number on the air, with which it waits in its window
+pub record IsGivenNumber (v u : TransmitValue) (s t number len : ℕ) : Type 0 where
+  pub params : Params
+  pub read : IsParamsOf v s params
+  pub frame : FrameValue
+  pub out : (taken_for_tid v.flows (tid_number s t) v.clock params).frame ≡ Some frame
+  pub octets : len ≡ length frame.body
+  pub window : WindowValue
+  pub room : WindowsHaveRoom (with_window v.windows s t window)
+  pub waits : (y : Session) (bodies : ℕ → FrameValue) → WindowStandsFor (window_of v.windows s t) y bodies →
+      frame ≡ bodies frame.id →
+      (number ≡ next_number y % 4096) × WindowStandsFor window (with_number_given y frame.id) bodies
+  pub is : u ≡ after_giving v s t params window
+
+-- ---- numbers take off
+
+-- in some world the half is to let these numbers fly in its next exchange
+pub record HasTakingOff (v : TransmitValue) (s t : ℕ) (numbers : List ℕ) : Type 0 where
+  pub world : World
+  pub bodies : ℕ → FrameValue
+  pub mpdus : List Mpdu
+  pub after : World
+  pub off : IsTakingOff v world bodies s t v.exchanges mpdus after
+  pub on_air : numbers ≡ numbers_on_air mpdus
+
+-- the transmissions, each by its id and its number on the air
+abbrev pub pairs_of : List Mpdu → List (ℕ × ℕ)
+pairs_of mpdus = map (λ m. (m.id, m.number % 4096)) mpdus
+
+-- after those before place i have taken off, the others are still to, and the pairs are of those before
+pub record IsFlying (v : TransmitValue) (bodies : ℕ → FrameValue) (s t e : ℕ) (mpdus : List Mpdu)
+    (after : World) (i : ℕ) (pairs : List (ℕ × ℕ)) : Type 0 where
+  pub world : World
+  pub off : IsTakingOff v world bodies s t e (drop i mpdus) after
+  pub pairs_are : pairs ≡ pairs_of (take i mpdus)
+
+-- ---- what is sent
+
+-- in some world the half is to fill an aggregate, which is to have some number
+pub record HasToSend (v : TransmitValue) (s t : ℕ) : Type 0 where
+  pub world : World
+  pub bodies : ℕ → FrameValue
+  pub to_fill : IsToFill v world bodies s t
+  pub some : 1 ≤ length (aggregate_of world s t).mpdus
+
+-- the numbers of this aggregate have taken off
+pub record IsPreparedAs (v : TransmitValue) (a : Aggregate) (bodies : ℕ → FrameValue) (s t charge : ℕ)
+    (numbers : List ℕ) (pairs : List (ℕ × ℕ)) : Type 0 where
+  pub world : World
+  pub off : IsTakingOff v world bodies s t a.world.exchanges [] (prepared_data s t a).world
+  pub charge_is : charge ≡ aggregate_charge s t a
+  pub numbers_are : numbers ≡ numbers_on_air a.mpdus
+  pub pairs_are : pairs ≡ pairs_of a.mpdus
+
+-- those of the aggregate that TID t of station s sends in w
+abbrev pub IsPrepared : TransmitValue → World → (ℕ → FrameValue) → ℕ → ℕ → ℕ → List ℕ → List (ℕ × ℕ) → Type 0
+IsPrepared v w bodies s t = IsPreparedAs v (aggregate_of w s t) bodies s t
+
+-- ---- a whole pull
+
+-- the list `ready`, of one entry for each station, says of each station that is listed in a class whether it
+-- is ready in it
+pub record TellsWhoIsReady (v : TransmitValue) (c : Class) (ready : List Bool) : Type 0 where
+  pub stations : length ready ≡ v.config.stations
+  pub tells : (s : ℕ) → has_key (class_rotation v.sched c) s ≡ true → entry ready s ≡ is_ready_of v c s
+
+-- u is v once a pull has picked station s in a class, where v stands for w
+pub record IsPickedInClass (v u : TransmitValue) (w : World) (bodies : ℕ → FrameValue) (s : ℕ)
+    (c : Class) : Type 0 where
+  pub stands : StandsFor v w bodies
+  pub passes : refusal w (Asked (Pull c)) ≡ None
+  pub won : (picked_station w c).winner ≡ Some s
+  pub picked : HasPickedInClass w c v.sched u.sched
+  pub others : u ≡ record v { sched = u.sched }
+
+-- some half has picked station s in a class, and is u then
+pub record HasPick (u : TransmitValue) (s : ℕ) (c : Class) : Type 0 where
+  pub before : TransmitValue
+  pub world : World
+  pub bodies : ℕ → FrameValue
+  pub is : IsPickedInClass before u world bodies s c
+
+-- in some world TID t of station s has had its turn; where no request is due, its aggregate is to have some
+-- number
+pub record HasToPrepare (v : TransmitValue) (s t : ℕ) : Type 0 where
+  pub world : World
+  pub bodies : ℕ → FrameValue
+  pub turned : IsTurned v world bodies s t
+  pub some : request_due (session world s t) ≡ false → 1 ≤ length (aggregate_of world s t).mpdus
+
+-- the start of what is sent, where that is a request
+abbrev pub start_sent : Sending → Option ℕ
+start_sent (Data numbers) = None
+start_sent (Starts_at start) = Some start
+
+-- a request is due on TID t of station s, with this start and this charge in microseconds
+pub record IsRequestDue (v u : TransmitValue) (s t charge start : ℕ) : Type 0 where
+  pub due : is_some (window_of v.windows s t).due ≡ true
+  pub same : u ≡ v
+  pub charge_is : charge ≡ request_charge (is_wide_of v s t)
+  pub start_is : start ≡ (window_of v.windows s t).start
+
+-- no request is due there, and the numbers of its aggregate have taken off
+pub record IsData (v u : TransmitValue) (s t charge : ℕ) (pairs : List (ℕ × ℕ))
+    (numbers : List ℕ) : Type 0 where
+  pub quiet : is_some (window_of v.windows s t).due ≡ false
+  pub prepared : (w : World) (bodies : ℕ → FrameValue) → IsToFill v w bodies s t →
+      IsPrepared u w bodies s t charge numbers pairs
+
+-- v has prepared this for TID t of station s, and is u then
+abbrev pub IsPreparedFor : TransmitValue → TransmitValue → ℕ → ℕ → ℕ → List (ℕ × ℕ) → Sending → Type 0
+IsPreparedFor v u s t charge pairs (Data numbers) = IsData v u s t charge pairs numbers
+IsPreparedFor v u s t charge pairs (Starts_at start) = IsRequestDue v u s t charge start

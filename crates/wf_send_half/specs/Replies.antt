@@ -1,0 +1,17 @@
+-- What a call gives, as the machine's reply.
+use Rattle.std.specs.Prelude.{Option, Some, None, Result, Ok, Err}
+use Rattle.wf_frame.specs.Frames.{FrameValue}
+use Rattle.wf_frame.specs.declared.notes.Refusal.{Refusal}
+use Rattle.wf_frame.specs.declared.notes.Refusal.TheVariants.{Nothing}
+use Rattle.wf_frame.specs.declared.notes.ReplyNote.{ReplyNote}
+use Rattle.wf_frame.specs.declared.notes.ReplyNote.TheVariants.{Reaped, Refused}
+
+-- the reply of a call, by what it gives where it is not refused
+abbrev pub reply_of_result : {T : Type 0} → (T → ReplyNote) → Result T Refusal → ReplyNote
+reply_of_result reply (Ok given) = reply given
+reply_of_result reply (Err reason) = Refused reason
+
+-- the reply of a reap, by the frame that it gives
+abbrev pub reaped_reply : Option FrameValue → ReplyNote
+reaped_reply None = Refused Nothing
+reaped_reply (Some f) = Reaped f.id f.fate

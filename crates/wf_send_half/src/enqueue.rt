@@ -1,0 +1,142 @@
+//! Frames that come in.
+
+ghost use Rattle.std.specs.Prelude.{◌≡◌, ◌<◌, ◌≤◌, ◌^◌, ◌&&◌, nat_le, ℕ, length, IfOk, IfErr};
+ghost use Rattle.wf_frame.specs.Frames.{FrameValue};
+ghost use Rattle.wf_frame.specs.declared.classes.Fate.TheVariants.{Held};
+ghost use Rattle.wf_frame.specs.declared.notes.Note.TheVariants.{Enqueue};
+ghost use Rattle.wf_frame.specs.declared.notes.ReplyNote.TheVariants.{Accepted, Refused};
+ghost use Rattle.wf_def_lists.specs.Lengths.{greatest_body};
+ghost use Rattle.wf_def_world.specs.World.{World};
+ghost use Rattle.wf_def_world.specs.Refusals.{refusal};
+ghost use Rattle.wf_send_stations.specs.Tally.{counts_of, one_accepted};
+ghost use Rattle.wf_queue_flows.specs.Flows.{dropped_for_limit};
+ghost use Rattle.wf_queue_flows_refines.specs.Frames.{with_body};
+ghost use Rattle.wf_octets_tim.specs.Sleepers.{sleeper};
+ghost use Rattle.wf_send_half_refines.specs.Changes.{after_enqueue, after_listing};
+ghost use Rattle.wf_send_half_refines.specs.Counting.{with_overlimit};
+ghost use Rattle.wf_send_half_refines.specs.Standing.{StandsFor, Meets};
+ghost use Rattle.wf_send_half.specs.Enqueues.{enqueue_of, as_accepted, queued_in_class_of};
+ghost use Rattle.wf_send_half.specs.Half.{HasWorld};
+ghost use Rattle.std.specs.Result.{result_err};
+
+use crate::Transmit;
+use crate::refuse::refuse_where;
+use wf_frame::{Cause, Class, Fate, Refusal};
+use wf_queue_chain::Parcel;
+use wf_send_stations::Tally;
+
+/// The greatest traffic identifier that has queues (IEEE 802.11-2012, 8.2.4.5.2).
+const GREATEST_TID: u8 = 7;
+
+// The parcel, once its frame is marked with this id and stamp, and held. Like every frame, it has 1 to 2304
+// octets.
+fn marked(mut parcel: Parcel, id: u64, stamp: u64) -> Parcel
+    ensures length { (1 ≤ length parcel.body) × (length parcel.body ≤ greatest_body) }
+    ensures marked { result ≡ record parcel { id = id; stamp = stamp; fate = Held } }
+{
+    let frame = parcel.frame_mut();
+    let _octets = frame.len();
+    frame.mark(id, stamp);
+    frame.settle(Fate::Held);
+    parcel
+}
+
+// Counts a frame that is accepted, and the one that is dropped for the limit, if any.
+fn count_accepted(tally: &mut Tally, dropped: Option<u64>)
+    requires { tally.old.accepted < 2 ^ 62 }
+    ensures { counts_of tally.new ≡ with_overlimit dropped (one_accepted (counts_of tally.old)) }
+{
+    tally.add();
+    if dropped.is_some() {
+        tally.settle(Fate::Dropped(Cause::Overlimit));
+    }
+}
+
+impl Transmit {
+    /// Accepts a frame, and gives its id and the id of the frame that is dropped for the limit, if any: where
+    /// the queues hold `limit` frames, the head of the longest. Refused as BadStation, BadTid, NoStation,
+    /// Room where `room` frames are inside, or Sleeping where `sleeping` frames of its class are queued for a
+    /// station that sleeps; then the frame is handed back.
+    pub fn enqueue(&mut self, parcel: Parcel) -> Result<(u64, Option<u64>), (Refusal, Parcel)>
+        requires some { HasWorld self.old }
+        requires small { self.old.tally.accepted < 2 ^ 62 }
+        ensures meets { IfOk result (λ given. (w : World) (bodies : ℕ → FrameValue) →
+            StandsFor self.old w bodies →
+            Meets w (with_body bodies (as_accepted self.old parcel)) (enqueue_of parcel) self.new
+            (Accepted given.0 given.1)) }
+        ensures refuses { IfErr result (λ given. (w : World) (bodies : ℕ → FrameValue) →
+            StandsFor self.old w bodies →
+            Meets w bodies (enqueue_of parcel) self.new (Refused given.0)) }
+        ensures refused { IfErr result (λ _. self.new ≡ self.old) }
+        ensures handed_back { IfErr result (λ given. given.1 ≡ parcel) }
+        ensures kept { HasWorld self.new }
+    {
+        let frame = parcel.frame();
+        match self.check_enqueue(frame.station(), frame.tid()) {
+            Ok(()) => Ok(self.accept(parcel)),
+            Err(reason) => Err((reason, parcel)),
+        }
+    }
+
+    // Accepts a frame that is not refused.
+    fn accept(&mut self, parcel: Parcel) -> (u64, Option<u64>)
+        requires within { parcel.station < self.old.config.stations }
+        requires tid { parcel.tid < 8 }
+        requires room { self.old.inside < self.old.config.room }
+        requires small { self.old.tally.accepted < 2 ^ 62 }
+        requires some { HasWorld self.old }
+        ensures accepted { self.new ≡ after_listing
+            (after_enqueue self.old (as_accepted self.old parcel)) parcel.station }
+        ensures length { (1 ≤ length parcel.body) × (length parcel.body ≤ greatest_body) }
+        ensures id { result.0 ≡ self.old.tally.accepted }
+        ensures dropped { result.1 ≡ dropped_for_limit self.old.flows }
+    {
+        let station = parcel.frame().station();
+        let id = self.tally.accepted;
+        let dropped = self.flows.put(marked(parcel, id, self.clock), self.clock);
+        self.inside += 1;
+        count_accepted(&mut self.tally, dropped);
+        self.list(station);
+        (id, dropped)
+    }
+
+    // A frame that comes in, whatever its flow and its length.
+    fn check_enqueue(&self, station: u16, tid: u8) -> Result<(), Refusal>
+        requires some { HasWorld self.now }
+        ensures refused { (w : World) (bodies : ℕ → FrameValue) (flow len : ℕ) → StandsFor self.now w bodies →
+            result_err result ≡ refusal w (Enqueue station tid flow len) }
+        ensures within { IfOk result (λ _. station < self.now.config.stations) }
+        ensures tid { IfOk result (λ _. tid < 8) }
+        ensures room { IfOk result (λ _. self.now.inside < self.now.config.room) }
+    {
+        self.in_range(station)?;
+        refuse_where(GREATEST_TID < tid, Refusal::BadTid)?;
+        self.live(station)?;
+        let inside = self.inside;
+        refuse_where(self.config.room <= inside, Refusal::Room { inside })?;
+        let queued = self.queued_in(station, Class::of_tid(tid));
+        refuse_where(
+            self.sleeps_full(station, queued),
+            Refusal::Sleeping { queued },
+        )
+    }
+
+    // Whether a station sleeps, and so many frames are as many as may be queued for it in a class.
+    fn sleeps_full(&self, station: u16, queued: u32) -> bool
+        requires { station < self.now.config.stations }
+        ensures { result ≡ ((sleeper self.now.sleepers station).asleep
+            && nat_le self.now.config.sleeping queued) }
+    {
+        self.sleepers.asleep(station) && self.config.sleeping <= queued
+    }
+
+    // How many frames are queued for a station in a class.
+    fn queued_in(&self, station: u16, class: Class) -> u32
+        requires within { station < self.now.config.stations }
+        requires some { HasWorld self.now }
+        ensures { result ≡ queued_in_class_of self.now station class }
+    {
+        let [lower, upper] = class.tids();
+        self.flows.queued(station, lower) + self.flows.queued(station, upper)
+    }
+}

@@ -1,0 +1,193 @@
+//! The end of an exchange.
+
+ghost use Rattle.std.specs.Prelude.{◌≡◌, ◌≢◌, ◌<◌, ◌==◌, ℕ, Bool, true, false, Some, length, find, is_ok, is_some, IfOk, IfErr, IfNone, IfSome, List};
+ghost use Rattle.wf_frame.specs.Frames.{FrameValue};
+ghost use Rattle.wf_frame.specs.declared.classes.Fate.TheVariants.{Held};
+ghost use Rattle.wf_def_world.specs.World.{World, Mpdu, Exchange, exchange as exchange_in};
+ghost use Rattle.wf_def_world.specs.CanSend.{is_request};
+ghost use Rattle.wf_def_world.specs.Step.{done_outcome};
+ghost use Rattle.wf_send_half_refines.specs.Half.{TransmitValue};
+ghost use Rattle.wf_send_half_refines.specs.Standing.{StandsFor, Meets, Parts, numbers_on_air, open_of};
+ghost use Rattle.wf_send_half_refines.specs.Ending.{IsEnding, after_close, after_finish, after_answer};
+ghost use Rattle.wf_send_half.specs.Bits.{is_shown, CanFinish, IsToSettle, IsClosed, GoesBy, with_one_more, all_ended, ended_reply, IsChargeSmall, AreShown, NoneIsShown, count_shown, count_shown_of};
+ghost use Rattle.wf_send_half.specs.Half.{HasWorld};
+ghost use Rattle.wf_send_half.specs.Replies.{reply_of_result};
+ghost use Rattle.wf_def_agreement.specs.Receiver.{Score};
+ghost use Rattle.wf_frame.specs.declared.notes.Ask.TheVariants.{Done};
+ghost use Rattle.wf_frame.specs.declared.notes.Note.TheVariants.{Asked};
+ghost use Rattle.wf_frame.specs.declared.notes.Refusal.TheVariants.{NoExchange};
+ghost use Rattle.wf_send_half.specs.Counts.{AreCounted, HasFate};
+
+use crate::Transmit;
+use wf_frame::Refusal;
+use wf_octets_bits::Bits256;
+use wf_octets_seq12::Seq12;
+use wf_queue_chain::Parcel;
+use wf_send_exchanges::{Numbers, Open, Sending};
+use wf_send_window::Settled;
+
+/// How many numbers a BlockAck tells of, from its start on.
+const NARROW: u16 = 64;
+
+const WIDE: u16 = 256;
+
+/// What became of the frames of an exchange that ended. They are at most 256.
+#[derive(Clone, Copy, Debug, PartialEq, Eq)]
+pub struct Ended {
+    /// Those that were acknowledged.
+    pub acked: u16,
+    /// Those that wait for another transmission.
+    pub waiting: u16,
+    /// Those that were sent as often as the setting `attempts` allows, and are dropped.
+    pub failed: u16,
+}
+
+// Whether what was heard shows a number.
+fn is_shown(wide: bool, heard: &Option<(Seq12, Bits256)>, number: Seq12) -> bool
+    ensures { result ≡ is_shown wide heard.now number }
+{
+    match heard {
+        Some((start, bits)) => {
+            let offset = number.ahead(*start);
+            offset < (if wide { WIDE } else { NARROW }) && bits.has(offset)
+        }
+        None => false,
+    }
+}
+
+impl Transmit {
+    /// An exchange ends: its station pays for it, and what it sent is settled. `heard` is what was heard in
+    /// answer: the start and the bits of a BlockAck (IEEE 802.11-2012, 8.3.1.9), of which the first 64 count,
+    /// or all 256 where the TID's window is above 64. Each number that it shows is acknowledged, and `acked`
+    /// counts them; each other one waits again, or fails where it was sent `attempts` times. A request is
+    /// heard where anything was. Where the exchange is not open, refused as NoExchange.
+    pub fn done(&mut self, exchange: u64, heard: Option<(Seq12, Bits256)>) -> Result<Ended, Refusal>
+        requires some { HasWorld self.old }
+        requires small { IsChargeSmall self.old exchange }
+        ensures lost { IfNone heard ((w : World) (bodies : ℕ → FrameValue) → StandsFor self.old w bodies →
+            Meets w bodies (Asked (Done exchange false)) self.new (reply_of_result ended_reply result)) }
+        ensures shown { IfSome heard (λ score. (w : World) (bodies : ℕ → FrameValue) (x : Exchange)
+            (b : Score) → StandsFor self.old w bodies →
+            exchange_in w exchange ≡ Some x → x.answer ≡ Some b → AreShown w x b (Some score) →
+            Meets w bodies (Asked (Done exchange true)) self.new (reply_of_result ended_reply result)) }
+        ensures none_shown { (w : World) (bodies : ℕ → FrameValue) (x : Exchange) →
+            StandsFor self.old w bodies →
+            exchange_in w exchange ≡ Some x → is_request x.content ≡ false → NoneIsShown w x heard →
+            Meets w bodies (Asked (Done exchange false)) self.new (reply_of_result ended_reply result) }
+        ensures found { is_ok result ≡ is_some (find (λ x. x.number == exchange) self.old.opened) }
+        ensures refused { IfErr result (λ reason. (reason ≡ NoExchange) × (self.new ≡ self.old)) }
+        ensures acked { IfOk result (λ ended. IfSome (find (λ x. x.number == exchange) self.old.opened) (λ x.
+            ended.acked ≡ count_shown_of self.old heard x)) }
+        ensures kept { IfNone heard (HasWorld self.new) }
+    {
+        let Some(open) = self.opened.take_out(exchange) else {
+            return Err(Refusal::NoExchange);
+        };
+        self.sched.charge(open.station, open.class, open.charge);
+        self.members.charge(open.station, open.class, open.charge);
+        let ended = self.settle(&open, &heard);
+        self.list(open.station);
+        Ok(ended)
+    }
+
+    // What an exchange sent is settled, once it is closed and charged: the numbers of an aggregate by what
+    // was heard, and a request where anything was.
+    fn settle(&mut self, open: &Open, heard: &Option<(Seq12, Bits256)>) -> Ended
+        requires some { IsClosed self.old open.now }
+        ensures settled { (v : TransmitValue) (w : World) (bodies : ℕ → FrameValue) (e : ℕ) (x : Exchange)
+            (answered : Bool) →
+            StandsFor v w bodies → exchange_in w e ≡ Some x → open.now ≡ open_of x →
+            self.old ≡ after_close v open.now → GoesBy w x heard.now answered →
+            Parts self.new (done_outcome w x answered).world bodies }
+        ensures reply { (v : TransmitValue) (w : World) (bodies : ℕ → FrameValue) (e : ℕ) (x : Exchange)
+            (answered : Bool) →
+            StandsFor v w bodies → exchange_in w e ≡ Some x → open.now ≡ open_of x →
+            self.old ≡ after_close v open.now → GoesBy w x heard.now answered →
+            ended_reply result ≡ (done_outcome w x answered).reply }
+        ensures acked { result.acked ≡ count_shown_of self.old heard.now open.now }
+        ensures config { self.new.config ≡ self.old.config }
+    {
+        match &open.sending {
+            Sending::Data(numbers) => {
+                let wide = self.windows.at(open.station, open.tid).size() > NARROW;
+                self.settle_all(open.station, open.tid, numbers, wide, heard)
+            }
+            Sending::Request(start) => {
+                if heard.is_some() {
+                    self.windows.bar_heard(open.station, open.tid, *start);
+                }
+                Ended {
+                    acked: 0,
+                    waiting: 0,
+                    failed: 0,
+                }
+            }
+        }
+    }
+
+    // Settles each number of an aggregate, in its order, by what was heard.
+    fn settle_all(
+        &mut self,
+        station: u16,
+        tid: u8,
+        numbers: &Numbers,
+        wide: bool,
+        heard: &Option<(Seq12, Bits256)>,
+    ) -> Ended
+        requires some { IsToSettle self.old station tid numbers.now (is_shown wide heard.now) }
+        requires room { CanFinish self.old (length numbers.now) }
+        ensures settled { (w after : World) (bodies : ℕ → FrameValue) (e : ℕ) (mpdus : List Mpdu) →
+            IsEnding self.old w bodies station tid e (is_shown wide heard.now) mpdus after →
+            numbers.now ≡ numbers_on_air mpdus → Parts self.new after bodies }
+        ensures counted { (w after : World) (bodies : ℕ → FrameValue) (e : ℕ) (mpdus : List Mpdu) →
+            IsEnding self.old w bodies station tid e (is_shown wide heard.now) mpdus after →
+            numbers.now ≡ numbers_on_air mpdus → AreCounted after station tid mpdus result }
+        ensures acked { result.acked ≡ count_shown wide heard.now numbers.now }
+        ensures config { self.new.config ≡ self.old.config }
+    {
+        let limit = self.config.attempts as u8;
+        let mut ended = Ended {
+            acked: 0,
+            waiting: 0,
+            failed: 0,
+        };
+        for i in 0..numbers.len() {
+            let number = numbers.at(i);
+            let acked = is_shown(wide, heard, number);
+            let answer = self.windows.settle(station, tid, number, acked, limit);
+            self.account_for(answer, &mut ended);
+        }
+        ended
+    }
+
+    // What a window gave for a number is counted, and its frame finished where it has its fate.
+    fn account_for(&mut self, answer: Settled, ended: &mut Ended)
+        requires fate { HasFate answer }
+        requires room { CanFinish self.old 1 }
+        requires few { all_ended ended.old < 256 }
+        ensures half { self.new ≡ after_answer self.old answer }
+        ensures ended { ended.new ≡ with_one_more ended.old answer }
+    {
+        match answer {
+            Settled::Acked(parcel) => {
+                self.finish(parcel);
+                ended.acked += 1;
+            }
+            Settled::Waiting => ended.waiting += 1,
+            Settled::Failed(parcel) => {
+                self.finish(parcel);
+                ended.failed += 1;
+            }
+        }
+    }
+
+    // A frame that has its fate is finished.
+    fn finish(&mut self, parcel: Parcel)
+        requires fate { parcel.fate ≢ Held }
+        requires room { CanFinish self.old 1 }
+        ensures { self.new ≡ after_finish self.old parcel }
+    {
+        self.tally.settle(parcel.frame().fate());
+        self.flows.finish(parcel);
+    }
+}

@@ -1,0 +1,239 @@
+//! What the driver sends next.
+
+ghost use Rattle.std.specs.Prelude.{◌≡◌, ◌<◌, ◌^◌, ◌||◌, ℕ, List, [], All, true, nat_le, nat_lt, count_by, length};
+ghost use Rattle.wf_frame.specs.Classes.{same_class, tid_number};
+ghost use Rattle.wf_frame.specs.Frames.{FrameValue};
+ghost use Rattle.wf_frame.specs.Answers.{reply_with};
+ghost use Rattle.wf_frame.specs.declared.answers.Brief.TheVariants.{Send, Refused};
+ghost use Rattle.wf_frame.specs.declared.notes.Ask.TheVariants.{Pull};
+ghost use Rattle.wf_frame.specs.declared.notes.Note.TheVariants.{Asked};
+ghost use Rattle.wf_frame.specs.declared.notes.Refusal.TheVariants.{Full};
+ghost use Rattle.wf_queue_flows.specs.Flows.{frames_of_tid};
+ghost use Rattle.wf_send_window.specs.Windows.{window_of};
+ghost use Rattle.wf_def_world.specs.World.{World, Mpdu};
+ghost use Rattle.wf_send_half_refines.specs.Half.{TransmitValue, some_wait};
+ghost use Rattle.wf_send_half_refines.specs.Standing.{StandsFor, Meets, numbers_on_air};
+ghost use Rattle.wf_send_half_refines.specs.Changes.{after_listing};
+ghost use Rattle.wf_send_half_refines.specs.Filling.{IsToFill, IsTakingOff};
+ghost use Rattle.wf_send_half_refines.specs.Pulling.{sending_tid_of, after_turn, has_more_of, open_next, after_sending};
+ghost use Rattle.wf_send_half.specs.Half.{HasWorld, IsLive};
+ghost use Rattle.wf_send_half.specs.Pulls.{TellsWhoIsReady, IsPickedInClass, HasPick, IsExponentSmall, IsSameButFrames, HasTakingOff, IsFlying, HasToPrepare, HasToSend, IsPrepared, IsPreparedFor, start_sent};
+
+use crate::Transmit;
+use wf_air_time::request_charge;
+use wf_frame::{Brief, Class, Pairs, Refusal};
+use wf_send_exchanges::{Numbers, Open, Sending};
+
+/// What an exchange sends, and its charge in microseconds.
+#[derive(Drop)]
+pub(crate) struct Prepared {
+    sending: Sending,
+    charge: u32,
+}
+
+// The start of what is sent, where that is a request.
+fn request_in(sending: &Sending) -> Option<u16>
+    ensures { result ≡ start_sent sending.now }
+{
+    match sending {
+        Sending::Data(_) => None,
+        Sending::Request(start) => Some(start.raw()),
+    }
+}
+
+impl Transmit {
+    /// The driver asks for the next exchange of a class. `ready` has an entry for each station, which tells
+    /// of a listed one whether it is ready in the class. The station whose turn it is sends what is due on
+    /// one of its TIDs: a request, or an aggregate, whose frames are written to `pairs`, each by its id and
+    /// its sequence number. Refused as Full where as many exchanges of the class are open as the setting
+    /// `inflight` allows, or as Idle where no listed station is ready.
+    pub fn pull(&mut self, class: Class, ready: &[bool], pairs: &mut Pairs) -> Brief
+        requires some { HasWorld self.old }
+        requires told { TellsWhoIsReady self.old class ready.now }
+        requires clock { self.old.clock < 2 ^ 62 }
+        requires exchanges { self.old.exchanges < 2 ^ 62 }
+        ensures meets { (w : World) (bodies : ℕ → FrameValue) → StandsFor self.old w bodies →
+            Meets w bodies (Asked (Pull class)) self.new (reply_with result pairs.new []) }
+        ensures full { nat_le self.old.config.inflight
+            (count_by (λ x. same_class x.class class) self.old.opened) ≡ true →
+            (result ≡ Refused (Full (count_by (λ x. same_class x.class class) self.old.opened))) ×
+            (self.new ≡ self.old) }
+        ensures kept { HasWorld self.new }
+    {
+        let count = self.opened.of_class(class);
+        if self.config.inflight <= count {
+            return Brief::Refused(Refusal::Full { count });
+        }
+        match self.sched.pick(class, ready) {
+            Some(station) => self.send(station, class, pairs),
+            None => Brief::Refused(Refusal::Idle),
+        }
+    }
+
+    // Sends what is due of a station that was picked.
+    fn send(&mut self, station: u16, class: Class, pairs: &mut Pairs) -> Brief
+        requires within { station < self.old.config.stations }
+        requires clock { self.old.clock < 2 ^ 62 }
+        requires exchanges { self.old.exchanges < 2 ^ 62 }
+        requires room { length self.old.opened < 32 }
+        requires picked { HasPick self.old station class }
+        ensures meets { (v : TransmitValue) (w : World) (bodies : ℕ → FrameValue) →
+            IsPickedInClass v self.old w bodies station class →
+            Meets w bodies (Asked (Pull class)) self.new (reply_with result pairs.new []) }
+    {
+        let tid = self.take_turn(station, class);
+        let prepared = self.prepare(station, tid, pairs);
+        self.put_on_air(station, tid, class, prepared)
+    }
+
+    // Opens an exchange, which uses up the credit of its station.
+    fn put_on_air(&mut self, station: u16, tid: u8, class: Class, prepared: Prepared) -> Brief
+        requires within { station < self.old.config.stations }
+        requires small { self.old.exchanges < 2 ^ 62 }
+        requires room { length self.old.opened < 32 }
+        requires above { All (λ x. x.number < self.old.exchanges) self.old.opened }
+        ensures opened { self.new ≡ after_listing
+            (after_sending self.old station tid class prepared.charge prepared.sending) station }
+        ensures brief { result ≡ Send self.old.exchanges station tid prepared.charge
+            (start_sent prepared.sending)
+            (open_next self.old station tid class prepared.charge prepared.sending).more }
+    {
+        let exchange = self.exchanges;
+        let Prepared { sending, charge } = prepared;
+        let request = request_in(&sending);
+        let more = self.sleepers.asleep(station) && request.is_none() && self.has_more(station);
+        self.opened.push(Open {
+            number: exchange,
+            station,
+            tid,
+            class,
+            charge,
+            sending,
+            more,
+        });
+        self.exchanges += 1;
+        self.sleepers.spend(station);
+        self.list(station);
+        Brief::Send {
+            exchange,
+            station,
+            tid,
+            air: charge,
+            request,
+            more,
+        }
+    }
+
+    // Whether a number waits or a frame is queued on some TID of a station.
+    pub(crate) fn has_more(&self, station: u16) -> bool
+        requires within { station < self.now.config.stations }
+        ensures { result ≡ has_more_of self.now station }
+    {
+        self.has_some(station, 0)
+            || self.has_some(station, 1)
+            || self.has_some(station, 2)
+            || self.has_some(station, 3)
+            || self.has_some(station, 4)
+            || self.has_some(station, 5)
+            || self.has_some(station, 6)
+            || self.has_some(station, 7)
+    }
+
+    // Whether a number of a TID waits or a frame is queued.
+    fn has_some(&self, station: u16, tid: u8) -> bool
+        requires within { station < self.now.config.stations }
+        requires tid { tid < 8 }
+        ensures { result ≡ (some_wait (window_of self.now.windows station tid)
+            || nat_lt 0 (frames_of_tid self.now.flows (tid_number station tid))) }
+    {
+        self.windows.at(station, tid).has_waiting() || self.flows.queued(station, tid) > 0
+    }
+
+    // A request where one is due, else an aggregate, whose numbers fly from then on.
+    fn prepare(&mut self, station: u16, tid: u8, pairs: &mut Pairs) -> Prepared
+        requires within { station < self.old.config.stations }
+        requires tid { tid < 8 }
+        requires live { IsLive self.old station }
+        requires small { self.old.clock < 2 ^ 62 }
+        requires exponent { IsExponentSmall self.old station }
+        requires due { HasToPrepare self.old station tid }
+        ensures prepared { IsPreparedFor self.old self.new station tid result.charge pairs.new result.sending }
+        ensures same { IsSameButFrames self.old self.new }
+    {
+        let window = self.windows.at(station, tid);
+        if window.bar_due() {
+            return Prepared {
+                sending: Sending::Request(window.start()),
+                charge: request_charge(self.is_wide(station, tid)),
+            };
+        }
+        let (numbers, charge) = self.prepare_data(station, tid, pairs);
+        Prepared {
+            sending: Sending::Data(numbers),
+            charge,
+        }
+    }
+
+    // The TID that sends: the one whose turn it is, where it can, else the other. The turn goes to the TID
+    // that does not.
+    fn take_turn(&mut self, station: u16, class: Class) -> u8
+        requires within { station < self.old.config.stations }
+        requires live { IsLive self.old station }
+        ensures tid { result ≡ sending_tid_of self.old station class }
+        ensures low { result < 8 }
+        ensures turned { self.new ≡ after_turn self.old station class result }
+    {
+        let [lower, upper] = class.tids();
+        let (first, other) = if self.members.is_upper(station, class) {
+            (upper, lower)
+        } else {
+            (lower, upper)
+        };
+        let tid = if self.can_send(station, first) {
+            first
+        } else {
+            other
+        };
+        self.members.set_upper(station, class, tid == lower);
+        tid
+    }
+
+    // Lets numbers fly in the next exchange, and writes each with the id of its frame.
+    fn fly_all(&mut self, station: u16, tid: u8, numbers: &Numbers, pairs: &mut Pairs)
+        requires within { station < self.old.config.stations }
+        requires tid { tid < 8 }
+        requires off { HasTakingOff self.old station tid numbers.now }
+        ensures flown { (w : World) (bodies : ℕ → FrameValue) (mpdus : List Mpdu) (after : World) →
+            IsTakingOff self.old w bodies station tid self.old.exchanges mpdus after →
+            numbers.now ≡ numbers_on_air mpdus →
+            IsFlying self.new bodies station tid self.old.exchanges mpdus after (length mpdus) pairs.new }
+        ensures others { self.new ≡ record self.old { windows = self.new.windows } }
+    {
+        pairs.clear();
+        for i in 0..numbers.len() {
+            let number = numbers.at(i);
+            let id = self.windows.at(station, tid).frame(number).id();
+            self.windows.fly(station, tid, number, self.exchanges);
+            pairs.push((id, number.raw()));
+        }
+    }
+
+    // The numbers of an aggregate, which fly from then on, and its charge.
+    fn prepare_data(&mut self, station: u16, tid: u8, pairs: &mut Pairs) -> (Numbers, u32)
+        requires within { station < self.old.config.stations }
+        requires tid { tid < 8 }
+        requires live { IsLive self.old station }
+        requires small { self.old.clock < 2 ^ 62 }
+        requires exponent { IsExponentSmall self.old station }
+        requires sends { HasToSend self.old station tid }
+        ensures prepared { (w : World) (bodies : ℕ → FrameValue) → IsToFill self.old w bodies station tid →
+            IsPrepared self.new w bodies station tid result.1 result.0 pairs.new }
+        ensures same { IsSameButFrames self.old self.new }
+    {
+        let aggregate = self.fill(station, tid);
+        let charge = aggregate.air();
+        let numbers = aggregate.numbers;
+        self.fly_all(station, tid, &numbers, pairs);
+        (numbers, charge)
+    }
+}

@@ -1,0 +1,53 @@
+//! What a path reads of the half beside its calls.
+
+ghost use Rattle.std.specs.Prelude.{◌≡◌, ◌<◌, ◌==◌, ◌↔◌, ◌&&◌, ℕ, true, Some, is_some, find, option_map, IfSome, IsNone};
+ghost use Rattle.wf_queue_flows.specs.Backlog.{in_queues};
+ghost use Rattle.wf_queue_flows.specs.Flows.{loses_next};
+ghost use Rattle.wf_send_stations.specs.Members.{member};
+ghost use Rattle.wf_octets_tim.specs.Sleepers.{sleeper};
+ghost use Rattle.wf_send_window.specs.Windows.{window_of};
+ghost use Rattle.wf_send_half_refines.specs.Pulling.{has_more_of};
+
+use crate::Transmit;
+use wf_send_exchanges::Open;
+use wf_send_window::Window;
+
+impl Transmit {
+    /// The open exchange with this number. None where it is not open.
+    pub fn exchange(&self, number: u64) -> Option<&Open>
+        ensures { option_map (λ x. x.now) result ≡ find (λ x. x.number == number) self.now.opened }
+    {
+        self.opened.find(number)
+    }
+
+    /// The window of a TID. The station's number is below the setting `stations`.
+    pub fn window(&self, station: u16, tid: u8) -> &Window
+        requires within { station < self.now.config.stations }
+        requires tid { tid < 8 }
+        ensures { result.now ≡ window_of self.now.windows station tid }
+    {
+        self.windows.at(station, tid)
+    }
+
+    /// The station and the TID whose frame the next enqueue drops for the limit: those that list the longest
+    /// queue, where the queues hold `limit` frames or more; else None.
+    pub fn next_drop(&self) -> Option<(u16, u8)>
+        ensures none { IsNone result ↔ (in_queues self.now.flows.backlog < self.now.flows.limit) }
+        ensures station { IfSome result (λ x. x.0 < self.now.flows.stations) }
+        ensures tid { IfSome result (λ x. x.1 < 8) }
+        ensures loses { IfSome result (λ x. loses_next self.now.flows x.0 x.1 ≡ true) }
+        ensures only { (s t : ℕ) → t < 8 → loses_next self.now.flows s t ≡ true → result ≡ Some (s, t) }
+    {
+        self.flows.next_drop()
+    }
+
+    /// Whether a station is live and sleeps, and a number waits or a frame is queued for it on some TID: what
+    /// its bit of the TIM tells (IEEE 802.11-2012, 8.4.2.7).
+    pub fn has_traffic(&self, station: u16) -> bool
+        requires within { station < self.now.config.stations }
+        ensures { result ≡ (is_some (member self.now.members station)
+            && ((sleeper self.now.sleepers station).asleep && has_more_of self.now station)) }
+    {
+        self.members.is_live(station) && self.sleepers.asleep(station) && self.has_more(station)
+    }
+}

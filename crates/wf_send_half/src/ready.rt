@@ -1,0 +1,111 @@
+//! Who can send, and who is listed for it.
+
+ghost use Rattle.std.specs.Prelude.{◌≡◌, ◌<◌, ◌&&◌, ℕ, nat_lt, if◌then◌else◌};
+ghost use Rattle.wf_frame.specs.Frames.{FrameValue};
+ghost use Rattle.wf_def_world.specs.World.{World};
+ghost use Rattle.wf_def_world.specs.CanSend.{is_ready, has_credit};
+ghost use Rattle.wf_frame.specs.Classes.{tid_number};
+ghost use Rattle.wf_queue_flows.specs.Flows.{frames_of_tid};
+ghost use Rattle.wf_send_window.specs.Window.{can_take};
+ghost use Rattle.wf_octets_tim.specs.Sleepers.{sleeper};
+ghost use Rattle.wf_sched_stations_refines.specs.Standing.{with_listed};
+ghost use Rattle.wf_send_window.specs.Windows.{window_of};
+ghost use Rattle.wf_send_half_refines.specs.Half.{can_send_of, is_ready_of};
+ghost use Rattle.wf_send_half_refines.specs.Standing.{StandsFor};
+ghost use Rattle.wf_send_half_refines.specs.Changes.{after_listing};
+ghost use Rattle.wf_send_half.specs.Half.{can_send_in_of};
+
+use crate::Transmit;
+use wf_frame::Class;
+
+impl Transmit {
+    /// Whether a station is ready in a class: it is live, one of the class's two TIDs can send, and it is
+    /// awake or has a credit for the class. The station's number is below the setting `stations`.
+    pub fn is_ready(&self, station: u16, class: Class) -> bool
+        requires within { station < self.now.config.stations }
+        ensures value { result ≡ is_ready_of self.now class station }
+        ensures world { (w : World) (bodies : ℕ → FrameValue) → StandsFor self.now w bodies →
+            result ≡ is_ready w class station }
+    {
+        self.finds_ready(station, class)
+    }
+
+    // The same, of the half alone.
+    fn finds_ready(&self, station: u16, class: Class) -> bool
+        requires { station < self.now.config.stations }
+        ensures { result ≡ is_ready_of self.now class station }
+    {
+        self.members.is_live(station)
+            && self.can_send_in(station, class)
+            && (!self.sleepers.asleep(station) || self.has_credit(station, class))
+    }
+
+    // Whether a station has the credit of a class.
+    fn has_credit(&self, station: u16, class: Class) -> bool
+        requires within { station < self.now.config.stations }
+        ensures value { result ≡ has_credit (sleeper self.now.sleepers station).credit class }
+    {
+        match self.sleepers.credit(station) {
+            Some(granted) => granted == class,
+            None => false,
+        }
+    }
+
+    // Whether one of the two TIDs of a class can send.
+    pub(crate) fn can_send_in(&self, station: u16, class: Class) -> bool
+        requires within { station < self.now.config.stations }
+        ensures value { result ≡ can_send_in_of self.now station class }
+    {
+        let [lower, upper] = class.tids();
+        self.can_send(station, lower) || self.can_send(station, upper)
+    }
+
+    // Whether a TID can send: where a request is due, unless one is in an open exchange; else where a number
+    // waits or a frame is queued that the window takes.
+    pub(crate) fn can_send(&self, station: u16, tid: u8) -> bool
+        requires within { station < self.now.config.stations }
+        requires tid { tid < 8 }
+        ensures value { result ≡ can_send_of self.now station tid }
+    {
+        let window = self.windows.at(station, tid);
+        if window.bar_due() {
+            !self.opened.asks(station, tid)
+        } else {
+            window.has_waiting() || self.can_give(station, tid)
+        }
+    }
+
+    // Whether a TID has a queued frame that its window takes.
+    pub(crate) fn can_give(&self, station: u16, tid: u8) -> bool
+        requires within { station < self.now.config.stations }
+        requires tid { tid < 8 }
+        ensures value { result ≡ (nat_lt 0 (frames_of_tid self.now.flows (tid_number station tid))
+            && can_take (window_of self.now.windows station tid)) }
+    {
+        self.flows.queued(station, tid) > 0 && self.windows.at(station, tid).can_give()
+    }
+
+    // Lists a station in each class in which it is ready and unlisted.
+    pub(crate) fn list(&mut self, station: u16)
+        requires within { station < self.old.config.stations }
+        ensures { self.new ≡ after_listing self.old station }
+    {
+        self.list_in(station, Class::Bk);
+        self.list_in(station, Class::Be);
+        self.list_in(station, Class::Vi);
+        self.list_in(station, Class::Vo);
+    }
+
+    // Lists a station in a class where it is ready in it and unlisted.
+    pub(crate) fn list_in(&mut self, station: u16, class: Class)
+        requires within { station < self.old.config.stations }
+        ensures { self.new ≡ record self.old {
+          sched = if is_ready_of self.old class station
+              then with_listed self.old.sched station class else self.old.sched;
+        } }
+    {
+        if self.is_ready(station, class) {
+            self.sched.list(station, class);
+        }
+    }
+}

@@ -1,0 +1,233 @@
+//! When the calls are refused: each for the first reason that holds, in the order of the machine.
+
+ghost use Rattle.std.specs.Prelude.{◌≡◌, ◌<◌, ◌≤◌, ◌==◌, ◌||◌, nat_lt, ℕ, ◌-ℤ◌, pos, int_lt, true, false, [], ◌∷◌, None, Some, is_some, not, find, IfOk, IfErr, if◌then◌else◌, nat_le};
+ghost use Rattle.wf_frame.specs.Frames.{FrameValue};
+ghost use Rattle.wf_frame.specs.declared.notes.Ask.TheVariants.{Join, Rate as Rates, Tick, Sleep, Wake, Poll, Rx};
+ghost use Rattle.wf_frame.specs.declared.notes.Note.TheVariants.{Asked};
+ghost use Rattle.wf_frame.specs.declared.notes.Refusal.TheVariants.{BadRate, BadStation, NoStation, Debt};
+ghost use Rattle.wf_frame.specs.declared.classes.Class.TheVariants.{Bk, Be, Vi, Vo};
+ghost use Rattle.wf_def_lists.specs.Bounds.{greatest_mcs, deepest_deficit};
+ghost use Rattle.wf_def_world.specs.World.{World, share};
+ghost use Rattle.wf_def_world.specs.Refusals.{refusal, is_within};
+ghost use Rattle.wf_def_world.specs.Step.{class_to_send};
+ghost use Rattle.wf_octets_tim.specs.Sleepers.{sleeper};
+ghost use Rattle.wf_send_half_refines.specs.Standing.{StandsFor};
+ghost use Rattle.wf_send_stations.specs.Members.{member};
+ghost use Rattle.wf_send_half.specs.Half.{IsLive, can_send_in_of};
+ghost use Rattle.std.specs.Result.{result_err};
+
+use crate::Transmit;
+use wf_air_time::Rate;
+use wf_frame::{Class, Refusal};
+
+/// The most that one tick moves the clock, in microseconds.
+const LONGEST_TICK: u32 = 10_000_000;
+
+/// The most airtime of one receive charge, in microseconds.
+const LONGEST_AIR: u32 = 65_535;
+
+/// The greatest window of an agreement, in frames.
+const GREATEST_WINDOW: u32 = 256;
+
+/// The greatest sequence number, of twelve bits (IEEE 802.11-2012, 8.2.4.4.2).
+const GREATEST_NUMBER: u16 = 4095;
+
+/// The greatest maximum A-MPDU length exponent (8.4.2.58.3).
+const GREATEST_EXPONENT: u8 = 3;
+
+/// The greatest weight of a station, in quanta.
+const GREATEST_WEIGHT: u32 = 16;
+
+// Whether a number is one of 1 to the greatest.
+fn is_within(greatest: u32, number: u32) -> bool
+    ensures { result ≡ is_within 1 greatest number }
+{
+    1 <= number && number <= greatest
+}
+
+// Refused for this reason where a condition holds.
+pub(crate) fn refuse_where(condition: bool, reason: Refusal) -> Result<(), Refusal>
+    ensures refused { result_err result ≡ (if condition then Some reason else None) }
+    ensures passed { IfOk result (λ _. condition ≡ false) }
+{
+    if condition { Err(reason) } else { Ok(()) }
+}
+
+// The rate of an MCS, a width in MHz and a guard interval.
+fn rate_of(mcs: u8, mhz: u8, short: bool) -> Result<Rate, Refusal>
+    ensures refused { result_err result ≡ (if nat_lt greatest_mcs mcs || not ((mhz == 20) || (mhz == 40))
+        then Some BadRate else None) }
+    ensures rate { IfOk result (λ rate. rate ≡ record { mcs = mcs; mhz = mhz; short = short }) }
+{
+    match Rate::new(mcs, mhz, short) {
+        Ok(rate) => Ok(rate),
+        Err(_) => Err(Refusal::BadRate),
+    }
+}
+
+// The clock moves on.
+pub(crate) fn check_tick(by: u32) -> Result<(), Refusal>
+    ensures { (w : World) → result_err result ≡ refusal w (Asked (Tick by)) }
+{
+    refuse_where(LONGEST_TICK < by, Refusal::BadTick)
+}
+
+impl Transmit {
+    // A station that joins.
+    pub(crate) fn check_join(
+        &self,
+        station: u16,
+        window: u16,
+        start: u16,
+        exponent: u8,
+        weight: u8,
+    ) -> Result<(), Refusal>
+        ensures refused { (w : World) (bodies : ℕ → FrameValue) → StandsFor self.now w bodies →
+            result_err result ≡ refusal w (Asked (Join station window start exponent weight)) }
+        ensures within { IfOk result (λ _. station < self.now.config.stations) }
+        ensures window { IfOk result (λ _. (1 ≤ window) × (window ≤ 256)) }
+        ensures start { IfOk result (λ _. start < 4096) }
+        ensures weight { IfOk result (λ _. (1 ≤ weight) × (weight ≤ 16)) }
+        ensures absent { IfOk result (λ _. is_some (member self.now.members station) ≡ false) }
+    {
+        self.in_range(station)?;
+        refuse_where(
+            !is_within(GREATEST_WINDOW, u32::from(window)),
+            Refusal::BadWindow,
+        )?;
+        refuse_where(GREATEST_NUMBER < start, Refusal::BadStart)?;
+        refuse_where(GREATEST_EXPONENT < exponent, Refusal::BadExponent)?;
+        refuse_where(
+            !is_within(GREATEST_WEIGHT, u32::from(weight)),
+            Refusal::BadWeight,
+        )?;
+        refuse_where(self.members.is_live(station), Refusal::Live)
+    }
+
+    // A station that goes to sleep.
+    pub(crate) fn check_sleep(&self, station: u16) -> Result<(), Refusal>
+        ensures refused { (w : World) (bodies : ℕ → FrameValue) → StandsFor self.now w bodies →
+            result_err result ≡ refusal w (Asked (Sleep station)) }
+        ensures within { IfOk result (λ _. station < self.now.config.stations) }
+    {
+        self.in_range(station)?;
+        self.live(station)?;
+        refuse_where(self.sleepers.asleep(station), Refusal::Asleep)
+    }
+
+    // A station that wakes.
+    pub(crate) fn check_wake(&self, station: u16) -> Result<(), Refusal>
+        ensures refused { (w : World) (bodies : ℕ → FrameValue) → StandsFor self.now w bodies →
+            result_err result ≡ refusal w (Asked (Wake station)) }
+        ensures within { IfOk result (λ _. station < self.now.config.stations) }
+        ensures live { IfOk result (λ _. IsLive self.now station) }
+        ensures asleep { IfOk result (λ _. (sleeper self.now.sleepers station).asleep ≡ true) }
+    {
+        self.in_range(station)?;
+        self.live(station)?;
+        refuse_where(!self.sleepers.asleep(station), Refusal::Awake)
+    }
+
+    // A station that polls; the most urgent class in which it can send.
+    pub(crate) fn check_poll(&self, station: u16) -> Result<Class, Refusal>
+        ensures refused { (w : World) (bodies : ℕ → FrameValue) → StandsFor self.now w bodies →
+            result_err result ≡ refusal w (Asked (Poll station)) }
+        ensures class { IfOk result (λ class. (w : World) (bodies : ℕ → FrameValue) →
+            StandsFor self.now w bodies → class ≡ class_to_send w station) }
+        ensures within { IfOk result (λ _. station < self.now.config.stations) }
+        ensures asleep { IfOk result (λ _. (sleeper self.now.sleepers station).asleep ≡ true) }
+        ensures no_credit { IfOk result (λ _. (sleeper self.now.sleepers station).credit ≡ None) }
+    {
+        self.check_wake(station)?;
+        refuse_where(self.is_credited(station), Refusal::Polled)?;
+        match self.class_to_send(station) {
+            Some(class) => Ok(class),
+            None => Err(Refusal::Nothing),
+        }
+    }
+
+    // A station that is sent to at another rate.
+    pub(crate) fn check_rate(
+        &self,
+        station: u16,
+        mcs: u8,
+        mhz: u8,
+        short: bool,
+    ) -> Result<Rate, Refusal>
+        ensures refused { (w : World) (bodies : ℕ → FrameValue) → StandsFor self.now w bodies →
+            result_err result ≡ refusal w (Asked (Rates station mcs mhz short)) }
+        ensures rate { IfOk result (λ rate. rate ≡ record { mcs = mcs; mhz = mhz; short = short }) }
+        ensures within { IfOk result (λ _. station < self.now.config.stations) }
+    {
+        self.in_range(station)?;
+        let rate = rate_of(mcs, mhz, short)?;
+        self.live(station)?;
+        Ok(rate)
+    }
+
+    // A station that used airtime, but for the debt that it may not exceed.
+    pub(crate) fn check_receive(&self, station: u16, class: Class, air: u32) -> Result<(), Refusal>
+        ensures refused { IfErr result (λ reason. (w : World) (bodies : ℕ → FrameValue) →
+            StandsFor self.now w bodies →
+            refusal w (Asked (Rx station class air)) ≡ Some reason) }
+        ensures passed { IfOk result (λ _. (w : World) (bodies : ℕ → FrameValue) →
+            StandsFor self.now w bodies →
+            refusal w (Asked (Rx station class air))
+            ≡ (if int_lt ((share w station class).deficit -ℤ pos air) deepest_deficit
+            then Some (Debt (share w station class).deficit) else None)) }
+        ensures within { IfOk result (λ _. station < self.now.config.stations) }
+        ensures live { IfOk result (λ _. IsLive self.now station) }
+    {
+        self.in_range(station)?;
+        refuse_where(!is_within(LONGEST_AIR, air), Refusal::BadAir)?;
+        self.live(station)
+    }
+
+    // Whether a station has a credit that is not spent.
+    fn is_credited(&self, station: u16) -> bool
+        requires { station < self.now.config.stations }
+        ensures { result ≡ is_some (sleeper self.now.sleepers station).credit }
+    {
+        self.sleepers.credit(station).is_some()
+    }
+
+    // The most urgent class in which a station can send.
+    fn class_to_send(&self, station: u16) -> Option<Class>
+        requires { station < self.now.config.stations }
+        ensures { result ≡ find (can_send_in_of self.now station) (Vo ∷ Vi ∷ Be ∷ Bk ∷ []) }
+    {
+        if self.can_send_in(station, Class::Vo) {
+            Some(Class::Vo)
+        } else if self.can_send_in(station, Class::Vi) {
+            Some(Class::Vi)
+        } else if self.can_send_in(station, Class::Be) {
+            Some(Class::Be)
+        } else if self.can_send_in(station, Class::Bk) {
+            Some(Class::Bk)
+        } else {
+            None
+        }
+    }
+
+    // The number of a station that is to be live is below the setting.
+    pub(crate) fn in_range(&self, station: u16) -> Result<(), Refusal>
+        ensures refused { result_err result ≡ (if nat_le self.now.config.stations station
+            then Some BadStation else None) }
+        ensures within { IfOk result (λ _. station < self.now.config.stations) }
+    {
+        refuse_where(
+            self.config.stations <= u32::from(station),
+            Refusal::BadStation,
+        )
+    }
+
+    // A station in range is to be live.
+    pub(crate) fn live(&self, station: u16) -> Result<(), Refusal>
+        requires { station < self.now.config.stations }
+        ensures refused { result_err result ≡ (if not (is_some (member self.now.members station))
+            then Some NoStation else None) }
+        ensures live { IfOk result (λ _. IsLive self.now station) }
+    {
+        refuse_where(!self.members.is_live(station), Refusal::NoStation)
+    }
+}

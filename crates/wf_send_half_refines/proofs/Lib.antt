@@ -1,0 +1,42 @@
+mod Apart
+pub mod Asked
+pub mod Beyond
+mod Calls
+mod Closes
+pub mod Dones
+pub mod Dropping
+pub mod Ended
+pub mod Endings
+pub mod Enqueues
+pub mod Fills
+pub mod Flies
+pub mod Frames
+pub mod Gives
+pub mod Gone
+pub mod Inside
+mod Joins
+mod Known
+pub mod Leavings
+mod Ledgers
+mod Listings
+pub mod Meets
+mod Moves
+mod Numbered
+pub mod Opening
+pub mod Openings
+pub mod OwnClass
+pub mod Pulled
+pub mod Pulls
+pub mod Reached
+pub mod Readers
+mod Rooms
+pub mod Sends
+pub mod Settles
+pub mod Spared
+mod Stands
+mod Stations
+pub mod Steady
+pub mod Takes
+mod Unheard
+mod Views
+pub mod Whole

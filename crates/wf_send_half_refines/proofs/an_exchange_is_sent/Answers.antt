@@ -1,0 +1,11 @@
+use Rattle.wf_send_half_refines.proofs.Pulls.{send_parts, send_reply, wide_same}
+use Rattle.wf_send_half_refines.proofs.an_exchange_is_sent.Goals as goal
+
+pub returns-clause-sent : goal.returns-clause-sent
+returns-clause-sent c = send_parts
+
+pub returns-clause-reply : goal.returns-clause-reply
+returns-clause-reply c = send_reply
+
+pub returns-clause-wide : goal.returns-clause-wide
+returns-clause-wide c = wide_same

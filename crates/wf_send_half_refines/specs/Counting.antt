@@ -1,0 +1,10 @@
+-- What becomes of the counts as frames are accepted and finished.
+use Rattle.std.specs.Prelude.{ℕ, Option, Some, None}
+use Rattle.wf_frame.specs.declared.classes.Cause.TheVariants.{Overlimit}
+use Rattle.wf_frame.specs.declared.classes.Fate.TheVariants.{Dropped}
+use Rattle.wf_send_stations.specs.Tally.{Counts, settled_as}
+
+-- the frame that is dropped for the limit, where one is
+abbrev pub with_overlimit : Option ℕ → Counts → Counts
+with_overlimit None c = c
+with_overlimit (Some id) c = settled_as (Dropped Overlimit) c

@@ -1,0 +1,11 @@
+pub mod Changes
+pub mod Counting
+pub mod Ending
+pub mod Filling
+pub mod Half
+pub mod Inside
+pub mod Leaving
+pub mod Pulling
+pub mod Readiness
+pub mod Standing
+pub mod Views

@@ -1,0 +1,26 @@
+-- Which call changes who is ready.
+use Rattle.std.specs.Prelude.{ℕ, Bool, true, false, ◌||◌}
+use Rattle.wf_frame.specs.declared.classes.Class.{Class}
+use Rattle.wf_frame.specs.declared.notes.Ask.TheVariants.{Rate, Tick, Arrive, Answer, Rx, Reap}
+use Rattle.wf_frame.specs.declared.notes.Note.{Note}
+use Rattle.wf_frame.specs.declared.notes.Note.TheVariants.{Enqueue, Asked}
+use Rattle.wf_frame.specs.Classes.{lower_tid, upper_tid}
+use Rattle.wf_def_world.specs.World.{World}
+use Rattle.wf_queue_flows_refines.specs.Frames.{loses_next_in}
+
+-- whether the call drops a frame of a station in a class for the limit, where it is not refused
+abbrev pub loses_in : World → Note → ℕ → Class → Bool
+loses_in w (Enqueue station tid flow len) s c =
+    loses_next_in w s (lower_tid c) || loses_next_in w s (upper_tid c)
+loses_in w (Asked ask) s c = false
+
+-- whether it is a call that leaves who is ready, of every station: a rate, the clock, what arrives and
+-- is answered, a receive charge, and a reap
+abbrev pub leaves_ready : Note → Bool
+leaves_ready (Asked (Rate station mcs mhz short)) = true
+leaves_ready (Asked (Tick by)) = true
+leaves_ready (Asked (Arrive exchange index)) = true
+leaves_ready (Asked (Answer exchange)) = true
+leaves_ready (Asked (Rx station class air)) = true
+leaves_ready (Asked Reap) = true
+leaves_ready _ = false

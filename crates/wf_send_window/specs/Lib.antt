@@ -1,0 +1,9 @@
+pub mod Answers
+pub mod Ending
+pub mod Expelling
+pub mod Listing
+pub mod Many
+pub mod Places
+pub mod Ring
+pub mod Window
+pub mod Windows

@@ -1,0 +1,87 @@
+//! The machine: a counter of octets.
+ghost use Rattle.std.specs.Prelude.{◌≡◌, ℕ, ◌+◌, ◌%◌, []};
+ghost use Rattle.wf_show_gate.specs.Sums.{octets_at};
+
+use http_server::Log;
+use std::marker::Model;
+use wf_gate::Machine;
+
+/// How many sums a counter has. Callers whose numbers have the same remainder share one.
+const SUMS: usize = 256;
+
+/// A counter of octets: a call adds some to its caller's sum, and the reply is the sum.
+/// Contracts see the entries of its history and how many more it takes.
+#[derive(Drop)]
+pub struct Counter {
+    sums: [u64; SUMS],
+    left: u32,
+    // The history takes no memory: only clauses read it.
+    history: Log<u32, u32>,
+}
+
+impl Model for Counter {
+    ghost use Rattle.std.specs.Prelude.{ℕ, List};
+    ghost use Rattle.wf_show_gate.specs.Sums.{AreSums, AreSmall};
+
+    ghost Value = { List (ℕ × ℕ) × ℕ };
+
+    ghost view = { λ c. (c.history.items, c.left) };
+
+    ghost invariant = { λ c. AreSums c.sums c.history.items × AreSmall c.sums c.left };
+}
+
+impl Counter {
+    /// A counter that takes so many calls.
+    pub fn new(calls: u32) -> Counter
+        ensures { result ≡ ([], calls) }
+    {
+        Counter {
+            sums: [0; SUMS],
+            left: calls,
+            history: Log::new(),
+        }
+    }
+
+    /// The octets of the caller.
+    pub fn sum(&self, caller: u32) -> u64
+        ensures { result ≡ octets_at (caller % 256) self.now.0 }
+    {
+        self.sums[caller as usize % SUMS]
+    }
+}
+
+impl Machine for Counter {
+    type Call = u32;
+
+    type Reply = u64;
+
+    type Note = u32;
+
+    type Settings = ();
+
+    ghost past = { λ c. c.0 };
+
+    ghost settings = { λ _. tt };
+
+    ghost room = { λ c. c.1 };
+
+    ghost note = { λ octets. octets };
+
+    ghost right = { λ _ past caller octets sum. sum ≡ octets_at (caller % 256) past + octets };
+
+    fn room(&self) -> u64 {
+        self.left as u64
+    }
+
+    fn step(&mut self, caller: u32, call: u32) -> u64 {
+        let place = caller as usize % SUMS;
+        if self.left == 0 {
+            return self.sums[place];
+        }
+        let sum = self.sums[place] + call as u64;
+        self.sums[place] = sum;
+        self.left -= 1;
+        self.history = self.history.and(&caller, &call);
+        sum
+    }
+}

@@ -1,0 +1,139 @@
+//! A path shown: a small program over a path and a peer, which docs/USING.md shows whole.
+#![tactic(auto)]
+
+ghost use Rattle.wf_path.specs.Jobs.{IsHeard};
+
+use anyhow::{Result, bail, ensure};
+use std::alloc::Global;
+use wf_frame::{Answer, Ask, Brief, Class, Config, Frame, Ids};
+use wf_octets_seq12::Seq12;
+use wf_path::{Job, Path};
+use wf_queue_chain::Parcel;
+use wf_recv_peer::Peer;
+
+/// The station, the traffic identifier of its frames, its window, and the sequence number of its first frame.
+const STATION: u16 = 3;
+
+const TID: u8 = 5;
+
+const WINDOW: u16 = 64;
+
+const START: u16 = 100;
+
+const JOIN: Ask = Ask::Join {
+    station: STATION,
+    window: WINDOW,
+    start: START,
+    exponent: 3,
+    weight: 1,
+};
+
+/// The access point's path with its answer to the last call, and the receive half of its station.
+#[derive(Drop)]
+struct Air {
+    path: Path,
+    answer: Answer,
+    station: Peer,
+}
+
+impl Air {
+    fn new(alloc: Global) -> Result<Air> {
+        let mut station = Peer::new(alloc, STATION)?;
+        station.reset(Seq12::of(u64::from(START)), WINDOW);
+        Ok(Air {
+            path: Path::new(alloc, Config::standard())?,
+            answer: Answer::new(),
+            station,
+        })
+    }
+
+    /// Makes a call of the path, and prints the answer. A frame comes back where it is refused, and where it
+    /// is reaped.
+    fn call(&mut self, rt: &HostRuntime, job: Job) -> Result<Option<Parcel>>
+        requires { IsHeard job }
+    {
+        ensure!(self.path.has_small_counts(), "the path ran for too long");
+        let back = self.path.call(job, &mut self.answer);
+        println!(rt; "{:?}", self.answer.brief)?;
+        Ok(back)
+    }
+
+    /// A frame comes for the station.
+    fn enqueue(&mut self, rt: &HostRuntime, flow: u32) -> Result<()> {
+        let frame = Frame::sample(rt.alloc(), STATION, TID, flow, 4)?;
+        let Ok(parcel) = Parcel::new(rt.alloc(), frame) else {
+            bail!("out of memory");
+        };
+        let _ = self.call(rt, Job::Give(parcel))?;
+        Ok(())
+    }
+
+    /// Sends what the path has for the class, loses the transmission of this index, and hears the answer.
+    fn exchange(&mut self, rt: &HostRuntime, lost: Option<u16>) -> Result<()> {
+        let _ = self.call(rt, Job::Call(Ask::Pull { class: Class::Vi }))?;
+        let Brief::Send { exchange, .. } = self.answer.brief else {
+            bail!("nothing to send");
+        };
+        let count = self.path.sent(exchange).map_or(0, |sent| sent.count);
+        for index in 0..count {
+            self.transmit(rt, exchange, index, lost == Some(index))?;
+        }
+        self.hear(rt, exchange)
+    }
+
+    /// Writes the octets of a transmission, which reach the station unless they are lost.
+    fn transmit(&mut self, rt: &HostRuntime, exchange: u64, index: u16, lost: bool) -> Result<()> {
+        let mut buffer = [0; 2330];
+        let size = self.path.mpdu(exchange, index, &mut buffer)?;
+        let octets = &buffer[..size];
+        show(rt, if lost { "lost" } else { "sent" }, octets)?;
+        if !lost {
+            let id = self.path.frame_id(exchange, index).unwrap_or(0);
+            let mut up = Ids::new();
+            let _ = self.station.receive(octets, id, &mut up)?;
+            println!(rt; "the station passes up {} frames", up.len())?;
+        }
+        Ok(())
+    }
+
+    /// The station answers with a BlockAck, whose octets end the exchange.
+    fn hear(&mut self, rt: &HostRuntime, exchange: u64) -> Result<()> {
+        let mut buffer = [0; 52];
+        let size = self.station.answer(TID, &mut buffer);
+        let octets = buffer.get(..size).unwrap_or(&[]);
+        show(rt, "heard", octets)?;
+        ensure!(self.path.has_small_counts(), "the path ran for too long");
+        let brief = self.path.done_bytes(exchange, Some(octets))?;
+        println!(rt; "{brief:?}")?;
+        Ok(())
+    }
+
+    /// The station joins, three frames come and go out, the second of them twice, and are taken back.
+    fn play(&mut self, rt: &HostRuntime) -> Result<()> {
+        let _ = self.call(rt, Job::Call(JOIN))?;
+        for flow in 0..3 {
+            self.enqueue(rt, flow)?;
+        }
+        self.exchange(rt, Some(1))?;
+        self.exchange(rt, None)?;
+        for _ in 0..3 {
+            let _ = self.call(rt, Job::Call(Ask::Reap))?;
+        }
+        Ok(())
+    }
+}
+
+/// Prints octets in hexadecimal.
+fn show(rt: &HostRuntime, word: &str, octets: &[u8]) -> Result<()> {
+    print!(rt; "{word} ")?;
+    for octet in octets {
+        print!(rt; "{octet:02x}")?;
+    }
+    println!(rt)?;
+    Ok(())
+}
+
+fn main(rt: HostRuntime) -> Result<()> {
+    let mut air = Air::new(rt.alloc())?;
+    air.play(&rt)
+}

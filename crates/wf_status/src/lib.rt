@@ -1,6 +1,0 @@
-//! How a command ends.
-#![tactic(auto)]
-
-mod status;
-
-pub use status::Status;

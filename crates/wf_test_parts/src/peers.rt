@@ -1,0 +1,153 @@
+use std::alloc::AllocError;
+use wf_frame::Ids;
+use wf_octets_bits::{Bits64, Bits256};
+use wf_octets_block::{Ba, BlockFault, WideBa, decode_ba, decode_wide};
+use wf_octets_header::{HeaderFault, base_address, station_address};
+use wf_octets_seq12::Seq12;
+use wf_recv_peer::{Peer, PeerFault};
+
+/// The header of the data frame with number 100 of TID 0 for station 0.
+const DATA: [u8; 26] = [
+    0x88, 0x02, 0x30, 0x00, 2, 0, 0, 1, 0, 0, 2, 0, 0, 0, 0, 0, 2, 0, 0, 2, 0, 0, 0x40, 0x06, 0, 0,
+];
+
+/// The request for TID 0 of station 0 from 102 on.
+const REQUEST: [u8; 20] = [
+    0x84, 0, 0x30, 0, 2, 0, 0, 1, 0, 0, 2, 0, 0, 0, 0, 0, 0x04, 0, 0x60, 0x06,
+];
+
+/// A BlockAck.
+const ANSWER: [u8; 28] = [
+    0x94, 0, 0, 0, 2, 0, 0, 0, 0, 0, 2, 0, 0, 1, 0, 0, 0x04, 0, 0x40, 0x06, 2, 0, 0, 0, 0, 0, 0, 0,
+];
+
+/// The data frame for station 0 with these octets of Sequence Control and this TID.
+fn data(sequence: [u8; 2], tid: u8) -> [u8; 26] {
+    let mut octets = DATA;
+    octets[22..24].copy_from_slice(&sequence);
+    octets[24] = tid;
+    octets
+}
+
+/// Octets of a data frame with this id reach a peer. Gives how many ids were passed up, and the id that was
+/// handed back.
+fn received(peer: &mut Peer, octets: &[u8], id: u64) -> Result<(usize, Option<u64>), PeerFault> {
+    let mut up = Ids::new();
+    let back = peer.receive(octets, id, &mut up)?;
+    Ok((up.len(), back))
+}
+
+/// What a station with window 64 answers for TID 0.
+fn answered(peer: &Peer) -> Result<Ba, BlockFault> {
+    let mut out = [0xff; 52];
+    peer.answer(0, &mut out);
+    let (octets, _) = out.split_at(28);
+    decode_ba(octets)
+}
+
+/// Octets at a place of the data header, and the fault.
+const FAULTS: [(usize, u8, PeerFault); 5] = [
+    (0, 0x89, PeerFault::Header(HeaderFault::Version(1))),
+    (9, 1, PeerFault::NotMine),
+    (10, 0x12, PeerFault::NotMine),
+    (24, 8, PeerFault::Tid(8)),
+    (0, 0xc8, PeerFault::Kind(0xc8)),
+];
+
+#[test]
+fn hostile_octets_are_refused(rt: HostRuntime) -> Result<(), AllocError> {
+    let mut peer = Peer::new(rt.alloc(), 0)?;
+    peer.reset(Seq12::of(100), 64);
+    let short = HeaderFault::Short { need: 2, have: 0 };
+    assert_eq!(rt; received(&mut peer, &[], 1), Err(PeerFault::Header(short)));
+    for (place, octet, fault) in FAULTS {
+        let mut octets = DATA;
+        if place < 26 {
+            octets[place] = octet;
+        }
+        assert_eq!(rt; received(&mut peer, &octets, 1), Err(fault));
+    }
+    assert_eq!(rt; received(&mut peer, &ANSWER, 1), Err(PeerFault::Kind(148)));
+    let length = BlockFault::Length { need: 20, have: 19 };
+    assert_eq!(rt;
+        received(&mut peer, &REQUEST[..19], 1),
+        Err(PeerFault::Block(length))
+    );
+    Ok(())
+}
+
+/// Station 0 answers for TID 0 that of the numbers from 1037 on the last of 64 arrived.
+fn last_of_64() -> Ba {
+    let mut bits = Bits64::empty();
+    bits.set(63);
+    Ba {
+        ra: base_address(),
+        ta: station_address(0),
+        duration: 0,
+        tid: 0,
+        start: Seq12::of(1037),
+        bits,
+    }
+}
+
+#[test]
+fn a_far_number_moves_the_window(rt: HostRuntime) -> Result<(), AllocError> {
+    let mut peer = Peer::new(rt.alloc(), 0)?;
+    peer.reset(Seq12::of(100), 64);
+    assert_eq!(rt;
+        received(&mut peer, &data([0xc0, 0x44], 0), 5),
+        Ok((0, None))
+    );
+    assert_eq!(rt; answered(&peer), Ok(last_of_64()));
+    assert_eq!(rt; received(&mut peer, &DATA, 6), Ok((0, Some(6))));
+    assert_eq!(rt; answered(&peer), Ok(last_of_64()));
+    Ok(())
+}
+
+#[test]
+fn a_request_releases_what_is_stored(rt: HostRuntime) -> Result<(), AllocError> {
+    let mut peer = Peer::new(rt.alloc(), 0)?;
+    peer.reset(Seq12::of(100), 64);
+    assert_eq!(rt;
+        received(&mut peer, &data([0x50, 0x06], 0), 1),
+        Ok((0, None))
+    );
+    assert_eq!(rt; received(&mut peer, &REQUEST, 2), Ok((1, None)));
+    let mut out = [0xff; 52];
+    assert_eq!(rt; peer.answer(0, &mut out), 28);
+    assert_eq!(rt;
+        &out[16..28],
+        [0x04, 0, 0x60, 0x06, 0, 0, 0, 0, 0, 0, 0, 0].as_slice()
+    );
+    assert_eq!(rt; out[28], 0xff);
+    Ok(())
+}
+
+/// Station 3 answers from 100 on.
+fn wide(tid: u8, bits: Bits256) -> WideBa {
+    WideBa {
+        ra: base_address(),
+        ta: station_address(3),
+        duration: 0,
+        tid,
+        start: Seq12::of(100),
+        bits,
+    }
+}
+
+#[test]
+fn a_wide_window_has_a_wide_answer(rt: HostRuntime) -> Result<(), AllocError> {
+    let mut peer = Peer::new(rt.alloc(), 3)?;
+    peer.reset(Seq12::of(100), 256);
+    let mut octets = data([0x40, 0x15], 7);
+    octets[9] = 3;
+    assert_eq!(rt; received(&mut peer, &octets, 1), Ok((0, None)));
+    let mut bits = Bits256::empty();
+    bits.set(240);
+    let mut out = [0xff; 52];
+    assert_eq!(rt; peer.answer(7, &mut out), 52);
+    assert_eq!(rt; decode_wide(&out), Ok(wide(7, bits)));
+    peer.answer(6, &mut out);
+    assert_eq!(rt; decode_wide(&out), Ok(wide(6, Bits256::empty())));
+    Ok(())
+}

@@ -1,0 +1,230 @@
+//! Worked rows, and sources and sinks that fail.
+
+use std::test::Fail;
+use wf_io::{Given, Kept, Status};
+use wf_run_replay::replay;
+
+/// A trace of one frame that is acknowledged.
+pub(crate) const ONE_FRAME: &[u8] = b"cell\n\
+      join 0 64 100 3\n\
+      enq 0 0 7 1500\n\
+      pull be\n\
+      arrive 0 0\n\
+      answer 0\n\
+      done 0 heard\n\
+      end\n";
+
+/// What is answered to it.
+pub(crate) const ONE_FRAME_TEXT: &[u8] = b"joined\n\
+      accepted 0\n\
+      send 0 sta 0 tid 0 air 1976 data 0:100\n\
+      released 0\n\
+      ba 100 0000000000000001\n\
+      done acked 1 waiting 0 failed 0\n\
+      calls 6\n\
+      now 0\n\
+      frames 1 acked 1 overlimit 0 codel 0 retries 0 left 0 held 0\n\
+      exchanges 1 open 0\n\
+      sta 0 be charged 1976 rx 0 deficit -1676\n\
+      tim 050400010000\n";
+
+/// A trace of two stations that share a class, a call a line.
+const SHARED: &[u8] = b"cell\n\
+      join 0 64 0 3\n\
+      join 1 1 0 3\n\
+      rate 1 7 20 long\n\
+      enq 0 0 1 1500\n\
+      enq 0 0 1 1500\n\
+      enq 0 0 1 1500\n\
+      enq 0 0 1 1500\n\
+      enq 0 0 1 1500\n\
+      enq 0 0 1 1500\n\
+      enq 0 0 1 1500\n\
+      enq 0 0 1 1500\n\
+      enq 1 0 2 1500\n\
+      enq 1 0 2 1500\n\
+      enq 1 0 2 1500\n\
+      enq 1 0 2 1500\n\
+      enq 1 0 2 1500\n\
+      enq 1 0 2 1500\n\
+      enq 1 0 2 1500\n\
+      enq 1 0 2 1500\n\
+      enq 1 0 2 1500\n\
+      enq 1 0 2 1500\n\
+      enq 1 0 2 1500\n\
+      enq 1 0 2 1500\n\
+      enq 1 0 2 1500\n\
+      enq 1 0 2 1500\n\
+      enq 1 0 2 1500\n\
+      enq 1 0 2 1500\n\
+      enq 1 0 2 1500\n\
+      enq 1 0 2 1500\n\
+      enq 1 0 2 1500\n\
+      enq 1 0 2 1500\n\
+      pull be\n\
+      arrive 0 0\n\
+      arrive 0 1\n\
+      answer 0\n\
+      done 0 heard\n\
+      pull be\n\
+      arrive 1 0\n\
+      answer 1\n\
+      done 1 heard\n\
+      pull be\n\
+      arrive 2 0\n\
+      answer 2\n\
+      done 2 heard\n\
+      pull be\n\
+      arrive 3 0\n\
+      answer 3\n\
+      done 3 heard\n\
+      pull be\n\
+      arrive 4 0\n\
+      answer 4\n\
+      done 4 heard\n\
+      pull be\n\
+      arrive 5 0\n\
+      answer 5\n\
+      done 5 heard\n\
+      pull be\n\
+      arrive 6 0\n\
+      answer 6\n\
+      done 6 heard\n\
+      pull be\n\
+      arrive 7 0\n\
+      answer 7\n\
+      done 7 heard\n\
+      pull be\n\
+      arrive 8 0\n\
+      answer 8\n\
+      done 8 heard\n\
+      pull be\n\
+      arrive 9 0\n\
+      answer 9\n\
+      done 9 heard\n\
+      pull be\n\
+      arrive 10 0\n\
+      answer 10\n\
+      done 10 heard\n\
+      pull be\n\
+      arrive 11 0\n\
+      answer 11\n\
+      done 11 heard\n\
+      pull be\n\
+      arrive 12 0\n\
+      answer 12\n\
+      done 12 heard\n\
+      pull be\n\
+      arrive 13 0\n\
+      answer 13\n\
+      done 13 heard\n\
+      pull be\n\
+      arrive 14 0\n\
+      answer 14\n\
+      done 14 heard\n\
+      pull be\n\
+      arrive 15 0\n\
+      arrive 15 1\n\
+      answer 15\n\
+      done 15 heard\n\
+      end\n";
+
+// How a replay ends and what it writes, where reads and writes come in pieces and fail at these calls.
+fn replayed(
+    rt: &HostRuntime,
+    input: &[u8],
+    piece: usize,
+    bad_reads: &[u64],
+    bad_writes: &[u64],
+) -> Result<(Status, Vec<u8>), Fail> {
+    let piece = piece.max(1);
+    let octets = input.to_vec(rt.alloc())?;
+    let mut source = Given::new(octets, piece, bad_reads.to_vec(rt.alloc())?);
+    let mut sink = Kept::new(rt.alloc(), 65_536, piece, bad_writes.to_vec(rt.alloc())?)?;
+    let status = replay(rt.alloc(), &mut source, &mut sink);
+    Ok((status, sink.octets().to_vec(rt.alloc())?))
+}
+
+#[test]
+fn one_frame_is_acknowledged(rt: HostRuntime) -> Result<(), Fail> {
+    let (status, written) = replayed(&rt, ONE_FRAME, 4096, &[], &[])?;
+    assert!(rt; status == Status::Done);
+    assert_eq!(rt; written.as_slice(), ONE_FRAME_TEXT);
+    Ok(())
+}
+
+#[test]
+fn reads_of_any_size_give_the_same_text(rt: HostRuntime) -> Result<(), Fail> {
+    let (whole, text) = replayed(&rt, SHARED, 4096, &[], &[])?;
+    assert!(rt; whole == Status::Done);
+    for piece in [1, 7] {
+        let (status, written) = replayed(&rt, SHARED, piece, &[], &[])?;
+        assert!(rt; status == Status::Done);
+        assert_eq!(rt; written.as_slice(), text.as_slice());
+    }
+    Ok(())
+}
+
+#[test]
+fn a_source_that_fails_at_each_call(rt: HostRuntime) -> Result<(), Fail> {
+    let mut failed = 0;
+    for call in 0..64 {
+        let (status, written) = replayed(&rt, ONE_FRAME, 16, &[call], &[])?;
+        assert!(rt; ONE_FRAME_TEXT.starts_with(written.as_slice()));
+        if status == Status::ReadFault {
+            failed = call;
+        } else {
+            assert!(rt; status == Status::Done && written.len() == ONE_FRAME_TEXT.len());
+        }
+    }
+    assert_eq!(rt; failed, 5);
+    Ok(())
+}
+
+#[test]
+fn a_sink_that_fails_at_each_call(rt: HostRuntime) -> Result<(), Fail> {
+    for call in 0..64 {
+        let (status, written) = replayed(&rt, ONE_FRAME, 16, &[], &[call])?;
+        assert!(rt; ONE_FRAME_TEXT.starts_with(written.as_slice()));
+        if status == Status::Done {
+            assert!(rt; written.len() == ONE_FRAME_TEXT.len());
+        } else {
+            assert!(rt; status == Status::WriteFault && written.len() < ONE_FRAME_TEXT.len());
+        }
+    }
+    Ok(())
+}
+
+#[test]
+fn the_answers_to_one_read_go_out_by_one_write(rt: HostRuntime) -> Result<(), Fail> {
+    let (status, written) = replayed(&rt, ONE_FRAME, 4096, &[], &[1])?;
+    assert!(rt; status == Status::WriteFault);
+    assert!(rt; written.ends_with(b"done acked 1 waiting 0 failed 0\n"));
+    Ok(())
+}
+
+#[test]
+fn an_input_that_is_cut_after_each_octet(rt: HostRuntime) -> Result<(), Fail> {
+    let cuts: [(usize, &[u8]); 8] = [
+        (0, b"fault line 1 no-head\n"),
+        (3, b"fault line 1 word\n"),
+        (5, b"fault line 2 no-end\n"),
+        (6, b"fault line 2 word\n"),
+        (20, b"joined\nfault line 3 no-end\n"),
+        (21, b"joined\nfault line 3 no-end\n"),
+        (23, b"joined\nfault line 3 word\n"),
+        (26, b"joined\nfault line 3 count\n"),
+    ];
+    for (len, want) in cuts {
+        let (status, written) = replayed(&rt, &ONE_FRAME[..len], 16, &[], &[])?;
+        assert!(rt; status == Status::BadTrace);
+        assert_eq!(rt; written.as_slice(), want);
+    }
+    for len in 0..ONE_FRAME.len() {
+        let (status, written) = replayed(&rt, &ONE_FRAME[..len], 16, &[], &[])?;
+        let done = status == Status::Done && written.as_slice() == ONE_FRAME_TEXT;
+        let faulty = status == Status::BadTrace && written.ends_with(b"\n");
+        assert!(rt; done || faulty);
+    }
+    Ok(())
+}

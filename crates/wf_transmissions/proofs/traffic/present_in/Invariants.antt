@@ -1,5 +1,0 @@
-use Rattle.wf_transmissions.specs.Traffic.{has_traffic_of, ArePresent}
-use Rattle.wf_transmissions.proofs.traffic.present_in.Given as goal
-
-abbrev pub invariant-loop-station : goal.invariant-loop-station
-invariant-loop-station l = ArePresent l.present (has_traffic_of l.fn.half) l.station

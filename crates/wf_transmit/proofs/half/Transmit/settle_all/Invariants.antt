@@ -1,6 +1,0 @@
-use Rattle.wf_transmit.specs.Bits.{is_shown}
-use Rattle.wf_transmit.proofs.Settling.{IsSettling}
-use Rattle.wf_transmit.proofs.half.Transmit.settle_all.Given as goal
-
-abbrev pub invariant-loop-i : goal.invariant-loop-i
-invariant-loop-i l = IsSettling l.initial.self l.self l.station l.tid l.numbers (is_shown l.wide l.heard) l.i l.ended

@@ -1,6 +1,0 @@
-use Rattle.std.proofs.Common.{◌∙◌, refl}
-use Rattle.wf_transmit.proofs.Rows.{last_row}
-use Rattle.wf_transmit.proofs.refuse.check_tick.Goals as goal
-
-pub returns : goal.returns
-returns c w = c.refuse_where.ensures.refused ∙ last_row _ _ _ refl

@@ -1,7 +1,0 @@
-use Rattle.wf_rules.specs.Session.{State, with_state}
-use Rattle.wf_windows.proofs.Changes.{stands_now}
-use Rattle.wf_windows.proofs.windows.Windows.fly.Goals as goal
-
-pub returns-clause-stands : goal.returns-clause-stands
-returns-clause-stands c s bodies n stands number =
-    stands_now c.self.inside.windows.items c.args.self.now c.self.view_is c.args.station c.args.tid c.place.result c.place.ensures c.requires.within c.index_mut.result.now c.index_mut.ensures.value c.fly.new.self s (with_state (State.Flying c.args.exchange) n s) bodies (λ here. c.fly.ensures.stands s bodies n here number) stands
