@@ -1,0 +1,156 @@
+"""The machine on its pipe, and the models beside it. Those that need a program are skipped where there is none."""
+import io
+import subprocess
+import unittest
+
+from sim.baselines.fifo import Fifo
+from sim.baselines.fq_codel import FqCodel
+from sim.baselines.fq_mac import FqMac
+from sim.baselines.one_list import OneList
+from sim.program import Pipe
+from sim.rates import Rate
+
+from .support import ONE_STATION, THREE_STATIONS, fates, machine, program, run, scenario
+
+COMING_AND_GOING = """
+seconds = 1
+[[station]]
+name = "a"
+rate = "7 20 long"
+join = 0.1
+leave = 0.6
+rates = [{ at = 0.3, rate = "0 20 long" }]
+[[station]]
+name = "b"
+rate = "7 20 long"
+[[flow]]
+station = "a"
+saturated = true
+[[flow]]
+station = "b"
+tid = 6
+mbit = 2
+"""
+
+SLEEPING = """
+seconds = 2
+[[station]]
+name = "a"
+rate = "7 20 long"
+sleeps = [{ from = 0.5, to = 1.5 }]
+poll_ms = 100
+[[flow]]
+station = "a"
+every_ms = 200
+start = 0.45
+"""
+
+
+class Models(unittest.TestCase):
+    def test_the_same_run_for_the_same_seed(self):
+        for model in (Fifo, FqCodel, FqMac, OneList):
+            first, again = (run(chosen, model(chosen))[0] for chosen in (scenario(THREE_STATIONS), scenario(THREE_STATIONS)))
+            self.assertEqual(fates(first), fates(again))
+            other = scenario(THREE_STATIONS.replace("seed = 5", "seed = 6"))
+            self.assertNotEqual(fates(first), fates(run(other, model(other))[0]))
+
+    def test_each_frame_is_counted_once(self):
+        for model in (Fifo, FqCodel, FqMac, OneList):
+            chosen = scenario(THREE_STATIONS)
+            bench, result = run(chosen, model(chosen))
+            for one, frames in zip(result.flows, bench.frames):
+                inside = sum(1 for frame in frames if frame.fate in (None, "acked") and frame.released is None)
+                self.assertEqual(one.offered, one.delivered + sum(one.dropped.values()) + inside)
+                self.assertLessEqual(inside, 364)
+
+    def test_released_in_order(self):
+        chosen = scenario(THREE_STATIONS)
+        bench, _ = run(chosen, FqMac(chosen))
+        times = [frame.released for frame in bench.frames[0] if frame.released is not None]
+        self.assertEqual(times, sorted(times))
+
+    def test_stations_that_come_and_go(self):
+        for model in (Fifo, FqCodel, FqMac, OneList):
+            chosen = scenario(COMING_AND_GOING)
+            _, result = run(chosen, model(chosen))
+            self.assertGreater(result.flows[0].dropped["left"], 0)
+            self.assertEqual(result.flows[1].delivered, result.flows[1].offered)
+
+
+class TheMachine(unittest.TestCase):
+    def test_the_trace_replays_to_the_same_summary(self):
+        for text in (THREE_STATIONS, COMING_AND_GOING, SLEEPING):
+            copy = io.StringIO()
+            chosen = scenario(text)
+            _, result = run(chosen, machine(chosen, copy))
+            done = subprocess.run([program()[0], "replay"], input=copy.getvalue(), capture_output=True, text=True, check=True)
+            self.assertEqual(done.stdout.splitlines()[-len(result.summary) :], result.summary)
+            self.assertEqual(result.summary[0], f"calls {result.calls}")
+
+    def test_the_same_trace_for_the_same_seed(self):
+        traces = []
+        for seed in (5, 5, 6):
+            copy = io.StringIO()
+            chosen = scenario(THREE_STATIONS.replace("seed = 5", f"seed = {seed}"))
+            run(chosen, machine(chosen, copy))
+            traces.append(copy.getvalue())
+        self.assertEqual(traces[0], traces[1])
+        self.assertNotEqual(traces[0], traces[2])
+
+    def test_the_counts_are_those_of_the_summary(self):
+        chosen = scenario(THREE_STATIONS)
+        bench, result = run(chosen, machine(chosen))
+        words = result.summary[2].split()
+        counts = dict(zip(words[0::2], map(int, words[1::2])))
+        frames = [frame for flow in bench.frames for frame in flow]
+        self.assertEqual(counts["frames"], len(frames))
+        for fate in ("acked", "codel", "retries"):
+            self.assertAlmostEqual(sum(1 for frame in frames if frame.fate == fate), counts[fate], delta=40)  # not reaped yet at the end
+        charged = [int(line.split()[4]) for line in result.summary if " be charged " in line]
+        self.assertEqual([one.airtime for one in result.stations], charged)
+
+    def test_airtime_is_shared(self):
+        chosen = scenario(THREE_STATIONS.replace("loss = 0.05", "loss = 0").replace("ack_loss = 0.02", "ack_loss = 0"))
+        _, result = run(chosen, machine(chosen))
+        self.assertGreater(result.jain, 0.999)
+
+    def test_it_fits_the_models_airtimes(self):
+        for mcs, mhz, guard in ((0, 20, "long"), (7, 40, "short"), (15, 20, "short"), (11, 40, "long")):
+            rate = Rate(mcs, mhz, guard)
+            text = f'seconds = 1\n[[station]]\nname = "a"\nrate = "{rate}"\n[[flow]]\nstation = "a"\nsize = 1001\nsaturated = true\n'
+            ours, theirs = scenario(text), scenario(text)
+            model, result = run(ours, FqMac(ours))[1], run(theirs, machine(theirs))[1]
+            self.assertEqual(model.stations[0].airtime, result.stations[0].airtime)
+            self.assertEqual(model.stations[0].mbit, result.stations[0].mbit)
+
+    def test_a_burst_fills_no_pipe(self):
+        chosen = scenario(ONE_STATION.replace("mbit = 10", "mbit = 1\nburst = 20000"))
+        _, result = run(chosen, machine(chosen))
+        self.assertEqual(result.flows[0].dropped["overlimit"], 20000 - 8192)
+
+    def test_the_run_ends_where_no_more_calls_are_taken(self):
+        chosen = scenario(THREE_STATIONS + "[machine]\ncalls = 5000\n")
+        _, result = run(chosen, machine(chosen))
+        self.assertTrue(result.cut)
+        self.assertLess(result.seconds, 1)
+        self.assertLessEqual(result.calls, 5000)
+        self.assertGreater(result.calls, 4800)
+
+    def test_a_sleeping_station_gets_a_frame_a_poll(self):
+        chosen = scenario(SLEEPING)
+        bench, _ = run(chosen, machine(chosen))
+        delays = [frame.released - frame.came for frame in bench.frames[0]]
+        # Frames come at 450, 650, .. ms; polls are at 600, 700, .. 1400 ms; it wakes at 1500 ms.
+        self.assertEqual([round(delay / 1000) for delay in delays], [0, 50, 50, 50, 50, 50, 0, 0])
+
+    def test_a_program_that_stops(self):
+        pipe = Pipe(program()[0], "cell", 10)
+        with self.assertRaisesRegex(Exception, "stopped behind call 1: fault line 2 word"):
+            pipe.ask(["fly"])
+        pipe.process.stdin.close()
+        pipe.process.stdout.close()
+        pipe.process.wait()
+
+
+if __name__ == "__main__":
+    unittest.main()
