@@ -22,29 +22,32 @@ class Table:
         self.known[key] = True
         return key in self.values
 
-    def value(self, key, default=None):
+    def value(self, key, default=None, wanted="a value"):
+        """What stands under a key, or its default; where there is none the fault says what is wanted."""
         self.known[key] = True
         if key not in self.values and default is None:
-            raise self.fault(key, "is missing")
+            raise self.fault(key, f"is missing; {wanted} is wanted")
         return self.values.get(key, default)
 
     def number(self, key, low, high, default=None):
         """A number, whole or not, within bounds."""
-        value = self.value(key, default)
+        wanted = f"a number from {low} to {high}"
+        value = self.value(key, default, wanted)
         if isinstance(value, bool) or not isinstance(value, (int, float)) or not low <= value <= high:
-            raise self.fault(key, f"{value!r} is not wanted; a number from {low} to {high} is")
+            raise self.fault(key, f"{value!r} is not wanted; {wanted} is")
         return value
 
     def whole(self, key, low, high, default=None):
         """A whole number within bounds."""
-        value = self.value(key, default)
+        wanted = f"a whole number from {low} to {high}"
+        value = self.value(key, default, wanted)
         if isinstance(value, bool) or not isinstance(value, int) or not low <= value <= high:
-            raise self.fault(key, f"{value!r} is not wanted; a whole number from {low} to {high} is")
+            raise self.fault(key, f"{value!r} is not wanted; {wanted} is")
         return value
 
     def text(self, key, default=None):
         """A text; it may be blank where the default is."""
-        value = self.value(key, default)
+        value = self.value(key, default, "a text")
         if not isinstance(value, str) or (not value.strip() and default != ""):
             raise self.fault(key, f"{value!r} is not wanted; a text is")
         return value
@@ -57,8 +60,8 @@ class Table:
 
     def texts(self, key, default, among=None):
         """A list of texts, each among those given where some are."""
-        value = self.value(key, default)
         wanted = f"some of {', '.join(among)}" if among else "a list of texts"
+        value = self.value(key, default, wanted)
         if not isinstance(value, list) or not all(isinstance(text, str) and (not among or text in among) for text in value):
             raise self.fault(key, f"{value!r} is not wanted; {wanted} is")
         return value
@@ -72,7 +75,7 @@ class Table:
 
     def tables(self, key, needed=False):
         """The tables of this name, in order."""
-        value = self.value(key, None if needed else [])
+        value = self.value(key, None if needed else [], f"a table [[{key}]]")
         if not isinstance(value, list) or not all(isinstance(one, dict) for one in value):
             raise self.fault(key, f"{value!r} is not wanted; tables [[{key}]] are")
         inside = "" if self.name == "top" else f"{self.name} "

@@ -41,7 +41,7 @@ class Command(unittest.TestCase):
         self.file.write_text(SLEEPER, encoding="utf-8")
         self.refused("wf sim: fifo: models have no sleeping stations", "--compare", "fifo")
         self.file.write_text("seconds = 1\n", encoding="utf-8")
-        self.refused("one.toml: top: station: is missing")
+        self.refused("one.toml: top: station: is missing; a table [[station]] is wanted")
 
     def test_models_need_no_program(self):
         status, out, _ = self.call("--compare", "fifo,fq_codel", "--seconds", "0.5", "--seed", "3")

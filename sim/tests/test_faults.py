@@ -14,7 +14,7 @@ TOP = "seconds = 10\n"
 GOOD = TOP + STATION + FLOW
 
 FAULTS = [  # a file's text, and what is said behind the file's name
-    (STATION + FLOW, "top: seconds: is missing"),
+    (STATION + FLOW, "top: seconds: is missing; a number from 0.001 to 86400 is wanted"),
     ("seconds = 0\n" + STATION + FLOW, "top: seconds: 0 is not wanted; a number from 0.001 to 86400 is"),
     ("seconds = true\n" + STATION + FLOW, "top: seconds: True is not wanted; a number from 0.001 to 86400 is"),
     ("warmup = 11\n" + GOOD, "top: warmup: 11 is not wanted; a number from 0 to 10 is"),
@@ -25,8 +25,8 @@ FAULTS = [  # a file's text, and what is said behind the file's name
     ("xyz = 1\n" + GOOD, "top: xyz: is not known; known here: seconds, air, plot, station, title, note, warmup, seed, machine, flow, compare"),
     ("air = 1\n" + GOOD, "top: air: 1 is not wanted; a table [air] is"),
     ("station = 1\n" + TOP + FLOW, "top: station: 1 is not wanted; tables [[station]] are"),
-    (TOP + FLOW, "top: station: is missing"),
-    (TOP + STATION, "top: flow: is missing"),
+    (TOP + FLOW, "top: station: is missing; a table [[station]] is wanted"),
+    (TOP + STATION, "top: flow: is missing; a table [[flow]] is wanted"),
     ("flow = []\n" + TOP + STATION, "top: flow: there is none; a table [[flow]] is wanted"),
     ("station = []\n" + TOP + FLOW, "top: station: 0 stations are not wanted; 1 to 256 are"),
     (TOP + STATION + "count = 200\n" + '[[station]]\ncount = 57\n' + FLOW, "top: station: 257 stations are not wanted; 1 to 256 are"),
@@ -56,18 +56,18 @@ FAULTS = [  # a file's text, and what is said behind the file's name
     (GOOD + "[[station]]\npoll_ms = 0\n", "[[station]] 2: poll_ms: 0 is not wanted; a number from 1 to 60000 is"),
     (GOOD + "[[station]]\nspeed = 1\n", "[[station]] 2: speed: is not known; known here: name, count, join, leave, rate, weight, window, loss, ack_loss, poll_ms, rates, sleeps"),
     (GOOD + "[[station]]\nrates = 1\n", "[[station]] 2: rates: 1 is not wanted; tables [[rates]] are"),
-    (GOOD + "[[station]]\nrates = [{ at = 1 }]\n", "[[station]] 2 [[rates]] 1: rate: is missing"),
+    (GOOD + "[[station]]\nrates = [{ at = 1 }]\n", "[[station]] 2 [[rates]] 1: rate: is missing; a text is wanted"),
     (
         GOOD + '[[station]]\nleave = 2\nrates = [{ at = 3, rate = "1 20 long" }]\n',
         "[[station]] 2 [[rates]] 1: at: 3 is not wanted; a number from 0 to 2 is",
     ),
     (GOOD + "[[station]]\nsleeps = [{ from = 3, to = 2 }]\n", "[[station]] 2 [[sleeps]] 1: to: 2 is not wanted; a number from 3 to 10 is"),
-    (GOOD + "[[station]]\nsleeps = [{ from = 3 }]\n", "[[station]] 2 [[sleeps]] 1: to: is missing"),
+    (GOOD + "[[station]]\nsleeps = [{ from = 3 }]\n", "[[station]] 2 [[sleeps]] 1: to: is missing; a number from 3 to 10 is wanted"),
     (
         GOOD + "[[station]]\nsleeps = [{ from = 3, to = 5 }, { from = 4, to = 6 }]\n",
         "[[station]] 2: sleeps: one begins before the one above it ends; sleeps in order of time are wanted",
     ),
-    (GOOD + "[[flow]]\nmbit = 1\n", "[[flow]] 2: station: is missing"),
+    (GOOD + "[[flow]]\nmbit = 1\n", "[[flow]] 2: station: is missing; a text is wanted"),
     (GOOD + '[[flow]]\nstation = "b"\nmbit = 1\n', "[[flow]] 2: station: 'b' is no station of this file; a are"),
     (
         GOOD + '[[flow]]\nstation = "a"\n',
