@@ -124,15 +124,3 @@ fn an_answer_ends_its_exchange(rt: HostRuntime) -> Result<(), Fail> {
     assert_eq!(rt; path.tally().acked, 1);
     Ok(())
 }
-
-#[test]
-fn a_sleeper_has_its_bit(rt: HostRuntime) -> Result<(), Fail> {
-    let mut path = with_frame(rt.alloc())?;
-    let mut out = [0xff; 256];
-    assert_eq!(rt; path.tim(&mut out), 6);
-    assert_eq!(rt; &out[..7], [5, 4, 0, 1, 0, 0, 0xff].as_slice());
-    call(&mut path, Job::Call(Ask::Sleep { station: 0 }));
-    assert_eq!(rt; path.tim(&mut out), 6);
-    assert_eq!(rt; &out[..7], [5, 4, 0, 1, 0, 2, 0xff].as_slice());
-    Ok(())
-}

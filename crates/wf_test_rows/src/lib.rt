@@ -1,22 +1,14 @@
-//! Tests: worked rows of the larger crates, through their public calls. They stand here, and not in those
+//! Tests of the larger crates, through their public calls. They stand here, and not in those
 //! crates, so that no crate's own functions are proved twice, once for it and once for its tests.
 #![tactic(auto)]
 
 #[cfg(test)]
-mod commands;
-#[cfg(test)]
 mod exchanges;
-#[cfg(test)]
-mod halves;
 #[cfg(test)]
 mod paths;
 #[cfg(test)]
 mod replays;
 #[cfg(test)]
-mod session_rows;
-#[cfg(test)]
 mod traces;
-#[cfg(test)]
-mod uplink_rows;
 #[cfg(test)]
 mod uplinks;

@@ -1,11 +1,11 @@
-//! Worked rows, and sources and sinks that fail.
+//! Reads and writes in pieces, sources and sinks that fail, and inputs that are cut off.
 
 use std::test::Fail;
 use wf_io::{Given, Kept, Status};
 use wf_run_replay::replay;
 
 /// A trace of one frame that is acknowledged.
-pub(crate) const ONE_FRAME: &[u8] = b"cell\n\
+const ONE_FRAME: &[u8] = b"cell\n\
       join 0 64 100 3\n\
       enq 0 0 7 1500\n\
       pull be\n\
@@ -15,7 +15,7 @@ pub(crate) const ONE_FRAME: &[u8] = b"cell\n\
       end\n";
 
 /// What is answered to it.
-pub(crate) const ONE_FRAME_TEXT: &[u8] = b"joined\n\
+const ONE_FRAME_TEXT: &[u8] = b"joined\n\
       accepted 0\n\
       send 0 sta 0 tid 0 air 1976 data 0:100\n\
       released 0\n\
@@ -27,107 +27,6 @@ pub(crate) const ONE_FRAME_TEXT: &[u8] = b"joined\n\
       exchanges 1 open 0\n\
       sta 0 be charged 1976 rx 0 deficit -1676\n\
       tim 050400010000\n";
-
-/// A trace of two stations that share a class, a call a line.
-const SHARED: &[u8] = b"cell\n\
-      join 0 64 0 3\n\
-      join 1 1 0 3\n\
-      rate 1 7 20 long\n\
-      enq 0 0 1 1500\n\
-      enq 0 0 1 1500\n\
-      enq 0 0 1 1500\n\
-      enq 0 0 1 1500\n\
-      enq 0 0 1 1500\n\
-      enq 0 0 1 1500\n\
-      enq 0 0 1 1500\n\
-      enq 0 0 1 1500\n\
-      enq 1 0 2 1500\n\
-      enq 1 0 2 1500\n\
-      enq 1 0 2 1500\n\
-      enq 1 0 2 1500\n\
-      enq 1 0 2 1500\n\
-      enq 1 0 2 1500\n\
-      enq 1 0 2 1500\n\
-      enq 1 0 2 1500\n\
-      enq 1 0 2 1500\n\
-      enq 1 0 2 1500\n\
-      enq 1 0 2 1500\n\
-      enq 1 0 2 1500\n\
-      enq 1 0 2 1500\n\
-      enq 1 0 2 1500\n\
-      enq 1 0 2 1500\n\
-      enq 1 0 2 1500\n\
-      enq 1 0 2 1500\n\
-      enq 1 0 2 1500\n\
-      enq 1 0 2 1500\n\
-      enq 1 0 2 1500\n\
-      pull be\n\
-      arrive 0 0\n\
-      arrive 0 1\n\
-      answer 0\n\
-      done 0 heard\n\
-      pull be\n\
-      arrive 1 0\n\
-      answer 1\n\
-      done 1 heard\n\
-      pull be\n\
-      arrive 2 0\n\
-      answer 2\n\
-      done 2 heard\n\
-      pull be\n\
-      arrive 3 0\n\
-      answer 3\n\
-      done 3 heard\n\
-      pull be\n\
-      arrive 4 0\n\
-      answer 4\n\
-      done 4 heard\n\
-      pull be\n\
-      arrive 5 0\n\
-      answer 5\n\
-      done 5 heard\n\
-      pull be\n\
-      arrive 6 0\n\
-      answer 6\n\
-      done 6 heard\n\
-      pull be\n\
-      arrive 7 0\n\
-      answer 7\n\
-      done 7 heard\n\
-      pull be\n\
-      arrive 8 0\n\
-      answer 8\n\
-      done 8 heard\n\
-      pull be\n\
-      arrive 9 0\n\
-      answer 9\n\
-      done 9 heard\n\
-      pull be\n\
-      arrive 10 0\n\
-      answer 10\n\
-      done 10 heard\n\
-      pull be\n\
-      arrive 11 0\n\
-      answer 11\n\
-      done 11 heard\n\
-      pull be\n\
-      arrive 12 0\n\
-      answer 12\n\
-      done 12 heard\n\
-      pull be\n\
-      arrive 13 0\n\
-      answer 13\n\
-      done 13 heard\n\
-      pull be\n\
-      arrive 14 0\n\
-      answer 14\n\
-      done 14 heard\n\
-      pull be\n\
-      arrive 15 0\n\
-      arrive 15 1\n\
-      answer 15\n\
-      done 15 heard\n\
-      end\n";
 
 // How a replay ends and what it writes, where reads and writes come in pieces and fail at these calls.
 fn replayed(
@@ -146,21 +45,11 @@ fn replayed(
 }
 
 #[test]
-fn one_frame_is_acknowledged(rt: HostRuntime) -> Result<(), Fail> {
-    let (status, written) = replayed(&rt, ONE_FRAME, 4096, &[], &[])?;
-    assert!(rt; status == Status::Done);
-    assert_eq!(rt; written.as_slice(), ONE_FRAME_TEXT);
-    Ok(())
-}
-
-#[test]
 fn reads_of_any_size_give_the_same_text(rt: HostRuntime) -> Result<(), Fail> {
-    let (whole, text) = replayed(&rt, SHARED, 4096, &[], &[])?;
-    assert!(rt; whole == Status::Done);
-    for piece in [1, 7] {
-        let (status, written) = replayed(&rt, SHARED, piece, &[], &[])?;
+    for piece in [1, 7, 4096] {
+        let (status, written) = replayed(&rt, ONE_FRAME, piece, &[], &[])?;
         assert!(rt; status == Status::Done);
-        assert_eq!(rt; written.as_slice(), text.as_slice());
+        assert_eq!(rt; written.as_slice(), ONE_FRAME_TEXT);
     }
     Ok(())
 }
