@@ -1,3 +1,7 @@
+//! What no driver of a cell hands to a station: octets that are none for it, and numbers far ahead.
+
+ghost use Rattle.std.specs.Prelude.{◌<◌};
+
 use std::alloc::AllocError;
 use wf_frame::Ids;
 use wf_octets_bits::{Bits64, Bits256};
@@ -24,7 +28,9 @@ const ANSWER: [u8; 28] = [
 /// The data frame for station 0 with these octets of Sequence Control and this TID.
 fn data(sequence: [u8; 2], tid: u8) -> [u8; 26] {
     let mut octets = DATA;
-    octets[22..24].copy_from_slice(&sequence);
+    let [low, high] = sequence;
+    octets[22] = low;
+    octets[23] = high;
     octets[24] = tid;
     octets
 }
@@ -37,10 +43,18 @@ fn received(peer: &mut Peer, octets: &[u8], id: u64) -> Result<(usize, Option<u6
     Ok((up.len(), back))
 }
 
+/// The octets that a station answers for a TID, and how many they are.
+fn written(peer: &Peer, tid: u8) -> (usize, [u8; 52])
+    requires { tid < 8 }
+{
+    let mut out = [0xff; 52];
+    let len = peer.answer(tid, &mut out);
+    (len, out)
+}
+
 /// What a station with window 64 answers for TID 0.
 fn answered(peer: &Peer) -> Result<Ba, BlockFault> {
-    let mut out = [0xff; 52];
-    peer.answer(0, &mut out);
+    let (_, out) = written(peer, 0);
     let (octets, _) = out.split_at(28);
     decode_ba(octets)
 }
@@ -113,13 +127,12 @@ fn a_request_releases_what_is_stored(rt: HostRuntime) -> Result<(), AllocError> 
         Ok((0, None))
     );
     assert_eq!(rt; received(&mut peer, &REQUEST, 2), Ok((1, None)));
-    let mut out = [0xff; 52];
-    assert_eq!(rt; peer.answer(0, &mut out), 28);
+    let (len, out) = written(&peer, 0);
+    assert_eq!(rt; len, 28);
     assert_eq!(rt;
-        &out[16..28],
-        [0x04, 0, 0x60, 0x06, 0, 0, 0, 0, 0, 0, 0, 0].as_slice()
+        &out[16..29],
+        [0x04, 0, 0x60, 0x06, 0, 0, 0, 0, 0, 0, 0, 0, 0xff].as_slice()
     );
-    assert_eq!(rt; out[28], 0xff);
     Ok(())
 }
 
@@ -144,10 +157,10 @@ fn a_wide_window_has_a_wide_answer(rt: HostRuntime) -> Result<(), AllocError> {
     assert_eq!(rt; received(&mut peer, &octets, 1), Ok((0, None)));
     let mut bits = Bits256::empty();
     bits.set(240);
-    let mut out = [0xff; 52];
-    assert_eq!(rt; peer.answer(7, &mut out), 52);
+    let (len, out) = written(&peer, 7);
+    assert_eq!(rt; len, 52);
     assert_eq!(rt; decode_wide(&out), Ok(wide(7, bits)));
-    peer.answer(6, &mut out);
+    let (_, out) = written(&peer, 6);
     assert_eq!(rt; decode_wide(&out), Ok(wide(6, Bits256::empty())));
     Ok(())
 }

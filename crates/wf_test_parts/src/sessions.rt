@@ -85,66 +85,6 @@ fn held(agreement: Option<Agreement>) -> Option<(u8, u16, u16)> {
 }
 
 #[test]
-fn a_restart_forgets_and_a_replay_makes_nothing(rt: HostRuntime) {
-    let mut offer = Offer::new(0, 0);
-    let mut accept = Accept::new(0, 64, 0);
-    assert_eq!(rt; offer.ask(128, Seq12::of(500)), Ok(request()));
-    assert_eq!(rt; offer.again(), Some(request()));
-    assert_eq!(rt; accept.hear(&request()), Some(response()));
-    assert_eq!(rt; accept.hear(&request()), Some(response()));
-    assert_eq!(rt; held(accept.state()), Some((1, 64, 500)));
-    offer.hear(&response());
-    assert_eq!(rt; held(offer.state()), Some((1, 64, 500)));
-    assert_eq!(rt; offer.again(), None);
-
-    let mut accept = Accept::new(0, 64, accept.last());
-    assert_eq!(rt; accept.hear(&request()), None);
-    assert_eq!(rt; held(accept.state()), None);
-    let open = OfferFault::Open { token: 1 };
-    assert_eq!(rt; offer.ask(10, Seq12::of(0)), Err(open));
-    assert_eq!(rt;
-        offer.close(),
-        Some(Action::Teardown {
-            tid: 0,
-            initiator: true,
-            reason: 1,
-        })
-    );
-    assert_eq!(rt; held(offer.state()), None);
-
-    let second = Action::Request {
-        token: 2,
-        tid: 0,
-        window: 10,
-        start: Seq12::of(7),
-    };
-    assert_eq!(rt; offer.ask(10, Seq12::of(7)), Ok(second));
-    assert_eq!(rt; accept.hear(&request()), None);
-    offer.hear(&response());
-    assert_eq!(rt; held(offer.state()), None);
-    let answer = Action::Response {
-        token: 2,
-        status: 0,
-        tid: 0,
-        window: 10,
-    };
-    assert_eq!(rt; accept.hear(&second), Some(answer));
-    offer.hear(&answer);
-    assert_eq!(rt; held(offer.state()), Some((2, 10, 7)));
-    assert_eq!(rt; held(accept.state()), Some((2, 10, 7)));
-    assert_eq!(rt; offer.last(), 2);
-    assert_eq!(rt;
-        accept.close(),
-        Some(Action::Teardown {
-            tid: 0,
-            initiator: false,
-            reason: 1,
-        })
-    );
-    assert_eq!(rt; accept.last(), 2);
-}
-
-#[test]
 fn octets_that_are_no_action_frame_change_nothing(rt: HostRuntime) {
     let mut offer = Offer::new(0, 0);
     let mut accept = Accept::new(0, 64, 0);
