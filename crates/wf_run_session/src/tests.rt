@@ -1,4 +1,4 @@
-//! Worked scripts, and sources and sinks that fail.
+//! Reads in pieces, and sources and sinks that fail. Worked scripts are rows of checks/worked.d.
 
 use crate::session;
 use std::test::Fail;
@@ -45,61 +45,6 @@ fn a_source_and_a_sink_that_fail_at_each_call(rt: HostRuntime) -> Result<(), Fai
         let (status, written) = played(&rt, RESTART_AND_REPLAY, 16, &[], &[call])?;
         assert!(rt; RESTART_AND_REPLAY_TEXT.starts_with(written.as_slice()));
         assert!(rt; status == Status::WriteFault || written.len() == RESTART_AND_REPLAY_TEXT.len());
-    }
-    Ok(())
-}
-
-/// A script and what is written for it, the status being Done or BadTrace as the last line says.
-const SCRIPTS: [(&[u8], Status, &[u8]); 17] = [
-    (
-        b"# x\nask 1 1\nagain\nend\n",
-        Status::Done,
-        b"a - b -\na - b -\nsent 2 0\nno agreement\n",
-    ),
-    (
-        b"ask 128 500\nto b 0\nagain\nto b 1\nto a 1\nend\n",
-        Status::Done,
-        b"a - b -\na - b 1:64:500\na - b 1:64:500\na - b 1:64:500\na 1:64:500 b 1:64:500\nsent 2 2\njoin 0 64 500 3\n",
-    ),
-    (b"end", Status::Done, b"sent 0 0\nno agreement\n"),
-    (
-        b"again\nclose a\nclose b\nto a 0\nto b 0\nrestart a\nend\n",
-        Status::Done,
-        b"refused not-asked\nrefused not-open\nrefused not-open\nrefused no-message\nrefused no-message\na - b -\nsent 0 0\nno agreement\n",
-    ),
-    (
-        b"ask 256 4095\nto b 0\nto a 0\nclose b\nto a 1\nend\nfly",
-        Status::Done,
-        b"a - b -\na - b 1:64:4095\na 1:64:4095 b 1:64:4095\na 1:64:4095 b -\na - b -\nsent 1 2\nno agreement\n",
-    ),
-    (b"", Status::BadTrace, b"fault line 1 no-end\n"),
-    (
-        b"again\n",
-        Status::BadTrace,
-        b"refused not-asked\nfault line 2 no-end\n",
-    ),
-    (b"cell\nend\n", Status::BadTrace, b"fault line 1 word\n"),
-    (b"@1 again\n", Status::BadTrace, b"fault line 1 word\n"),
-    (b"to c 0\n", Status::BadTrace, b"fault line 1 word\n"),
-    (b"to c\n", Status::BadTrace, b"fault line 1 word\n"),
-    (b"close\n", Status::BadTrace, b"fault line 1 count\n"),
-    (b"end x\n", Status::BadTrace, b"fault line 1 count\n"),
-    (b"ask 0 01\n", Status::BadTrace, b"fault line 1 number\n"),
-    (b"ask 257 0\n", Status::BadTrace, b"fault line 1 range\n"),
-    (b"ask 1 4096\n", Status::BadTrace, b"fault line 1 range\n"),
-    (
-        b"to a 4294967296\n",
-        Status::BadTrace,
-        b"fault line 1 range\n",
-    ),
-];
-
-#[test]
-fn scripts_and_what_is_written(rt: HostRuntime) -> Result<(), Fail> {
-    for (script, wanted, text) in SCRIPTS {
-        let (status, written) = played(&rt, script, 4096, &[], &[])?;
-        assert!(rt; status == wanted);
-        assert_eq!(rt; written.as_slice(), text);
     }
     Ok(())
 }

@@ -8,5 +8,3 @@
 mod peers;
 #[cfg(test)]
 mod sessions;
-#[cfg(test)]
-mod stores;

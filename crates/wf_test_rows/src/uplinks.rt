@@ -1,41 +1,27 @@
-//! Sources and sinks that fail, and lines that are no event. The worked scripts are rows of checks/worked.d.
+//! Sources and sinks that fail, and lines that are no event. The worked scripts are rows of
+//! checks/worked.d.
 
-use std::alloc::{AllocError, Global};
 use std::test::Fail;
 use wf_io::{Given, Kept, Status};
 use wf_run_uplink::{event_from, uplink};
 use wf_trace::FaultKind;
 
-/// A line of a script, and what is written for it.
-type Row = (&'static str, &'static str);
+/// A hole that is given up.
+const HOLE: &[u8] = b"open 0 64 10\n\
+      frame 88013000020000000000020000010000020000020000b000000000\n\
+      tick 99999\n\
+      tick 1\n\
+      frame 88013000020000000000020000010000020000020000a000000000\n\
+      end\n";
 
-// A hole is waited for 100,000 microseconds, and its frame is old then.
-const HOLE_GIVEN_UP: [Row; 6] = [
-    ("open 0 64 10", "opened\n"),
-    (
-        "frame 88013000020000000000020000010000020000020000b000000000",
-        "up sta 0 tid 0 air 132\n",
-    ),
-    ("tick 99999", "now 99999\n"),
-    ("tick 1", "now 100000\nup sta 0 tid 0 gap 10+1 0:11\n"),
-    (
-        "frame 88013000020000000000020000010000020000020000a000000000",
-        "up sta 0 tid 0 air 132 old\n",
-    ),
-    ("end", "frames 2 up 1 old 1 held 0 missing 1\n"),
-];
-
-// The lines of some rows, and what is written for them.
-fn parted(alloc: Global, rows: &[Row]) -> Result<(Vec<u8>, Vec<u8>), AllocError> {
-    let mut script = Vec::new(alloc);
-    let mut text = Vec::new(alloc);
-    for (line, answer) in rows {
-        script.extend_from_slice(line.as_bytes())?;
-        script.push(b'\n')?;
-        text.extend_from_slice(answer.as_bytes())?;
-    }
-    Ok((script, text))
-}
+/// What is answered to it.
+const HOLE_TEXT: &[u8] = b"opened\n\
+      up sta 0 tid 0 air 132\n\
+      now 99999\n\
+      now 100000\n\
+      up sta 0 tid 0 gap 10+1 0:11\n\
+      up sta 0 tid 0 air 132 old\n\
+      frames 2 up 1 old 1 held 0 missing 1\n";
 
 // How an uplink ends and what it writes, where reads and writes come in pieces and fail at these calls.
 fn played(
@@ -55,14 +41,13 @@ fn played(
 
 #[test]
 fn a_source_and_a_sink_that_fail_at_each_call(rt: HostRuntime) -> Result<(), Fail> {
-    let (script, text) = parted(rt.alloc(), &HOLE_GIVEN_UP)?;
     for call in 0..9 {
-        let (status, written) = played(&rt, &script, 40, &[call], &[])?;
-        assert!(rt; text.as_slice().starts_with(written.as_slice()));
-        assert!(rt; status == Status::ReadFault || written.len() == text.len());
-        let (status, written) = played(&rt, &script, 40, &[], &[call])?;
-        assert!(rt; text.as_slice().starts_with(written.as_slice()));
-        assert!(rt; status == Status::WriteFault || written.len() == text.len());
+        let (status, written) = played(&rt, HOLE, 40, &[call], &[])?;
+        assert!(rt; HOLE_TEXT.starts_with(written.as_slice()));
+        assert!(rt; status == Status::ReadFault || written.len() == HOLE_TEXT.len());
+        let (status, written) = played(&rt, HOLE, 40, &[], &[call])?;
+        assert!(rt; HOLE_TEXT.starts_with(written.as_slice()));
+        assert!(rt; status == Status::WriteFault || written.len() == HOLE_TEXT.len());
     }
     Ok(())
 }
