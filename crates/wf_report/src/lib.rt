@@ -9,6 +9,3 @@ mod standing;
 
 pub use reply::print_reply;
 pub use report::summary;
-
-#[cfg(test)]
-mod tests;

@@ -6,6 +6,3 @@ mod command;
 mod runner;
 
 pub use command::capture;
-
-#[cfg(test)]
-mod tests;

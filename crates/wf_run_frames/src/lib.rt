@@ -14,6 +14,3 @@ pub use command::frames;
 pub use fault::{Fault, FaultKind};
 pub use frame::{Frame, frame_of};
 pub use law::written_capture_is_listed;
-
-#[cfg(test)]
-mod tests;

@@ -3,7 +3,11 @@
 #![tactic(auto)]
 
 #[cfg(test)]
+mod captures;
+#[cfg(test)]
 mod exchanges;
+#[cfg(test)]
+mod frames;
 #[cfg(test)]
 mod paths;
 #[cfg(test)]

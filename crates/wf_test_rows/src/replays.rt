@@ -5,7 +5,7 @@ use wf_io::{Given, Kept, Status};
 use wf_run_replay::replay;
 
 /// A trace of one frame that is acknowledged.
-const ONE_FRAME: &[u8] = b"cell\n\
+pub(crate) const ONE_FRAME: &[u8] = b"cell\n\
       join 0 64 100 3\n\
       enq 0 0 7 1500\n\
       pull be\n\
