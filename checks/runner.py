@@ -36,6 +36,7 @@ ALL = [
     Check("worked", quick=True),
     Check("pages", quick=True),
     Check("sim", quick=True),
+    Check("durations"),
     Check("agreement-frames"),
     Check("sessions"),
     Check("uplinks"),

@@ -23,6 +23,6 @@ pub record IsRoom (r : Inside) : Type 0 where
   pub agg_in : 1 ≤ r.agg
   pub cap_in : 3000 ≤ r.cap
   pub count_in : r.count ≤ r.agg
-  pub octets_in : r.octets ≤ most_octets r.exponent
+  pub octets_in : r.octets ≤ most_octets r.rate r.exponent
   pub empty : r.count ≡ 0 → r.octets ≡ 0
   pub timely : 1 ≤ r.count → data_time r.rate r.octets ≤ r.cap

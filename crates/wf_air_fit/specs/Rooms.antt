@@ -23,5 +23,5 @@ pub record RoomStandsFor (room : RoomValue) (lens : List ℕ) : Type 0 where
 
 -- whether an aggregate of so many octets is within the length and the time
 abbrev pub is_short : RoomValue → ℕ → Bool
-is_short room octets = nat_le octets (most_octets room.exponent)
+is_short room octets = nat_le octets (most_octets room.rate room.exponent)
     && nat_le (data_time room.rate octets) room.cap

@@ -1,5 +1,5 @@
-//! Room in an aggregate (A-MPDU): IEEE 802.11-2012, 8.6.1 (subframes and their padding) and 9.12.2 (the
-//! length limit). Lengths are octets, times whole microseconds.
+//! Room in an aggregate (A-MPDU): IEEE 802.11-2012, 8.6.1 (subframes and their padding) and 9.12.2
+//! (the length limit). Lengths are octets, times whole microseconds.
 #![tactic(auto)]
 
 ghost use Rattle.std.specs.Prelude.{◌≡◌, ◌+◌, ◌-◌, ◌<◌, ◌≤◌, ◌++◌, [], ◌∷◌, ℕ, List, length, nat_lt, ◌&&◌, IsTrue, IsFalse};
@@ -52,9 +52,10 @@ impl Model for Room {
 }
 
 impl Room {
-    /// An aggregate of no frame, for a station of this rate and maximum A-MPDU length exponent (0 to 3: at
-    /// most `2^(13+exponent) - 1` octets). It takes at most `agg` frames and `cap` microseconds of data time,
-    /// 3000 or more; `wide` says that the session's window is above 64.
+    /// An aggregate of no frame, for a station of this rate and maximum A-MPDU length exponent (0
+    /// to 3: at most `2^(13+exponent) - 1` octets at a rate of HT, and `2^(17+exponent) - 1` of VHT
+    /// and HE). It takes at most `agg` frames and `cap` microseconds of data time, 3000 or more;
+    /// `wide` says that the session's window is above 64.
     pub fn new(rate: Rate, exponent: u8, agg: u16, cap: u32, wide: bool) -> Room
         requires exponent_in { exponent ≤ 3 }
         requires agg_in { 1 ≤ agg }
@@ -73,8 +74,8 @@ impl Room {
         }
     }
 
-    /// Takes a frame with a body of this length, 1 to 2304, behind those it has; refused, with no change,
-    /// exactly where it does not fit. The first frame always fits.
+    /// Takes a frame with a body of this length, 1 to 2304, behind those it has; refused, with no
+    /// change, exactly where it does not fit. The first frame always fits.
     pub fn add(&mut self, len: u16) -> bool
         requires { (1 ≤ len) × (len ≤ greatest_body) }
         ensures exact { (lens : List ℕ) → RoomStandsFor self.old lens →
@@ -102,7 +103,8 @@ impl Room {
         self.count < self.agg && self.is_short(octets)
     }
 
-    // Whether an aggregate of so many octets is within the length and the time. A single frame always is.
+    // Whether an aggregate of so many octets is within the length and the time. A single frame
+    // always is.
     fn is_short(&self, octets: u32) -> bool
         ensures exact { result ≡ is_short self.now octets }
         ensures single { octets ≤ longest_single → IsTrue result }
@@ -112,11 +114,11 @@ impl Room {
 
     // The most octets of an aggregate (8.4.2.58.3).
     fn most_octets(&self) -> u32
-        ensures exact { result ≡ most_octets self.now.exponent }
-        ensures least { most_octets 0 ≤ result }
+        ensures exact { result ≡ most_octets self.now.rate self.now.exponent }
+        ensures least { longest_single ≤ result }
         ensures most { result ≤ longest_aggregate }
     {
-        (1 << (13 + self.exponent)) - 1
+        (1 << (self.rate.least_exponent() + self.exponent)) - 1
     }
 
     /// How many frames it has, at most `agg`.
@@ -128,8 +130,8 @@ impl Room {
         self.count
     }
 
-    /// What a data exchange of its frames is charged, in microseconds: at most `cap`, SIFS and the longest
-    /// BlockAck.
+    /// What a data exchange of its frames is charged, in microseconds: at most `cap`, SIFS and the
+    /// longest BlockAck.
     pub fn air(&self) -> u32
         requires { 1 ≤ self.now.count }
         ensures exact { (lens : List ℕ) → RoomStandsFor self.now lens →

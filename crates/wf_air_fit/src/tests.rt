@@ -24,7 +24,7 @@ fn full_at_its_edges(rt: HostRuntime) {
         .iter()
         .enumerate()
     {
-        let rate = Rate::new(*mcs, *mhz, *short).expect(&rt, "a rate");
+        let rate = Rate::ht(*mcs, *mhz, *short).expect(&rt, "a rate");
         assert!(rt; *exponent <= 3 && *cap >= 3000);
         assert!(rt; *next >= 1 && *next <= 2304 && *last >= 1 && *last < 2304);
         let mut room = Room::new(rate, *exponent, 256, *cap, *wide);
@@ -43,7 +43,7 @@ fn full_at_its_edges(rt: HostRuntime) {
 fn count_is_limited(rt: HostRuntime) {
     // seventy frames of 64 octets are 69*100 + 98 = 6998 octets, 56006 bits, 216 symbols of 260: 36 + 864 +
     // 56
-    let rate = Rate::new(7, 20, false).expect(&rt, "a rate");
+    let rate = Rate::ht(7, 20, false).expect(&rt, "a rate");
     let mut room = Room::new(rate, 3, 70, 4000, true);
     assert_eq!(rt; room.count(), 0);
     for _ in 0..70 {

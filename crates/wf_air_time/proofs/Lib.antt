@@ -1,1 +1,2 @@
 mod Ceilings
+mod Bounds

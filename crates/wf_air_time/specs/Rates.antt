@@ -1,27 +1,45 @@
--- Which rates there are.
-use Rattle.std.specs.Prelude.{ℕ, ◌≡◌, ◌≢◌, ◌<◌, ◌≤◌, true, ◌⊎◌}
+-- Which rates there are in code, and what they come to at most.
+use Rattle.std.specs.Prelude.{ℕ, true}
 use Rattle.wf_def_lists.specs.Lengths.{greatest_body}
-use Rattle.wf_def_lists.specs.Bounds.{greatest_mcs, greatest_exponent}
+use Rattle.wf_def_lists.specs.Bounds.{greatest_exponent}
 use Rattle.wf_def_air.specs.Fit.{subframe_octets, most_octets}
-use Rattle.wf_def_air.specs.Airtime.{Rate}
+use Rattle.wf_def_air.specs.Airtime.{Rate, Ht, Vht, He}
+use Rattle.wf_air_time.specs.declared.Format.{Format}
+use Rattle.wf_air_time.specs.declared.Format.TheVariants.{Ht as OfHt, Vht as OfVht, He as OfHe}
 
--- an MCS of one or two streams, and a channel of 20 or 40 MHz
-pub record IsRateOfCode (mcs mhz : ℕ) : Type 0 where
-  pub mcs_is : mcs ≤ greatest_mcs
-  pub mhz_is : (mhz ≡ 20) ⊎ (mhz ≡ 40)
+-- the rate that a format with its numbers is
+abbrev pub rate_of : Format → Rate
+rate_of (OfHt mcs mhz short) = Ht mcs mhz short
+rate_of (OfVht mcs mhz short streams) = Vht mcs mhz short streams
+rate_of (OfHe mcs mhz guard streams) = He mcs mhz guard streams
 
--- there is no such rate
-abbrev pub IsNoRate : ℕ → ℕ → Type 0
-IsNoRate mcs mhz = (greatest_mcs < mcs) ⊎ ((mhz ≢ 20) × (mhz ≢ 40))
+-- and back
+abbrev pub format_of : Rate → Format
+format_of (Ht mcs mhz short) = OfHt mcs mhz short
+format_of (Vht mcs mhz short streams) = OfVht mcs mhz short streams
+format_of (He mcs mhz guard streams) = OfHe mcs mhz guard streams
 
--- the fastest rate
-abbrev pub highest_rate : Rate
-highest_rate = record { mcs = greatest_mcs; mhz = 40; short = true }
+-- the least data rate in kbit/s, that of HT and VHT with MCS 0 on 20 MHz, and the greatest, that of
+-- HE with MCS 11 on 160 MHz and eight streams
+abbrev pub least_kbps : ℕ
+least_kbps = 6500
 
--- the most octets of an aggregate for any receiver
+abbrev pub most_kbps : ℕ
+most_kbps = 9607794
+
+-- the most octets of an aggregate for any receiver at any rate
 abbrev pub longest_aggregate : ℕ
-longest_aggregate = most_octets greatest_exponent
+longest_aggregate = most_octets (Vht 0 20 true 3) greatest_exponent
+
+-- no aggregate takes longer, in microseconds
+abbrev pub longest_time : ℕ
+longest_time = 1300000
 
 -- the most octets of an aggregate of one frame
 abbrev pub longest_single : ℕ
 longest_single = subframe_octets greatest_body
+
+-- no aggregate of one frame takes longer, in microseconds: the least time that the settings allow
+-- for an aggregate
+abbrev pub longest_single_time : ℕ
+longest_single_time = 3000

@@ -1,37 +1,72 @@
-//! How long transmissions take: IEEE 802.11-2012, high throughput (HT), mixed format at 5 GHz, one encoder.
-//! Durations are whole microseconds, lengths are octets.
+//! Which rates there are, and how long transmissions take, at 5 GHz: data by HT, mixed format (IEEE
+//! 802.11-2012, clause 20), by VHT to one station (802.11-2016, clause 21) or by HE to one station
+//! (802.11ax-2021, clause 27), with convolutional codes; control frames by OFDM at 24 Mbit/s.
+//! Durations are whole microseconds but where a name says tenths, lengths are octets.
 #![tactic(auto)]
 
-ghost use Rattle.std.specs.Prelude.{◌≡◌, ◌+◌, ◌≤◌, ◌<◌, true, IfOk, IfErr};
-ghost use Rattle.wf_def_air.specs.Airtime.{lowest_rate, streams, bits, kbps, symbols, data_time, control_time, answer_time, longest_answer, data_charge, request_charge};
-ghost use Rattle.wf_air_time.specs.Rates.{IsRateOfCode, IsNoRate, highest_rate, longest_aggregate, longest_single};
+ghost use Rattle.std.specs.Prelude.{◌≡◌, ◌+◌, ◌/◌, ◌==◌, ◌≤◌, ◌<◌, if◌then◌else◌, true, false, IfOk, IfErr};
+ghost use Rattle.wf_def_lists.specs.Table.{has};
+ghost use Rattle.wf_def_air.specs.Fit.{least_exponent};
+ghost use Rattle.wf_def_air.specs.Airtime.{Ht, Vht, He, is_rate, lowest_rate, carriers_of_312, carriers_of_78, vht_encoders, is_wide_width, are_streams, streams_left_out, streams, modulation, carriers, bits, symbol_tenths, kbps, encoders, symbols, preamble_tenths, payload_tenths, data_time, control_time, answer_time, longest_answer, data_charge, request_charge};
+ghost use Rattle.wf_air_time.specs.Rates.{least_kbps, most_kbps, longest_aggregate, longest_single, longest_time, longest_single_time};
 
 use std::marker::Model;
 use thiserror::Error;
 
-/// The greatest MCS of two spatial streams (20.6).
-const GREATEST_MCS: u8 = 15;
+/// The greatest MCS of HT with two spatial streams (20.6), of VHT (21.5) and of HE (27.5).
+const GREATEST_HT_MCS: u8 = 15;
 
-/// Data bits in a symbol of 20 MHz for MCS 0 to 7, one stream (20.6, tables 20-30 and 20-31).
-const BITS_20: [u32; 8] = [26, 52, 78, 104, 156, 208, 234, 260];
+const GREATEST_VHT_MCS: u8 = 9;
 
-/// Data bits in a symbol of 40 MHz for MCS 0 to 7, one stream (20.6, tables 20-34 and 20-35).
-const BITS_40: [u32; 8] = [54, 108, 162, 216, 324, 432, 486, 540];
+const GREATEST_HE_MCS: u8 = 11;
 
-/// A symbol's time with the long guard interval, in microseconds (20.4.3).
-const SYMBOL_TIME: u32 = 4;
+/// The most spatial streams of VHT and HE to one station.
+const GREATEST_STREAMS: u8 = 8;
 
-/// The SERVICE field and the tail, 16 and 6 bits (18.4.3, 20.4.3).
-const SERVICE_AND_TAIL_BITS: u32 = 16 + 6;
+/// Data bits of twelve carriers by modulation and code, from BPSK at 1/2 to 1024-QAM at 5/6 (20.6,
+/// 21.5, 27.5).
+const BITS_OF_TWELVE: [u32; 12] = [6, 12, 18, 24, 36, 48, 54, 60, 72, 80, 90, 100];
 
-/// The HT mixed preamble up to its HT long training fields, in microseconds (20.3.7).
-const PREAMBLE_HEAD_TIME: u32 = 32;
+/// The data bits that one encoder of VHT takes at most in a symbol (21.5).
+const ENCODER_BITS: u32 = 2160;
 
-/// An HT long training field, one for each spatial stream, in microseconds (20.3.7).
-const TRAINING_TIME: u32 = 4;
+/// The SERVICE field, and the tail of each encoder, in bits (18.4.3, 20.4.3).
+const SERVICE_BITS: u32 = 16;
+
+const TAIL_BITS: u32 = 6;
+
+/// A symbol of HT and VHT with the short and with the long guard interval, in tenths of a
+/// microsecond.
+const SHORT_SYMBOL: u32 = 36;
+
+const LONG_SYMBOL: u32 = 40;
+
+/// A symbol of HE without its guard interval, in tenths of a microsecond.
+const HE_SYMBOL: u32 = 128;
+
+/// The preamble up to its long training fields, in tenths of a microsecond: of HT (20.3.7); of VHT
+/// with VHT-SIG-B behind them (21.3.2), and of HE.
+const HT_PREAMBLE: u32 = 320;
+
+const LONG_PREAMBLE: u32 = 360;
+
+/// A long training field of HT and VHT, in tenths of a microsecond.
+const TRAINING: u32 = 40;
+
+/// One of HE without its guard interval, in tenths of a microsecond: the 2x field, and the 4x field
+/// that goes with the guard interval of 3200 ns.
+const SHORT_HE_TRAINING: u32 = 64;
+
+const LONG_HE_TRAINING: u32 = 128;
+
+/// How many long training fields there are for 1, 2 .. 8 spatial streams.
+const TRAINING_FIELDS: [u32; 8] = [1, 2, 4, 4, 6, 6, 8, 8];
 
 /// The OFDM preamble and SIGNAL field of a control frame, in microseconds (18.4.3).
 const CONTROL_PREAMBLE_TIME: u32 = 20;
+
+/// An OFDM symbol, in microseconds (18.4.3).
+const CONTROL_SYMBOL_TIME: u32 = 4;
 
 /// The data bits in an OFDM symbol at 24 Mbit/s (18.3.2.3).
 const CONTROL_BITS: u32 = 96;
@@ -45,127 +80,364 @@ const REQUEST_OCTETS: u32 = 20;
 /// The octets of a BlockAck without its check sequence (8.3.1.9).
 const BLOCK_ACK_OCTETS: u32 = 28;
 
-/// The octets of a wide session's BlockAck without its check sequence: this project's own, with a bitmap of
-/// 32 octets.
+/// The octets of a wide session's BlockAck without its check sequence: this project's own, with a
+/// bitmap of 32 octets.
 const WIDE_BLOCK_ACK_OCTETS: u32 = 52;
 
 /// The pause between a frame and its answer at 5 GHz, in microseconds (18.4.4).
 const SIFS: u32 = 16;
 
-/// A rate of HT with one or two streams: an MCS of 0 to 15, a channel of 20 or 40 MHz, and a long (800 ns) or
-/// short (400 ns) guard interval.
+/// By what data is sent, with what each says.
+#[derive(Clone, Copy, Debug, PartialEq, Eq)]
+enum Format {
+    Ht {
+        mcs: u8,
+        mhz: u8,
+        short: bool,
+    },
+    Vht {
+        mcs: u8,
+        mhz: u8,
+        short: bool,
+        streams: u8,
+    },
+    He {
+        mcs: u8,
+        mhz: u8,
+        guard: u16,
+        streams: u8,
+    },
+}
+
+/// A rate of HT with one or two spatial streams, or one of VHT or HE with one to eight.
 #[derive(Clone, Copy, Debug, PartialEq, Eq)]
 pub struct Rate {
-    mcs: u8,
-    mhz: u8,
-    short: bool,
+    format: Format,
 }
 
 impl Model for Rate {
-    ghost use Rattle.wf_def_air.specs.Airtime.{Rate as RateValue};
-    ghost use Rattle.wf_air_time.specs.Rates.{IsRateOfCode};
+    ghost use Rattle.wf_def_air.specs.Airtime.{Rate as RateValue, IsRate};
+    ghost use Rattle.wf_air_time.specs.Rates.{rate_of, format_of};
 
     ghost Value = { RateValue };
 
-    ghost view = { λ r. record { mcs = r.mcs; mhz = r.mhz; short = r.short } };
+    ghost view = { λ r. rate_of r.format };
 
-    ghost invariant = { λ r. IsRateOfCode r.mcs r.mhz };
+    ghost invariant = { λ r. IsRate (rate_of r.format) };
 
-    ghost inverse = { λ v. record { mcs = v.mcs; mhz = v.mhz; short = v.short } };
+    ghost inverse = { λ v. record { format = format_of v } };
 }
 
-/// There is no such rate: the MCS is above 15, or the channel is neither 20 nor 40 MHz wide.
+/// There is no such rate: an MCS above the format's greatest, a channel width or a guard interval
+/// that the format has not, spatial streams that are not 1 to 8, or one of the ten combinations
+/// that VHT leaves out.
 #[derive(Clone, Copy, Debug, PartialEq, Eq, Error)]
-#[error("no rate: an MCS is 0 to 15, a channel 20 or 40 MHz wide")]
+#[error("there is no such rate")]
 pub struct BadRate;
 
+// Whether a channel of VHT or HE may be so wide, in MHz.
+fn is_wide_width(mhz: u8) -> bool
+    ensures { result ≡ is_wide_width mhz }
+{
+    matches!(mhz, 20 | 40 | 80 | 160)
+}
+
+// Whether there may be so many spatial streams of VHT or HE.
+fn are_streams(streams: u8) -> bool
+    ensures { result ≡ are_streams streams }
+{
+    1 <= streams && streams <= GREATEST_STREAMS
+}
+
+// Whether VHT leaves out this MCS on this width with so many streams (21.5).
+fn is_left_out(mcs: u8, mhz: u8, streams: u8) -> bool
+    ensures { result ≡ has (streams_left_out mcs mhz) streams }
+{
+    match (mcs, mhz) {
+        (9, 20) => matches!(streams, 1 | 2 | 4 | 5 | 7 | 8),
+        (6, 80) => matches!(streams, 3 | 7),
+        (9, 80) => streams == 6,
+        (9, 160) => streams == 3,
+        _ => false,
+    }
+}
+
+// The data carriers of HT and VHT on a width in MHz.
+fn carriers_of_312(mhz: u8) -> u32
+    ensures exact { result ≡ carriers_of_312 mhz }
+    ensures most { result ≤ 1960 }
+{
+    match mhz {
+        40 => 108,
+        80 => 234,
+        160 => 468,
+        _ => 52,
+    }
+}
+
+// The data carriers of HE on a width in MHz.
+fn carriers_of_78(mhz: u8) -> u32
+    ensures exact { result ≡ carriers_of_78 mhz }
+    ensures most { result ≤ 1960 }
+{
+    match mhz {
+        40 => 468,
+        80 => 980,
+        160 => 1960,
+        _ => 234,
+    }
+}
+
+// The encoders of a rate of VHT with so many data bits in a symbol (21.5).
+#[tactic(auto, using(crate::proofs::Ceilings::same_ceiling))]
+fn vht_encoders(mcs: u8, mhz: u8, streams: u8, bits: u32) -> u32
+    ensures { result ≡ vht_encoders mcs mhz streams bits }
+{
+    match (mhz, streams, mcs) {
+        (80, 7, 2) => 3,
+        (80, 7, 7) | (80, 7, 8) | (80, 8, 7) | (160, 4, 7) | (160, 7, 4) => 6,
+        (160, 5, 8) | (160, 6, 7) | (160, 8, 5) => 8,
+        (160, 7, 7) => 9,
+        (160, 7, 8) | (160, 7, 9) | (160, 8, 8) => 12,
+        _ => bits.div_ceil(ENCODER_BITS),
+    }
+}
+
 impl Rate {
-    /// The rate of an MCS, a channel width in MHz and a guard interval.
-    pub fn new(mcs: u8, mhz: u8, short: bool) -> Result<Rate, BadRate>
-        ensures made { IfOk result (λ r. r ≡ record { mcs = mcs; mhz = mhz; short = short }) }
-        ensures within { IfOk result (λ _. IsRateOfCode mcs mhz) }
-        ensures refused { IfErr result (λ _. IsNoRate mcs mhz) }
+    /// The rate of HT of an MCS, 0 to 15, a channel width of 20 or 40 MHz and a short (400 ns) or
+    /// long (800 ns) guard interval (20.6).
+    pub fn ht(mcs: u8, mhz: u8, short: bool) -> Result<Rate, BadRate>
+        ensures made { IfOk result (λ r. r ≡ Ht mcs mhz short) }
+        ensures within { IfOk result (λ _. is_rate (Ht mcs mhz short) ≡ true) }
+        ensures refused { IfErr result (λ _. is_rate (Ht mcs mhz short) ≡ false) }
     {
-        if mcs > GREATEST_MCS || (mhz != 20 && mhz != 40) {
+        if mcs > GREATEST_HT_MCS || (mhz != 20 && mhz != 40) {
             return Err(BadRate);
         }
-        Ok(Rate { mcs, mhz, short })
+        Ok(Rate {
+            format: Format::Ht { mcs, mhz, short },
+        })
     }
 
-    /// The most robust rate: MCS 0, 20 MHz, long guard interval.
+    /// The rate of VHT of an MCS, 0 to 9, a channel width of 20, 40, 80 or 160 MHz, a short (400
+    /// ns) or long (800 ns) guard interval and 1 to 8 spatial streams; there is none of ten
+    /// combinations (21.5).
+    pub fn vht(mcs: u8, mhz: u8, short: bool, streams: u8) -> Result<Rate, BadRate>
+        ensures made { IfOk result (λ r. r ≡ Vht mcs mhz short streams) }
+        ensures within { IfOk result (λ _. is_rate (Vht mcs mhz short streams) ≡ true) }
+        ensures refused { IfErr result (λ _. is_rate (Vht mcs mhz short streams) ≡ false) }
+    {
+        if mcs > GREATEST_VHT_MCS
+            || !is_wide_width(mhz)
+            || !are_streams(streams)
+            || is_left_out(mcs, mhz, streams)
+        {
+            return Err(BadRate);
+        }
+        Ok(Rate {
+            format: Format::Vht {
+                mcs,
+                mhz,
+                short,
+                streams,
+            },
+        })
+    }
+
+    /// The rate of HE of an MCS, 0 to 11, a channel width of 20, 40, 80 or 160 MHz, a guard
+    /// interval of 800, 1600 or 3200 ns and 1 to 8 spatial streams (27.5).
+    pub fn he(mcs: u8, mhz: u8, guard: u16, streams: u8) -> Result<Rate, BadRate>
+        ensures made { IfOk result (λ r. r ≡ He mcs mhz guard streams) }
+        ensures within { IfOk result (λ _. is_rate (He mcs mhz guard streams) ≡ true) }
+        ensures refused { IfErr result (λ _. is_rate (He mcs mhz guard streams) ≡ false) }
+    {
+        if mcs > GREATEST_HE_MCS
+            || !is_wide_width(mhz)
+            || !are_streams(streams)
+            || !matches!(guard, 800 | 1600 | 3200)
+        {
+            return Err(BadRate);
+        }
+        Ok(Rate {
+            format: Format::He {
+                mcs,
+                mhz,
+                guard,
+                streams,
+            },
+        })
+    }
+
+    /// The most robust rate: HT MCS 0, 20 MHz, long guard interval.
     pub fn lowest() -> Rate
         ensures { result ≡ lowest_rate }
     {
         Rate {
-            mcs: 0,
-            mhz: 20,
-            short: false,
+            format: Format::Ht {
+                mcs: 0,
+                mhz: 20,
+                short: false,
+            },
         }
     }
 
-    // Spatial streams: one for MCS 0 to 7, two for MCS 8 to 15.
+    /// To what a receiver's maximum A-MPDU length exponent is added: 13 of HT (8.4.2.58.3), and 17
+    /// of VHT and HE, of which a receiver states 0 to 7 (that 0 to 3 stand for 4 to 7 there is this
+    /// project's own rule).
+    pub fn least_exponent(self) -> u8
+        ensures exact { result ≡ least_exponent self }
+        ensures least { 13 ≤ result }
+        ensures most { result ≤ 17 }
+    {
+        match self.format {
+            Format::Ht { .. } => 13,
+            Format::Vht { .. } | Format::He { .. } => 17,
+        }
+    }
+
+    // Spatial streams.
     fn streams(self) -> u32
         ensures exact { result ≡ streams self }
-        ensures most { result ≤ 2 }
+        ensures least { 1 ≤ result }
+        ensures most { result ≤ 8 }
     {
-        1 + u32::from(self.mcs / 8)
-    }
-
-    // Data bits in a symbol.
-    fn bits(self) -> u32
-        ensures exact { result ≡ bits self }
-        ensures least { bits lowest_rate ≤ result }
-        ensures most { result ≤ bits highest_rate }
-    {
-        let row = if self.mhz == 40 { BITS_40 } else { BITS_20 };
-        self.streams() * row[usize::from(self.mcs % 8)]
-    }
-
-    /// The data rate in kbit/s, 6,500 to 300,000, rounded down.
-    pub fn kbps(self) -> u32
-        ensures exact { result ≡ kbps self }
-        ensures least { kbps lowest_rate ≤ result }
-        ensures most { result ≤ kbps highest_rate }
-    {
-        if self.short {
-            2500 * self.bits() / 9
-        } else {
-            250 * self.bits()
+        match self.format {
+            Format::Ht { mcs, .. } => 1 + u32::from(mcs / 8),
+            Format::Vht { streams, .. } | Format::He { streams, .. } => u32::from(streams),
         }
     }
 
-    // Symbols of this many octets with the service and tail bits (16 and 6), the last one begun counting
+    // The place of its modulation and code in the table.
+    fn modulation(self) -> usize
+        ensures exact { result ≡ modulation self }
+        ensures most { result < 12 }
+    {
+        match self.format {
+            Format::Ht { mcs, .. } => usize::from(mcs % 8),
+            Format::Vht { mcs, .. } | Format::He { mcs, .. } => usize::from(mcs),
+        }
+    }
+
+    // Data carriers.
+    fn carriers(self) -> u32
+        ensures exact { result ≡ carriers self }
+        ensures most { result ≤ 1960 }
+    {
+        match self.format {
+            Format::Ht { mhz, .. } | Format::Vht { mhz, .. } => carriers_of_312(mhz),
+            Format::He { mhz, .. } => carriers_of_78(mhz),
+        }
+    }
+
+    // Data bits in a symbol; a fraction falls away.
+    fn bits(self) -> u32
+        ensures exact { result ≡ bits self }
+        ensures least { 26 ≤ result }
+        ensures most { result ≤ 130666 }
+    {
+        self.carriers() * self.streams() * BITS_OF_TWELVE[self.modulation()] / 12
+    }
+
+    // A symbol's time with its guard interval, in tenths of a microsecond.
+    fn symbol(self) -> u32
+        ensures exact { result ≡ symbol_tenths self }
+        ensures least { 36 ≤ result }
+        ensures most { result ≤ 160 }
+    {
+        match self.format {
+            Format::Ht { short, .. } | Format::Vht { short, .. } => {
+                if short { SHORT_SYMBOL } else { LONG_SYMBOL }
+            }
+            Format::He { guard, .. } => HE_SYMBOL + u32::from(guard / 100),
+        }
+    }
+
+    /// The data rate in kbit/s, rounded down. Below 12,000 is MCS 0 on 20 MHz with one stream of
+    /// each format.
+    #[tactic(auto, using(crate::proofs::Bounds::kbps_least, crate::proofs::Bounds::kbps_most))]
+    pub fn kbps(self) -> u32
+        ensures exact { result ≡ kbps self }
+        ensures least { least_kbps ≤ result }
+        ensures most { result ≤ most_kbps }
+    {
+        // (what is a rate is known where a field is looked at)
+        let _ = &self.format;
+        10_000 * self.bits() / self.symbol()
+    }
+
+    // Encoders, each with a tail.
+    fn encoders(self) -> u32
+        ensures exact { result ≡ encoders self }
+        ensures most { result ≤ 15 }
+    {
+        match self.format {
+            Format::Vht {
+                mcs,
+                mhz,
+                streams,
+                ..
+            } => vht_encoders(mcs, mhz, streams, self.bits()),
+            Format::Ht { .. } | Format::He { .. } => 1,
+        }
+    }
+
+    // Symbols of this many octets with the SERVICE field and the tails, the last one begun counting
     // whole.
     #[tactic(auto, using(crate::proofs::Ceilings::same_ceiling))]
     fn symbols(self, octets: u32) -> u32
         requires { octets ≤ longest_aggregate }
         ensures exact { result ≡ symbols self octets }
-        ensures most { result ≤ symbols lowest_rate longest_aggregate }
-        ensures single { octets ≤ longest_single → result ≤ symbols lowest_rate longest_single }
+        ensures most { result ≤ 322643 }
     {
-        (8 * octets + SERVICE_AND_TAIL_BITS).div_ceil(self.bits())
+        let tails = TAIL_BITS * self.encoders();
+        (8 * octets + (SERVICE_BITS + tails)).div_ceil(self.bits())
     }
 
-    /// How long an aggregate of this many octets takes: preamble and payload (TXTIME, 20.4.3). An aggregate
-    /// of one frame takes at most 2920 microseconds.
+    // The preamble's time, in tenths of a microsecond.
+    fn preamble(self) -> u32
+        ensures exact { result ≡ preamble_tenths self }
+        ensures most { result ≤ 1640 }
+    {
+        let fields = TRAINING_FIELDS[self.streams() as usize - 1];
+        match self.format {
+            Format::Ht { .. } => HT_PREAMBLE + TRAINING * fields,
+            Format::Vht { .. } => LONG_PREAMBLE + TRAINING * fields,
+            Format::He { guard, .. } => LONG_PREAMBLE + he_training(guard) * fields,
+        }
+    }
+
+    // The payload's time, in tenths of a microsecond. Of HT and VHT it ends with a whole symbol of
+    // the long guard interval.
+    #[tactic(auto, using(crate::proofs::Ceilings::same_ceiling))]
+    fn payload(self, octets: u32) -> u32
+        requires { octets ≤ longest_aggregate }
+        ensures exact { result ≡ payload_tenths self octets }
+        ensures most { result ≤ 51700000 }
+    {
+        let payload = self.symbol() * self.symbols(octets);
+        match self.format {
+            Format::Ht { .. } | Format::Vht { .. } => payload.div_ceil(LONG_SYMBOL) * LONG_SYMBOL,
+            Format::He { .. } => payload,
+        }
+    }
+
+    /// How long an aggregate of this many octets takes: preamble and payload (TXTIME: 20.4.3,
+    /// 21.4.3, 27.4.3). One of HE is rounded up to whole microseconds. An aggregate of one frame
+    /// takes at most 3000 microseconds.
+    #[tactic(auto, using(crate::proofs::Ceilings::same_ceiling, crate::proofs::Bounds::time_most, crate::proofs::Bounds::time_single))]
     pub fn data_time(self, octets: u32) -> u32
         requires { octets ≤ longest_aggregate }
         ensures exact { result ≡ data_time self octets }
-        ensures most { result ≤ data_time lowest_rate longest_aggregate }
-        ensures single { octets ≤ longest_single → result ≤ data_time lowest_rate longest_single }
+        ensures most { result ≤ longest_time }
+        ensures single { octets ≤ longest_single → result ≤ longest_single_time }
     {
-        let preamble = PREAMBLE_HEAD_TIME + TRAINING_TIME * self.streams();
-        let symbols = self.symbols(octets);
-        let intervals = if self.short {
-            (9 * symbols).div_ceil(10)
-        } else {
-            symbols
-        };
-        preamble + SYMBOL_TIME * intervals
+        // (what is a rate is known where a field is looked at)
+        let _ = &self.format;
+        (self.preamble() + self.payload(octets)).div_ceil(10)
     }
 
-    /// What a data exchange is charged, in microseconds: its data time, SIFS and the BlockAck, which takes
-    /// longer in a wide session, one whose window is above 64.
+    /// What a data exchange is charged, in microseconds: its data time, SIFS and the BlockAck,
+    /// which takes longer in a wide session, one whose window is above 64.
     pub fn data_charge(self, octets: u32, wide: bool) -> u32
         requires { octets ≤ longest_aggregate }
         ensures exact { result ≡ data_charge self octets wide }
@@ -175,14 +447,28 @@ impl Rate {
     }
 }
 
+// A long training field of HE by the guard interval in nanoseconds, in tenths of a microsecond.
+fn he_training(guard: u16) -> u32
+    requires { guard ≤ 3200 }
+    ensures exact { result ≡ (if guard == 3200 then 128 else 64) + guard / 100 }
+    ensures most { result ≤ 160 }
+{
+    let field = if guard == 3200 {
+        LONG_HE_TRAINING
+    } else {
+        SHORT_HE_TRAINING
+    };
+    field + u32::from(guard / 100)
+}
+
 // How long a control frame of this many octets takes at 24 Mbit/s (18.4.3).
 #[tactic(auto, using(crate::proofs::Ceilings::same_ceiling))]
 fn control_time(octets: u32) -> u32
     requires { octets ≤ longest_aggregate }
     ensures { result ≡ control_time octets }
 {
-    let symbols = (8 * octets + SERVICE_AND_TAIL_BITS).div_ceil(CONTROL_BITS);
-    CONTROL_PREAMBLE_TIME + SYMBOL_TIME * symbols
+    let symbols = (8 * octets + (SERVICE_BITS + TAIL_BITS)).div_ceil(CONTROL_BITS);
+    CONTROL_PREAMBLE_TIME + CONTROL_SYMBOL_TIME * symbols
 }
 
 // How long a BlockAck takes, with its check sequence.
@@ -198,7 +484,8 @@ fn answer_time(wide: bool) -> u32
     control_time(octets + CHECK_OCTETS)
 }
 
-/// What an exchange of a BlockAckReq is charged, in microseconds: the request, SIFS and its BlockAck.
+/// What an exchange of a BlockAckReq is charged, in microseconds: the request, SIFS and its
+/// BlockAck.
 pub fn request_charge(wide: bool) -> u32
     ensures { result ≡ request_charge wide }
 {

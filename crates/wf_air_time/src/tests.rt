@@ -1,13 +1,14 @@
 use super::*;
 
-// For each MCS from 0 on, at 20 MHz long and short and at 40 MHz long and short: the rate in kbit/s, and the
-// data time of 1, 26, 1534 and 65535 octets. The numbers are worked out from modulation, coding, carriers and
-// streams. MCS 0, 20 MHz, 52 carriers of 1 bit coded at 1/2, so 26 bits in a symbol: 1534 octets are 8*1534 +
-// 22 = 12294 bits, 473 symbols of 26. Long: 36 + 473*4 = 1928. Short: 473*3.6 = 1702.8, ended at the next 4
-// microseconds 1704, and 36 + 1704 = 1740. MCS 15, 40 MHz, two streams of 108 carriers of 6 bits coded at
-// 5/6, so 1080 bits in a symbol: 65535 octets are 524302 bits, 486 symbols of 1080. Long: 40 + 486*4 = 1984.
-// Short: 486*3.6 = 1749.6, so 40 + 1752. MCS 7, 20 MHz, short: 260 bits in 3.6 microseconds are 72,222
-// kbit/s; one octet is 30 bits, one symbol, 36 + 4.
+// For each MCS from 0 on, at 20 MHz long and short and at 40 MHz long and short: the rate in
+// kbit/s, and the data time of 1, 26, 1534 and 65535 octets. The numbers are worked out from
+// modulation, coding, carriers and streams. MCS 0, 20 MHz, 52 carriers of 1 bit coded at 1/2, so 26
+// bits in a symbol: 1534 octets are 8*1534 + 22 = 12294 bits, 473 symbols of 26. Long: 36 + 473*4 =
+// 1928. Short: 473*3.6 = 1702.8, ended at the next 4 microseconds 1704, and 36 + 1704 = 1740. MCS
+// 15, 40 MHz, two streams of 108 carriers of 6 bits coded at 5/6, so 1080 bits in a symbol: 65535
+// octets are 524302 bits, 486 symbols of 1080. Long: 40 + 486*4 = 1984. Short: 486*3.6 = 1749.6, so
+// 40 + 1752. MCS 7, 20 MHz, short: 260 bits in 3.6 microseconds are 72,222 kbit/s; one octet is 30
+// bits, one symbol, 36 + 4.
 const RATES: [(u32, [u32; 4]); 64] = [
     (6500, [44, 72, 1928, 80700]),
     (7222, [44, 72, 1740, 72636]),
@@ -80,7 +81,7 @@ fn durations_of_each_rate(rt: HostRuntime) {
     for (place, (kbps, times)) in RATES.iter().enumerate() {
         let mcs = (place / 4) as u8;
         let mhz = if place % 4 < 2 { 20 } else { 40 };
-        let rate = Rate::new(mcs, mhz, place % 2 == 1).expect(&rt, "a rate");
+        let rate = Rate::ht(mcs, mhz, place % 2 == 1).expect(&rt, "a rate");
         assert_eq!(rt; rate.kbps(), *kbps, "at {place}");
         let found = [
             rate.data_time(1),
@@ -92,17 +93,76 @@ fn durations_of_each_rate(rt: HostRuntime) {
     }
 }
 
+// Of VHT: MCS, MHz, whether the guard interval is short, streams, octets, and the data time. As an
+// example MCS 7 on 160 MHz with four streams: 468 * 4 carriers of 6 bits coded at 5/6 are 9360 bits
+// a symbol, for which the table of encoders has 6. 1163 octets and 16 + 36 bits more are 9356 bits,
+// one symbol: 36 + 4*4 + 4. 1164 octets are two.
+const VHT_TIMES: [(u8, u8, bool, u8, u32, u32); 5] = [
+    (0, 20, false, 1, 2338, 2924),
+    (9, 80, true, 2, 1538, 60),
+    (7, 160, true, 4, 1163, 56),
+    (7, 160, true, 4, 1164, 60),
+    (9, 20, true, 3, 1538, 96),
+];
+
+#[test]
+fn durations_of_vht(rt: HostRuntime) {
+    for (mcs, mhz, short, streams, octets, time) in VHT_TIMES.iter() {
+        let rate = Rate::vht(*mcs, *mhz, *short, *streams).expect(&rt, "a rate");
+        assert_eq!(rt; rate.data_time(*octets), *time, "of {octets}");
+    }
+    for (mcs, mhz, streams) in [
+        (9, 20, 1),
+        (6, 80, 7),
+        (9, 80, 6),
+        (9, 160, 3),
+        (10, 80, 1),
+        (0, 60, 1),
+        (0, 20, 9),
+    ] {
+        assert_eq!(rt;
+            Rate::vht(mcs, mhz, false, streams),
+            Err(BadRate),
+            "at {mcs}, {mhz} and {streams}"
+        );
+    }
+}
+
+// Of HE: MCS, MHz, the guard interval in nanoseconds, streams, octets, and the data time.
+const HE_TIMES: [(u8, u8, u16, u8, u32, u32); 5] = [
+    (0, 20, 3200, 1, 2338, 2628),
+    (11, 80, 800, 2, 1538, 64),
+    (11, 160, 800, 4, 65535, 188),
+    (11, 80, 800, 1, 6122, 139),
+    (0, 20, 800, 1, 1048575, 975136),
+];
+
+#[test]
+fn durations_of_he(rt: HostRuntime) {
+    for (mcs, mhz, guard, streams, octets, time) in HE_TIMES.iter() {
+        let rate = Rate::he(*mcs, *mhz, *guard, *streams).expect(&rt, "a rate");
+        assert_eq!(rt; rate.data_time(*octets), *time, "of {octets}");
+    }
+    for (mcs, guard, streams) in [(12, 800, 1), (11, 400, 1), (11, 800, 0), (11, 800, 9)] {
+        assert_eq!(rt;
+            Rate::he(mcs, 160, guard, streams),
+            Err(BadRate),
+            "at {mcs}, {guard} and {streams}"
+        );
+    }
+}
+
 #[test]
 fn rates_and_charges(rt: HostRuntime) {
     for (mcs, mhz) in [(16, 20), (255, 40), (0, 0), (7, 80), (15, 21)] {
         assert_eq!(rt;
-            Rate::new(mcs, mhz, false),
+            Rate::ht(mcs, mhz, false),
             Err(BadRate),
             "at {mcs} and {mhz}"
         );
     }
     let lowest = Rate::lowest();
-    assert_eq!(rt; Rate::new(0, 20, false), Ok(lowest));
+    assert_eq!(rt; Rate::ht(0, 20, false), Ok(lowest));
     // a single frame of 2304 octets at its slowest
     assert_eq!(rt; lowest.data_time(2338), 2920);
     assert_eq!(rt; lowest.data_charge(1534, false), 1976);

@@ -1,1 +1,3 @@
 mod Charges
+mod Rates
+pub mod Times

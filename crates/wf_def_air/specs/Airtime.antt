@@ -1,40 +1,111 @@
--- How long a transmission takes, in whole microseconds, and what an exchange is charged: IEEE 802.11-2012,
--- high throughput (HT), mixed format at 5 GHz. Data has HT timing (20.3.7, 20.4.3) at the rates of 20.6;
--- control frames have OFDM timing (18.4.3) at 24 Mbit/s.
-use Rattle.std.specs.Prelude.{ℕ, ◌+◌, ◌*◌, ◌/◌, ◌%◌, ◌==◌, Bool, true, false, List, [], ◌∷◌, if◌then◌else◌, slice_index}
-use Rattle.wf_def_lists.specs.Table.{ceil_div}
+-- Which rates there are, how long a transmission takes, in whole microseconds, and what an exchange
+-- is charged, at 5 GHz. Data goes by HT, mixed format (IEEE 802.11-2012, clause 20), by VHT to one
+-- station (802.11-2016, clause 21) or by HE to one station (802.11ax-2021, clause 27); control
+-- frames have OFDM timing (802.11-2012, 18.4.3) at 24 Mbit/s. Times inside a transmission are
+-- tenths of a microsecond where a name says so.
+use Rattle.std.specs.Prelude.{◌≡◌, ℕ, ◌+◌, ◌-◌, ◌*◌, ◌/◌, ◌%◌, ◌==◌, nat_le, Bool, true, false, not, ◌&&◌, ◌||◌, List, [], ◌∷◌, if◌then◌else◌, slice_index}
+use Rattle.wf_def_lists.specs.Table.{ceil_div, has}
+use Rattle.wf_def_lists.specs.Bounds.{greatest_mcs}
 
--- a rate: its MCS, 0 to 15, the channel's width in MHz, 20 or 40, and whether the guard interval is short
--- (400 ns) or long (800 ns)
-pub record Rate : Type 0 where
-  pub mcs : ℕ
-  pub mhz : ℕ
-  pub short : Bool
+-- ---- rates
+
+-- a rate: its MCS, the channel's width in MHz, the guard interval (of HT and VHT the short one of
+-- 400 ns or the long one of 800, of HE in nanoseconds), and how many spatial streams, which of HT
+-- the MCS says
+pub data Rate : Type 0 where
+  Ht : (mcs mhz : ℕ) (short : Bool) → Rate
+  Vht : (mcs mhz : ℕ) (short : Bool) (streams : ℕ) → Rate
+  He : (mcs mhz guard streams : ℕ) → Rate
 
 -- the most robust rate
 abbrev pub lowest_rate : Rate
-lowest_rate = record { mcs = 0; mhz = 20; short = false }
+lowest_rate = Ht 0 20 false
 
--- the spatial streams: one for MCS 0 to 7, two for MCS 8 to 15 (20.6)
+-- the greatest MCS of VHT (21.5) and of HE (27.5)
+abbrev pub greatest_vht_mcs : ℕ
+greatest_vht_mcs = 9
+
+abbrev pub greatest_he_mcs : ℕ
+greatest_he_mcs = 11
+
+-- the most spatial streams of VHT and HE to one station
+abbrev pub greatest_streams : ℕ
+greatest_streams = 8
+
+-- whether a channel of VHT or HE may be so wide, in MHz
+abbrev pub is_wide_width : ℕ → Bool
+is_wide_width mhz = has (20 ∷ 40 ∷ 80 ∷ 160 ∷ []) mhz
+
+-- with how many streams VHT has no rate of an MCS on a width (21.5)
+abbrev pub streams_left_out : ℕ → ℕ → List ℕ
+streams_left_out mcs mhz =
+    if (mcs == 9) && (mhz == 20) then 1 ∷ 2 ∷ 4 ∷ 5 ∷ 7 ∷ 8 ∷ []
+    else (if (mcs == 6) && (mhz == 80) then 3 ∷ 7 ∷ []
+    else (if (mcs == 9) && (mhz == 80) then 6 ∷ []
+    else (if (mcs == 9) && (mhz == 160) then 3 ∷ [] else [])))
+
+-- whether there may be so many spatial streams
+abbrev pub are_streams : ℕ → Bool
+are_streams n = nat_le 1 n && nat_le n greatest_streams
+
+-- whether there is such a rate (20.6, 21.5, 27.5)
+abbrev pub is_rate : Rate → Bool
+is_rate (Ht mcs mhz short) = nat_le mcs greatest_mcs && has (20 ∷ 40 ∷ []) mhz
+is_rate (Vht mcs mhz short n) = nat_le mcs greatest_vht_mcs
+    && (is_wide_width mhz && (are_streams n && not (has (streams_left_out mcs mhz) n)))
+is_rate (He mcs mhz guard n) = nat_le mcs greatest_he_mcs
+    && (is_wide_width mhz && (are_streams n && has (800 ∷ 1600 ∷ 3200 ∷ []) guard))
+
+-- there is such a rate
+abbrev pub IsRate : Rate → Type 0
+IsRate r = is_rate r ≡ true
+
+-- the spatial streams: of HT one for MCS 0 to 7, two for MCS 8 to 15 (20.6)
 abbrev pub streams : Rate → ℕ
-streams r = 1 + r.mcs / 8
+streams (Ht mcs mhz short) = 1 + mcs / 8
+streams (Vht mcs mhz short n) = n
+streams (He mcs mhz guard n) = n
 
--- the data bits in a symbol of one stream, for MCS 0 to 7 on 20 MHz (20.6, tables 20-30 and 20-31)
-abbrev pub bits_20 : List ℕ
-bits_20 = 26 ∷ 52 ∷ 78 ∷ 104 ∷ 156 ∷ 208 ∷ 234 ∷ 260 ∷ []
+-- which modulation and code each stream has: the MCS, which of HT begins anew with each stream
+abbrev pub modulation : Rate → ℕ
+modulation (Ht mcs mhz short) = mcs % 8
+modulation (Vht mcs mhz short n) = mcs
+modulation (He mcs mhz guard n) = mcs
 
--- the data bits in a symbol of one stream, for MCS 0 to 7 on 40 MHz (20.6, tables 20-34 and 20-35)
-abbrev pub bits_40 : List ℕ
-bits_40 = 54 ∷ 108 ∷ 162 ∷ 216 ∷ 324 ∷ 432 ∷ 486 ∷ 540 ∷ []
+-- the data bits of twelve carriers by modulation and code: 12 times the bits of a carrier times the
+-- code's rate, from 1 bit at 1/2 to 10 bits at 5/6 (20.6, 21.5, 27.5)
+abbrev pub bits_of_twelve : List ℕ
+bits_of_twelve = 6 ∷ 12 ∷ 18 ∷ 24 ∷ 36 ∷ 48 ∷ 54 ∷ 60 ∷ 72 ∷ 80 ∷ 90 ∷ 100 ∷ []
 
--- the data bits in a symbol
+-- the data carriers of HT and VHT by the width in MHz (clauses 20 and 21)
+abbrev pub carriers_of_312 : ℕ → ℕ
+carriers_of_312 mhz = if mhz == 40 then 108 else (if mhz == 80 then 234 else (if mhz == 160 then 468 else 52))
+
+-- the data carriers of HE by the width in MHz (clause 27)
+abbrev pub carriers_of_78 : ℕ → ℕ
+carriers_of_78 mhz =
+    if mhz == 40 then 468 else (if mhz == 80 then 980 else (if mhz == 160 then 1960 else 234))
+
+-- the data carriers
+abbrev pub carriers : Rate → ℕ
+carriers (Ht mcs mhz short) = carriers_of_312 mhz
+carriers (Vht mcs mhz short n) = carriers_of_312 mhz
+carriers (He mcs mhz guard n) = carriers_of_78 mhz
+
+-- the data bits in a symbol; a fraction falls away
 abbrev pub bits : Rate → ℕ
-bits r = streams r * slice_index (if r.mhz == 40 then bits_40 else bits_20) (r.mcs % 8)
+bits r = carriers r * streams r * slice_index bits_of_twelve (modulation r) / 12
 
--- the data rate in kbit/s, rounded down: the bits of a symbol every 4 microseconds, or every 3.6 with the
--- short guard interval
+-- a symbol's time in tenths of a microsecond: 4 microseconds with the long guard interval and 3.6
+-- with the short one, and of HE 12.8 and the guard interval
+abbrev pub symbol_tenths : Rate → ℕ
+symbol_tenths (Ht mcs mhz short) = if short then 36 else 40
+symbol_tenths (Vht mcs mhz short n) = if short then 36 else 40
+symbol_tenths (He mcs mhz guard n) = 128 + guard / 100
+
+-- the data rate in kbit/s, rounded down
 abbrev pub kbps : Rate → ℕ
-kbps r = if r.short then 2500 * bits r / 9 else 250 * bits r
+kbps r = 10000 * bits r / symbol_tenths r
 
 -- ---- data
 
@@ -42,44 +113,90 @@ kbps r = if r.short then 2500 * bits r / 9 else 250 * bits r
 abbrev pub service_bits : ℕ
 service_bits = 16
 
--- the tail, in bits, with one encoder (18.4.3, 20.4.3)
+-- the tail of each encoder, in bits (18.4.3, 20.4.3)
 abbrev pub tail_bits : ℕ
 tail_bits = 6
 
--- both, in bits
+-- both, in bits, with one encoder
 abbrev pub service_and_tail_bits : ℕ
 service_and_tail_bits = service_bits + tail_bits
 
--- the symbols of so many octets, with the SERVICE field and the tail; the last one begun counts whole
--- (20.4.3)
+-- the data bits that one encoder of VHT takes at most in a symbol (21.5)
+abbrev pub encoder_bits : ℕ
+encoder_bits = 2160
+
+-- whether a rate of VHT is this one: its width, streams and MCS
+abbrev is_vht_at : (mcs mhz n width streams : ℕ) → ℕ → Bool
+is_vht_at mcs mhz n width streams at = (mhz == width) && ((n == streams) && (mcs == at))
+
+-- how many encoders a rate of VHT has, by the data bits in its symbol (21.5): as few as take the
+-- bits, but for thirteen rates, where each encoder has to have whole blocks of its code in a symbol
+abbrev pub vht_encoders : (mcs mhz n : ℕ) → ℕ → ℕ
+vht_encoders mcs mhz n per_symbol =
+    if is_vht_at mcs mhz n 80 7 2 then 3
+    else (if is_vht_at mcs mhz n 80 7 7 || (is_vht_at mcs mhz n 80 7 8 || (is_vht_at mcs mhz n 80 8 7
+    || (is_vht_at mcs mhz n 160 4 7 || is_vht_at mcs mhz n 160 7 4))) then 6
+    else (if is_vht_at mcs mhz n 160 5 8 || (is_vht_at mcs mhz n 160 6 7
+    || is_vht_at mcs mhz n 160 8 5) then 8
+    else (if is_vht_at mcs mhz n 160 7 7 then 9
+    else (if is_vht_at mcs mhz n 160 7 8 || (is_vht_at mcs mhz n 160 7 9
+    || is_vht_at mcs mhz n 160 8 8) then 12
+    else ceil_div per_symbol encoder_bits))))
+
+-- the encoders of a rate: one of HT and of HE
+abbrev pub encoders : Rate → ℕ
+encoders (Ht mcs mhz short) = 1
+encoders (Vht mcs mhz short n) = vht_encoders mcs mhz n (bits (Vht mcs mhz short n))
+encoders (He mcs mhz guard n) = 1
+
+-- the symbols of so many octets, with the SERVICE field and the tails; the last one begun counts
+-- whole (20.4.3, 21.4.3, 27.4.3)
 abbrev pub symbols : Rate → ℕ → ℕ
-symbols r octets = ceil_div (8 * octets + service_and_tail_bits) (bits r)
+symbols r octets = ceil_div (8 * octets + (service_bits + tail_bits * encoders r)) (bits r)
 
--- a symbol's time with the long guard interval, in microseconds (20.4.3)
-abbrev pub symbol_time : ℕ
-symbol_time = 4
+-- the preamble up to its long training fields, in tenths of a microsecond. HT mixed: L-STF 8
+-- microseconds, L-LTF 8, L-SIG 4, HT-SIG 8 and HT-STF 4 (20.3.7). VHT: the same with VHT-SIG-A and
+-- VHT-STF, and VHT-SIG-B 4 behind the training fields (21.3.2). HE: L-STF 8, L-LTF 8, L-SIG 4,
+-- RL-SIG 4, HE-SIG-A 8 and HE-STF 4 (clause 27)
+abbrev pub preamble_head_tenths : Rate → ℕ
+preamble_head_tenths (Ht mcs mhz short) = 320
+preamble_head_tenths (Vht mcs mhz short n) = 360
+preamble_head_tenths (He mcs mhz guard n) = 360
 
--- the HT mixed preamble up to its HT long training fields, in microseconds: L-STF 8, L-LTF 8, L-SIG 4, HT-SIG
--- 8 and HT-STF 4 (20.3.7)
-abbrev pub preamble_head_time : ℕ
-preamble_head_time = 32
+-- how many long training fields there are for 1, 2 .. 8 streams (clauses 20, 21 and 27)
+abbrev pub training_fields : List ℕ
+training_fields = 1 ∷ 2 ∷ 4 ∷ 4 ∷ 6 ∷ 6 ∷ 8 ∷ 8 ∷ []
 
--- an HT long training field, one for each of one or two streams, in microseconds (20.3.7)
-abbrev pub training_time : ℕ
-training_time = 4
+-- a long training field, in tenths of a microsecond: 4 microseconds of HT and VHT; of HE 6.4, or
+-- 12.8 with the guard interval of 3200, and the guard interval
+abbrev pub training_tenths : Rate → ℕ
+training_tenths (Ht mcs mhz short) = 40
+training_tenths (Vht mcs mhz short n) = 40
+training_tenths (He mcs mhz guard n) = (if guard == 3200 then 128 else 64) + guard / 100
 
--- the preamble's time in microseconds
-abbrev pub preamble_time : Rate → ℕ
-preamble_time r = preamble_head_time + training_time * streams r
+-- the preamble's time in tenths of a microsecond
+abbrev pub preamble_tenths : Rate → ℕ
+preamble_tenths r = preamble_head_tenths r
+    + training_tenths r * slice_index training_fields (streams r - 1)
 
--- how many long symbols' time the payload takes: a symbol with the short guard interval takes 9/10 of a long
--- one, and the last one begun counts whole (20.4.3)
-abbrev pub symbol_slots : Rate → ℕ → ℕ
-symbol_slots r octets = if r.short then ceil_div (9 * symbols r octets) 10 else symbols r octets
+-- a time in tenths of a microsecond, rounded up to whole symbols of 4 microseconds
+abbrev pub whole_symbols : ℕ → ℕ
+whole_symbols tenths = 40 * ceil_div tenths 40
 
--- the time of an aggregate of so many octets, preamble and payload, in microseconds (TXTIME, 20.4.3)
+-- the payload's time in tenths of a microsecond; of HT and VHT it ends with a whole symbol of the
+-- long guard interval (TXTIME: 20.4.3, 21.4.3, 27.4.3)
+abbrev pub payload_tenths : Rate → ℕ → ℕ
+payload_tenths (Ht mcs mhz short) octets = whole_symbols
+    (symbol_tenths (Ht mcs mhz short) * symbols (Ht mcs mhz short) octets)
+payload_tenths (Vht mcs mhz short n) octets = whole_symbols
+    (symbol_tenths (Vht mcs mhz short n) * symbols (Vht mcs mhz short n) octets)
+payload_tenths (He mcs mhz guard n) octets =
+    symbol_tenths (He mcs mhz guard n) * symbols (He mcs mhz guard n) octets
+
+-- the time of an aggregate of so many octets, preamble and payload, in microseconds; of HE rounded
+-- up
 abbrev pub data_time : Rate → ℕ → ℕ
-data_time r octets = preamble_time r + symbol_time * symbol_slots r octets
+data_time r octets = ceil_div (preamble_tenths r + payload_tenths r octets) 10
 
 -- ---- control frames
 
@@ -87,13 +204,18 @@ data_time r octets = preamble_time r + symbol_time * symbol_slots r octets
 abbrev pub control_preamble_time : ℕ
 control_preamble_time = 20
 
+-- an OFDM symbol, in microseconds (18.4.3)
+abbrev pub control_symbol_time : ℕ
+control_symbol_time = 4
+
 -- the data bits in an OFDM symbol at 24 Mbit/s (18.3.2.3)
 abbrev pub control_bits : ℕ
 control_bits = 96
 
--- the time of a control frame of so many octets, in microseconds; the last symbol begun counts whole (18.4.3)
+-- the time of a control frame of so many octets, in microseconds; the last symbol begun counts
+-- whole (18.4.3)
 abbrev pub control_time : ℕ → ℕ
-control_time octets = control_preamble_time + symbol_time * ceil_div
+control_time octets = control_preamble_time + control_symbol_time * ceil_div
     (8 * octets + service_and_tail_bits) control_bits
 
 -- the octets of a frame check sequence (8.2.4.8)
@@ -104,8 +226,8 @@ check_octets = 4
 abbrev pub request_octets : ℕ
 request_octets = 20
 
--- the octets of a BlockAck without its check sequence: that with a bitmap of 8 octets (8.3.1.9), or, for a
--- wide session, this project's own with one of 32
+-- the octets of a BlockAck without its check sequence: that with a bitmap of 8 octets (8.3.1.9),
+-- or, for a wide session, this project's own with one of 32
 abbrev pub block_ack_octets : Bool → ℕ
 block_ack_octets wide = if wide then 52 else 28
 
@@ -131,6 +253,7 @@ longest_answer = sifs + answer_time true
 abbrev pub data_charge : Rate → ℕ → Bool → ℕ
 data_charge r octets wide = data_time r octets + sifs + answer_time wide
 
--- what an exchange of a BlockAckReq is charged, in microseconds: the request, the pause and the BlockAck
+-- what an exchange of a BlockAckReq is charged, in microseconds: the request, the pause and the
+-- BlockAck
 abbrev pub request_charge : Bool → ℕ
 request_charge wide = request_time + sifs + answer_time wide

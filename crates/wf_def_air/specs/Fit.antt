@@ -1,8 +1,8 @@
--- Which frames fit one aggregate (A-MPDU): IEEE 802.11-2012, 8.6.1 (format and padding of subframes) and
--- 9.12.2 (length limit).
+-- Which frames fit one aggregate (A-MPDU): IEEE 802.11-2012, 8.6.1 (format and padding of
+-- subframes) and 9.12.2 (length limit).
 use Rattle.std.specs.Prelude.{ℕ, ◌+◌, ◌*◌, ◌-◌, ◌^◌, nat_le, Bool, ◌&&◌, List, [], ◌∷◌, length}
 use Rattle.wf_def_lists.specs.Table.{ceil_div}
-use Rattle.wf_def_air.specs.Airtime.{Rate, check_octets, data_time}
+use Rattle.wf_def_air.specs.Airtime.{Rate, Ht, Vht, He, check_octets, data_time}
 
 -- the octets of the delimiter before an MPDU (8.6.1)
 abbrev pub delimiter_octets : ℕ
@@ -34,14 +34,22 @@ aggregate_octets [] = 0
 aggregate_octets (len ∷ []) = subframe_octets len
 aggregate_octets (len ∷ next ∷ lens) = padded (subframe_octets len) + aggregate_octets (next ∷ lens)
 
--- the most octets of an aggregate for a receiver's maximum A-MPDU length exponent, 0 to 3 (8.4.2.58.3)
-abbrev pub most_octets : ℕ → ℕ
-most_octets exponent = 2 ^ (13 + exponent) - 1
+-- to what the maximum A-MPDU length exponent that a station states, 0 to 3, is added: of HT 13
+-- (8.4.2.58.3). A receiver of VHT or HE states 0 to 7; that 0 to 3 stand for 4 to 7 there is this
+-- project's own rule
+abbrev pub least_exponent : Rate → ℕ
+least_exponent (Ht mcs mhz short) = 13
+least_exponent (Vht mcs mhz short n) = 17
+least_exponent (He mcs mhz guard n) = 17
 
--- whether frames of these body lengths fit one aggregate: at most `most` of them, within the length, and
--- within `cap` microseconds of data time
+-- the most octets of an aggregate at a rate, for a receiver's exponent
+abbrev pub most_octets : Rate → ℕ → ℕ
+most_octets rate exponent = 2 ^ (least_exponent rate + exponent) - 1
+
+-- whether frames of these body lengths fit one aggregate: at most `most` of them, within the
+-- length, and within `cap` microseconds of data time
 abbrev pub fits : Rate → ℕ → ℕ → ℕ → List ℕ → Bool
 fits rate exponent most cap lens =
     nat_le (length lens) most
-    && (nat_le (aggregate_octets lens) (most_octets exponent)
+    && (nat_le (aggregate_octets lens) (most_octets rate exponent)
     && nat_le (data_time rate (aggregate_octets lens)) cap)

@@ -1,16 +1,15 @@
 -- The longest front of a list that fits is what is chosen one at a time. This module is for other crates'
 -- proofs too.
-use Rattle.std.proofs.Common.{◌≡◌, refl, sym, ap, ◌∙◌, subst, arith, ℕ, zero, suc, ◌+◌, ◌-◌, ◌*◌, ◌/◌, ◌^◌, ◌<◌, ◌≤◌, Bool, true, false, if◌then◌else◌, List, [], ◌∷◌, ◌++◌, append_assoc, take, map, length, inl, inr, ◌⊎◌}
+use Rattle.std.proofs.Common.{◌≡◌, refl, sym, ap, ◌∙◌, subst, arith, ℕ, zero, suc, ◌+◌, ◌-◌, ◌<◌, ◌≤◌, Bool, true, false, if◌then◌else◌, List, [], ◌∷◌, ◌++◌, append_assoc, take, map, length, inl, inr, ◌⊎◌}
 use Rattle.std.specs.Prelude.{nat_le}
 use Rattle.std.proofs.lemmas.Bool.{cases_Bool, cases_lt, and_parts, and_from, le-leb, leb-true}
 use Rattle.std.proofs.lemmas.List.{length-append}
 use Rattle.std.proofs.Math.Seq.{take-append_seam, take-append-add}
-use Rattle.std.proofs.Math.Nat.{div-zero, div-mul-le_self}
-use Rattle.std.proofs.lemmas.Nat.{le-div}
 use Rattle.std.proofs.lemmas.List.{map-append}
-use Rattle.wf_def_lists.specs.Table.{ceil_div, greatest_upto, longest_front}
-use Rattle.wf_def_air.specs.Airtime.{Rate, bits, symbols, preamble_time, symbol_time, data_time}
-use Rattle.wf_def_air.specs.Fit.{aggregate_octets, fits}
+use Rattle.wf_def_lists.specs.Table.{greatest_upto, longest_front}
+use Rattle.wf_def_air.specs.Airtime.{Rate, data_time}
+use Rattle.wf_def_air.specs.Fit.{most_octets, aggregate_octets, fits}
+use Rattle.wf_def_air.proofs.Times.{time_less}
 use Rattle.wf_def_world.specs.World.{World, Mpdu, station}
 use Rattle.wf_def_world.specs.Exchanges.{most_frames, fits_in, longest_fitting}
 
@@ -102,41 +101,23 @@ module _ {X : Type 0} (test : List X → Bool) (chosen : List X)
 
 -- ---- what fits an aggregate, the fronts of it fit too
 
-div_less : (x y k : ℕ) → x ≤ y → x / k ≤ y / k
-div_less x y zero h = rw (div-zero x, div-zero y) (omega arith)
-div_less x y (suc k) h = le-div (x / suc k) y (suc k) (omega arith)
-    (omega (arith, div-mul-le_self x (suc k), h))
-
 octets_front : (xs ys : List ℕ) → aggregate_octets xs ≤ aggregate_octets (xs ++ ys)
 octets_front [] ys = omega arith
 octets_front (x ∷ []) [] = omega arith
 octets_front (x ∷ []) (y ∷ ys) = omega arith
 octets_front (x ∷ z ∷ xs) ys = omega (arith, octets_front (z ∷ xs) ys)
 
-time_less : (r : Rate) (a b : ℕ) → a ≤ b → data_time r a ≤ data_time r b
-time_less r a b h = go r.short
-  where
-    fewer : symbols r a ≤ symbols r b
-    fewer = div_less (8 * a + 22 + (bits r - 1)) (8 * b + 22 + (bits r - 1)) (bits r) (omega (arith, h))
-
-    time : Bool → ℕ → ℕ
-    time short n = preamble_time r + symbol_time * (if short then ceil_div (9 * n) 10 else n)
-
-    go : (short : Bool) → time short (symbols r a) ≤ time short (symbols r b)
-    go true = omega (arith, fewer)
-    go false = omega (arith, fewer)
-
 pub fits_closed : (r : Rate) (x most cap : ℕ) (xs ys : List ℕ) → fits r x most cap (xs ++ ys) ≡ true →
     fits r x most cap xs ≡ true
 fits_closed r x most cap xs ys h =
     let few = and_parts (nat_le (length (xs ++ ys)) most) _ h in
-    let rest = and_parts (nat_le (aggregate_octets (xs ++ ys)) (2 ^ (13 + x) - 1)) _ few.1 in
+    let rest = and_parts (nat_le (aggregate_octets (xs ++ ys)) (most_octets r x)) _ few.1 in
     let octets : aggregate_octets xs ≤ aggregate_octets (xs ++ ys) = octets_front xs ys in
     and_from (nat_le (length xs) most) _ (le-leb (length xs) most
     (omega (arith, leb-true (length (xs ++ ys)) most few.0, length-append xs ys)))
-    (and_from (nat_le (aggregate_octets xs) (2 ^ (13 + x) - 1)) _
-    (le-leb (aggregate_octets xs) (2 ^ (13 + x) - 1)
-    (omega (arith, leb-true (aggregate_octets (xs ++ ys)) (2 ^ (13 + x) - 1) rest.0, octets)))
+    (and_from (nat_le (aggregate_octets xs) (most_octets r x)) _
+    (le-leb (aggregate_octets xs) (most_octets r x)
+    (omega (arith, leb-true (aggregate_octets (xs ++ ys)) (most_octets r x) rest.0, octets)))
     (le-leb (data_time r (aggregate_octets xs)) cap
     (omega (
       arith,

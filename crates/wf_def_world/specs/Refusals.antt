@@ -1,6 +1,6 @@
 -- When a call is refused: each call has rows, a test and a refusal in each, and the first row whose
 -- test holds refuses it.
-use Rattle.std.specs.Prelude.{ℕ, ◌+◌, ◌==◌, nat_lt, nat_le, pos, ◌-ℤ◌, int_lt, Bool, false, not, ◌&&◌, ◌||◌, List, [], ◌∷◌, Option, Some, None, is_some, is_none, if◌then◌else◌, length, count_by}
+use Rattle.std.specs.Prelude.{ℕ, ◌+◌, ◌==◌, nat_lt, nat_le, pos, ◌-ℤ◌, int_lt, Bool, false, not, ◌&&◌, List, [], ◌∷◌, Option, Some, None, is_some, is_none, if◌then◌else◌, length, count_by}
 use Rattle.std.specs.List.{list_any}
 use Rattle.wf_frame.specs.declared.classes.Class.{Class}
 use Rattle.wf_frame.specs.declared.notes.Ask.{Ask}
@@ -10,7 +10,8 @@ use Rattle.wf_frame.specs.declared.notes.Note.TheVariants.{Enqueue, Asked}
 use Rattle.wf_frame.specs.declared.notes.Refusal.{Refusal}
 use Rattle.wf_frame.specs.declared.notes.Refusal.TheVariants.{BadStation, BadWindow, BadStart, BadExponent, BadRate, BadTick, BadTid, BadAir, BadIndex, Live, NoStation, NoExchange, NoAnswer, StillOpen, Room, Sleeping, Full, Idle, Answered, Arrived, Nothing, Asleep, Awake, Polled, Debt, BadWeight}
 use Rattle.wf_def_lists.specs.Table.{has, upto}
-use Rattle.wf_def_lists.specs.Bounds.{greatest_window, greatest_start, greatest_exponent, greatest_weight, greatest_mcs, greatest_tid, greatest_tick, greatest_air, deepest_deficit}
+use Rattle.wf_def_lists.specs.Bounds.{greatest_window, greatest_start, greatest_exponent, greatest_weight, greatest_tid, greatest_tick, greatest_air, deepest_deficit}
+use Rattle.wf_def_air.specs.Airtime.{Ht, is_rate}
 use Rattle.wf_def_world.specs.World.{World, Exchange, station, is_live, inside, share, exchange}
 use Rattle.wf_frame.specs.Classes.{same_class, lower_tid, upper_tid, class_of}
 use Rattle.wf_def_world.specs.FlowQueues.{frames_queued}
@@ -66,7 +67,7 @@ refusals_of w (Leave s) = (
     (is_bad_station w s, BadStation) ∷ (not (is_live w s), NoStation) ∷
     (nat_lt 0 (open_of_station w s), StillOpen (open_of_station w s)) ∷ [])
 refusals_of w (Rate s mcs mhz short) = (
-    (is_bad_station w s, BadStation) ∷ (nat_lt greatest_mcs mcs || not ((mhz == 20) || (mhz == 40)), BadRate)
+    (is_bad_station w s, BadStation) ∷ (not (is_rate (Ht mcs mhz short)), BadRate)
     ∷ (not (is_live w s), NoStation) ∷ [])
 refusals_of w (Tick by) = ((nat_lt greatest_tick by, BadTick) ∷ [])
 refusals_of w (Pull c) = (

@@ -12,7 +12,7 @@ use Rattle.wf_frame.specs.declared.notes.Refusal.TheVariants.{Idle}
 use Rattle.wf_frame.specs.declared.notes.ReplyNote.{ReplyNote}
 use Rattle.wf_frame.specs.declared.notes.ReplyNote.TheVariants.{Joined, Gone, RateSet, Ticked, Accepted, Send, Released, Ba, Ended, Slept, Woken, Credited, Charged, Reaped, Refused}
 use Rattle.wf_def_lists.specs.Table.{upto, with_member}
-use Rattle.wf_def_air.specs.Airtime.{lowest_rate}
+use Rattle.wf_def_air.specs.Airtime.{Ht, lowest_rate}
 use Rattle.wf_def_codel.specs.Codel.{Item}
 use Rattle.wf_def_rotation.specs.Rotation.{in_order, without_key, no_keys}
 use Rattle.wf_def_agreement.specs.Session.{Slot, State, is_acknowledged, is_waiting, is_failed}
@@ -94,7 +94,7 @@ leave_outcome w s =
 unfoldable pub rate_outcome : World → ℕ → ℕ → ℕ → Bool → Outcome
 rate_outcome w s mcs mhz short =
     record {
-      world = on_station w s (λ x. record x { rate = record { mcs = mcs; mhz = mhz; short = short } });
+      world = on_station w s (λ x. record x { rate = Ht mcs mhz short });
       reply = RateSet;
     }
 

@@ -1,17 +1,12 @@
 -- What stays in its range, after every entry of every run.
-use Rattle.std.specs.Prelude.{◌≡◌, ℕ, ◌<◌, ◌≤◌, true, ◌⊎◌, List, IfSome}
+use Rattle.std.specs.Prelude.{◌≡◌, ℕ, ◌<◌, ◌≤◌, true, List, IfSome}
 use Rattle.wf_frame.specs.declared.settings.Config.{Config}
-use Rattle.wf_def_air.specs.Airtime.{Rate}
+use Rattle.wf_def_air.specs.Airtime.{IsRate}
 use Rattle.wf_def_codel.specs.Codel.{Codel, greatest_count}
-use Rattle.wf_def_lists.specs.Bounds.{greatest_window, greatest_exponent, greatest_weight, greatest_mcs}
+use Rattle.wf_def_lists.specs.Bounds.{greatest_window, greatest_exponent, greatest_weight}
 use Rattle.wf_def_world.specs.World.{World, station, session, receiver, queue, is_live}
 use Rattle.wf_def_world.specs.Run.{Entry}
 use Rattle.wf_def_world.specs.Stretches.{world_at}
-
--- a rate of one or two streams, on 20 or 40 MHz
-pub record IsRate (r : Rate) : Type 0 where
-  pub mcs : r.mcs ≤ greatest_mcs
-  pub mhz : (r.mhz ≡ 20) ⊎ (r.mhz ≡ 40)
 
 -- a live station
 pub record IsStation (config : Config) (w : World) (s : ℕ) : Type 0 where

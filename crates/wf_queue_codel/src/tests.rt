@@ -283,7 +283,7 @@ fn steps_and_parameters(rt: HostRuntime) {
     let lowest = Rate::lowest();
     assert_eq!(rt; Params::of(lowest), SLOW);
     for (mcs, short, params) in [(0, true, SLOW), (1, false, FAST), (1, true, FAST)] {
-        let rate = Rate::new(mcs, 20, short).expect(&rt, "a rate");
+        let rate = Rate::ht(mcs, 20, short).expect(&rt, "a rate");
         assert_eq!(rt; Params::of(rate), params, "at {mcs}");
     }
 }

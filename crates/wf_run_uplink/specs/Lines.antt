@@ -9,6 +9,7 @@ use Rattle.wf_trace.specs.declared.fault.FaultKind.TheVariants as kind
 use Rattle.wf_trace.specs.Grammar.{read_args, result_seen, short_most}
 use Rattle.wf_trace.specs.Notes.{long_at, guard_at}
 use Rattle.wf_def_lists.specs.Bounds.{greatest_mcs, greatest_tick}
+use Rattle.wf_def_air.specs.Airtime.{Ht}
 use Rattle.wf_script.specs.Scripts.{Grammar, Script, script}
 use Rattle.wf_run_uplink.specs.declared.event.Event.{Event}
 use Rattle.wf_run_uplink.specs.declared.event.Event.TheVariants as event
@@ -44,7 +45,7 @@ open_meant words = result_seen opening_of (read_args open_args words)
 
 abbrev pub rate_of : List Value → Event
 rate_of values = event.Rate (long_at values 0)
-    (record { mcs = long_at values 1; mhz = long_at values 2; short = guard_at values 3 })
+    (Ht (long_at values 1) (long_at values 2) (guard_at values 3))
 
 -- the channel's width is a word, `20` or `40`, and is judged as one
 abbrev pub rate_args : List Arg

@@ -67,7 +67,7 @@ fn rate(values: &[Value]) -> Event
 {
     let mcs = long_at(values, 1) as u8;
     let mhz = long_at(values, 2) as u8;
-    let rate = Rate::new(mcs, mhz, is_short(values)).unwrap_or(Rate::lowest());
+    let rate = Rate::ht(mcs, mhz, is_short(values)).unwrap_or(Rate::lowest());
     Event::Rate {
         station: long_at(values, 0) as u16,
         rate,

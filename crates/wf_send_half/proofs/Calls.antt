@@ -9,7 +9,7 @@ use Rattle.wf_frame.specs.declared.notes.Ask.TheVariants.{Join, Rate as Rates, T
 use Rattle.wf_frame.specs.declared.notes.ReplyNote.TheVariants.{Joined, RateSet, Ticked, Slept, Woken, Credited, Charged, Reaped, Refused}
 use Rattle.wf_frame.specs.declared.notes.Refusal.TheVariants.{Debt, Nothing}
 use Rattle.wf_frame.specs.Frames.{FrameValue}
-use Rattle.wf_def_air.specs.Airtime.{Rate}
+use Rattle.wf_def_air.specs.Airtime.{Rate, Ht}
 use Rattle.wf_def_lists.specs.Bounds.{deepest_deficit}
 use Rattle.wf_def_world.specs.World.{World, is_live, share}
 use Rattle.wf_def_world.specs.Refusals.{refusal}
@@ -66,13 +66,13 @@ module _ (v x : TransmitValue) (same : x ≡ v) (w : World) (bodies : ℕ → Fr
       (tick_meets x w bodies at_x by (sym done))
 
   pub rate_done : (s mcs mhz : ℕ) (short : Bool) (members : List (Option Member)) (rate : Rate) →
-      rate ≡ record { mcs = mcs; mhz = mhz; short = short } →
+      rate ≡ Ht mcs mhz short →
       members ≡ on_member x.members s (with_rate rate) → None ≡ refusal w (Asked (Rates s mcs mhz short)) →
       Meets w bodies (Asked (Rates s mcs mhz short)) (record x { members = members }) RateSet
   rate_done s mcs mhz short members rate is e done =
       met_by (record x {
         members = on_member x.members s
-            (with_rate (record { mcs = mcs; mhz = mhz; short = short }));
+            (with_rate (Ht mcs mhz short));
       })
       (record x { members = members }) w bodies (Asked (Rates s mcs mhz short)) RateSet
       (ap (λ (m : List (Option Member)). record x { members = m })

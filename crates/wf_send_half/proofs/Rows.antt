@@ -1,7 +1,6 @@
 -- The rows of a refusal, one after the other: a test of the half refuses where the world's test does.
-use Rattle.std.proofs.Common.{◌≡◌, refl, ap, sym, ◌∙◌, ℕ, Bool, true, false, not, ◌||◌, ◌==◌, nat_lt, pos, ◌-ℤ◌, arith, List, [], ◌∷◌, ◌++◌, Option, Some, None, if◌then◌else◌, is_some}
+use Rattle.std.proofs.Common.{◌≡◌, refl, ap, sym, ◌∙◌, ℕ, Bool, true, false, not, pos, ◌-ℤ◌, List, [], ◌∷◌, ◌++◌, Option, Some, None, if◌then◌else◌, is_some}
 use Rattle.std.specs.Prelude.{nat_le, int_lt, Result, Ok, Err, IfOk, IfErr}
-use Rattle.std.proofs.lemmas.Bool.Decides.{nat_tests}
 use Rattle.wf_frame.specs.Frames.{FrameValue}
 use Rattle.wf_frame.specs.declared.settings.Config.{Config}
 use Rattle.wf_frame.specs.declared.notes.Note.{Note}
@@ -10,8 +9,7 @@ use Rattle.wf_frame.specs.declared.notes.Refusal.TheVariants.{Idle, BadStation, 
 use Rattle.wf_frame.specs.declared.notes.Note.TheVariants.{Asked}
 use Rattle.wf_frame.specs.declared.notes.Ask.TheVariants.{Rx}
 use Rattle.wf_frame.specs.declared.classes.Class.{Class}
-use Rattle.wf_def_lists.specs.Bounds.{greatest_mcs, greatest_air, deepest_deficit}
-use Rattle.wf_air_time.specs.Rates.{IsRateOfCode, IsNoRate}
+use Rattle.wf_def_lists.specs.Bounds.{greatest_air, deepest_deficit}
 use Rattle.std.specs.Result.{result_err}
 use Rattle.wf_frame.specs.declared.notes.ReplyNote.TheVariants.{Refused}
 use Rattle.wf_def_world.specs.World.{World, is_live, station, share}
@@ -140,20 +138,11 @@ pub refused_call : (v : TransmitValue) (w : World) (bodies : ℕ → FrameValue)
 refused_call v w bodies note r none h is = refused_meets v w bodies note r h (sym is)
     (not_idle (refusals w note) none r is)
 
--- ---- rows of a rate and of a receive charge
+-- ---- rows of a receive charge
 
 pub no_row_left : None ≡ first_refusal []
 unfolding first_refusal
 no_row_left = refl
-
-abbrev bad_rate : ℕ → ℕ → Bool
-bad_rate mcs mhz = nat_lt greatest_mcs mcs || not ((mhz == 20) || (mhz == 40))
-
-pub no_rate_is : (mcs mhz : ℕ) → IsNoRate mcs mhz → bad_rate mcs mhz ≡ true
-no_rate_is mcs mhz h = grind (arith, nat_tests, h)
-
-pub rate_is : (mcs mhz : ℕ) → IsRateOfCode mcs mhz → bad_rate mcs mhz ≡ false
-rate_is mcs mhz h = grind (arith, nat_tests, h)
 
 -- the last check of a receive charge: who is not live is refused, and else the debt is still to be looked at
 module _ (result : Result (Unit {0}) Refusal) (v : TransmitValue) (s : ℕ) (c : Class) (air : ℕ)

@@ -1,12 +1,13 @@
 //! When the calls are refused: each for the first reason that holds, in the order of the machine.
 
-ghost use Rattle.std.specs.Prelude.{◌≡◌, ◌<◌, ◌≤◌, ◌==◌, ◌||◌, nat_lt, ℕ, ◌-ℤ◌, pos, int_lt, true, false, [], ◌∷◌, None, Some, is_some, not, find, IfOk, IfErr, if◌then◌else◌, nat_le};
+ghost use Rattle.std.specs.Prelude.{◌≡◌, ◌<◌, ◌≤◌, ℕ, ◌-ℤ◌, pos, int_lt, true, false, [], ◌∷◌, None, Some, is_some, not, find, IfOk, IfErr, if◌then◌else◌, nat_le};
 ghost use Rattle.wf_frame.specs.Frames.{FrameValue};
 ghost use Rattle.wf_frame.specs.declared.notes.Ask.TheVariants.{Join, Rate as Rates, Tick, Sleep, Wake, Poll, Rx};
 ghost use Rattle.wf_frame.specs.declared.notes.Note.TheVariants.{Asked};
 ghost use Rattle.wf_frame.specs.declared.notes.Refusal.TheVariants.{BadRate, BadStation, NoStation, Debt};
 ghost use Rattle.wf_frame.specs.declared.classes.Class.TheVariants.{Bk, Be, Vi, Vo};
-ghost use Rattle.wf_def_lists.specs.Bounds.{greatest_mcs, deepest_deficit};
+ghost use Rattle.wf_def_lists.specs.Bounds.{deepest_deficit};
+ghost use Rattle.wf_def_air.specs.Airtime.{Ht, is_rate};
 ghost use Rattle.wf_def_world.specs.World.{World, share};
 ghost use Rattle.wf_def_world.specs.Refusals.{refusal, is_within};
 ghost use Rattle.wf_def_world.specs.Step.{class_to_send};
@@ -55,11 +56,10 @@ pub(crate) fn refuse_where(condition: bool, reason: Refusal) -> Result<(), Refus
 
 // The rate of an MCS, a width in MHz and a guard interval.
 fn rate_of(mcs: u8, mhz: u8, short: bool) -> Result<Rate, Refusal>
-    ensures refused { result_err result ≡ (if nat_lt greatest_mcs mcs || not ((mhz == 20) || (mhz == 40))
-        then Some BadRate else None) }
-    ensures rate { IfOk result (λ rate. rate ≡ record { mcs = mcs; mhz = mhz; short = short }) }
+    ensures refused { result_err result ≡ (if not (is_rate (Ht mcs mhz short)) then Some BadRate else None) }
+    ensures rate { IfOk result (λ rate. rate ≡ Ht mcs mhz short) }
 {
-    match Rate::new(mcs, mhz, short) {
+    match Rate::ht(mcs, mhz, short) {
         Ok(rate) => Ok(rate),
         Err(_) => Err(Refusal::BadRate),
     }
@@ -156,7 +156,7 @@ impl Transmit {
     ) -> Result<Rate, Refusal>
         ensures refused { (w : World) (bodies : ℕ → FrameValue) → StandsFor self.now w bodies →
             result_err result ≡ refusal w (Asked (Rates station mcs mhz short)) }
-        ensures rate { IfOk result (λ rate. rate ≡ record { mcs = mcs; mhz = mhz; short = short }) }
+        ensures rate { IfOk result (λ rate. rate ≡ Ht mcs mhz short) }
         ensures within { IfOk result (λ _. station < self.now.config.stations) }
     {
         self.in_range(station)?;

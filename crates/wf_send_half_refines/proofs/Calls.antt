@@ -3,7 +3,7 @@ use Rattle.std.proofs.Common.{◌≡◌, refl, ap, sym, ◌∙◌, subst, arith,
 use Rattle.std.proofs.lemmas.List.Elements.{All-rest}
 use Rattle.wf_frame.specs.declared.classes.Class.{Class}
 use Rattle.wf_frame.specs.Frames.{FrameValue}
-use Rattle.wf_def_air.specs.Airtime.{Rate}
+use Rattle.wf_def_air.specs.Airtime.{Rate, Ht}
 use Rattle.wf_def_world.specs.World.{World, Share, on_share}
 use Rattle.wf_def_world.specs.Step.{class_to_send, tick_outcome, rate_outcome, sleep_outcome, wake_outcome, poll_outcome, rx_outcome, reap_outcome}
 use Rattle.wf_law_runs.proofs.Deficits.Books.{updc, updc_idle}
@@ -50,12 +50,12 @@ module _ (v : TransmitValue) (w : World) (bodies : ℕ → FrameValue) (s : ℕ)
   pub rate_parts : (mcs mhz : ℕ) (short : Bool) →
       Parts (record v {
         members = on_member v.members s
-            (with_rate (record { mcs = mcs; mhz = mhz; short = short }));
+            (with_rate (Ht mcs mhz short));
       })
       (rate_outcome w s mcs mhz short).world bodies
   unfolding rate_outcome
   rate_parts mcs mhz short =
-      let rate : Rate = record { mcs = mcs; mhz = mhz; short = short } in
+      let rate : Rate = Ht mcs mhz short in
       station_parts v w bodies s (λ x. record x { rate = rate }) (λ x. record x { rate = rate })
       (on_member v.members s (with_rate rate)) v.sleepers v.sched
       (λ x. refl) (λ x. refl) (rate_leaves w s mcs mhz short v.sched h.others.turns)

@@ -13,6 +13,7 @@ use Rattle.wf_frame.specs.declared.notes.ReplyNote.TheVariants.{Joined, RateSet,
 use Rattle.wf_frame.specs.Classes.{lower_tid, upper_tid}
 use Rattle.wf_frame.specs.Frames.{FrameValue}
 use Rattle.wf_def_rotation.specs.Rotation.{Rotation, has_key}
+use Rattle.wf_def_air.specs.Airtime.{Ht}
 use Rattle.wf_def_world.specs.World.{World, Exchange, rotation, is_live, exchange, on_station, on_tid, on_receiver, on_share, with_station, with_exchange}
 use Rattle.wf_def_world.specs.CanSend.{has_credit, is_ready, with_listings_of}
 use Rattle.wf_def_world.specs.Refusals.{refusal, refusals}
@@ -127,7 +128,7 @@ module _ (v : TransmitValue) (w : World) (bodies : ℕ → FrameValue) (h : Stan
       Meets w bodies (Asked (Rate s mcs mhz short))
       (record v {
         members = on_member v.members s
-            (with_rate (record { mcs = mcs; mhz = mhz; short = short }));
+            (with_rate (Ht mcs mhz short));
       }) RateSet
   unfolding outcome_of
   rate_meets s mcs mhz short done =
@@ -138,12 +139,12 @@ module _ (v : TransmitValue) (w : World) (bodies : ℕ → FrameValue) (h : Stan
       rated : s < w.config.stations → Meets w bodies (Asked (Rate s mcs mhz short))
           (record v {
             members = on_member v.members s
-                (with_rate (record { mcs = mcs; mhz = mhz; short = short }));
+                (with_rate (Ht mcs mhz short));
           }) RateSet
       rated low =
           let x : TransmitValue = record v {
             members = on_member v.members s
-                (with_rate (record { mcs = mcs; mhz = mhz; short = short }));
+                (with_rate (Ht mcs mhz short));
           } in
           let k : Parts x (rate_outcome w s mcs mhz short).world bodies =
           rate_parts v w bodies s low h.parts mcs mhz short in
@@ -151,7 +152,7 @@ module _ (v : TransmitValue) (w : World) (bodies : ℕ → FrameValue) (h : Stan
           (rate_reply w s mcs mhz short)
           (idle_meets x w bodies (Asked (Rate s mcs mhz short)) h.reached tt tt done k s refl
           (same_listed v x w (rate_outcome w s mcs mhz short).world bodies s h.reached h.parts k
-          (same_ready v s (with_rate (record { mcs = mcs; mhz = mhz; short = short })) v.sched
+          (same_ready v s (with_rate (Ht mcs mhz short)) v.sched
           (sized s low)) (rate_lists w s mcs mhz short)))
 
   pub rx_meets : (s : ℕ) (c : Class) (air : ℕ) → refusal w (Asked (Rx s c air)) ≡ None →

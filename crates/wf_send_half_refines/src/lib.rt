@@ -25,7 +25,7 @@ ghost use Rattle.wf_frame.specs.declared.notes.Refusal.TheVariants.{Idle, Full};
 ghost use Rattle.wf_frame.specs.declared.notes.ReplyNote.TheVariants.{Accepted, Ended, Gone, Joined, RateSet, Ticked, Slept, Woken, Credited, Charged, Reaped, Refused, Send};
 ghost use Rattle.wf_frame.specs.declared.settings.Config.{Config};
 ghost use Rattle.wf_frame.specs.declared.notes.Part.TheVariants.{Mpdus, Request as Starts};
-ghost use Rattle.wf_def_air.specs.Airtime.{Rate as RateValue, data_charge, request_charge};
+ghost use Rattle.wf_def_air.specs.Airtime.{Rate as RateValue, Ht, data_charge, request_charge};
 ghost use Rattle.wf_def_codel.specs.Codel.{Params};
 ghost use Rattle.wf_def_codel.specs.Parameters.{params_at};
 ghost use Rattle.wf_def_air.specs.Fit.{fits, aggregate_octets};
@@ -232,7 +232,7 @@ pub fn a_call_that_moves_no_frame()
         Meets w bodies (Asked (Rate s mcs mhz short))
         (record v {
           members = on_member v.members s
-              (with_rate (record { mcs = mcs; mhz = mhz; short = short }));
+              (with_rate (Ht mcs mhz short));
         }) RateSet }
     ensures rx { (v : TransmitValue) (w : World) (bodies : ℕ → FrameValue) → StandsFor v w bodies →
         (s : ℕ) (c : Class) (air : ℕ) →

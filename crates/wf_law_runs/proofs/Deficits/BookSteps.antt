@@ -6,7 +6,7 @@ use Rattle.std.proofs.lemmas.Bool.{cases_Bool, cases_eq}
 use Rattle.wf_frame.specs.declared.classes.Class.{Class}
 use Rattle.wf_frame.specs.declared.classes.Class.TheVariants.{Bk, Be, Vi, Vo}
 use Rattle.wf_def_lists.specs.Table.{at}
-use Rattle.wf_def_air.specs.Airtime.{lowest_rate}
+use Rattle.wf_def_air.specs.Airtime.{Ht, lowest_rate}
 use Rattle.wf_def_codel.specs.Codel.{Item}
 use Rattle.wf_def_rotation.specs.Rotation.{without_key, in_order, Picked}
 use Rattle.wf_def_world.specs.World.{World, Station, Share, Exchange, Mpdu, Content, Frames, Request, no_share, no_station, rotation, quantum, with_rotation, without_exchange}
@@ -233,7 +233,7 @@ unfolding poll_outcome
 books_credited w s = books_hidden w s _ (λ x. refl)
 
 abbrev pub rated : ℕ → ℕ → Bool → Account → Account
-rated mcs mhz short a = record a { rate = record { mcs = mcs; mhz = mhz; short = short } }
+rated mcs mhz short a = record a { rate = Ht mcs mhz short }
 
 pub books_with_rate : (w : World) (s mcs mhz : ℕ) (short : Bool) →
     books (rate_outcome w s mcs mhz short).world

@@ -6,7 +6,7 @@ use Rattle.wf_frame.specs.declared.classes.Class.{Class}
 use Rattle.wf_frame.specs.declared.classes.Class.TheVariants.{Bk, Be, Vi, Vo}
 use Rattle.wf_def_lists.specs.Table.{has}
 use Rattle.wf_def_rotation.specs.Rotation.{Rotation, without_key, with_new_key, has_key, in_order, Picked, need_of}
-use Rattle.wf_def_lists.specs.Bounds.{greatest_mcs}
+use Rattle.wf_def_air.specs.Airtime.{IsRate}
 use Rattle.wf_def_world.specs.World.{Exchange}
 use Rattle.wf_frame.specs.Classes.{class_number, same_class}
 use Rattle.wf_frame.specs.Settings.{IsInRange}
@@ -28,7 +28,7 @@ pub record IsOpen (b : Books) (x : Exchange) : Type 0 where
 -- a live station's account
 pub record IsGood (config : Config) (opened : List Exchange) (s : ℕ) (a : Account) : Type 0 where
   pub weight : 0 < a.weight
-  pub mcs : a.rate.mcs ≤ greatest_mcs
+  pub rate : IsRate a.rate
   pub bounds : (c : Class) → IsBounded config (owed s c opened) a.weight (a.shares c)
 
 pub record IsKept (b : Books) : Type 0 where
@@ -179,7 +179,7 @@ kept_fresh b s weight i some = record {
   goods = each_upd (λ y o. IfSome o (IsGood b.config b.opened y)) b.accounts s _ i.goods
       (record {
         weight = some;
-        mcs = omega arith;
+        rate = refl;
         bounds =
             λ c. bounded_fresh b.config (owed s c b.opened) weight (omega (arith, i.range.quantum.0)) some
             (owed_kept b i s c);
@@ -270,7 +270,7 @@ kept_opened b x i is number charge some room above = record {
   goods = λ s. if_same (IsGood b.config b.opened s) (IsGood b.config (b.opened ++ core x ∷ []) s)
       (b.accounts s) (i.goods s) (λ a e good. record {
         weight = good.weight;
-        mcs = good.mcs;
+        rate = good.rate;
         bounds =
             bound s a e good;
       });
@@ -351,14 +351,14 @@ kept_ended b x e i found = record {
       (λ s. if_same (IsGood b.config b.opened s) (IsGood b.config (without b e).opened s) (b.accounts s)
       (i.goods s) (λ a _ good. record {
         weight = good.weight;
-        mcs = good.mcs;
+        rate = good.rate;
         bounds = λ c. less s c a (good.bounds c);
       }))
       (if_map (IsGood b.config b.opened x.station) (IsGood b.config (without b e).opened x.station)
       (on_part x.class (charge_share x.charge)) (b.accounts x.station) (i.goods x.station)
       (λ a _ good. record {
         weight = good.weight;
-        mcs = good.mcs;
+        rate = good.rate;
         bounds = each_updc (λ c z. IsBounded b.config (owed x.station c (without b e).opened) a.weight z)
             a.shares x.class (charge_share x.charge (a.shares x.class))
             (λ c. less x.station c a (good.bounds c))
@@ -431,7 +431,7 @@ kept_after b c p i k = kept_lists (all_paid b c p.quanta (in_order (b.rotations 
           (paid b.config.quantum c (on (in_order (b.rotations c)) s * p.quanta s)) (b.accounts s) (i.goods s)
           (λ a e good. record {
             weight = good.weight;
-            mcs = good.mcs;
+            rate = good.rate;
             bounds = each_updc (λ d z. IsBounded b.config (owed s d b.opened) a.weight z) a.shares c _ good.bounds
                 (let need : p.quanta s ≤ need_of (b.config.quantum * a.weight) (a.shares c).deficit =
                 subst (λ (o : Option Account). IfSome o (λ a. p.quanta s

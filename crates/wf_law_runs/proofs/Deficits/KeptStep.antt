@@ -1,7 +1,7 @@
 -- Each call keeps the books.
-use Rattle.std.proofs.Common.{◌≡◌, ◌≢◌, refl, ap, sym, ◌∙◌, subst, arith, ℕ, ◌+◌, ◌*◌, ◌<◌, ◌≤◌, ℤ, pos, ◌-ℤ◌, ◌≤ℤ◌, Bool, true, false, if◌then◌else◌, cond, List, [], ◌∷◌, Option, Some, None, is_some, IfSome, unwrap_or, option_map, not, ◌&&◌, ◌||◌, map, find, nat_lt, int_lt, zero-add, ◌==◌, count_by, nat_le}
+use Rattle.std.proofs.Common.{◌≡◌, ◌≢◌, refl, ap, sym, ◌∙◌, subst, arith, ℕ, ◌+◌, ◌*◌, ◌<◌, ◌≤◌, ℤ, pos, ◌-ℤ◌, ◌≤ℤ◌, Bool, true, false, if◌then◌else◌, cond, List, [], ◌∷◌, Option, Some, None, is_some, IfSome, unwrap_or, option_map, not, ◌&&◌, map, find, nat_lt, int_lt, zero-add, ◌==◌, count_by, nat_le}
 use Rattle.std.proofs.lemmas.Int.{ints}
-use Rattle.std.proofs.lemmas.Bool.{eqb-true, eqb-false, and_parts, or_parts, not-true, not-false, leb-true}
+use Rattle.std.proofs.lemmas.Bool.{eqb-true, eqb-false, and_parts, not-true, not-false, leb-true}
 use Rattle.std.proofs.lemmas.List.Sums.{sum_by-cons}
 use Rattle.wf_frame.specs.declared.settings.Config.{Config}
 use Rattle.wf_frame.specs.declared.classes.Class.{Class}
@@ -12,7 +12,8 @@ use Rattle.wf_frame.specs.declared.notes.Refusal.{Refusal}
 use Rattle.wf_frame.specs.declared.notes.Refusal.TheVariants.{Idle}
 use Rattle.wf_def_lists.specs.Table.{at}
 use Rattle.wf_def_rotation.specs.Rotation.{with_new_key, has_key, need_of}
-use Rattle.wf_def_lists.specs.Bounds.{greatest_mcs, greatest_air, deepest_deficit}
+use Rattle.wf_def_lists.specs.Bounds.{greatest_air, deepest_deficit}
+use Rattle.wf_def_air.specs.Airtime.{IsRate}
 use Rattle.wf_def_world.specs.World.{World, Station, Exchange, no_share, no_station, station, share, rotation, is_live, exchange, with_exchange, with_rotation, on_receiver, on_tid, on_station, with_station, opening}
 use Rattle.wf_law_rules.proofs.Lemmas.Numbers.{le_no}
 use Rattle.wf_frame.specs.Classes.{class_number, all_classes}
@@ -135,14 +136,14 @@ may_send w c s i h won =
           (if_same _ _ ((books w).accounts s) (need_is w c s) (λ a _ e. winner.given ∙ e));
     })
 
--- the MCS of a station's rate has at most two streams
-rate_kept : (v : World) (s : ℕ) → IsKept (books v) → (station v s).rate.mcs ≤ greatest_mcs
+-- there is a rate of a station
+rate_kept : (v : World) (s : ℕ) → IsKept (books v) → IsRate (station v s).rate
 rate_kept v s i = go (at None v.stations s) (i.goods s)
   where
     go : (o : Option Station) → IfSome (option_map account o) (IsGood v.config (map core v.opened) s) →
-        (unwrap_or o no_station).rate.mcs ≤ greatest_mcs
-    go None g = omega arith
-    go (Some x) g = g.mcs
+        IsRate (unwrap_or o no_station).rate
+    go None g = refl
+    go (Some x) g = g.rate
 
 kept_sent : (v : World) (c : Class) (s t : ℕ) → IsKept (books v) → MaySend c s (books v) →
     IsKept (books (send_outcome s t c (prepared_exchange v s t)).world)
@@ -257,9 +258,6 @@ unfolding outcome_where_open
 kept_open w e None f k i h = i
 kept_open w e (Some x) f k i h = h x k
 
-rate_few : (mcs : ℕ) (b : Bool) → (nat_lt greatest_mcs mcs || b) ≡ false → mcs ≤ greatest_mcs
-rate_few mcs b h = let few : nat_lt greatest_mcs mcs ≡ false = (or_parts _ _ h).0 in grind arith
-
 debt_fits : (d : ℤ) (n : ℕ) → int_lt (d -ℤ pos n) deepest_deficit ≡ false → deepest_deficit ≤ℤ (d -ℤ pos n)
 debt_fits d n h = omega (arith, ints)
 
@@ -269,7 +267,7 @@ kept_received : (w : World) (s : ℕ) (c : Class) (air : ℕ) → not (is_within
 kept_received w s c air h k i = is _ _ (books_received w s c air)
     (kept_on (books w) s (on_part c (receive_share air)) i (λ a e good. record {
       weight = good.weight;
-      mcs = good.mcs;
+      rate = good.rate;
       bounds = each_updc (λ d z. IsBounded w.config (owed s d (books w).opened) a.weight z) a.shares c
           (receive_share air (a.shares c)) good.bounds
           (bounded_receive w.config (owed s c (books w).opened) air a.weight (a.shares c)
@@ -320,7 +318,7 @@ kept_done (Asked (Leave s)) w e i = is _ _ (books_gone w s)
 kept_done (Asked (Rate s mcs mhz short)) w e i =
     is _ _ (books_with_rate w s mcs mhz short)
     (kept_on (books w) s (rated mcs mhz short) i
-    (λ a _ good. record { weight = good.weight; mcs = rate_few mcs _ e.1.0; bounds = good.bounds }))
+    (λ a _ good. record { weight = good.weight; rate = not-false _ e.1.0; bounds = good.bounds }))
 kept_done (Asked (Tick by)) w e i = i
 kept_done (Asked (Pull c)) w e i = kept_pulled w c e.0 i
 kept_done (Asked (Arrive e j)) w _ i = kept_open w e (exchange w e) _ refl i

@@ -1,12 +1,11 @@
 -- No exchange is charged more than the longest, and each is charged something.
-use Rattle.std.proofs.Common.{◌≡◌, refl, ap, sym, ◌∙◌, subst, arith, ℕ, zero, suc, ◌+◌, ◌*◌, ◌-◌, ◌/◌, ◌<◌, ◌≤◌, Bool, true, false, if◌then◌else◌, List, [], ◌++◌, Option, Some, None, unwrap_or, option_map, not, length, map, ◌==◌, inl, inr}
+use Rattle.std.proofs.Common.{◌≡◌, refl, ap, sym, ◌∙◌, subst, arith, ℕ, zero, suc, ◌+◌, ◌-◌, ◌≤◌, Bool, true, false, if◌then◌else◌, List, [], ◌++◌, Option, Some, None, unwrap_or, option_map, not, length, map, ◌==◌, inl, inr}
 use Rattle.std.proofs.lemmas.Bool.{and_parts, leb-true}
-use Rattle.std.proofs.lemmas.Nat.{div_below}
-use Rattle.wf_def_lists.specs.Table.{at, ceil_div, longest_front}
-use Rattle.wf_def_air.specs.Airtime.{Rate, lowest_rate, streams, bits, service_and_tail_bits, symbols, data_time, sifs, answer_time, longest_answer, request_charge}
+use Rattle.wf_def_lists.specs.Table.{at, longest_front}
+use Rattle.wf_def_air.specs.Airtime.{Rate, IsRate, lowest_rate, data_time, sifs, answer_time, longest_answer, request_charge}
 use Rattle.wf_def_world.proofs.Fitting.{front_passes}
 use Rattle.wf_def_air.specs.Fit.{aggregate_octets}
-use Rattle.wf_def_lists.specs.Bounds.{greatest_mcs}
+use Rattle.wf_def_air.proofs.Times.{single_time}
 use Rattle.wf_def_world.specs.World.{World, Station, Mpdu, Request, no_station, station, session, is_wide}
 use Rattle.wf_def_world.specs.FlowQueues.{Taken, taken_for_tid}
 use Rattle.wf_def_agreement.specs.Session.{request_due}
@@ -46,33 +45,12 @@ timely_fits w s ms h =
     let parts = and_parts _ _ h in
     leb-true _ _ (and_parts _ _ parts.1).1
 
-few_symbols : (b : ℕ) → ceil_div service_and_tail_bits b ≤ service_and_tail_bits
-few_symbols zero = omega arith
-few_symbols (suc b) =
-    let below : (22 + (suc b - 1)) / suc b < 23 =
-    div_below (22 + (suc b - 1)) (suc b) 23 (omega arith) (omega arith) in
-    omega arith
-
-few_streams : (r : Rate) → r.mcs ≤ greatest_mcs → streams r ≤ 2
-few_streams r h =
-    let below : r.mcs / 8 < 2 = div_below r.mcs 8 2 (omega arith) (omega arith) in
-    omega arith
-
-short_time : (short : Bool) (n : ℕ) → n ≤ 22 → (if short then ceil_div (9 * n) 10 else n) ≤ 22
-short_time true n h = let below : (9 * n + (10 - 1)) / 10 < 23 =
-    div_below (9 * n + (10 - 1)) 10 23 (omega arith) (omega arith) in omega arith
-short_time false n h = h
-
 -- nothing at all is timely
-timely_none : (w : World) (s : ℕ) → 3000 ≤ w.config.cap → (station w s).rate.mcs ≤ greatest_mcs →
+timely_none : (w : World) (s : ℕ) → 3000 ≤ w.config.cap → IsRate (station w s).rate →
     IsTimely w s []
 timely_none w s h k =
-    let few : symbols (station w s).rate 0 ≤ 22 = few_symbols (bits (station w s).rate) in
-    let short : (if (station w s).rate.short then ceil_div (9 * symbols (station w s).rate 0) 10
-    else symbols (station w s).rate 0) ≤ 22 =
-    short_time (station w s).rate.short (symbols (station w s).rate 0) few in
-    let streamed : streams (station w s).rate ≤ 2 = few_streams (station w s).rate k in
-    omega arith
+    let single : data_time (station w s).rate 0 ≤ 3000 = single_time (station w s).rate 0 k (omega arith) in
+    omega (arith, h, single)
 
 timely_fitting : (ms : List Mpdu) (w : World) (s : ℕ) → IsTimely w s [] →
     IsTimely w s (longest_fitting w s ms)
@@ -104,7 +82,7 @@ timely_fresh (suc n) w s t mpdus h =
     (λ b. timely_fresh n numbered s t longer (timely_same numbered w s longer e (timely_fits w s longer b)))
     (timely_same numbered w s mpdus e h))
 
-timely_filled : (w : World) (s t : ℕ) → 3000 ≤ w.config.cap → (station w s).rate.mcs ≤ greatest_mcs →
+timely_filled : (w : World) (s t : ℕ) → 3000 ≤ w.config.cap → IsRate (station w s).rate →
     IsTimely (aggregate_of w s t).world s (aggregate_of w s t).mpdus
 unfolding aggregate_of
 timely_filled w s t h k =
@@ -128,7 +106,7 @@ request_most : (b : Bool) (n : ℕ) → 3000 ≤ n → request_charge b ≤ n + 
 request_most true n h = omega arith
 request_most false n h = omega arith
 
-pub charge_most : (w : World) (s t : ℕ) → 3000 ≤ w.config.cap → (station w s).rate.mcs ≤ greatest_mcs →
+pub charge_most : (w : World) (s t : ℕ) → 3000 ≤ w.config.cap → IsRate (station w s).rate →
     (prepared_exchange w s t).charge ≤ longest_exchange w.config
 unfolding prepared_exchange prepared_data
 charge_most w s t h k = charge_if (request_due (session w s t)) (longest_exchange w.config)

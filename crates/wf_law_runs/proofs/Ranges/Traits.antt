@@ -1,7 +1,7 @@
 -- The weight, rate, exponent, sleep and credit of each live station stay in their ranges, in every world of a
 -- run.
-use Rattle.std.proofs.Common.{◌≡◌, refl, sym, ◌∙◌, ap, arith, ℕ, zero, suc, ◌-◌, ◌≤◌, ◌==◌, ◌||◌, inl, inr, not, nat_le, nat_lt, Bool, true, false, if◌then◌else◌, List, [], ◌∷◌, length, Option, Some, None, option_map, unwrap_or, IfSome}
-use Rattle.std.proofs.lemmas.Bool.{not-false, or_parts}
+use Rattle.std.proofs.Common.{◌≡◌, refl, sym, ◌∙◌, ap, ℕ, zero, suc, ◌-◌, ◌≤◌, ◌==◌, not, nat_le, nat_lt, Bool, true, false, if◌then◌else◌, List, [], ◌∷◌, length, Option, Some, None, option_map, unwrap_or, IfSome}
+use Rattle.std.proofs.lemmas.Bool.{not-false}
 use Rattle.wf_frame.specs.declared.settings.Config.{Config}
 use Rattle.wf_frame.specs.declared.classes.Class.{Class}
 use Rattle.wf_frame.specs.declared.classes.Fate.{Fate}
@@ -12,11 +12,11 @@ use Rattle.wf_frame.specs.declared.notes.Refusal.{Refusal}
 use Rattle.wf_frame.specs.declared.notes.Refusal.TheVariants.{Idle}
 use Rattle.wf_frame.specs.Classes.{all_classes}
 use Rattle.wf_def_lists.specs.Table.{at, upto}
-use Rattle.wf_def_air.specs.Airtime.{Rate as Airtime_rate}
+use Rattle.wf_def_air.specs.Airtime.{Rate as Airtime_rate, IsRate}
 use Rattle.wf_def_codel.specs.Codel.{Item}
 use Rattle.wf_def_rotation.specs.Rotation.{in_order}
 use Rattle.wf_def_agreement.specs.Session.{Session, request_due}
-use Rattle.wf_def_lists.specs.Bounds.{greatest_exponent, greatest_weight, greatest_mcs}
+use Rattle.wf_def_lists.specs.Bounds.{greatest_exponent, greatest_weight}
 use Rattle.wf_def_world.specs.World.{World, Station, Share, Tid, Exchange, Mpdu, Content, Frames, Request, no_station, station, session, queue, rotation, exchange, with_station, on_station, on_tid, on_session, on_receiver, with_queues, on_share, on_queue, with_rotation, with_fate, with_frame_finished, with_frames_finished, with_exchange, without_exchange, opening}
 use Rattle.wf_def_world.specs.FlowQueues.{is_at_limit, without_head, after_limit, longest_queue, with_listed_queue, with_appended, after_put_in, with_queues_paid, taken_by_codel, taken_from_picked, taken_for_tid, after_queue_left, after_queues_left}
 use Rattle.wf_def_world.specs.CanSend.{with_listing_in, with_listings_in, with_listings_of, can_give}
@@ -24,8 +24,7 @@ use Rattle.wf_def_world.specs.Exchanges.{picked_station, most_frames, waiting_mp
 use Rattle.wf_def_world.specs.Refusals.{refusals, refusal, is_within}
 use Rattle.wf_def_world.specs.Step.{Outcome, join_outcome, after_tid_left, after_tids_left, without_listings, leave_outcome, rate_outcome, tick_outcome, with_frame, enqueue_outcome, send_outcome, pull_outcome_for, pull_outcome, arrive_outcome, answer_outcome, done_outcome, outcome_where_open, sleep_outcome, wake_outcome, poll_outcome, rx_outcome, reap_outcome, concerned_station, outcome_of, after_refusal, judged_outcome, step}
 use Rattle.wf_def_world.specs.Run.{Entry, world_after}
-use Rattle.wf_law_runs.specs.Ranges.{IsRate}
-use Rattle.wf_law_rules.proofs.Lemmas.Numbers.{both, le_yes, lt_no, eq_yes, either}
+use Rattle.wf_law_rules.proofs.Lemmas.Numbers.{both, le_yes, lt_no}
 use Rattle.wf_law_rules.proofs.Lemmas.Tables.{each_put}
 use Rattle.wf_law_runs.proofs.Windows.Opened.{NoRow, no_row}
 
@@ -275,25 +274,10 @@ kept_joined w s window start exponent weight short some h =
     let range = both (nat_le 1 weight) (nat_le weight 16) (not-false _ some) in
     put_station w s _ (record {
       weight = (le_yes 1 weight range.0, le_yes weight 16 range.1);
-      rate =
-          record { mcs = omega arith; mhz = inl refl };
+      rate = refl;
       exponent = lt_no 3 exponent short;
       credit = tt;
     }) h
-
-rate_in_range : (mcs mhz : ℕ) (short : Bool) →
-    (nat_lt greatest_mcs mcs || not ((mhz == 20) || (mhz == 40))) ≡ false →
-    IsRate (record { mcs = mcs; mhz = mhz; short = short })
-rate_in_range mcs mhz short h =
-    let parts = or_parts (nat_lt greatest_mcs mcs) (not ((mhz == 20) || (mhz == 40))) h in
-    record {
-      mcs = lt_no 15 mcs parts.0;
-      mhz = elim (either (mhz == 20) (mhz == 40) (not-false _ parts.1)) [
-        | inl e ↦
-            inl (eq_yes mhz 20 e)
-        | inr e ↦ inr (eq_yes mhz 40 e)
-      ];
-    }
 
 any_credit : (o : Option Class) → IfSome o (λ _. true ≡ true)
 any_credit None = tt
@@ -318,7 +302,7 @@ kept_done (Asked (Leave s)) w e h = kept_gone w s h
 kept_done (Asked (Rate s mcs mhz short)) w e h =
     set_station w s _ (λ x _ k. record {
       weight = k.weight;
-      rate = rate_in_range mcs mhz short e.1.0;
+      rate = not-false _ e.1.0;
       exponent = k.exponent;
       credit = k.credit;
     }) h

@@ -12,7 +12,7 @@ use Rattle.wf_frame.specs.declared.notes.Refusal.TheVariants.{Idle}
 use Rattle.wf_frame.specs.Classes.{lower_tid, upper_tid, class_number}
 use Rattle.wf_frame.specs.Settings.{IsInRange}
 use Rattle.wf_def_lists.specs.Table.{at, put, with_member, greatest_upto}
-use Rattle.wf_def_lists.specs.Bounds.{greatest_mcs}
+use Rattle.wf_def_air.specs.Airtime.{IsRate}
 use Rattle.wf_def_codel.specs.Codel.{Item}
 use Rattle.wf_def_lists.specs.Lengths.{greatest_body}
 use Rattle.wf_def_agreement.specs.Receiver.{score}
@@ -50,22 +50,22 @@ use Rattle.wf_law_runs.proofs.Windows.Sides.{Same, same_on_station, same_on_shar
 pub record IsApt (w : World) : Type 0 where
   pub agg : 1 ≤ w.config.agg
   pub cap : 3000 ≤ w.config.cap
-  pub rates : (s : ℕ) → (station w s).rate.mcs ≤ greatest_mcs
+  pub rates : (s : ℕ) → IsRate (station w s).rate
   pub short : (k : ℕ) → len_of ((shelves w).notes k) ≤ greatest_body
   pub measured : AllMeasured (shelves w).notes (shelves w)
 
 AreFew : World → Type 0
-AreFew w = (s : ℕ) → (station w s).rate.mcs ≤ greatest_mcs
+AreFew w = (s : ℕ) → IsRate (station w s).rate
 
 few_on_share : (w : World) (s : ℕ) (c : Class) (f : Share → Share) → AreFew w → AreFew (on_share w s c f)
 unfolding AreFew on_share on_station with_station
-few_on_share w s c f h = each_put (λ _ o. (unwrap_or o no_station).rate.mcs ≤ greatest_mcs) None w.stations s
+few_on_share w s c f h = each_put (λ _ o. IsRate (unwrap_or o no_station).rate) None w.stations s
     _ h (go (at None w.stations s) (h s))
   where
-    go : (o : Option Station) → (unwrap_or o no_station).rate.mcs ≤ greatest_mcs →
-        (unwrap_or (option_map (λ (x : Station). record
+    go : (o : Option Station) → IsRate (unwrap_or o no_station).rate →
+        IsRate (unwrap_or (option_map (λ (x : Station). record
         x { shares = put no_share x.shares (class_number c) (f (at no_share x.shares (class_number c))) }) o)
-        no_station).rate.mcs ≤ greatest_mcs
+        no_station).rate
     go None k = k
     go (Some x) k = k
 
@@ -402,13 +402,13 @@ apt w k i = record {
   measured = i.measured;
 }
   where
-    few : (s : ℕ) → (station w s).rate.mcs ≤ greatest_mcs
+    few : (s : ℕ) → IsRate (station w s).rate
     few s = go (at None w.stations s) (k.goods s)
       where
         go : (o : Option Station) → IfSome (option_map account o) (IsGood w.config (books w).opened s) →
-            (unwrap_or o no_station).rate.mcs ≤ greatest_mcs
-        go None h = omega arith
-        go (Some x) h = h.mcs
+            IsRate (unwrap_or o no_station).rate
+        go None h = refl
+        go (Some x) h = h.rate
 
 some_run : (h : List Entry) (l : List ℕ) (w : World) → AreAtMost greatest_body h → IsKept (books w) →
     Steady l w → IsStocked greatest_body w

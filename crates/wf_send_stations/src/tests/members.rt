@@ -19,7 +19,7 @@ fn a_station_joins_and_leaves(rt: HostRuntime) -> Result<(), AllocError> {
     assert_eq!(rt; members.charged(2, Class::Be), 345);
     assert_eq!(rt; members.charged(2, Class::Vo), 0);
     assert_eq!(rt; members.received(2, Class::Vo), 70);
-    if let Ok(rate) = Rate::new(7, 40, true) {
+    if let Ok(rate) = Rate::ht(7, 40, true) {
         members.set_rate(2, rate);
         assert_eq!(rt; members.rate(2).kbps(), 150_000);
     }

@@ -1,12 +1,16 @@
-use Rattle.std.proofs.Common.{ℕ, zero, suc, ◌+◌, ◌-◌, ◌*◌, ◌%◌, ◌^◌, ◌≤◌, arith, lit≤}
+use Rattle.std.proofs.Common.{sym, subst, ℕ, ◌+◌, ◌-◌, ◌*◌, ◌%◌, ◌^◌, ◌≤◌}
+use Rattle.wf_air_time.specs.Rates.{longest_aggregate, longest_single}
+use Rattle.wf_air_fit.proofs.Most.{most_is}
 use Rattle.wf_air_fit.proofs.Room.most_octets.Goals as goal
 
-least : (x : ℕ) → x ≤ 3 → 8191 ≤ 1 * 2 ^ (13 + x) % 4294967296 - 1
-least zero small = lit≤ tt
-least (suc zero) small = lit≤ tt
-least (suc (suc zero)) small = lit≤ tt
-least (suc (suc (suc zero))) small = lit≤ tt
-least (suc (suc (suc (suc x)))) small = absurd (omega arith)
-
 pub returns-clause-least : goal.returns-clause-least
-returns-clause-least c = least _ c.self.invariant.exponent_in
+returns-clause-least c =
+    let is = most_is c.self.inside.rate c.self.inside.exponent c.self.invariant.exponent_in in
+    subst (λ (n : ℕ). longest_single ≤ 1 * 2 ^ (n + c.self.inside.exponent) % 4294967296 - 1)
+    (sym c.least_exponent.ensures.exact) (subst (λ (n : ℕ). longest_single ≤ n) (sym is.same) is.least)
+
+pub returns-clause-most : goal.returns-clause-most
+returns-clause-most c =
+    let is = most_is c.self.inside.rate c.self.inside.exponent c.self.invariant.exponent_in in
+    subst (λ (n : ℕ). 1 * 2 ^ (n + c.self.inside.exponent) % 4294967296 - 1 ≤ longest_aggregate)
+    (sym c.least_exponent.ensures.exact) (subst (λ (n : ℕ). n ≤ longest_aggregate) (sym is.same) is.most)

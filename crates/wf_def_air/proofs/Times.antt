@@ -1,0 +1,341 @@
+-- How long data takes at most, and that more octets take no less. This module is for other crates'
+-- proofs too.
+use Rattle.std.proofs.Common.{◌≡◌, refl, arith, ℕ, zero, suc, ◌+◌, ◌-◌, ◌*◌, ◌/◌, ◌%◌, ◌<◌, ◌≤◌, ◌==◌, ◌&&◌, Bool, true, false, if◌then◌else◌, List, [], ◌∷◌, length, slice_index}
+use Rattle.std.specs.Prelude.{nat_le}
+use Rattle.std.proofs.lemmas.Bool.{and_parts, leb-true}
+use Rattle.std.proofs.lemmas.Bool.Decides.{nat_tests}
+use Rattle.std.proofs.lemmas.Nat.{div_below, mod_below, le-div, mul-le}
+use Rattle.std.proofs.Math.Nat.{div-zero, div-mul-le_self, mul-le-mul_left}
+use Rattle.wf_def_lists.specs.Table.{ceil_div, has}
+use Rattle.wf_def_lists.specs.Lengths.{greatest_body}
+use Rattle.wf_def_lists.specs.Bounds.{greatest_mcs}
+use Rattle.wf_def_air.specs.Airtime.{Rate, Ht, Vht, He, is_rate, are_streams, is_wide_width, greatest_vht_mcs, greatest_he_mcs, streams, modulation, bits_of_twelve, carriers_of_312, carriers_of_78, bits, symbol_tenths, kbps, vht_encoders, encoder_bits, encoders, symbols, training_fields, training_tenths, whole_symbols, payload_tenths, data_time}
+use Rattle.wf_def_air.specs.Fit.{subframe_octets}
+
+-- ---- numbers of a list lie between two
+
+abbrev all_between : ℕ → ℕ → List ℕ → Bool
+all_between low high [] = true
+all_between low high (n ∷ ns) = (nat_le low n && nat_le n high) && all_between low high ns
+
+between_at : (low high : ℕ) (ns : List ℕ) (k : ℕ) → all_between low high ns ≡ true → k < length ns →
+    (low ≤ slice_index ns k) × (slice_index ns k ≤ high)
+between_at low high [] k all h = absurd (omega (arith, h))
+between_at low high (n ∷ ns) zero all h =
+    let both = and_parts (nat_le low n && nat_le n high) (all_between low high ns) all in
+    let first = and_parts (nat_le low n) (nat_le n high) both.0 in
+    (leb-true low n first.0, leb-true n high first.1)
+between_at low high (n ∷ ns) (suc k) all h =
+    between_at low high ns k (and_parts (nat_le low n && nat_le n high) (all_between low high ns) all).1
+    (omega (arith, h))
+
+twelve_between : (k : ℕ) → k < 12 → (6 ≤ slice_index bits_of_twelve k)
+    × (slice_index bits_of_twelve k ≤ 100)
+twelve_between k h = between_at 6 100 bits_of_twelve k refl h
+
+few_fields : (k : ℕ) → k < 8 → slice_index training_fields k ≤ 8
+few_fields k h = (between_at 1 8 training_fields k refl h).1
+
+between_if : (b : Bool) (low high x y : ℕ) → (low ≤ x) × (x ≤ high) → (low ≤ y) × (y ≤ high) →
+    (low ≤ (if b then x else y)) × ((if b then x else y) ≤ high)
+between_if true low high x y h k = h
+between_if false low high x y h k = k
+
+some_carriers : (mhz : ℕ) → (52 ≤ carriers_of_312 mhz) × (carriers_of_312 mhz ≤ 468)
+some_carriers mhz = between_if (mhz == 40) 52 468 108 _ (omega arith, omega arith)
+    (between_if (mhz == 80) 52 468 234 _ (omega arith, omega arith)
+    (between_if (mhz == 160) 52 468 468 52 (omega arith, omega arith) (omega arith, omega arith)))
+
+many_carriers : (mhz : ℕ) → (234 ≤ carriers_of_78 mhz) × (carriers_of_78 mhz ≤ 1960)
+many_carriers mhz = between_if (mhz == 40) 234 1960 468 _ (omega arith, omega arith)
+    (between_if (mhz == 80) 234 1960 980 _ (omega arith, omega arith)
+    (between_if (mhz == 160) 234 1960 1960 234 (omega arith, omega arith) (omega arith, omega arith)))
+
+-- ---- what may stand in a rate
+
+-- a symbol of HT and VHT
+symbol_between : (short : Bool) → (36 ≤ (if short then 36 else 40)) × ((if short then 36 else 40) ≤ 40)
+symbol_between true = (omega arith, omega arith)
+symbol_between false = (omega arith, omega arith)
+
+symbol_if : (short : Bool) → (if short then 36 else 40) ≤ 160
+symbol_if true = omega arith
+symbol_if false = omega arith
+
+guard_between : (guard : ℕ) → has (800 ∷ 1600 ∷ 3200 ∷ []) guard ≡ true →
+    (8 ≤ guard / 100) × (guard / 100 ≤ 32)
+guard_between guard h =
+    let least : 800 ≤ guard = grind (arith, nat_tests) in
+    let most : guard ≤ 3200 = grind (arith, nat_tests) in
+    let below : guard / 100 < 33 = div_below guard 100 33 (omega arith) (omega (arith, most)) in
+    (le-div 8 guard 100 (omega arith) (omega (arith, least)), omega (arith, below))
+
+training_most : (b : Bool) (n : ℕ) → n ≤ 32 → (if b then 128 else 64) + n ≤ 160
+training_most true n h = omega (arith, h)
+training_most false n h = omega (arith, h)
+
+-- ---- the bits of a symbol
+
+-- so many carriers, streams and bits of twelve carriers
+some_bits : (c n t least most : ℕ) → (least ≤ c) × (c ≤ most) → (1 ≤ n) × (n ≤ 8) → (6 ≤ t) × (t ≤ 100) →
+    (least * 6 / 12 ≤ c * n * t / 12) × (c * n * t / 12 ≤ most * 800 / 12)
+some_bits c n t least most carried streamed coded =
+    let low : least * 1 * 6 ≤ c * n * t =
+    mul-le (least * 1) 6 (c * n) t (mul-le least 1 c n carried.0 streamed.0) coded.0 in
+    let high : c * n * t ≤ most * 8 * 100 =
+    mul-le (c * n) t (most * 8) 100 (mul-le c n most 8 carried.1 streamed.1) coded.1 in
+    (omega (arith, low), omega (arith, high))
+
+-- an MCS of HT, of one or two streams
+ht_streams : (mcs : ℕ) → mcs ≤ greatest_mcs → (1 ≤ 1 + mcs / 8) × (1 + mcs / 8 ≤ 2)
+ht_streams mcs h =
+    let few : mcs / 8 < 2 = div_below mcs 8 2 (omega arith) (omega (arith, h)) in
+    (omega arith, omega (arith, few))
+
+streams_are : (n : ℕ) → are_streams n ≡ true → (1 ≤ n) × (n ≤ 8)
+streams_are n h =
+    let parts = and_parts (nat_le 1 n) (nat_le n 8) h in
+    (leb-true 1 n parts.0, leb-true n 8 parts.1)
+
+-- a symbol takes at least so many tenths of a microsecond
+abbrev pub least_symbol : Rate → ℕ
+least_symbol (Ht mcs mhz short) = 36
+least_symbol (Vht mcs mhz short n) = 36
+least_symbol (He mcs mhz guard n) = 136
+
+-- what is needed of a rate: its streams, and its place in the table of modulations
+pub record IsInRange (r : Rate) : Type 0 where
+  pub streamed : (1 ≤ streams r) × (streams r ≤ 8)
+  pub coded : modulation r < 12
+  pub least : least_symbol r ≤ symbol_tenths r
+  pub guarded : symbol_tenths r ≤ 160
+  pub trained : training_tenths r ≤ 160
+
+pub rate_in_range : (r : Rate) → is_rate r ≡ true → IsInRange r
+rate_in_range (Ht mcs mhz short) h =
+    let few = ht_streams mcs (leb-true mcs greatest_mcs (and_parts (nat_le mcs greatest_mcs) _ h).0) in
+    let below : mcs % 8 < 8 = mod_below mcs 8 (omega arith) in
+    record {
+      streamed = (few.0, omega (arith, few.1));
+      coded = omega (arith, below);
+      least = (symbol_between short).0;
+      guarded = symbol_if short;
+      trained = omega arith;
+    }
+rate_in_range (Vht mcs mhz short n) h =
+    let first = and_parts (nat_le mcs greatest_vht_mcs) _ h in
+    let second = and_parts (is_wide_width mhz) _ first.1 in
+    let third = and_parts (are_streams n) _ second.1 in
+    record {
+      streamed = streams_are n third.0;
+      coded = omega (arith, leb-true mcs greatest_vht_mcs first.0);
+      least = (symbol_between short).0;
+      guarded = symbol_if short;
+      trained = omega arith;
+    }
+rate_in_range (He mcs mhz guard n) h =
+    let first = and_parts (nat_le mcs greatest_he_mcs) _ h in
+    let second = and_parts (is_wide_width mhz) _ first.1 in
+    let third = and_parts (are_streams n) _ second.1 in
+    let short : guard / 100 ≤ 32 = (guard_between guard third.1).1 in
+    let long : 8 ≤ guard / 100 = (guard_between guard third.1).0 in
+    record {
+      streamed = streams_are n third.0;
+      coded = omega (arith, leb-true mcs greatest_he_mcs first.0);
+      least = omega (arith, long);
+      guarded = omega (arith, short);
+      trained = training_most (guard == 3200) (guard / 100) short;
+    }
+
+-- the bits of a symbol of a rate, and of a rate of HE
+pub bits_between : (r : Rate) → IsInRange r → (26 ≤ bits r) × (bits r ≤ 130666)
+bits_between (Ht mcs mhz short) h =
+    let between = some_bits (carriers_of_312 mhz) (1 + mcs / 8) (slice_index bits_of_twelve (mcs % 8)) 52 468
+    (some_carriers mhz) h.streamed (twelve_between (mcs % 8) h.coded) in
+    (between.0, omega (arith, between.1))
+bits_between (Vht mcs mhz short n) h =
+    let between = some_bits (carriers_of_312 mhz) n (slice_index bits_of_twelve mcs) 52 468
+    (some_carriers mhz) h.streamed (twelve_between mcs h.coded) in
+    (between.0, omega (arith, between.1))
+bits_between (He mcs mhz guard n) h =
+    let between = some_bits (carriers_of_78 mhz) n (slice_index bits_of_twelve mcs) 234 1960
+    (many_carriers mhz) h.streamed (twelve_between mcs h.coded) in
+    (omega (arith, between.0), between.1)
+
+he_bits : (mcs mhz guard n : ℕ) → IsInRange (He mcs mhz guard n) → 117 ≤ bits (He mcs mhz guard n)
+he_bits mcs mhz guard n h =
+    (some_bits (carriers_of_78 mhz) n (slice_index bits_of_twelve mcs) 234 1960
+    (many_carriers mhz) h.streamed (twelve_between mcs h.coded)).0
+
+vht_bits : (mcs mhz : ℕ) (short : Bool) (n : ℕ) → IsInRange (Vht mcs mhz short n) →
+    bits (Vht mcs mhz short n) ≤ 31200
+vht_bits mcs mhz short n h =
+    (some_bits (carriers_of_312 mhz) n (slice_index bits_of_twelve mcs) 52 468
+    (some_carriers mhz) h.streamed (twelve_between mcs h.coded)).1
+
+-- ---- quotients
+
+-- a quotient lies between two where the number lies between so many divisors
+quotient_between : (x b low high : ℕ) → 0 < b → low * b ≤ x → x < (high + 1) * b →
+    (low ≤ x / b) × (x / b ≤ high)
+quotient_between x b low high some h k =
+    let below : x / b < high + 1 = div_below x b (high + 1) some k in
+    (le-div low x b some h, omega (arith, below))
+
+-- a quotient that is rounded up is at most q where the divisor is at least that for which it would
+-- be q
+ceil_most : (x b q least : ℕ) → 0 < least → least ≤ b → x ≤ q * least → ceil_div x b ≤ q
+ceil_most x b q least some h k =
+    let more : q * least ≤ q * b = mul-le-mul_left q h in
+    let below : (x + (b - 1)) / b < q + 1 =
+    div_below (x + (b - 1)) b (q + 1) (omega (arith, some, h)) (omega (arith, some, h, k, more)) in
+    omega (arith, below)
+
+div_less : (x y k : ℕ) → x ≤ y → x / k ≤ y / k
+div_less x y zero h = rw (div-zero x, div-zero y) (omega arith)
+div_less x y (suc k) h = le-div (x / suc k) y (suc k) (omega arith)
+    (omega (arith, div-mul-le_self x (suc k), h))
+
+-- ---- kbit/s
+
+-- so many bits in so many tenths of a microsecond
+kbps_of : (b t few many short long : ℕ) → (few ≤ b) × (b ≤ many) → (short ≤ t) × (t ≤ long) → 0 < short →
+    6500 * long ≤ 10000 * few → 10000 * many < 9607795 * short →
+    (6500 ≤ 10000 * b / t) × (10000 * b / t ≤ 9607794)
+kbps_of b t few many short long bit time some low high =
+    quotient_between (10000 * b) t 6500 9607794 (omega (arith, some, time.0))
+    (omega (arith, time.1, bit.0, low)) (omega (arith, time.0, bit.1, high))
+
+pub kbps_between : (r : Rate) → IsInRange r → (6500 ≤ kbps r) × (kbps r ≤ 9607794)
+kbps_between (Ht mcs mhz short) h =
+    kbps_of (bits (Ht mcs mhz short)) (if short then 36 else 40) 26 31200 36 40
+    (some_bits (carriers_of_312 mhz) (1 + mcs / 8) (slice_index bits_of_twelve (mcs % 8)) 52 468
+    (some_carriers mhz) h.streamed (twelve_between (mcs % 8) h.coded))
+    (symbol_between short) (omega arith) (omega arith) (omega arith)
+kbps_between (Vht mcs mhz short n) h =
+    kbps_of (bits (Vht mcs mhz short n)) (if short then 36 else 40) 26 31200 36 40
+    (some_bits (carriers_of_312 mhz) n (slice_index bits_of_twelve mcs) 52 468
+    (some_carriers mhz) h.streamed (twelve_between mcs h.coded))
+    (symbol_between short) (omega arith) (omega arith) (omega arith)
+kbps_between (He mcs mhz guard n) h =
+    kbps_of (bits (He mcs mhz guard n)) (128 + guard / 100) 117 130666 136 160
+    (some_bits (carriers_of_78 mhz) n (slice_index bits_of_twelve mcs) 234 1960
+    (many_carriers mhz) h.streamed (twelve_between mcs h.coded))
+    (h.least, h.guarded) (omega arith) (omega arith) (omega arith)
+
+-- ---- symbols
+
+few_if : (b : Bool) (most x y : ℕ) → x ≤ most → y ≤ most → (if b then x else y) ≤ most
+few_if true most x y h k = h
+few_if false most x y h k = k
+
+few_vht_encoders : (mcs mhz n per_symbol : ℕ) → per_symbol ≤ 31200 → vht_encoders mcs mhz n per_symbol ≤ 15
+few_vht_encoders mcs mhz n per_symbol h =
+    let many : ceil_div per_symbol encoder_bits ≤ 15 =
+    ceil_most per_symbol encoder_bits 15 encoder_bits (omega arith) (omega arith) (omega (arith, h)) in
+    few_if _ 15 3 _ (omega arith) (few_if _ 15 6 _ (omega arith) (few_if _ 15 8 _ (omega arith)
+    (few_if _ 15 9 _ (omega arith) (few_if _ 15 12 _ (omega arith) many))))
+
+pub few_encoders : (r : Rate) → IsInRange r → encoders r ≤ 15
+few_encoders (Ht mcs mhz short) h = omega arith
+few_encoders (Vht mcs mhz short n) h = few_vht_encoders mcs mhz n _ (vht_bits mcs mhz short n h)
+few_encoders (He mcs mhz guard n) h = omega arith
+
+-- so many symbols at most where that many hold the octets at 26 bits a symbol
+pub few_symbols : (r : Rate) (octets most : ℕ) → IsInRange r → 8 * octets + 106 ≤ most * 26 →
+    symbols r octets ≤ most
+few_symbols r octets most h k =
+    let tails : encoders r ≤ 15 = few_encoders r h in
+    ceil_most (8 * octets + (16 + 6 * encoders r)) (bits r) most 26 (omega arith) (bits_between r h).0
+    (omega (arith, tails, k))
+
+-- the same of HE, which has one encoder and 117 bits a symbol or more
+few_he_symbols : (mcs mhz guard n octets most : ℕ) → IsInRange (He mcs mhz guard n) →
+    8 * octets + 22 ≤ most * 117 → symbols (He mcs mhz guard n) octets ≤ most
+few_he_symbols mcs mhz guard n octets most h k =
+    ceil_most (8 * octets + (16 + 6 * 1)) (bits (He mcs mhz guard n)) most 117 (omega arith)
+    (he_bits mcs mhz guard n h) (omega (arith, k))
+
+-- ---- times
+
+short_symbol : (short : Bool) → (if short then 36 else 40) ≤ 40
+short_symbol true = omega arith
+short_symbol false = omega arith
+
+few_in_preamble : (streams : ℕ) → (1 ≤ streams) × (streams ≤ 8) →
+    slice_index training_fields (streams - 1) ≤ 8
+few_in_preamble streams h = few_fields (streams - 1) (omega (arith, h.0, h.1))
+
+-- so many symbols of HT and VHT
+payload_most : (short : Bool) (n most : ℕ) → n ≤ most →
+    whole_symbols ((if short then 36 else 40) * n) ≤ 40 * most
+payload_most short n most h =
+    let time : (if short then 36 else 40) * n ≤ 40 * most = mul-le _ n 40 most (short_symbol short) h in
+    omega (arith, time)
+
+-- a rate takes at most so long for octets that fill so many symbols of 26 bits, or, of HE, of 117
+pub time_most : (r : Rate) (octets most he_most longest : ℕ) → IsInRange r → 8 * octets + 106 ≤ most * 26 →
+    8 * octets + 22 ≤ he_most * 117 → 68 + 4 * most ≤ longest → 164 + 16 * he_most ≤ longest →
+    data_time r octets ≤ longest
+time_most (Ht mcs mhz short) octets most he_most longest h k l m n' =
+    let few : symbols (Ht mcs mhz short) octets ≤ most =
+    few_symbols (Ht mcs mhz short) octets most h k in
+    let payload : payload_tenths (Ht mcs mhz short) octets ≤ 40 * most =
+    payload_most short (symbols (Ht mcs mhz short) octets) most few in
+    let fields = few_in_preamble (1 + mcs / 8) h.streamed in
+    omega (arith, payload, fields, m)
+time_most (Vht mcs mhz short n) octets most he_most longest h k l m n' =
+    let few : symbols (Vht mcs mhz short n) octets ≤ most =
+    few_symbols (Vht mcs mhz short n) octets most h k in
+    let payload : payload_tenths (Vht mcs mhz short n) octets ≤ 40 * most =
+    payload_most short (symbols (Vht mcs mhz short n) octets) most few in
+    let fields : slice_index training_fields (n - 1) ≤ 8 = few_in_preamble n h.streamed in
+    omega (arith, payload, fields, m)
+time_most (He mcs mhz guard n) octets most he_most longest h k l m n' =
+    let few : symbols (He mcs mhz guard n) octets ≤ he_most =
+    few_he_symbols mcs mhz guard n octets he_most h l in
+    let payload : payload_tenths (He mcs mhz guard n) octets ≤ 160 * he_most =
+    mul-le (symbol_tenths (He mcs mhz guard n)) (symbols (He mcs mhz guard n) octets) 160 he_most
+    h.guarded few in
+    let fields : slice_index training_fields (n - 1) ≤ 8 = few_in_preamble n h.streamed in
+    let training : training_tenths (He mcs mhz guard n) * slice_index training_fields (n - 1) ≤ 160 * 8 =
+    mul-le (training_tenths (He mcs mhz guard n)) (slice_index training_fields (n - 1)) 160 8
+    h.trained fields in
+    omega (arith, payload, training, n')
+
+-- a frame alone takes at most 3000 microseconds, the least time that the settings allow for an
+-- aggregate
+pub single_time : (r : Rate) (octets : ℕ) → is_rate r ≡ true → octets ≤ subframe_octets greatest_body →
+    data_time r octets ≤ 3000
+single_time r octets h k =
+    time_most r octets 724 161 3000 (rate_in_range r h) (omega (arith, k)) (omega (arith, k)) (omega arith)
+    (omega arith)
+
+-- the longest aggregate takes less than 1,300,000
+pub longest_time : (r : Rate) (octets : ℕ) → is_rate r ≡ true → octets ≤ 1048575 →
+    data_time r octets ≤ 1300000
+longest_time r octets h k =
+    time_most r octets 322643 71699 1300000 (rate_in_range r h) (omega (arith, k)) (omega (arith, k))
+    (omega arith) (omega arith)
+
+-- more octets take no less
+pub time_less : (r : Rate) (a b : ℕ) → a ≤ b → data_time r a ≤ data_time r b
+time_less r a b h = go r
+  where
+    fewer : (r : Rate) → symbols r a ≤ symbols r b
+    fewer r = div_less (8 * a + (16 + 6 * encoders r) + (bits r - 1))
+        (8 * b + (16 + 6 * encoders r) + (bits r - 1)) (bits r) (omega (arith, h))
+
+    times : (k x y : ℕ) → x ≤ y → k * x ≤ k * y
+    times k x y le = mul-le-mul_left k le
+
+    go : (r : Rate) → data_time r a ≤ data_time r b
+    go (Ht mcs mhz short) =
+        let time = times (symbol_tenths (Ht mcs mhz short)) _ _ (fewer (Ht mcs mhz short)) in
+        omega (arith, time)
+    go (Vht mcs mhz short n) =
+        let time = times (symbol_tenths (Vht mcs mhz short n)) _ _ (fewer (Vht mcs mhz short n)) in
+        omega (arith, time)
+    go (He mcs mhz guard n) =
+        let time = times (symbol_tenths (He mcs mhz guard n)) _ _ (fewer (He mcs mhz guard n)) in
+        omega (arith, time)
