@@ -1,6 +1,6 @@
 -- What each call of an engine leads to, by what its path, its receive halves and its marks make of it.
-use Rattle.std.proofs.Common.{◌≡◌, refl, ap, sym, ◌∙◌, subst, ℕ, ◌<◌, ◌++◌, Bool, false, List, [], ◌∷◌, Option, Some, None, length}
-use Rattle.std.specs.Prelude.{is_none, All}
+use Rattle.std.proofs.Common.{◌≡◌, refl, ap, sym, ◌∙◌, subst, ℕ, ◌<◌, ◌++◌, Bool, true, false, List, [], ◌∷◌, Option, Some, None, length}
+use Rattle.std.specs.Prelude.{is_none, ◌||◌, All}
 use Rattle.wf_frame.specs.Answers.{reply_with}
 use Rattle.wf_frame.specs.Frames.{FrameValue}
 use Rattle.wf_frame.specs.declared.answers.Brief.{Brief}
@@ -14,10 +14,10 @@ use Rattle.wf_frame.specs.declared.notes.Part.{Part}
 use Rattle.wf_frame.specs.declared.notes.Refusal.{Refusal}
 use Rattle.wf_frame.specs.declared.notes.ReplyNote.{ReplyNote}
 use Rattle.wf_frame.specs.declared.notes.ReplyNote.TheVariants as reply
-use Rattle.wf_def_world.specs.World.{World, Exchange}
+use Rattle.wf_def_world.specs.World.{World, Exchange, exchange}
 use Rattle.wf_def_world.specs.Exchanges.{picked_station, after_pick, after_tid_turn, sending_tid, prepared_exchange, exchange_of, Prepared, part_of as world_part_of}
 use Rattle.wf_def_world.specs.Refusals.{refusal, refusals}
-use Rattle.wf_def_world.specs.Step.{Outcome, outcome_of, join_outcome, pull_outcome, pull_outcome_for, send_outcome, step}
+use Rattle.wf_def_world.specs.Step.{Outcome, outcome_of, outcome_where_open, join_outcome, done_outcome, pull_outcome, pull_outcome_for, send_outcome, step}
 use Rattle.wf_law_runs.proofs.Deficits.KeptStep.{no_row}
 use Rattle.wf_send_exchanges.specs.declared.marks.Mark.{Mark}
 use Rattle.wf_send_exchanges.specs.Marks.{new_mark}
@@ -27,10 +27,11 @@ use Rattle.wf_send_half_refines.specs.Standing.{StandsFor, IsReached, Meets as P
 use Rattle.wf_send_half_refines.proofs.Reached.{step_done, step_refused}
 use Rattle.wf_path.specs.declared.job.Job.{Job}
 use Rattle.wf_path.specs.declared.job.Job.TheVariants.{Call}
-use Rattle.wf_path.specs.Jobs.{IsHeard, note_of, bodies_after, frame_given_back}
+use Rattle.wf_path.specs.Jobs.{IsHeard, note_of, bodies_after, changes_nothing, frame_given_back}
 use Rattle.wf_recv_refines.specs.Arriving.{IsUntold}
 use Rattle.wf_recv_refines.specs.Hearing.{Hears, with_peer, peer_of}
 use Rattle.wf_cell.specs.Engines.{EngineValue, EngineIsIn, IsJobDone, EngineMeets}
+use Rattle.wf_cell.specs.Cells.{is_received}
 use Rattle.wf_recv_refines.proofs.Keeping.{untold_hears, refused_hears}
 use Rattle.wf_recv_refines.proofs.Joining.{joined_hears, station_in_range}
 use Rattle.wf_recv_refines.proofs.Opening.{opened_hears, opened_number, marks_within, marks_below}
@@ -98,6 +99,19 @@ refused_else w note other = of (refusal w note) refl
 done_reply : (w : World) (note : Note) → refusal w note ≡ None →
     (step w note).reply ≡ (outcome_of w note).reply
 done_reply w note e = ap (λ (o : Outcome). o.reply) (step_done w note e)
+
+-- a Done that is not refused answers so
+open_ends : (w : World) (heard : Bool) (o : Option Exchange) →
+    changes_nothing (outcome_where_open w o (λ x. done_outcome w x heard)).reply ≡ false
+unfolding outcome_where_open done_outcome
+open_ends w heard None = refl
+open_ends w heard (Some x) = refl
+
+pub ended_reply : (w : World) (e : ℕ) (heard : Bool) → refusal w (Asked (ask.Done e heard)) ≡ None →
+    changes_nothing (step w (Asked (ask.Done e heard))).reply ≡ false
+unfolding outcome_of
+ended_reply w e heard done =
+    ap changes_nothing (done_reply w (Asked (ask.Done e heard)) done) ∙ open_ends w heard (exchange w e)
 
 -- a refused call leads to where it was, with the same receive halves and marks
 pub refused_meets : (v : EngineValue) (after : TransmitValue) (note : Note) (answered : ReplyNote) (w : World)
@@ -287,3 +301,10 @@ other_untold (ask.Done e heard) n = n.done e heard refl
 other_untold (ask.Join s window start exponent weight) n = n.join s window start exponent weight refl
 other_untold (ask.Pull c) n = n.pull c refl
 other_untold _ n = tt
+
+-- of a call of the path alone, it is the reply that tells whether it leaves the path as it is
+pub path_kept_by : (a : Ask) (answered : ReplyNote) → NotTold a →
+    (is_received (Call a) || changes_nothing answered) ≡ true → changes_nothing answered ≡ true
+path_kept_by (ask.Arrive e i) answered n is = absurd (n.arrive e i refl)
+path_kept_by (ask.Answer e) answered n is = absurd (n.answer e refl)
+path_kept_by _ answered n is = is

@@ -1,9 +1,12 @@
 -- A cell as its callers see it, and what is true of every one.
-use Rattle.std.specs.Prelude.{ℕ, ◌-◌, ◌≤◌, [], ◌∷◌, ◌++◌, length}
+use Rattle.std.specs.Prelude.{ℕ, ◌-◌, ◌≤◌, Bool, true, false, [], ◌∷◌, ◌++◌, length}
 use Rattle.wf_frame.specs.Frames.{FrameValue}
+use Rattle.wf_frame.specs.declared.notes.Ask.TheVariants.{Arrive, Answer}
 use Rattle.wf_def_world.specs.Run.{Entry, Past, world_of}
 use Rattle.wf_law_runs.specs.Lengths.{HasLengths}
 use Rattle.wf_send_half_refines.specs.Half.{TransmitValue}
+use Rattle.wf_path.specs.declared.job.Job.{Job}
+use Rattle.wf_path.specs.declared.job.Job.TheVariants.{Call}
 use Rattle.wf_cell.specs.Engines.{EngineValue, EngineIsIn}
 
 pub record CellValue : Type 0 where
@@ -17,6 +20,12 @@ room_in p = p.config.calls - length p.history
 -- the history with one entry more
 abbrev pub with_entry : Entry → Past → Past
 with_entry e p = record p { history = p.history ++ e ∷ [] }
+
+-- whether a call is of receivers alone, and leaves the path as it is: an Arrive or an Answer
+abbrev pub is_received : Job → Bool
+is_received (Call (Arrive exchange index)) = true
+is_received (Call (Answer exchange)) = true
+is_received job = false
 
 -- A cell stands for the final world of its own history, whose frames have 1 to 2304 octets each; the history
 -- is at most as long as the setting `calls` says, and so much is reserved for it.

@@ -1,6 +1,6 @@
 //! What crosses the air: transmissions that arrive, and the BlockAcks that answer.
 
-ghost use Rattle.std.specs.Prelude.{◌≡◌, ◌<◌, ◌≤◌, nat_lt, ℕ, Some, None, length, take, option_map, option_and_then, if◌then◌else◌, IfOk};
+ghost use Rattle.std.specs.Prelude.{◌≡◌, ◌<◌, ◌≤◌, nat_lt, ℕ, true, Some, None, length, take, option_map, option_and_then, if◌then◌else◌, IfOk};
 ghost use Rattle.wf_frame.specs.Frames.{FrameValue};
 ghost use Rattle.wf_frame.specs.Answers.{reply_of};
 ghost use Rattle.wf_frame.specs.declared.answers.Brief.TheVariants.{Ba};
@@ -18,6 +18,7 @@ ghost use Rattle.wf_recv_refines.specs.Arriving.{CarriesId};
 ghost use Rattle.wf_recv_refines.specs.Hearing.{agreement_of};
 ghost use Rattle.wf_recv_refines.specs.Refusing.{arrive_refusal, answer_refusal, done_refusal, mark_in};
 ghost use Rattle.wf_path.specs.Transmissions.{sent_of};
+ghost use Rattle.wf_path.specs.Jobs.{changes_nothing};
 ghost use Rattle.wf_path.specs.Paths.{IsSmall};
 ghost use Rattle.wf_cell.specs.Engines.{EngineHasWorld, IsArriving, EngineIsIn, IsOnAir, EngineMeets};
 ghost use Rattle.wf_cell.specs.Octets.{IsSentTo};
@@ -96,8 +97,9 @@ impl Engine {
     // A transmission of an open exchange reaches its station.
     pub(crate) fn arrive(&mut self, exchange: u64, index: u16, answer: &mut Answer)
         requires { EngineHasWorld self.old }
-        ensures { (w : World) (bodies : ℕ → FrameValue) → EngineIsIn self.old w bodies →
+        ensures meets { (w : World) (bodies : ℕ → FrameValue) → EngineIsIn self.old w bodies →
             EngineMeets w bodies (Asked (Arrive exchange index)) self.new (reply_of answer.new) }
+        ensures path_kept { self.new.half ≡ self.old.half }
     {
         match self.check_arrival(exchange, index) {
             Err(reason) => answer.brief = Brief::Refused(reason),
@@ -132,9 +134,10 @@ impl Engine {
     // A transmission of an open exchange reaches its station, which passes up the frames of `up`.
     fn pass_on(&mut self, sent: Sent, exchange: u64, index: u16, up: &mut Ids)
         requires { IsArriving self.old exchange index sent }
-        ensures { (w : World) (bodies : ℕ → FrameValue) → EngineIsIn self.old w bodies →
+        ensures meets { (w : World) (bodies : ℕ → FrameValue) → EngineIsIn self.old w bodies →
             refusal w (Asked (Arrive exchange index)) ≡ None →
             EngineMeets w bodies (Asked (Arrive exchange index)) self.new (Released up.new) }
+        ensures path_kept { self.new.half ≡ self.old.half }
     {
         let id = carried_id(&self.path, exchange, index);
         let len = written(&self.path, exchange, index, &mut self.octets);
@@ -147,8 +150,9 @@ impl Engine {
     // A station answers an open exchange with a BlockAck.
     pub(crate) fn answer(&mut self, exchange: u64, answer: &mut Answer)
         requires { EngineHasWorld self.old }
-        ensures { (w : World) (bodies : ℕ → FrameValue) → EngineIsIn self.old w bodies →
+        ensures meets { (w : World) (bodies : ℕ → FrameValue) → EngineIsIn self.old w bodies →
             EngineMeets w bodies (Asked (Answers exchange)) self.new (reply_of answer.new) }
+        ensures path_kept { self.new.half ≡ self.old.half }
     {
         match self.check_answer(exchange) {
             Err(reason) => answer.brief = Brief::Refused(reason),
@@ -207,8 +211,10 @@ impl Engine {
     pub(crate) fn done(&mut self, exchange: u64, heard: bool, answer: &mut Answer)
         requires some { EngineHasWorld self.old }
         requires small { IsSmall self.old.half }
-        ensures { (w : World) (bodies : ℕ → FrameValue) → EngineIsIn self.old w bodies →
+        ensures meets { (w : World) (bodies : ℕ → FrameValue) → EngineIsIn self.old w bodies →
             EngineMeets w bodies (Asked (Done exchange heard)) self.new (reply_of answer.new) }
+        ensures path_kept { changes_nothing (reply_of answer.new) ≡ true →
+            self.new.half ≡ self.old.half }
     {
         match self.check_done(exchange, heard) {
             Err(reason) => answer.brief = Brief::Refused(reason),

@@ -1,6 +1,6 @@
 //! The cell and its history.
 
-ghost use Rattle.std.specs.Prelude.{◌≡◌, ◌↔◌, ◌<◌, ◌≤◌, ◌^◌, ◌*◌, ℕ, [], Err, Some, None, is_some, IfOk, IfSome, length, slice_get};
+ghost use Rattle.std.specs.Prelude.{◌≡◌, ◌↔◌, ◌<◌, ◌≤◌, ◌^◌, ◌*◌, ◌||◌, ℕ, true, [], Err, Some, None, is_some, IfOk, IfSome, length, slice_get};
 ghost use Rattle.wf_frame.specs.Answers.{reply_of};
 ghost use Rattle.wf_frame.specs.Frames.{FrameValue};
 ghost use Rattle.wf_frame.specs.Settings.{first_out_of_range};
@@ -12,12 +12,13 @@ ghost use Rattle.wf_def_world.specs.Run.{by, world_of};
 ghost use Rattle.wf_def_world.specs.World.{opening};
 ghost use Rattle.wf_def_world.specs.Step.{step};
 ghost use Rattle.wf_law_runs.specs.Laws.{Laws};
+ghost use Rattle.wf_law_runs.specs.Lengths.{HasLengths};
 ghost use Rattle.wf_send_half_refines.specs.Half.{body_of};
 ghost use Rattle.wf_send_half_refines.specs.Standing.{StandsFor};
 ghost use Rattle.wf_send_half_refines.specs.Inside.{is_inside};
-ghost use Rattle.wf_path.specs.Jobs.{bodies_after, frame_of, frame_given_back, note_of};
+ghost use Rattle.wf_path.specs.Jobs.{bodies_after, changes_nothing, frame_of, frame_given_back, note_of};
 ghost use Rattle.wf_cell.specs.Bodies.{body_after};
-ghost use Rattle.wf_cell.specs.Cells.{room_in, with_entry};
+ghost use Rattle.wf_cell.specs.Cells.{is_received, room_in, with_entry};
 ghost use Rattle.wf_cell.specs.Rights.{IsRight};
 
 use crate::engine::Engine;
@@ -110,6 +111,10 @@ impl Cell {
             reply_of answer.new ≡ Reaped id fate →
             IfSome result (λ f. body_of self.old.half id ≡ Some f.body) }
 
+        // a call that is refused leaves the path as it is, and so does one that only receivers hear
+        ensures path_kept { (is_received job || changes_nothing (reply_of answer.new)) ≡ true →
+            self.new.half ≡ self.old.half }
+
         // so the answer is right, as a gate asks it of a machine
         ensures right { 0 < room_in self.old.past →
             IsRight self.old.past.config self.old.past.history job (reply_of answer.new) result }
@@ -119,8 +124,9 @@ impl Cell {
         ensures unchanged { room_in self.old.past ≡ 0 → self.new ≡ self.old }
         ensures handed_back { room_in self.old.past ≡ 0 → result ≡ frame_of job }
 
-        // all laws of runs hold of what was done
+        // all laws of runs hold of what was done, in which each frame has 1 to 2304 octets, as some laws ask
         ensures laws { Laws self.new.past.config self.new.past.history }
+        ensures lengths { HasLengths self.new.past.history }
     {
         if self.room() == 0 {
             answer.brief = Brief::Refused(Refusal::HistoryFull);
@@ -178,6 +184,7 @@ impl Cell {
         ensures stands { (bodies : ℕ → FrameValue) × StandsFor self.now.half (world_of self.now.past) bodies }
         ensures inside { (id : ℕ) →
             is_some (body_of self.now.half id) ≡ is_inside (world_of self.now.past) id }
+        ensures lengths { HasLengths self.now.past.history }
     {
         &self.engine.path
     }

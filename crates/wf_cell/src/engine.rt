@@ -1,14 +1,16 @@
 //! What a cell has beside its history: the path, the receive halves and the marks.
 
-ghost use Rattle.std.specs.Prelude.{◌≡◌, ℕ, None, IfOk};
+ghost use Rattle.std.specs.Prelude.{◌≡◌, ◌||◌, ℕ, true, None, IfOk};
 ghost use Rattle.wf_frame.specs.Frames.{FrameValue};
 ghost use Rattle.wf_frame.specs.Answers.{reply_of};
 ghost use Rattle.wf_frame.specs.Settings.{first_out_of_range};
 ghost use Rattle.wf_frame.specs.declared.notes.Ask.TheVariants.{Join, Pull};
 ghost use Rattle.wf_frame.specs.declared.notes.Note.TheVariants.{Asked};
 ghost use Rattle.wf_def_world.specs.World.{World, opening};
+ghost use Rattle.wf_path.specs.Jobs.{changes_nothing};
 ghost use Rattle.wf_path.specs.Paths.{IsSmall};
 ghost use Rattle.wf_cell.specs.Engines.{EngineHasWorld, IsJobDone, EngineIsIn, EngineMeets};
+ghost use Rattle.wf_cell.specs.Cells.{is_received};
 
 use crate::peers::Peers;
 use std::alloc::{AllocError, Global};
@@ -65,8 +67,10 @@ impl Engine {
     pub(crate) fn step(&mut self, job: Job, answer: &mut Answer) -> Option<Parcel>
         requires some { EngineHasWorld self.old }
         requires small { IsSmall self.old.half }
-        ensures { (w : World) (bodies : ℕ → FrameValue) → EngineIsIn self.old w bodies →
+        ensures done { (w : World) (bodies : ℕ → FrameValue) → EngineIsIn self.old w bodies →
             IsJobDone w bodies job self.old.half self.new (reply_of answer.new) result }
+        ensures path_kept { (is_received job || changes_nothing (reply_of answer.new)) ≡ true →
+            self.new.half ≡ self.old.half }
     {
         match job {
             Job::Give(parcel) => self.path.call(Job::Give(parcel), answer),
@@ -78,8 +82,10 @@ impl Engine {
     fn ask(&mut self, ask: Ask, answer: &mut Answer) -> Option<Parcel>
         requires some { EngineHasWorld self.old }
         requires small { IsSmall self.old.half }
-        ensures { (w : World) (bodies : ℕ → FrameValue) → EngineIsIn self.old w bodies →
+        ensures done { (w : World) (bodies : ℕ → FrameValue) → EngineIsIn self.old w bodies →
             IsJobDone w bodies (Job.Call ask) self.old.half self.new (reply_of answer.new) result }
+        ensures path_kept { (is_received (Job.Call ask) || changes_nothing (reply_of answer.new)) ≡ true →
+            self.new.half ≡ self.old.half }
     {
         match ask {
             Ask::Arrive { exchange, index } => {
@@ -124,9 +130,11 @@ impl Engine {
     )
         requires some { EngineHasWorld self.old }
         requires small { IsSmall self.old.half }
-        ensures { (w : World) (bodies : ℕ → FrameValue) → EngineIsIn self.old w bodies →
+        ensures meets { (w : World) (bodies : ℕ → FrameValue) → EngineIsIn self.old w bodies →
             EngineMeets w bodies (Asked (Join station window start exponent weight)) self.new
             (reply_of answer.new) }
+        ensures path_kept { changes_nothing (reply_of answer.new) ≡ true →
+            self.new.half ≡ self.old.half }
     {
         let ask = Ask::Join {
             station,
@@ -148,8 +156,10 @@ impl Engine {
     fn pull(&mut self, class: Class, answer: &mut Answer)
         requires some { EngineHasWorld self.old }
         requires small { IsSmall self.old.half }
-        ensures { (w : World) (bodies : ℕ → FrameValue) → EngineIsIn self.old w bodies →
+        ensures meets { (w : World) (bodies : ℕ → FrameValue) → EngineIsIn self.old w bodies →
             EngineMeets w bodies (Asked (Pull class)) self.new (reply_of answer.new) }
+        ensures path_kept { changes_nothing (reply_of answer.new) ≡ true →
+            self.new.half ≡ self.old.half }
     {
         let _ = self.path.call(Job::Call(Ask::Pull { class }), answer);
         match answer.brief {

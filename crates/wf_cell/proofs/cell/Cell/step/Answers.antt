@@ -5,6 +5,7 @@ use Rattle.wf_frame.specs.declared.notes.ReplyNote.{ReplyNote}
 use Rattle.wf_def_lists.specs.Lengths.{greatest_body}
 use Rattle.wf_def_world.specs.Run.{Entry, Past, by, world_of}
 use Rattle.wf_law_runs.specs.Laws.{Laws}
+use Rattle.wf_law_runs.specs.Lengths.{HasLengths}
 use Rattle.wf_law_runs.specs.Queues.{HasLength, IsAtMost}
 use Rattle.wf_send_half_refines.specs.Half.{body_of}
 use Rattle.wf_send_half_refines.specs.Standing.{StandsFor}
@@ -25,6 +26,10 @@ returns-then-room-eq0-clause-laws c =
     subst (λ (u : CellValue). Laws u.past.config u.past.history) c.self.view_is
     (all_laws p engine (vec_capacity c.self.inside.past) c.self.invariant)
 
+pub returns-then-room-eq0-clause-lengths : goal.returns-then-room-eq0-clause-lengths
+returns-then-room-eq0-clause-lengths c =
+    subst (λ (u : CellValue). HasLengths u.past.history) c.self.view_is c.self.invariant.lengths
+
 pub step-requires-clause-small : goal.step-requires-clause-small
 step-requires-clause-small c =
     let engine : EngineValue = c.self.inside.engine in
@@ -44,7 +49,7 @@ invariant_of-self c =
     let grown : history ≡ p.history ++ e ∷ [] = c.push_reserved.ensures.items
     ∙ ap (λ (n : Note). p.history ++ by c.args.caller n ∷ []) c.note.ensures.value in
     next_cell p engine (vec_capacity c.self.inside.past) c.self.invariant refl room c.args.caller c.args.job
-    c.step.new.self answered c.step.result c.step.ensures history
+    c.step.new.self answered c.step.result c.step.ensures.done history
     (vec_capacity c.push_reserved.new.self) grown (omega (arith, c.push_reserved.ensures.capacity))
     (subst HasLength c.note.ensures.value c.note.ensures.some)
     (subst (IsAtMost greatest_body) c.note.ensures.value c.note.ensures.most)
@@ -62,7 +67,7 @@ returns-clause-past c = λ some.
     let grown : history ≡ p.history ++ e ∷ [] = c.push_reserved.ensures.items
     ∙ ap (λ (n : Note). p.history ++ by c.args.caller n ∷ []) c.note.ensures.value in
     past_grown p engine (vec_capacity c.self.inside.past) c.self.invariant refl room c.args.caller c.args.job
-    c.step.new.self answered c.step.result c.step.ensures history grown
+    c.step.new.self answered c.step.result c.step.ensures.done history grown
     ∙ ap (λ (u : CellValue). with_entry e u.past) c.self.view_is
 
 pub returns-clause-bodies : goal.returns-clause-bodies
@@ -75,7 +80,7 @@ returns-clause-bodies c = λ some id.
     ∙ ap (λ (u : CellValue). room_in u.past) (sym c.self.view_is) in
     let room : 0 < room_in p = omega (arith, left, c.if-room-eq0.false) in
     let after = stepped p engine (vec_capacity c.self.inside.past) is refl room c.args.caller c.args.job
-    c.step.new.self answered c.step.result c.step.ensures in
+    c.step.new.self answered c.step.result c.step.ensures.done in
     subst (λ (u : CellValue). body_of c.step.new.self.half id ≡ body_after u.half answered c.args.job id)
     c.self.view_is
     (bodies_then engine.half c.step.new.self.half
@@ -91,7 +96,7 @@ returns-clause-reaped c = λ some id fate told.
     ∙ ap (λ (u : CellValue). room_in u.past) (sym c.self.view_is) in
     let room : 0 < room_in p = omega (arith, left, c.if-room-eq0.false) in
     let after = stepped p engine (vec_capacity c.self.inside.past) is refl room c.args.caller c.args.job
-    c.step.new.self answered c.step.result c.step.ensures in
+    c.step.new.self answered c.step.result c.step.ensures.done in
     subst (λ (u : CellValue). IfSome c.step.result (λ f. body_of u.half id ≡ Some f.body)) c.self.view_is
     (reaped_body engine.half (world_of p) is.bodies c.args.job answered c.step.result is.is_in.half
     after.reply after.back id fate told)
@@ -109,9 +114,9 @@ returns-clause-right c = λ some.
     c.self.view_is
     (is_right engine.half p is.bodies c.args.job answered c.step.result is.is_in.half
     (replied p engine (vec_capacity c.self.inside.past) is refl room c.args.caller c.args.job c.step.new.self
-    answered c.step.result c.step.ensures)
+    answered c.step.result c.step.ensures.done)
     (came_back p engine (vec_capacity c.self.inside.past) is refl room c.args.caller c.args.job
-    c.step.new.self answered c.step.result c.step.ensures is.bodies is.is_in.half))
+    c.step.new.self answered c.step.result c.step.ensures.done is.bodies is.is_in.half))
 
 pub returns-clause-stands : goal.returns-clause-stands
 returns-clause-stands c = λ some bodies stands.
@@ -134,11 +139,18 @@ returns-clause-stands c = λ some bodies stands.
     (subst (λ (q : Past). StandsFor after.half (world_of q)
     (bodies_after engine.half c.args.job answered bodies))
     (sym (past_grown p engine (vec_capacity c.self.inside.past) c.self.invariant refl room c.args.caller
-    c.args.job after answered c.step.result c.step.ensures history grown))
+    c.args.job after answered c.step.result c.step.ensures.done history grown))
     (still_stands p engine (vec_capacity c.self.inside.past) c.self.invariant refl room c.args.caller
-    c.args.job after answered c.step.result c.step.ensures bodies before))
+    c.args.job after answered c.step.result c.step.ensures.done bodies before))
 
 pub returns-clause-laws : goal.returns-clause-laws
 returns-clause-laws c =
     all_laws (record { config = c.step.new.self.half.config; history = c.push_reserved.new.self.items })
     c.step.new.self (vec_capacity c.push_reserved.new.self) (invariant_of-self c)
+
+pub returns-clause-lengths : goal.returns-clause-lengths
+returns-clause-lengths c = (invariant_of-self c).lengths
+
+pub returns-clause-path_kept : goal.returns-clause-path_kept
+returns-clause-path_kept c = λ is.
+    c.step.ensures.path_kept is ∙ ap (λ (u : CellValue). u.half) c.self.view_is

@@ -11,8 +11,9 @@ use Rattle.wf_recv_refines.specs.Hearing.{agreement_of}
 use Rattle.wf_cell.proofs.Exchanges.{answer_refused, answered_meets, told_station, told_tid}
 use Rattle.wf_cell.proofs.engine.Engine.answer.Goals as goal
 
-pub returns-in-Err : goal.returns-in-Err
-returns-in-Err c = λ w bodies i. answer_refused c.args.self.now w bodies c.args.exchange i c.in-Err.reason
+pub returns-in-Err-clause-meets : goal.returns-in-Err-clause-meets
+returns-in-Err-clause-meets c = λ w bodies i.
+    answer_refused c.args.self.now w bodies c.args.exchange i c.in-Err.reason
     (c.in-Err.ensures.refused w bodies i)
 
 pub keep_answer-answer-requires-clause-within : goal.keep_answer-answer-requires-clause-within
@@ -25,8 +26,8 @@ keep_answer-answer-requires-clause-tid c =
     told_tid c.requires.world c.args.exchange c.in-Ok.sent c.requires.is_in.half.reached
     (c.in-Ok.ensures.sent c.requires.world c.requires.bodies c.requires.is_in)
 
-pub returns-in-Ok : goal.returns-in-Ok
-returns-in-Ok c = λ w bodies i.
+pub returns-in-Ok-clause-meets : goal.returns-in-Ok-clause-meets
+returns-in-Ok-clause-meets c = λ w bodies i.
     let e : ℕ = c.args.exchange in
     let sent = c.in-Ok.sent in
     let b : Board = (agreement_of c.args.self.now.peers sent.station sent.tid).board in
@@ -42,3 +43,6 @@ returns-in-Ok c = λ w bodies i.
     subst (λ (k : EngineValue). EngineMeets w bodies (Asked (Answer e)) k
     (reply_with c.keep_answer-answer.result pairs ids)) (sym c.keep_answer-answer.ensures.kept)
     (subst (λ (r : ReplyNote). EngineMeets w bodies (Asked (Answer e)) u r) told meets)
+
+pub returns-in-Ok-clause-path_kept : goal.returns-in-Ok-clause-path_kept
+returns-in-Ok-clause-path_kept c = ap (λ (u : EngineValue). u.half) c.keep_answer-answer.ensures.kept

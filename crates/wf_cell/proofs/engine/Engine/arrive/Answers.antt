@@ -2,8 +2,9 @@ use Rattle.std.proofs.Common.{sym}
 use Rattle.wf_cell.proofs.Exchanges.{arrive_refused}
 use Rattle.wf_cell.proofs.engine.Engine.arrive.Goals as goal
 
-pub returns-in-Err : goal.returns-in-Err
-returns-in-Err c = λ w bodies i. arrive_refused c.args.self.now w bodies c.args.exchange c.args.index i
+pub returns-in-Err-clause-meets : goal.returns-in-Err-clause-meets
+returns-in-Err-clause-meets c = λ w bodies i.
+    arrive_refused c.args.self.now w bodies c.args.exchange c.args.index i
     c.in-Err.reason (c.in-Err.ensures.refused w bodies i)
 
 pub pass_on-requires : goal.pass_on-requires
@@ -15,5 +16,6 @@ pass_on-requires c = record {
   told = c.in-Ok.ensures.sent;
 }
 
-pub returns-in-Ok : goal.returns-in-Ok
-returns-in-Ok c = λ w bodies i. c.pass_on.ensures w bodies i (sym (c.in-Ok.ensures.refused w bodies i))
+pub returns-in-Ok-clause-meets : goal.returns-in-Ok-clause-meets
+returns-in-Ok-clause-meets c = λ w bodies i.
+    c.pass_on.ensures.meets w bodies i (sym (c.in-Ok.ensures.refused w bodies i))

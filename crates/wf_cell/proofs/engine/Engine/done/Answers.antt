@@ -1,18 +1,21 @@
-use Rattle.std.proofs.Common.{◌≡◌, sym, subst, ℕ, List}
+use Rattle.std.proofs.Common.{◌≡◌, ap, sym, ◌∙◌, subst, ℕ, true, false, List}
 use Rattle.wf_cell.specs.Engines.{EngineValue, EngineIsIn, EngineMeets}
 use Rattle.wf_frame.specs.Answers.{reply_with}
 use Rattle.wf_frame.specs.declared.notes.Ask.TheVariants.{Done}
 use Rattle.wf_frame.specs.declared.notes.Note.TheVariants.{Asked}
 use Rattle.wf_send_exchanges.specs.declared.marks.Mark.{Mark}
+use Rattle.wf_path.specs.Jobs.{changes_nothing}
+use Rattle.wf_cell.proofs.Calls.{ended_reply}
 use Rattle.wf_cell.proofs.Exchanges.{done_refused, ended_meets, end_met, kept_answer}
 use Rattle.wf_cell.proofs.engine.Engine.done.Goals as goal
 
-pub returns-in-Err : goal.returns-in-Err
-returns-in-Err c = λ w bodies i. done_refused c.args.self.now w bodies c.args.exchange c.args.heard i
+pub returns-in-Err-clause-meets : goal.returns-in-Err-clause-meets
+returns-in-Err-clause-meets c = λ w bodies i.
+    done_refused c.args.self.now w bodies c.args.exchange c.args.heard i
     c.in-Err.reason (c.in-Err.ensures.refused w bodies i)
 
-pub returns-in-Ok : goal.returns-in-Ok
-returns-in-Ok c = λ w bodies i.
+pub returns-in-Ok-clause-meets : goal.returns-in-Ok-clause-meets
+returns-in-Ok-clause-meets c = λ w bodies i.
     let v : EngineValue = record {
       half = c.self.inside.path;
       peers = c.self.inside.peers;
@@ -34,3 +37,12 @@ returns-in-Ok c = λ w bodies i.
     EngineMeets w bodies (Asked (Done c.args.exchange c.args.heard)) u (reply_with d.result pairs ids))
     (sym c.close.ensures) (ended_meets v w bodies c.args.exchange c.args.heard j d.new.self
     (reply_with d.result pairs ids) done met)
+
+pub returns-in-Ok-clause-path_kept : goal.returns-in-Ok-clause-path_kept
+returns-in-Ok-clause-path_kept c = λ is.
+    let k = c.requires.some in
+    let met = returns-in-Ok-clause-meets c k.world k.bodies k.is_in in
+    let answered = sym (c.in-Ok.ensures.refused k.world k.bodies k.is_in) in
+    let both : true ≡ false = sym is ∙ ap changes_nothing met.reply
+    ∙ ended_reply k.world c.args.exchange c.args.heard answered in
+    cc

@@ -49,8 +49,8 @@ reset-requires-clause-size c =
     (is_joined w x.station x.window x.start x.exponent x.weight
     (sym (c.call.ensures.meets w bodies j.half).reply ∙ joined))
 
-pub returns-in-Joined : goal.returns-in-Joined
-returns-in-Joined c = λ w bodies i.
+pub returns-in-Joined-clause-meets : goal.returns-in-Joined-clause-meets
+returns-in-Joined-clause-meets c = λ w bodies i.
     let v : EngineValue = record {
       half = c.self.inside.path;
       peers = c.self.inside.peers;
@@ -73,8 +73,8 @@ returns-in-Joined c = λ w bodies i.
     (sym c.reset.ensures) (joined_meets v after (reply_of a) w bodies x.station x.window x.start x.exponent
     x.weight c.of.result j m joined number)
 
-pub returns-in_default : goal.returns-in_default
-returns-in_default c = λ w bodies i.
+pub returns-in_default-clause-meets : goal.returns-in_default-clause-meets
+returns-in_default-clause-meets c = λ w bodies i.
     let v : EngineValue = record {
       half = c.self.inside.path;
       peers = c.self.inside.peers;
@@ -91,3 +91,11 @@ returns-in_default c = λ w bodies i.
     (reply_of a) w bodies j m
     (not_joined w x.station x.window x.start x.exponent x.weight
     (λ joined. c.in_default.not-Joined (joined_brief a.brief a.pairs a.ids (m.reply ∙ joined))))
+
+pub returns-in-Joined-clause-path_kept : goal.returns-in-Joined-clause-path_kept
+returns-in-Joined-clause-path_kept c = λ is.
+    c.call.ensures.refused is ∙ ap (λ (u : EngineValue). u.half) c.self.view_is
+
+pub returns-in_default-clause-path_kept : goal.returns-in_default-clause-path_kept
+returns-in_default-clause-path_kept c = λ is.
+    c.call.ensures.refused is ∙ ap (λ (u : EngineValue). u.half) c.self.view_is

@@ -101,8 +101,8 @@ arrive-requires c =
     let within : k < transmissions x.content = arrives_within w e k x o.known done in
     omega (arith, within, transmissions_few w e x j.half.reached o.known)
 
-pub returns : goal.returns
-returns c = λ w bodies i done.
+pub returns-clause-meets : goal.returns-clause-meets
+returns-clause-meets c = λ w bodies i done.
     let v : EngineValue = record {
       half = c.self.inside.path;
       peers = c.self.inside.peers;
@@ -136,3 +136,6 @@ returns c = λ w bodies i done.
     c.arrive.ensures
     (subst (λ s. c.receive.new.up ≡ (buffer_outcome_of_transmission k id x.content
     (agreement_of peers s x.tid).buffer).up) here (c.receive.ensures.up x.tid k x.content at_own))
+
+pub returns-clause-path_kept : goal.returns-clause-path_kept
+returns-clause-path_kept c = ap (λ (u : EngineValue). u.half) c.self.view_is

@@ -1,4 +1,4 @@
-use Rattle.std.proofs.Common.{ap, sym, subst, List}
+use Rattle.std.proofs.Common.{ap, sym, ◌∙◌, subst, List}
 use Rattle.wf_cell.specs.Engines.{EngineValue, EngineIsIn, EngineMeets}
 use Rattle.wf_frame.specs.Answers.{reply_of, reply_with, part_sent}
 use Rattle.wf_frame.specs.declared.answers.Answer.{Answer}
@@ -60,8 +60,8 @@ open-requires-clause-above c =
     } in
     (mark_fits v after (reply_of a) w bodies c.args.class j (c.call.ensures.meets w bodies j.half) sent).above
 
-pub returns-in-Send : goal.returns-in-Send
-returns-in-Send c = λ w bodies i.
+pub returns-in-Send-clause-meets : goal.returns-in-Send-clause-meets
+returns-in-Send-clause-meets c = λ w bodies i.
     let v : EngineValue = record {
       half = c.self.inside.path;
       peers = c.self.inside.peers;
@@ -87,8 +87,8 @@ returns-in-Send c = λ w bodies i.
     EngineMeets w bodies (Asked (Pull c.args.class)) u (reply_of a)) (sym c.open.ensures)
     (pulled_meets v after (reply_of a) w bodies c.args.class j (c.call.ensures.meets w bodies j.half) sent)
 
-pub returns-in_default : goal.returns-in_default
-returns-in_default c = λ w bodies i.
+pub returns-in_default-clause-meets : goal.returns-in_default-clause-meets
+returns-in_default-clause-meets c = λ w bodies i.
     let v : EngineValue = record {
       half = c.self.inside.path;
       peers = c.self.inside.peers;
@@ -103,3 +103,11 @@ returns-in_default c = λ w bodies i.
     refused_meets v after (Asked (Pull c.args.class)) (reply_of a) w bodies j m
     (not_pulled w c.args.class (λ sent. send_brief a.brief a.pairs a.ids
     (subst IsSend (sym m.reply) sent) c.in_default.not-Send))
+
+pub returns-in-Send-clause-path_kept : goal.returns-in-Send-clause-path_kept
+returns-in-Send-clause-path_kept c = λ is.
+    c.call.ensures.refused is ∙ ap (λ (u : EngineValue). u.half) c.self.view_is
+
+pub returns-in_default-clause-path_kept : goal.returns-in_default-clause-path_kept
+returns-in_default-clause-path_kept c = λ is.
+    c.call.ensures.refused is ∙ ap (λ (u : EngineValue). u.half) c.self.view_is
