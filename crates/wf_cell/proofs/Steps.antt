@@ -1,5 +1,5 @@
 -- A cell after a call: its history has one entry more, and it stands for the world after that.
-use Rattle.std.proofs.Common.{◌≡◌, ap, ap₂, sym, ◌∙◌, subst, ℕ, ◌<◌, ◌≤◌, List, [], ◌∷◌, ◌++◌, length, Option, length-append, arith}
+use Rattle.std.proofs.Common.{◌≡◌, ap, ap₂, sym, ◌∙◌, subst, ℕ, ◌<◌, List, [], ◌∷◌, ◌++◌, length, Option, length-append, arith}
 use Rattle.wf_frame.specs.Frames.{FrameValue}
 use Rattle.wf_frame.specs.declared.notes.ReplyNote.{ReplyNote}
 use Rattle.wf_frame.specs.declared.settings.Config.{Config}
@@ -24,7 +24,7 @@ use Rattle.wf_cell.proofs.Runs.{world_then, has_lengths, config_after, small_of,
 -- ---- a new cell
 
 pub new_cell : (p : Past) (engine : EngineValue) (capacity : ℕ) (bodies : ℕ → FrameValue) → p.history ≡ [] →
-    EngineIsIn engine (opening p.config) bodies → p.config.calls ≤ capacity → IsCell p engine capacity
+    EngineIsIn engine (opening p.config) bodies → capacity ≡ p.config.calls → IsCell p engine capacity
 new_cell p engine capacity bodies none is reserved =
     let empty : p ≡ record { config = p.config; history = [] } =
     ap (λ (h : List Entry). let q : Past = record { config = p.config; history = h } in q) none in
@@ -101,5 +101,5 @@ module _ (p : Past) (engine : EngineValue) (capacity : ℕ) (is : IsCell p engin
             (sym world_next) stepped.is_in;
         lengths = has_lengths p.history (by caller (note_of job)) is.lengths some most;
         few = omega (arith, room, length-append p.history (by caller (note_of job) ∷ []));
-        reserved = omega (arith, same, is.reserved);
+        reserved = same ∙ is.reserved;
       })

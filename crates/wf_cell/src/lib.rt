@@ -5,7 +5,8 @@
 //!
 //! `air` is what crosses the air: a transmission that arrives is written as octets and read by the station,
 //! and so is its BlockAck. `machine` makes a cell a `Machine`: a call brings the answer that it fills, in a
-//! box that comes back with it. No call takes memory but `Cell::new`.
+//! box that comes back with it. No call takes memory but `Cell::new`: of the history and of the list of
+//! receive halves the types keep it, and of what they hold in turn it is so by the code.
 #![tactic(auto)]
 
 mod air;

@@ -37,12 +37,15 @@ pub(crate) struct Peers {
 }
 
 impl Model for Peers {
-    ghost use Rattle.std.specs.Prelude.{List};
+    ghost use Rattle.std.specs.Prelude.{◌≡◌, List, vec_len, vec_capacity};
     ghost use Rattle.wf_recv_peer.specs.Agreements.{PeerValue};
 
     ghost Value = { List PeerValue };
 
     ghost view = { λ p. p.list.items };
+
+    // there is memory for these halves, and for no more
+    ghost invariant = { λ p. vec_capacity p.list ≡ vec_len p.list };
 }
 
 impl Peers {

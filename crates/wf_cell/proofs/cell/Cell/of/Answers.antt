@@ -18,7 +18,7 @@ invariant_of-result c =
     (c.in_ok-engine.ensures no_frames) in
     new_cell (record { config = engine.half.config; history = v.past.items }) engine
     (vec_capacity v.past) no_frames v.ensures.items is_in
-    (omega (arith, v.ensures.capacity, ap (λ (k : Config). k.calls) same))
+    (omega (arith, v.ensures.exact, ap (λ (k : Config). k.calls) same))
 
 pub returns-clause-past : goal.returns-clause-past
 returns-clause-past c =
