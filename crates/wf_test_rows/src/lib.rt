@@ -9,6 +9,8 @@ mod exchanges;
 #[cfg(test)]
 mod frames;
 #[cfg(test)]
+mod greatest;
+#[cfg(test)]
 mod paths;
 #[cfg(test)]
 mod replays;
