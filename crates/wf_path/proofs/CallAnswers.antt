@@ -18,8 +18,9 @@ use Rattle.wf_send_half_refines.specs.Half.{TransmitValue}
 use Rattle.wf_send_half_refines.specs.Standing.{StandsFor, Meets}
 use Rattle.wf_path.specs.Flags.{Flags, with_flags, AreFlags, FlagsHaveRoom}
 use Rattle.wf_path.specs.Jobs.{changes_nothing}
-use Rattle.wf_path.specs.Paths.{IsTracked, IsToldBriefly}
+use Rattle.wf_path.specs.Paths.{IsTracked, RiseLittle, IsToldBriefly}
 use Rattle.wf_path.proofs.Kept.{Leaves, same_bodies, kept_path, same_config, tracked_station, answered, within_range}
+use Rattle.wf_path.proofs.Rises.{rises_by}
 
 -- there is a flag for each station
 pub room_for : (x : TransmitValue) (r : Flags) (s : ℕ) → AreFlags x r → s < x.config.stations →
@@ -43,6 +44,8 @@ module _ (x : TransmitValue) (r : Flags) (h : IsTracked x r) (ask : Ask) (reply 
         (sym same) st));
     refused = λ ids is. stays (ap changes_nothing (sym (says pairs ids)) ∙ is) ∙ same;
     path = kept_path x u same_bodies (Asked ask) reply meets quiet h.path;
+    rises = subst (λ (z : TransmitValue). RiseLittle z u) same (rises_by x u h.path h.path.bodies (Asked ask)
+        reply (meets h.path.world h.path.bodies h.path.stands));
   }
 
   -- of a call of one station, which is not refused

@@ -1,5 +1,5 @@
 -- The end of an exchange: what is asked of it, and what it leaves.
-use Rattle.std.proofs.Common.{◌≡◌, refl, ap, sym, ◌∙◌, subst, arith, ℕ, ◌<◌, ◌==◌, ◌^◌, List, length, true, false, Option, Some, None, option_map}
+use Rattle.std.proofs.Common.{◌≡◌, refl, ap, sym, ◌∙◌, subst, arith, ℕ, suc, ◌<◌, ◌==◌, ◌^◌, nat_lt, Bool, ◌↔◌, List, [], ◌∷◌, ◌++◌, length, true, false, Option, Some, None, option_map}
 use Rattle.std.specs.Prelude.{find, IfSome, IfNone, Result, Err, is_some}
 use Rattle.wf_frame.specs.Answers.{reply_with}
 use Rattle.wf_frame.specs.Classes.{class_of}
@@ -14,28 +14,38 @@ use Rattle.wf_frame.specs.declared.notes.Refusal.TheVariants.{NoExchange}
 use Rattle.wf_frame.specs.declared.notes.ReplyNote.{ReplyNote}
 use Rattle.wf_frame.specs.declared.notes.ReplyNote.TheVariants.{Refused}
 use Rattle.wf_frame.specs.declared.settings.Config.{Config}
-use Rattle.wf_def_world.specs.World.{World, Exchange, exchange}
+use Rattle.wf_def_agreement.specs.Session.{State, slot}
+use Rattle.wf_def_world.specs.World.{World, Exchange, Mpdu, Content, Frames, Request, session, exchange}
+use Rattle.wf_def_world.specs.Exchanges.{mpdus_of}
+use Rattle.wf_def_world.specs.Run.{world_after}
+use Rattle.wf_def_world.specs.Step.{step}
+use Rattle.wf_law_runs.specs.Windows.{EachMpdu}
 use Rattle.wf_law_runs.proofs.Deficits.Configs.{config_step, config_run}
-use Rattle.wf_law_driver.specs.Told.{told}
+use Rattle.wf_law_driver.specs.Told.{shown_indices, indices_told, arrivals, answer_told, told, tells, after_told, done_told, AreAckedWhere, IsTold}
+use Rattle.wf_law_driver.specs.Unheard.{IsUnheard}
+use Rattle.wf_law_driver.proofs.Runs.{told_keeps}
+use Rattle.wf_law_driver.proofs.Told.{told_law}
 use Rattle.wf_send_exchanges.specs.declared.opened.Open.{Open}
 use Rattle.wf_send_stations.specs.Members.{member, charged_in}
 use Rattle.wf_send_half.specs.declared.finish.Ended.{Ended}
 use Rattle.wf_def_agreement.specs.Receiver.{Score}
 use Rattle.wf_send_half.specs.Bits.{AreShown, is_shown, ended_reply, count_shown_of, IsChargeSmall}
 use Rattle.wf_def_world.specs.World.{is_wide}
-use Rattle.wf_send_half.specs.Driven.{ended_by, outcome_after_done, IsAfterDone, MeetsUnheard}
+use Rattle.wf_send_half.specs.Driven.{ended_by, outcome_after_done, world_after_done, IsAfterDone, MeetsUnheard}
 use Rattle.wf_send_half.specs.Half.{HasWorld}
 use Rattle.wf_send_half.specs.Replies.{reply_of_result}
 use Rattle.wf_send_half.proofs.Driven.{meets_unheard, ready_as_before}
 use Rattle.wf_send_half_refines.specs.Half.{TransmitValue, is_ready_of}
-use Rattle.wf_send_half_refines.specs.Standing.{StandsFor, Meets, open_of}
+use Rattle.wf_send_half_refines.specs.Standing.{StandsFor, Meets, IsReached, open_of}
 use Rattle.wf_send_half_refines.proofs.Readers.{exchange_same}
+use Rattle.wf_send_half_refines.proofs.Whole.{arrive_stands, answer_stands}
 use Rattle.wf_send_half.proofs.Dones.{refused_done}
 use Rattle.wf_path.proofs.Opened.{open_within, open_low}
 use Rattle.wf_path.specs.Driver.{IsEnded}
 use Rattle.wf_path.specs.Flags.{Flags, flags_in, with_flag}
-use Rattle.wf_path.specs.Paths.{IsPath, IsTracked, IsSmall}
+use Rattle.wf_path.specs.Paths.{IsPath, IsTracked, IsSmall, RiseLittle}
 use Rattle.wf_path.proofs.Flags.{AreNearly, set_alone}
+use Rattle.wf_path.proofs.Rises.{rise_little}
 
 pub has_world : (v : TransmitValue) → IsPath v → HasWorld v
 has_world v h = record { world = h.world; bodies = h.bodies; stands = h.stands }
@@ -61,6 +71,75 @@ config_ended w caller e (Some score) (Some x) =
     config_step _ _ ∙ config_run (told caller e (is_shown (is_wide w x.station x.tid) (Some score)) x.content)
     w
 
+-- ---- of what was heard
+
+told_at : (w : World) → IsReached w → (caller e : ℕ) (shown : ℕ → Bool) (x : Exchange) → IsUnheard w →
+    exchange w e ≡ Some x → IsTold w caller e shown x
+told_at w r caller e shown x =
+    subst (λ (u : World). IsUnheard u → exchange u e ≡ Some x → IsTold u caller e shown x) (sym r.after)
+    (told_law w.config r.history caller e shown x)
+
+world_after_none : (w : World) → world_after w [] ≡ w
+unfolding world_after
+world_after_none w = refl
+
+module _ (w : World) (r : IsReached w) (un : IsUnheard w) (caller e : ℕ) (x : Exchange)
+    (known : exchange w e ≡ Some x) where
+  abbrev shown_by : Option (ℕ × List ℕ) → ℕ → Bool
+  shown_by heard = is_shown (is_wide w x.station x.tid) heard
+
+  no_indices : (i : ℕ) (ms : List Mpdu) → shown_indices (shown_by None) i ms ≡ []
+  no_indices i [] = refl
+  no_indices i (m ∷ ms) = no_indices (suc i) ms
+
+  -- of what was not heard nothing is acknowledged
+  acked_lost : (c : Content) → x.content ≡ c →
+      AreAckedWhere (step w (Asked (Done e false))).world (shown_by None) x
+  acked_lost (Request start) is = subst (λ (d : Content). EachMpdu
+      (λ m. ((slot (session (step w (Asked (Done e false))).world x.station x.tid) m.number).state
+      ≡ State.Acked) ↔ (shown_by None m.number ≡ true)) (mpdus_of d)) (sym is) tt
+  acked_lost (Frames ms) is =
+      let none : indices_told (shown_by None) x.content ≡ [] =
+      ap (indices_told (shown_by None)) is ∙ no_indices 0 ms in
+      let after : after_told w caller e (shown_by None) x.content ≡ w =
+      ap (λ (js : List ℕ). world_after w (arrivals caller e js ++ answer_told caller e js)) none
+      ∙ world_after_none w in
+      let quiet : tells (shown_by None) x.content ≡ false = ap (λ (js : List ℕ). nat_lt 0 (length js)) none in
+      subst (λ (b : Bool). AreAckedWhere (step w (Asked (Done e b))).world (shown_by None) x) quiet
+      (subst (λ (u : World). AreAckedWhere (step u (done_told e (shown_by None) x.content)).world
+      (shown_by None) x) after (told_at w r caller e (shown_by None) x un known).acked)
+
+  acked_open : (heard : Option (ℕ × List ℕ)) →
+      AreAckedWhere (ended_by w caller e heard (Some x)).world (shown_by heard) x
+  acked_open None = acked_lost x.content refl
+  acked_open (Some score) = (told_at w r caller e (shown_by (Some score)) x un known).acked
+
+  pub acked_where_shown : (heard : Option (ℕ × List ℕ)) →
+      AreAckedWhere (world_after_done w caller e heard) (shown_by heard) x
+  acked_where_shown heard = subst (λ (o : Option Exchange).
+      AreAckedWhere (ended_by w caller e heard o).world (shown_by heard) x) (sym known) (acked_open heard)
+
+-- ---- the counts
+
+-- what a BlockAck tells of leaves what a path stands for
+told_stands : (v : TransmitValue) (w : World) (bodies : ℕ → FrameValue) → StandsFor v w bodies →
+    (caller e : ℕ) (shown : ℕ → Bool) (content : Content) →
+    StandsFor v (after_told w caller e shown content) bodies
+told_stands v w bodies h caller e shown content =
+    told_keeps (λ u. StandsFor v u bodies) (λ u d i k. arrive_stands v u bodies d i k)
+    (λ u d k. answer_stands v u bodies d k) w caller e shown content h
+
+rise_ended : (v u : TransmitValue) (w : World) (bodies : ℕ → FrameValue) → StandsFor v w bodies →
+    (caller e : ℕ) (heard : Option (ℕ × List ℕ)) (x : Option Exchange) →
+    StandsFor u (ended_by w caller e heard x).world bodies → RiseLittle v u
+rise_ended v u w bodies h caller e None x st = rise_little v u w bodies bodies (Asked (Done e false)) h st
+rise_ended v u w bodies h caller e (Some score) None st =
+    rise_little v u w bodies bodies (Asked (Done e false)) h st
+rise_ended v u w bodies h caller e (Some score) (Some x) st =
+    let shown : ℕ → Bool = is_shown (is_wide w x.station x.tid) (Some score) in
+    rise_little v u (after_told w caller e shown x.content) bodies bodies (done_told e shown x.content)
+    (told_stands v w bodies h caller e shown x.content) st
+
 -- ---- what it leaves
 
 -- x are the fields of a path, and u what `Transmit::done` leaves of them
@@ -78,6 +157,10 @@ module _ (x : TransmitValue) (r : Flags) (h : IsTracked x r) (u : TransmitValue)
     stands = ended.stands;
     unheard = ended.unheard;
   }
+
+  rises : RiseLittle x u
+  rises = rise_ended x u h.path.world h.path.bodies h.path.stands 0 e heard (exchange h.path.world e)
+      ended.stands
 
   config : x.config ≡ u.config
   config = h.path.stands.parts.others.config ∙ sym
@@ -147,12 +230,15 @@ module _ (x : TransmitValue) (r : Flags) (h : IsTracked x r) (u : TransmitValue)
           subst (λ (z : ReplyNote). MeetsUnheard bodies (outcome_after_done w caller e heard) u z)
           (says pairs ids)
           (meets_unheard x u w bodies (before w bodies st) un e heard result done caller);
+      acked_where = λ w bodies caller y st un known.
+          acked_where_shown w st.reached un caller e y known heard;
       acked = λ a i f is. subst (λ (z : TransmitValue).
           IfSome (find (λ y. y.number == e) z.opened) (λ y. a ≡ count_shown_of z heard y)) same
           (acked a i f is);
       not_open = λ e'. let k = none (ap (λ (z : TransmitValue). find (λ y. y.number == e) z.opened) same ∙ e')
           in (k.0, k.1 ∙ same);
       path = ended_path;
+      rises = subst (λ (z : TransmitValue). RiseLittle z u) same rises;
     }
       where
         shown_if : (o : Option (ℕ × List ℕ)) → IfSome o

@@ -8,11 +8,14 @@ use Rattle.wf_frame.specs.declared.notes.Ask.TheVariants.{Join, Leave, Rate, Tic
 use Rattle.wf_frame.specs.declared.notes.Note.TheVariants.{Asked}
 use Rattle.wf_frame.specs.declared.notes.ReplyNote.{ReplyNote}
 use Rattle.wf_def_world.specs.World.{World}
+use Rattle.wf_def_world.specs.Step.{step}
+use Rattle.wf_law_driver.specs.Unheard.{IsSilent, IsUnheard}
 use Rattle.wf_send_half_refines.specs.Half.{TransmitValue}
-use Rattle.wf_send_half_refines.specs.Standing.{Meets}
-use Rattle.wf_path.specs.Jobs.{IsBrief, note_of, bodies_after, frame_given_back}
+use Rattle.wf_send_half_refines.specs.Standing.{StandsFor, Meets}
+use Rattle.wf_path.specs.Jobs.{IsHeard, IsBrief, note_of, bodies_after, frame_given_back}
 use Rattle.wf_path.specs.declared.job.Job.{Job}
-use Rattle.wf_path.specs.declared.job.Job.TheVariants.{Call}
+use Rattle.wf_path.specs.declared.job.Job.TheVariants.{Give, Call}
+use Rattle.wf_path.proofs.Kept.{silent_at}
 
 -- a call that is answered by a brief brings no frame back
 none_for : (bodies : ℕ → FrameValue) (ask : Ask) (reply : ReplyNote) → IsBrief ask →
@@ -44,3 +47,25 @@ pub asked_meets : (v u : TransmitValue) (job : Job) (ask : Ask) → job ≡ Call
 asked_meets v u job ask same b pairs ids w bodies m =
     subst (λ (j : Job). Meets w (bodies_after v j (reply_with b pairs ids) bodies) (note_of j) u
     (reply_with b pairs ids)) (sym same) m
+
+-- ---- no call tells of a receiver
+
+silent_job : (job : Job) → IsHeard job → IsSilent (note_of job)
+silent_job (Give f) is = tt
+silent_job (Call (Join s window start exponent weight)) is = tt
+silent_job (Call (Leave s)) is = tt
+silent_job (Call (Rate s mcs mhz short)) is = tt
+silent_job (Call (Tick by)) is = tt
+silent_job (Call (Pull c)) is = tt
+silent_job (Call (Arrive e i)) is = absurd is
+silent_job (Call (Answer e)) is = absurd is
+silent_job (Call (Done e heard)) is = absurd is
+silent_job (Call (Sleep s)) is = tt
+silent_job (Call (Wake s)) is = tt
+silent_job (Call (Poll s)) is = tt
+silent_job (Call (Rx s c air)) is = tt
+silent_job (Call Reap) is = tt
+
+pub unheard_after : (v : TransmitValue) (job : Job) → IsHeard job → (w : World) (bodies : ℕ → FrameValue) →
+    StandsFor v w bodies → IsUnheard w → IsUnheard (step w (note_of job)).world
+unheard_after v job is w bodies h = silent_at w (note_of job) h.reached (silent_job job is)

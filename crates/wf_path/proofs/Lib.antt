@@ -5,9 +5,11 @@ mod Flags
 mod Flying
 mod Identifiers
 mod Jobs
+mod Joining
 mod Kept
 mod Opened
 mod Openings
 mod Pulls
+mod Rises
 mod SmallSums
 mod Written

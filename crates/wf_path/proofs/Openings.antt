@@ -1,5 +1,5 @@
 -- A new path.
-use Rattle.std.proofs.Common.{◌≡◌, refl, ap, sym, ◌∙◌, subst, arith, lit<, ℕ, ◌<◌, ◌^◌, Bool, false, List, length, replicate, Option, Some, None}
+use Rattle.std.proofs.Common.{◌≡◌, refl, ap, sym, ◌∙◌, subst, arith, ℕ, ◌<◌, Bool, false, List, length, replicate, Option, Some, None}
 use Rattle.std.specs.Prelude.{IfSome}
 use Rattle.std.proofs.lemmas.List.{get_or-replicate, length-replicate}
 use Rattle.wf_frame.specs.Frames.{FrameValue}
@@ -18,7 +18,7 @@ use Rattle.wf_send_stations.specs.Members.{member, charged_in, received_in}
 use Rattle.wf_send_half_refines.specs.Standing.{StandsFor, AreBoth, IsMember}
 use Rattle.wf_send_half_refines.proofs.Readers.{ready_same}
 use Rattle.wf_path.specs.Flags.{Flags, flags_in, AreFlags}
-use Rattle.wf_path.specs.Paths.{IsTracked, IsSmall}
+use Rattle.wf_path.specs.Paths.{IsTracked, HasCountsBelow}
 
 -- flags of which none is up
 abbrev none_up : ℕ → Flags
@@ -64,21 +64,19 @@ new_tracked v r config stands is = record {
 
 -- ---- its numbers
 
--- what no station has is small
+-- what no station has is below any number
 none_large : (P : Member → Type 0) (o : Option Member) → AreBoth IsMember o None → IfSome o P
 none_large P None both = tt
 none_large P (Some m) both = absurd both
 
-pub new_small : (v : TransmitValue) (config : Config) →
-    ((bodies : ℕ → FrameValue) → StandsFor v (opening config) bodies) → IsSmall v
-new_small v config stands =
+pub new_below : (v : TransmitValue) (config : Config) →
+    ((bodies : ℕ → FrameValue) → StandsFor v (opening config) bodies) → (n : ℕ) → 0 < n → HasCountsBelow n v
+new_below v config stands n some =
     let others = (stands (λ _. a_frame)).parts.others in
     record {
-      clock = omega (arith, others.clock);
-      exchanges = omega (arith, others.exchanges);
-      accepted = subst (λ (n : ℕ). n < 2 ^ 62) (sym (ap (λ (x : Counts). x.accepted) others.tally)) (lit< tt);
-      charged = λ s c. none_large (λ m. charged_in m c < 2 ^ 62) (member v.members s)
-          (others.stations.live s);
-      received = λ s c. none_large (λ m. received_in m c < 2 ^ 62) (member v.members s)
-          (others.stations.live s);
+      clock = omega (arith, others.clock, some);
+      exchanges = omega (arith, others.exchanges, some);
+      accepted = omega (arith, ap (λ (x : Counts). x.accepted) others.tally, some);
+      charged = λ s c. none_large (λ m. charged_in m c < n) (member v.members s) (others.stations.live s);
+      received = λ s c. none_large (λ m. received_in m c < n) (member v.members s) (others.stations.live s);
     }

@@ -34,9 +34,10 @@ use Rattle.wf_send_stations.specs.declared.members.Member.{Member}
 use Rattle.wf_send_stations.specs.Members.{member}
 use Rattle.wf_path.specs.Flags.{Flags, flags_in, with_flag, AreFlags}
 use Rattle.wf_path.specs.Jobs.{changes_nothing}
-use Rattle.wf_path.specs.Paths.{IsTracked, IsAnswered}
+use Rattle.wf_path.specs.Paths.{IsTracked, RiseLittle, IsAnswered}
 use Rattle.wf_path.proofs.Flags.{AreNearly, all_set, set_alone}
 use Rattle.wf_path.proofs.Kept.{Leaves, same_bodies, kept_path, same_config, nearly}
+use Rattle.wf_path.proofs.Rises.{rises_by}
 
 -- ---- the world
 
@@ -253,6 +254,8 @@ module _ (x : TransmitValue) (r : Flags) (h : IsTracked x r) (c : Class) (b : Br
     refused = λ ids is. full_or_same x u h.path.world h.path.bodies c b pairs ids h.path.stands
         (pull_met h.path.world h.path.bodies c u b pairs ids met) full is ∙ same;
     path = kept_path x u same_bodies (Asked (Pull c)) (reply_with b pairs []) meets tt h.path;
+    rises = subst (λ (z : TransmitValue). RiseLittle z u) same (rises_by x u h.path h.path.bodies
+        (Asked (Pull c)) (reply_with b pairs []) met);
   }
 
   -- a station sends

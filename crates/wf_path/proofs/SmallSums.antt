@@ -6,7 +6,7 @@ use Rattle.wf_frame.specs.declared.classes.Class.{Class}
 use Rattle.wf_send_stations.specs.declared.members.Member.{Member}
 use Rattle.wf_send_stations.specs.Members.{member, charged_in, received_in}
 use Rattle.wf_send_half_refines.specs.Half.{TransmitValue}
-use Rattle.wf_path.specs.Paths.{IsPath}
+use Rattle.wf_path.specs.Paths.{IsPath, IsSmall}
 use Rattle.wf_path.specs.Small.{IsSmallIn}
 
 nobody : (f : Member → ℕ) (o : Option Member) → None ≡ o → IfSome o (λ m. f m < 2 ^ 62)
@@ -35,3 +35,13 @@ one_more v k before this s c low = elim (cases_lt s k) [
   | inr more ↦ (let same : k ≡ s = omega (arith, low, more) in
       subst (λ (n : ℕ). IsSmallIn v n c) same (this c))
 ]
+
+pub small_counts : (v : TransmitValue) → v.clock < 2 ^ 62 → v.exchanges < 2 ^ 62 → v.tally.accepted < 2 ^ 62 →
+    ((s : ℕ) (c : Class) → IsSmallIn v s c) → IsSmall v
+small_counts v clock exchanges accepted sums = record {
+  clock = clock;
+  exchanges = exchanges;
+  accepted = accepted;
+  charged = λ s c. (sums s c).charged;
+  received = λ s c. (sums s c).received;
+}

@@ -8,26 +8,31 @@ use Rattle.wf_frame.specs.declared.notes.Ask.TheVariants.{Done}
 use Rattle.wf_frame.specs.declared.notes.Note.TheVariants.{Asked}
 use Rattle.wf_frame.specs.declared.notes.Refusal.TheVariants.{NoExchange}
 use Rattle.wf_def_agreement.specs.Receiver.{Score}
-use Rattle.wf_def_world.specs.World.{World, Exchange, exchange}
+use Rattle.wf_def_world.specs.World.{World, Exchange, exchange, is_wide}
 use Rattle.wf_def_world.specs.CanSend.{is_request}
+use Rattle.wf_law_driver.specs.Told.{AreAckedWhere}
 use Rattle.wf_law_driver.specs.Unheard.{IsUnheard}
-use Rattle.wf_send_half.specs.Bits.{AreShown, NoneIsShown, count_shown_of}
-use Rattle.wf_send_half.specs.Driven.{outcome_after_done, MeetsUnheard}
+use Rattle.wf_send_half.specs.Bits.{is_shown, AreShown, NoneIsShown, count_shown_of}
+use Rattle.wf_send_half.specs.Driven.{outcome_after_done, world_after_done, MeetsUnheard}
 use Rattle.wf_send_half_refines.specs.Half.{TransmitValue}
 use Rattle.wf_send_half_refines.specs.Standing.{StandsFor, Meets}
 use Rattle.wf_path.specs.Answers.{read_fault}
 use Rattle.wf_path.specs.declared.faults.DoneFault.{DoneFault}
-use Rattle.wf_path.specs.Paths.{IsPath}
+use Rattle.wf_path.specs.Paths.{IsPath, RiseLittle}
 
 -- What the end of exchange e leaves of v, by what was heard of it: the start and the offsets of a BlockAck,
 -- or nothing.
 --
---   lost        nothing was heard: it is the machine's Done that was not heard
---   shown       the bits show of each of its numbers what the answer does that its receiver keeps: it is the Done that was heard
---   none_shown  they show none of an aggregate's numbers: it is the Done that was not heard
---   driven      in a world in which no receiver has anything of which its sender does not know, it is the Done after exactly the
---               calls that the BlockAck tells of, and leaves such a world
---   acked       so many of its numbers are acknowledged as the bits show
+--   lost         nothing was heard: it is the machine's Done that was not heard
+--   shown        the bits show of each of its numbers what the answer does that its receiver keeps: it is
+--                the Done that was heard
+--   none_shown   they show none of an aggregate's numbers: it is the Done that was not heard
+--   driven       in a world in which no receiver has anything of which its sender does not know, it is the
+--                Done after exactly the calls that the BlockAck tells of, and leaves such a world
+--   acked_where  in such a world exactly those of an open exchange's numbers are acknowledged then which the
+--                bits show
+--   acked        so many of its numbers are acknowledged as the bits show
+--   rises        the counts go on by that Done alone: what a BlockAck tells of moves none
 pub record IsEnded (v : TransmitValue) (e : ℕ) (heard : Option (ℕ × List ℕ)) (u : TransmitValue)
     (brief : Brief) : Type 0 where
   pub lost : IfNone heard ((w : World) (bodies : ℕ → FrameValue) (pairs : List (ℕ × ℕ)) (ids : List ℕ) →
@@ -44,10 +49,14 @@ pub record IsEnded (v : TransmitValue) (e : ℕ) (heard : Option (ℕ × List �
   pub driven : (w : World) (bodies : ℕ → FrameValue) (caller : ℕ) (pairs : List (ℕ × ℕ)) (ids : List ℕ) →
       StandsFor v w bodies → IsUnheard w →
       MeetsUnheard bodies (outcome_after_done w caller e heard) u (reply_with brief pairs ids)
+  pub acked_where : (w : World) (bodies : ℕ → FrameValue) (caller : ℕ) (x : Exchange) →
+      StandsFor v w bodies → IsUnheard w → exchange w e ≡ Some x →
+      AreAckedWhere (world_after_done w caller e heard) (is_shown (is_wide w x.station x.tid) heard) x
   pub acked : (acked waiting failed : ℕ) → brief ≡ Ended acked waiting failed →
       IfSome (find (λ x. x.number == e) v.opened) (λ x. acked ≡ count_shown_of v heard x)
   pub not_open : find (λ x. x.number == e) v.opened ≡ None → (brief ≡ Refused NoExchange) × (u ≡ v)
   pub path : IsPath u
+  pub rises : RiseLittle v u
 
 -- ---- by octets
 

@@ -1,11 +1,12 @@
 -- What is true of every path, and what its calls ask of it.
-use Rattle.std.specs.Prelude.{◌≡◌, ℕ, ◌<◌, ◌^◌, true, List, IfSome}
+use Rattle.std.specs.Prelude.{◌≡◌, ℕ, ◌+◌, ◌<◌, ◌^◌, true, List, IfSome}
 use Rattle.wf_frame.specs.declared.classes.Class.{Class}
 use Rattle.wf_frame.specs.Answers.{reply_with}
 use Rattle.wf_frame.specs.Frames.{FrameValue}
 use Rattle.wf_frame.specs.declared.answers.Brief.{Brief}
 use Rattle.wf_frame.specs.declared.notes.Ask.{Ask}
 use Rattle.wf_frame.specs.declared.notes.Note.TheVariants.{Asked}
+use Rattle.wf_def_lists.specs.Bounds.{greatest_tick}
 use Rattle.wf_def_world.specs.World.{World}
 use Rattle.wf_law_driver.specs.Unheard.{IsUnheard}
 use Rattle.wf_send_stations.specs.Members.{member, charged_in, received_in}
@@ -27,13 +28,23 @@ pub record IsTracked (v : TransmitValue) (r : Flags) : Type 0 where
   pub path : IsPath v
   pub flags : AreFlags v r
 
--- The clock and all counts and sums of a path are below 2^62, so that one call more overflows none.
-pub record IsSmall (v : TransmitValue) : Type 0 where
-  pub clock : v.clock < 2 ^ 62
-  pub exchanges : v.exchanges < 2 ^ 62
-  pub accepted : v.tally.accepted < 2 ^ 62
-  pub charged : (s : ℕ) (c : Class) → IfSome (member v.members s) (λ m. charged_in m c < 2 ^ 62)
-  pub received : (s : ℕ) (c : Class) → IfSome (member v.members s) (λ m. received_in m c < 2 ^ 62)
+-- The counts of a path are below n: the clock, the exchanges that were opened, the frames that were accepted,
+-- and what each live station was charged and used in each class.
+pub record HasCountsBelow (n : ℕ) (v : TransmitValue) : Type 0 where
+  pub clock : v.clock < n
+  pub exchanges : v.exchanges < n
+  pub accepted : v.tally.accepted < n
+  pub charged : (s : ℕ) (c : Class) → IfSome (member v.members s) (λ m. charged_in m c < n)
+  pub received : (s : ℕ) (c : Class) → IfSome (member v.members s) (λ m. received_in m c < n)
+
+-- they are below 2^62, so that one call more overflows none
+abbrev pub IsSmall : TransmitValue → Type 0
+IsSmall v = HasCountsBelow (2 ^ 62) v
+
+-- where all counts of v are below a number, those of u are below it and 10,000,000: that is the longest tick,
+-- in microseconds, and no other count rises by as much in a call
+abbrev pub RiseLittle : TransmitValue → TransmitValue → Type 0
+RiseLittle v u = (n : ℕ) → HasCountsBelow n v → HasCountsBelow (n + greatest_tick) u
 
 -- What a call that brings no frame leaves of v, for every world that v stands for, and its brief, beside
 -- these frames and whatever ids.
@@ -43,6 +54,7 @@ pub record IsAnswered (v : TransmitValue) (ask : Ask) (u : TransmitValue) (brief
       Meets w bodies (Asked ask) u (reply_with brief pairs ids)
   pub refused : (ids : List ℕ) → changes_nothing (reply_with brief pairs ids) ≡ true → u ≡ v
   pub path : IsPath u
+  pub rises : RiseLittle v u
 
 -- the same where the brief names no list
 abbrev pub IsToldBriefly : TransmitValue → Ask → TransmitValue → Brief → Type 0

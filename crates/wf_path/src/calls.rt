@@ -7,12 +7,14 @@ ghost use Rattle.wf_frame.specs.declared.notes.Ask.TheVariants.{Join, Leave, Rat
 ghost use Rattle.wf_frame.specs.declared.notes.Note.TheVariants.{Asked};
 ghost use Rattle.wf_frame.specs.declared.notes.ReplyNote.TheVariants.{Accepted, Refused};
 ghost use Rattle.wf_def_world.specs.World.{World};
+ghost use Rattle.wf_def_world.specs.Step.{step};
+ghost use Rattle.wf_law_driver.specs.Unheard.{IsUnheard};
 ghost use Rattle.wf_queue_flows_refines.specs.Frames.{with_body, IsBodySettled};
 ghost use Rattle.wf_send_half.specs.Enqueues.{enqueue_of, as_accepted};
 ghost use Rattle.wf_send_half.specs.Replies.{reaped_reply};
 ghost use Rattle.wf_send_half_refines.specs.Standing.{StandsFor, Meets};
 ghost use Rattle.wf_path.specs.Jobs.{IsHeard, IsBrief, note_of, bodies_after, frame_given_back, changes_nothing};
-ghost use Rattle.wf_path.specs.Paths.{IsPath, IsSmall, IsAnswered, IsToldBriefly};
+ghost use Rattle.wf_path.specs.Paths.{IsPath, IsSmall, RiseLittle, IsAnswered, IsToldBriefly};
 
 use crate::{Job, Path};
 use wf_frame::{Answer, Ask, Brief, Class, Pairs, Refusal};
@@ -30,7 +32,10 @@ impl Path {
         ensures parcel { (w : World) (bodies : ℕ → FrameValue) → StandsFor self.old w bodies →
             result ≡ frame_given_back bodies job (reply_of answer.new) }
         ensures refused { changes_nothing (reply_of answer.new) ≡ true → self.new ≡ self.old }
+        ensures unheard { (w : World) (bodies : ℕ → FrameValue) → StandsFor self.old w bodies →
+            IsUnheard w → IsUnheard (step w (note_of job)).world }
         ensures path { IsPath self.new }
+        ensures rises { RiseLittle self.old self.new }
     {
         match job {
             Job::Give(parcel) => self.give(parcel, answer),
@@ -56,6 +61,7 @@ impl Path {
             result ≡ frame_given_back bodies (Job.Give parcel) (reply_of answer.new) }
         ensures refused { changes_nothing (reply_of answer.new) ≡ true → self.new ≡ self.old }
         ensures path { IsPath self.new }
+        ensures rises { RiseLittle self.old self.new }
     {
         match self.enqueue(parcel) {
             Ok((id, dropped)) => {
@@ -82,6 +88,7 @@ impl Path {
         ensures refused { IfErr result (λ _. self.new ≡ self.old) }
         ensures handed_back { IfErr result (λ given. given.1 ≡ parcel) }
         ensures path { IsPath self.new }
+        ensures rises { RiseLittle self.old self.new }
     {
         let frame = parcel.frame();
         let (station, tid, _octets) = (frame.station(), frame.tid(), frame.len());
@@ -102,6 +109,7 @@ impl Path {
             StandsFor self.old w bodies → IsBodySettled bodies p) }
         ensures refused { IfNone result (self.new ≡ self.old) }
         ensures path { IsPath self.new }
+        ensures rises { RiseLittle self.old self.new }
     {
         self.half.reap()
     }

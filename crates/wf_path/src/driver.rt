@@ -8,10 +8,9 @@ ghost use Rattle.wf_send_half_refines.specs.Standing.{StandsFor};
 ghost use Rattle.std.specs.Result.{result_err};
 ghost use Rattle.wf_path.specs.Answers.{block_ack_in};
 ghost use Rattle.wf_path.specs.Transmissions.{sent_of, id_sent, octets_sent};
-ghost use Rattle.std.specs.Result.{result_err};
 ghost use Rattle.wf_path.specs.Writing.{write_fault};
 ghost use Rattle.wf_path.specs.Driver.{IsEnded, end_fault};
-ghost use Rattle.wf_path.specs.Paths.{IsSmall};
+ghost use Rattle.wf_path.specs.Paths.{IsPath, IsSmall, RiseLittle};
 
 use crate::{DoneFault, Path, PathFault, Sent};
 use wf_frame::{Brief, Class, Refusal};
@@ -55,6 +54,8 @@ impl Path {
         ensures unchanged { OnErr result (self.new ≡ self.old) }
         ensures ended { IfOk result (λ brief. IsEnded self.old exchange
             (option_map (λ octets. block_ack_in octets.now) heard.entry) self.new brief) }
+        ensures path { IsPath self.new }
+        ensures rises { RiseLittle self.old self.new }
     {
         let shown = match heard {
             Some(octets) => Some(crate::read_block_ack(&self.half, exchange, octets)?),
@@ -101,6 +102,8 @@ impl Path {
     pub fn tim(&self, out: &mut [u8; 256]) -> usize
         ensures octets { (w : World) (bodies : ℕ → FrameValue) → StandsFor self.now w bodies →
             take result out.new ≡ traffic_map (with_traffic w) }
+        ensures size { (w : World) (bodies : ℕ → FrameValue) → StandsFor self.now w bodies →
+            result ≡ length (traffic_map (with_traffic w)) }
         ensures rest { drop result out.new ≡ drop result out.old }
     {
         crate::tim(&self.half, out)

@@ -26,5 +26,6 @@ pub use faults::{DoneFault, NewFault, PathFault};
 pub use job::Job;
 pub use path::Path;
 pub use reading::{Sent, frame_id, sent_by};
+pub use small::first_calls_law;
 pub use traffic::tim;
 pub use writing::write_transmission;

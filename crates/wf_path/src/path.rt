@@ -10,7 +10,7 @@ ghost use Rattle.wf_sched_stations.specs.ClassRotas.{deficit};
 ghost use Rattle.wf_send_stations.specs.Members.{member, charged_in, received_in};
 ghost use Rattle.wf_send_half.specs.Half.{IsLive};
 ghost use Rattle.wf_send_half_refines.specs.Standing.{StandsFor, counts_in};
-ghost use Rattle.wf_path.specs.Paths.{IsPath, IsSmall};
+ghost use Rattle.wf_path.specs.Paths.{IsPath, HasCountsBelow, IsSmall};
 
 use crate::NewFault;
 use crate::ready::Ready;
@@ -50,6 +50,7 @@ impl Path {
         ensures stands { IfOk result (λ made. (bodies : ℕ → FrameValue) →
             StandsFor made (opening config) bodies) }
         ensures small { IfOk result IsSmall }
+        ensures none { IfOk result (HasCountsBelow 1) }
         ensures path { IfOk result IsPath }
     {
         if let Some(field) = config.check() {
@@ -60,11 +61,13 @@ impl Path {
         Ok(Path { half, ready })
     }
 
-    /// The settings.
+    /// The settings. Clause `path` tells whoever holds a path that there is a world for which it stands, so
+    /// that what the other readers say of such worlds says something.
     pub fn config(&self) -> Config
         ensures value { result ≡ self.now.config }
         ensures world { (w : World) (bodies : ℕ → FrameValue) → StandsFor self.now w bodies →
             result ≡ w.config }
+        ensures path { IsPath self.now }
     {
         self.half.config()
     }

@@ -1,9 +1,11 @@
 //! Whether a path's counts are small.
 
-ghost use Rattle.std.specs.Prelude.{◌≡◌, ◌<◌, ℕ, true};
+ghost use Rattle.std.specs.Prelude.{◌≡◌, ◌≤◌, ℕ, ◌+◌, ◌*◌, ◌^◌, true};
+ghost use Rattle.wf_def_lists.specs.Bounds.{greatest_tick};
 ghost use Rattle.wf_frame.specs.declared.classes.Class.{Class as ClassName};
 ghost use Rattle.wf_send_half.specs.Half.{IsLive};
-ghost use Rattle.wf_path.specs.Paths.{IsSmall};
+ghost use Rattle.wf_send_half_refines.specs.Half.{TransmitValue};
+ghost use Rattle.wf_path.specs.Paths.{HasCountsBelow, IsSmall};
 ghost use Rattle.wf_path.specs.Small.{IsSmallIn};
 
 use crate::Path;
@@ -15,8 +17,8 @@ const LARGE: u64 = 1 << 62;
 impl Path {
     /// Whether the clock, the counts of exchanges and of accepted frames, and the airtime of each live
     /// station in each class are below 2^62, as `call`, `done_bits` and `done_bytes` ask. A driver need not
-    /// ask before each call: none of them rises by more than 10,000,000 in a call, so they stay so for 2^38
-    /// calls.
+    /// ask before each call: where all of them are below a number, they are below that and 10,000,000 after a
+    /// call (clause `rises`), so they stay so for the first 2^38 calls (`first_calls_law`).
     pub fn has_small_counts(&self) -> bool
         ensures small { result ≡ true → IsSmall self.now }
         ensures large { IsSmall self.now → result ≡ true }
@@ -62,3 +64,10 @@ impl Path {
         self.charged(station, class) < LARGE && self.received(station, class) < LARGE
     }
 }
+
+/// The counts of a new path are below 1 (clause `none` of `Path::new`), and after each call they are below
+/// 10,000,000 more (clause `rises`). After at most 2^38 calls they are small.
+pub fn first_calls_law()
+    ensures { (v : TransmitValue) (calls : ℕ) → calls ≤ 2 ^ 38 →
+        HasCountsBelow (1 + calls * greatest_tick) v → IsSmall v }
+{}

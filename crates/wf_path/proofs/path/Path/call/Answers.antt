@@ -2,7 +2,7 @@ use Rattle.std.proofs.Common.{◌≡◌, sym, subst}
 use Rattle.wf_frame.specs.Answers.{reply_of}
 use Rattle.wf_path.specs.Jobs.{frame_given_back}
 use Rattle.wf_path.specs.declared.job.Job.{Job}
-use Rattle.wf_path.proofs.Jobs.{none_back, asked_meets}
+use Rattle.wf_path.proofs.Jobs.{none_back, asked_meets, unheard_after}
 use Rattle.wf_path.proofs.path.Path.call.Goals as goal
 
 pub returns-in-Give-clause-parcel : goal.returns-in-Give-clause-parcel
@@ -17,5 +17,13 @@ returns-in-Call c = record {
       (c.ask-answer.ensures.answered.meets w bodies c.args.answer.now.ids h);
   parcel = λ w bodies h. none_back bodies c.args.job c.in-Call.ask c.in-Call.is _ c.ask-answer.ensures.brief;
   refused = c.ask-answer.ensures.answered.refused c.args.answer.now.ids;
+  unheard = unheard_after c.args.self.now c.args.job c.requires.heard;
   path = c.ask-answer.ensures.answered.path;
+  rises = c.ask-answer.ensures.answered.rises;
 }
+
+pub returns-in-Give-clause-unheard : goal.returns-in-Give-clause-unheard
+returns-in-Give-clause-unheard c = unheard_after c.args.self.now c.args.job c.requires.heard
+
+pub returns-in-Call-Reap-clause-unheard : goal.returns-in-Call-Reap-clause-unheard
+returns-in-Call-Reap-clause-unheard c = unheard_after c.args.self.now c.args.job c.requires.heard

@@ -2,9 +2,11 @@ use Rattle.std.proofs.Common.{sym, ◌∙◌, ap, subst, ℕ, ◌<◌}
 use Rattle.wf_frame.specs.Frames.{FrameValue}
 use Rattle.wf_frame.specs.declared.notes.ReplyNote.TheVariants.{Accepted}
 use Rattle.wf_queue_flows_refines.specs.Frames.{with_body}
-use Rattle.wf_send_half.specs.Enqueues.{as_accepted}
-use Rattle.wf_path.specs.Paths.{IsPath}
+use Rattle.wf_send_half.specs.Enqueues.{enqueue_of, as_accepted}
+use Rattle.wf_send_half_refines.specs.Half.{TransmitValue}
+use Rattle.wf_path.specs.Paths.{IsPath, RiseLittle}
 use Rattle.wf_path.proofs.Enqueues.{some_octets, few_octets, accepted_tid, accepted_within, accepted_room, accepted_path, loser_within, loser_room, tracked_alone, tracked_both}
+use Rattle.wf_path.proofs.Rises.{rises_by, no_rise}
 use Rattle.wf_path.proofs.path.Path.enqueue.Goals as goal
 use Rattle.wf_path.proofs.path.Path.enqueue.Goals.{in-Some, in_default}
 
@@ -88,3 +90,21 @@ returns-clause-path c = elim c.match-loser.branch [
       (λ bodies. with_body bodies (as_accepted c.self.inside.half c.args.parcel)) c.enqueue.new.self
       c.in_ok-accepted.ensures.meets (λ why e. cc e))
 ]
+
+pub returns-clause-rises : goal.returns-clause-rises
+returns-clause-rises c =
+    let rise : RiseLittle c.args.self.now c.enqueue.new.self =
+    subst (λ (z : TransmitValue). RiseLittle z c.enqueue.new.self) c.self.view_is
+    (rises_by c.self.inside.half c.enqueue.new.self c.self.invariant.path
+    (with_body c.self.invariant.path.bodies (as_accepted c.self.inside.half c.args.parcel))
+    (enqueue_of c.args.parcel) (Accepted c.in_ok-accepted.accepted.0 c.in_ok-accepted.accepted.1)
+    (c.in_ok-accepted.ensures.meets c.self.invariant.path.world c.self.invariant.path.bodies
+    c.self.invariant.path.stands)) in
+    elim c.match-loser.branch [
+      | in-Some w ↦ subst (RiseLittle c.args.self.now) (sym w.self-is) rise
+      | in_default w ↦ subst (RiseLittle c.args.self.now) (sym w.self-is) rise
+    ]
+
+pub returns-in_err-accepted-clause-rises : goal.returns-in_err-accepted-clause-rises
+returns-in_err-accepted-clause-rises c = subst (RiseLittle c.args.self.now)
+    (sym (c.in_err-accepted.ensures.refused ∙ c.self.view_is)) (no_rise c.args.self.now)

@@ -1,4 +1,5 @@
-use Rattle.wf_path.proofs.Openings.{new_tracked, new_small}
+use Rattle.std.proofs.Common.{lit<, ◌^◌}
+use Rattle.wf_path.proofs.Openings.{new_tracked, new_below}
 use Rattle.wf_path.proofs.path.Path.new.Goals as goal
 
 pub invariant_of-result : goal.invariant_of-result
@@ -10,4 +11,7 @@ returns-clause-path c = (new_tracked c.in_ok-half.half c.in_ok-ready.ready c.arg
     c.in_ok-half.ensures.stands c.in_ok-ready.ensures).path
 
 pub returns-clause-small : goal.returns-clause-small
-returns-clause-small c = new_small c.in_ok-half.half c.args.config c.in_ok-half.ensures.stands
+returns-clause-small c = new_below c.in_ok-half.half c.args.config c.in_ok-half.ensures.stands (2 ^ 62) (lit< tt)
+
+pub returns-clause-none : goal.returns-clause-none
+returns-clause-none c = new_below c.in_ok-half.half c.args.config c.in_ok-half.ensures.stands 1 (lit< tt)

@@ -1,0 +1,135 @@
+-- Who is live after a call, and was not before, has just joined, so its sums begin anew.
+use Rattle.std.proofs.Common.{◌≡◌, refl, ap, sym, ◌∙◌, ℕ, ◌==◌, ◌&&◌, Bool, true, false, if◌then◌else◌, List, [], ◌∷◌, Option, Some, None, is_none, IfSome}
+use Rattle.wf_frame.specs.declared.notes.Ask.TheVariants.{Join, Leave, Rate, Tick, Pull, Arrive, Answer, Done, Sleep, Wake, Poll, Rx, Reap}
+use Rattle.wf_frame.specs.declared.notes.Note.{Note}
+use Rattle.wf_frame.specs.declared.notes.Note.TheVariants.{Enqueue, Asked}
+use Rattle.wf_frame.specs.declared.notes.Refusal.{Refusal}
+use Rattle.wf_frame.specs.declared.notes.Refusal.TheVariants.{Idle}
+use Rattle.wf_frame.specs.Classes.{all_classes}
+use Rattle.wf_def_lists.specs.Table.{upto}
+use Rattle.wf_def_world.specs.World.{World, Exchange, is_live, exchange, with_station}
+use Rattle.wf_def_world.specs.Refusals.{refusal}
+use Rattle.wf_def_world.specs.Step.{Outcome, join_outcome, after_tids_left, without_listings, leave_outcome, rate_outcome, tick_outcome, outcome_where_open, sleep_outcome, wake_outcome, poll_outcome, rx_outcome, reap_outcome, concerned_station, outcome_of, after_refusal, judged_outcome, step}
+use Rattle.wf_law_rules.proofs.Lemmas.Numbers.{on_bool, eq_yes, eq_no}
+use Rattle.wf_law_runs.specs.Sums.{since_join}
+use Rattle.wf_law_runs.proofs.Windows.Sides.{Same, then_same, same_listed, same_after_pick, same_on_station, same_on_share}
+use Rattle.wf_law_runs.proofs.Windows.Agreed.{IsLawful, IsFound, found, same_left_tids, same_off_lists}
+use Rattle.wf_law_runs.proofs.Releases.Released.{live_with_station, live_own_station}
+use Rattle.wf_law_runs.proofs.Frames.Delivered.{same_enqueued}
+use Rattle.wf_law_runs.proofs.Kept.Lasting.{Last, last_pulled, last_arrived, last_answered, last_ended}
+
+-- whether a call asks that station s joins
+abbrev is_join_of : ℕ → Note → Bool
+is_join_of s (Asked (Join i window start exponent weight)) = i == s
+is_join_of s note = false
+
+-- who is live in v was so in w, but for a station that a call has join
+abbrev Were : Note → World → World → Type 0
+Were note w v = (s : ℕ) → is_join_of s note ≡ false → is_live v s ≡ true → is_live w s ≡ true
+
+were_last : (note : Note) (w v : World) → Last w v → Were note w v
+were_last note w v h s other live = sym (h.live s) ∙ live
+
+were_same : (note : Note) (w v : World) → Same w v → Were note w v
+were_same note w v h s other live = sym (h.live s) ∙ live
+
+-- ---- the calls that are not refused
+
+were_joined : (w : World) (i window start exponent weight : ℕ) →
+    Were (Asked (Join i window start exponent weight)) w (join_outcome w i window start exponent weight).world
+unfolding join_outcome
+were_joined w i window start exponent weight s other live =
+    sym (live_with_station w i s _ (eq_no i s other)) ∙ live
+
+were_left : (w u : World) (i : ℕ) → Same w u → Were (Asked (Leave i)) w (with_station u i None)
+were_left w u i same s other live = on_bool (i == s)
+    (λ own. absurd (cc (
+      ap (is_live (with_station u i None)) (eq_yes i s own),
+      live_own_station u i None,
+      live,
+    )))
+    (λ apart. sym (same.live s) ∙ sym (live_with_station u i s None (eq_no i s apart)) ∙ live)
+
+were_gone : (w : World) (i : ℕ) → Were (Asked (Leave i)) w (leave_outcome w i).world
+unfolding leave_outcome
+were_gone w i =
+    let u : World = without_listings (after_tids_left w i (upto 8)) i all_classes in
+    were_left w u i (then_same _ _ _ (same_left_tids (upto 8) w i) (same_off_lists all_classes _ i))
+
+were_open : (note : Note) (P : Exchange → Type 0) (o : Option Exchange) (w : World) (f : Exchange → Outcome) →
+    IfSome o P → ((x : Exchange) → P x → Last w (f x).world) → Were note w (outcome_where_open w o f).world
+unfolding outcome_where_open
+were_open note P None w f h k = λ s other live. live
+were_open note P (Some x) w f h k = were_last note w _ (k x h)
+
+were_reaped : (note : Note) (ids : List ℕ) (w : World) → Were note w (reap_outcome w ids).world
+unfolding reap_outcome
+were_reaped note [] w s other live = live
+were_reaped note (id ∷ ids) w s other live = live
+
+were_done : (note : Note) (w : World) → IsLawful w → Were note w (outcome_of w note).world
+unfolding outcome_of tick_outcome rate_outcome sleep_outcome wake_outcome poll_outcome rx_outcome
+were_done (Enqueue s t flow len) w i = were_same (Enqueue s t flow len) w _ (same_enqueued w s t flow len)
+were_done (Asked (Join s window start exponent weight)) w i = were_joined w s window start exponent weight
+were_done (Asked (Leave s)) w i = were_gone w s
+were_done (Asked (Rate s mcs mhz short)) w i =
+    were_same (Asked (Rate s mcs mhz short)) w _ (same_on_station w s _ (λ x t. refl))
+were_done (Asked (Tick by)) w i = λ s other live. live
+were_done (Asked (Pull c)) w i = were_last (Asked (Pull c)) w _ (last_pulled w c i)
+were_done (Asked (Arrive e n)) w i =
+    were_open (Asked (Arrive e n)) (IsFound w i) (exchange w e) w _ (found w i e) (λ x f. last_arrived w x n)
+were_done (Asked (Answer e)) w i = were_open (Asked (Answer e)) (IsFound w i) (exchange w e) w _ (found w i e)
+    (λ x f. last_answered w x)
+were_done (Asked (Done e heard)) w i =
+    were_open (Asked (Done e heard)) (IsFound w i) (exchange w e) w _ (found w i e)
+    (λ x f. last_ended w i x heard f)
+were_done (Asked (Sleep s)) w i = were_same (Asked (Sleep s)) w _ (same_on_station w s _ (λ x t. refl))
+were_done (Asked (Wake s)) w i = were_same (Asked (Wake s)) w _ (same_on_station w s _ (λ x t. refl))
+were_done (Asked (Poll s)) w i = were_same (Asked (Poll s)) w _ (same_on_station w s _ (λ x t. refl))
+were_done (Asked (Rx s c air)) w i = were_same (Asked (Rx s c air)) w _ (same_on_share w s c _)
+were_done (Asked Reap) w i = were_reaped (Asked Reap) w.finished w
+
+-- ---- the step
+
+were_refused : (note : Note) (r : Refusal) (w : World) (s : ℕ) →
+    is_live (after_refusal w note r) s ≡ true → is_live w s ≡ true
+unfolding after_refusal
+were_refused (Asked (Pull c)) Idle w s live = sym ((same_after_pick w c).live s) ∙ live
+were_refused _ _ w s live = live
+
+begun : (note : Note) (w : World) (s n : ℕ) → refusal w note ≡ None → is_join_of s note ≡ true →
+    since_join w s note n ≡ 0
+begun (Asked (Join i window start exponent weight)) w s n fine own =
+    ap (λ (o : Option Refusal). if is_none o && (i == s) then 0 else n) fine
+    ∙ ap (λ (b : Bool). if b then 0 else n) own
+begun (Enqueue i t flow len) w s n fine own = absurd (cc own)
+begun (Asked (Leave i)) w s n fine own = absurd (cc own)
+begun (Asked (Rate i mcs mhz short)) w s n fine own = absurd (cc own)
+begun (Asked (Tick by)) w s n fine own = absurd (cc own)
+begun (Asked (Pull c)) w s n fine own = absurd (cc own)
+begun (Asked (Arrive e i)) w s n fine own = absurd (cc own)
+begun (Asked (Answer e)) w s n fine own = absurd (cc own)
+begun (Asked (Done e heard)) w s n fine own = absurd (cc own)
+begun (Asked (Sleep i)) w s n fine own = absurd (cc own)
+begun (Asked (Wake i)) w s n fine own = absurd (cc own)
+begun (Asked (Poll i)) w s n fine own = absurd (cc own)
+begun (Asked (Rx i c air)) w s n fine own = absurd (cc own)
+begun (Asked Reap) w s n fine own = absurd (cc own)
+
+new_answer : (r : Option Refusal) (w : World) (note : Note) (s n : ℕ) → refusal w note ≡ r → IsLawful w →
+    is_live w s ≡ false → is_live (judged_outcome w note r).world s ≡ true → since_join w s note n ≡ 0
+unfolding judged_outcome
+new_answer (Some r) w note s n e i dead live = absurd (cc (dead, were_refused note r w s live))
+new_answer None w note s n e i dead live = on_bool (is_join_of s note)
+    (λ own. begun note w s n e own)
+    (λ other. absurd (cc (
+      dead,
+      were_done note w i s other
+          (sym ((same_listed (concerned_station w note) (outcome_of w note).world).live s) ∙ live),
+    )))
+
+-- a station that was not live before a call and is live after it has sums that begin at 0
+pub new_sum : (w : World) (note : Note) (s n : ℕ) → IsLawful w → is_live w s ≡ false →
+    is_live (step w note).world s ≡ true → since_join w s note n ≡ 0
+unfolding step
+new_sum w note s n i dead live = new_answer (refusal w note) w note s n refl i dead live

@@ -1,0 +1,268 @@
+-- No count of a path rises by more than 10,000,000 in a call of the machine.
+use Rattle.std.proofs.Common.{◌≡◌, refl, ap, sym, ◌∙◌, subst, arith, ℕ, ◌+◌, ◌≤◌, ◌<◌, ◌==◌, ◌&&◌, Bool, true, false, if◌then◌else◌, List, [], ◌∷◌, ◌++◌, Option, Some, None, is_some, is_none, IfSome, unwrap_or, inl, inr, ◌⊎◌}
+use Rattle.std.proofs.lemmas.Bool.{and_parts, not-false}
+use Rattle.wf_frame.specs.Classes.{same_class}
+use Rattle.wf_frame.specs.Frames.{FrameValue}
+use Rattle.wf_frame.specs.Settings.{IsInRange}
+use Rattle.wf_frame.specs.declared.classes.Class.{Class}
+use Rattle.wf_frame.specs.declared.notes.Ask.TheVariants.{Join, Done, Rx}
+use Rattle.wf_frame.specs.declared.notes.Note.{Note}
+use Rattle.wf_frame.specs.declared.notes.Note.TheVariants.{Enqueue, Asked}
+use Rattle.wf_frame.specs.declared.notes.Refusal.{Refusal}
+use Rattle.wf_frame.specs.declared.notes.ReplyNote.{ReplyNote}
+use Rattle.wf_frame.specs.declared.settings.Config.{Config}
+use Rattle.wf_def_lists.specs.Bounds.{greatest_tick, greatest_air}
+use Rattle.wf_def_lists.specs.Table.{at}
+use Rattle.wf_def_world.specs.World.{World, Station, Exchange, no_station, accepted_count, exchange, share, is_live, opening}
+use Rattle.wf_def_world.specs.Refusals.{refusal, refusals}
+use Rattle.wf_def_world.specs.Run.{Entry, by, world_after}
+use Rattle.wf_def_world.specs.Step.{step}
+use Rattle.wf_def_world.specs.Stretches.{charge_to, charge_by}
+use Rattle.wf_law_rules.proofs.Lemmas.Numbers.{on_bool, le_yes}
+use Rattle.wf_law_runs.specs.Numbers.{greatest_charge}
+use Rattle.wf_law_runs.specs.Sums.{since_join, air_by, charged_over, received_over}
+use Rattle.wf_law_runs.specs.Windows.{EachOpen}
+use Rattle.wf_law_runs.proofs.Deficits.Numbers.{number_law}
+use Rattle.wf_law_runs.proofs.Frames.Fates.{brought, steady_run, steady_first, counted_step, world_after-append}
+use Rattle.wf_law_runs.proofs.Sums.Airtime.{HasAdded, added}
+use Rattle.wf_law_runs.proofs.Sums.Counters.{counts_step}
+use Rattle.wf_law_runs.proofs.Windows.Agreed.{lawful}
+use Rattle.wf_law_runs.proofs.Windows.Opened.{NoRow, no_row, each_find}
+use Rattle.wf_sched_stations_refines.specs.Standing.{share_in}
+use Rattle.wf_send_stations.specs.Members.{member, charged_in, received_in}
+use Rattle.wf_send_stations.specs.Tally.{Counts}
+use Rattle.wf_send_stations.specs.declared.members.Member.{Member}
+use Rattle.wf_send_half_refines.specs.Half.{TransmitValue}
+use Rattle.wf_send_half_refines.specs.Standing.{StandsFor, Meets, IsReached, AreBoth, IsMember}
+use Rattle.wf_send_half_refines.proofs.Reached.{by_law}
+use Rattle.wf_path.specs.Paths.{IsPath, HasCountsBelow, RiseLittle}
+use Rattle.wf_path.proofs.Joining.{new_sum}
+
+-- ---- what one call adds
+
+at_most_if : (b : Bool) (m n : ℕ) → m ≤ n → (if b then m else 0) ≤ n
+at_most_if true m n h = h
+at_most_if false m n h = omega arith
+
+brought_one : (note : Note) → brought note ≤ 1
+brought_one (Enqueue s t flow len) = omega arith
+brought_one (Asked ask) = omega arith
+
+kept_or_none : (b : Bool) (n : ℕ) → (if b then 0 else n) ≤ n
+kept_or_none true n = omega arith
+kept_or_none false n = omega arith
+
+since_less : (note : Note) (w : World) (s n : ℕ) → since_join w s note n ≤ n
+since_less (Asked (Join i window start exponent weight)) w s n =
+    kept_or_none (is_none (refusal w (Asked (Join i window start exponent weight))) && (i == s)) n
+since_less _ w s n = omega arith
+
+abbrev AreCharged : World → Type 0
+AreCharged w = EachOpen (λ x. (1 ≤ x.charge) × (x.charge ≤ greatest_charge)) w.opened
+
+charged_most : (s : ℕ) (c : Class) (o : Option Exchange) → IfSome o (λ x. x.charge ≤ greatest_charge) →
+    charge_to s c o ≤ greatest_charge
+charged_most s c None h = omega arith
+charged_most s c (Some x) h = at_most_if ((x.station == s) && same_class x.class c) x.charge greatest_charge h
+
+charge_little : (note : Note) (w : World) (s : ℕ) (c : Class) → AreCharged w →
+    charge_by w s c note ≤ greatest_charge
+charge_little (Asked (Done e heard)) w s c k =
+    at_most_if (is_none (refusal w (Asked (Done e heard)))) (charge_to s c (exchange w e)) greatest_charge
+    (charged_most s c (exchange w e) (each_find (λ x. (1 ≤ x.charge) × (x.charge ≤ greatest_charge))
+    (λ x. x.charge ≤ greatest_charge) (λ x. x.number == e) w.opened (λ x _ h. h.1) k))
+charge_little _ w s c k = omega arith
+
+air_row : (s i : ℕ) (d c : Class) (air : ℕ) (w : World) (r : Option Refusal) →
+    refusal w (Asked (Rx i d air)) ≡ r → (if is_none r && ((i == s) && same_class d c) then air else 0)
+    ≤ greatest_air
+air_row s i d c air w (Some r) e = omega arith
+air_row s i d c air w None e =
+    let row : NoRow (refusals w (Asked (Rx i d air))) = no_row (refusals w (Asked (Rx i d air))) e in
+    at_most_if ((i == s) && same_class d c) air greatest_air
+    (le_yes air greatest_air (and_parts _ _ (not-false _ row.1.0)).1)
+
+air_little : (note : Note) (w : World) (s : ℕ) (c : Class) → air_by w s c note ≤ greatest_air
+air_little (Asked (Rx i d air)) w s c = air_row s i d c air w (refusal w (Asked (Rx i d air))) refl
+air_little _ w s c = omega arith
+
+-- ---- one entry more
+
+charged_then : (h : List Entry) (w : World) (s : ℕ) (c : Class) (e : Entry) (n : ℕ) →
+    charged_over w s c (h ++ e ∷ []) n
+    ≡ since_join (world_after w h) s e.1 (charged_over w s c h n) + charge_by (world_after w h) s c e.1
+unfolding world_after
+charged_then [] w s c e n = refl
+charged_then (x ∷ h) w s c e n = charged_then h (step w x.1).world s c e
+    (since_join w s x.1 n + charge_by w s c x.1)
+
+received_then : (h : List Entry) (w : World) (s : ℕ) (c : Class) (e : Entry) (n : ℕ) →
+    received_over w s c (h ++ e ∷ []) n
+    ≡ since_join (world_after w h) s e.1 (received_over w s c h n) + air_by (world_after w h) s c e.1
+unfolding world_after
+received_then [] w s c e n = refl
+received_then (x ∷ h) w s c e n = received_then h (step w x.1).world s c e
+    (since_join w s x.1 n + air_by w s c x.1)
+
+one_more : (w : World) (e : Entry) → world_after w (e ∷ []) ≡ (step w e.1).world
+unfolding world_after
+one_more w e = refl
+
+-- ---- the counts of a world
+
+-- the counts of w are below n
+record AreBelow (n : ℕ) (w : World) : Type 0 where
+  clock : w.clock < n
+  exchanges : w.exchanges < n
+  accepted : accepted_count w < n
+  charged : (s : ℕ) (c : Class) → is_live w s ≡ true → (share w s c).charged < n
+  received : (s : ℕ) (c : Class) → is_live w s ≡ true → (share w s c).received < n
+
+module _ (config : Config) (h : List Entry) (note : Note) (range : IsInRange config)
+    (charges : AreCharged (world_after (opening config) h)) where
+  abbrev w : World
+  w = world_after (opening config) h
+
+  abbrev longer : List Entry
+  longer = h ++ by 0 note ∷ []
+
+  longer_is : world_after (opening config) longer ≡ (step w note).world
+  longer_is = world_after-append h (opening config) (by 0 note ∷ []) ∙ one_more w (by 0 note)
+
+  added_then : (s : ℕ) (c : Class) → is_live (step w note).world s ≡ true →
+      HasAdded (charged_over (opening config) s c longer 0) (received_over (opening config) s c longer 0)
+      (share (step w note).world s c)
+  added_then s c live = subst (λ (u : World). HasAdded (charged_over (opening config) s c longer 0)
+      (received_over (opening config) s c longer 0) (share u s c)) longer_is
+      (added config longer s c range (subst (λ (u : World). is_live u s ≡ true) (sym longer_is) live))
+
+  -- a sum that a call begins anew or leaves, and then adds little to
+  sum_little : (n old new since by_call : ℕ) → new ≡ since + by_call → by_call ≤ greatest_tick → 0 < n →
+      (since ≡ 0) ⊎ ((since ≤ old) × (old < n)) → new < n + greatest_tick
+  sum_little n old new since by_call is little some (inl none) = omega (arith, is, little, some, none)
+  sum_little n old new since by_call is little some (inr less) = omega (arith, is, little, less.0, less.1)
+
+  since_as : (s n x : ℕ) → is_live (step w note).world s ≡ true → (is_live w s ≡ true → x < n) →
+      (since_join w s note x ≡ 0) ⊎ ((since_join w s note x ≤ x) × (x < n))
+  since_as s n x live before = on_bool (is_live w s)
+      (λ was. inr (since_less note w s x, before was))
+      (λ dead. inl (new_sum w note s x (lawful config h) dead live))
+
+  below_step : (n : ℕ) → AreBelow n w → AreBelow (n + greatest_tick) (step w note).world
+  below_step n k =
+      let some : 0 < n = omega (arith, k.clock) in
+      let counts = counts_step w.clock w.exchanges w note (omega arith, omega arith) in
+      let frames = (counted_step _ w note (steady_run h [] (opening config) (steady_first config))).0 in
+      let few = at_most_if (is_none (refusal w note)) (brought note) 1 (brought_one note) in
+      record {
+        clock = omega (arith, counts.0, k.clock);
+        exchanges = omega (arith, counts.1, k.exchanges);
+        accepted = omega (arith, frames, few, k.accepted);
+        charged = λ s c live.
+            let old : ℕ = charged_over (opening config) s c h 0 in
+            sum_little n old _ (since_join w s note old) (charge_by w s c note)
+            ((added_then s c live).charged ∙ charged_then h (opening config) s c (by 0 note) 0)
+            (omega (arith, charge_little note w s c charges)) some
+            (since_as s n old live (λ was. omega (
+              arith,
+              (added config h s c range was).charged,
+              k.charged s c was,
+            )));
+        received = λ s c live.
+            let old : ℕ = received_over (opening config) s c h 0 in
+            sum_little n old _ (since_join w s note old) (air_by w s c note)
+            ((added_then s c live).received ∙ received_then h (opening config) s c (by 0 note) 0)
+            (omega (arith, air_little note w s c)) some
+            (since_as s n old live (λ was. omega (
+              arith,
+              (added config h s c range was).received,
+              k.received s c was,
+            )));
+      }
+
+-- of any world of a run
+reached_below : (w : World) (note : Note) → IsReached w → (n : ℕ) → AreBelow n w →
+    AreBelow (n + greatest_tick) (step w note).world
+reached_below w note r n =
+    let charges : AreCharged w = by_law AreCharged w r
+    (λ m. (number_law w.config r.history r.in_range m).charges) in
+    subst (λ (u : World). AreBelow n u → AreBelow (n + greatest_tick) (step u note).world) (sym r.after)
+    (below_step w.config r.history note r.in_range (subst AreCharged r.after charges) n)
+
+-- ---- of a path
+
+member_below : (P : Member → Type 0) (m : Option Member) (x : Option Station) → AreBoth IsMember m x →
+    ((k : Member) (y : Station) → x ≡ Some y → IsMember k y → P k) → IfSome m P
+member_below P None x both each = tt
+member_below P (Some k) None both each = absurd both
+member_below P (Some k) (Some y) both each = each k y refl both
+
+share_below : (f : Member → ℕ) (g : Station → ℕ) (n : ℕ) (m : Option Member) (x : Option Station) →
+    AreBoth IsMember m x → ((k : Member) (y : Station) → IsMember k y → f k ≡ g y) → is_some x ≡ true →
+    IfSome m (λ k. f k < n) → g (unwrap_or x no_station) < n
+share_below f g n m None both same live h = absurd (cc live)
+share_below f g n None (Some y) both same live h = absurd both
+share_below f g n (Some k) (Some y) both same live h = subst (λ (m : ℕ). m < n) (same k y both) h
+
+module _ (v : TransmitValue) (w : World) (bodies : ℕ → FrameValue) (st : StandsFor v w bodies) (n : ℕ) where
+  world_below : HasCountsBelow n v → AreBelow n w
+  world_below h =
+      let o = st.parts.others in
+      record {
+        clock = omega (arith, o.clock, h.clock);
+        exchanges = omega (arith, o.exchanges, h.exchanges);
+        accepted = omega (arith, ap (λ (t : Counts). t.accepted) o.tally, h.accepted);
+        charged = λ s c live. share_below (λ m. charged_in m c) (λ y. (share_in y c).charged) n
+            (member v.members s) (at None w.stations s) (o.stations.live s) (λ k y is. is.charged c) live
+            (h.charged s c);
+        received = λ s c live. share_below (λ m. received_in m c) (λ y. (share_in y c).received) n
+            (member v.members s) (at None w.stations s) (o.stations.live s) (λ k y is. is.received c) live
+            (h.received s c);
+      }
+
+  path_below : AreBelow n w → HasCountsBelow n v
+  path_below h =
+      let o = st.parts.others in
+      record {
+        clock = omega (arith, o.clock, h.clock);
+        exchanges = omega (arith, o.exchanges, h.exchanges);
+        accepted = omega (arith, ap (λ (t : Counts). t.accepted) o.tally, h.accepted);
+        charged = λ s c. member_below (λ m. charged_in m c < n) (member v.members s) (at None w.stations s)
+            (o.stations.live s) (λ k y there is. subst (λ (m : ℕ). m < n) (sym (is.charged c))
+            (subst (λ (x : Option Station). (share_in (unwrap_or x no_station) c).charged < n) there
+            (h.charged s c (ap is_some there))));
+        received = λ s c. member_below (λ m. received_in m c < n) (member v.members s) (at None w.stations s)
+            (o.stations.live s) (λ k y there is. subst (λ (m : ℕ). m < n) (sym (is.received c))
+            (subst (λ (x : Option Station). (share_in (unwrap_or x no_station) c).received < n) there
+            (h.received s c (ap is_some there))));
+      }
+
+-- v stood for a world, and u stands for what a call makes of it
+pub rise_little : (v u : TransmitValue) (w : World) (bodies after : ℕ → FrameValue) (note : Note) →
+    StandsFor v w bodies → StandsFor u (step w note).world after → RiseLittle v u
+rise_little v u w bodies after note h k n small = path_below u (step w note).world after k (n + greatest_tick)
+    (reached_below w note h.reached n (world_below v w bodies h n small))
+
+-- so it is of a path that answers a call as the machine does
+pub rises_by : (v u : TransmitValue) (p : IsPath v) (after : ℕ → FrameValue) (note : Note)
+    (reply : ReplyNote) → Meets p.world after note u reply → RiseLittle v u
+rises_by v u p after note reply m = rise_little v u p.world p.bodies after note p.stands m.stands
+
+-- what is below a number is below a greater one
+still_less : (f : Member → ℕ) (n k : ℕ) (o : Option Member) → n ≤ k → IfSome o (λ m. f m < n) →
+    IfSome o (λ m. f m < k)
+still_less f n k None more h = tt
+still_less f n k (Some m) more h = omega (arith, more, h)
+
+pub below_more : (v : TransmitValue) (n k : ℕ) → n ≤ k → HasCountsBelow n v → HasCountsBelow k v
+below_more v n k more h = record {
+  clock = omega (arith, more, h.clock);
+  exchanges = omega (arith, more, h.exchanges);
+  accepted = omega (arith, more, h.accepted);
+  charged = λ s c. still_less (λ m. charged_in m c) n k (member v.members s) more (h.charged s c);
+  received = λ s c. still_less (λ m. received_in m c) n k (member v.members s) more (h.received s c);
+}
+
+-- what stays does not rise
+pub no_rise : (v : TransmitValue) → RiseLittle v v
+no_rise v n = below_more v n (n + greatest_tick) (omega arith)
