@@ -2,7 +2,6 @@
 use Rattle.std.proofs.Common.{◌≡◌, ap, sym, ◌∙◌, subst, arith, ℕ, ◌<◌, true, List, ◌∷◌, drop, Some}
 use Rattle.wf_frame.specs.Answers.{reply_with}
 use Rattle.wf_frame.specs.declared.answers.Brief.{Brief}
-use Rattle.wf_frame.specs.declared.classes.Class.TheVariants.{Bk, Be, Vi, Vo}
 use Rattle.wf_frame.specs.declared.notes.Ask.{Ask}
 use Rattle.wf_frame.specs.declared.notes.Note.TheVariants.{Asked}
 use Rattle.wf_frame.specs.declared.notes.Refusal.{Refusal}
@@ -25,12 +24,7 @@ use Rattle.wf_path.proofs.Rises.{rises_by}
 -- there is a flag for each station
 pub room_for : (x : TransmitValue) (r : Flags) (s : ℕ) → AreFlags x r → s < x.config.stations →
     FlagsHaveRoom r s
-room_for x r s flags low = record {
-  bk = omega (arith, (flags Bk).stations, low);
-  be = omega (arith, (flags Be).stations, low);
-  vi = omega (arith, (flags Vi).stations, low);
-  vo = omega (arith, (flags Vo).stations, low);
-}
+room_for x r s flags low c = omega (arith, (flags c).stations, low)
 
 -- x are the fields of the path v, and u what a call of it leaves
 module _ (x : TransmitValue) (r : Flags) (h : IsTracked x r) (ask : Ask) (reply : ReplyNote)

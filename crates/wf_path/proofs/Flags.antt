@@ -1,7 +1,7 @@
 -- The flags of a path, while some of them are still to be set.
-use Rattle.std.proofs.Common.{◌≡◌, ◌≢◌, refl, ap, sym, ◌∙◌, subst, arith, ℕ, ◌<◌, Bool, false, List, length, inl, inr}
-use Rattle.std.proofs.lemmas.Bool.{cases_eq}
-use Rattle.std.proofs.lemmas.List.{get_or-set_same, get_or-set_other, length-set}
+use Rattle.std.proofs.Common.{◌≡◌, ◌≢◌, refl, ap, sym, ◌∙◌, subst, arith, ℕ, ◌<◌, ◌≤◌, Bool, false, List, [], length, slice_set, inl, inr}
+use Rattle.std.proofs.lemmas.Bool.{cases_eq, cases_lt}
+use Rattle.std.proofs.lemmas.List.{get_or-set_same, get_or-set_other, get_or_past, length-set}
 use Rattle.wf_frame.specs.Classes.{class_number}
 use Rattle.wf_frame.specs.declared.classes.Class.{Class}
 use Rattle.wf_frame.specs.declared.classes.Class.TheVariants.{Bk, Be, Vi, Vo}
@@ -12,59 +12,57 @@ use Rattle.wf_path.specs.Flags.{Flags, flags_in, with_flag, with_flags, AreFlags
 
 -- ---- one flag is set
 
-pub set_sized : (r : Flags) (c : Class) (s : ℕ) (b : Bool) (d : Class) →
-    length (flags_in (with_flag r c s b) d) ≡ length (flags_in r d)
-set_sized r Bk s b Bk = length-set r.bk s b
-set_sized r Bk s b Be = refl
-set_sized r Bk s b Vi = refl
-set_sized r Bk s b Vo = refl
-set_sized r Be s b Bk = refl
-set_sized r Be s b Be = length-set r.be s b
-set_sized r Be s b Vi = refl
-set_sized r Be s b Vo = refl
-set_sized r Vi s b Bk = refl
-set_sized r Vi s b Be = refl
-set_sized r Vi s b Vi = length-set r.vi s b
-set_sized r Vi s b Vo = refl
-set_sized r Vo s b Bk = refl
-set_sized r Vo s b Be = refl
-set_sized r Vo s b Vi = refl
-set_sized r Vo s b Vo = length-set r.vo s b
+-- past the last class there is no flag, before and after
+past_last : (r : Flags) (c : Class) (s : ℕ) (b : Bool) → length r ≤ class_number c →
+    flags_in (with_flag r c s b) c ≡ flags_in r c
+past_last r c s b far =
+    let sized : length (with_flag r c s b) ≡ length r = length-set r (class_number c) _ in
+    get_or_past (with_flag r c s b) (class_number c) [] (omega (arith, sized, far))
+    ∙ sym (get_or_past r (class_number c) [] far)
 
-set_here : (r : Flags) (c : Class) (s : ℕ) (b : Bool) → s < length (flags_in r c) →
-    entry (flags_in (with_flag r c s b) c) s ≡ b
-set_here r Bk s b low = get_or-set_same r.bk s b false low
-set_here r Be s b low = get_or-set_same r.be s b false low
-set_here r Vi s b low = get_or-set_same r.vi s b false low
-set_here r Vo s b low = get_or-set_same r.vo s b false low
-
--- of another station
-set_beside : (r : Flags) (c : Class) (s : ℕ) (b : Bool) (i : ℕ) → i ≢ s →
-    entry (flags_in (with_flag r c s b) c) i ≡ entry (flags_in r c) i
-set_beside r Bk s b i other = get_or-set_other r.bk s i b false other
-set_beside r Be s b i other = get_or-set_other r.be s i b false other
-set_beside r Vi s b i other = get_or-set_other r.vi s i b false other
-set_beside r Vo s b i other = get_or-set_other r.vo s i b false other
+-- the flags of the class itself
+set_own : (r : Flags) (c : Class) (s : ℕ) (b : Bool) (P : List Bool → Type 0) → P (flags_in r c) →
+    P (slice_set (flags_in r c) s b) → P (flags_in (with_flag r c s b) c)
+set_own r c s b P old new = elim (cases_lt (class_number c) (length r)) [
+  | inl low ↦ subst P (sym (get_or-set_same r (class_number c) (slice_set (flags_in r c) s b) [] low)) new
+  | inr far ↦ subst P (sym (past_last r c s b far)) old
+]
 
 -- of another class
 set_elsewhere : (r : Flags) (c : Class) (s : ℕ) (b : Bool) (d : Class) →
     (class_number d ≡ class_number c → ⊥) → flags_in (with_flag r c s b) d ≡ flags_in r d
-set_elsewhere r Bk s b Bk other = absurd (other refl)
-set_elsewhere r Bk s b Be other = refl
-set_elsewhere r Bk s b Vi other = refl
-set_elsewhere r Bk s b Vo other = refl
-set_elsewhere r Be s b Bk other = refl
-set_elsewhere r Be s b Be other = absurd (other refl)
-set_elsewhere r Be s b Vi other = refl
-set_elsewhere r Be s b Vo other = refl
-set_elsewhere r Vi s b Bk other = refl
-set_elsewhere r Vi s b Be other = refl
-set_elsewhere r Vi s b Vi other = absurd (other refl)
-set_elsewhere r Vi s b Vo other = refl
-set_elsewhere r Vo s b Bk other = refl
-set_elsewhere r Vo s b Be other = refl
-set_elsewhere r Vo s b Vi other = refl
-set_elsewhere r Vo s b Vo other = absurd (other refl)
+set_elsewhere r c s b d other = get_or-set_other r (class_number c) (class_number d) _ [] other
+
+pub set_sized : (r : Flags) (c : Class) (s : ℕ) (b : Bool) (d : Class) →
+    length (flags_in (with_flag r c s b) d) ≡ length (flags_in r d)
+set_sized r c s b d = elim (cases_class d c) [
+  | inl same ↦ subst (λ (x : Class). length (flags_in (with_flag r c s b) x) ≡ length (flags_in r x))
+      (sym same) (set_own r c s b (λ xs. length xs ≡ length (flags_in r c)) refl
+      (length-set (flags_in r c) s b))
+  | inr other ↦ ap length (set_elsewhere r c s b d other)
+]
+
+-- so each class has room as before
+pub room_after : (r z : Flags) (c d : Class) (s : ℕ) (b : Bool) → z ≡ with_flag r c s b →
+    s < length (flags_in r d) → s < length (flags_in z d)
+room_after r z c d s b is low = subst (λ (y : Flags). s < length (flags_in y d)) (sym is)
+    (omega (arith, set_sized r c s b d, low))
+
+-- of station s itself
+set_here : (r : Flags) (c : Class) (s : ℕ) (b : Bool) → s < length (flags_in r c) →
+    entry (flags_in (with_flag r c s b) c) s ≡ b
+set_here r c s b low = elim (cases_lt (class_number c) (length r)) [
+  | inl within ↦ ap (λ (xs : List Bool). entry xs s)
+      (get_or-set_same r (class_number c) (slice_set (flags_in r c) s b) [] within)
+      ∙ get_or-set_same (flags_in r c) s b false low
+  | inr far ↦ absurd (omega (arith, low, ap length (get_or_past r (class_number c) [] far)))
+]
+
+-- of another station
+set_beside : (r : Flags) (c : Class) (s : ℕ) (b : Bool) (i : ℕ) → i ≢ s →
+    entry (flags_in (with_flag r c s b) c) i ≡ entry (flags_in r c) i
+set_beside r c s b i other = set_own r c s b (λ xs. entry xs i ≡ entry (flags_in r c) i) refl
+    (get_or-set_other (flags_in r c) s i b false other)
 
 set_apart : (r : Flags) (c : Class) (s : ℕ) (b : Bool) (i : ℕ) (d : Class) → (i ≡ s → d ≡ c → ⊥) →
     entry (flags_in (with_flag r c s b) d) i ≡ entry (flags_in r d) i

@@ -17,20 +17,10 @@ use Rattle.wf_send_stations.specs.declared.members.Member.{Member}
 use Rattle.wf_send_stations.specs.Members.{member, charged_in, received_in}
 use Rattle.wf_send_half_refines.specs.Standing.{StandsFor, AreBoth, IsMember}
 use Rattle.wf_send_half_refines.proofs.Readers.{ready_same}
-use Rattle.wf_path.specs.Flags.{Flags, flags_in, AreFlags}
+use Rattle.wf_path.specs.Flags.{Flags, all_down, flags_in, AreFlags}
 use Rattle.wf_path.specs.Paths.{IsTracked, HasCountsBelow}
 
--- flags of which none is up
-abbrev none_up : ℕ → Flags
-none_up n = record {
-  bk = replicate n false;
-  be = replicate n false;
-  vi = replicate n false;
-  vo =
-      replicate n false;
-}
-
-none_of : (n : ℕ) (c : Class) → flags_in (none_up n) c ≡ replicate n false
+none_of : (n : ℕ) (c : Class) → flags_in (all_down n) c ≡ replicate n false
 none_of n Bk = refl
 none_of n Be = refl
 none_of n Vi = refl
@@ -40,7 +30,7 @@ nobody : (config : Config) (c : Class) (s : ℕ) → is_ready (opening config) c
 nobody config c s = refl
 
 pub new_tracked : (v : TransmitValue) (r : Flags) (config : Config) →
-    ((bodies : ℕ → FrameValue) → StandsFor v (opening config) bodies) → r ≡ none_up config.stations →
+    ((bodies : ℕ → FrameValue) → StandsFor v (opening config) bodies) → r ≡ all_down config.stations →
     IsTracked v r
 new_tracked v r config stands is = record {
   path = record {

@@ -1,37 +1,30 @@
 -- The flags of a path, which tell in which classes each station is ready.
-use Rattle.std.specs.Prelude.{◌≡◌, ◌<◌, ℕ, Bool, List, length, slice_set}
+use Rattle.std.specs.Prelude.{◌≡◌, ◌<◌, ℕ, Bool, false, List, [], length, map, replicate, get_or, slice_set}
 use Rattle.wf_frame.specs.declared.classes.Class.{Class}
 use Rattle.wf_frame.specs.declared.classes.Class.TheVariants.{Bk, Be, Vi, Vo}
+use Rattle.wf_frame.specs.Classes.{all_classes, class_number}
 use Rattle.wf_sched_rotation.specs.Rotas.{is_ready as entry}
 use Rattle.wf_send_half_refines.specs.Half.{TransmitValue, is_ready_of}
 
--- a list for each class, with a flag for each station
-pub record Flags : Type 0 where
-  pub bk : List Bool
-  pub be : List Bool
-  pub vi : List Bool
-  pub vo : List Bool
+-- a list for each class, the least urgent first, with a flag for each station
+abbrev pub Flags : Type 0
+Flags = List (List Bool)
+
+-- all flags of so many stations are down
+abbrev pub all_down : ℕ → Flags
+all_down stations = map (λ _. replicate stations false) all_classes
 
 -- the flags of a class
 abbrev pub flags_in : Flags → Class → List Bool
-flags_in r Bk = r.bk
-flags_in r Be = r.be
-flags_in r Vi = r.vi
-flags_in r Vo = r.vo
+flags_in r c = get_or r (class_number c) []
 
 -- the flags with this one of station s in a class
 abbrev pub with_flag : Flags → Class → ℕ → Bool → Flags
-with_flag r Bk s ready = record r { bk = slice_set r.bk s ready }
-with_flag r Be s ready = record r { be = slice_set r.be s ready }
-with_flag r Vi s ready = record r { vi = slice_set r.vi s ready }
-with_flag r Vo s ready = record r { vo = slice_set r.vo s ready }
+with_flag r c s ready = slice_set r (class_number c) (slice_set (flags_in r c) s ready)
 
 -- each class has a flag for station s
-pub record FlagsHaveRoom (r : Flags) (s : ℕ) : Type 0 where
-  pub bk : s < length r.bk
-  pub be : s < length r.be
-  pub vi : s < length r.vi
-  pub vo : s < length r.vo
+abbrev pub FlagsHaveRoom : Flags → ℕ → Type 0
+FlagsHaveRoom r s = (c : Class) → s < length (flags_in r c)
 
 -- the flags with the four of station s as v has them
 abbrev pub with_flags : Flags → TransmitValue → ℕ → Flags

@@ -1,8 +1,8 @@
 //! Who is ready.
 
-ghost use Rattle.std.specs.Prelude.{◌≡◌, ◌<◌, length, replicate, false, IfOk};
+ghost use Rattle.std.specs.Prelude.{◌≡◌, ◌<◌, length, IfOk};
 ghost use Rattle.wf_send_half_refines.specs.Half.{is_ready_of};
-ghost use Rattle.wf_path.specs.Flags.{flags_in, with_flag, with_flags, FlagsHaveRoom};
+ghost use Rattle.wf_path.specs.Flags.{all_down, flags_in, with_flag, with_flags, FlagsHaveRoom};
 
 use std::alloc::{AllocError, Global};
 use std::marker::Model;
@@ -12,36 +12,36 @@ use wf_send_half::Transmit;
 /// Whether each station is ready, by class.
 #[derive(Drop)]
 pub(crate) struct Ready {
-    bk: Vec<bool>,
-    be: Vec<bool>,
-    vi: Vec<bool>,
-    vo: Vec<bool>,
+    /// By class, the least urgent first, and in each by station.
+    flags: [Vec<bool>; 4],
 }
 
 impl Model for Ready {
+    ghost use Rattle.std.specs.Prelude.{◌≡◌, Bool, length, map};
+    ghost use Rattle.std.specs.declared.alloc.Global.{Global};
+    ghost use Rattle.std.specs.declared.vec.Vec.{Vec};
     ghost use Rattle.wf_path.specs.Flags.{Flags};
 
     ghost Value = { Flags };
 
-    ghost view = { λ r. record { bk = r.bk.items; be = r.be.items; vi = r.vi.items; vo = r.vo.items } };
+    ghost view = { λ r. map (λ (v : Vec Bool Global). v.items) r.flags };
+
+    ghost invariant = { λ r. length r.flags ≡ 4 };
 }
 
 impl Ready {
     // Nobody is ready.
     pub(crate) fn new(alloc: Global, stations: u32) -> Result<Ready, AllocError>
-        ensures { IfOk result (λ made. made ≡ record {
-          bk = replicate stations false;
-          be = replicate stations false;
-          vi = replicate stations false;
-          vo = replicate stations false;
-        }) }
+        ensures { IfOk result (λ made. made ≡ all_down stations) }
     {
         let count = stations as usize;
         Ok(Ready {
-            bk: vec![in alloc; false; count]?,
-            be: vec![in alloc; false; count]?,
-            vi: vec![in alloc; false; count]?,
-            vo: vec![in alloc; false; count]?,
+            flags: [
+                vec![in alloc; false; count]?,
+                vec![in alloc; false; count]?,
+                vec![in alloc; false; count]?,
+                vec![in alloc; false; count]?,
+            ],
         })
     }
 
@@ -49,12 +49,7 @@ impl Ready {
     pub(crate) fn of(&self, class: Class) -> &[bool]
         ensures { result.now ≡ flags_in self.now class }
     {
-        match class {
-            Class::Bk => self.bk.as_slice(),
-            Class::Be => self.be.as_slice(),
-            Class::Vi => self.vi.as_slice(),
-            Class::Vo => self.vo.as_slice(),
-        }
+        self.flags[class.number()].as_slice()
     }
 
     // Sets the flag of a station in a class as the half has it.
@@ -63,14 +58,8 @@ impl Ready {
         requires room { station < length (flags_in self.old class) }
         ensures { self.new ≡ with_flag self.old class station (is_ready_of half.now class station) }
     {
-        let ready = half.is_ready(station, class);
-        let at = usize::from(station);
-        match class {
-            Class::Bk => self.bk[at] = ready,
-            Class::Be => self.be[at] = ready,
-            Class::Vi => self.vi[at] = ready,
-            Class::Vo => self.vo[at] = ready,
-        }
+        let flags = &mut self.flags[class.number()];
+        flags[usize::from(station)] = half.is_ready(station, class);
     }
 
     // Sets the four flags of a station as the half has them.
