@@ -14,3 +14,4 @@ mod SettleLemmas
 mod WonLemmas
 mod RemoveLemmas
 mod RangeLemmas
+mod TurnLemmas

@@ -20,16 +20,16 @@ use Rattle.wf_sched_rotation.proofs.ListsLemmas.{taken_below}
 use Rattle.wf_law_rules.proofs.Lemmas.Counts.{on-nil, on-cons_same, on-cons_other, on-append}
 
 -- a key, where it is kept
-abbrev kept : Bool → ℕ → List ℕ
+abbrev pub kept : Bool → ℕ → List ℕ
 kept b key = cond b (key ∷ []) []
 
 -- the same of one rotation
-abbrev passed : Rotation → Side → ℕ → Bool → Rotation
+abbrev pub passed : Rotation → Side → ℕ → Bool → Rotation
 passed r side key stays =
     let off : Rotation = with_side r side (keys_behind (side_of r side)) in
     cond stays (with_side off Old (side_of off Old ++ key ∷ [])) off
 
-passed_set : (all : List Rotation) (l : ℕ) (r : Rotation) (side : Side) (key : ℕ) (stays : Bool) →
+pub passed_set : (all : List Rotation) (l : ℕ) (r : Rotation) (side : Side) (key : ℕ) (stays : Bool) →
     l < length all → passed_first (set all l r) l side key stays ≡ set all l (passed r side key stays)
 passed_set all l r side key false low =
     let here : lists_at (set all l r) l ≡ r = get_or-set_same all l r no_keys low in

@@ -5,3 +5,4 @@ pub mod Links
 pub mod Homes
 pub mod Scan
 pub mod Pass
+pub mod Turns

@@ -1,9 +1,9 @@
 //! Many disjoint rotations of numbered keys with deficits, and the pick of "Ending the Anomaly" (USENIX ATC
 //! 2017), for stations and for flow queues alike.
 //!
-//! The lists are arrays of links. `pick` is the pick of the definitions in closed form: it finds the winner
-//! by one scan of the rotation and rebuilds its lists in one pass, in at most 2n + 2 counted visits for n
-//! listed keys.
+//! The lists are arrays of links. `pick` plays the paper's loop turn by turn, 32 turns at most. Only where
+//! that has not ended it goes on in closed form: it finds the winner by one scan of the rotation and
+//! rebuilds its lists in one pass. That is at most 32 + 2n + 2 counted visits for n listed keys.
 #![tactic(auto)]
 
 mod links;

@@ -2,6 +2,7 @@ ghost use Rattle.std.specs.Prelude.{◌≡◌, ℕ, ◌+◌, ◌-◌, ◌*◌, �
 ghost use Rattle.wf_def_rotation.specs.Rotation.{no_keys, with_new_key, without_key, has_key, in_order};
 ghost use Rattle.wf_sched_rotation.specs.Rotas.{Rotas, deficit_at, quantum_at, need_at, is_ready, IsUnlisted, picked_at};
 ghost use Rattle.wf_sched_rotation.specs.Lists.{lists_at, keys_at, with_keys, has_on, first_of, keys_behind, IsOff, AreDisjoint};
+ghost use Rattle.wf_sched_rotation.specs.Turns.{end_of, after_turn_of, first_turn, HasTurned, EndsAs};
 ghost use Rattle.wf_sched_rotation.specs.Scan.{IsFound, IsRoundOn, IsWon};
 ghost use Rattle.wf_sched_rotation.specs.declared.Side.TheVariants.{Old};
 ghost use Rattle.wf_sched_rotation.specs.Pass.{raised, passed_first, passed_olds, way, SharesAre, HasPassed, WasPickedFrom, passed_key, last_after, last_before};
@@ -14,6 +15,18 @@ use std::alloc::{AllocError, Global};
 use std::marker::{Brand, Model};
 use std::sync::ledger::{Blank, Ledger};
 use wf_queue_counted::Steps;
+
+/// So many turns of its loop a pick plays before it goes on in closed form.
+const MOST_TURNS: u32 = 32;
+
+/// What one turn of the loop comes to.
+#[derive(Clone, Copy)]
+enum TurnEnd {
+    /// The loop ends, with this winner or, where both lists are empty, with none.
+    Done(Option<u32>),
+    /// The loop begins again.
+    GoesOn,
+}
 
 /// The list on which a key stands.
 #[derive(Clone, Copy)]
@@ -170,6 +183,7 @@ impl Rota {
         ensures key { result ≡ first_of (keys_at self.now.lists list side) }
         ensures below { IfSome result (λ key. key < length self.now.deficits) }
         ensures disjoint { AreDisjoint (record { lists = self.now.lists; keys = length self.now.deficits }) }
+        ensures positive { (key : ℕ) → 1 ≤ quantum_at self.now.quanta key }
     {
         self.links.first(list, side)
     }
@@ -401,10 +415,9 @@ impl Rota {
         }
     }
 
-    /// The winner of a rotation, if a key of it is ready, and the rotation as the pick leaves it: the loop of
-    /// algorithm 3 in closed form. One scan finds the winner and one pass rebuilds the lists; a key looked at
-    /// or moved is one step.
-    pub fn pick<L: Ledger>(
+    /// The pick in closed form. One scan finds the winner and one pass rebuilds the lists; a key looked at or
+    /// moved is one step.
+    fn pick_at_once<L: Ledger>(
         &mut self,
         list: u32,
         ready: &[bool],
@@ -445,6 +458,101 @@ impl Rota {
                 Some(best.key)
             }
         }
+    }
+
+    /// The turn of a key that is the first of its list.
+    fn turn_of(&mut self, list: u32, side: Side, key: u32, ready: &[bool]) -> TurnEnd
+        requires in_lists { list < length self.old.lists }
+        requires ready { length ready.now ≡ length self.old.deficits }
+        requires below { key < length self.old.deficits }
+        requires first { first_of (keys_at self.old.lists list side) ≡ Some key }
+        ensures end { result ≡ end_of (deficit_at self.old.deficits key) (is_ready ready.now key) key }
+        ensures after { self.new ≡ after_turn_of self.old list side key (is_ready ready.now key) }
+    {
+        let is_new = matches!(side, Side::New);
+        if self.deficit(key) <= 0 {
+            self.pass_first(
+                list,
+                side,
+                key,
+                Share {
+                    visits: 1,
+                    stays: true,
+                },
+            );
+            TurnEnd::GoesOn
+        } else if ready[key as usize] {
+            TurnEnd::Done(Some(key))
+        } else {
+            self.pass_first(
+                list,
+                side,
+                key,
+                Share {
+                    visits: 0,
+                    stays: is_new,
+                },
+            );
+            TurnEnd::GoesOn
+        }
+    }
+
+    /// One turn of the loop of algorithm 3. It looks at the first key of new, or where new is empty at the
+    /// first of old. With no deficit above 0 the key gets a quantum and goes last on old. Else it wins
+    /// where it is ready; where it is not, it moves from new to old, or leaves the rotation from old.
+    fn turn(&mut self, list: u32, ready: &[bool]) -> TurnEnd
+        requires in_lists { list < length self.old.lists }
+        requires ready { length ready.now ≡ length self.old.deficits }
+        ensures turned { HasTurned self.old list (first_turn self.old ready.now list) self.new }
+        ensures end { EndsAs (first_turn self.old ready.now list) result }
+        ensures disjoint { AreDisjoint (record { lists = self.old.lists; keys = length self.old.deficits }) }
+        ensures positive { (key : ℕ) → 1 ≤ quantum_at self.old.quanta key }
+    {
+        match self.first(list, Side::New) {
+            Some(key) => self.turn_of(list, Side::New, key, ready),
+            None => match self.first(list, Side::Old) {
+                Some(key) => self.turn_of(list, Side::Old, key, ready),
+                None => TurnEnd::Done(None),
+            },
+        }
+    }
+
+    /// The winner of a rotation, if a key of it is ready, and the rotation as the pick leaves it: the loop
+    /// of algorithm 3 of "Ending the Anomaly" (USENIX ATC 2017), turn by turn, and past `MOST_TURNS` turns
+    /// in closed form. A turn looks at one key, which is one step; each turn but the last gives a quantum,
+    /// or takes a key off new or off the rotation. So a pick that ends within those turns costs what the
+    /// quanta and the keys that left cost, whatever the number of listed keys.
+    pub fn pick<L: Ledger>(
+        &mut self,
+        list: u32,
+        ready: &[bool],
+        steps: &mut Steps<L>,
+    ) -> Option<u32>
+        requires in_lists { list < length self.old.lists }
+        requires ready { length ready.now ≡ length self.old.deficits }
+        ensures winner { result ≡ (picked_at self.old ready.now list).winner }
+        ensures lists { self.new.lists ≡
+            slice_set self.old.lists list (picked_at self.old ready.now list).lists }
+        ensures deficits { (key : ℕ) → deficit_at self.new.deficits key ≡ deficit_at self.old.deficits key +ℤ
+            pos ((picked_at self.old ready.now list).quanta key * quantum_at self.old.quanta key) }
+        ensures keys { length self.new.deficits ≡ length self.old.deficits }
+        ensures quanta { self.new.quanta ≡ self.old.quanta }
+        ensures below { IfSome result (λ key. key < length self.old.deficits) }
+        ensures listed { IfSome result (λ key. has_key (lists_at self.old.lists list) key ≡ true) }
+        ensures is_ready { IfSome result (λ key. is_ready ready.now key ≡ true) }
+        ensures capped { (key : ℕ) →
+            deficit_at self.old.deficits key ≤ℤ pos (quantum_at self.old.quanta key) →
+            deficit_at self.new.deficits key ≤ℤ pos (quantum_at self.old.quanta key) }
+        ensures at_most { steps.new ≤
+            steps.old + (32 + 2 * length (in_order (lists_at self.old.lists list)) + 2) }
+    {
+        for _ in 0..MOST_TURNS {
+            steps.tick();
+            if let TurnEnd::Done(winner) = self.turn(list, ready) {
+                return winner;
+            }
+        }
+        self.pick_at_once(list, ready, steps)
     }
 
     /// The pick as `pick` makes it, for a caller that counts no steps.

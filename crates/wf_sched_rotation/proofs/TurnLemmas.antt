@@ -1,0 +1,415 @@
+-- One turn of the loop: what it leaves, and that the pick stays the same.
+use Rattle.std.proofs.Common.{◌≡◌, ℕ, zero, suc, ◌+◌, ◌*◌, ◌/◌, ◌<◌, ◌≤◌, ◌==◌, min, Bool, true, false, if◌then◌else◌, List, [], ◌∷◌, ◌++◌, length, set, Option, Some, None, refl, sym, ap, ◌∙◌, subst, inl, inr, arith, length-append, length-set}
+use Rattle.std.specs.Prelude.{ℤ, pos, negsuc, ◌+ℤ◌, ◌≤ℤ◌, int_le, IfSome}
+use Rattle.std.proofs.Math.Path.{fun_ext}
+use Rattle.std.proofs.Math.Nat.{add-div_right}
+use Rattle.std.proofs.lemmas.Int.{ints}
+use Rattle.std.proofs.lemmas.List.{get_or-set_same, get_or-set_other, set-get_or, set-set}
+use Rattle.std.proofs.lemmas.Bool.{cases_eq}
+use Rattle.wf_def_rotation.specs.Rotation.{Rotation, Picked, no_keys, has_key, in_order, need_of}
+use Rattle.wf_def_rotation.specs.Loop.{Turn, Empty, Wins, Again, Standing, turn, turn_at, with_quantum_paid, pick_by_deficits, deficit_after, onward, LoopEnds, PickGives, MeetsTurn}
+use Rattle.wf_def_lists.specs.Lists.{on, IsOnce}
+use Rattle.wf_sched_rotation.specs.Lists.{AreDisjoint, lists_at, keys_at, first_of, keys_behind}
+use Rattle.wf_sched_rotation.specs.Rotas.{Rotas, deficit_at, quantum_at, need_at, is_ready, picked_at}
+use Rattle.wf_sched_rotation.specs.Pass.{raised, passed_first, WasPickedFrom}
+use Rattle.wf_sched_rotation.specs.Turns.{standing, first_turn, HasTurned, key_passed, after_turn_of, IsSamePick}
+use Rattle.wf_sched_rotation.specs.declared.Side.{Side}
+use Rattle.wf_sched_rotation.specs.declared.Side.TheVariants.{New, Old}
+use Rattle.wf_law_rules.proofs.Lemmas.Counts.{on-cons_same, on-cons_other, on-hasnot, listed-some}
+use Rattle.wf_law_rules.proofs.Lemmas.Numbers.{on_bool, eq_yes, eq_no}
+use Rattle.wf_law_rules.proofs.Lemmas.Rotations.{IsWinner, pick_winner}
+use Rattle.wf_law_rules.proofs.Lemmas.Turns.{turn_law}
+use Rattle.wf_sched_rotation.proofs.ListsLemmas.{first_is}
+use Rattle.wf_sched_rotation.proofs.PassLemmas.{passed, passed_set}
+use Rattle.wf_sched_rotation.proofs.RangeLemmas.{quanta_low, capped}
+
+-- ---- a key's deficit
+
+not_below : (n : ℕ) → int_le (pos (suc n)) (pos 0) ≡ true → ⊥
+not_below n h = grind arith
+
+-- a deficit that is not above 0 needs a quantum
+needs_one : (d : ℤ) (q : ℕ) → 1 ≤ q → int_le d (pos 0) ≡ true → 1 ≤ need_of q d
+needs_one (pos zero) q some h = omega arith
+needs_one (pos (suc n)) q some h = absurd (not_below n h)
+needs_one (negsuc n) q some h =
+    let one_more : (1 + n + q) / q ≡ (1 + n) / q + 1 = add-div_right (1 + n) some in
+    omega (arith, one_more)
+
+one_quantum : (d : ℤ) (q : ℕ) → d +ℤ pos (1 * q) ≡ d +ℤ pos q
+one_quantum d q = omega (arith, ints)
+
+no_quantum : (d : ℤ) (q : ℕ) → d +ℤ pos (0 * q) ≡ d
+no_quantum d q = omega (arith, ints)
+
+raised_once : (d : ℤ) (q : ℕ) → 1 ≤ q → int_le d (pos 0) ≡ true → raised d q 1 ≡ d +ℤ pos q
+raised_once d q some h =
+    let low : 1 ≤ need_of q d = needs_one d q some h in
+    let one : min 1 (need_of q d) ≡ 1 = omega (arith, low) in
+    ap (λ (n : ℕ). d +ℤ pos (n * q)) one ∙ one_quantum d q
+
+raised_not : (d : ℤ) (q : ℕ) → raised d q 0 ≡ d
+raised_not d q =
+    let none : min 0 (need_of q d) ≡ 0 = omega arith in
+    ap (λ (n : ℕ). d +ℤ pos (n * q)) none ∙ no_quantum d q
+
+-- ---- the turn of one key
+
+abbrev two : List ℕ → List ℕ → Rotation
+two news olds = record { new = news; old = olds }
+
+module _ (v : Rotas) (ready : List Bool) (list key : ℕ) (low : list < length v.lists)
+    (below : key < length v.deficits) (some : 1 ≤ quantum_at v.quanta key) where
+  lists_passed : (side : Side) (stays : Bool) → passed_first v.lists list side key stays
+      ≡ set v.lists list (passed (lists_at v.lists list) side key stays)
+  lists_passed side stays =
+      ap (λ (all : List Rotation). passed_first all list side key stays)
+      (sym (set-get_or v.lists list no_keys))
+      ∙ passed_set v.lists list (lists_at v.lists list) side key stays low
+
+  paid : int_le (deficit_at v.deficits key) (pos 0) ≡ true → (y : ℕ) →
+      deficit_at (set v.deficits key (raised (deficit_at v.deficits key) (quantum_at v.quanta key) 1)) y
+      ≡ with_quantum_paid (quantum_at v.quanta) (deficit_at v.deficits) key y
+  paid h y = on_bool (key == y)
+      (λ e. subst (λ (z : ℕ).
+      deficit_at (set v.deficits key (raised (deficit_at v.deficits key) (quantum_at v.quanta key) 1)) z
+      ≡ deficit_at v.deficits z +ℤ pos (quantum_at v.quanta z)) (eq_yes key y e)
+      (get_or-set_same v.deficits key _ (pos 0) below
+      ∙ raised_once (deficit_at v.deficits key) (quantum_at v.quanta key) some h)
+      ∙ sym (ap (λ (b : Bool). if b then deficit_at v.deficits y +ℤ pos (quantum_at v.quanta y)
+      else deficit_at v.deficits y) e))
+      (λ e. get_or-set_other v.deficits key y _ (pos 0) (λ same. eq_no key y e (sym same))
+      ∙ sym (ap (λ (b : Bool). if b then deficit_at v.deficits y +ℤ pos (quantum_at v.quanta y)
+      else deficit_at v.deficits y) e))
+
+  unpaid : (y : ℕ) →
+      deficit_at (set v.deficits key (raised (deficit_at v.deficits key) (quantum_at v.quanta key) 0)) y
+      ≡ deficit_at v.deficits y
+  unpaid y = elim (cases_eq y key) [
+    | inl e ↦ subst (λ (z : ℕ).
+        deficit_at (set v.deficits key (raised (deficit_at v.deficits key) (quantum_at v.quanta key) 0)) z
+        ≡ deficit_at v.deficits z) (sym e) (get_or-set_same v.deficits key _ (pos 0) below
+        ∙ raised_not (deficit_at v.deficits key) (quantum_at v.quanta key))
+    | inr other ↦ get_or-set_other v.deficits key y _ (pos 0) other
+  ]
+
+  new_turned : (keys olds : List ℕ) → lists_at v.lists list ≡ record { new = key ∷ keys; old = olds } →
+      HasTurned v list (first_turn v ready list) (after_turn_of v list New key (is_ready ready key))
+  new_turned keys olds is = subst (λ (t : Turn).
+      HasTurned v list t (after_turn_of v list New key (is_ready ready key)))
+      (sym (ap (turn (quantum_at v.quanta) (deficit_at v.deficits) (is_ready ready)) is))
+      (go (int_le (deficit_at v.deficits key) (pos 0)) (is_ready ready key) refl)
+    where
+      go : (owes rdy : Bool) → int_le (deficit_at v.deficits key) (pos 0) ≡ owes →
+          HasTurned v list (if owes then Again (record { new = keys; old = olds ++ key ∷ [] })
+          (with_quantum_paid (quantum_at v.quanta) (deficit_at v.deficits) key)
+          else (if rdy then Wins key
+          else Again (record { new = keys; old = olds ++ key ∷ [] }) (deficit_at v.deficits)))
+          (if owes then key_passed v list New key 1 true
+          else (if rdy then v else key_passed v list New key 0 true))
+      go true rdy e = record {
+        lists = lists_passed New true
+            ∙ ap (λ (r : Rotation). set v.lists list (passed r New key true)) is;
+        deficits = paid e;
+        keys = length-set v.deficits key _;
+        quanta = refl;
+      }
+      go false true e = record {
+        lists = sym (set-get_or v.lists list no_keys);
+        deficits = λ y. refl;
+        keys = refl;
+        quanta = refl;
+      }
+      go false false e = record {
+        lists = lists_passed New true
+            ∙ ap (λ (r : Rotation). set v.lists list (passed r New key true)) is;
+        deficits = unpaid;
+        keys = length-set v.deficits key _;
+        quanta = refl;
+      }
+
+  old_turned : (keys : List ℕ) → lists_at v.lists list ≡ record { new = []; old = key ∷ keys } →
+      HasTurned v list (first_turn v ready list) (after_turn_of v list Old key (is_ready ready key))
+  old_turned keys is = subst (λ (t : Turn).
+      HasTurned v list t (after_turn_of v list Old key (is_ready ready key)))
+      (sym (ap (turn (quantum_at v.quanta) (deficit_at v.deficits) (is_ready ready)) is))
+      (go (int_le (deficit_at v.deficits key) (pos 0)) (is_ready ready key) refl)
+    where
+      go : (owes rdy : Bool) → int_le (deficit_at v.deficits key) (pos 0) ≡ owes →
+          HasTurned v list (if owes then Again (record { new = []; old = keys ++ key ∷ [] })
+          (with_quantum_paid (quantum_at v.quanta) (deficit_at v.deficits) key)
+          else (if rdy then Wins key
+          else Again (record { new = []; old = keys }) (deficit_at v.deficits)))
+          (if owes then key_passed v list Old key 1 true
+          else (if rdy then v else key_passed v list Old key 0 false))
+      go true rdy e = record {
+        lists = lists_passed Old true
+            ∙ ap (λ (r : Rotation). set v.lists list (passed r Old key true)) is;
+        deficits = paid e;
+        keys = length-set v.deficits key _;
+        quanta = refl;
+      }
+      go false true e = record {
+        lists = sym (set-get_or v.lists list no_keys);
+        deficits = λ y. refl;
+        keys = refl;
+        quanta = refl;
+      }
+      go false false e = record {
+        lists = lists_passed Old false
+            ∙ ap (λ (r : Rotation). set v.lists list (passed r Old key false)) is;
+        deficits = unpaid;
+        keys = length-set v.deficits key _;
+        quanta = refl;
+      }
+
+  -- the first key of new has its turn
+  pub turned_new : first_of (keys_at v.lists list New) ≡ Some key →
+      HasTurned v list (first_turn v ready list) (after_turn_of v list New key (is_ready ready key))
+  turned_new first = new_turned (keys_behind (lists_at v.lists list).new) (lists_at v.lists list).old
+      (ap (λ (keys : List ℕ). two keys (lists_at v.lists list).old)
+      (first_is (lists_at v.lists list).new key first))
+
+  no_first : (keys : List ℕ) → first_of keys ≡ None → keys ≡ []
+  no_first [] h = refl
+  no_first (k ∷ ks) h = absurd (cc h)
+
+  -- with new empty, the first key of old has its turn
+  pub turned_old : first_of (keys_at v.lists list New) ≡ None →
+      first_of (keys_at v.lists list Old) ≡ Some key →
+      HasTurned v list (first_turn v ready list) (after_turn_of v list Old key (is_ready ready key))
+  turned_old none first = old_turned (keys_behind (lists_at v.lists list).old)
+      (ap (two (lists_at v.lists list).new) (first_is (lists_at v.lists list).old key first)
+      ∙ ap (λ (keys : List ℕ). two keys (key ∷ keys_behind (lists_at v.lists list).old))
+      (no_first (lists_at v.lists list).new none))
+
+-- ---- the pick before and after a turn
+
+fewer_on : (x : ℕ) (xs : List ℕ) (y : ℕ) → on xs y ≤ on (x ∷ xs) y
+fewer_on x xs y = elim (cases_eq x y) [
+  | inl e ↦ subst (λ (z : ℕ). on xs z ≤ on (x ∷ xs) z) e (omega (arith, on-cons_same x xs))
+  | inr other ↦ omega (arith, on-cons_other x y xs other)
+]
+
+on_once : (xs : List ℕ) → ((y : ℕ) → on xs y ≤ 1) → IsOnce xs
+on_once [] h = tt
+on_once (x ∷ xs) h = (
+  on-hasnot xs x (omega (arith, h x, on-cons_same x xs)),
+  on_once xs (λ y. omega (arith, h y, fewer_on x xs y)),
+)
+
+-- a turn leaves no more keys on the rotation
+fewer_keys : (quantum : ℕ → ℕ) (deficit : ℕ → ℤ) (ready : ℕ → Bool) (news olds : List ℕ) →
+    length (in_order (onward (record { lists = two news olds; deficit = deficit })
+    (turn_at quantum deficit ready news olds)).lists) ≤ length (olds ++ news)
+fewer_keys quantum deficit ready [] [] = omega arith
+fewer_keys quantum deficit ready [] (key ∷ keys) = go (int_le (deficit key) (pos 0)) (ready key)
+  where
+    go : (owes rdy : Bool) →
+        length (in_order (onward (record { lists = two [] (key ∷ keys); deficit = deficit })
+        (if owes then Again (record { new = []; old = keys ++ key ∷ [] })
+        (with_quantum_paid quantum deficit key) else (if rdy then Wins key
+        else Again (record { new = []; old = keys }) deficit))).lists) ≤ length ((key ∷ keys) ++ [])
+    go true rdy = omega (
+      arith,
+      length-append (keys ++ key ∷ []) [],
+      length-append keys (key ∷ []),
+      length-append (key ∷ keys) [],
+    )
+    go false true = omega arith
+    go false false = omega (arith, length-append keys [], length-append (key ∷ keys) [])
+fewer_keys quantum deficit ready (key ∷ keys) old = go (int_le (deficit key) (pos 0)) (ready key)
+  where
+    go : (owes rdy : Bool) →
+        length (in_order (onward (record { lists = two (key ∷ keys) old; deficit = deficit })
+        (if owes then Again (record { new = keys; old = old ++ key ∷ [] })
+        (with_quantum_paid quantum deficit key) else (if rdy then Wins key
+        else Again (record { new = keys; old = old ++ key ∷ [] }) deficit))).lists)
+        ≤ length (old ++ key ∷ keys)
+    go true rdy = omega (
+      arith,
+      length-append (old ++ key ∷ []) keys,
+      length-append old (key ∷ []),
+      length-append old (key ∷ keys),
+    )
+    go false true = omega arith
+    go false false = omega (
+      arith,
+      length-append (old ++ key ∷ []) keys,
+      length-append old (key ∷ []),
+      length-append old (key ∷ keys),
+    )
+
+-- the pick before a turn is the pick after it
+meets_onward : (quantum : ℕ → ℕ) (ready : ℕ → Bool) (s : Standing) (t : Turn) →
+    MeetsTurn quantum s.deficit ready s.lists t →
+    PickGives quantum s.deficit ready s.lists
+    (pick_by_deficits quantum (onward s t).deficit ready (onward s t).lists).winner
+    (pick_by_deficits quantum (onward s t).deficit ready (onward s t).lists).lists
+    (deficit_after quantum (onward s t).deficit
+    (pick_by_deficits quantum (onward s t).deficit ready (onward s t).lists))
+meets_onward quantum ready s Empty meets = record { winner = refl; lists = refl; deficits = λ y. refl }
+meets_onward quantum ready s (Wins key) meets = record { winner = refl; lists = refl; deficits = λ y. refl }
+meets_onward quantum ready s (Again lists after) meets = meets
+
+pub same_first : (v : Rotas) (ready : List Bool) (list : ℕ) → IsSamePick v ready list v
+same_first v ready list = record {
+  winner = refl;
+  lists = refl;
+  deficits = λ key. refl;
+  others = λ r. refl;
+  there = refl;
+  keys = refl;
+  quanta = refl;
+  fewer = omega arith;
+}
+
+module _ (start : Rotas) (ready : List Bool) (list : ℕ) (u v : Rotas) (low : list < length start.lists)
+    (some : (y : ℕ) → 1 ≤ quantum_at u.quanta y)
+    (apart : AreDisjoint (record { lists = u.lists; keys = length u.deficits }))
+    (same : IsSamePick start ready list u) (turned : HasTurned u list (first_turn u ready list) v) where
+  abbrev at_u : Standing
+  at_u = standing u list
+
+  abbrev next : Standing
+  next = onward at_u (first_turn u ready list)
+
+  abbrev picked_next : Picked
+  picked_next = pick_by_deficits (quantum_at u.quanta) next.deficit (is_ready ready) next.lists
+
+  meets : MeetsTurn (quantum_at u.quanta) (deficit_at u.deficits) (is_ready ready) (lists_at u.lists list)
+      (first_turn u ready list)
+  meets = turn_law (quantum_at u.quanta) (deficit_at u.deficits) (is_ready ready) (lists_at u.lists list) some
+      (on_once (in_order (lists_at u.lists list)) (apart.once list))
+
+  gives : PickGives (quantum_at u.quanta) (deficit_at u.deficits) (is_ready ready) (lists_at u.lists list)
+      picked_next.winner picked_next.lists (deficit_after (quantum_at u.quanta) next.deficit picked_next)
+  gives = meets_onward (quantum_at u.quanta) (is_ready ready) at_u (first_turn u ready list) meets
+
+  here : lists_at v.lists list ≡ next.lists
+  here = ap (λ (all : List Rotation). lists_at all list) turned.lists
+      ∙ get_or-set_same u.lists list next.lists no_keys (omega (arith, low, same.there))
+
+  picked_v : picked_at v ready list ≡ picked_next
+  picked_v =
+      ap (λ (quanta : List ℕ). pick_by_deficits (quantum_at quanta) (deficit_at v.deficits) (is_ready ready)
+      (lists_at v.lists list)) turned.quanta
+      ∙ ap (λ (deficit : ℕ → ℤ). pick_by_deficits (quantum_at u.quanta) deficit (is_ready ready)
+      (lists_at v.lists list)) (fun_ext turned.deficits)
+      ∙ ap (pick_by_deficits (quantum_at u.quanta) next.deficit (is_ready ready)) here
+
+  -- a turn more
+  pub same_after : IsSamePick start ready list v
+  same_after = record {
+    winner = ap (λ (p : Picked). p.winner) picked_v ∙ sym gives.winner ∙ same.winner;
+    lists = ap (λ (p : Picked). p.lists) picked_v ∙ sym gives.lists ∙ same.lists;
+    deficits = λ key.
+        ap (λ (d : ℤ). d +ℤ pos ((picked_at v ready list).quanta key * quantum_at v.quanta key))
+        (turned.deficits key)
+        ∙ ap (λ (p : Picked). next.deficit key +ℤ pos (p.quanta key * quantum_at v.quanta key)) picked_v
+        ∙ ap (λ (quanta : List ℕ). next.deficit key
+        +ℤ pos (picked_next.quanta key * quantum_at quanta key)) turned.quanta
+        ∙ sym (gives.deficits key) ∙ same.deficits key;
+    others = λ r. ap (λ (all : List Rotation). set all list r) turned.lists
+        ∙ set-set u.lists list next.lists r ∙ same.others r;
+    there = ap length turned.lists ∙ length-set u.lists list next.lists ∙ same.there;
+    keys = turned.keys ∙ same.keys;
+    quanta = turned.quanta ∙ same.quanta;
+    fewer = omega (
+      arith,
+      ap (λ (r : Rotation). length (in_order r)) here,
+      fewer_keys (quantum_at u.quanta) (deficit_at u.deficits) (is_ready ready)
+          (lists_at u.lists list).new (lists_at u.lists list).old,
+      same.fewer,
+    );
+  }
+
+  -- the last turn
+  pub record HasEnded (winner : Option ℕ) : Type 0 where
+    pub winner_is : winner ≡ (picked_at start ready list).winner
+    pub picked : WasPickedFrom start list (picked_at start ready list) v
+    pub below : (key : ℕ) → winner ≡ Some key → key < length start.deficits
+
+  ended_by : (winner : Option ℕ) (t : Turn) →
+      MeetsTurn (quantum_at u.quanta) (deficit_at u.deficits) (is_ready ready) (lists_at u.lists list) t →
+      HasTurned u list t v → LoopEnds t winner →
+      (winner ≡ (picked_at u ready list).winner) × (v.lists ≡ set u.lists list (picked_at u ready list).lists)
+      × ((key : ℕ) → deficit_at v.deficits key ≡ deficit_at u.deficits key
+      +ℤ pos ((picked_at u ready list).quanta key * quantum_at u.quanta key))
+  ended_by winner Empty m h e = (
+    e ∙ sym m.winner,
+    h.lists ∙ ap (λ (r : Rotation). set u.lists list r) (sym m.lists),
+    (λ key. h.deficits key ∙ sym (m.deficits key)),
+  )
+  ended_by winner (Wins key) m h e = (
+    e ∙ sym m.winner,
+    h.lists ∙ ap (λ (r : Rotation). set u.lists list r) (sym m.lists),
+    (λ key. h.deficits key ∙ sym (m.deficits key)),
+  )
+  ended_by winner (Again lists after) m h e = absurd e
+
+  pub has_ended : (winner : Option ℕ) → LoopEnds (first_turn u ready list) winner → HasEnded winner
+  has_ended winner ends =
+      let by : (winner ≡ (picked_at u ready list).winner)
+      × (v.lists ≡ set u.lists list (picked_at u ready list).lists)
+      × ((key : ℕ) → deficit_at v.deficits key ≡ deficit_at u.deficits key
+      +ℤ pos ((picked_at u ready list).quanta key * quantum_at u.quanta key)) =
+      ended_by winner (first_turn u ready list) meets turned ends in
+      record {
+        winner_is = by.0 ∙ same.winner;
+        picked = record {
+          lists = by.1 ∙ ap (λ (r : Rotation). set u.lists list r) same.lists
+              ∙ same.others (picked_at start ready list).lists;
+          deficits = λ key. by.2 key ∙ same.deficits key;
+          keys = turned.keys ∙ same.keys;
+          quanta = turned.quanta ∙ same.quanta;
+        };
+        below = λ key is.
+            let won : IsWinner (need_at u) (is_ready ready) (lists_at u.lists list)
+            (picked_at u ready list) key =
+            pick_winner (need_at u) (is_ready ready) (lists_at u.lists list) key (sym by.0 ∙ is) in
+            omega (arith, apart.below list key won.listed, same.keys);
+      }
+
+-- ---- what every caller of a pick needs
+
+if_some : (o : Option ℕ) (P : ℕ → Type 0) → ((key : ℕ) → o ≡ Some key → P key) → IfSome o P
+if_some None P h = tt
+if_some (Some key) P h = h key refl
+
+pub some_below : (o : Option ℕ) (n : ℕ) → ((key : ℕ) → o ≡ Some key → key < n) → IfSome o (λ key. key < n)
+some_below o n h = if_some o (λ key. key < n) h
+
+module _ (start : Rotas) (ready : List Bool) (list : ℕ) (winner : Option ℕ)
+    (is : winner ≡ (picked_at start ready list).winner) where
+  won : (key : ℕ) → winner ≡ Some key → IsWinner (need_at start) (is_ready ready) (lists_at start.lists list)
+      (picked_at start ready list) key
+  won key some = pick_winner (need_at start) (is_ready ready) (lists_at start.lists list) key (sym is ∙ some)
+
+  pub some_listed : IfSome winner (λ key. has_key (lists_at start.lists list) key ≡ true)
+  some_listed = if_some winner (λ key. has_key (lists_at start.lists list) key ≡ true)
+      (λ key some. listed-some (lists_at start.lists list) key (won key some).listed)
+
+  pub some_ready : IfSome winner (λ key. is_ready ready key ≡ true)
+  some_ready = if_some winner (λ key. is_ready ready key ≡ true) (λ key some. (won key some).is_ready)
+
+pub pick_capped : (start : Rotas) (ready : List Bool) (list : ℕ) (v : Rotas) →
+    WasPickedFrom start list (picked_at start ready list) v → (key : ℕ) →
+    deficit_at start.deficits key ≤ℤ pos (quantum_at start.quanta key) →
+    deficit_at v.deficits key ≤ℤ pos (quantum_at start.quanta key)
+pick_capped start ready list v picked key small =
+    rw (picked.deficits key) (capped (deficit_at start.deficits key) (quantum_at start.quanta key)
+    ((picked_at start ready list).quanta key)
+    (quanta_low (need_at start) (is_ready ready) (lists_at start.lists list) key) small)
+
+-- the pick in closed form, after some turns
+pub at_once : (start : Rotas) (ready : List Bool) (list : ℕ) (u v : Rotas) → IsSamePick start ready list u →
+    WasPickedFrom u list (picked_at u ready list) v →
+    WasPickedFrom start list (picked_at start ready list) v
+at_once start ready list u v same picked = record {
+  lists = picked.lists ∙ ap (λ (r : Rotation). set u.lists list r) same.lists
+      ∙ same.others (picked_at start ready list).lists;
+  deficits = λ key. picked.deficits key ∙ same.deficits key;
+  keys = picked.keys ∙ same.keys;
+  quanta = picked.quanta ∙ same.quanta;
+}

@@ -1,0 +1,74 @@
+-- One turn of the paper's loop (Loop of wf_def_rotation) over one of the rotations.
+use Rattle.std.specs.Prelude.{◌≡◌, ℕ, ◌*◌, ◌≤◌, Bool, true, false, List, length, set, ℤ, pos, ◌+ℤ◌, int_le, Some, if◌then◌else◌}
+use Rattle.wf_def_rotation.specs.Rotation.{Rotation, in_order}
+use Rattle.wf_def_rotation.specs.Loop.{Turn, Empty, Wins, Again, Standing, turn_from, onward, LoopEnds}
+use Rattle.wf_sched_rotation.specs.Lists.{lists_at}
+use Rattle.wf_sched_rotation.specs.Rotas.{Rotas, deficit_at, quantum_at, is_ready, picked_at}
+use Rattle.wf_sched_rotation.specs.Pass.{raised, passed_first}
+use Rattle.wf_sched_rotation.specs.declared.Side.{Side}
+use Rattle.wf_sched_rotation.specs.declared.Side.TheVariants.{New, Old}
+use Rattle.wf_sched_rotation.specs.declared.rota.TurnEnd.{TurnEnd}
+use Rattle.wf_sched_rotation.specs.declared.rota.TurnEnd.TheVariants.{Done, GoesOn}
+
+-- where the loop stands at one of the rotations
+abbrev pub standing : Rotas → ℕ → Standing
+standing v list = record { lists = lists_at v.lists list; deficit = deficit_at v.deficits }
+
+-- the turn that the loop makes there
+abbrev pub first_turn : Rotas → List Bool → ℕ → Turn
+first_turn v ready list = turn_from (quantum_at v.quanta) (is_ready ready) (standing v list)
+
+-- the loop begins again after this turn
+abbrev pub IsOnward : Turn → Type 0
+IsOnward Empty = ⊥
+IsOnward (Wins key) = ⊥
+IsOnward (Again lists deficit) = Unit {0}
+
+-- this is told of the turn
+abbrev pub EndsAs : Turn → TurnEnd → Type 0
+EndsAs t GoesOn = IsOnward t
+EndsAs t (Done winner) = LoopEnds t winner
+
+-- one of the rotations has made this turn
+pub record HasTurned (start : Rotas) (list : ℕ) (t : Turn) (v : Rotas) : Type 0 where
+  pub lists : v.lists ≡ set start.lists list (onward (standing start list) t).lists
+  pub deficits : (key : ℕ) → deficit_at v.deficits key ≡ (onward (standing start list) t).deficit key
+  pub keys : length v.deficits ≡ length start.deficits
+  pub quanta : v.quanta ≡ start.quanta
+
+-- the turn of one key, by its deficit and whether it is ready
+abbrev pub end_of : ℤ → Bool → ℕ → TurnEnd
+end_of deficit ready key = if int_le deficit (pos 0) then GoesOn
+    else (if ready then Done (Some key) else GoesOn)
+
+abbrev pub is_new : Side → Bool
+is_new New = true
+is_new Old = false
+
+-- the first key of a list is passed, with so many quanta at most
+abbrev pub key_passed : Rotas → ℕ → Side → ℕ → ℕ → Bool → Rotas
+key_passed v list side key visits stays = record {
+  lists = passed_first v.lists list side key stays;
+  deficits = set v.deficits key (raised (deficit_at v.deficits key) (quantum_at v.quanta key) visits);
+  quanta = v.quanta;
+}
+
+-- the rotations after the turn of the first key of a list
+abbrev pub after_turn_of : Rotas → ℕ → Side → ℕ → Bool → Rotas
+after_turn_of v list side key ready =
+    if int_le (deficit_at v.deficits key) (pos 0) then key_passed v list side key 1 true
+    else (if ready then v else key_passed v list side key 0 (is_new side))
+
+-- the pick from here is the pick from the start
+pub record IsSamePick (start : Rotas) (ready : List Bool) (list : ℕ) (v : Rotas) : Type 0 where
+  pub winner : (picked_at v ready list).winner ≡ (picked_at start ready list).winner
+  pub lists : (picked_at v ready list).lists ≡ (picked_at start ready list).lists
+  pub deficits : (key : ℕ) → deficit_at v.deficits key
+      +ℤ pos ((picked_at v ready list).quanta key * quantum_at v.quanta key)
+      ≡ deficit_at start.deficits key
+      +ℤ pos ((picked_at start ready list).quanta key * quantum_at start.quanta key)
+  pub others : (r : Rotation) → set v.lists list r ≡ set start.lists list r
+  pub there : length v.lists ≡ length start.lists
+  pub keys : length v.deficits ≡ length start.deficits
+  pub quanta : v.quanta ≡ start.quanta
+  pub fewer : length (in_order (lists_at v.lists list)) ≤ length (in_order (lists_at start.lists list))
