@@ -32,7 +32,9 @@
 extern "C" {
 #endif
 
-/* What functions of type int32_t give back. 0 is well, and each other number says why nothing has changed. */
+/* What functions of type int32_t give back, but for wf_path_live. 0 is well. Each other number says why nothing has changed:
+ * neither what the handle holds, nor the caller's structs and buffers but for `reply`, which shows the refusal, and for what a
+ * function says itself. WF_IDLE may have changed something, and a refused call of a cell is an entry of its history. */
 enum wf_code {
   WF_OK = 0,
   /* refusals; `reply` then has kind WF_REFUSED */
@@ -302,8 +304,8 @@ int32_t wf_path_poll(struct wf_path *path, uint16_t station, struct wf_reply *re
 int32_t wf_path_receive(struct wf_path *path, uint16_t station, uint8_t class_, uint32_t air, struct wf_reply *reply);
 
 /* A frame comes for a station: its TID, its flow, and its body of 1 to WF_GREATEST_BODY octets, which is copied.
- * WF_BAD_STATION, WF_BAD_TID, WF_NO_STATION, WF_ROOM, WF_SLEEPING; also WF_NO_MEMORY and WF_BAD_LENGTH, and then `reply` is as it
- * was. */
+ * WF_BAD_LENGTH exactly where `length` is another, and else WF_NO_MEMORY where there is no memory for the frame, whatever the
+ * rest of the call: after both `reply` is as it was. WF_BAD_STATION, WF_BAD_TID, WF_NO_STATION, WF_ROOM, WF_SLEEPING. */
 int32_t wf_path_enqueue(struct wf_path *path, uint16_t station, uint8_t tid, uint32_t flow, const uint8_t *body, size_t length,
                         struct wf_reply *reply);
 
@@ -311,22 +313,23 @@ int32_t wf_path_enqueue(struct wf_path *path, uint16_t station, uint8_t tid, uin
  * 0. WF_FULL, WF_IDLE. */
 int32_t wf_path_pull(struct wf_path *path, uint8_t class_, struct wf_reply *reply, struct wf_frames *frames);
 
-/* Takes the first finished frame: its id and fate, what it was, and its body of `taken->length` octets. The buffer must have room
- * for WF_GREATEST_BODY octets; the rest of it stays. WF_NOTHING, and then `taken` and `body` are as they were. */
+/* Takes the first finished frame: its id and fate, what it was, and its body of `taken->length` octets at the front of
+ * `body`, the rest of which stays. WF_SMALL_BUFFER exactly where `room` is below WF_GREATEST_BODY, also where there is nothing
+ * to reap, and then `reply` is as it was; WF_NOTHING. After both `taken` and `body` are as they were. */
 int32_t wf_path_reap(struct wf_path *path, struct wf_reply *reply, struct wf_taken *taken, uint8_t *body, size_t room);
 
 /* ---- an open exchange */
 
-/* Writes what an exchange sends, and to whom. WF_NO_EXCHANGE. */
+/* Writes what an exchange sends, and to whom. WF_NO_EXCHANGE, and then `sent` is as it was. */
 int32_t wf_path_sent(struct wf_path *path, uint64_t exchange, struct wf_sent *sent);
 
 /* Writes the id of the frame of a transmission, from index 0 on. WF_BAD_INDEX where there is none: the exchange is not open, is a
- * request, or has no such transmission. */
+ * request, or has no such transmission; then `id` is as it was. */
 int32_t wf_path_frame_id(struct wf_path *path, uint64_t exchange, uint16_t index, uint64_t *id);
 
 /* Writes the octets of a transmission (a QoS data frame of IEEE 802.11-2012, or a BlockAckReq) and how many they are, at most
- * WF_GREATEST_MPDU. WF_NO_EXCHANGE, WF_BAD_INDEX, WF_SMALL_BUFFER; then `out` is as it was, and where there is too little room
- * `size` says how much is needed. */
+ * WF_GREATEST_MPDU and at most `room`; the rest of `out` stays. WF_NO_EXCHANGE, WF_BAD_INDEX, WF_SMALL_BUFFER; then `out` is
+ * as it was, and `size` too, but where there is too little room it says how much is needed. */
 int32_t wf_path_mpdu(struct wf_path *path, uint64_t exchange, uint16_t index, uint8_t *out, size_t room, size_t *size);
 
 /* An exchange ends: its station pays for it, and its frames are acknowledged, wait again or are dropped. WF_NO_EXCHANGE.
@@ -357,7 +360,7 @@ int32_t wf_path_live(struct wf_path *path, uint16_t station);
 /* Writes the accepted frames by what became of them. */
 void wf_path_tally(struct wf_path *path, struct wf_tally *tally);
 
-/* Writes a live station's airtime in a class. WF_NO_STATION. */
+/* Writes a live station's airtime in a class. WF_NO_STATION, and then `share` is as it was. */
 int32_t wf_path_share(struct wf_path *path, uint16_t station, uint8_t class_, struct wf_share *share);
 
 /* Writes the TIM element (IEEE 802.11-2012, 8.4.2.7) of the stations that sleep and have traffic, and gives how many octets it has.
@@ -380,11 +383,13 @@ void wf_cell_free(struct wf_cell *cell);
  * entries, and WF_BAD_CALL where the numbers show no such call, and then `reply` is as it was; after both nothing has changed. */
 int32_t wf_cell_ask(struct wf_cell *cell, uint32_t caller, const struct wf_call *call, struct wf_reply *reply);
 
-/* A frame comes for a station, as in wf_path_enqueue; it takes memory for the frame. Also WF_HISTORY_FULL. */
+/* A frame comes for a station, as in wf_path_enqueue; it takes memory for the frame. Also WF_HISTORY_FULL. The call is one
+ * entry of the history, but after WF_BAD_LENGTH and WF_NO_MEMORY none. */
 int32_t wf_cell_enqueue(struct wf_cell *cell, uint32_t caller, uint16_t station, uint8_t tid, uint32_t flow, const uint8_t *body,
                         size_t length, struct wf_reply *reply);
 
-/* Takes the first finished frame, as in wf_path_reap. Also WF_HISTORY_FULL. */
+/* Takes the first finished frame, as in wf_path_reap. Also WF_HISTORY_FULL, and then too `taken` and `body` are as they were.
+ * The call is one entry of the history, but after WF_SMALL_BUFFER none. */
 int32_t wf_cell_reap(struct wf_cell *cell, uint32_t caller, struct wf_reply *reply, struct wf_taken *taken, uint8_t *body,
                      size_t room);
 

@@ -120,6 +120,7 @@ static void call_enqueue(uint32_t caller, uint16_t station) {
   size_t length = 1 + below(below(4) ? 200 : WF_GREATEST_BODY), j;
   int32_t code;
   for (j = 0; j < length; j++) body[j] = (uint8_t)(flow + j);
+  if (wf_cell_enqueue(&cell, caller, station, tid, flow, body, 0, &reply) != WF_BAD_LENGTH) fail("a body of no octet is taken");
   code = wf_cell_enqueue(&cell, caller, station, tid, flow, body, length, &reply);
   if (code == WF_NO_MEMORY) fail("out of memory");
   write_answer(code);
@@ -128,8 +129,10 @@ static void call_enqueue(uint32_t caller, uint16_t station) {
 static void call_reap(uint32_t caller) {
   static uint8_t body[WF_GREATEST_BODY];
   struct wf_taken taken = {0};
-  int32_t code = wf_cell_reap(&cell, caller, &reply, &taken, body, sizeof body);
+  int32_t code = wf_cell_reap(&cell, caller, &reply, &taken, body, sizeof body - 1);
   uint16_t j;
+  if (code != WF_SMALL_BUFFER) fail("room for a body in 2303 octets");
+  code = wf_cell_reap(&cell, caller, &reply, &taken, body, sizeof body);
   write_answer(code);
   if (code) return;
   if (taken.station >= STATIONS || taken.tid > 7 || taken.flow >= 20 || taken.length == 0) fail("a frame that never came");

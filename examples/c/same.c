@@ -89,6 +89,7 @@ static void call_enqueue(uint16_t s) {
   size_t length = 1 + below(below(4) ? 200 : WF_GREATEST_BODY), j;
   int32_t code;
   for (j = 0; j < length; j++) body[j] = (uint8_t)(flow + j);
+  if (wf_path_enqueue(&path, s, tid, flow, body, 0, &reply) != WF_BAD_LENGTH) fail("a body of no octet is taken");
   code = wf_path_enqueue(&path, s, tid, flow, body, length, &reply);
   if (code == WF_NO_MEMORY) fail("out of memory");
   fprintf(trace, "enq %u %u %lu %lu\n", (unsigned)s, (unsigned)tid, (unsigned long)flow, (unsigned long)length);
@@ -209,8 +210,10 @@ static void call_done(void) {
 static void call_reap(void) {
   static uint8_t body[WF_GREATEST_BODY];
   struct wf_taken taken = {0};
-  int32_t code = wf_path_reap(&path, &reply, &taken, body, sizeof body);
+  int32_t code = wf_path_reap(&path, &reply, &taken, body, sizeof body - 1);
   uint16_t j;
+  if (code != WF_SMALL_BUFFER) fail("room for a body in 2303 octets");
+  code = wf_path_reap(&path, &reply, &taken, body, sizeof body);
   fprintf(trace, "reap\n");
   write_answer(code, NULL);
   if (code) return;

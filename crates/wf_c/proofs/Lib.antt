@@ -2,6 +2,5 @@ mod CellSlots
 mod Ids
 mod Makings
 mod Pairs
-mod Reaps
 mod Slots
 mod Words

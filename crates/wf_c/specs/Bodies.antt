@@ -1,21 +1,49 @@
 -- A frame that comes in, and one that is taken back.
-use Rattle.std.specs.Prelude.{◌≡◌, ℕ, true, List, length, take}
+use Rattle.std.specs.Prelude.{◌≡◌, ◌<◌, ◌≤◌, ◌⊎◌, ℕ, ℤ, pos, true, List, Option, Some, None, length, take, drop}
 use Rattle.wf_frame.specs.Answers.{reply_of}
 use Rattle.wf_frame.specs.Frames.{FrameValue}
-use Rattle.wf_frame.specs.declared.classes.Fate.{Fate}
 use Rattle.wf_frame.specs.declared.notes.Ask.TheVariants.{Reap}
-use Rattle.wf_frame.specs.declared.notes.ReplyNote.TheVariants.{Reaped}
+use Rattle.wf_def_lists.specs.Lengths.{greatest_body}
 use Rattle.wf_def_world.specs.World.{World}
 use Rattle.wf_send_half.specs.Enqueues.{enqueue_of}
 use Rattle.wf_send_half_refines.specs.Standing.{StandsFor, Meets}
-use Rattle.wf_path.specs.Jobs.{bodies_after, changes_nothing}
+use Rattle.wf_path.specs.Jobs.{bodies_after, changes_nothing, frame_given_back}
 use Rattle.wf_path.specs.Paths.{IsPath}
-use Rattle.wf_path.specs.declared.job.Job.TheVariants.{Give}
+use Rattle.wf_path.specs.declared.job.Job.TheVariants.{Call, Give}
 use Rattle.wf_c.specs.Calls.{IsCalled}
 use Rattle.wf_c.specs.Numbers.{numbers_of}
+use Rattle.wf_c.specs.declared.frames.NoFrame.{NoFrame}
+use Rattle.wf_c.specs.declared.frames.NoFrame.TheVariants.{NoMemory, BadLength}
 use Rattle.wf_c.specs.declared.frames.Taken.{Taken}
 use Rattle.wf_c.specs.declared.held.Held.{Held}
 use Rattle.wf_c.specs.declared.reply.Reply.{Reply}
+
+-- ---- frames that come in
+
+-- a body of n octets is one of a frame: it has some, and at most as many as the greatest MSDU
+-- (IEEE 802.11-2012, 8.2.3)
+abbrev pub IsBodyLength : ℕ → Type 0
+IsBodyLength n = (0 < n) × (n ≤ greatest_body)
+
+-- a body of n octets is none of a frame
+abbrev pub IsBadLength : ℕ → Type 0
+IsBadLength n = (n ≡ 0) ⊎ (greatest_body < n)
+
+-- why no frame is made of a body of n octets: memory is wanting only for one that a frame may have
+abbrev pub FitsCause : NoFrame → ℕ → Type 0
+FitsCause NoMemory n = IsBodyLength n
+FitsCause BadLength n = IsBadLength n
+
+-- the code of a body that no frame has
+abbrev pub bad_length : ℕ
+bad_length = 41
+
+-- Nothing has changed, neither what the handle holds nor the caller's reply, and the code says why.
+pub record IsUntouched {X : Type 0} (old new : X) (before shown : Reply) (code : ℤ)
+    (why : ℕ) : Type 0 where
+  pub handle : new ≡ old
+  pub reply : shown ≡ before
+  pub code_is : code ≡ pos why
 
 -- What a call that brings frame f leaves of h, and what the caller's struct then shows.
 pub record IsGivenToC (h : Held) (f : FrameValue) (k : Held) (shown : Reply) : Type 0 where
@@ -26,17 +54,31 @@ pub record IsGivenToC (h : Held) (f : FrameValue) (k : Held) (shown : Reply) : T
   pub path : IsPath k.path
   pub shows : shown ≡ numbers_of k.answer.brief
 
--- the caller's struct and the front of the buffer show frame f, but for its id, its stamp and its fate
-pub record ShowsFrame (f : FrameValue) (taken : Taken) (buffer : List ℕ) : Type 0 where
+-- ---- frames that are taken back
+
+-- the code of a buffer that has no room for the greatest body
+abbrev pub small_buffer : ℕ
+small_buffer = 42
+
+-- The caller's struct and the front of the buffer show frame f, but for its id, its stamp and its
+-- fate; the rest of the buffer is as it was.
+pub record ShowsFrame (f : FrameValue) (taken : Taken) (before buffer : List ℕ) : Type 0 where
   pub station : taken.station ≡ f.station
   pub tid : taken.tid ≡ f.tid
   pub flow : taken.flow ≡ f.flow
   pub size : taken.length ≡ length f.body
   pub body : take (length f.body) buffer ≡ f.body
+  pub rest : drop (length f.body) buffer ≡ drop (length f.body) before
 
--- What a reap leaves of h, and what the caller's structs then show: where a frame is reaped, the one that was
--- accepted under its id.
-pub record IsReapedFromC (h k : Held) (shown : Reply) (taken : Taken) (buffer : List ℕ) : Type 0 where
+-- the caller's struct and buffer show the frame that came back, if any, and else are as they were
+abbrev pub ShowsBack : Option FrameValue → Taken → List ℕ → Taken → List ℕ → Type 0
+ShowsBack None was before taken buffer = (taken ≡ was) × (buffer ≡ before)
+ShowsBack (Some f) was before taken buffer = ShowsFrame f taken before buffer
+
+-- What a reap leaves of h, and what the caller's struct and buffer then show, which were this
+-- before: the frame that was accepted under the reaped id; where none is reaped, they stay.
+pub record IsReapedFromC (h k : Held) (shown : Reply) (was : Taken) (before : List ℕ)
+    (taken : Taken) (buffer : List ℕ) : Type 0 where
   pub called : IsCalled h Reap k shown
-  pub frame : (w : World) (bodies : ℕ → FrameValue) (id : ℕ) (fate : Fate) → StandsFor h.path w bodies →
-      reply_of k.answer ≡ Reaped id fate → ShowsFrame (bodies id) taken buffer
+  pub back : (w : World) (bodies : ℕ → FrameValue) → StandsFor h.path w bodies →
+      ShowsBack (frame_given_back bodies (Call Reap) (reply_of k.answer)) was before taken buffer

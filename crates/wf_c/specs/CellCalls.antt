@@ -2,23 +2,22 @@
 use Rattle.std.specs.Prelude.{◌≡◌, ◌<◌, ℕ, ℤ, pos, List, Option, Some, None}
 use Rattle.wf_frame.specs.Answers.{reply_of}
 use Rattle.wf_frame.specs.Frames.{FrameValue}
-use Rattle.wf_frame.specs.declared.classes.Fate.{Fate}
 use Rattle.wf_frame.specs.declared.notes.Ask.{Ask}
 use Rattle.wf_frame.specs.declared.notes.Ask.TheVariants.{Reap}
 use Rattle.wf_frame.specs.declared.notes.Refusal.TheVariants.{HistoryFull}
-use Rattle.wf_frame.specs.declared.notes.ReplyNote.TheVariants.{Reaped, Refused}
+use Rattle.wf_frame.specs.declared.notes.ReplyNote.TheVariants.{Refused}
 use Rattle.wf_def_world.specs.Run.{Entry, Past, by, world_of}
 use Rattle.wf_def_world.specs.Step.{step}
 use Rattle.wf_def_world.specs.World.{World}
 use Rattle.wf_law_runs.specs.Laws.{Laws}
 use Rattle.wf_send_half_refines.specs.Half.{body_of}
 use Rattle.wf_send_half_refines.specs.Standing.{StandsFor}
-use Rattle.wf_path.specs.Jobs.{note_of, bodies_after}
+use Rattle.wf_path.specs.Jobs.{note_of, bodies_after, frame_given_back}
 use Rattle.wf_path.specs.declared.job.Job.{Job}
 use Rattle.wf_path.specs.declared.job.Job.TheVariants.{Call}
 use Rattle.wf_cell.specs.Bodies.{body_after}
 use Rattle.wf_cell.specs.Cells.{room_in, with_entry}
-use Rattle.wf_c.specs.Bodies.{ShowsFrame}
+use Rattle.wf_c.specs.Bodies.{ShowsBack}
 use Rattle.wf_c.specs.CallNumbers.{numbers_of_call}
 use Rattle.wf_c.specs.Numbers.{numbers_of}
 use Rattle.wf_c.specs.declared.cell.calls.CallNumbers.{CallNumbers}
@@ -75,20 +74,25 @@ IsAsked (Some ask) caller old before new shown code =
     TurnsInto (λ h k. IsStepped h caller (Call ask) k shown) old new × (code ≡ pos shown.refusal)
 IsAsked None caller old before new shown code = (new ≡ old) × ((shown ≡ before) × (code ≡ pos bad_call))
 
--- What a reap leaves of h, and what the caller's structs then show: where a frame is reaped, the one that was
--- accepted under its id.
-pub record IsTakenBack (h : HeldCell) (caller : ℕ) (k : HeldCell) (shown : Reply) (taken : Taken)
-    (buffer : List ℕ) : Type 0 where
+-- What a reap leaves of h, and what the caller's struct and buffer then show, which were this
+-- before: the frame that was accepted under the reaped id; where none is reaped, or the history is
+-- full, they stay.
+pub record IsTakenBack (h : HeldCell) (caller : ℕ) (k : HeldCell) (shown : Reply) (was : Taken)
+    (before : List ℕ) (taken : Taken) (buffer : List ℕ) : Type 0 where
   pub stepped : IsStepped h caller (Call Reap) k shown
-  pub frame : 0 < room_in h.cell.past → (bodies : ℕ → FrameValue) (id : ℕ) (fate : Fate) →
+  pub back : 0 < room_in h.cell.past → (bodies : ℕ → FrameValue) →
       StandsFor h.cell.half (world_of h.cell.past) bodies →
-      reply_of k.answer ≡ Reaped id fate → ShowsFrame (bodies id) taken buffer
+      ShowsBack (frame_given_back bodies (Call Reap) (reply_of k.answer)) was before taken buffer
+  pub full : room_in h.cell.past ≡ 0 → ShowsBack None was before taken buffer
 
 -- the code of an entry that the history does not have: that of a bad index
 abbrev pub no_entry : ℕ
 no_entry = 9
 
--- the caller's numbers show an entry, or the code says that there is none
-abbrev pub ShowsEntry : Option Entry → ℤ → ℕ → CallNumbers → Type 0
-ShowsEntry (Some e) code caller shown = (code ≡ pos 0) × ((caller ≡ e.0) × (shown ≡ numbers_of_call e.1))
-ShowsEntry None code caller shown = code ≡ pos no_entry
+-- the caller's numbers, which were these before, show an entry; or the code says that there is none,
+-- and they stay
+abbrev pub ShowsEntry : Option Entry → ℕ → CallNumbers → ℤ → ℕ → CallNumbers → Type 0
+ShowsEntry (Some e) was before code caller shown =
+    (code ≡ pos 0) × ((caller ≡ e.0) × (shown ≡ numbers_of_call e.1))
+ShowsEntry None was before code caller shown =
+    (code ≡ pos no_entry) × ((caller ≡ was) × (shown ≡ before))

@@ -51,10 +51,11 @@ end_code (Some (done.WrongTid found)) = 58
 abbrev pub sent_shown : Sent → PathSent
 sent_shown s = record { station = s.station; tid = s.tid; count = s.count; request = is_up s.request }
 
--- where there is too little room, n says how much is needed
-abbrev pub needs : Option PathFault → ℕ → Type 0
-needs (Some (fault.SmallBuffer need)) n = n ≡ need
-needs _ n = Unit {0}
+-- where there is too little room, n says how much is needed; after another fault it is what it was
+abbrev pub needs : Option PathFault → ℕ → ℕ → Type 0
+needs (Some (fault.SmallBuffer need)) was n = n ≡ need
+needs (Some other) was n = n ≡ was
+needs None was n = Unit {0}
 
 -- What the end of exchange e leaves of h, by what was heard of it, and what the caller's struct then shows.
 pub record IsExchangeEnded (h : Held) (e : ℕ) (heard : Option (ℕ × List ℕ)) (k : Held)

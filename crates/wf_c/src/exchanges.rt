@@ -1,6 +1,6 @@
 //! An open exchange: what it sends, and how it ends.
 
-ghost use Rattle.std.specs.Prelude.{◌≡◌, ◌⊎◌, ℕ, ◌%◌, true, is_some, pos, Option, Some, None, option_map, take, drop, length, IfOk, OnErr};
+ghost use Rattle.std.specs.Prelude.{◌≡◌, ◌≤◌, ◌⊎◌, ℕ, ◌%◌, true, is_some, pos, Option, Some, None, option_map, take, drop, length, IfOk, OnErr};
 ghost use Rattle.wf_frame.specs.Frames.{FrameValue};
 ghost use Rattle.wf_def_world.specs.World.{World, exchange as exchange_in};
 ghost use Rattle.wf_octets_bits.specs.Offsets.{offsets_in};
@@ -42,7 +42,8 @@ pub struct Sent {
     pub request: u8,
 }
 
-/// Writes what an exchange sends, and to whom, and gives 0; gives 12 where it is not open.
+/// Writes what an exchange sends, and to whom, and gives 0; gives 12 where it is not open, and then
+/// writes nothing.
 #[unsafe(no_mangle)]
 pub extern "C" fn wf_path_sent(
     alloc: Global,
@@ -55,6 +56,7 @@ pub extern "C" fn wf_path_sent(
         result ≡ pos (sent_code (exchange_in w exchange)) }
     ensures shown { (w : World) (bodies : ℕ → FrameValue) → HoldsFor path.old.value w bodies →
         result ≡ pos 0 → option_map sent_of (exchange_in w exchange) ≡ Some (sent_shown sent.new) }
+    ensures kept { (result ≡ pos 0) ⊎ (sent.new ≡ sent.old) }
     ensures unchanged { path.new.value ≡ path.old.value }
 {
     let held = path.take(alloc);
@@ -75,7 +77,7 @@ pub extern "C" fn wf_path_sent(
 }
 
 /// Writes the id of the frame of a transmission, and gives 0; gives 9 where the exchange is not open, is a
-/// request, or has no transmission of that index.
+/// request, or has no transmission of that index, and then writes nothing.
 #[unsafe(no_mangle)]
 pub extern "C" fn wf_path_frame_id(
     alloc: Global,
@@ -89,6 +91,7 @@ pub extern "C" fn wf_path_frame_id(
         result ≡ pos (id_code (id_sent w exchange index)) }
     ensures shown { (w : World) (bodies : ℕ → FrameValue) → HoldsFor path.old.value w bodies →
         result ≡ pos 0 → id_sent w exchange index ≡ Some id.new }
+    ensures kept { (result ≡ pos 0) ⊎ (id.new ≡ id.old) }
     ensures unchanged { path.new.value ≡ path.old.value }
 {
     let held = path.take(alloc);
@@ -105,7 +108,7 @@ pub extern "C" fn wf_path_frame_id(
 
 /// Writes the octets of one transmission, and how many they are, and gives 0; gives 12, 9 or 42 where there
 /// is no such exchange, no such transmission, or too little room: then `out` is as it was, and with 42 `size`
-/// says how much room is needed.
+/// says how much room is needed, while with the others it is as it was.
 #[unsafe(no_mangle)]
 pub extern "C" fn wf_path_mpdu(
     alloc: Global,
@@ -121,10 +124,11 @@ pub extern "C" fn wf_path_mpdu(
     ensures octets { (w : World) (bodies : ℕ → FrameValue) → HoldsFor path.old.value w bodies →
         result ≡ pos 0 →
         octets_sent w bodies exchange index ≡ Some (take size.new out.new) }
+    ensures within { result ≡ pos 0 → size.new ≤ length out.new }
     ensures rest { result ≡ pos 0 → drop size.new out.new ≡ drop size.new out.old }
     ensures fault { (result ≡ pos 0) ⊎ (out.new ≡ out.old) }
     ensures need { (w : World) (bodies : ℕ → FrameValue) → HoldsFor path.old.value w bodies →
-        needs (write_fault w bodies exchange index (length out.old)) size.new }
+        needs (write_fault w bodies exchange index (length out.old)) size.old size.new }
     ensures unchanged { path.new.value ≡ path.old.value }
 {
     let held = path.take(alloc);
@@ -145,7 +149,7 @@ pub extern "C" fn wf_path_mpdu(
 }
 
 /// The buffer is too small.
-const SMALL_BUFFER: i32 = 42;
+pub(crate) const SMALL_BUFFER: i32 = 42;
 
 impl Held {
     // An exchange ends.
@@ -246,6 +250,7 @@ pub extern "C" fn wf_path_done_octets(
         (λ h k. IsExchangeEnded h exchange (Some
         (block_ack_in octets.now)) k reply.new) path.old.value path.new.value) }
     ensures fault { (result ≡ pos 0) ⊎ Becomes (λ h k. k.path ≡ h.path) path.old.value path.new.value }
+    ensures kept { (result ≡ pos 0) ⊎ (reply.new ≡ reply.old) }
 {
     let mut held = path.take(alloc);
     let ended = held.end_by(exchange, octets);

@@ -1,19 +1,25 @@
 //! A frame comes in, and a finished one is taken back.
 
-ghost use Rattle.std.specs.Prelude.{◌≡◌, ◌⊎◌, ◌≤◌, true, is_some, pos, take, length, IfOk, IfSome};
+ghost use Rattle.std.specs.Prelude.{◌≡◌, ◌⊎◌, ◌<◌, ◌≤◌, true, is_some, pos, take, drop, length, IfOk, IfErr};
 ghost use Rattle.wf_frame.specs.Frames.{new_frame};
 ghost use Rattle.wf_def_lists.specs.Lengths.{greatest_body};
 ghost use Rattle.wf_path.specs.Paths.{IsSmall};
 ghost use Rattle.wf_c.specs.Calls.{Becomes, HoldsSmall};
-ghost use Rattle.wf_c.specs.Bodies.{IsGivenToC, IsReapedFromC, ShowsFrame};
+ghost use Rattle.wf_c.specs.Bodies.{FitsCause, IsBadLength, IsBodyLength, IsGivenToC, IsReapedFromC, IsUntouched, ShowsBack, ShowsFrame, bad_length, small_buffer};
+ghost use Rattle.wf_c.specs.Making.{no_memory};
 
+use crate::exchanges::SMALL_BUFFER;
 use crate::held::Held;
+use crate::make::NO_MEMORY;
 use crate::reply::Reply;
 use crate::slot::PathSlot;
 use std::alloc::{AllocError, Global};
-use wf_frame::{Ask, Frame};
+use wf_frame::{Ask, Frame, GREATEST_BODY};
 use wf_path::Job;
 use wf_queue_chain::Parcel;
+
+/// The body has no octet, or more than 2304.
+pub(crate) const BAD_LENGTH: i32 = 41;
 
 /// Why no frame was made.
 #[derive(Clone, Copy)]
@@ -25,12 +31,17 @@ pub(crate) enum NoFrame {
 }
 
 impl From<AllocError> for NoFrame {
+    ghost use Rattle.std.specs.Prelude.{◌≡◌};
+    ghost use Rattle.wf_c.specs.declared.frames.NoFrame.TheVariants.{NoMemory};
+
+    ghost from_gives = { λ _ e. e ≡ NoMemory };
+
     fn from(_e: AllocError) -> NoFrame {
         NoFrame::NoMemory
     }
 }
 
-// A frame with this body.
+// A frame with this body. Its length is judged before memory is asked for.
 pub(crate) fn frame_of(
     alloc: Global,
     station: u16,
@@ -38,8 +49,13 @@ pub(crate) fn frame_of(
     flow: u32,
     body: &[u8],
 ) -> Result<Parcel, NoFrame>
-    ensures { IfOk result (λ made. made ≡ new_frame station tid flow body.now) }
+    ensures made { IfOk result (λ made. made ≡ new_frame station tid flow body.now) }
+    ensures fits { IfOk result (λ _. IsBodyLength (length body.now)) }
+    ensures cause { IfErr result (λ why. FitsCause why (length body.now)) }
 {
+    if body.is_empty() || usize::from(GREATEST_BODY) < body.len() {
+        return Err(NoFrame::BadLength);
+    }
     let octets = Vec::from_slice(alloc, body)?;
     let Ok(frame) = Frame::new(station, tid, flow, octets) else {
         return Err(NoFrame::BadLength);
@@ -66,7 +82,7 @@ impl Held {
     fn reap(&mut self, taken: &mut Taken, body: &mut [u8]) -> Reply
         requires small { IsSmall self.old.path }
         requires room { greatest_body ≤ length body.old }
-        ensures { IsReapedFromC self.old self.new result taken.new body.new }
+        ensures { IsReapedFromC self.old self.new result taken.old body.old taken.new body.new }
     {
         let back = self.path.call(Job::Call(Ask::Reap), &mut self.answer);
         show_back(back, taken, body);
@@ -74,10 +90,10 @@ impl Held {
     }
 }
 
-// Shows a frame that came back, if any, and frees it.
+// Shows a frame that came back, if any, and frees it. The rest of the buffer stays.
 pub(crate) fn show_back(back: Option<Parcel>, taken: &mut Taken, body: &mut [u8])
     requires room { greatest_body ≤ length body.old }
-    ensures { IfSome back (λ f. ShowsFrame f taken.new body.new) }
+    ensures { ShowsBack back taken.old body.old taken.new body.new }
 {
     if let Some(parcel) = back {
         taken.show(&parcel, body);
@@ -102,7 +118,7 @@ impl Taken {
     // Shows a frame, with its body in a buffer.
     fn show(&mut self, parcel: &Parcel, body: &mut [u8])
         requires room { greatest_body ≤ length body.old }
-        ensures { ShowsFrame parcel.now self.new body.new }
+        ensures { ShowsFrame parcel.now self.new body.old body.new }
     {
         let frame = parcel.frame();
         let length = frame.len();
@@ -119,13 +135,15 @@ impl Taken {
 // Copies octets to the front of a buffer.
 fn copy_to_front(octets: &[u8], buffer: &mut [u8])
     requires room { length octets.now ≤ length buffer.old }
-    ensures { take (length octets.now) buffer.new ≡ octets.now }
+    ensures front { take (length octets.now) buffer.new ≡ octets.now }
+    ensures rest { drop (length octets.now) buffer.new ≡ drop (length octets.now) buffer.old }
 {
     let (front, _) = buffer.split_at_mut(octets.len());
     front.copy_from_slice(octets);
 }
 
-/// A frame with this body comes for a station.
+/// A frame with this body comes for a station. Gives its refusal, 41 where a frame has no such body,
+/// or 40 where there is no memory for it; after 40 and 41 nothing has changed.
 #[unsafe(no_mangle)]
 pub extern "C" fn wf_path_enqueue(
     alloc: Global,
@@ -138,9 +156,12 @@ pub extern "C" fn wf_path_enqueue(
 ) -> i32
     requires open { is_some path.old.value ≡ true }
     requires small { HoldsSmall path.old.value }
-    ensures given { Becomes (λ h k. IsGivenToC h (new_frame station tid flow body.now) k reply.new ×
-        (result ≡ pos reply.new.refusal)) path.old.value path.new.value
-        ⊎ ((path.new.value ≡ path.old.value) × ((result ≡ pos 40) ⊎ (result ≡ pos 41))) }
+    ensures given { IsBodyLength (length body.now) →
+        Becomes (λ h k. IsGivenToC h (new_frame station tid flow body.now) k reply.new ×
+        (result ≡ pos reply.new.refusal)) path.old.value path.new.value ⊎
+        IsUntouched path.old.value path.new.value reply.old reply.new result no_memory }
+    ensures refused { IsBadLength (length body.now) →
+        IsUntouched path.old.value path.new.value reply.old reply.new result bad_length }
 {
     match frame_of(alloc, station, tid, flow, body) {
         Ok(parcel) => {
@@ -149,12 +170,13 @@ pub extern "C" fn wf_path_enqueue(
             path.put(held);
             i32::from(reply.refusal)
         }
-        Err(NoFrame::NoMemory) => 40,
-        Err(NoFrame::BadLength) => 41,
+        Err(NoFrame::NoMemory) => NO_MEMORY,
+        Err(NoFrame::BadLength) => BAD_LENGTH,
     }
 }
 
-/// Takes the first finished frame back, with its body in a buffer that has room for the greatest.
+/// Takes the first finished frame back, with its body at the front of a buffer. Gives the refusal,
+/// or 42 where the buffer has no room for the greatest body, and then nothing has changed.
 #[unsafe(no_mangle)]
 pub extern "C" fn wf_path_reap(
     alloc: Global,
@@ -165,10 +187,17 @@ pub extern "C" fn wf_path_reap(
 ) -> i32
     requires open { is_some path.old.value ≡ true }
     requires small { HoldsSmall path.old.value }
-    requires room { greatest_body ≤ length body.old }
-    ensures reaped { Becomes (λ h k. IsReapedFromC h k reply.new taken.new body.new) path.old.value path.new.value }
-    ensures code { result ≡ pos reply.new.refusal }
+    ensures reaped { greatest_body ≤ length body.old → Becomes (λ h k. IsReapedFromC h k
+        reply.new taken.old body.old taken.new body.new) path.old.value path.new.value }
+    ensures code { greatest_body ≤ length body.old → result ≡ pos reply.new.refusal }
+    ensures refused { length body.old < greatest_body →
+        IsUntouched path.old.value path.new.value reply.old reply.new result small_buffer }
+    ensures taken_stays { length body.old < greatest_body → taken.new ≡ taken.old }
+    ensures body_stays { length body.old < greatest_body → body.new ≡ body.old }
 {
+    if body.len() < usize::from(GREATEST_BODY) {
+        return SMALL_BUFFER;
+    }
     let mut held = path.take(alloc);
     *reply = held.reap(taken, body);
     path.put(held);

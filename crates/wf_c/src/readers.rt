@@ -1,6 +1,6 @@
 //! What a path tells without a call of the machine.
 
-ghost use Rattle.std.specs.Prelude.{◌≡◌, ℕ, true, is_some, pos, length, take, drop, IfSome, if◌then◌else◌};
+ghost use Rattle.std.specs.Prelude.{◌≡◌, ◌⊎◌, ℕ, true, is_some, pos, length, take, drop, IfSome, if◌then◌else◌};
 ghost use Rattle.wf_frame.specs.Classes.{all_classes, class_among};
 ghost use Rattle.wf_frame.specs.Frames.{FrameValue};
 ghost use Rattle.wf_def_world.specs.Text.{traffic_map, with_traffic};
@@ -145,7 +145,8 @@ impl Held {
     }
 }
 
-/// Writes a live station's airtime in a class, and gives 0; gives 11 where it is not live.
+/// Writes a live station's airtime in a class, and gives 0; gives 11 where it is not live, and then
+/// writes nothing.
 #[unsafe(no_mangle)]
 pub extern "C" fn wf_path_share(
     alloc: Global,
@@ -160,6 +161,7 @@ pub extern "C" fn wf_path_share(
     ensures shown { (w : World) (bodies : ℕ → FrameValue) → HoldsFor path.old.value w bodies →
         is_live w station ≡ true →
         ShowsShare w station (class_among all_classes class) share.new }
+    ensures kept { (result ≡ pos 0) ⊎ (share.new ≡ share.old) }
     ensures unchanged { path.new.value ≡ path.old.value }
 {
     let held = path.take(alloc);

@@ -1,18 +1,22 @@
 //! A frame comes into a cell, and a finished one is taken back.
 
-ghost use Rattle.std.specs.Prelude.{◌≡◌, ◌⊎◌, ◌≤◌, true, is_some, pos, length};
+ghost use Rattle.std.specs.Prelude.{◌≡◌, ◌⊎◌, ◌<◌, ◌≤◌, true, is_some, pos, length};
 ghost use Rattle.wf_frame.specs.Frames.{new_frame};
 ghost use Rattle.wf_def_lists.specs.Lengths.{greatest_body};
 ghost use Rattle.wf_path.specs.declared.job.Job.TheVariants.{Give};
+ghost use Rattle.wf_c.specs.Bodies.{IsBadLength, IsBodyLength, IsUntouched, bad_length, small_buffer};
 ghost use Rattle.wf_c.specs.CellCalls.{IsStepped, IsTakenBack, TurnsInto};
+ghost use Rattle.wf_c.specs.Making.{no_memory};
 
 use crate::cell::held::HeldCell;
 use crate::cell::slot::CellSlot;
-use crate::frames::{NoFrame, Taken, frame_of, show_back};
+use crate::exchanges::SMALL_BUFFER;
+use crate::frames::{BAD_LENGTH, NoFrame, Taken, frame_of, show_back};
+use crate::make::NO_MEMORY;
 use crate::reply::Reply;
 use std::alloc::Global;
 use wf_cell::Job;
-use wf_frame::Ask;
+use wf_frame::{Ask, GREATEST_BODY};
 use wf_queue_chain::Parcel;
 
 impl HeldCell {
@@ -27,7 +31,8 @@ impl HeldCell {
     // Takes the first finished frame back.
     fn reap(&mut self, caller: u32, taken: &mut Taken, body: &mut [u8]) -> Reply
         requires room { greatest_body ≤ length body.old }
-        ensures { IsTakenBack self.old caller self.new result taken.new body.new }
+        ensures { IsTakenBack self.old caller self.new result
+            taken.old body.old taken.new body.new }
     {
         let back = self
             .cell
@@ -37,7 +42,8 @@ impl HeldCell {
     }
 }
 
-/// A frame with this body comes for a station.
+/// A frame with this body comes for a station. Gives its refusal, 41 where a frame has no such body,
+/// or 40 where there is no memory for it; after 40 and 41 nothing has changed.
 #[unsafe(no_mangle)]
 pub extern "C" fn wf_cell_enqueue(
     alloc: Global,
@@ -50,10 +56,12 @@ pub extern "C" fn wf_cell_enqueue(
     reply: &mut Reply,
 ) -> i32
     requires open { is_some cell.old.value ≡ true }
-    ensures given { TurnsInto (λ h k. IsStepped h caller
+    ensures given { IsBodyLength (length body.now) → TurnsInto (λ h k. IsStepped h caller
         (Give (new_frame station tid flow body.now)) k reply.new ×
-        (result ≡ pos reply.new.refusal)) cell.old.value cell.new.value
-        ⊎ ((cell.new.value ≡ cell.old.value) × ((result ≡ pos 40) ⊎ (result ≡ pos 41))) }
+        (result ≡ pos reply.new.refusal)) cell.old.value cell.new.value ⊎
+        IsUntouched cell.old.value cell.new.value reply.old reply.new result no_memory }
+    ensures refused { IsBadLength (length body.now) →
+        IsUntouched cell.old.value cell.new.value reply.old reply.new result bad_length }
 {
     match frame_of(alloc, station, tid, flow, body) {
         Ok(parcel) => {
@@ -62,12 +70,13 @@ pub extern "C" fn wf_cell_enqueue(
             cell.put(held);
             i32::from(reply.refusal)
         }
-        Err(NoFrame::NoMemory) => 40,
-        Err(NoFrame::BadLength) => 41,
+        Err(NoFrame::NoMemory) => NO_MEMORY,
+        Err(NoFrame::BadLength) => BAD_LENGTH,
     }
 }
 
-/// Takes the first finished frame back, with its body in a buffer that has room for the greatest.
+/// Takes the first finished frame back, with its body at the front of a buffer. Gives the refusal,
+/// or 42 where the buffer has no room for the greatest body, and then nothing has changed.
 #[unsafe(no_mangle)]
 pub extern "C" fn wf_cell_reap(
     alloc: Global,
@@ -78,11 +87,17 @@ pub extern "C" fn wf_cell_reap(
     body: &mut [u8],
 ) -> i32
     requires open { is_some cell.old.value ≡ true }
-    requires room { greatest_body ≤ length body.old }
-    ensures reaped { TurnsInto
-        (λ h k. IsTakenBack h caller k reply.new taken.new body.new) cell.old.value cell.new.value }
-    ensures code { result ≡ pos reply.new.refusal }
+    ensures reaped { greatest_body ≤ length body.old → TurnsInto (λ h k. IsTakenBack h caller k
+        reply.new taken.old body.old taken.new body.new) cell.old.value cell.new.value }
+    ensures code { greatest_body ≤ length body.old → result ≡ pos reply.new.refusal }
+    ensures refused { length body.old < greatest_body →
+        IsUntouched cell.old.value cell.new.value reply.old reply.new result small_buffer }
+    ensures taken_stays { length body.old < greatest_body → taken.new ≡ taken.old }
+    ensures body_stays { length body.old < greatest_body → body.new ≡ body.old }
 {
+    if body.len() < usize::from(GREATEST_BODY) {
+        return SMALL_BUFFER;
+    }
     let mut held = cell.take(alloc);
     *reply = held.reap(caller, taken, body);
     cell.put(held);

@@ -54,7 +54,7 @@ impl HeldCell {
 }
 
 /// Writes an entry of the history, counted from 0: who called, and the call; gives 0, or 9 where the history
-/// is shorter.
+/// is shorter, and then writes nothing.
 #[unsafe(no_mangle)]
 pub extern "C" fn wf_cell_entry(
     alloc: Global,
@@ -65,7 +65,7 @@ pub extern "C" fn wf_cell_entry(
 ) -> i32
     requires open { is_some cell.old.value ≡ true }
     ensures entry { IfSome cell.old.value (λ h. ShowsEntry
-        (slice_get h.cell.past.history place) result caller.new call.new) }
+        (slice_get h.cell.past.history place) caller.old call.old result caller.new call.new) }
     ensures unchanged { cell.new.value ≡ cell.old.value }
 {
     let held = cell.take(alloc);

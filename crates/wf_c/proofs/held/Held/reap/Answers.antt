@@ -1,5 +1,7 @@
-use Rattle.wf_frame.specs.Answers.{reply_of}
-use Rattle.wf_c.proofs.Reaps.{shows_accepted}
+use Rattle.std.proofs.Common.{subst}
+use Rattle.std.specs.Prelude.{Option}
+use Rattle.wf_frame.specs.Frames.{FrameValue}
+use Rattle.wf_c.specs.Bodies.{ShowsBack}
 use Rattle.wf_c.proofs.held.Held.reap.Goals as goal
 
 pub returns : goal.returns
@@ -10,8 +12,7 @@ returns c = record {
     path = c.call-back.ensures.path;
     shows = c.of.ensures;
   };
-  frame = λ w bodies id fate stands replied. shows_accepted bodies id fate
-      (reply_of c.call-back.new.answer) c.call-back.result
-      (c.call-back.ensures.parcel w bodies stands) replied c.show_back.new.taken c.show_back.new.body
-      c.show_back.ensures;
+  back = λ w bodies stands. subst
+      (λ (o : Option FrameValue). ShowsBack o c.args.taken.now c.args.body.now c.show_back.new.taken
+      c.show_back.new.body) (c.call-back.ensures.parcel w bodies stands) c.show_back.ensures;
 }
