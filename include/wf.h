@@ -2,25 +2,46 @@
  * The transmit path of a Wi-Fi access point, for drivers and simulators in C and C++; and a cell, which is a transmit path with the
  * receive halves of its stations and the history of all calls, for test benches.
  *
- * Every function is proved against its contract (crates/wf_c); this page says in words what the contracts say, and what a
- * caller has to see to, which nothing checks in C.
+ * Every function is proved against its contract (crates/wf_c). This page says in words what the contracts say, what a caller
+ * has to see to, which nothing checks in C, and under "Not proved" what no contract says.
  *
- * Handles. A `struct wf_path` belongs to the caller. It holds nothing while it is all zero, `wf_path_make` puts a path into it, and
- * `wf_path_free` takes the path out and frees it. In between every other function may be called on it. Do not copy it, and do
- * not look into it. A function that is given a handle in the other state has no defined behaviour.
+ * Handles. A `struct wf_path` belongs to the caller. It holds nothing while it is all zero, `wf_path_make` puts a path into
+ * it, and `wf_path_free` takes the path out and frees it. In between every other function may be called on it. Do not copy
+ * it, and do not look into it. A `struct wf_cell` is the same for a cell.
  *
- * Memory. `wf_path_make` takes memory for the path, and `wf_path_enqueue` for one frame, and so do these functions of a cell; no
- * other function takes any. A frame's memory is freed when it is reaped, when it is refused, or with the path. Memory comes from
- * malloc, realloc and free of the program, which have to align a block to each power of two up to 16 that divides its size.
+ * Memory. `wf_path_make` takes memory for the path, and `wf_path_enqueue` for one frame, and so do these functions of a cell.
+ * It comes from malloc, realloc and free of the program. They have to be of one allocator, and to align a block to each power
+ * of two up to 16 that divides its size.
  *
  * Threads. A handle stays on the thread that made it. Two handles have nothing in common, so each thread may have its own. No
  * function may be called from a signal handler, nor in the child of a fork of a process with threads.
  *
- * Buffers. A pointer must not be null, and what a function writes to must not overlap anything else that it is given. Every
- * struct and buffer must be initialized, as by `= {0}`, before it is handed in. The library keeps no pointer of the caller's.
+ * Buffers. A pointer must not be null, also where the length is 0, and what a function writes to must not overlap anything
+ * else that it is given. `length` and `room` are at most what the buffer has. Every struct and buffer must be initialized, as
+ * by `= {0}`, before it is handed in. The library keeps no pointer of the caller's.
  *
- * Times are in microseconds, stations are 0 to `stations` - 1, TIDs 0 to 7. Counts must stay below 2^62, which they do for the
- * first 2^38 calls of a handle.
+ * Platform. Pointers and size_t have 64 bits, and each field of a struct stands at its natural alignment: do not pack them.
+ *
+ * Times are in microseconds, stations are 0 to `stations` - 1, TIDs 0 to 7. Counts of a path must stay below 2^62: the clock,
+ * the exchanges, the accepted frames, and a live station's airtime in each class (wf_path_now, wf_path_exchanges,
+ * wf_path_tally, wf_path_share). A cell asks nothing of its counts.
+ *
+ * Breaches. A handle that is never freed leaks what it holds. Every other breach has no defined behaviour:
+ * - a handle that is used while it holds nothing, made while it holds something, freed twice, or used beside a copy of it;
+ * - a handle of a cell that is given as one of a path by a cast, or of a path as one of a cell;
+ * - one handle in two functions at once. Each function takes the path out of its handle and puts it back, so even two that
+ *   only read must not meet;
+ * - a `length` or `room` that is more than the buffer has: what lies behind it is read, or written;
+ * - a struct of another layout, on a platform of another kind;
+ * - a null pointer, an overlap, a buffer that is not initialized, a count that is not below 2^62.
+ *
+ * Not proved.
+ * - That there is ever memory: each function that takes some may give WF_NO_MEMORY, by its contract.
+ * - That no other function takes any. By the code none does.
+ * - That what is let go is freed: a frame when it is reaped or refused, and all of a path or a cell by its `free`. That
+ *   nothing is freed twice is proved. checks/c-library runs programs under sanitizers, which see that all is freed.
+ * - That the counts of a path stay below 2^62. By the code none rises by more than 10,000,000 in a call, so they do for the
+ *   first 2^38 calls.
  */
 #ifndef WF_H
 #define WF_H
