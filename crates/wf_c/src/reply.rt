@@ -2,6 +2,7 @@
 
 ghost use Rattle.std.specs.Prelude.{◌≡◌};
 ghost use Rattle.wf_frame.specs.Classes.{class_number};
+ghost use Rattle.wf_frame.specs.declared.answers.Brief.TheVariants.{Send, Ended, Reaped};
 ghost use Rattle.wf_c.specs.Numbers.{blank, numbers_of, refusal_number, with_refusal, fate_number, with_dropped, with_request_start};
 
 use wf_frame::{Brief, Cause, Class, Fate, Refusal};
@@ -97,26 +98,14 @@ impl Reply {
                 air,
                 request,
                 more,
-            } => Reply {
-                exchange,
-                station,
-                tid,
-                air,
-                more: u8::from(more),
-                ..requested(request)
-            },
+            } => sending(exchange, station, tid, air, request, more),
             Brief::Released => of_kind(6),
             Brief::Ba { .. } => of_kind(7),
             Brief::Ended {
                 acked,
                 waiting,
                 failed,
-            } => Reply {
-                acked,
-                waiting,
-                failed,
-                ..of_kind(8)
-            },
+            } => ended(acked, waiting, failed),
             Brief::Slept => of_kind(9),
             Brief::Woken => of_kind(10),
             Brief::Credited { class } => Reply {
@@ -127,11 +116,7 @@ impl Reply {
                 deficit,
                 ..of_kind(12)
             },
-            Brief::Reaped { id, fate } => Reply {
-                id,
-                fate: number_of_fate(fate),
-                ..of_kind(13)
-            },
+            Brief::Reaped { id, fate } => reaped(id, fate),
             Brief::Refused(refusal) => refused(refusal),
         }
     }
@@ -170,6 +155,50 @@ fn requested(request: Option<u16>) -> Reply
             ..of_kind(5)
         },
         None => of_kind(5),
+    }
+}
+
+// An exchange is to be sent.
+fn sending(
+    exchange: u64,
+    station: u16,
+    tid: u8,
+    air: u32,
+    request: Option<u16>,
+    more: bool,
+) -> Reply
+    ensures { result ≡ numbers_of (Send exchange station tid air request more) }
+{
+    Reply {
+        exchange,
+        station,
+        tid,
+        air,
+        more: u8::from(more),
+        ..requested(request)
+    }
+}
+
+// An exchange has ended.
+fn ended(acked: u16, waiting: u16, failed: u16) -> Reply
+    ensures { result ≡ numbers_of (Ended acked waiting failed) }
+{
+    Reply {
+        acked,
+        waiting,
+        failed,
+        ..of_kind(8)
+    }
+}
+
+// A frame was reaped.
+fn reaped(id: u64, fate: Fate) -> Reply
+    ensures { result ≡ numbers_of (Reaped id fate) }
+{
+    Reply {
+        id,
+        fate: number_of_fate(fate),
+        ..of_kind(13)
     }
 }
 

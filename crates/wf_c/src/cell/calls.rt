@@ -1,12 +1,14 @@
 //! A call of a cell, as numbers in a struct of the caller's.
 
 ghost use Rattle.std.specs.Prelude.{◌≡◌};
+ghost use Rattle.wf_frame.specs.declared.notes.Ask.TheVariants.{Join, Rate, Rx};
 ghost use Rattle.wf_frame.specs.declared.notes.Note.TheVariants.{Asked};
 ghost use Rattle.wf_c.specs.CallNumbers.{asked, blank_call, numbers_of_call};
+ghost use Rattle.wf_c.specs.Numbers.{is_up};
 
 use crate::asks::class_of_number;
 use crate::reply::number_of_class;
-use wf_frame::{Ask, Note};
+use wf_frame::{Ask, Class, Note};
 
 /// A call. `kind` says which one, and which other fields mean something; those are 0 that mean nothing.
 #[repr(C)]
@@ -86,22 +88,11 @@ impl CallNumbers {
         ensures { result ≡ asked self.now }
     {
         match self.kind {
-            0 => Some(Ask::Join {
-                station: self.station,
-                window: self.window,
-                start: self.start,
-                exponent: self.exponent,
-                weight: self.weight,
-            }),
+            0 => Some(self.join()),
             1 => Some(Ask::Leave {
                 station: self.station,
             }),
-            2 => Some(Ask::Rate {
-                station: self.station,
-                mcs: self.mcs,
-                mhz: self.mhz,
-                short: self.short != 0,
-            }),
+            2 => Some(self.rate()),
             3 => Some(Ask::Tick { by: self.by }),
             5 => Some(Ask::Pull {
                 class: class_of_number(self.class),
@@ -132,6 +123,32 @@ impl CallNumbers {
                 air: self.air,
             }),
             _ => None,
+        }
+    }
+
+    // A station joins.
+    fn join(&self) -> Ask
+        ensures { result ≡ Join self.now.station self.now.window self.now.start self.now.exponent
+            self.now.weight }
+    {
+        Ask::Join {
+            station: self.station,
+            window: self.window,
+            start: self.start,
+            exponent: self.exponent,
+            weight: self.weight,
+        }
+    }
+
+    // A station is sent to at another rate.
+    fn rate(&self) -> Ask
+        ensures { result ≡ Rate self.now.station self.now.mcs self.now.mhz (is_up self.now.short) }
+    {
+        Ask::Rate {
+            station: self.station,
+            mcs: self.mcs,
+            mhz: self.mhz,
+            short: self.short != 0,
         }
     }
 
@@ -167,26 +184,14 @@ impl CallNumbers {
                 start,
                 exponent,
                 weight,
-            } => CallNumbers {
-                station,
-                window,
-                start,
-                exponent,
-                weight,
-                ..of_kind(0)
-            },
+            } => of_join(station, window, start, exponent, weight),
             Ask::Leave { station } => of_station(1, station),
             Ask::Rate {
                 station,
                 mcs,
                 mhz,
                 short,
-            } => CallNumbers {
-                mcs,
-                mhz,
-                short: u8::from(short),
-                ..of_station(2, station)
-            },
+            } => of_rate(station, mcs, mhz, short),
             Ask::Tick { by } => CallNumbers { by, ..of_kind(3) },
             Ask::Pull { class } => CallNumbers {
                 class: number_of_class(class),
@@ -208,13 +213,45 @@ impl CallNumbers {
                 station,
                 class,
                 air,
-            } => CallNumbers {
-                class: number_of_class(class),
-                air,
-                ..of_station(12, station)
-            },
+            } => of_airtime(station, class, air),
             Ask::Reap => of_kind(13),
         }
+    }
+}
+
+// A station joins.
+fn of_join(station: u16, window: u16, start: u16, exponent: u8, weight: u8) -> CallNumbers
+    ensures { result ≡ numbers_of_call (Asked (Join station window start exponent weight)) }
+{
+    CallNumbers {
+        window,
+        start,
+        exponent,
+        weight,
+        ..of_station(0, station)
+    }
+}
+
+// A station is sent to at another rate.
+fn of_rate(station: u16, mcs: u8, mhz: u8, short: bool) -> CallNumbers
+    ensures { result ≡ numbers_of_call (Asked (Rate station mcs mhz short)) }
+{
+    CallNumbers {
+        mcs,
+        mhz,
+        short: u8::from(short),
+        ..of_station(2, station)
+    }
+}
+
+// A station used airtime to send.
+fn of_airtime(station: u16, class: Class, air: u32) -> CallNumbers
+    ensures { result ≡ numbers_of_call (Asked (Rx station class air)) }
+{
+    CallNumbers {
+        class: number_of_class(class),
+        air,
+        ..of_station(12, station)
     }
 }
 
