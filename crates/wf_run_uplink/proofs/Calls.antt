@@ -10,6 +10,8 @@ use Rattle.wf_uplink.specs.World.{World, Call, Tick, Expire, first_due, timeout_
 use Rattle.wf_uplink.proofs.Heard.{none_after}
 use Rattle.wf_run_uplink.specs.Answers.{stations, calls_text, answer_text, up_line}
 use Rattle.wf_run_uplink.specs.Pieces.{IsBegun}
+use Rattle.wf_run_uplink.specs.Room.{can_count, lacks_room}
+use Rattle.wf_run_uplink.proofs.Room.{later_lacks, expire_lacks}
 use Rattle.wf_run_uplink.proofs.Writing.{begun_none, begun_next, begun_next_front, begun_written}
 
 -- ---- calls one after the other
@@ -91,12 +93,15 @@ pub record GivesUp (old now : Option (List ℕ)) (before w : World) (left : ℕ)
       (calls_text before (replicate (tids_of_station * stations) Expire))
   pub after : after_calls before (replicate (tids_of_station * stations) Expire)
       ≡ after_calls w (replicate left Expire)
+  pub room : lacks_room w (replicate left Expire) ≡ true →
+      lacks_room before (replicate (tids_of_station * stations) Expire) ≡ true
 
 pub none_given_up : (old : Option (List ℕ)) (w : World) → GivesUp old old w w (tids_of_station * stations)
 none_given_up old w = record {
   text = begun_none old
       (calls_text w (replicate (tids_of_station * stations) Expire));
   after = refl;
+  room = λ lacks. lacks;
 }
 
 pub one_given_up : (old now new : Option (List ℕ)) (before w : World) (place n : ℕ) →
@@ -114,6 +119,7 @@ one_given_up old now new before w place n gives is wrote =
           (calls_text (after_call Expire w) (replicate n Expire))
           (calls_text before (replicate (tids_of_station * stations) Expire)) text wrote;
       after = gives.after ∙ after_one w Expire (replicate n Expire);
+      room = λ lacks. gives.room (later_lacks w Expire (replicate n Expire) lacks);
     }
 
 pub one_front : (old now new : Option (List ℕ)) (before w : World) (place n : ℕ) →
@@ -159,6 +165,13 @@ due_front old now new before v w up left n view more gives some told front =
         one_front old now new before w place n (subst (λ k. GivesUp old now before w k) more
         (subst (λ (u : World). GivesUp old now before u left) (sym view) gives)) due
         (subst (λ u. HoldsFront now new (up_line false u)) told front)
+
+-- there is no room for the next hole
+pub full_front : (old now : Option (List ℕ)) (before w : World) (left n : ℕ) → left ≡ suc n →
+    GivesUp old now before w left → can_count w ≡ false →
+    lacks_room before (replicate (tids_of_station * stations) Expire) ≡ true
+full_front old now before w left n more gives full =
+    gives.room (rw more (expire_lacks w (replicate n Expire) full))
 
 -- none is due, or none is left
 pub given_up_text : (old now : Option (List ℕ)) (before w : World) (left : ℕ) →

@@ -2,6 +2,7 @@
 -- behind a tick; the laws.
 mod Arguments
 mod Writing
+mod Room
 mod Calls
 mod Quiet
 pub mod Scripts

@@ -16,6 +16,7 @@ use Rattle.wf_uplink.specs.Shown.{up_of, totals_of}
 use Rattle.wf_uplink.specs.World.{World, Call, Open, SetRate, Receive, Tick, Expire, Answer, Opened, NotOpened, RateSet, NotSet, Received, NotReceived, Now, TimedOut, NoneDue, tids_of_station, new_world, after_calls, answers}
 use Rattle.wf_run_uplink.specs.declared.event.Event.{Event}
 use Rattle.wf_run_uplink.specs.declared.event.Event.TheVariants as event
+use Rattle.wf_run_uplink.specs.Room.{lacks_room}
 
 -- how many stations there may be
 abbrev pub stations : ℕ
@@ -91,12 +92,12 @@ totals_line t =
     line (codes "frames" ∷ decimal t.frames ∷ codes "up" ∷ decimal t.up ∷ codes "old" ∷ decimal t.old ∷ codes "held" ∷ decimal t.held
     ∷ codes "missing" ∷ decimal t.missing ∷ [])
 
--- (by its clauses memory may be wanting at any event)
+-- Want of memory is told only at an event at which the clock or a total has no room left.
 abbrev pub manner : Manner Event World
 manner = record {
   answer = λ w e. calls_text w (calls_of e);
   after = λ w e. after_calls w (calls_of e);
-  wants = λ w e. true;
+  wants = λ w e. lacks_room w (calls_of e);
   closing = λ w. totals_line (totals_of w);
 }
 

@@ -1,5 +1,6 @@
 pub mod Octets
 pub mod Lines
+pub mod Room
 pub mod Answers
 pub mod Pieces
 pub mod Laws

@@ -8,6 +8,7 @@ ghost use Rattle.wf_def_lists.specs.Bounds.{greatest_tick};
 ghost use Rattle.wf_uplink.specs.Shown.{totals_of};
 ghost use Rattle.wf_uplink.specs.World.{Open, SetRate, Receive, Tick, Expire, tids_of_station, after_call, after_calls};
 ghost use Rattle.wf_run_uplink.specs.Answers.{stations, first, calls_text, totals_line};
+ghost use Rattle.wf_run_uplink.specs.Room.{can_count, lacks_room};
 
 use crate::answers::{print_fault, print_now, print_opened, print_set, print_totals};
 use crate::told::write_up;
@@ -58,19 +59,21 @@ impl Reception {
 
     // Whether one frame more, or one hole, can be counted.
     fn has_room(&self) -> bool
-        ensures { result ≡ true → (self.now.frames < 2 ^ 62) × (self.now.missing < 2 ^ 62) }
+        ensures exactly { result ≡ can_count self.now }
+        ensures small { result ≡ true → (self.now.frames < 2 ^ 62) × (self.now.missing < 2 ^ 62) }
     {
         let totals = self.uplink.totals();
         totals.frames < LARGE && totals.missing < LARGE
     }
 
-    // The clock goes on by so many microseconds, at most 10,000,000, and is told. Fails where it would go
-    // past its end.
+    // The clock goes on by so many microseconds, at most 10,000,000, and is told. Fails where it would come
+    // to 2^62.
     fn pass(&mut self, by: u32) -> Result<u64, Unanswered>
         requires { by ≤ greatest_tick }
         ensures now { IfOk result (λ now. now ≡ self.old.clock + by) }
         ensures after { OnOk result (self.new ≡ after_call (Tick by) self.old) }
-        ensures fails { OnErr result (result ≡ Err Unanswered.Memory) }
+        ensures fails { OnErr result (2 ^ 62 ≤ self.old.clock + by) }
+        ensures memory { OnErr result (result ≡ Err Unanswered.Memory) }
     {
         if self.clock >= LARGE - u64::from(by) {
             return Err(Unanswered::Memory);
@@ -96,6 +99,7 @@ impl Reception {
         ensures front { OnErr result
             (HoldsFront (K.held sink.old) (K.held sink.new)
             (calls_text self.old (Open station window start ∷ []))) }
+        ensures memory { result ≢ Err Unanswered.Memory }
         ensures counted { K.faults sink.old ≤ K.faults sink.new }
         ensures cause { result ≡ Err Unanswered.Sink → HasRisen (K.faults sink.old) (K.faults sink.new) }
         ensures quiet { result ≢ Err Unanswered.Sink → K.faults sink.new ≡ K.faults sink.old }
@@ -120,6 +124,7 @@ impl Reception {
         ensures front { OnErr result
             (HoldsFront (K.held sink.old) (K.held sink.new)
             (calls_text self.old (SetRate station rate ∷ []))) }
+        ensures memory { result ≢ Err Unanswered.Memory }
         ensures counted { K.faults sink.old ≤ K.faults sink.new }
         ensures cause { result ≡ Err Unanswered.Sink → HasRisen (K.faults sink.old) (K.faults sink.new) }
         ensures quiet { result ≢ Err Unanswered.Sink → K.faults sink.new ≡ K.faults sink.old }
@@ -138,6 +143,8 @@ impl Reception {
         ensures after { OnOk result (self.new ≡ after_calls self.old (Receive octets.now ∷ [])) }
         ensures front { OnErr result
             (HoldsFront (K.held sink.old) (K.held sink.new) (calls_text self.old (Receive octets.now ∷ []))) }
+        ensures memory { result ≡ Err Unanswered.Memory →
+            lacks_room self.old (Receive octets.now ∷ []) ≡ true }
         ensures counted { K.faults sink.old ≤ K.faults sink.new }
         ensures cause { result ≡ Err Unanswered.Sink → HasRisen (K.faults sink.old) (K.faults sink.new) }
         ensures quiet { result ≢ Err Unanswered.Sink → K.faults sink.new ≡ K.faults sink.old }
@@ -165,6 +172,8 @@ impl Reception {
         ensures front { OnErr result
             (HoldsFront (K.held sink.old) (K.held sink.new)
             (calls_text self.old (replicate (tids_of_station * stations) Expire))) }
+        ensures memory { result ≡ Err Unanswered.Memory →
+            lacks_room self.old (replicate (tids_of_station * stations) Expire) ≡ true }
         ensures counted { K.faults sink.old ≤ K.faults sink.new }
         ensures cause { result ≡ Err Unanswered.Sink → HasRisen (K.faults sink.old) (K.faults sink.new) }
         ensures quiet { result ≢ Err Unanswered.Sink → K.faults sink.new ≡ K.faults sink.old }
@@ -193,6 +202,8 @@ impl Reception {
         ensures front { OnErr result
             (HoldsFront (K.held sink.old) (K.held sink.new)
             (calls_text self.old (Tick by ∷ replicate (tids_of_station * stations) Expire))) }
+        ensures memory { result ≡ Err Unanswered.Memory →
+            lacks_room self.old (Tick by ∷ replicate (tids_of_station * stations) Expire) ≡ true }
         ensures counted { K.faults sink.old ≤ K.faults sink.new }
         ensures cause { result ≡ Err Unanswered.Sink → HasRisen (K.faults sink.old) (K.faults sink.new) }
         ensures quiet { result ≢ Err Unanswered.Sink → K.faults sink.new ≡ K.faults sink.old }

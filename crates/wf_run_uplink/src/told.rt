@@ -80,6 +80,7 @@ fn spill<K: Sink>(line: &mut Line, sink: &mut K) -> Result<(), Unanswered>
         IsBegun held (K.held sink.old) line.old text → IsBegun held (K.held sink.new) line.new text) }
     ensures room { OnOk result (length line.new ≤ 8000) }
     ensures front { OnErr result (HoldsFront (K.held sink.old) (K.held sink.new) line.old) }
+    ensures memory { result ≢ Err Unanswered.Memory }
     ensures counted { K.faults sink.old ≤ K.faults sink.new }
     ensures cause { result ≡ Err Unanswered.Sink → HasRisen (K.faults sink.old) (K.faults sink.new) }
     ensures quiet { result ≢ Err Unanswered.Sink → K.faults sink.new ≡ K.faults sink.old }
@@ -96,6 +97,7 @@ pub fn write_up<K: Sink>(up: &Up, is_frame: bool, sink: &mut K) -> Result<(), Un
     ensures written { OnOk result (K.held sink.new
         ≡ append_known (K.held sink.old) (up_line is_frame up.now)) }
     ensures front { OnErr result (HoldsFront (K.held sink.old) (K.held sink.new) (up_line is_frame up.now)) }
+    ensures memory { result ≢ Err Unanswered.Memory }
     ensures counted { K.faults sink.old ≤ K.faults sink.new }
     ensures cause { result ≡ Err Unanswered.Sink → HasRisen (K.faults sink.old) (K.faults sink.new) }
     ensures quiet { result ≢ Err Unanswered.Sink → K.faults sink.new ≡ K.faults sink.old }

@@ -3,9 +3,18 @@ use Rattle.wf_uplink.specs.World.{World, Expire, tids_of_station, first_due, aft
 use Rattle.wf_uplink.proofs.Heard.{none_after}
 use Rattle.wf_uplink.proofs.Worlds.{none_of}
 use Rattle.wf_run_uplink.specs.Answers.{stations, calls_text}
-use Rattle.wf_run_uplink.proofs.Calls.{GivesUp, text_none, after_none, quiet_after, quiet_text, due_step, due_front, given_up_text}
+use Rattle.wf_run_uplink.proofs.Calls.{GivesUp, text_none, after_none, quiet_after, quiet_text, due_step, due_front, full_front, given_up_text}
 use Rattle.wf_run_uplink.proofs.Writing.{on_err}
 use Rattle.wf_run_uplink.proofs.reception.Reception.give_up.Goals as goal
+
+pub returns-then-not-has_room-clause-memory : goal.returns-then-not-has_room-clause-memory
+returns-then-not-has_room-clause-memory g c =
+    let left : tids_of_station * stations - c.loop.counter
+    ≡ suc (tids_of_station * stations - (c.loop.counter + 1)) = omega (arith, c.loop-test.true) in
+    λ is. full_front (g.K.Sink.held c.args.sink.now) (g.K.Sink.held c.loop.sink) c.args.self.now c.loop.self
+    (tids_of_station * stations - c.loop.counter)
+    (tids_of_station * stations - (c.loop.counter + 1)) left c.loop.invariant.0
+    (sym c.has_room.ensures.exactly ∙ c.if-not-has_room.true)
 
 pub returns-then-not-expired-clause-written : goal.returns-then-not-expired-clause-written
 returns-then-not-expired-clause-written g c =

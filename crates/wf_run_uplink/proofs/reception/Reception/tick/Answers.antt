@@ -1,12 +1,19 @@
-use Rattle.std.proofs.Common.{◌*◌, replicate, sym, ◌∙◌, ap, subst}
+use Rattle.std.proofs.Common.{◌≡◌, ◌*◌, true, replicate, sym, ◌∙◌, ap, subst}
 use Rattle.std.specs.Io.KnownBytes.{append_known}
 use Rattle.wf_io.specs.Fronts.{HoldsFront}
 use Rattle.wf_io.proofs.FrontLaws.{front_first, front_next, two_written}
 use Rattle.wf_uplink.specs.World.{World, Tick, Now, Expire, tids_of_station, after_calls}
 use Rattle.wf_run_uplink.specs.Answers.{stations, answer_text, calls_text}
+use Rattle.wf_run_uplink.specs.Room.{lacks_room}
 use Rattle.wf_run_uplink.proofs.Calls.{after_one, tick_text}
+use Rattle.wf_run_uplink.proofs.Room.{later_lacks, tick_lacks}
 use Rattle.wf_run_uplink.proofs.Writing.{on_ok, on_err, on_err_by}
 use Rattle.wf_run_uplink.proofs.reception.Reception.tick.Goals as goal
+
+pub returns-in_err-now-clause-memory : goal.returns-in_err-now-clause-memory
+returns-in_err-now-clause-memory g c = λ is.
+    tick_lacks c.args.self.now c.args.by (replicate (tids_of_station * stations) Expire)
+    c.in_err-now.ensures.fails
 
 pub returns-in_err-write_line-clause-front : goal.returns-in_err-write_line-clause-front
 returns-in_err-write_line-clause-front g c =
@@ -52,3 +59,9 @@ returns-clause-front g c =
     (replicate (tids_of_station * stations) Expire))
     c.in_ok-write_line.ensures.written front))
     c.give_up.ensures.front
+
+pub returns-clause-memory : goal.returns-clause-memory
+returns-clause-memory g c = λ is.
+    later_lacks c.args.self.now (Tick c.args.by) (replicate (tids_of_station * stations) Expire)
+    (subst (λ (v : World). lacks_room v (replicate (tids_of_station * stations) Expire) ≡ true)
+    c.in_ok-now.ensures.after (c.give_up.ensures.memory is))
