@@ -8,7 +8,9 @@ mod reading;
 mod writing;
 
 pub use laws::{head_is_read_back, packet_is_read_back};
-pub use reading::{Form, Packet, PcapFault, read_head, read_packet};
+pub use reading::{
+    FILE_HEAD, Form, MOST_CAPTURED, PACKET_HEAD, Packet, PcapFault, read_head, read_packet,
+};
 pub use writing::{write_head, write_packet};
 
 #[cfg(test)]

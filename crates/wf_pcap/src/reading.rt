@@ -9,9 +9,9 @@ ghost use Rattle.wf_pcap.specs.declared.reading.Form.{Form};
 use byteorder::{BigEndian, ByteOrder, LittleEndian};
 
 /// The octets of a file header.
-pub(crate) const HEAD: usize = 24;
+pub const FILE_HEAD: usize = 24;
 /// The octets of a packet header.
-pub(crate) const PACKET_HEAD: usize = 16;
+pub const PACKET_HEAD: usize = 16;
 /// The magic number of a file in microseconds.
 pub(crate) const MICROSECONDS: u32 = 0xa1b2_c3d4;
 /// The magic number of a file in nanoseconds.
@@ -23,7 +23,7 @@ pub(crate) const MINOR: u16 = 4;
 /// The link type of IEEE 802.11 frames with no radio fields before them.
 pub(crate) const FRAMES: u32 = 105;
 /// The most octets that a packet may have captured.
-const MOST_CAPTURED: u32 = 262_144;
+pub const MOST_CAPTURED: u32 = 262_144;
 
 /// How the numbers of a capture file are written.
 #[derive(Clone, Copy, Debug, PartialEq, Eq)]
@@ -86,8 +86,11 @@ pub fn read_head(octets: &[u8]) -> Result<Form, PcapFault>
     ensures fault { result_err result ≡ head_fault octets.now }
 {
     let have = octets.len();
-    if have < HEAD {
-        return Err(PcapFault::Short { need: HEAD, have });
+    if have < FILE_HEAD {
+        return Err(PcapFault::Short {
+            need: FILE_HEAD,
+            have,
+        });
     }
     let Some(form) = form_at(octets) else {
         return Err(PcapFault::Magic);

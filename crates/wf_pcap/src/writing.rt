@@ -5,7 +5,7 @@ ghost use Rattle.std.specs.Io.KnownBytes.{append_known};
 ghost use Rattle.wf_io.specs.Faults.{CountsFaults};
 ghost use Rattle.wf_pcap.specs.Capture.{file_head_octets, packet_head, packet_octets};
 
-use crate::reading::{FRAMES, HEAD, MAJOR, MICROSECONDS, MINOR, PACKET_HEAD};
+use crate::reading::{FILE_HEAD, FRAMES, MAJOR, MICROSECONDS, MINOR, PACKET_HEAD};
 use byteorder::{ByteOrder, LittleEndian};
 use wf_io::{Failed, Sink, write_all};
 
@@ -39,10 +39,10 @@ pub fn write_packet<K: Sink>(sink: &mut K, at: u64, octets: &[u8]) -> Result<(),
 }
 
 // The file header.
-fn head() -> [u8; HEAD]
+fn head() -> [u8; FILE_HEAD]
     ensures { result ≡ file_head_octets }
 {
-    let mut head = [0; HEAD];
+    let mut head = [0; FILE_HEAD];
     LittleEndian::write_u32(&mut head, MICROSECONDS);
     LittleEndian::write_u16(&mut head[4..], MAJOR);
     LittleEndian::write_u16(&mut head[6..], MINOR);

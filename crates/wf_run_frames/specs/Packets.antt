@@ -1,5 +1,6 @@
 -- The packets of a capture, one behind the other, up to the first fault.
 use Rattle.std.specs.Prelude.{ℕ, zero, suc, ◌+◌, ◌-◌, nat_lt, ◌&&◌, Bool, List, [], ◌∷◌, length, take, drop, Option, Some, None, if◌then◌else◌}
+use Rattle.wf_io.specs.declared.source.TheConstants.{MOST_OCTETS}
 use Rattle.wf_pcap.specs.declared.reading.Form.{Form}
 use Rattle.wf_pcap.specs.declared.reading.Packet.{Packet}
 use Rattle.wf_pcap.specs.declared.reading.PcapFault.{PcapFault}
@@ -17,9 +18,9 @@ file_head = 24
 abbrev pub packet_head_length : ℕ
 packet_head_length = 16
 
--- how many octets of an input are read
+-- how many octets of an input are read, 2^28
 abbrev pub most_octets_read : ℕ
-most_octets_read = 268435456
+most_octets_read = MOST_OCTETS
 
 abbrev pub kind_of : PcapFault → FaultKind
 kind_of (pcap.Short need have) = Short

@@ -10,13 +10,10 @@ ghost use Rattle.wf_run_frames.specs.Law.{FramesLaw};
 use crate::fault::{Fault, FaultKind};
 use crate::lines::{write_count, write_fault, write_packet};
 use crate::octets::fill;
-use crate::reader::{MOST_CAPTURED, Next, PACKET_HEAD, next_packet};
+use crate::reader::{Next, next_packet};
 use std::alloc::Global;
 use wf_io::{Sink, Source, Status};
-use wf_pcap::{Form, read_head};
-
-/// The octets of a file header.
-const FILE_HEAD: usize = 24;
+use wf_pcap::{FILE_HEAD, Form, MOST_CAPTURED, PACKET_HEAD, read_head};
 
 /// Reads a capture file from the source and writes a line for each packet before it reads the next; behind
 /// them how many there were, or the line of the first fault. After a fault of the source the lines of the
@@ -37,7 +34,7 @@ pub fn frames<S: Source, K: Sink>(alloc: Global, source: &mut S, sink: &mut K) -
         (HasRisen (K.faults sink.old) (K.faults sink.new) → ⊥) →
         (input : List ℕ) → S.left source.old ≡ Some input → FramesAnswered input result }
 {
-    let Ok(mut body) = vec![in alloc; 0; MOST_CAPTURED] else {
+    let Ok(mut body) = vec![in alloc; 0; MOST_CAPTURED as usize] else {
         return Status::NoMemory;
     };
     list_capture(&mut body, source, sink)

@@ -9,12 +9,7 @@ ghost use Rattle.wf_run_frames.specs.Reading.{TakesPacket, TakesBehind, GoesPast
 use crate::fault::FaultKind;
 use crate::octets::{fill, pass};
 use wf_io::{Failed, MOST_OCTETS, Source};
-use wf_pcap::{Form, Packet, PcapFault, read_packet};
-
-/// The most octets that a packet may have captured.
-pub(crate) const MOST_CAPTURED: usize = 262_144;
-/// The octets of a packet header.
-pub(crate) const PACKET_HEAD: usize = 16;
+use wf_pcap::{Form, PACKET_HEAD, Packet, PcapFault, read_packet};
 
 /// What comes next of a capture.
 #[derive(Clone, Copy, Debug, PartialEq, Eq)]
