@@ -29,6 +29,10 @@ pub fn frames<S: Source, K: Sink>(alloc: Global, source: &mut S, sink: &mut K) -
     ensures write { result ≡ Status.WriteFault → HasRisen (K.faults sink.old) (K.faults sink.new) }
     ensures sink_quiet { result ≢ Status.WriteFault → K.faults sink.new ≡ K.faults sink.old }
     ensures command { result ≢ Status.Usage }
+
+    // memory is wanting only before anything is taken or written
+    ensures unread { result ≡ Status.NoMemory → S.left source.new ≡ S.left source.old }
+    ensures unwritten { result ≡ Status.NoMemory → K.held sink.new ≡ K.held sink.old }
     ensures law { (input : List ℕ) → S.left source.old ≡ Some input → FramesLaw input }
     ensures complete { (HasRisen (S.faults source.old) (S.faults source.new) → ⊥) →
         (HasRisen (K.faults sink.old) (K.faults sink.new) → ⊥) →
@@ -51,6 +55,7 @@ fn list_capture<S: Source, K: Sink>(body: &mut [u8], source: &mut S, sink: &mut 
     ensures write { result ≡ Status.WriteFault → HasRisen (K.faults sink.old) (K.faults sink.new) }
     ensures sink_quiet { result ≢ Status.WriteFault → K.faults sink.new ≡ K.faults sink.old }
     ensures command { result ≢ Status.Usage }
+    ensures memory { result ≢ Status.NoMemory }
 {
     let mut head = [0; FILE_HEAD];
     let Ok(have) = fill(source, &mut head) else {
@@ -85,6 +90,7 @@ fn list_packets<S: Source, K: Sink>(
     ensures write { result ≡ Status.WriteFault → HasRisen (K.faults sink.old) (K.faults sink.new) }
     ensures sink_quiet { result ≢ Status.WriteFault → K.faults sink.new ≡ K.faults sink.old }
     ensures command { result ≢ Status.Usage }
+    ensures memory { result ≢ Status.NoMemory }
 {
     let mut place = FILE_HEAD as u64;
     let mut count = 0;
