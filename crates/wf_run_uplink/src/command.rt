@@ -56,7 +56,8 @@ impl Answers for Reception {
 /// where the script has a fault, the line of the fault in place of that. Octets after the `end` line are not
 /// looked at.
 ///
-/// It takes memory only before it reads.
+/// It takes memory only before it reads. Behind that, NoMemory says that the clock or a total has no room
+/// left below 2^62.
 pub fn uplink<S: Source, K: Sink>(alloc: Global, source: &mut S, sink: &mut K) -> Status
     ensures text { (taken written : List ℕ) × (S.left source.old ≡ prepend_known taken (S.left source.new))
         × (K.held sink.new ≡ append_known (K.held sink.old) written)
