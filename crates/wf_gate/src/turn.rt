@@ -7,8 +7,11 @@ ghost use Rattle.wf_gate.specs.Passes.{IsTableSized, IsPassOf, MayDraw, HasTurn,
 use crate::plays::{Draw, Look, Peek, Serve, Try};
 use crate::view::{MACHINE, Pass, SERVING, Shared, TICKET};
 use std::sync::Wait;
-use std::thread;
+use std::{hint, thread};
 use wf_machine::Machine;
+
+/// How often a seat that waits looks again at once, before it yields its processor at each further look.
+const LOOKS: u32 = 128;
 
 /// Draws the next ticket.
 pub(crate) fn draw<M: Machine + Drop>(shared: &Shared<M>, pass: &mut Pass<M>) -> u64
@@ -20,6 +23,17 @@ pub(crate) fn draw<M: Machine + Drop>(shared: &Shared<M>, pass: &mut Pass<M>) ->
         (pass.new.me ≡ (waiting pass.old.me.0 result, [])) }
 {
     shared.fetch_add::<Draw>(pass, TICKET, 1)
+}
+
+/// What a seat does after it has looked in vain so often, LOOKS at most. Where threads are more than
+/// processors, one that only turned would keep a processor from the seat that is served.
+fn pause(looks: u32) -> u32 {
+    if looks < LOOKS {
+        hint::spin_loop();
+        return looks + 1;
+    }
+    thread::yield_now();
+    looks
 }
 
 /// Waits until the ticket is served, and takes the slot.
@@ -35,13 +49,13 @@ pub(crate) fn wait<M: Machine + Drop, R: Wait>(
     ensures { (pass.new.table_id ≡ pass.old.table_id) × (pass.new.id ≡ pass.old.id) ×
         HasTurn M.past M.settings M.room (opening_of shared.now.key) ticket pass.old.me.0 pass.new.me }
 {
+    let mut looks = 0;
     for _ in rt.forever() {
         let serving = shared.load::<Look<M>>(pass, SERVING);
         if serving == ticket {
             return;
         }
-        // Who only turns here would keep a processor from the seat that is served.
-        thread::yield_now();
+        looks = pause(looks);
     }
     unreachable!()
 }
