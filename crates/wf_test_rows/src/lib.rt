@@ -11,6 +11,8 @@ mod frames;
 #[cfg(test)]
 mod greatest;
 #[cfg(test)]
+mod meeting;
+#[cfg(test)]
 mod paths;
 #[cfg(test)]
 mod replays;

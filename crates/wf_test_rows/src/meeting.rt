@@ -1,0 +1,97 @@
+//! The command `live`, whose workers meet at a turnstile that counts.
+
+use std::sync::atomic::{AtomicU64, Ordering};
+use std::test::Fail;
+use std::thread;
+use wf_gate::Turnstile;
+use wf_io::{Given, Kept};
+use wf_run::{Status, run};
+
+/// How often a worker looks at most for those that are not there yet.
+const LOOKS: u32 = 3_000_000;
+
+/// A turnstile that counts. The one sender, worker 0, is let in once all four drivers have come, and these
+/// are once both calls of the sender are made. So workers that run one after another wait in vain.
+#[derive(Drop)]
+struct Meeting {
+    sender_in: AtomicU64,
+    sender_out: AtomicU64,
+    drivers_in: AtomicU64,
+    drivers_out: AtomicU64,
+    /// How often one waited in vain.
+    missed: AtomicU64,
+}
+
+impl Meeting {
+    fn new() -> Meeting {
+        Meeting {
+            sender_in: AtomicU64::new(0),
+            sender_out: AtomicU64::new(0),
+            drivers_in: AtomicU64::new(0),
+            drivers_out: AtomicU64::new(0),
+            missed: AtomicU64::new(0),
+        }
+    }
+
+    /// Waits until a count is at least so much.
+    fn wait_for(&self, count: &AtomicU64, least: u64) {
+        for _ in 0..LOOKS {
+            if count.load(Ordering::SeqCst) >= least {
+                return;
+            }
+            thread::yield_now();
+        }
+        self.missed.fetch_add(1, Ordering::SeqCst);
+    }
+}
+
+impl Turnstile for Meeting {
+    fn before(&self, worker: u32) {
+        if worker == 0 {
+            self.sender_in.fetch_add(1, Ordering::SeqCst);
+            self.wait_for(&self.drivers_in, 4);
+        } else {
+            self.drivers_in.fetch_add(1, Ordering::SeqCst);
+            self.wait_for(&self.sender_out, 2);
+        }
+    }
+
+    fn after(&self, worker: u32) {
+        if worker == 0 {
+            self.sender_out.fetch_add(1, Ordering::SeqCst);
+        } else {
+            self.drivers_out.fetch_add(1, Ordering::SeqCst);
+        }
+    }
+}
+
+/// The words draw a frame of 500 octets with TID 5. Of its driver's words the first loses it, and the second
+/// lets it arrive; each time it is charged 748 microseconds, and five quanta pay for both.
+const SUMMARY: &[u8] = b"now 1\n\
+      frames 1 acked 1 overlimit 0 codel 0 retries 0 left 0 held 0\n\
+      exchanges 2 open 0\n\
+      sta 0 vi charged 1496 rx 0 deficit 4\n\
+      tim 050400010000\n";
+
+/// The lines of the trace that name a number are the drivers', and two that open the station. Each of the
+/// two ends of an exchange may be tried in vain, and is called again.
+#[test]
+fn workers_meet(rt: HostRuntime) -> Result<(), Fail> {
+    let meeting = Meeting::new();
+    let mut source = Given::new(Vec::new(rt.alloc()), 16, Vec::new(rt.alloc()));
+    let mut sink = Kept::new(rt.alloc(), 65_536, 4096, Vec::new(rt.alloc()))?;
+    let mut words = Vec::new(rt.alloc());
+    for word in ["live", "7", "1", "1"] {
+        words.push(word.to_string(rt.alloc())?)?;
+    }
+    assert!(rt; run(&rt, rt.alloc(), &words, &mut source, &mut sink, &meeting) == Status::Done);
+    assert_eq!(rt; meeting.missed.load(Ordering::SeqCst), 0);
+    assert!(rt; sink.octets().ends_with(SUMMARY));
+    assert_eq!(rt; meeting.sender_in.load(Ordering::SeqCst), 2);
+    assert_eq!(rt; meeting.sender_out.load(Ordering::SeqCst), 2);
+    let named = sink.octets().iter().filter(|octet| **octet == b'@').count() as u64;
+    let calls = meeting.drivers_in.load(Ordering::SeqCst);
+    assert!(rt; calls <= named && named - calls <= 2);
+    assert_eq!(rt; meeting.drivers_out.load(Ordering::SeqCst), calls);
+    Ok(())
+}
