@@ -2,17 +2,20 @@
 //!
 //! With no words two seats make calls, and it prints what they were answered. `wf_show_gate gate N` makes N
 //! calls through a gate, with nobody else there, and `wf_show_gate bare N` makes the same calls to the
-//! machine itself: both print the last sum.
+//! machine itself: both print the last sum. `wf_show_gate gate N T` makes N calls in each of T threads, by a
+//! seat each, and prints the sum of their last sums.
 #![tactic(auto)]
 
 mod counter;
+mod crowd;
 mod runs;
 mod seats;
 
 use anyhow::{Result, bail};
 use std::env;
 
-const USAGE: &str = "usage: wf_show_gate | wf_show_gate gate CALLS | wf_show_gate bare CALLS";
+const USAGE: &str =
+    "usage: wf_show_gate | wf_show_gate gate CALLS [THREADS] | wf_show_gate bare CALLS";
 
 fn main(rt: HostRuntime) -> Result<()> {
     let words: Vec<String> = env::args(&rt)?.skip(1).collect(rt.alloc())?;
@@ -21,13 +24,12 @@ fn main(rt: HostRuntime) -> Result<()> {
         print!(rt; "{lines}")?;
         return Ok(());
     }
-    let [way, calls] = words.as_slice() else {
-        bail!(USAGE);
-    };
-    let calls = calls.parse()?;
-    let sum = match way.as_str() {
-        "gate" => runs::gated(&rt, rt.alloc(), calls)?,
-        "bare" => runs::bare(calls),
+    let sum = match words.as_slice() {
+        [way, calls] if way.as_str() == "gate" => runs::gated(&rt, rt.alloc(), calls.parse()?)?,
+        [way, calls] if way.as_str() == "bare" => runs::bare(calls.parse()?),
+        [way, calls, threads] if way.as_str() == "gate" => {
+            crowd::crowded(&rt, rt.alloc(), threads.parse()?, calls.parse()?)?
+        }
         _ => bail!(USAGE),
     };
     println!(rt; "{sum}")?;

@@ -30,7 +30,7 @@ pub fn gated<R: Wait>(rt: &R, alloc: Global, calls: u32) -> Result<u64> {
 }
 
 /// Makes so many calls by the seat, and gives the last sum, or nothing where the seat has fewer calls left.
-fn call_all<R: Wait>(
+pub fn call_all<R: Wait>(
     rt: &R,
     gate: &Gate<Counter>,
     seat: &mut Seat<Counter>,

@@ -1,0 +1,58 @@
+//! The same calls in many threads.
+ghost use Rattle.std.specs.Prelude.{All};
+ghost use Rattle.wf_gate.specs.Seats.{IsOf};
+
+use crate::counter::Counter;
+use crate::runs::call_all;
+use anyhow::{Context, Result, bail};
+use std::alloc::{AllocError, Global};
+use std::sync::Wait;
+use std::thread;
+use std::thread::Threads;
+use wf_gate::{Gate, Seat};
+
+/// Makes so many calls by the seat, and gives the last sum, or nothing where the seat has fewer calls left.
+fn call_by<R: Wait>(
+    rt: &R,
+    gate: &Gate<Counter>,
+    mut seat: Seat<Counter>,
+    calls: u32,
+) -> Option<u64>
+    requires { IsOf gate.now seat }
+{
+    call_all(rt, gate, &mut seat, calls)
+}
+
+/// The same by each seat, in a thread of its own where one can be made.
+fn call_in_threads<R: Threads + Wait + Sync>(
+    rt: &R,
+    gate: &Gate<Counter>,
+    seats: Vec<Seat<Counter>>,
+    calls: u32,
+) -> Result<Vec<Option<u64>>, AllocError>
+    requires { All (IsOf gate.now) seats.items }
+{
+    let sums = thread::map_vec(rt, seats, &|seat| call_by(rt, gate, seat, calls))?;
+    Ok(sums)
+}
+
+/// Makes so many calls in each of so many threads, by as many seats at a gate before a counter, and gives
+/// the sum of their last sums.
+pub fn crowded<R: Threads + Wait + Sync>(
+    rt: &R,
+    alloc: Global,
+    threads: u32,
+    calls: u32,
+) -> Result<u64> {
+    let room = threads.checked_mul(calls).context("too many calls")?;
+    let quotas = vec![in alloc; calls; threads as usize]?;
+    if quotas.is_empty() {
+        bail!("no thread");
+    }
+    let (gate, seats) = Gate::new(alloc, Counter::new(room), quotas.as_slice())?;
+    let mut all = 0_u64;
+    for sum in call_in_threads(rt, &gate, seats, calls)? {
+        all = all.wrapping_add(sum.context("too few calls are left")?);
+    }
+    Ok(all)
+}
