@@ -5,6 +5,7 @@ use Rattle.std.specs.Prelude.{◌&&◌, ◌||◌, List, [], ◌∷◌, ◌++◌,
 use Rattle.rand_pcg.specs.Lcg.{Lcg, started, increment_of}
 use Rattle.rand_pcg.specs.Pcg.{pcg32, multiplier_64}
 use Rattle.wf_frame.specs.declared.classes.Class.{Class}
+use Rattle.wf_frame.specs.declared.notes.Ask.{Ask}
 use Rattle.wf_frame.specs.declared.notes.Ask.TheVariants.{Tick, Pull, Arrive, Answer, Done, Reap}
 use Rattle.wf_frame.specs.declared.notes.Note.{Note}
 use Rattle.wf_frame.specs.declared.notes.Note.TheVariants.{Enqueue, Asked}
@@ -32,6 +33,12 @@ words_after words = (pcg32 words).1
 unfoldable pub words_behind : ℕ → Lcg → Lcg
 words_behind zero words = words
 words_behind (suc n) words = words_behind n (words_after words)
+
+-- whether a call ends an exchange. It is made by a try first, which waits for nobody, and each other call in
+-- its turn
+abbrev pub is_done : Ask → Bool
+is_done (Done e heard) = true
+is_done _ = false
 
 -- ---- senders
 

@@ -1,10 +1,10 @@
 //! Where a worker makes its calls.
 
-ghost use Rattle.std.specs.Prelude.{◌≡◌, ℕ, List, OnOk, OnErr, length};
+ghost use Rattle.std.specs.Prelude.{◌≡◌, ℕ, List, true, false, OnOk, OnErr, length};
 ghost use Rattle.wf_frame.specs.Answers.{reply_of};
 ghost use Rattle.wf_frame.specs.declared.notes.Note.TheVariants.{Enqueue, Asked};
 ghost use Rattle.wf_frame.specs.declared.notes.ReplyNote.{ReplyNote};
-ghost use Rattle.wf_live_workers.specs.Workloads.{Made};
+ghost use Rattle.wf_live_workers.specs.Workloads.{Made, is_done};
 ghost use Rattle.wf_live_workers.specs.Desks.{Adds, Refuses};
 
 use wf_frame::{Answer, Ask};
@@ -43,13 +43,15 @@ pub trait Desk {
             (Enqueue parcel.station parcel.tid parcel.flow (length parcel.body)) (reply self.new)) }
         ensures spent { OnErr result (Refuses has left self.old self.new) };
 
-    /// Makes a call that carries no frame.
+    /// Makes a call in its turn, one that carries no frame and ends no exchange.
     fn ask(&mut self, ask: Ask) -> Result<(), Spent>
+        requires in_turn { is_done ask ≡ false }
         ensures made { OnOk result (Adds has left self.old self.new (Asked ask) (reply self.new)) }
         ensures spent { OnErr result (Refuses has left self.old self.new) };
 
-    /// The same, for a call that is not to wait where nobody else is at the gate.
+    /// Ends an exchange by a call that is tried first, so that it waits only where others are at the gate.
     fn ask_at_once(&mut self, ask: Ask) -> Result<(), Spent>
+        requires at_once { is_done ask ≡ true }
         ensures made { OnOk result (Adds has left self.old self.new (Asked ask) (reply self.new)) }
         ensures spent { OnErr result (Refuses has left self.old self.new) };
 }
