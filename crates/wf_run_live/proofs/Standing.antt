@@ -1,6 +1,7 @@
 -- One call more of a seat.
-use Rattle.std.proofs.Common.{◌≡◌, ℕ, zero, suc, ◌+◌, ◌<◌, List, [], ◌∷◌, ◌++◌, length, length-append, take, refl, sym, ◌∙◌, ap, subst, arith, Some}
-use Rattle.std.specs.Prelude.{slice_get, slice_index_or}
+use Rattle.std.proofs.Common.{◌≡◌, ℕ, zero, suc, ◌+◌, ◌<◌, ◌≤◌, true, cond, List, [], ◌∷◌, ◌++◌, length, length-append, take, refl, sym, ◌∙◌, ap, subst, arith, Some}
+use Rattle.std.specs.Prelude.{Result, Ok, Err, OnOk, OnErr, slice_get, slice_index_or}
+use Rattle.std.proofs.lemmas.List.Sums.{sum_by_push}
 use mathlib.Core.List.{IsPrefix}
 use Rattle.wf_frame.specs.declared.notes.Note.{Note}
 use Rattle.wf_frame.specs.declared.notes.ReplyNote.{ReplyNote}
@@ -11,9 +12,9 @@ use Rattle.wf_gate.specs.Seats.{IsOf, IsSameSeat, EndsWith, last_place}
 use Rattle.wf_gate.specs.declared.view.Opening.{Opening}
 use Rattle.wf_cell.specs.Cells.{CellValue}
 use Rattle.wf_live_workers.specs.Workloads.{Made}
-use Rattle.wf_live_workers.specs.Desks.{Adds}
-use Rattle.wf_run_live.specs.Crew.{CellGate, CellSeat, StandAt, reply_at}
-use Rattle.wf_run_live.specs.Sitting.{HasMade, left_of}
+use Rattle.wf_live_workers.specs.Desks.{Adds, Refuses}
+use Rattle.wf_run_live.specs.Crew.{CellGate, CellSeat, StandAt, reply_at, ends_exchange, done_count}
+use Rattle.wf_run_live.specs.Sitting.{HasMade, HasMadeAndLooked, left_of}
 
 module _ {A : Type 0} where
   get_longer : (xs zs : List A) (k : ℕ) (x : A) → slice_get xs k ≡ Some x → slice_get (xs ++ zs) k ≡ Some x
@@ -113,3 +114,60 @@ one_more gate old new note reply own same below more pre ends grown right = reco
             (sym same.number) stands;
       };
 }
+
+-- ---- looks
+
+dones_more : (made : List Made) (note : Note) (reply : ReplyNote) →
+    done_count (made ++ (note, reply) ∷ []) ≡ done_count made + cond (ends_exchange note) 1 0
+dones_more made note reply = sum_by_push (λ (m : Made). cond (ends_exchange m.0) 1 0) made (note, reply)
+
+-- of a desk with a seat
+module _ {D : Type 0} (seat_of : D → CellSeat) (old new : D) where
+  -- a call that looked no oftener than it may
+  adds_and_looks : (note : Note) (reply : ReplyNote) →
+      Adds HasMade left_of (seat_of old) (seat_of new) note reply →
+      length (seat_of new).looks ≤ length (seat_of old).looks + cond (ends_exchange note) 1 0 →
+      Adds (λ d place made. HasMadeAndLooked (seat_of d) place made) (λ d. left_of (seat_of d)) old new
+      note reply
+  adds_and_looks note reply adds looks = record {
+    fewer = adds.fewer;
+    added = λ place before had. (
+      adds.added place before had.0,
+      (let fit = had.1 in omega (arith, looks, fit, dones_more before note reply)),
+    );
+  }
+
+  -- a call in its turn looks at nothing
+  pub adds_in_turn : (note : Note) (reply : ReplyNote) →
+      Adds HasMade left_of (seat_of old) (seat_of new) note reply →
+      (seat_of new).looks ≡ (seat_of old).looks →
+      Adds (λ d place made. HasMadeAndLooked (seat_of d) place made) (λ d. left_of (seat_of d)) old new
+      note reply
+  adds_in_turn note reply adds same = adds_and_looks note reply adds (omega (arith, ap length same))
+
+  -- one that ends an exchange looks once at most
+  pub adds_at_once : (note : Note) (reply : ReplyNote) →
+      Adds HasMade left_of (seat_of old) (seat_of new) note reply →
+      length (seat_of new).looks ≤ length (seat_of old).looks + 1 → ends_exchange note ≡ true →
+      Adds (λ d place made. HasMadeAndLooked (seat_of d) place made) (λ d. left_of (seat_of d)) old new
+      note reply
+  adds_at_once note reply adds looks ends = adds_and_looks note reply adds (rw ends looks)
+
+  -- a call that was not made leaves the seat as it was
+  pub refuses_and_looks : Refuses HasMade left_of (seat_of old) (seat_of new) → seat_of new ≡ seat_of old →
+      Refuses (λ d place made. HasMadeAndLooked (seat_of d) place made) (λ d. left_of (seat_of d)) old new
+  refuses_and_looks refuses same = record {
+    none = refuses.none;
+    still = refuses.still;
+    kept = λ place before had.
+        subst (λ (s : CellSeat). HasMadeAndLooked s place before) (sym same) had;
+  }
+
+-- two facts where a call was made, or where it was not
+pub on_both : {T E P Q S : Type 0} (r : Result T E) → OnOk r P → OnOk r Q → (P → Q → S) → OnOk r S
+on_both (Ok x) p q f = f p q
+on_both (Err e) p q f = tt
+
+pub on_both_err : {T E P Q S : Type 0} (r : Result T E) → OnErr r P → OnErr r Q → (P → Q → S) → OnErr r S
+on_both_err (Ok x) p q f = tt
+on_both_err (Err e) p q f = f p q

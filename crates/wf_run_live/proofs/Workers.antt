@@ -11,7 +11,7 @@ use Rattle.wf_live_workers.specs.Workloads.{Made, Driver, IsWalk, walked, driver
 use Rattle.wf_live_workers.specs.Workloads.Phase.{Ends}
 use Rattle.wf_live_workers.specs.Desks.{Makes, Walks}
 use Rattle.wf_run_live.specs.Crew.{CellGate, CellSeat, StandAt, HasDriven, IsWorked, class_of_driver, driver_count, quotas_of}
-use Rattle.wf_run_live.specs.Sitting.{HasMade, left_of, IsReady, HasWorked, AreDone}
+use Rattle.wf_run_live.specs.Sitting.{HasMade, HasMadeAndLooked, left_of, IsReady, HasWorked, AreDone}
 
 -- ---- one worker
 
@@ -31,6 +31,12 @@ begun g senders frames s ready =
       stand = subst (λ (l : List ℕ). StandAt g s.number s.seen l [])
           (sym (ap (λ (x : CellSeat). x.own) ready.is_new)) tt;
     }
+
+-- and looked at nothing
+begun_and_looked : (g : CellGate) (senders frames : ℕ) (s : CellSeat) → IsReady g senders frames s →
+    HasMadeAndLooked s (g, s.number) []
+begun_and_looked g senders frames s ready = let none = ap (λ (x : CellSeat). length x.looks) ready.is_new in
+    (begun g senders frames s ready, omega arith)
 
 -- a sender has a call left for each frame, and one more
 pub room_to_send : (g : CellGate) (senders frames : ℕ) (s : CellSeat) → IsReady g senders frames s →
@@ -60,14 +66,14 @@ on_ok (Err e) p f = tt
 module _ {D : Type 0} (seat_of : D → CellSeat) (g : CellGate) (seed senders frames : ℕ) (a b : D)
     (ready : IsReady g senders frames (seat_of a)) where
   pub sent : (n : ℕ) → n ≡ (seat_of a).number → (seat_of a).number < senders →
-      Makes (λ d place made. HasMade (seat_of d) place made) (λ d. left_of (seat_of d)) a b
+      Makes (λ d place made. HasMadeAndLooked (seat_of d) place made) (λ d. left_of (seat_of d)) a b
       (sender_calls seed n frames) →
       HasWorked g seed senders frames (seat_of a) (seat_of b)
   sent n is below makes =
       let old : CellSeat = seat_of a in
       let new : CellSeat = seat_of b in
       let had : HasMade new (g, old.number) makes.made =
-      makes.has_them (g, old.number) [] (begun g senders frames old ready) in
+      (makes.has_them (g, old.number) [] (begun_and_looked g senders frames old ready)).0 in
       let calls : StandsWithCalls new.number new.seen new.own (sender_calls seed n frames) =
       subst (λ (l : List Note). StandsWithCalls new.number new.seen new.own l) makes.notes_are
       (calls_of g new.number new.seen new.own makes.made had.stand) in
@@ -83,15 +89,17 @@ module _ {D : Type 0} (seat_of : D → CellSeat) (g : CellGate) (seed senders fr
 
   pub driven : (n : ℕ) (class : Class) → n ≡ (seat_of a).number - senders → class ≡ class_of_driver n →
       senders ≤ (seat_of a).number →
-      ((to : Driver) × Walks (λ d place made. HasMade (seat_of d) place made) (λ d. left_of (seat_of d)) a b
-      (driver_of seed n class senders) to × ((to.phase ≡ Ends) ⊎ (left_of (seat_of b) ≡ 0))) →
+      ((to : Driver) × Walks (λ d place made. HasMadeAndLooked (seat_of d) place made)
+      (λ d. left_of (seat_of d)) a b (driver_of seed n class senders) to ×
+      ((to.phase ≡ Ends) ⊎ (left_of (seat_of b) ≡ 0))) →
       HasWorked g seed senders frames (seat_of a) (seat_of b)
   driven n class is its above walk =
       let old : CellSeat = seat_of a in
       let new : CellSeat = seat_of b in
       let walks = walk.1 in
-      let had : HasMade new (g, old.number) walks.made =
-      walks.has_them (g, old.number) [] (begun g senders frames old ready) in
+      let both : HasMadeAndLooked new (g, old.number) walks.made =
+      walks.has_them (g, old.number) [] (begun_and_looked g senders frames old ready) in
+      let had : HasMade new (g, old.number) walks.made = both.0 in
       let from : Driver = driver_of seed n class senders in
       let same : from ≡ driver_of seed n (class_of_driver n) senders =
       ap (λ (c : Class). driver_of seed n c senders) its in
@@ -102,6 +110,7 @@ module _ {D : Type 0} (seat_of : D → CellSeat) (g : CellGate) (seed senders fr
         ended = ended_of (driver_of seed n (class_of_driver n) senders) walk.0 walks.made new
             (ap (λ (d : Driver). walked d walks.made) (sym same) ∙ walks.leads) had.within had.counted walk.2;
         allotted = had.allotted;
+        looked = both.1;
       } in
       record {
         is_of = had.is_of;

@@ -8,7 +8,7 @@ use Rattle.wf_frame.specs.declared.notes.ReplyNote.{ReplyNote}
 use Rattle.wf_frame.specs.declared.notes.ReplyNote.TheVariants.{Refused}
 use Rattle.wf_gate.specs.Seats.{IsOf, new_seat}
 use Rattle.wf_live_workers.specs.Workloads.{Made}
-use Rattle.wf_run_live.specs.Crew.{CellGate, CellSeat, StandAt, IsWorked, driver_count}
+use Rattle.wf_run_live.specs.Crew.{CellGate, CellSeat, StandAt, IsWorked, driver_count, done_count}
 
 -- a seat at a gate has this number, and these are all its calls, each with the right reply
 pub record HasMade (s : CellSeat) (place : CellGate × ℕ) (made : List Made) : Type 0 where
@@ -18,6 +18,10 @@ pub record HasMade (s : CellSeat) (place : CellGate × ℕ) (made : List Made) :
   pub counted : s.used ≡ length made
   pub allotted : s.quota ≡ slice_index_or place.0.opening.quotas s.number 0
   pub stand : StandAt place.0 s.number s.seen s.own made
+
+-- and it has at most one look for each of them that ends an exchange
+abbrev pub HasMadeAndLooked : CellSeat → CellGate × ℕ → List Made → Type 0
+HasMadeAndLooked s place made = HasMade s place made × (length s.looks ≤ done_count made)
 
 -- how many calls it may still make
 abbrev pub left_of : CellSeat → ℕ

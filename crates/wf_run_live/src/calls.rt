@@ -1,6 +1,6 @@
 //! A worker's calls at the gate.
 
-ghost use Rattle.std.specs.Prelude.{◌≡◌, OnErr, IfOk};
+ghost use Rattle.std.specs.Prelude.{◌≡◌, ◌+◌, ◌≤◌, length, OnOk, OnErr, IfOk};
 ghost use Rattle.wf_frame.specs.Answers.{reply_of};
 ghost use Rattle.wf_gate.specs.Seats.{IsOf, IsSameSeat};
 ghost use Rattle.wf_path.specs.Jobs.{note_of};
@@ -44,7 +44,9 @@ pub(crate) fn call_at<R: Wait, T: Turnstile>(
     ensures same { IsSameSeat seat.old seat.new }
     ensures made { IfOk result (λ answer. Adds HasMade left_of seat.old seat.new (note_of asking.job)
         (reply_of answer.value)) }
+    ensures looks { OnOk result (seat.new.looks ≡ seat.old.looks) }
     ensures spent { OnErr result (Refuses HasMade left_of seat.old seat.new) }
+    ensures unchanged { OnErr result (seat.new ≡ seat.old) }
 {
     turnstile.before(seat.number());
     let back = gate.call(rt, seat, asking);
@@ -67,7 +69,9 @@ pub(crate) fn call_at_once<R: Wait, T: Turnstile>(
     ensures same { IsSameSeat seat.old seat.new }
     ensures made { IfOk result (λ answer. Adds HasMade left_of seat.old seat.new (note_of asking.job)
         (reply_of answer.value)) }
+    ensures looks { OnOk result (length seat.new.looks ≤ length seat.old.looks + 1) }
     ensures spent { OnErr result (Refuses HasMade left_of seat.old seat.new) }
+    ensures unchanged { OnErr result (seat.new ≡ seat.old) }
 {
     turnstile.before(seat.number());
     let back = gate.try_call(seat, asking);

@@ -1,10 +1,10 @@
 //! A worker's desk at the gate.
 
-ghost use Rattle.std.specs.Prelude.{◌≡◌, is_some, true, OnOk, OnErr, IfOk, IsOk, IsErr};
+ghost use Rattle.std.specs.Prelude.{◌≡◌, ◌+◌, ◌≤◌, length, is_some, true, OnOk, OnErr, IfOk, IsOk, IsErr};
 ghost use Rattle.wf_gate.specs.Seats.{IsOf};
 ghost use Rattle.wf_path.specs.Jobs.{note_of};
 ghost use Rattle.wf_live_workers.specs.Desks.{Adds, Refuses};
-ghost use Rattle.wf_run_live.specs.Sitting.{HasMade, left_of, reply_in};
+ghost use Rattle.wf_run_live.specs.Sitting.{HasMade, HasMadeAndLooked, left_of, reply_in};
 
 use crate::calls::{Back, call_at, call_at_once};
 use std::alloc::Global;
@@ -51,7 +51,9 @@ impl<'a, R: Wait, T: Turnstile> GateDesk<'a, R, T> {
     fn call(&mut self, job: Job) -> Result<(), Spent>
         ensures made { OnOk result (Adds HasMade left_of self.old.seat self.new.seat (note_of job)
             (reply_in self.new.answer)) }
+        ensures looks { OnOk result (self.new.seat.looks ≡ self.old.seat.looks) }
         ensures spent { OnErr result (Refuses HasMade left_of self.old.seat self.new.seat) }
+        ensures unchanged { OnErr result (self.new.seat ≡ self.old.seat) }
     {
         let Some(answer) = self.answer.take() else {
             unreachable!()
@@ -65,7 +67,9 @@ impl<'a, R: Wait, T: Turnstile> GateDesk<'a, R, T> {
     fn call_at_once(&mut self, job: Job) -> Result<(), Spent>
         ensures made { OnOk result (Adds HasMade left_of self.old.seat self.new.seat (note_of job)
             (reply_in self.new.answer)) }
+        ensures looks { OnOk result (length self.new.seat.looks ≤ length self.old.seat.looks + 1) }
         ensures spent { OnErr result (Refuses HasMade left_of self.old.seat self.new.seat) }
+        ensures unchanged { OnErr result (self.new.seat ≡ self.old.seat) }
     {
         let Some(answer) = self.answer.take() else {
             unreachable!()
@@ -80,7 +84,7 @@ impl<'a, R: Wait, T: Turnstile> Desk for GateDesk<'a, R, T> {
     // The gate, and the number of the seat.
     type Place = (Gate<Cell>, u32);
 
-    ghost has = { λ desk place made. HasMade desk.seat place made };
+    ghost has = { λ desk place made. HasMadeAndLooked desk.seat place made };
 
     ghost left = { λ desk. left_of desk.seat };
 
