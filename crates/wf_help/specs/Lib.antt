@@ -1,0 +1,3 @@
+pub mod Slips
+pub mod Telling
+pub mod Topics

@@ -1,0 +1,66 @@
+//! What help can be asked for.
+
+ghost use Rattle.std.specs.Prelude.{◌≡◌};
+ghost use Rattle.wf_help.specs.Topics.{help_text, topic_word, topic_named};
+
+use crate::texts;
+
+/// What help is asked for: all commands, or one.
+#[derive(Clone, Copy, Debug, PartialEq, Eq)]
+pub enum Topic {
+    Overview,
+    Replay,
+    Soak,
+    Live,
+    Session,
+    Uplink,
+    Frames,
+}
+
+const COMMANDS: [Topic; 6] = [
+    Topic::Replay,
+    Topic::Soak,
+    Topic::Live,
+    Topic::Session,
+    Topic::Uplink,
+    Topic::Frames,
+];
+
+impl Topic {
+    /// The word of its command; `help` for all commands.
+    pub fn word(self) -> &'static [u8]
+        ensures { result.now ≡ topic_word self }
+    {
+        match self {
+            Topic::Overview => b"help",
+            Topic::Replay => b"replay",
+            Topic::Soak => b"soak",
+            Topic::Live => b"live",
+            Topic::Session => b"session",
+            Topic::Uplink => b"uplink",
+            Topic::Frames => b"frames",
+        }
+    }
+
+    /// The command that a word names.
+    pub fn named(word: &[u8]) -> Option<Topic>
+        ensures { result ≡ topic_named word.now }
+    {
+        COMMANDS.iter().copied().find(|topic| topic.word() == word)
+    }
+
+    /// Its help: lines of at most 95 printable characters, which end in the octet 10.
+    pub fn text(self) -> &'static [u8]
+        ensures { result.now ≡ help_text self }
+    {
+        match self {
+            Topic::Overview => texts::OVERVIEW,
+            Topic::Replay => texts::REPLAY,
+            Topic::Soak => texts::SOAK,
+            Topic::Live => texts::LIVE,
+            Topic::Session => texts::SESSION,
+            Topic::Uplink => texts::UPLINK,
+            Topic::Frames => texts::FRAMES,
+        }
+    }
+}
