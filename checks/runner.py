@@ -33,6 +33,7 @@ ALL = [
     Check("modules", ("--check",), ("--check",), quick=True),
     Check("claims", quick=True),
     Check("links", quick=True),
+    Check("help", quick=True),
     Check("worked", quick=True),
     Check("pages", quick=True),
     Check("sim", quick=True),

@@ -74,7 +74,7 @@ def commands(built, sizes):
         "frames": (EXAMPLES / "five.pcap").read_bytes(),
     }
     usage = subprocess.run([built], stdin=subprocess.DEVNULL, capture_output=True, check=False).stderr.decode()
-    named = [part.split(" SEED")[0].strip() for part in re.findall(r"wf ([^|\n]*)", usage)]
+    named = {name.strip() for word, option in re.findall(r"wf (\w+)(?: \[?(--\w+))?", usage) for name in (word, f"{word} {option}")}
     return {name: ([*name.split(), *sizes.get(name, [])], given) for name, given in inputs.items() if name in named}
 
 
