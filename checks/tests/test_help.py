@@ -35,13 +35,16 @@ class Faults(unittest.TestCase):
     """Each kind of fault is found."""
 
     def test_texts_are_read(self):
-        self.assertEqual(set(HELP.texts()), {"VERSION", "USAGE", "OVERVIEW", *map(str.upper, HELP.COMMANDS)})
+        self.assertEqual(set(HELP.texts()), {"VERSION", "USAGE", "OVERVIEW", *map(str.upper, HELP.TOPICS)})
 
     def test_range(self):
         self.assertIn("stations", first(HELP.unlike_pages(changed("REPLAY", "stations=1..256", "stations=1..255"))))
 
     def test_call(self):
         self.assertIn("reap", first(HELP.unlike_pages(changed("REPLAY", "  reap\n", ""))))
+
+    def test_fault(self):
+        self.assertIn("range", first(HELP.unlike_pages(changed("FAULTS", "  range  ", "  rnge   "))))
 
     def test_command(self):
         self.assertIn("session", first(HELP.unlike_pages(changed("OVERVIEW", "  wf session", "  wf"))))

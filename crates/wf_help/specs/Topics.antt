@@ -3,9 +3,9 @@ use Rattle.std.specs.Prelude.{ℕ, List, [], ◌∷◌, codes, Option, find}
 use Rattle.std.specs.Str.{bytes_eq}
 use Rattle.wf_help.specs.declared.texts.TheConstants as text
 use Rattle.wf_help.specs.declared.topic.Topic.{Topic}
-use Rattle.wf_help.specs.declared.topic.Topic.TheVariants.{Overview, Replay, Soak, Live, Session, Uplink, Frames}
+use Rattle.wf_help.specs.declared.topic.Topic.TheVariants.{Overview, Replay, Soak, Live, Session, Uplink, Frames, Faults}
 
--- the word of a command; `help` for all commands
+-- the word of a command, or of the faults; `help` for all commands
 abbrev pub topic_word : Topic → List ℕ
 topic_word Overview = codes "help"
 topic_word Replay = codes "replay"
@@ -14,16 +14,17 @@ topic_word Live = codes "live"
 topic_word Session = codes "session"
 topic_word Uplink = codes "uplink"
 topic_word Frames = codes "frames"
+topic_word Faults = codes "faults"
 
--- all commands
-abbrev pub commands : List Topic
-commands = Replay ∷ Soak ∷ Live ∷ Session ∷ Uplink ∷ Frames ∷ []
+-- what a word can name
+abbrev pub named_topics : List Topic
+named_topics = Replay ∷ Soak ∷ Live ∷ Session ∷ Uplink ∷ Frames ∷ Faults ∷ []
 
--- the command that a word names
+-- the one that a word names
 abbrev pub topic_named : List ℕ → Option Topic
-topic_named word = find (λ topic. bytes_eq (topic_word topic) word) commands
+topic_named word = find (λ topic. bytes_eq (topic_word topic) word) named_topics
 
--- the help of a command, by the texts of src/texts.rt
+-- the help on it, by the texts of src/texts.rt
 abbrev pub help_text : Topic → List ℕ
 help_text Overview = text.OVERVIEW.now
 help_text Replay = text.REPLAY.now
@@ -32,6 +33,7 @@ help_text Live = text.LIVE.now
 help_text Session = text.SESSION.now
 help_text Uplink = text.UPLINK.now
 help_text Frames = text.FRAMES.now
+help_text Faults = text.FAULTS.now
 
 -- what `wf --version` writes
 abbrev pub version_text : List ℕ

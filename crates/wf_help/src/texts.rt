@@ -27,6 +27,7 @@ pub const OVERVIEW: &[u8] = b"wf: the transmit path of a Wi-Fi access point, dri
   wf soak SEED CALLS            plays calls made up from a number, and writes the summary
   wf live SEED SENDERS FRAMES   has threads make calls, and writes their trace and its summary
   wf help COMMAND               tells of a command; wf COMMAND --help does so too
+  wf help faults                tells what can be wrong with a trace or a script
   wf --version                  tells the version
 
 Commands read standard input, and take no name of a file: wf replay < FILE.
@@ -158,4 +159,27 @@ BlockAckReq and BlockAck the TID and the number. A packet has at most 262144 oct
 Example: wf frames < examples/five.pcap
 
 docs/CAPTURES.md has all of it.
+";
+
+/// What can be wrong with a trace or a script.
+pub const FAULTS: &[u8] = b"A fault ends a trace or a script.
+
+The last line on standard output is then: fault line N KIND. Lines count from 1, skipped
+ones too; a fault at the end of the input stands on the line behind the last. Of several kinds
+in one line the first of these is told:
+
+  too-big    the line does not end within the first 268435456 octets of the input
+  long-line  it has more than 160 characters, a comment too
+  not-ascii  an octet is not in 32..126, in a comment too: a tab (9), a letter outside ASCII,
+             a carriage return (13), with which lines of a text from Windows end (dos2unix)
+  word       a word is unknown: a call, a setting, or none of bk be vi vo, long short,
+             heard lost, a b, all in small letters; or cell stands where it may not
+  count      there are too many words or too few; a comment behind a call counts as words
+  number     a word is no number: one to ten digits, without a zero in front
+  range      a number is out of its range (wf help replay, wf help session, wf help uplink)
+  no-head    the first line of a trace is not cell
+  no-end     the input ends without the line end
+  too-long   it is one call more than the head allows, or the 65537th event of a session
+
+docs/TRACE.md has all of it. The faults of captures are in docs/CAPTURES.md.
 ";

@@ -5,7 +5,7 @@ ghost use Rattle.wf_help.specs.Topics.{help_text, topic_word, topic_named};
 
 use crate::texts;
 
-/// What help is asked for: all commands, or one.
+/// What help is asked for: all commands, one, or the faults of inputs.
 #[derive(Clone, Copy, Debug, PartialEq, Eq)]
 pub enum Topic {
     Overview,
@@ -15,19 +15,22 @@ pub enum Topic {
     Session,
     Uplink,
     Frames,
+    /// What can be wrong with a trace or a script.
+    Faults,
 }
 
-const COMMANDS: [Topic; 6] = [
+const NAMED: [Topic; 7] = [
     Topic::Replay,
     Topic::Soak,
     Topic::Live,
     Topic::Session,
     Topic::Uplink,
     Topic::Frames,
+    Topic::Faults,
 ];
 
 impl Topic {
-    /// The word of its command; `help` for all commands.
+    /// Its word: that of the command; `help` for all commands.
     pub fn word(self) -> &'static [u8]
         ensures { result.now ≡ topic_word self }
     {
@@ -39,14 +42,15 @@ impl Topic {
             Topic::Session => b"session",
             Topic::Uplink => b"uplink",
             Topic::Frames => b"frames",
+            Topic::Faults => b"faults",
         }
     }
 
-    /// The command that a word names.
+    /// The one that a word names; none names all commands.
     pub fn named(word: &[u8]) -> Option<Topic>
         ensures { result ≡ topic_named word.now }
     {
-        COMMANDS.iter().copied().find(|topic| topic.word() == word)
+        NAMED.iter().copied().find(|topic| topic.word() == word)
     }
 
     /// Its help: lines of at most 95 printable characters, which end in the octet 10.
@@ -61,6 +65,7 @@ impl Topic {
             Topic::Session => texts::SESSION,
             Topic::Uplink => texts::UPLINK,
             Topic::Frames => texts::FRAMES,
+            Topic::Faults => texts::FAULTS,
         }
     }
 }

@@ -64,6 +64,7 @@ fn question(topic: Topic) -> &'static str {
         Topic::Session => "wf: no such command; did you mean session?\n",
         Topic::Uplink => "wf: no such command; did you mean uplink?\n",
         Topic::Frames => "wf: no such command; did you mean frames?\n",
+        Topic::Faults => "wf: no such command; did you mean help faults?\n",
     }
 }
 
@@ -71,7 +72,7 @@ fn question(topic: Topic) -> &'static str {
 fn correction(topic: Topic) -> &'static str {
     match topic {
         Topic::Overview => {
-            "wf: there is help for replay, frames, session, uplink, soak and live, and for all by wf help\n"
+            "wf: there is help on replay, frames, session, uplink, soak, live and faults\n"
         }
         Topic::Replay => {
             "wf: replay takes no name of a file, and --pcap as its one option: wf replay < FILE\n"
@@ -83,6 +84,7 @@ fn correction(topic: Topic) -> &'static str {
         Topic::Session => "wf: session takes no name of a file: wf session < FILE\n",
         Topic::Uplink => "wf: uplink takes no name of a file: wf uplink < FILE\n",
         Topic::Frames => "wf: frames takes no name of a file: wf frames < FILE\n",
+        Topic::Faults => "wf: no such command; did you mean help faults?\n",
     }
 }
 
