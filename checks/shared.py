@@ -19,7 +19,12 @@ LIBRARY = TOP / "crates" / "wf_c" / "out" / "libwf.a"
 NAME = pathlib.Path(sys.argv[0]).name
 
 DONE, USAGE, BAD_INPUT, READ_FAULT, WRITE_FAULT, NO_MEMORY = range(6)
-LINES = {READ_FAULT: b"wf: read fault\n", WRITE_FAULT: b"wf: write fault\n", NO_MEMORY: b"wf: no memory\n"}
+LINES = {
+    BAD_INPUT: b"wf: a fault in the input, told in the last line of the output (wf help faults)\n",
+    READ_FAULT: b"wf: read fault\n",
+    WRITE_FAULT: b"wf: write fault\n",
+    NO_MEMORY: b"wf: no memory\n",
+}
 # What these commands write differs from run to run.
 UNSTEADY = {"live"}
 

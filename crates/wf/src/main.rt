@@ -1,4 +1,5 @@
-//! The program: `main` has the words, the real source and sink, the status, and the line on standard error.
+//! The program: `main` has the words, the real source and sink, the status, and what it says on standard
+//! error.
 #![tactic(auto)]
 
 use std::alloc::AllocError;
@@ -6,6 +7,7 @@ use std::env;
 use std::io::ErrorKind;
 use std::process::ExitCode;
 use wf_gate::Free;
+use wf_help::{advice, usage};
 use wf_io::{StdSink, StdSource};
 use wf_run::{Status, run};
 
@@ -20,18 +22,35 @@ fn words(rt: &HostRuntime) -> Result<Vec<String>, Status> {
         .map_err(|_: AllocError| Status::NoMemory)
 }
 
+// Says on standard error why a run ended that did not end well.
+fn explain(rt: &HostRuntime, status: Status, advice: &str) {
+    let message = match status {
+        Status::Usage => {
+            let _ = eprint!(rt; "{advice}{}", usage());
+            return;
+        }
+        Status::BadTrace =>
+            "wf: a fault in the input, told in the last line of the output (wf help faults)",
+        other => other.message(),
+    };
+    if !message.is_empty() {
+        let _ = eprintln!(rt; "{message}");
+    }
+}
+
 fn main(rt: HostRuntime) -> ExitCode {
     let status = match words(&rt) {
         Ok(words) => {
             let mut source = StdSource::new(rt.stdin());
             let mut sink = StdSink::new(rt.stdout());
-            run(&rt, rt.alloc(), &words, &mut source, &mut sink, &Free)
+            let status = run(&rt, rt.alloc(), &words, &mut source, &mut sink, &Free);
+            explain(&rt, status, advice(&words));
+            status
         }
-        Err(status) => status,
+        Err(status) => {
+            explain(&rt, status, "");
+            status
+        }
     };
-    let message = status.message();
-    if !message.is_empty() {
-        let _ = eprintln!(rt; "{message}");
-    }
     ExitCode::from(status.code())
 }

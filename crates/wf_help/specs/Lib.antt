@@ -1,3 +1,4 @@
+pub mod Commands
 pub mod Slips
 pub mod Telling
 pub mod Topics

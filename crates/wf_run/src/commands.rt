@@ -7,6 +7,9 @@ ghost use Rattle.wf_trace.specs.Reading.{reading};
 ghost use Rattle.wf_law_trace.specs.Endings.{FitsEnding};
 ghost use Rattle.wf_run_replay.specs.Outcome.{StatusSays};
 ghost use Rattle.wf_run.specs.Outcome.{SoakStatusSays};
+ghost use Rattle.wf_help.specs.Telling.{TellingStatusSays};
+ghost use Rattle.wf_help.specs.Topics.{help_text, version_text};
+ghost use Rattle.wf_help.specs.declared.topic.Topic.{Topic};
 ghost use Rattle.wf_frame.specs.Settings.{standard};
 ghost use Rattle.wf_law_runs.specs.Laws.{Laws};
 ghost use Rattle.wf_run_soak.specs.Soak.{soak_history};
@@ -14,7 +17,7 @@ ghost use Rattle.wf_run_live.specs.Lives.{IsLiveHistory, LiveStatusSays, TellsOf
 ghost use Rattle.wf_run_replay.specs.Texts.{text};
 ghost use Rattle.wf_def_world.specs.Run.{Entry};
 ghost use Rattle.wf_def_world.specs.Text.{text_of};
-ghost use Rattle.wf_run.specs.Commands.{command_of};
+ghost use Rattle.wf_help.specs.Commands.{command_of};
 ghost use Rattle.wf_law_runs.specs.Lengths.{HasLengths};
 ghost use Rattle.wf_law_trace.specs.Laws.{HasLaws};
 ghost use Rattle.wf_run_session.specs.Outcome.{SessionOutcome, SessionAnswered, SessionLaw};
@@ -23,11 +26,11 @@ ghost use Rattle.wf_run_frames.specs.Outcome.{FramesOutcome, FramesAnswered};
 ghost use Rattle.wf_run_frames.specs.Law.{FramesLaw};
 ghost use Rattle.wf_run_capture.specs.Outcome.{CaptureOutcome, CaptureLaw};
 
-use crate::words::{Command, command_from};
 use std::alloc::Global;
 use std::sync::Wait;
 use std::thread::Threads;
 use wf_gate::Turnstile;
+use wf_help::{Command, command_from, help, version};
 use wf_io::{Sink, Source, Status};
 use wf_report::summary;
 use wf_run_capture::capture;
@@ -56,8 +59,9 @@ pub fn soaked<K: Sink>(alloc: Global, seed: u64, calls: u32, sink: &mut K) -> St
 }
 
 /// Runs the command that the words are, on this source and sink: `replay`, `replay --pcap`, `soak SEED
-/// CALLS`, `live SEED SENDERS FRAMES`, `session`, `uplink` or `frames`. Only `live` makes threads and may
-/// wait; it calls the turnstile round each call at its gate.
+/// CALLS`, `live SEED SENDERS FRAMES`, `session`, `uplink` or `frames`; or tells of them, by `help`, `help
+/// COMMAND`, and `--help` or `-h` anywhere, or of the version, by `--version`. Only `live` makes threads and
+/// may wait; it calls the turnstile round each call at its gate.
 pub fn run<R: Threads + Wait + Sync, S: Source, K: Sink, T: Turnstile + Sync>(
     rt: &R,
     alloc: Global,
@@ -147,6 +151,18 @@ pub fn run<R: Threads + Wait + Sync, S: Source, K: Sink, T: Turnstile + Sync>(
         (input : List ℕ) → S.left source.old ≡ Some input → FramesAnswered input result }
     ensures frames_law { (input : List ℕ) → S.left source.old ≡ Some input → FramesLaw input }
 
+    // on `help`, `help COMMAND`, and `--help` or `-h` anywhere
+    ensures help { (topic : Topic) → command_of (map string_bytes words.now) ≡ Some (Command.Help topic) →
+        (source.new ≡ source.old)
+        × ((written : List ℕ) × (K.held sink.new ≡ append_known (K.held sink.old) written) ×
+        TellingStatusSays result (help_text topic) written) }
+
+    // on `--version`
+    ensures version { command_of (map string_bytes words.now) ≡ Some Command.Version →
+        (source.new ≡ source.old)
+        × ((written : List ℕ) × (K.held sink.new ≡ append_known (K.held sink.old) written) ×
+        TellingStatusSays result version_text written) }
+
     // on all
     ensures read { result ≡ Status.ReadFault → HasRisen (S.faults source.old) (S.faults source.new) }
     ensures source_quiet { result ≢ Status.ReadFault → S.faults source.new ≡ S.faults source.old }
@@ -168,5 +184,7 @@ pub fn run<R: Threads + Wait + Sync, S: Source, K: Sink, T: Turnstile + Sync>(
         Some(Command::Session) => session(alloc, source, sink),
         Some(Command::Uplink) => uplink(alloc, source, sink),
         Some(Command::Frames) => frames(alloc, source, sink),
+        Some(Command::Help(topic)) => help(topic, sink),
+        Some(Command::Version) => version(sink),
     }
 }

@@ -1,12 +1,11 @@
 //! All commands of the program, over any source and sink: `run`, the one call of them all, and `soaked`, with
 //! the headline's clauses: a replay of a trace, and its capture, a soak, a run on threads, a session, an
-//! uplink, and the list of a capture.
+//! uplink, the list of a capture, help and the version.
 #![tactic(auto)]
 
 mod commands;
-mod words;
 
 pub use commands::{run, soaked};
+pub use wf_help::Command;
 pub use wf_io::Status;
 pub use wf_run_replay::replay;
-pub use words::Command;

@@ -232,3 +232,63 @@ returns-in-Some-Capture-clause-live_lengths g c = live_lengths
 
 pub returns-in-Some-Live-clause-capture_law : goal.returns-in-Some-Live-clause-capture_law
 returns-in-Some-Live-clause-capture_law g c = λ input told. law_of_capture input
+
+pub returns-in-Some-Help-clause-laws : goal.returns-in-Some-Help-clause-laws
+returns-in-Some-Help-clause-laws g c = λ input told. trace_laws true input
+
+pub returns-in-Some-Help-clause-soak_laws : goal.returns-in-Some-Help-clause-soak_laws
+returns-in-Some-Help-clause-soak_laws g c = soak_laws
+
+pub returns-in-Some-Help-clause-soak_lengths : goal.returns-in-Some-Help-clause-soak_lengths
+returns-in-Some-Help-clause-soak_lengths g c = soak_lengths
+
+pub returns-in-Some-Help-clause-session_law : goal.returns-in-Some-Help-clause-session_law
+returns-in-Some-Help-clause-session_law g c = λ input told. law_of_session input
+
+pub returns-in-Some-Help-clause-uplink_law : goal.returns-in-Some-Help-clause-uplink_law
+returns-in-Some-Help-clause-uplink_law g c = λ input told. law_of_uplink input
+
+pub returns-in-Some-Help-clause-frames_law : goal.returns-in-Some-Help-clause-frames_law
+returns-in-Some-Help-clause-frames_law g c = λ input told. law_of_frames input
+
+pub returns-in-Some-Help-clause-live_again : goal.returns-in-Some-Help-clause-live_again
+returns-in-Some-Help-clause-live_again g c = live_again
+
+pub returns-in-Some-Help-clause-live_laws : goal.returns-in-Some-Help-clause-live_laws
+returns-in-Some-Help-clause-live_laws g c = live_laws
+
+pub returns-in-Some-Help-clause-live_lengths : goal.returns-in-Some-Help-clause-live_lengths
+returns-in-Some-Help-clause-live_lengths g c = live_lengths
+
+pub returns-in-Some-Help-clause-capture_law : goal.returns-in-Some-Help-clause-capture_law
+returns-in-Some-Help-clause-capture_law g c = λ input told. law_of_capture input
+
+pub returns-in-Some-Version-clause-laws : goal.returns-in-Some-Version-clause-laws
+returns-in-Some-Version-clause-laws g c = λ input told. trace_laws true input
+
+pub returns-in-Some-Version-clause-soak_laws : goal.returns-in-Some-Version-clause-soak_laws
+returns-in-Some-Version-clause-soak_laws g c = soak_laws
+
+pub returns-in-Some-Version-clause-soak_lengths : goal.returns-in-Some-Version-clause-soak_lengths
+returns-in-Some-Version-clause-soak_lengths g c = soak_lengths
+
+pub returns-in-Some-Version-clause-session_law : goal.returns-in-Some-Version-clause-session_law
+returns-in-Some-Version-clause-session_law g c = λ input told. law_of_session input
+
+pub returns-in-Some-Version-clause-uplink_law : goal.returns-in-Some-Version-clause-uplink_law
+returns-in-Some-Version-clause-uplink_law g c = λ input told. law_of_uplink input
+
+pub returns-in-Some-Version-clause-frames_law : goal.returns-in-Some-Version-clause-frames_law
+returns-in-Some-Version-clause-frames_law g c = λ input told. law_of_frames input
+
+pub returns-in-Some-Version-clause-live_again : goal.returns-in-Some-Version-clause-live_again
+returns-in-Some-Version-clause-live_again g c = live_again
+
+pub returns-in-Some-Version-clause-live_laws : goal.returns-in-Some-Version-clause-live_laws
+returns-in-Some-Version-clause-live_laws g c = live_laws
+
+pub returns-in-Some-Version-clause-live_lengths : goal.returns-in-Some-Version-clause-live_lengths
+returns-in-Some-Version-clause-live_lengths g c = live_lengths
+
+pub returns-in-Some-Version-clause-capture_law : goal.returns-in-Some-Version-clause-capture_law
+returns-in-Some-Version-clause-capture_law g c = λ input told. law_of_capture input

@@ -1,8 +1,10 @@
 //! The commands, by the words of the command line.
 
 ghost use Rattle.std.specs.Prelude.{◌≡◌, ◌≤◌, IfSome, map, string_bytes};
-ghost use Rattle.wf_run.specs.Commands.{number_within, soak_of, live_of, command_of, HasCallsInRange};
+ghost use Rattle.std.specs.List.{list_any};
+ghost use Rattle.wf_help.specs.Commands.{number_within, soak_of, live_of, asks_help, topic_among, help_on, played_command_of, command_of, HasCallsInRange};
 
+use crate::Topic;
 use wf_io::value_of;
 use wf_trace::is_plain_number;
 
@@ -30,6 +32,10 @@ pub enum Command {
     Uplink,
     /// List the packets of the capture file on standard input.
     Frames,
+    /// Tell of a command, or of all.
+    Help(Topic),
+    /// Tell the version.
+    Version,
 }
 
 /// The number that a word is, where it lies between two.
@@ -82,12 +88,66 @@ fn live_of(seed: Option<u64>, senders: Option<u64>, frames: Option<u64>) -> Opti
     }
 }
 
+// Whether a word asks for help wherever it stands.
+fn asks_help(word: &[u8]) -> bool
+    ensures { result ≡ asks_help word.now }
+{
+    word == b"--help".as_slice() || word == b"-h".as_slice()
+}
+
+// Whether one of the words does.
+fn any_asks_help(words: &[String]) -> bool
+    ensures { result ≡ list_any asks_help (map string_bytes words.now) }
+{
+    match words {
+        [] => false,
+        [word, rest @ ..] => asks_help(word.as_bytes()) || any_asks_help(rest),
+    }
+}
+
+// The command of which words that ask for help want to know: the first that one of them names, or all.
+fn topic_among(words: &[String]) -> Topic
+    ensures { result ≡ topic_among (map string_bytes words.now) }
+{
+    match words {
+        [] => Topic::Overview,
+        [word, rest @ ..] => match Topic::named(word.as_bytes()) {
+            Some(topic) => topic,
+            None => topic_among(rest),
+        },
+    }
+}
+
+// The help on the command that a word names.
+fn help_on(word: &[u8]) -> Option<Command>
+    ensures { result ≡ help_on word.now }
+{
+    match Topic::named(word) {
+        Some(topic) => Some(Command::Help(topic)),
+        None => None,
+    }
+}
+
 /// The command that the words are, if they are one.
 pub fn command_from(words: &[String]) -> Option<Command>
     ensures command { result ≡ command_of (map string_bytes words.now) }
     ensures calls { IfSome result HasCallsInRange }
 {
+    if any_asks_help(words) {
+        Some(Command::Help(topic_among(words)))
+    } else {
+        played_command_from(words)
+    }
+}
+
+// The same, where no word asks for help wherever it stands.
+fn played_command_from(words: &[String]) -> Option<Command>
+    ensures command { result ≡ played_command_of (map string_bytes words.now) }
+    ensures calls { IfSome result HasCallsInRange }
+{
     match words {
+        [word] if word.as_str() == "help" => Some(Command::Help(Topic::Overview)),
+        [word] if word.as_str() == "--version" => Some(Command::Version),
         [word] if word.as_str() == "replay" => Some(Command::Replay),
         [word] if word.as_str() == "session" => Some(Command::Session),
         [word] if word.as_str() == "uplink" => Some(Command::Uplink),
@@ -95,6 +155,7 @@ pub fn command_from(words: &[String]) -> Option<Command>
         [word, option] if word.as_str() == "replay" && option.as_str() == "--pcap" => {
             Some(Command::Capture)
         }
+        [word, topic] if word.as_str() == "help" => help_on(topic.as_bytes()),
         [word, seed, calls] if word.as_str() == "soak" => soak_of(
             number_within(0, u64::MAX, seed.as_bytes()),
             number_within(1, 1_000_000, calls.as_bytes()),
