@@ -29,6 +29,15 @@ LINES = {
 UNSTEADY = {"live"}
 
 
+def is_line_of(status, errors):
+    """Whether standard error has the line of a status, and of a fault in the input at most one more, which tells where it stands."""
+    line = LINES.get(status, b"")
+    more = errors.removeprefix(line)
+    if status != BAD_INPUT or not more:
+        return errors == line
+    return errors.startswith(line) and more.startswith(b"wf: ") and more.count(b"\n") == 1 and more.endswith(b"\n")
+
+
 class Difference(Exception):
     """A run went otherwise than it has to."""
 

@@ -7,8 +7,8 @@ use std::env;
 use std::io::ErrorKind;
 use std::process::ExitCode;
 use wf_gate::Free;
-use wf_help::{advice, usage};
-use wf_io::{StdSink, StdSource};
+use wf_help::{NotedSink, NotedSource, advice, command_from, explain, usage};
+use wf_io::{Line, Source, StdSink, StdSource, write_line};
 use wf_run::{Status, run};
 
 // The words after the program's name. One that is not UTF-8 is no word of a command.
@@ -23,7 +23,7 @@ fn words(rt: &HostRuntime) -> Result<Vec<String>, Status> {
 }
 
 // Says on standard error why a run ended that did not end well.
-fn explain(rt: &HostRuntime, status: Status, advice: &str) {
+fn say(rt: &HostRuntime, status: Status, advice: &str) {
     let message = match status {
         Status::Usage => {
             let _ = eprint!(rt; "{advice}{}", usage());
@@ -38,17 +38,33 @@ fn explain(rt: &HostRuntime, status: Status, advice: &str) {
     }
 }
 
+// Says on standard error where the fault of a trace or a script stands, by the line that was written last.
+fn say_fault<S: Source>(
+    rt: &HostRuntime,
+    words: &[String],
+    told: &[u8],
+    source: &mut NotedSource<S>,
+) {
+    let mut line = Line::new();
+    explain(command_from(words), told, source, &mut line);
+    let mut errors = StdSink::new(rt.stderr());
+    let _ = write_line(&mut errors, &line);
+}
+
 fn main(rt: HostRuntime) -> ExitCode {
     let status = match words(&rt) {
         Ok(words) => {
-            let mut source = StdSource::new(rt.stdin());
-            let mut sink = StdSink::new(rt.stdout());
+            let mut source = NotedSource::new(StdSource::new(rt.stdin()));
+            let mut sink = NotedSink::new(StdSink::new(rt.stdout()));
             let status = run(&rt, rt.alloc(), &words, &mut source, &mut sink, &Free);
-            explain(&rt, status, advice(&words));
+            say(&rt, status, advice(&words));
+            if status == Status::BadTrace {
+                say_fault(&rt, &words, sink.line(), &mut source);
+            }
             status
         }
         Err(status) => {
-            explain(&rt, status, "");
+            say(&rt, status, "");
             status
         }
     };

@@ -36,6 +36,31 @@ fn is_slip_of(word: &[u8], known: &[u8]) -> bool
     }
 }
 
+// A letter as a small one.
+fn small(octet: u8) -> u8 {
+    if b'A' <= octet && octet <= b'Z' {
+        octet + 32
+    } else {
+        octet
+    }
+}
+
+// Whether a word is a known one but for capital letters.
+fn is_in_capitals(word: &[u8], known: &[u8]) -> bool {
+    for (i, octet) in word.iter().enumerate() {
+        match known.get(i) {
+            Some(other) if *other == small(*octet) => {}
+            _ => return false,
+        }
+    }
+    word.len() == known.len()
+}
+
+/// Whether a word is a known one but for one slip, or for capital letters.
+pub fn is_near(word: &[u8], known: &[u8]) -> bool {
+    is_slip_of(word, known) || is_in_capitals(word, known)
+}
+
 const WORDS: [Topic; 7] = [
     Topic::Replay,
     Topic::Soak,
