@@ -5,6 +5,7 @@ ghost use Rattle.wf_frame.specs.declared.notes.Note.TheVariants.{Asked};
 ghost use Rattle.wf_def_world.specs.Run.{Past, by};
 ghost use Rattle.wf_live_workers.specs.Opening.{with_entries, station_calls, opening_calls};
 
+use crate::{standard_join, standard_rate};
 use wf_frame::Ask;
 
 /// The caller that makes the opening calls. No seat at a gate has this number.
@@ -27,30 +28,12 @@ fn open_station<M: Opens>(machine: &mut M, station: u16)
     requires few { station < 8 }
     ensures past { M.past machine.new ≡ with_entries (station_calls station) (M.past machine.old) }
 {
-    machine.ask(
-        OPENER,
-        Ask::Join {
-            station,
-            window: 64,
-            start: 512 * station,
-            exponent: 3,
-            weight: 1,
-        },
-    );
-    machine.ask(
-        OPENER,
-        Ask::Rate {
-            station,
-            mcs: (station % 8) as u8,
-            mhz: 20,
-            short: false,
-        },
-    );
+    machine.ask(OPENER, standard_join(station, 512 * station));
+    machine.ask(OPENER, standard_rate(station));
 }
 
-/// The caller 65535 lets so many stations join, at most 8: each with a window of 64 numbers from 512 times
-/// its own number on, the greatest exponent and the weight 1; and sets its rate, at 20 MHz with the long
-/// guard interval, to the MCS of its number. The history has room for two calls of each.
+/// The caller 65535 lets so many standard stations join, at most 8: each with a window from 512 times its
+/// own number on; and sets their rates. The history has room for two calls of each.
 pub fn open_stations<M: Opens>(machine: &mut M, stations: u16)
     requires room { length (M.past machine.old).history + 2 * stations ≤ (M.past machine.old).config.calls }
     requires few { stations ≤ 8 }

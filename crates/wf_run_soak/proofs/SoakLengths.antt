@@ -3,11 +3,12 @@ use Rattle.std.proofs.Common.{◌==◌, ◌-◌, ◌+◌, ◌/◌, ◌%◌, ℕ,
 use Rattle.std.specs.Prelude.{Option, Some, None}
 use Rattle.wf_frame.specs.declared.classes.Class.{Class}
 use Rattle.wf_frame.specs.declared.notes.Ask.{Ask}
-use Rattle.wf_frame.specs.declared.notes.Ask.TheVariants.{Join, Rate, Tick, Pull, Arrive, Answer, Sleep, Wake, Poll, Rx, Reap}
+use Rattle.wf_frame.specs.declared.notes.Ask.TheVariants.{Tick, Pull, Arrive, Answer, Sleep, Wake, Poll, Rx, Reap}
 use Rattle.wf_frame.specs.declared.classes.Class.TheVariants.{Be}
 use Rattle.wf_frame.specs.declared.notes.Note.{Note}
 use Rattle.wf_frame.specs.declared.notes.Note.TheVariants.{Asked}
 use Rattle.wf_def_world.specs.Run.{Entry, by}
+use Rattle.wf_live_workers.specs.Stations.{standard_join, standard_rate}
 use Rattle.wf_run_soak.specs.Lengths.{HasSoakLength, HaveSoakLengths}
 use Rattle.wf_run_soak.specs.Soak.{Soak, call, reply_to, stations_join, station_joins, frame_for, frame_put, word, drawn, air_used, sleeper_called, lets_arrive, transmission_sent, all_sent, some_arrive, after_answer_if, exchange_ended, exchange_played, sending, sending_played, class_in_round, after_pull, is_nothing, after_reaps, round_played, rounds_played, soak_begun, soak_history}
 
@@ -38,8 +39,8 @@ joined : (s n : ℕ) (k : Soak) → Keeps k → Keeps (stations_join s n k)
 unfolding stations_join
 joined s zero k before = before
 joined s (suc n) k before =
-    joined (suc s) n (station_joins s k) (asked (Rate s (s % 8) 20 false)
-    (call (Asked (Join s 64 (4080 + s) 3 1)) k) (asked (Join s 64 (4080 + s) 3 1) k before))
+    joined (suc s) n (station_joins s k) (asked (standard_rate s)
+    (call (Asked (standard_join s (4080 + s))) k) (asked (standard_join s (4080 + s)) k before))
 
 within : (station w : ℕ) → HasSoakLength (frame_for station w)
 within station w = (omega arith, omega arith)

@@ -7,7 +7,7 @@ use Rattle.rand_pcg.specs.Pcg.{pcg32, multiplier_64}
 use Rattle.wf_frame.specs.Settings.{standard}
 use Rattle.wf_frame.specs.declared.classes.Class.{Class}
 use Rattle.wf_frame.specs.declared.classes.Class.TheVariants.{Bk, Be, Vi, Vo}
-use Rattle.wf_frame.specs.declared.notes.Ask.TheVariants.{Join, Rate, Tick, Pull, Arrive, Answer, Done, Sleep, Wake, Poll, Rx, Reap}
+use Rattle.wf_frame.specs.declared.notes.Ask.TheVariants.{Tick, Pull, Arrive, Answer, Done, Sleep, Wake, Poll, Rx, Reap}
 use Rattle.wf_frame.specs.declared.notes.Note.{Note}
 use Rattle.wf_frame.specs.declared.notes.Note.TheVariants.{Enqueue, Asked}
 use Rattle.wf_frame.specs.declared.notes.Part.{Part}
@@ -19,6 +19,7 @@ use Rattle.wf_def_lists.specs.Table.{at}
 use Rattle.wf_def_world.specs.World.{World, opening}
 use Rattle.wf_def_world.specs.Step.{step}
 use Rattle.wf_def_world.specs.Run.{Entry, by, world_after}
+use Rattle.wf_live_workers.specs.Stations.{standard_join, standard_rate}
 
 -- a soak under way: the calls so far, the words to come, and how many calls are left
 pub record Soak : Type 0 where
@@ -50,8 +51,9 @@ reply_to note k = if k.left == 0 then None else Some (step (machine_of k) note).
 
 -- ---- the stations
 
+-- a standard station joins, with a window from the number 4080 + s on, and its rate is set
 abbrev pub station_joins : ℕ → Soak → Soak
-station_joins s k = call (Asked (Rate s (s % 8) 20 false)) (call (Asked (Join s 64 (4080 + s) 3 1)) k)
+station_joins s k = call (Asked (standard_rate s)) (call (Asked (standard_join s (4080 + s))) k)
 
 -- n stations join, from station s on
 unfoldable pub stations_join : ℕ → ℕ → Soak → Soak

@@ -15,6 +15,7 @@ use std::alloc::{AllocError, Global};
 use std::marker::Model;
 use wf_cell::{Cell, Job};
 use wf_frame::{Answer, Ask, Brief, Class, Config, Frame, Refusal};
+use wf_live_workers::{standard_join, standard_rate};
 use wf_queue_chain::Parcel;
 
 /// A soak under way: the cell, whose history has the calls so far, the words to come, and how many calls are
@@ -112,25 +113,8 @@ impl SoakRun {
         ensures made { self.new ≡ station_joins station self.old }
         ensures later { IsLater self.old self.new }
     {
-        self.ask(
-            Ask::Join {
-                station,
-                window: 64,
-                start: 4080 + station,
-                exponent: 3,
-                weight: 1,
-            },
-            answer,
-        );
-        self.ask(
-            Ask::Rate {
-                station,
-                mcs: (station % 8) as u8,
-                mhz: 20,
-                short: false,
-            },
-            answer,
-        );
+        self.ask(standard_join(station, 4080 + station), answer);
+        self.ask(standard_rate(station), answer);
     }
 
     /// The sixteen stations join, each with its rate.
