@@ -506,7 +506,8 @@ front_as : (text other : Reading → List ℕ) (r : Reading) (written : List ℕ
     IsFrontOf written (text r) → IsFrontOf written (other r)
 front_as text other r written same front = (front.0, sym same ∙ front.1)
 
-outcome_as : (calls other_calls text other_text : Reading → List ℕ) →
+-- and so is what a status says of them
+pub outcome_as : (calls other_calls text other_text : Reading → List ℕ) →
     ((closed : Bool) (octets : List ℕ) → calls (reading closed octets)
     ≡ other_calls (reading closed octets)) →
     ((closed : Bool) (octets : List ℕ) → text (reading closed octets) ≡ other_text (reading closed octets)) →

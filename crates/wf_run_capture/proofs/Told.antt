@@ -1,9 +1,8 @@
 -- What is written call by call is the capture of a trace.
 use Rattle.std.proofs.Common.{◌≡◌, ℕ, List, [], ◌∷◌, ◌++◌, append-nil, refl, sym, ◌∙◌, ap}
 use Rattle.std.specs.Prelude.{Option, Some, None}
-use Rattle.std.specs.Io.KnownBytes.{prepend_known, append_known}
 use Rattle.wf_frame.specs.declared.settings.Config.{Config}
-use Rattle.wf_trace.specs.Reading.{Reading}
+use Rattle.wf_trace.specs.Reading.{Reading, reading}
 use Rattle.wf_io.specs.declared.status.Status.{Status}
 use Rattle.wf_pcap.specs.Capture.{file_head_octets}
 use Rattle.wf_def_world.specs.World.{World, opening}
@@ -15,7 +14,8 @@ use Rattle.wf_captures.specs.Packets.{octets_of_packets}
 use Rattle.wf_captures.proofs.Entries.{octets_of-append}
 use Rattle.wf_law_trace.specs.Histories.{settings_among, history_among}
 use Rattle.wf_law_trace.specs.Tellings.{told_calls, begun, told_so_far, told_whole}
-use Rattle.wf_law_trace.proofs.Tellings.{Ended, said_as}
+use Rattle.wf_law_trace.specs.Outcomes.{TraceOutcome}
+use Rattle.wf_law_trace.proofs.Tellings.{outcome_as}
 use Rattle.wf_run_capture.specs.Captured.{packets_with, captured, telling}
 use Rattle.wf_run_capture.specs.Outcome.{CaptureOutcome}
 
@@ -37,10 +37,11 @@ so_far_is r = so_far_of (settings_among r.items) (history_among r.items)
 whole_is : (r : Reading) → told_whole telling r ≡ captured r
 whole_is r = append-nil (told_so_far telling r) ∙ so_far_is r
 
--- a status said item by item says what its contract states
-pub said : (status : Status) (left left_new held held_new : Option (List ℕ)) →
-    Ended telling status left left_new held held_new →
-    (taken written : List ℕ) × (left ≡ prepend_known taken left_new) ×
-    (held_new ≡ append_known held written) × ((input : List ℕ) → left ≡ Some input →
-    CaptureOutcome status input taken written)
-said = said_as telling captured captured so_far_is whole_is
+-- what a status says of the telling is what it says of a capture
+pub said : (status : Status) (input taken written : List ℕ) →
+    TraceOutcome (λ (r : Reading). told_so_far telling r) (λ (r : Reading). told_whole telling r) status input
+    taken written → CaptureOutcome status input taken written
+said = outcome_as (λ (r : Reading). told_so_far telling r) captured
+    (λ (r : Reading). told_whole telling r) captured
+    (λ closed octets. so_far_is (reading closed octets))
+    (λ closed octets. whole_is (reading closed octets))

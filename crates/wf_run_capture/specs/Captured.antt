@@ -1,14 +1,12 @@
 -- *Capture* of a trace: what its run puts on the air.
 use Rattle.std.specs.Prelude.{ℕ, List, [], Option, Some, None}
 use Rattle.wf_frame.specs.declared.settings.Config.{Config}
-use Rattle.wf_trace.specs.declared.reader.Item.{Item}
 use Rattle.wf_trace.specs.Reading.{Reading}
 use Rattle.wf_pcap.specs.Capture.{file_head_octets}
 use Rattle.wf_run_frames.specs.Law.{Sent, capture_of_packets}
-use Rattle.wf_def_world.specs.World.{World}
 use Rattle.wf_def_world.specs.Run.{Entry}
 use Rattle.wf_law_trace.specs.Histories.{settings_among, history_among}
-use Rattle.wf_law_trace.specs.Tellings.{Telling, told_item}
+use Rattle.wf_law_trace.specs.Tellings.{Telling}
 use Rattle.wf_captures.specs.Captures.{packets_of, packets_in}
 
 -- the packets of a history; without a head there are none
@@ -27,7 +25,3 @@ captured r = capture_of_packets (packets_captured r)
 -- the file header ahead, the packets of each call, and nothing behind the last one
 abbrev pub telling : Telling
 telling = record { front = file_head_octets; call = packets_of; last = λ world calls ending. [] }
-
--- what an item adds
-abbrev pub packets_of_item : Option World → Item → List ℕ
-packets_of_item w item = told_item telling w item

@@ -7,10 +7,10 @@ ghost use Rattle.wf_law_trace.specs.Endings.{FitsEnding};
 ghost use Rattle.wf_trace.specs.Reading.{reading};
 ghost use Rattle.wf_run_capture.specs.Outcome.{CaptureOutcome, CaptureLaw};
 
-use crate::runner::write_capture;
+use crate::packets::Packets;
 use std::alloc::Global;
 use wf_io::{Sink, Source, Status};
-use wf_run_replay::Stage;
+use wf_run_replay::{Stage, play};
 
 /// Replays a trace from the source as a capture file: the file header first, and for each call, before the
 /// source is read again, a packet for each transmission of the exchange that it opens, or for the BlockAck
@@ -30,5 +30,5 @@ pub fn capture<S: Source, K: Sink>(alloc: Global, source: &mut S, sink: &mut K) 
         (input : List ℕ) → S.left source.old ≡ Some input → FitsEnding (reading true input).ending result }
     ensures law { (input : List ℕ) → S.left source.old ≡ Some input → CaptureLaw input }
 {
-    write_capture::<Stage, S, K>(alloc, source, sink)
+    play::<Packets, Stage, S, K>(alloc, &mut Packets, source, sink)
 }

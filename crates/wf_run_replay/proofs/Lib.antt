@@ -1,3 +1,4 @@
-pub mod Cells
+mod Cells
 mod Sendings
+mod Tellings
 mod Texts

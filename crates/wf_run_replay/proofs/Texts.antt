@@ -1,22 +1,21 @@
 -- What a replay tells call by call is its text.
-use Rattle.std.proofs.Common.{◌≡◌, ℕ, List, [], ◌∷◌, ◌++◌, length, append-nil, refl, sym, ◌∙◌, ap, subst}
+use Rattle.std.proofs.Common.{◌≡◌, ℕ, List, [], ◌∷◌, ◌++◌, length, true, append-nil, refl, sym, ◌∙◌, ap, subst}
 use Rattle.std.specs.Prelude.{Option, Some, None, option_map, map}
 use Rattle.std.specs.List.{concat}
-use Rattle.std.specs.Io.KnownBytes.{prepend_known, append_known}
 use Rattle.wf_frame.specs.declared.settings.Config.{Config}
-use Rattle.wf_trace.specs.declared.fault.Fault.{Fault}
 use Rattle.wf_trace.specs.declared.reader.Item.{Item}
 use Rattle.wf_trace.specs.declared.reader.Item.TheVariants.{Head, Entry, Finish, Bad}
-use Rattle.wf_trace.specs.Faults.{fault_line}
-use Rattle.wf_trace.specs.Reading.{Reading}
+use Rattle.wf_trace.specs.Reading.{Reading, reading}
 use Rattle.wf_io.specs.declared.status.Status.{Status}
+use Rattle.wf_io.specs.declared.status.Status.TheVariants.{NoMemory}
 use Rattle.wf_def_world.specs.World.{World, opening}
 use Rattle.wf_def_world.specs.Step.{Outcome, step}
 use Rattle.wf_def_world.specs.Run.{Entry as Called, Past, replies, world_of, world_after}
 use Rattle.wf_def_world.specs.Text.{answer_line, summary}
 use Rattle.wf_law_trace.specs.Histories.{settings_among, history_among}
 use Rattle.wf_law_trace.specs.Tellings.{told_calls, begun, world_behind, told_so_far, told_whole}
-use Rattle.wf_law_trace.proofs.Tellings.{Ended, said_as}
+use Rattle.wf_law_trace.specs.Outcomes.{TraceOutcome}
+use Rattle.wf_law_trace.proofs.Tellings.{outcome_as}
 use Rattle.wf_run_replay.specs.Outcome.{StatusSays}
 use Rattle.wf_run_replay.specs.Running.{closing, closing_of, telling}
 use Rattle.wf_run_replay.specs.Texts.{answers_of, text_by, answers, text}
@@ -63,13 +62,18 @@ whole_of (Some config) history ending =
 whole_is : (r : Reading) → told_whole telling r ≡ text r
 whole_is r = whole_of (settings_among r.items) (history_among r.items) r.ending
 
--- a status said item by item says what its contract states
-pub said : (status : Status) (left left_new held held_new : Option (List ℕ)) →
-    Ended telling status left left_new held held_new →
-    (taken written : List ℕ) × (left ≡ prepend_known taken left_new) ×
-    (held_new ≡ append_known held written) × ((input : List ℕ) → left ≡ Some input →
-    StatusSays status input taken written)
-said = said_as telling answers text so_far_is whole_is
+-- what a status says of the telling is what it says of a replay
+pub said : (status : Status) (input taken written : List ℕ) →
+    TraceOutcome (λ (r : Reading). told_so_far telling r) (λ (r : Reading). told_whole telling r) status input
+    taken written → StatusSays status input taken written
+said = outcome_as (λ (r : Reading). told_so_far telling r) answers
+    (λ (r : Reading). told_whole telling r) text
+    (λ closed octets. so_far_is (reading closed octets))
+    (λ closed octets. whole_is (reading closed octets))
+
+-- without memory for what waits nothing was taken, and nothing written
+pub unsaid : (input : List ℕ) → StatusSays NoMemory input [] []
+unsaid input = (text (reading true input), refl)
 
 -- the last lines of a stage with this history
 pub closing_is : {T : Type 0} → (past : T → Past) (stage : Option T) (x : T) (p : Past) → stage ≡ Some x →
@@ -78,9 +82,3 @@ pub closing_is : {T : Type 0} → (past : T → Past) (stage : Option T) (x : T)
 closing_is past stage x p some is =
     subst (λ y. summary (world_of p) (length p.history) ≡ closing_of (option_map past y)) (sym some)
     (ap (λ (q : Past). summary (world_of q) (length q.history)) is)
-
--- the line of a fault is the last one, whatever came before
-pub fault_closes : (w : Option World) (calls : ℕ) (fault : Fault) →
-    fault_line fault ≡ closing w calls (Some (Bad fault))
-fault_closes None calls fault = refl
-fault_closes (Some w) calls fault = refl

@@ -9,7 +9,7 @@ use Rattle.wf_def_world.specs.Step.{Outcome, step}
 use Rattle.wf_def_world.specs.Run.{Past}
 use Rattle.wf_def_world.specs.Text.{answer_line, summary}
 use Rattle.wf_law_trace.specs.Running.{progress_of}
-use Rattle.wf_law_trace.specs.Tellings.{Telling, told_item}
+use Rattle.wf_law_trace.specs.Tellings.{Telling}
 
 -- the answer line to a call
 abbrev pub answer_in : World → Note → List ℕ
@@ -28,10 +28,10 @@ closing w calls None = []
 abbrev pub telling : Telling
 telling = record { front = []; call = answer_in; last = closing }
 
--- what an item adds
-abbrev pub answer_to : Option World → Item → List ℕ
-answer_to w item = told_item telling w item
+-- the last octets of a telling behind a history, where the trace ends
+abbrev pub told_at_end : Telling → Option Past → List ℕ
+told_at_end t p = t.last (progress_of p).world (progress_of p).calls (Some Finish)
 
--- the last lines of a history, where the trace ends
+-- those of a replay
 abbrev pub closing_of : Option Past → List ℕ
-closing_of p = closing (progress_of p).world (progress_of p).calls (Some Finish)
+closing_of p = told_at_end telling p

@@ -8,8 +8,8 @@ ghost use Rattle.wf_law_trace.specs.Endings.{FitsEnding};
 ghost use Rattle.wf_law_trace.specs.Laws.{HasLaws};
 ghost use Rattle.wf_run_replay.specs.Outcome.{StatusSays};
 
-use crate::Stage;
-use crate::runner::play;
+use crate::answers::AnswerLines;
+use crate::{Stage, play};
 use std::alloc::Global;
 use wf_io::{Sink, Source, Status};
 
@@ -30,5 +30,8 @@ pub fn replay<S: Source, K: Sink>(alloc: Global, source: &mut S, sink: &mut K) -
         (HasRisen (K.faults sink.old) (K.faults sink.new) → ⊥) →
         (input : List ℕ) → S.left source.old ≡ Some input → FitsEnding (reading true input).ending result }
 {
-    play::<Stage, S, K>(alloc, source, sink)
+    let Ok(mut lines) = AnswerLines::new(alloc) else {
+        return Status::NoMemory;
+    };
+    play::<AnswerLines, Stage, S, K>(alloc, &mut lines, source, sink)
 }

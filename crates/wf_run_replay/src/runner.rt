@@ -1,87 +1,112 @@
-//! A replay: the calls of a trace, made to a cell one after the other.
+//! A trace is played: its calls are made to a stage one after the other, and told.
 
-ghost use Rattle.std.specs.Prelude.{◌≡◌, ◌≢◌, ◌<◌, ◌++◌, [], ℕ, List, Some, None, IsSomeAnd, OnOk, option_map};
+ghost use Rattle.std.specs.Prelude.{◌≡◌, ◌≢◌, ◌<◌, ◌++◌, [], ℕ, List, Some, Err, IsSomeAnd, IsTrue, OnOk, option_map};
 ghost use Rattle.std.specs.Io.KnownBytes.{prepend_known, append_known};
 ghost use Rattle.wf_cell.specs.Cells.{room_in, with_entry};
-ghost use Rattle.wf_io.specs.Faults.{HasRisen, CountsFaults};
+ghost use Rattle.wf_io.specs.Faults.{HasRisen};
 ghost use Rattle.wf_law_runs.specs.Queues.{HasLength, IsAtMost};
 ghost use Rattle.wf_def_lists.specs.Lengths.{greatest_body};
 ghost use Rattle.wf_io.specs.Fronts.{HoldsFront};
 ghost use Rattle.wf_trace.specs.declared.reader.Item.TheVariants as item;
-ghost use Rattle.wf_def_world.specs.Run.{by};
+ghost use Rattle.wf_def_world.specs.Run.{by, world_of};
+ghost use Rattle.wf_law_trace.specs.Leaving.{Leaves};
+ghost use Rattle.wf_law_trace.specs.Outcomes.{TraceOutcome};
 ghost use Rattle.wf_law_trace.specs.Running.{world_in};
-ghost use Rattle.wf_run_replay.specs.Running.{answer_to, closing_of};
-ghost use Rattle.wf_run_replay.specs.Outcome.{StatusSays};
+ghost use Rattle.wf_law_trace.specs.Tellings.{told_item, told_so_far, told_whole};
 
-use crate::Plays;
-use crate::outgoing::Outgoing;
-use std::alloc::{AllocError, Global};
+use crate::{Plays, Tells};
+use std::alloc::Global;
 use wf_frame::{Answer, Note};
-use wf_io::{Failed, Line, Sink, Source, Status};
-use wf_report::{print_reply, summary};
-use wf_trace::{Item, TraceReader, print_fault};
+use wf_io::{Sink, Source, Status};
+use wf_trace::{Item, TraceReader};
 
-// Makes a call, and its answer line.
-fn make<M: Plays>(
+// Why a call was not told whole.
+#[derive(Clone, Copy, Debug, PartialEq, Eq)]
+enum Untold {
+    // The sink failed.
+    Sink,
+    // There was no memory for the call's frame; nothing was told.
+    Memory,
+}
+
+// Makes a call, and tells of it.
+fn call<T: Tells, M: Plays, K: Sink>(
+    teller: &mut T,
+    stage: &mut M,
+    caller: u32,
+    note: Note,
+    answer: &mut Answer,
+    due: bool,
+    sink: &mut K,
+) -> Result<(), Untold>
+    requires room { 0 < room_in (M.past stage.old) }
+    requires some { HasLength note }
+    requires most { IsAtMost greatest_body note }
+    ensures past { OnOk result (M.past stage.new ≡ with_entry (by caller note) (M.past stage.old)) }
+    ensures leaves { OnOk result (Leaves (K.held sink.old) (K.held sink.new)
+        (T.waiting teller.old ++ T.telling.call (world_of (M.past stage.old)) note)
+        (T.waiting teller.new)) }
+    ensures none { OnOk result (IsTrue due → T.waiting teller.new ≡ []) }
+    ensures front { HoldsFront (K.held sink.old) (K.held sink.new)
+        (T.waiting teller.old ++ T.telling.call (world_of (M.past stage.old)) note) }
+    ensures cause { result ≡ Err Untold.Sink → HasRisen (K.faults sink.old) (K.faults sink.new) }
+    ensures quiet { result ≢ Err Untold.Sink → K.faults sink.new ≡ K.faults sink.old }
+{
+    match stage.call(caller, note, answer) {
+        Ok(()) => {}
+        Err(_) => return Err(Untold::Memory),
+    }
+    match teller.tell_call(stage.cell(), answer, due, sink) {
+        Ok(()) => Ok(()),
+        Err(_) => Err(Untold::Sink),
+    }
+}
+
+// The same on the stage that a trace's head opened.
+fn make<T: Tells, M: Plays, K: Sink>(
+    teller: &mut T,
     stage: &mut Option<M>,
     caller: u32,
     note: Note,
     answer: &mut Answer,
-    line: &mut Line,
-) -> Result<(), AllocError>
+    due: bool,
+    sink: &mut K,
+) -> Result<(), Untold>
     requires room { IsSomeAnd (option_map M.past stage.old) (λ p. 0 < room_in p) }
     requires some { HasLength note }
     requires most { IsAtMost greatest_body note }
-    requires empty { line.old ≡ [] }
     ensures past { OnOk result (option_map M.past stage.new
         ≡ option_map (λ p. with_entry (by caller note) p) (option_map M.past stage.old)) }
-    ensures line { OnOk result (line.new ≡ answer_to (world_in (option_map M.past stage.old))
-        (item.Entry caller note)) }
-{
-    if let Some(stage) = stage {
-        stage.call(caller, note, answer)?;
-        print_reply(answer, line);
-    }
-    Ok(())
-}
-
-// Writes the summary, if there is a cell.
-fn close<M: Plays, K: Sink>(stage: &Option<M>, sink: &mut K) -> Result<(), Failed>
-    ensures written { OnOk result (K.held sink.new
-        ≡ append_known (K.held sink.old) (closing_of (option_map M.past stage.now))) }
+    ensures leaves { OnOk result (Leaves (K.held sink.old) (K.held sink.new)
+        (T.waiting teller.old ++ told_item T.telling (world_in (option_map M.past stage.old))
+        (item.Entry caller note)) (T.waiting teller.new)) }
+    ensures none { OnOk result (IsTrue due → T.waiting teller.new ≡ []) }
     ensures front { HoldsFront (K.held sink.old) (K.held sink.new)
-        (closing_of (option_map M.past stage.now)) }
-    ensures cause { CountsFaults (K.faults sink.old) (K.faults sink.new) result }
+        (T.waiting teller.old ++ told_item T.telling (world_in (option_map M.past stage.old))
+        (item.Entry caller note)) }
+    ensures cause { result ≡ Err Untold.Sink → HasRisen (K.faults sink.old) (K.faults sink.new) }
+    ensures quiet { result ≢ Err Untold.Sink → K.faults sink.new ≡ K.faults sink.old }
 {
     match stage {
-        Some(stage) => summary(stage.cell(), sink),
-        None => Ok(()),
+        Some(stage) => call(teller, stage, caller, note, answer, due, sink),
+        None => unreachable!(),
     }
 }
 
-// Writes the answers that wait, and the summary behind them.
-fn finish<M: Plays, K: Sink>(
-    stage: &Option<M>,
-    outgoing: &mut Outgoing,
+/// Reads a trace from the source, makes its calls to a stage, and tells of it: what the status says of the
+/// octets taken and of those written is by the telling. What was told of the calls read is written before
+/// the source is read again. Octets after the `end` line are not looked at.
+pub fn play<T: Tells, M: Plays, S: Source, K: Sink>(
+    alloc: Global,
+    teller: &mut T,
+    source: &mut S,
     sink: &mut K,
-) -> Result<(), Failed>
-    ensures written { OnOk result (K.held sink.new
-        ≡ append_known (K.held sink.old) (outgoing.old ++ closing_of (option_map M.past stage.now))) }
-    ensures front { HoldsFront (K.held sink.old) (K.held sink.new)
-        (outgoing.old ++ closing_of (option_map M.past stage.now)) }
-    ensures cause { CountsFaults (K.faults sink.old) (K.faults sink.new) result }
-{
-    match outgoing.send(sink) {
-        Ok(()) => close(stage, sink),
-        Err(failed) => Err(failed),
-    }
-}
-
-/// Reads a trace from the source and writes what a stage answers, and the summary or the line of the fault.
-pub fn play<M: Plays, S: Source, K: Sink>(alloc: Global, source: &mut S, sink: &mut K) -> Status
+) -> Status
+    requires { T.waiting teller.old ≡ [] }
     ensures text { (taken written : List ℕ) × (S.left source.old ≡ prepend_known taken (S.left source.new))
         × (K.held sink.new ≡ append_known (K.held sink.old) written)
-        × ((input : List ℕ) → S.left source.old ≡ Some input → StatusSays result input taken written) }
+        × ((input : List ℕ) → S.left source.old ≡ Some input → TraceOutcome
+        (λ r. told_so_far T.telling r) (λ r. told_whole T.telling r) result input taken written) }
     ensures read { result ≡ Status.ReadFault → HasRisen (S.faults source.old) (S.faults source.new) }
     ensures source_quiet { result ≢ Status.ReadFault → S.faults source.new ≡ S.faults source.old }
     ensures write { result ≡ Status.WriteFault → HasRisen (K.faults sink.old) (K.faults sink.new) }
@@ -91,14 +116,13 @@ pub fn play<M: Plays, S: Source, K: Sink>(alloc: Global, source: &mut S, sink: &
     let Ok(mut reader) = TraceReader::new(alloc) else {
         return Status::NoMemory;
     };
-    let Ok(mut outgoing) = Outgoing::new(alloc) else {
-        return Status::NoMemory;
-    };
+    match teller.tell_front(sink) {
+        Ok(()) => {}
+        Err(_) => return Status::WriteFault,
+    }
     let mut stage: Option<M> = None;
     let mut answer = Answer::new();
-    let mut line = Line::new();
     'items: loop {
-        line.clear();
         match reader.next(source) {
             Err(_) => return Status::ReadFault,
             Ok(Item::Head(config)) => match M::open(alloc, config) {
@@ -106,26 +130,21 @@ pub fn play<M: Plays, S: Source, K: Sink>(alloc: Global, source: &mut S, sink: &
                 Err(_) => return Status::NoMemory,
             },
             Ok(Item::Entry(caller, note)) => {
-                match make(&mut stage, caller, note, &mut answer, &mut line) {
+                let due = reader.will_read();
+                match make(teller, &mut stage, caller, note, &mut answer, due, sink) {
                     Ok(()) => {}
-                    Err(_) => return Status::NoMemory,
-                }
-                match outgoing.put(line.octets(), reader.will_read(), sink) {
-                    Ok(()) => {}
-                    Err(_) => return Status::WriteFault,
+                    Err(Untold::Sink) => return Status::WriteFault,
+                    Err(Untold::Memory) => return Status::NoMemory,
                 }
             }
-            Ok(Item::Finish) => match finish(&stage, &mut outgoing, sink) {
+            Ok(Item::Finish) => match teller.tell_end(&stage, sink) {
                 Ok(()) => return Status::Done,
                 Err(_) => return Status::WriteFault,
             },
-            Ok(Item::Bad(fault)) => {
-                print_fault(fault, &mut line);
-                match outgoing.put(line.octets(), true, sink) {
-                    Ok(()) => return Status::BadTrace,
-                    Err(_) => return Status::WriteFault,
-                }
-            }
+            Ok(Item::Bad(fault)) => match teller.tell_fault(fault, sink) {
+                Ok(()) => return Status::BadTrace,
+                Err(_) => return Status::WriteFault,
+            },
         }
     }
 }

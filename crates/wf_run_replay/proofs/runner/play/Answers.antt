@@ -3,32 +3,30 @@ use Rattle.std.specs.Prelude.{option_map}
 use Rattle.wf_trace.specs.declared.reader.Item.TheVariants.{Entry, Finish, Bad}
 use Rattle.wf_io.specs.declared.status.Status.TheVariants.{Done, BadTrace, ReadFault, WriteFault, NoMemory}
 use Rattle.wf_law_trace.specs.Running.{progress_of}
-use Rattle.wf_run_replay.proofs.Cells.{progress_at, progress_head, progress_on, at_head, at_entry, room_at}
 use Rattle.wf_law_trace.proofs.Ranges.{line_config, line_sized}
-use Rattle.wf_law_trace.proofs.Octets.{append_known-nil}
-use Rattle.wf_law_trace.proofs.Tellings.{turned, running_none, none_waits, with_head, with_entry, ended_at_once, ended_no_memory, ended_read, ended_write, ended_done, ended_bad}
-use Rattle.wf_run_replay.specs.Running.{telling}
-use Rattle.wf_run_replay.proofs.Texts.{said, fault_closes}
-use Rattle.wf_run_replay.proofs.Sendings.{all_sent}
+use Rattle.wf_law_trace.proofs.Tellings.{turned, running_none, none_waits, with_head, with_entry, ended_at_once, ended_ahead, ended_no_memory, ended_no_memory_at, ended_read, ended_write, ended_done, ended_bad}
+use Rattle.wf_run_replay.proofs.Cells.{progress_at, progress_head, progress_on, at_head, at_entry, room_at}
+use Rattle.wf_run_replay.proofs.Tellings.{said}
 use Rattle.wf_run_replay.proofs.runner.play.Goals as goal
 
 pub returns-in_default-clause-text : goal.returns-in_default-clause-text
-returns-in_default-clause-text g c = said NoMemory _ _ _ _
-    (ended_at_once telling (g.S.Source.left c.args.source.now) (g.K.Sink.held c.args.sink.now))
+returns-in_default-clause-text g c = said g.T.Tells.telling NoMemory _ _ _ _
+    (ended_at_once g.T.Tells.telling (g.S.Source.left c.args.source.now) (g.K.Sink.held c.args.sink.now))
 
-pub returns-in_default-new-clause-text : goal.returns-in_default-new-clause-text
-returns-in_default-new-clause-text g c = said NoMemory _ _ _ _
-    (ended_at_once telling (g.S.Source.left c.args.source.now) (g.K.Sink.held c.args.sink.now))
+pub returns-in-Err-clause-text : goal.returns-in-Err-clause-text
+returns-in-Err-clause-text g c = said g.T.Tells.telling WriteFault _ _ _ _
+    (ended_ahead g.T.Tells.telling _ _ _ c.in-Err.ensures.front)
 
 pub items-init : goal.items-init
 items-init g c = (
-  rw (c.in-Ok-new.ensures) (running_none telling _ _ _ _ c.in-Ok.ensures.reading (append_known-nil _)),
+  rw (c.in-Ok-tell_front.ensures.none) (running_none g.T.Tells.telling _ _ _ _ c.in-Ok.ensures.reading
+      c.in-Ok-tell_front.ensures.written),
   c.in-Ok.ensures.fresh.0,
   rw (c.in-Ok.ensures.fresh.1) tt,
   refl,
-  refl,
-  (λ reads. c.in-Ok-new.ensures),
-  (λ none. c.in-Ok-new.ensures),
+  c.in-Ok-tell_front.ensures.cause.quiet,
+  (λ reads. c.in-Ok-tell_front.ensures.none),
+  (λ none. c.in-Ok-tell_front.ensures.none),
 )
 
 pub open-requires : goal.open-requires
@@ -51,12 +49,12 @@ make-requires-clause-most g c =
     let placed = rw (c.in-Ok-Entry.field-0-is) at (c.in-Ok-Entry.ensures.placed c.items.invariant.1) in
     (line_sized _ _ _ placed.0).1
 
-pub returns-in-Err-clause-text : goal.returns-in-Err-clause-text
-returns-in-Err-clause-text g c =
-    let reads = c.in-Err.ensures.reads in
-    said ReadFault _ _ _ _ (ended_read telling _ _ _ _ _ _ _ _
-    (turned telling _ _ _ _ _ _ _ _ _ _ reads.0 c.items.invariant.0 reads.1 c.in-Err.ensures.sticky)
-    (none_waits _ _ _ c.items.invariant.5 c.in-Err.ensures.quiet) c.in-Err.ensures.held)
+pub returns-in-Err-next-clause-text : goal.returns-in-Err-next-clause-text
+returns-in-Err-next-clause-text g c =
+    let reads = c.in-Err-next.ensures.reads in
+    said g.T.Tells.telling ReadFault _ _ _ _ (ended_read _ _ _ _ _ _ _ _ _
+    (turned _ _ _ _ _ _ _ _ _ _ _ reads.0 c.items.invariant.0 reads.1 c.in-Err-next.ensures.sticky)
+    (none_waits _ _ _ c.items.invariant.5 c.in-Err-next.ensures.quiet) c.in-Err-next.ensures.held)
 
 pub items-preserved-in-Ok-open : goal.items-preserved-in-Ok-open
 items-preserved-in-Ok-open g c =
@@ -64,8 +62,8 @@ items-preserved-in-Ok-open g c =
     let goes = rw (c.in-Ok-Head.field-0-is) at c.in-Ok-Head.ensures.goes in
     let placed = rw (c.in-Ok-Head.field-0-is) at (c.in-Ok-Head.ensures.placed c.items.invariant.1) in
     let none = progress_at _ _ c.items.invariant.2 goes.0 in (
-      rw (progress_head _ _ c.in-Ok-open.ensures) (with_head telling _ _ _ _ _ _ _ c.in-Ok-Head.config
-          (turned telling _ _ _ _ _ _ _ _ _ _ reads.0 c.items.invariant.0 reads.1 c.in-Ok-Head.ensures.sticky)
+      rw (progress_head _ _ c.in-Ok-open.ensures) (with_head _ _ _ _ _ _ _ _ c.in-Ok-Head.config
+          (turned _ _ _ _ _ _ _ _ _ _ _ reads.0 c.items.invariant.0 reads.1 c.in-Ok-Head.ensures.sticky)
           none),
       goes.2,
       at_head _ _ _ c.in-Ok-open.ensures placed.1,
@@ -78,14 +76,8 @@ items-preserved-in-Ok-open g c =
 pub returns-in-Err-open-clause-text : goal.returns-in-Err-open-clause-text
 returns-in-Err-open-clause-text g c =
     let reads = c.in-Ok-Head.ensures.reads in
-    said NoMemory _ _ _ _ (ended_no_memory telling _ _ _ _ _ _ _ _
-    (turned telling _ _ _ _ _ _ _ _ _ _ reads.0 c.items.invariant.0 reads.1 c.in-Ok-Head.ensures.sticky))
-
-pub returns-in-Err-make-clause-text : goal.returns-in-Err-make-clause-text
-returns-in-Err-make-clause-text g c =
-    let reads = c.in-Ok-Entry.ensures.reads in
-    said NoMemory _ _ _ _ (ended_no_memory telling _ _ _ _ _ _ _ _
-    (turned telling _ _ _ _ _ _ _ _ _ _ reads.0 c.items.invariant.0 reads.1 c.in-Ok-Entry.ensures.sticky))
+    said g.T.Tells.telling NoMemory _ _ _ _ (ended_no_memory _ _ _ _ _ _ _ _ _
+    (turned _ _ _ _ _ _ _ _ _ _ _ reads.0 c.items.invariant.0 reads.1 c.in-Ok-Head.ensures.sticky))
 
 pub items-preserved : goal.items-preserved
 items-preserved g c =
@@ -94,56 +86,61 @@ items-preserved g c =
     let placed = rw (c.in-Ok-Entry.field-0-is) at (c.in-Ok-Entry.ensures.placed c.items.invariant.1) in
     let room = room_at _ _ c.in-Ok-Entry.caller c.in-Ok-Entry.note c.items.invariant.2 placed.1 in (
       rw (progress_on _ _ _ _ room c.in-Ok-make.ensures.past)
-          (with_entry telling _ _ _ _ _ _ _ _ _ c.in-Ok-Entry.caller c.in-Ok-Entry.note c.octets.result.now
-          (turned telling _ _ _ _ _ _ _ _ _ _ reads.0 c.items.invariant.0 reads.1
+          (with_entry _ _ _ _ _ _ _ _ _ _ c.in-Ok-Entry.caller c.in-Ok-Entry.note _
+          (turned _ _ _ _ _ _ _ _ _ _ _ reads.0 c.items.invariant.0 reads.1
           c.in-Ok-Entry.ensures.sticky)
-          (c.octets.ensures ∙ c.in-Ok-make.ensures.line) c.in-Ok-put.ensures.leaves),
+          refl c.in-Ok-make.ensures.leaves),
       goes.2,
       at_entry _ _ _ _ _ _ c.items.invariant.2 room c.in-Ok-make.ensures.past placed.2,
       c.in-Ok-Entry.ensures.cause.quiet ∙ c.items.invariant.3,
-      c.in-Ok-put.ensures.cause.quiet ∙ c.items.invariant.4,
-      (λ reads. c.in-Ok-put.ensures.none (c.will_read.ensures ∙ reads)),
+      c.in-Ok-make.ensures.quiet (λ e. cc) ∙ c.items.invariant.4,
+      (λ reads. c.in-Ok-make.ensures.none (c.will_read-due.ensures ∙ reads)),
       (λ absent. absurd (let here = rw absent at goes.1 in cc)),
     )
 
-pub returns-in-Err-put-clause-text : goal.returns-in-Err-put-clause-text
-returns-in-Err-put-clause-text g c =
+pub returns-in-Err-Sink-clause-text : goal.returns-in-Err-Sink-clause-text
+returns-in-Err-Sink-clause-text g c =
     let reads = rw (c.in-Ok-Entry.field-0-is) at c.in-Ok-Entry.ensures.reads in
-    said WriteFault _ _ _ _ (ended_write telling _ _ _ _ _ _ _ _
-    (Entry c.in-Ok-Entry.caller c.in-Ok-Entry.note) c.octets.result.now
-    (turned telling _ _ _ _ _ _ _ _ _ _ reads.0 c.items.invariant.0 reads.1 c.in-Ok-Entry.ensures.sticky)
-    (c.octets.ensures ∙ c.in-Ok-make.ensures.line) c.in-Err-put.ensures.front)
+    said g.T.Tells.telling WriteFault _ _ _ _ (ended_write _ _ _ _ _ _ _ _ _
+    (Entry c.in-Ok-Entry.caller c.in-Ok-Entry.note) _
+    (turned _ _ _ _ _ _ _ _ _ _ _ reads.0 c.items.invariant.0 reads.1 c.in-Ok-Entry.ensures.sticky)
+    refl c.in-Err-Sink.ensures.front)
 
-pub returns-in-Ok-finish-clause-text : goal.returns-in-Ok-finish-clause-text
-returns-in-Ok-finish-clause-text g c =
+pub returns-in-Err-Memory-clause-text : goal.returns-in-Err-Memory-clause-text
+returns-in-Err-Memory-clause-text g c =
+    let reads = rw (c.in-Ok-Entry.field-0-is) at c.in-Ok-Entry.ensures.reads in
+    said g.T.Tells.telling NoMemory _ _ _ _ (ended_no_memory_at _ _ _ _ _ _ _ _ _
+    (Entry c.in-Ok-Entry.caller c.in-Ok-Entry.note) _
+    (turned _ _ _ _ _ _ _ _ _ _ _ reads.0 c.items.invariant.0 reads.1 c.in-Ok-Entry.ensures.sticky)
+    refl c.in-Err-Memory.ensures.front)
+
+pub returns-in-Ok-tell_end-clause-text : goal.returns-in-Ok-tell_end-clause-text
+returns-in-Ok-tell_end-clause-text g c =
     let reads = rw (c.in-Ok-Finish.field-0-is) at c.in-Ok-Finish.ensures.reads in
     let over = rw (c.in-Ok-Finish.field-0-is) at c.in-Ok-Finish.ensures.over in
-    said Done _ _ _ _ (ended_done telling _ _ _ _ _ _ _ _ _
-    (turned telling _ _ _ _ _ _ _ _ _ _ reads.0 c.items.invariant.0 reads.1 c.in-Ok-Finish.ensures.sticky)
-    refl c.in-Ok-finish.ensures.written (over c.items.invariant.1 refl))
+    said g.T.Tells.telling Done _ _ _ _ (ended_done _ _ _ _ _ _ _ _ _ _
+    (turned _ _ _ _ _ _ _ _ _ _ _ reads.0 c.items.invariant.0 reads.1 c.in-Ok-Finish.ensures.sticky)
+    refl c.in-Ok-tell_end.ensures.written (over c.items.invariant.1 refl))
 
-pub returns-in-Err-finish-clause-text : goal.returns-in-Err-finish-clause-text
-returns-in-Err-finish-clause-text g c =
+pub returns-in-Err-tell_end-clause-text : goal.returns-in-Err-tell_end-clause-text
+returns-in-Err-tell_end-clause-text g c =
     let reads = rw (c.in-Ok-Finish.field-0-is) at c.in-Ok-Finish.ensures.reads in
-    said WriteFault _ _ _ _ (ended_write telling _ _ _ _ _ _ _ _ Finish _
-    (turned telling _ _ _ _ _ _ _ _ _ _ reads.0 c.items.invariant.0 reads.1 c.in-Ok-Finish.ensures.sticky)
-    refl c.in-Err-finish.ensures.front)
+    said g.T.Tells.telling WriteFault _ _ _ _ (ended_write _ _ _ _ _ _ _ _ _ Finish _
+    (turned _ _ _ _ _ _ _ _ _ _ _ reads.0 c.items.invariant.0 reads.1 c.in-Ok-Finish.ensures.sticky)
+    refl c.in-Err-tell_end.ensures.front)
 
-pub returns-in-Ok-put-2-clause-text : goal.returns-in-Ok-put-2-clause-text
-returns-in-Ok-put-2-clause-text g c =
+pub returns-in-Ok-tell_fault-clause-text : goal.returns-in-Ok-tell_fault-clause-text
+returns-in-Ok-tell_fault-clause-text g c =
     let at = progress_of (option_map g.M.Plays.past c.items.stage) in
     let reads = rw (c.in-Ok-Bad.field-0-is) at c.in-Ok-Bad.ensures.reads in
-    said BadTrace _ _ _ _ (ended_bad telling _ _ _ _ _ _ _ _ c.in-Ok-Bad.fault c.octets-in-Ok-Bad.result.now
-    (turned telling _ _ _ _ _ _ _ _ _ _ reads.0 c.items.invariant.0 reads.1 c.in-Ok-Bad.ensures.sticky)
-    (c.octets-in-Ok-Bad.ensures ∙ c.print_fault.ensures ∙ fault_closes at.world at.calls c.in-Ok-Bad.fault)
-    (all_sent _ _ _ c.in-Ok-put-2.ensures.leaves (c.in-Ok-put-2.ensures.none refl)))
+    said g.T.Tells.telling BadTrace _ _ _ _ (ended_bad _ _ _ _ _ _ _ _ _ c.in-Ok-Bad.fault _
+    (turned _ _ _ _ _ _ _ _ _ _ _ reads.0 c.items.invariant.0 reads.1 c.in-Ok-Bad.ensures.sticky)
+    refl (c.in-Ok-tell_fault.ensures.written at.world at.calls))
 
-pub returns-in-Err-put-2-clause-text : goal.returns-in-Err-put-2-clause-text
-returns-in-Err-put-2-clause-text g c =
+pub returns-in-Err-tell_fault-clause-text : goal.returns-in-Err-tell_fault-clause-text
+returns-in-Err-tell_fault-clause-text g c =
     let at = progress_of (option_map g.M.Plays.past c.items.stage) in
     let reads = rw (c.in-Ok-Bad.field-0-is) at c.in-Ok-Bad.ensures.reads in
-    said WriteFault _ _ _ _ (ended_write telling _ _ _ _ _ _ _ _
-    (Bad c.in-Ok-Bad.fault) c.octets-in-Ok-Bad.result.now
-    (turned telling _ _ _ _ _ _ _ _ _ _ reads.0 c.items.invariant.0 reads.1 c.in-Ok-Bad.ensures.sticky)
-    (c.octets-in-Ok-Bad.ensures ∙ c.print_fault.ensures ∙ fault_closes at.world at.calls c.in-Ok-Bad.fault)
-    c.in-Err-put-2.ensures.front)
+    said g.T.Tells.telling WriteFault _ _ _ _ (ended_write _ _ _ _ _ _ _ _ _ (Bad c.in-Ok-Bad.fault) _
+    (turned _ _ _ _ _ _ _ _ _ _ _ reads.0 c.items.invariant.0 reads.1 c.in-Ok-Bad.ensures.sticky)
+    refl (c.in-Err-tell_fault.ensures.front at.world at.calls))

@@ -1,0 +1,9 @@
+use Rattle.std.proofs.lemmas.Result.{on_ok_weaker}
+use Rattle.wf_law_trace.proofs.Octets.{leaves_none}
+use Rattle.wf_run_capture.proofs.packets.PacketsTells.tell_call.Goals as goal
+
+pub returns-clause-leaves : goal.returns-clause-leaves
+returns-clause-leaves g c =
+    on_ok_weaker c.write_packets.result
+    (λ wrote past caller note is answered. leaves_none _ _ _ (wrote past caller note is answered))
+    c.write_packets.ensures.written

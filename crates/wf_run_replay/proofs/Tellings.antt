@@ -1,0 +1,18 @@
+-- A status said item by item says what the loop's contract states.
+use Rattle.std.proofs.Common.{◌≡◌, ℕ, List, refl}
+use Rattle.std.specs.Prelude.{Option, Some}
+use Rattle.std.specs.Io.KnownBytes.{prepend_known, append_known}
+use Rattle.wf_io.specs.declared.status.Status.{Status}
+use Rattle.wf_trace.specs.Reading.{Reading}
+use Rattle.wf_law_trace.specs.Outcomes.{TraceOutcome}
+use Rattle.wf_law_trace.specs.Tellings.{Telling, told_so_far, told_whole}
+use Rattle.wf_law_trace.proofs.Tellings.{Ended, said_as}
+
+pub said : (t : Telling) (status : Status) (left left_new held held_new : Option (List ℕ)) →
+    Ended t status left left_new held held_new →
+    (taken written : List ℕ) × (left ≡ prepend_known taken left_new) ×
+    (held_new ≡ append_known held written) × ((input : List ℕ) → left ≡ Some input →
+    TraceOutcome (λ (r : Reading). told_so_far t r) (λ (r : Reading). told_whole t r) status input taken
+    written)
+said t = said_as t (λ (r : Reading). told_so_far t r) (λ (r : Reading). told_whole t r) (λ r. refl)
+    (λ r. refl)

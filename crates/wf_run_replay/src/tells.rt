@@ -1,0 +1,81 @@
+//! What tells of a trace while it is played.
+
+ghost use Rattle.std.specs.Prelude.{◌≡◌, ◌++◌, [], List, ℕ, Option, Some, IsTrue, OnOk, option_map};
+ghost use Rattle.std.specs.Io.KnownBytes.{append_known};
+ghost use Rattle.wf_captures.specs.Samples.{IsSampled};
+ghost use Rattle.wf_cell.specs.Cells.{with_entry};
+ghost use Rattle.wf_frame.specs.Answers.{reply_of};
+ghost use Rattle.wf_frame.specs.declared.notes.Note.{Note};
+ghost use Rattle.wf_io.specs.Faults.{CountsFaults};
+ghost use Rattle.wf_io.specs.Fronts.{HoldsFront};
+ghost use Rattle.wf_trace.specs.declared.reader.Item.TheVariants as item;
+ghost use Rattle.wf_def_world.specs.Run.{Past, by, world_of};
+ghost use Rattle.wf_def_world.specs.Step.{step};
+ghost use Rattle.wf_def_world.specs.World.{World};
+ghost use Rattle.wf_law_trace.specs.Leaving.{Leaves};
+ghost use Rattle.wf_law_trace.specs.Tellings.{Telling};
+ghost use Rattle.wf_run_replay.specs.Running.{told_at_end};
+
+use crate::Plays;
+use wf_cell::Cell;
+use wf_frame::Answer;
+use wf_io::{Failed, Sink};
+use wf_trace::Fault;
+
+/// What tells of a trace while it is played. Some of what was told may wait to be written. After a fault of
+/// the sink some octets, from the front of what waited and of what is told, have been written.
+pub trait Tells {
+    /// What is told: the octets ahead of all, those of each call, and the last ones.
+    ghost telling: { Telling };
+
+    /// What was told and waits to be written.
+    ghost waiting: { Self → List ℕ };
+
+    /// Writes what stands ahead of all.
+    fn tell_front<K: Sink>(&mut self, sink: &mut K) -> Result<(), Failed>
+        requires { waiting self.old ≡ [] }
+        ensures written { OnOk result (K.held sink.new ≡ append_known (K.held sink.old) telling.front) }
+        ensures none { OnOk result (waiting self.new ≡ []) }
+        ensures front { HoldsFront (K.held sink.old) (K.held sink.new) telling.front }
+        ensures cause { CountsFaults (K.faults sink.old) (K.faults sink.new) result };
+
+    /// Tells of a call, by the cell behind it and its answer, and writes all that waits where that is due.
+    fn tell_call<K: Sink>(
+        &mut self,
+        cell: &Cell,
+        answer: &Answer,
+        due: bool,
+        sink: &mut K,
+    ) -> Result<(), Failed>
+        requires samples { IsSampled cell.now }
+        ensures leaves { OnOk result ((past : Past) (caller : ℕ) (note : Note) →
+            cell.now.past ≡ with_entry (by caller note) past →
+            reply_of answer.now ≡ (step (world_of past) note).reply →
+            Leaves (K.held sink.old) (K.held sink.new)
+            (waiting self.old ++ telling.call (world_of past) note) (waiting self.new)) }
+        ensures none { OnOk result (IsTrue due → waiting self.new ≡ []) }
+        ensures front { (past : Past) (caller : ℕ) (note : Note) →
+            cell.now.past ≡ with_entry (by caller note) past →
+            reply_of answer.now ≡ (step (world_of past) note).reply →
+            HoldsFront (K.held sink.old) (K.held sink.new)
+            (waiting self.old ++ telling.call (world_of past) note) }
+        ensures cause { CountsFaults (K.faults sink.old) (K.faults sink.new) result };
+
+    /// Tells of the end of the trace, by the stage behind its calls, if there is one, and writes all.
+    fn tell_end<M: Plays, K: Sink>(&mut self, stage: &Option<M>, sink: &mut K) -> Result<(), Failed>
+        ensures written { OnOk result (K.held sink.new ≡ append_known (K.held sink.old)
+            (waiting self.old ++ told_at_end telling (option_map M.past stage.now))) }
+        ensures front { HoldsFront (K.held sink.old) (K.held sink.new)
+            (waiting self.old ++ told_at_end telling (option_map M.past stage.now)) }
+        ensures cause { CountsFaults (K.faults sink.old) (K.faults sink.new) result };
+
+    /// Tells of the fault of the trace, which is the same behind any calls, and writes all.
+    fn tell_fault<K: Sink>(&mut self, fault: Fault, sink: &mut K) -> Result<(), Failed>
+        ensures written { OnOk result ((world : Option World) (calls : ℕ) →
+            K.held sink.new ≡ append_known (K.held sink.old)
+            (waiting self.old ++ telling.last world calls (Some (item.Bad fault)))) }
+        ensures front { (world : Option World) (calls : ℕ) →
+            HoldsFront (K.held sink.old) (K.held sink.new)
+            (waiting self.old ++ telling.last world calls (Some (item.Bad fault))) }
+        ensures cause { CountsFaults (K.faults sink.old) (K.faults sink.new) result };
+}
