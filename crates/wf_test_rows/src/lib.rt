@@ -9,8 +9,6 @@ mod exchanges;
 #[cfg(test)]
 mod frames;
 #[cfg(test)]
-mod greatest;
-#[cfg(test)]
 mod meeting;
 #[cfg(test)]
 mod paths;
