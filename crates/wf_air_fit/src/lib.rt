@@ -141,6 +141,3 @@ impl Room {
         self.rate.data_charge(self.octets, self.wide)
     }
 }
-
-#[cfg(test)]
-mod tests;

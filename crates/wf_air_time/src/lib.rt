@@ -491,6 +491,3 @@ pub fn request_charge(wide: bool) -> u32
 {
     control_time(REQUEST_OCTETS + CHECK_OCTETS) + SIFS + answer_time(wide)
 }
-
-#[cfg(test)]
-mod tests;

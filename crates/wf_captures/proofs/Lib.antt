@@ -5,3 +5,4 @@ mod Acks
 pub mod Cells
 pub mod Entries
 mod Answered
+mod BlockAckRows

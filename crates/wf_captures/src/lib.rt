@@ -12,6 +12,3 @@ mod writing;
 pub use law::captured_run_is_listed;
 pub use packets::write_packets;
 pub use wf_pcap::write_head;
-
-#[cfg(test)]
-mod tests;

@@ -14,6 +14,3 @@ pub use frames::{Frame, GREATEST_BODY};
 pub use lists::{FixedList, Ids, Pairs};
 pub use notes::{Ask, Note, Part, Refusal, ReplyNote};
 pub use settings::{Config, Field};
-
-#[cfg(test)]
-mod tests;

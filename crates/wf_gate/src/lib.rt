@@ -9,8 +9,6 @@ mod dealing;
 mod gate;
 mod plays;
 mod seat;
-#[cfg(test)]
-mod tests;
 mod tries;
 mod turn;
 mod turnstile;

@@ -21,6 +21,3 @@ pub use sink::{Sink, write_all, write_line};
 pub use source::{Failed, MOST_OCTETS, Source};
 pub use standard::{StdSink, StdSource};
 pub use status::Status;
-
-#[cfg(test)]
-mod tests;

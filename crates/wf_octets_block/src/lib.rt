@@ -13,6 +13,3 @@ mod frames;
 pub use decoding::{BlockFault, decode_ba, decode_bar, decode_wide};
 pub use encoding::{encode_ba, encode_bar, encode_wide};
 pub use frames::{Ba, Bar, WideBa};
-
-#[cfg(test)]
-mod tests;

@@ -37,6 +37,3 @@ pub fn source_address() -> [u8; 6]
 {
     [0x02, 0, 0, 0x02, 0, 0]
 }
-
-#[cfg(test)]
-mod tests;

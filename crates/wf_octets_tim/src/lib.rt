@@ -10,6 +10,3 @@ mod tim;
 
 pub use sleepers::{Sleeper, Sleepers};
 pub use tim::{Tim, TimFault, decode_tim, encode_tim};
-
-#[cfg(test)]
-mod tests;

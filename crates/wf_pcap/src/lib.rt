@@ -12,6 +12,3 @@ pub use reading::{
     FILE_HEAD, Form, MOST_CAPTURED, PACKET_HEAD, Packet, PcapFault, read_head, read_packet,
 };
 pub use writing::{write_head, write_packet};
-
-#[cfg(test)]
-mod tests;

@@ -13,6 +13,3 @@ mod unboxed;
 pub use chain::Chain;
 pub use parcel::Parcel;
 pub use unboxed::Unboxed;
-
-#[cfg(test)]
-mod tests;

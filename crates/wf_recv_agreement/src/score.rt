@@ -99,29 +99,3 @@ impl Score {
         self.bits.shift(places.min(256));
     }
 }
-
-#[cfg(test)]
-mod tests {
-    use super::*;
-
-    #[test]
-    fn a_jump_forgets_what_leaves_the_window(rt: HostRuntime) {
-        let mut score = Score::new();
-        score.reset(Seq12::of(0), 64);
-        score.arrive(Seq12::of(0));
-        score.arrive(Seq12::of(100));
-        let (start, bits) = score.answer();
-        assert_eq!(rt; start.raw(), 37);
-        assert_eq!(rt; bits.word(0), 0x8000_0000_0000_0000);
-        assert_eq!(rt; bits.count(), 1);
-
-        score.bar(Seq12::of(200));
-        let (start, bits) = score.answer();
-        assert_eq!(rt; start.raw(), 200);
-        assert_eq!(rt; bits.count(), 0);
-
-        score.bar(Seq12::of(199));
-        assert_eq!(rt; score.answer().0.raw(), 200);
-        assert_eq!(rt; score.size(), 64);
-    }
-}

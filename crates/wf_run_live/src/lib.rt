@@ -13,8 +13,6 @@ mod desk;
 mod history;
 mod lives;
 mod opened;
-#[cfg(test)]
-mod tests;
 mod worker;
 
 pub use command::lived;

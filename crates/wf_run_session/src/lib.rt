@@ -18,6 +18,3 @@ pub use lines::event_from;
 pub use message::Message;
 pub use parley::Parley;
 pub use refusal::Refusal;
-
-#[cfg(test)]
-mod tests;

@@ -12,6 +12,3 @@ pub use marks::{Mark, Marks};
 pub use narrow::widened;
 pub use numbers::Numbers;
 pub use opened::{MOST_OPEN, Open, Opened, Sending};
-
-#[cfg(test)]
-mod tests;

@@ -10,6 +10,3 @@ mod tally;
 pub use laws::many_settle_one_by_one;
 pub use members::{Member, Members};
 pub use tally::Tally;
-
-#[cfg(test)]
-mod tests;

@@ -3,6 +3,7 @@
 
 use crate::replays::ONE_FRAME;
 use std::test::Fail;
+use wf_captures::captured_run_is_listed;
 use wf_io::{Given, Kept, Status};
 use wf_run_capture::capture;
 
@@ -35,4 +36,10 @@ fn sources_and_sinks_that_fail(rt: HostRuntime) -> Result<(), Fail> {
     assert!(rt; status == Status::ReadFault);
     assert_eq!(rt; written.len(), 1566);
     Ok(())
+}
+
+/// That `frames` lists what was captured is a law, which whoever links the library may call.
+#[test]
+fn a_law_is_called(_rt: HostRuntime) {
+    captured_run_is_listed();
 }

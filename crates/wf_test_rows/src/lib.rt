@@ -9,11 +9,15 @@ mod exchanges;
 #[cfg(test)]
 mod frames;
 #[cfg(test)]
+mod gates;
+#[cfg(test)]
 mod meeting;
 #[cfg(test)]
 mod paths;
 #[cfg(test)]
 mod replays;
+#[cfg(test)]
+mod sessions;
 #[cfg(test)]
 mod traces;
 #[cfg(test)]

@@ -1,7 +1,7 @@
 //! Each call once, with ample memory.
 
-use crate::{Cause, Class, Config, Fate, Field, Frame, Ids, Pairs, tid_number};
 use std::alloc::AllocError;
+use wf_frame::{Cause, Class, Config, Fate, Field, Frame, Ids, Pairs, tid_number};
 
 #[test]
 fn a_sample_frame_has_its_numbers_and_its_body(rt: HostRuntime) -> Result<(), AllocError> {

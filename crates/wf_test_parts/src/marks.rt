@@ -1,7 +1,9 @@
-use crate::*;
+//! Marks of what arrived of an open exchange.
+
 use std::alloc::AllocError;
 use wf_octets_bits::{Bits64, Bits256};
 use wf_octets_seq12::Seq12;
+use wf_send_exchanges::{Marks, widened};
 
 #[test]
 fn marks_are_kept_until_the_end(rt: HostRuntime) -> Result<(), AllocError> {

@@ -1,6 +1,8 @@
-use super::*;
+//! The element of the traffic indication map.
+
 use std::test::Fail;
 use wf_frame::Class;
+use wf_octets_tim::{Sleepers, Tim, TimFault, decode_tim, encode_tim};
 
 /// Association identifiers with the octets of their element, at count 0 and period 1.
 const ELEMENTS: [(&[usize], &[u8]); 9] = [

@@ -1,7 +1,9 @@
-use crate::Members;
+//! What is kept of each live station.
+
 use std::alloc::AllocError;
 use wf_air_time::Rate;
 use wf_frame::Class;
+use wf_send_stations::Members;
 
 #[test]
 fn a_station_joins_and_leaves(rt: HostRuntime) -> Result<(), AllocError> {

@@ -2,10 +2,10 @@
 
 ghost use Rattle.std.specs.Prelude.{◌+◌, ◌<◌, ◌≤◌, length};
 
-use crate::{Chain, Parcel};
 use std::alloc::{AllocError, Global};
 use std::marker::Send;
 use wf_frame::Frame;
+use wf_queue_chain::{Chain, Parcel};
 
 // Whatever is passed here may go to another thread.
 fn crosses<T: Send>(_value: &T) {}

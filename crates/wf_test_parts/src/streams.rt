@@ -1,7 +1,7 @@
 //! The source and the sink over std, and those in memory that fail.
 
-use crate::{Given, Kept, Line, Sink, Source, StdSink, StdSource, write_all};
 use std::alloc::AllocError;
+use wf_io::{Given, Kept, Line, Sink, Source, StdSink, StdSource, write_all};
 
 #[test]
 fn a_std_source_gives_what_its_reader_has(rt: HostRuntime) {

@@ -1,4 +1,6 @@
-use super::*;
+//! Durations of data and of control frames, and what an exchange is charged.
+
+use wf_air_time::*;
 
 // For each MCS from 0 on, at 20 MHz long and short and at 40 MHz long and short: the rate in
 // kbit/s, and the data time of 1, 26, 1534 and 65535 octets. The numbers are worked out from

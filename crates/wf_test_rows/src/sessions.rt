@@ -1,8 +1,8 @@
 //! Reads in pieces, and sources and sinks that fail. Worked scripts are rows of checks/worked.d.
 
-use crate::session;
 use std::test::Fail;
 use wf_io::{Given, Kept, Status};
+use wf_run_session::session;
 
 const RESTART_AND_REPLAY: &[u8] =
     b"ask 128 500\nto b 0\nto b 0\nto a 0\nrestart b\nto b 0\nask 10 0\nclose a\nask 10 7\nto b 0\nto a 0\nto b 2\nto a 2\nend\n";

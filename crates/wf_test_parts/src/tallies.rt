@@ -1,5 +1,7 @@
-use crate::Tally;
+//! Counts of frames by fate.
+
 use wf_frame::{Cause, Fate};
+use wf_send_stations::Tally;
 
 #[test]
 fn each_fate_has_its_count(rt: HostRuntime) {

@@ -1,8 +1,8 @@
 //! Headers as other programs write them, and each fault.
 
-use super::*;
 use std::alloc::AllocError;
 use wf_io::Kept;
+use wf_pcap::*;
 
 /// The file header that is written.
 const HEAD: [u8; 24] = [

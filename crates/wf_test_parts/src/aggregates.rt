@@ -1,4 +1,7 @@
-use super::*;
+//! Aggregates that are full, at their edges.
+
+use wf_air_fit::Room;
+use wf_air_time::Rate;
 
 // Where an aggregate is full: the rate (MCS, MHz, short guard interval), the exponent, the greatest data time
 // and whether the session is wide; how many frames of 2304 octets stand first and then the length of one

@@ -1,8 +1,9 @@
-ghost use Rattle.std.specs.Prelude.{◌≡◌, ℕ, ◌+◌, ◌*◌, ◌-◌, ◌<◌, ◌≤◌, List, [], ◌++◌, length, vec_capacity, sum, sum_by, All, IsTrue, IfOk, IfSome};
+//! Gates of two seats, and threads that call through one.
+
+ghost use Rattle.std.specs.Prelude.{◌≡◌, ℕ, ◌+◌, ◌*◌, ◌-◌, ◌≤◌, List, [], ◌++◌, length, vec_capacity, sum, sum_by, All, IsTrue, IfOk, IfSome};
 ghost use Rattle.wf_gate.specs.Pairs.{IsPair};
 ghost use Rattle.wf_gate.specs.Seats.{IsOf, AreAll, StandsWithCalls};
 
-use crate::{Gate, Machine, Seat, Spent, TryFault};
 use std::alloc::{AllocError, Global};
 use std::marker::Model;
 use std::sync::atomic::{AtomicU64, Ordering};
@@ -10,6 +11,7 @@ use std::sync::{Arc, Wait};
 use std::test::Fail;
 use std::thread;
 use std::thread::Threads;
+use wf_gate::{Gate, Machine, Seat, Spent, TryFault};
 
 /// A clock: a call is a tick, by which the time grows, and the reply is the time. Its history takes so many
 /// entries.
