@@ -68,6 +68,14 @@ def untold(records, count, passed_over=()):
     return max(proofs, key=lambda it: it["seconds"], default=None)
 
 
+def some_untold(records, count, passed_over, most):
+    """At most so many of these proofs, the dearest first."""
+    found = []
+    while len(found) < most and (record := untold(records, count, {*passed_over, *(it["crate"] for it in found)})) is not None:
+        found.append(record)
+    return found
+
+
 def summed(records, count, **about):
     """All that is kept of a run."""
     functions = [{"crate": crate, "name": name, "seconds": round(seconds, 1)} for seconds, crate, name in dearest(of_functions(records), count)]
@@ -85,6 +93,11 @@ def row(*cells):
     return f"| {' | '.join(map(str, cells))} |"
 
 
+def by_the_clock(seconds):
+    """How long a run took by the clock, where that is known."""
+    return "" if seconds is None else f", and {seconds / 60:,.0f} by the clock"
+
+
 def table(kept):
     """What a run cost, in Markdown."""
     crates = kept["crates"]
@@ -95,7 +108,7 @@ def table(kept):
     command = " ".join(["rt ci --anew", *kept["names"]])
     lines = [f"Processor seconds of `{command}`, by `bench/gate`, at {kept['commit']}, with {kept['kit']}:",
              f"proofs {sums['proof']:,.0f}, tests {sums['tests']:,.0f}, {tried} tries of must-fail edits {sums['edits']:,.0f}; "
-             f"together {whole / 60:,.0f} minutes.", "", row("Crate", "Lines", "Proof", "Tests", "Edits", "All"), "|---|--:|--:|--:|--:|--:|"]
+             f"together {whole / 60:,.0f} minutes{by_the_clock(kept.get('wall'))}.", "", row("Crate", "Lines", "Proof", "Tests", "Edits", "All"), "|---|--:|--:|--:|--:|--:|"]
     for name, crate in sorted(crates.items(), key=lambda it: -sum(it[1][column] for column in COLUMNS)):
         each = [f"{crate[it]:.0f}" for it in COLUMNS]
         lines.append(row(name, kept["lines"].get(name, ""), *each, f"{sum(crate[it] for it in COLUMNS):.0f}"))
