@@ -1,18 +1,16 @@
 -- One turn of the loop: what it leaves, and that the pick stays the same.
-use Rattle.std.proofs.Common.{◌≡◌, ℕ, zero, suc, ◌+◌, ◌*◌, ◌/◌, ◌<◌, ◌≤◌, ◌==◌, min, Bool, true, false, if◌then◌else◌, List, [], ◌∷◌, ◌++◌, length, set, Option, Some, None, refl, sym, ap, ◌∙◌, subst, inl, inr, arith, length-append, length-set}
-use Rattle.std.specs.Prelude.{ℤ, pos, negsuc, ◌+ℤ◌, ◌≤ℤ◌, int_le, IfSome}
+use Rattle.std.proofs.Common.{◌≡◌, ℕ, ◌*◌, ◌<◌, ◌≤◌, ◌==◌, Bool, true, false, if◌then◌else◌, List, [], ◌∷◌, ◌++◌, length, set, Option, Some, None, refl, sym, ap, ◌∙◌, subst, inl, inr, arith, length-append, length-set}
+use Rattle.std.specs.Prelude.{ℤ, pos, ◌+ℤ◌, ◌≤ℤ◌, int_le, IfSome}
 use Rattle.std.proofs.Math.Path.{fun_ext}
-use Rattle.std.proofs.Math.Nat.{add-div_right}
-use Rattle.std.proofs.lemmas.Int.{ints}
 use Rattle.std.proofs.lemmas.List.{get_or-set_same, get_or-set_other, set-get_or, set-set}
 use Rattle.std.proofs.lemmas.Bool.{cases_eq}
-use Rattle.wf_def_rotation.specs.Rotation.{Rotation, Picked, no_keys, has_key, in_order, need_of}
+use Rattle.wf_def_rotation.specs.Rotation.{Rotation, Picked, no_keys, has_key, in_order}
 use Rattle.wf_def_rotation.specs.Loop.{Turn, Empty, Wins, Again, Standing, turn, turn_at, with_quantum_paid, pick_by_deficits, deficit_after, onward, LoopEnds, PickGives, MeetsTurn}
 use Rattle.wf_def_lists.specs.Lists.{on, IsOnce}
 use Rattle.wf_sched_rotation.specs.Lists.{AreDisjoint, lists_at, keys_at, first_of, keys_behind}
 use Rattle.wf_sched_rotation.specs.Rotas.{Rotas, deficit_at, quantum_at, need_at, is_ready, picked_at}
-use Rattle.wf_sched_rotation.specs.Pass.{raised, passed_first, WasPickedFrom}
-use Rattle.wf_sched_rotation.specs.Turns.{standing, first_turn, HasTurned, key_passed, after_turn_of, IsSamePick}
+use Rattle.wf_sched_rotation.specs.Pass.{passed_first, WasPickedFrom}
+use Rattle.wf_sched_rotation.specs.Turns.{standing, first_turn, HasTurned, key_paid, after_turn_of, IsSamePick}
 use Rattle.wf_sched_rotation.specs.declared.Side.{Side}
 use Rattle.wf_sched_rotation.specs.declared.Side.TheVariants.{New, Old}
 use Rattle.wf_law_rules.proofs.Lemmas.Counts.{on-cons_same, on-cons_other, on-hasnot, listed-some}
@@ -23,43 +21,13 @@ use Rattle.wf_sched_rotation.proofs.ListsLemmas.{first_is}
 use Rattle.wf_sched_rotation.proofs.PassLemmas.{passed, passed_set}
 use Rattle.wf_sched_rotation.proofs.RangeLemmas.{quanta_low, capped}
 
--- ---- a key's deficit
-
-not_below : (n : ℕ) → int_le (pos (suc n)) (pos 0) ≡ true → ⊥
-not_below n h = grind arith
-
--- a deficit that is not above 0 needs a quantum
-needs_one : (d : ℤ) (q : ℕ) → 1 ≤ q → int_le d (pos 0) ≡ true → 1 ≤ need_of q d
-needs_one (pos zero) q some h = omega arith
-needs_one (pos (suc n)) q some h = absurd (not_below n h)
-needs_one (negsuc n) q some h =
-    let one_more : (1 + n + q) / q ≡ (1 + n) / q + 1 = add-div_right (1 + n) some in
-    omega (arith, one_more)
-
-one_quantum : (d : ℤ) (q : ℕ) → d +ℤ pos (1 * q) ≡ d +ℤ pos q
-one_quantum d q = omega (arith, ints)
-
-no_quantum : (d : ℤ) (q : ℕ) → d +ℤ pos (0 * q) ≡ d
-no_quantum d q = omega (arith, ints)
-
-raised_once : (d : ℤ) (q : ℕ) → 1 ≤ q → int_le d (pos 0) ≡ true → raised d q 1 ≡ d +ℤ pos q
-raised_once d q some h =
-    let low : 1 ≤ need_of q d = needs_one d q some h in
-    let one : min 1 (need_of q d) ≡ 1 = omega (arith, low) in
-    ap (λ (n : ℕ). d +ℤ pos (n * q)) one ∙ one_quantum d q
-
-raised_not : (d : ℤ) (q : ℕ) → raised d q 0 ≡ d
-raised_not d q =
-    let none : min 0 (need_of q d) ≡ 0 = omega arith in
-    ap (λ (n : ℕ). d +ℤ pos (n * q)) none ∙ no_quantum d q
-
 -- ---- the turn of one key
 
 abbrev two : List ℕ → List ℕ → Rotation
 two news olds = record { new = news; old = olds }
 
 module _ (v : Rotas) (ready : List Bool) (list key : ℕ) (low : list < length v.lists)
-    (below : key < length v.deficits) (some : 1 ≤ quantum_at v.quanta key) where
+    (below : key < length v.deficits) where
   lists_passed : (side : Side) (stays : Bool) → passed_first v.lists list side key stays
       ≡ set v.lists list (passed (lists_at v.lists list) side key stays)
   lists_passed side stays =
@@ -67,64 +35,51 @@ module _ (v : Rotas) (ready : List Bool) (list key : ℕ) (low : list < length v
       (sym (set-get_or v.lists list no_keys))
       ∙ passed_set v.lists list (lists_at v.lists list) side key stays low
 
-  paid : int_le (deficit_at v.deficits key) (pos 0) ≡ true → (y : ℕ) →
-      deficit_at (set v.deficits key (raised (deficit_at v.deficits key) (quantum_at v.quanta key) 1)) y
+  paid : (y : ℕ) → deficit_at (key_paid v key) y
       ≡ with_quantum_paid (quantum_at v.quanta) (deficit_at v.deficits) key y
-  paid h y = on_bool (key == y)
-      (λ e. subst (λ (z : ℕ).
-      deficit_at (set v.deficits key (raised (deficit_at v.deficits key) (quantum_at v.quanta key) 1)) z
+  paid y = on_bool (key == y)
+      (λ e. subst (λ (z : ℕ). deficit_at (key_paid v key) z
       ≡ deficit_at v.deficits z +ℤ pos (quantum_at v.quanta z)) (eq_yes key y e)
-      (get_or-set_same v.deficits key _ (pos 0) below
-      ∙ raised_once (deficit_at v.deficits key) (quantum_at v.quanta key) some h)
+      (get_or-set_same v.deficits key _ (pos 0) below)
       ∙ sym (ap (λ (b : Bool). if b then deficit_at v.deficits y +ℤ pos (quantum_at v.quanta y)
       else deficit_at v.deficits y) e))
       (λ e. get_or-set_other v.deficits key y _ (pos 0) (λ same. eq_no key y e (sym same))
       ∙ sym (ap (λ (b : Bool). if b then deficit_at v.deficits y +ℤ pos (quantum_at v.quanta y)
       else deficit_at v.deficits y) e))
 
-  unpaid : (y : ℕ) →
-      deficit_at (set v.deficits key (raised (deficit_at v.deficits key) (quantum_at v.quanta key) 0)) y
-      ≡ deficit_at v.deficits y
-  unpaid y = elim (cases_eq y key) [
-    | inl e ↦ subst (λ (z : ℕ).
-        deficit_at (set v.deficits key (raised (deficit_at v.deficits key) (quantum_at v.quanta key) 0)) z
-        ≡ deficit_at v.deficits z) (sym e) (get_or-set_same v.deficits key _ (pos 0) below
-        ∙ raised_not (deficit_at v.deficits key) (quantum_at v.quanta key))
-    | inr other ↦ get_or-set_other v.deficits key y _ (pos 0) other
-  ]
-
   new_turned : (keys olds : List ℕ) → lists_at v.lists list ≡ record { new = key ∷ keys; old = olds } →
       HasTurned v list (first_turn v ready list) (after_turn_of v list New key (is_ready ready key))
   new_turned keys olds is = subst (λ (t : Turn).
       HasTurned v list t (after_turn_of v list New key (is_ready ready key)))
       (sym (ap (turn (quantum_at v.quanta) (deficit_at v.deficits) (is_ready ready)) is))
-      (go (int_le (deficit_at v.deficits key) (pos 0)) (is_ready ready key) refl)
+      (go (int_le (deficit_at v.deficits key) (pos 0)) (is_ready ready key))
     where
-      go : (owes rdy : Bool) → int_le (deficit_at v.deficits key) (pos 0) ≡ owes →
+      go : (owes rdy : Bool) →
           HasTurned v list (if owes then Again (record { new = keys; old = olds ++ key ∷ [] })
           (with_quantum_paid (quantum_at v.quanta) (deficit_at v.deficits) key)
           else (if rdy then Wins key
           else Again (record { new = keys; old = olds ++ key ∷ [] }) (deficit_at v.deficits)))
-          (if owes then key_passed v list New key 1 true
-          else (if rdy then v else key_passed v list New key 0 true))
-      go true rdy e = record {
+          (if owes
+          then record v { lists = passed_first v.lists list New key true; deficits = key_paid v key }
+          else (if rdy then v else record v { lists = passed_first v.lists list New key true }))
+      go true rdy = record {
         lists = lists_passed New true
             ∙ ap (λ (r : Rotation). set v.lists list (passed r New key true)) is;
-        deficits = paid e;
+        deficits = paid;
         keys = length-set v.deficits key _;
         quanta = refl;
       }
-      go false true e = record {
+      go false true = record {
         lists = sym (set-get_or v.lists list no_keys);
         deficits = λ y. refl;
         keys = refl;
         quanta = refl;
       }
-      go false false e = record {
+      go false false = record {
         lists = lists_passed New true
             ∙ ap (λ (r : Rotation). set v.lists list (passed r New key true)) is;
-        deficits = unpaid;
-        keys = length-set v.deficits key _;
+        deficits = λ y. refl;
+        keys = refl;
         quanta = refl;
       }
 
@@ -133,33 +88,34 @@ module _ (v : Rotas) (ready : List Bool) (list key : ℕ) (low : list < length v
   old_turned keys is = subst (λ (t : Turn).
       HasTurned v list t (after_turn_of v list Old key (is_ready ready key)))
       (sym (ap (turn (quantum_at v.quanta) (deficit_at v.deficits) (is_ready ready)) is))
-      (go (int_le (deficit_at v.deficits key) (pos 0)) (is_ready ready key) refl)
+      (go (int_le (deficit_at v.deficits key) (pos 0)) (is_ready ready key))
     where
-      go : (owes rdy : Bool) → int_le (deficit_at v.deficits key) (pos 0) ≡ owes →
+      go : (owes rdy : Bool) →
           HasTurned v list (if owes then Again (record { new = []; old = keys ++ key ∷ [] })
           (with_quantum_paid (quantum_at v.quanta) (deficit_at v.deficits) key)
           else (if rdy then Wins key
           else Again (record { new = []; old = keys }) (deficit_at v.deficits)))
-          (if owes then key_passed v list Old key 1 true
-          else (if rdy then v else key_passed v list Old key 0 false))
-      go true rdy e = record {
+          (if owes
+          then record v { lists = passed_first v.lists list Old key true; deficits = key_paid v key }
+          else (if rdy then v else record v { lists = passed_first v.lists list Old key false }))
+      go true rdy = record {
         lists = lists_passed Old true
             ∙ ap (λ (r : Rotation). set v.lists list (passed r Old key true)) is;
-        deficits = paid e;
+        deficits = paid;
         keys = length-set v.deficits key _;
         quanta = refl;
       }
-      go false true e = record {
+      go false true = record {
         lists = sym (set-get_or v.lists list no_keys);
         deficits = λ y. refl;
         keys = refl;
         quanta = refl;
       }
-      go false false e = record {
+      go false false = record {
         lists = lists_passed Old false
             ∙ ap (λ (r : Rotation). set v.lists list (passed r Old key false)) is;
-        deficits = unpaid;
-        keys = length-set v.deficits key _;
+        deficits = λ y. refl;
+        keys = refl;
         quanta = refl;
       }
 

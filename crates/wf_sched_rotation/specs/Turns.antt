@@ -4,7 +4,7 @@ use Rattle.wf_def_rotation.specs.Rotation.{Rotation, in_order}
 use Rattle.wf_def_rotation.specs.Loop.{Turn, Empty, Wins, Again, Standing, turn_from, onward, LoopEnds}
 use Rattle.wf_sched_rotation.specs.Lists.{lists_at}
 use Rattle.wf_sched_rotation.specs.Rotas.{Rotas, deficit_at, quantum_at, is_ready, picked_at}
-use Rattle.wf_sched_rotation.specs.Pass.{raised, passed_first}
+use Rattle.wf_sched_rotation.specs.Pass.{passed_first}
 use Rattle.wf_sched_rotation.specs.declared.Side.{Side}
 use Rattle.wf_sched_rotation.specs.declared.Side.TheVariants.{New, Old}
 use Rattle.wf_sched_rotation.specs.declared.rota.TurnEnd.{TurnEnd}
@@ -45,19 +45,16 @@ abbrev pub is_new : Side → Bool
 is_new New = true
 is_new Old = false
 
--- the first key of a list is passed, with so many quanta at most
-abbrev pub key_passed : Rotas → ℕ → Side → ℕ → ℕ → Bool → Rotas
-key_passed v list side key visits stays = record {
-  lists = passed_first v.lists list side key stays;
-  deficits = set v.deficits key (raised (deficit_at v.deficits key) (quantum_at v.quanta key) visits);
-  quanta = v.quanta;
-}
+-- a key gets one quantum
+abbrev pub key_paid : Rotas → ℕ → List ℤ
+key_paid v key = set v.deficits key (deficit_at v.deficits key +ℤ pos (quantum_at v.quanta key))
 
 -- the rotations after the turn of the first key of a list
 abbrev pub after_turn_of : Rotas → ℕ → Side → ℕ → Bool → Rotas
 after_turn_of v list side key ready =
-    if int_le (deficit_at v.deficits key) (pos 0) then key_passed v list side key 1 true
-    else (if ready then v else key_passed v list side key 0 (is_new side))
+    if int_le (deficit_at v.deficits key) (pos 0)
+    then record v { lists = passed_first v.lists list side key true; deficits = key_paid v key }
+    else (if ready then v else record v { lists = passed_first v.lists list side key (is_new side) })
 
 -- the pick from here is the pick from the start
 pub record IsSamePick (start : Rotas) (ready : List Bool) (list : ℕ) (v : Rotas) : Type 0 where

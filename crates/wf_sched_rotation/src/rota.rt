@@ -460,6 +460,29 @@ impl Rota {
         }
     }
 
+    /// Gives one quantum to a key whose deficit is not above 0.
+    fn give_quantum(&mut self, key: u32)
+        requires in_keys { key < length self.old.deficits }
+        requires owes { deficit_at self.old.deficits key ≤ℤ pos 0 }
+        ensures { self.new ≡ record self.old {
+          deficits = slice_set self.old.deficits key
+              (deficit_at self.old.deficits key +ℤ pos (quantum_at self.old.quanta key));
+        } }
+    {
+        let at = key as usize;
+        self.deficits[at] += i64::from(self.quanta[at]);
+    }
+
+    /// Takes the first key off a list, and puts it last on old.
+    fn move_first(&mut self, list: u32, side: Side, key: u32)
+        requires in_lists { list < length self.old.lists }
+        requires first { first_of (keys_at self.old.lists list side) ≡ Some key }
+        ensures { self.new ≡ record self.old { lists = passed_first self.old.lists list side key true } }
+    {
+        self.take_out(list, side, key);
+        self.put_on(list, Side::Old, key);
+    }
+
     /// The turn of a key that is the first of its list.
     fn turn_of(&mut self, list: u32, side: Side, key: u32, ready: &[bool]) -> TurnEnd
         requires in_lists { list < length self.old.lists }
@@ -469,30 +492,17 @@ impl Rota {
         ensures end { result ≡ end_of (deficit_at self.old.deficits key) (is_ready ready.now key) key }
         ensures after { self.new ≡ after_turn_of self.old list side key (is_ready ready.now key) }
     {
-        let is_new = matches!(side, Side::New);
         if self.deficit(key) <= 0 {
-            self.pass_first(
-                list,
-                side,
-                key,
-                Share {
-                    visits: 1,
-                    stays: true,
-                },
-            );
+            self.give_quantum(key);
+            self.move_first(list, side, key);
             TurnEnd::GoesOn
         } else if ready[key as usize] {
             TurnEnd::Done(Some(key))
         } else {
-            self.pass_first(
-                list,
-                side,
-                key,
-                Share {
-                    visits: 0,
-                    stays: is_new,
-                },
-            );
+            match side {
+                Side::New => self.move_first(list, side, key),
+                Side::Old => self.take_out(list, side, key),
+            }
             TurnEnd::GoesOn
         }
     }
