@@ -15,3 +15,4 @@ mod WonLemmas
 mod RemoveLemmas
 mod RangeLemmas
 mod TurnLemmas
+mod PaidLemmas

@@ -6,3 +6,4 @@ pub mod Homes
 pub mod Scan
 pub mod Pass
 pub mod Turns
+pub mod Looks

@@ -2,6 +2,7 @@ ghost use Rattle.std.specs.Prelude.{◌≡◌, ℕ, ◌+◌, ◌-◌, ◌*◌, �
 ghost use Rattle.wf_def_rotation.specs.Rotation.{no_keys, with_new_key, without_key, has_key, in_order};
 ghost use Rattle.wf_sched_rotation.specs.Rotas.{Rotas, deficit_at, quantum_at, need_at, is_ready, IsUnlisted, picked_at};
 ghost use Rattle.wf_sched_rotation.specs.Lists.{lists_at, keys_at, with_keys, has_on, first_of, keys_behind, IsOff, AreDisjoint};
+ghost use Rattle.wf_sched_rotation.specs.Looks.{most_turns};
 ghost use Rattle.wf_sched_rotation.specs.Turns.{end_of, after_turn_of, first_turn, HasTurned, EndsAs};
 ghost use Rattle.wf_sched_rotation.specs.Scan.{IsFound, IsRoundOn, IsWon};
 ghost use Rattle.wf_sched_rotation.specs.declared.Side.TheVariants.{Old};
@@ -531,7 +532,7 @@ impl Rota {
     /// of algorithm 3 of "Ending the Anomaly" (USENIX ATC 2017), turn by turn, and past `MOST_TURNS` turns
     /// in closed form. A turn looks at one key, which is one step; each turn but the last gives a quantum,
     /// or takes a key off new or off the rotation. So a pick that ends within those turns costs what the
-    /// quanta and the keys that left cost, whatever the number of listed keys.
+    /// quanta and the keys that left cost, whatever the number of listed keys (`cheap`).
     pub fn pick<L: Ledger>(
         &mut self,
         list: u32,
@@ -555,6 +556,8 @@ impl Rota {
             deficit_at self.new.deficits key ≤ℤ pos (quantum_at self.old.quanta key) }
         ensures at_most { steps.new ≤
             steps.old + (32 + 2 * length (in_order (lists_at self.old.lists list)) + 2) }
+        ensures cheap { most_turns self.old ready.now list ≤ 32 →
+            steps.new ≤ steps.old + most_turns self.old ready.now list }
     {
         for _ in 0..MOST_TURNS {
             steps.tick();

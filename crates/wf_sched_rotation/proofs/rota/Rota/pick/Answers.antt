@@ -1,7 +1,8 @@
-use Rattle.std.proofs.Common.{◌∙◌, arith}
-use Rattle.wf_sched_rotation.specs.Rotas.{picked_at}
+use Rattle.std.proofs.Common.{ℕ, ◌≤◌, List, ◌∙◌, subst, arith}
+use Rattle.wf_sched_rotation.specs.Rotas.{quantum_at, picked_at}
 use Rattle.wf_sched_rotation.specs.Pass.{WasPickedFrom}
-use Rattle.wf_sched_rotation.proofs.TurnLemmas.{same_after, HasEnded, has_ended, some_listed, pick_capped, at_once}
+use Rattle.wf_sched_rotation.proofs.TurnLemmas.{same_first, same_after, HasEnded, has_ended, some_listed, pick_capped, at_once}
+use Rattle.wf_sched_rotation.proofs.PaidLemmas.{paid_first, paid_after, turns_low}
 use Rattle.wf_sched_rotation.proofs.rota.Rota.pick.Goals as goal
 
 pub returns-in-Done-clause-winner : goal.returns-in-Done-clause-winner
@@ -59,12 +60,44 @@ returns-in-Done-clause-capped g c =
     c.in-Done.winner c.in-Done.ensures.end in
     pick_capped c.args.self.now c.args.ready.now c.args.list c.turn.new.self ended.picked
 
+pub loop-init : goal.loop-init
+loop-init g c = record {
+  same = same_first c.args.self.now c.args.ready.now c.args.list;
+  visits = omega arith;
+  paid = paid_first c.args.self.now c.args.list;
+}
+
+pub returns-in-Done-clause-cheap : goal.returns-in-Done-clause-cheap
+returns-in-Done-clause-cheap g c = λ most. omega (
+  arith,
+  c.tick.ensures,
+  c.loop.invariant.visits,
+  turns_low c.args.self.now c.args.ready.now c.args.list c.loop.self c.loop.counter
+      (subst (λ (quanta : List ℕ). (key : ℕ) → 1 ≤ quantum_at quanta key) c.loop.invariant.same.quanta
+      c.turn.ensures.positive) c.loop.invariant.same c.loop.invariant.paid,
+)
+
+pub returns-clause-cheap : goal.returns-clause-cheap
+returns-clause-cheap g c = λ most.
+    let played : 32 ≤ c.loop.counter = omega arith in
+    absurd (omega (
+      arith,
+      played,
+      most,
+      turns_low c.args.self.now c.args.ready.now c.args.list c.loop.self
+          c.loop.counter (c.loop.invariant.paid.some (omega (arith, played))) c.loop.invariant.same
+          c.loop.invariant.paid,
+    ))
+
 pub loop-preserved : goal.loop-preserved
 loop-preserved g c = record {
   same = same_after c.args.self.now c.args.ready.now c.args.list c.loop.self c.turn.new.self
       c.requires.in_lists c.turn.ensures.positive c.turn.ensures.disjoint c.loop.invariant.same
       c.turn.ensures.turned;
   visits = omega (arith, c.tick.ensures, c.loop.invariant.visits);
+  paid = paid_after c.args.self.now c.args.ready.now c.args.list c.loop.self c.turn.new.self
+      c.requires.in_lists c.turn.ensures.positive c.loop.invariant.same c.turn.ensures.turned c.loop.counter
+      c.loop.invariant.paid c.in_default.ensures.end;
 }
 
 pub returns-clause-listed : goal.returns-clause-listed
