@@ -7,7 +7,8 @@
  *
  * Handles. A `struct wf_path` belongs to the caller. It holds nothing while it is all zero, `wf_path_make` puts a path into
  * it, and `wf_path_free` takes the path out and frees it. In between every other function may be called on it. Do not copy
- * it, and do not look into it. A `struct wf_cell` is the same for a cell.
+ * it, and do not look into it. In C++ `{}` initializes a handle, and a handle may be moved by copying its bits where the old
+ * one is zeroed. A `struct wf_cell` is the same for a cell.
  *
  * Memory. `wf_path_make` takes memory for the path, and `wf_path_enqueue` for one frame, and so do these functions of a cell.
  * It comes from malloc, realloc and free of the program. They have to be of one allocator, and to align a block to each power
@@ -48,6 +49,14 @@
 
 #include <stddef.h>
 #include <stdint.h>
+
+/* The version of this header and of the library that it belongs to. With another patch number nothing changes of what is said
+ * here. With another minor number there may be more functions, more codes, and fields in space that a struct has reserved: what was
+ * built before goes on as it was. With another major number anything may change. */
+#define WF_VERSION_MAJOR 1
+#define WF_VERSION_MINOR 0
+#define WF_VERSION_PATCH 0
+#define WF_VERSION "1.0.0"
 
 #ifdef __cplusplus
 extern "C" {

@@ -52,6 +52,11 @@ class Faults(unittest.TestCase):
     def test_version(self):
         self.assertIn("version", first(HELP.unlike_version(changed("VERSION", "1.0.0", "1.0.1"))))
 
+    def test_version_of_the_header(self):
+        header = HELP.read(HELP.HEADER)
+        self.assertEqual(HELP.version_macros(header)[3], f'"{".".join(HELP.version_macros(header)[:3])}"')
+        self.assertEqual(HELP.version_macros(header.replace("WF_VERSION_MINOR 0", "WF_VERSION_MINOR 1"))[1], "1")
+
     def test_long_line(self):
         self.assertIn("SOAK", first(HELP.unlike_form(changed("SOAK", "Reads nothing.", "Reads nothing." + 90 * "."))))
 
