@@ -1,0 +1,105 @@
+/*
+ * A short life of two stations, by the class of path.hpp: each joins, is sent to at a rate, and gets frames. One
+ * frame is lost on the way and sent once more. The path is freed at the end of main.
+ *
+ *   c++ -std=c++17 -Iinclude examples/c/path.cpp -Lcrates/wf_c/out -lwf
+ */
+#include <array>
+#include <cstdint>
+#include <cstdio>
+#include <cstdlib>
+#include <utility>
+
+#include "path.hpp"
+
+namespace {
+
+constexpr const char *FATES[] = {"held", "acked", "overlimit", "codel", "retries", "left"};
+
+/* Ends the program where a call was refused that must not be. */
+void want(std::int32_t code, const char *call) {
+  if (code == WF_OK) return;
+  std::printf("%s: code %d\n", call, static_cast<int>(code));
+  std::exit(1);
+}
+
+/* A station joins, is sent to at a rate, and gets this many frames of 1000 octets. */
+void open_station(wf::Path &path, std::uint16_t station, std::uint8_t mcs, int frames) {
+  static const std::array<std::uint8_t, 1000> body{0xaa, 0xaa, 0x03};
+  wf_reply reply{};
+  want(path.join(station, 64, 0, 3, 1, reply), "join");
+  want(path.rate(station, mcs, 20, false, reply), "rate");
+  for (int i = 0; i < frames; i++) {
+    want(path.enqueue(station, 0, station, body.data(), body.size(), reply), "enqueue");
+    std::printf("station %d: frame %d is accepted\n", static_cast<int>(station), static_cast<int>(reply.id));
+  }
+}
+
+/* The bits of a BlockAck that tells of all frames of an exchange but the one of this id. */
+void answer_bits(const wf_frames &frames, std::uint64_t lost, std::uint8_t (&bits)[32]) {
+  for (std::uint16_t i = 0; i < frames.count; i++) {
+    const unsigned offset = (frames.numbers[i] - frames.numbers[0]) & 4095u;
+    if (frames.ids[i] != lost) bits[offset / 8] |= static_cast<std::uint8_t>(1u << offset % 8);
+  }
+}
+
+/* Pulls an exchange, ends it by bits, and moves the clock on by what it took of the air. False where nothing is left
+ * to send. */
+bool exchange_once(wf::Path &path, std::uint64_t lost) {
+  wf_reply reply{};
+  static wf_frames frames;
+  if (path.pull(WF_BE, reply, frames) != WF_OK) return false;
+  const std::uint64_t exchange = reply.exchange;
+  const std::uint32_t air = reply.air;
+  std::printf("exchange %d: station %d, %d frames, %d microseconds", static_cast<int>(exchange),
+              static_cast<int>(reply.station), static_cast<int>(frames.count), static_cast<int>(air));
+  std::uint8_t bits[32] = {};
+  answer_bits(frames, lost, bits);
+  want(path.done_bits(exchange, frames.numbers[0], bits, reply), "done");
+  std::printf(": %d acknowledged, %d wait again\n", static_cast<int>(reply.acked),
+              static_cast<int>(reply.waiting));
+  want(path.tick(air, reply), "tick");
+  return true;
+}
+
+/* Takes the finished frames back. */
+void reap_all(wf::Path &path) {
+  wf_reply reply{};
+  wf_taken taken{};
+  std::uint8_t body[WF_GREATEST_BODY] = {};
+  while (path.reap(reply, taken, body, sizeof body) == WF_OK) {
+    std::printf("reaped: frame %d of station %d, %d octets, %s\n", static_cast<int>(reply.id),
+                static_cast<int>(taken.station), static_cast<int>(taken.length), FATES[reply.fate]);
+  }
+}
+
+}  // namespace
+
+int main() {
+  wf_settings settings = wf::standard_settings();
+  settings.stations = 0;
+  std::int32_t code = WF_OK;
+  if (wf::Path::make(settings, code)) return 1;
+  std::printf("no stations: code %d, the setting %d\n", static_cast<int>(code),
+              static_cast<int>(code - WF_BAD_SETTING));
+
+  settings.stations = 2;
+  std::optional<wf::Path> made = wf::Path::make(settings, code);
+  if (!made) return 1;
+  wf::Path path = std::move(*made);
+  std::printf("moved: the old one %s, the new one %s\n", made->holds() ? "holds" : "is empty",
+              path.holds() ? "holds" : "is empty");
+
+  open_station(path, 0, 7, 3);
+  open_station(path, 1, 0, 2);
+  std::uint64_t lost = 1;
+  while (exchange_once(path, lost)) {
+    lost = UINT64_MAX;
+    reap_all(path);
+  }
+  const wf_tally tally = path.tally();
+  std::printf("%d exchanges in %d microseconds: %d frames accepted, %d acknowledged\n",
+              static_cast<int>(path.exchanges()), static_cast<int>(path.now()),
+              static_cast<int>(tally.accepted), static_cast<int>(tally.acked));
+  return 0;
+}

@@ -1,0 +1,152 @@
+/*
+ * A path of libwf for C++17: `wf::Path` owns one, and frees it. `./wf install` puts this file at include/wf/path.hpp.
+ *
+ * Each call of wf.h on a path is a method here, with the same arguments behind the handle, and gives the same:
+ * what wf.h says of a call holds of its method. A path may be moved and not copied. One that was moved from holds
+ * nothing: it may be destroyed, assigned to and asked by `holds`, and no other method may be called on it. A path
+ * stays on the thread that made it.
+ */
+#ifndef WF_PATH_HPP
+#define WF_PATH_HPP
+
+#include <cstddef>
+#include <cstdint>
+#include <optional>
+#include <utility>
+
+#include "wf.h"
+
+namespace wf {
+
+/* The standard settings. */
+inline wf_settings standard_settings() {
+  wf_settings settings{};
+  wf_settings_standard(&settings);
+  return settings;
+}
+
+class Path {
+ public:
+  /* A path of these settings, or none; `code` then says why not, as wf_path_make does. */
+  static std::optional<Path> make(const wf_settings &settings, std::int32_t &code) {
+    Path made;
+    code = wf_path_make(&made.handle_, &settings);
+    made.holds_ = code == WF_OK;
+    if (!made.holds_) return std::nullopt;
+    return made;
+  }
+  static std::optional<Path> make(const wf_settings &settings = standard_settings()) {
+    std::int32_t code = WF_OK;
+    return make(settings, code);
+  }
+
+  Path(const Path &) = delete;
+  Path &operator=(const Path &) = delete;
+
+  /* The bits of the handle move, and the old handle is zeroed. */
+  Path(Path &&other) noexcept
+      : handle_(std::exchange(other.handle_, wf_path{})), holds_(std::exchange(other.holds_, false)) {}
+  Path &operator=(Path &&other) noexcept {
+    Path moved(std::move(other));
+    std::swap(handle_, moved.handle_);
+    std::swap(holds_, moved.holds_);
+    return *this;
+  }
+
+  ~Path() {
+    if (holds_) wf_path_free(&handle_);
+  }
+
+  /* Whether it holds a path: false where it was moved from. */
+  bool holds() const { return holds_; }
+
+  /* Calls of the machine: each writes its answer to `reply`, and gives WF_OK or the refusal. */
+
+  [[nodiscard]] std::int32_t join(std::uint16_t station, std::uint16_t window, std::uint16_t start,
+                                  std::uint8_t exponent, std::uint8_t weight, wf_reply &reply) {
+    return wf_path_join(&handle_, station, window, start, exponent, weight, &reply);
+  }
+  [[nodiscard]] std::int32_t leave(std::uint16_t station, wf_reply &reply) {
+    return wf_path_leave(&handle_, station, &reply);
+  }
+  [[nodiscard]] std::int32_t rate(std::uint16_t station, std::uint8_t mcs, std::uint8_t mhz, bool short_guard,
+                                  wf_reply &reply) {
+    return wf_path_rate(&handle_, station, mcs, mhz, short_guard, &reply);
+  }
+  [[nodiscard]] std::int32_t tick(std::uint32_t by, wf_reply &reply) {
+    return wf_path_tick(&handle_, by, &reply);
+  }
+  [[nodiscard]] std::int32_t sleep(std::uint16_t station, wf_reply &reply) {
+    return wf_path_sleep(&handle_, station, &reply);
+  }
+  [[nodiscard]] std::int32_t wake(std::uint16_t station, wf_reply &reply) {
+    return wf_path_wake(&handle_, station, &reply);
+  }
+  [[nodiscard]] std::int32_t poll(std::uint16_t station, wf_reply &reply) {
+    return wf_path_poll(&handle_, station, &reply);
+  }
+  [[nodiscard]] std::int32_t receive(std::uint16_t station, wf_class access, std::uint32_t air,
+                                     wf_reply &reply) {
+    return wf_path_receive(&handle_, station, static_cast<std::uint8_t>(access), air, &reply);
+  }
+  [[nodiscard]] std::int32_t enqueue(std::uint16_t station, std::uint8_t tid, std::uint32_t flow,
+                                     const std::uint8_t *body, std::size_t length, wf_reply &reply) {
+    return wf_path_enqueue(&handle_, station, tid, flow, body, length, &reply);
+  }
+  [[nodiscard]] std::int32_t pull(wf_class access, wf_reply &reply, wf_frames &frames) {
+    return wf_path_pull(&handle_, static_cast<std::uint8_t>(access), &reply, &frames);
+  }
+  [[nodiscard]] std::int32_t reap(wf_reply &reply, wf_taken &taken, std::uint8_t *body, std::size_t room) {
+    return wf_path_reap(&handle_, &reply, &taken, body, room);
+  }
+
+  /* An open exchange, and its end. */
+
+  [[nodiscard]] std::int32_t sent(std::uint64_t exchange, wf_sent &out) {
+    return wf_path_sent(&handle_, exchange, &out);
+  }
+  [[nodiscard]] std::int32_t frame_id(std::uint64_t exchange, std::uint16_t index, std::uint64_t &id) {
+    return wf_path_frame_id(&handle_, exchange, index, &id);
+  }
+  [[nodiscard]] std::int32_t mpdu(std::uint64_t exchange, std::uint16_t index, std::uint8_t *out,
+                                  std::size_t room, std::size_t &size) {
+    return wf_path_mpdu(&handle_, exchange, index, out, room, &size);
+  }
+  [[nodiscard]] std::int32_t done_lost(std::uint64_t exchange, wf_reply &reply) {
+    return wf_path_done_lost(&handle_, exchange, &reply);
+  }
+  [[nodiscard]] std::int32_t done_bits(std::uint64_t exchange, std::uint16_t start,
+                                       const std::uint8_t (&bits)[32], wf_reply &reply) {
+    return wf_path_done_bits(&handle_, exchange, start, bits, &reply);
+  }
+  [[nodiscard]] std::int32_t done_octets(std::uint64_t exchange, const std::uint8_t *octets,
+                                         std::size_t length, wf_reply &reply) {
+    return wf_path_done_octets(&handle_, exchange, octets, length, &reply);
+  }
+
+  /* What a path tells. */
+
+  std::uint64_t now() { return wf_path_now(&handle_); }
+  std::uint64_t exchanges() { return wf_path_exchanges(&handle_); }
+  std::uint32_t open_count() { return wf_path_open_count(&handle_); }
+  bool live(std::uint16_t station) { return wf_path_live(&handle_, station) != 0; }
+  wf_tally tally() {
+    wf_tally told{};
+    wf_path_tally(&handle_, &told);
+    return told;
+  }
+  [[nodiscard]] std::int32_t share(std::uint16_t station, wf_class access, wf_share &out) {
+    return wf_path_share(&handle_, station, static_cast<std::uint8_t>(access), &out);
+  }
+  std::size_t tim(std::uint8_t (&out)[256]) { return wf_path_tim(&handle_, out); }
+
+ private:
+  Path() = default;
+
+  wf_path handle_{};
+  bool holds_ = false;
+};
+
+}  // namespace wf
+
+#endif
