@@ -37,6 +37,7 @@ ALL = [
     Check("worked", quick=True),
     Check("pages", quick=True),
     Check("sim", quick=True),
+    Check("install", quick=True),
     Check("durations"),
     Check("agreement-frames"),
     Check("sessions"),
