@@ -52,6 +52,7 @@ ALL = [
     Check("meetings-on-threads"),
     Check("lives", ("30",)),
     Check("long-runs", ("60",)),
+    Check("long-replay"),
     Check("freed"),
     Check("faults"),
     Check("edits"),

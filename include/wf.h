@@ -72,10 +72,12 @@ enum wf_code {
   WF_BAD_WINDOW = 2,    /* the window is not 1 to 256 */
   WF_BAD_START = 3,     /* the first sequence number is above 4095 */
   WF_BAD_EXPONENT = 4,  /* the A-MPDU length exponent is above 3 */
-  WF_BAD_RATE = 5,      /* the MCS is above 15, or the width neither 20 nor 40 MHz */
+  WF_BAD_RATE = 5,      /* there is no such rate: the MCS, the width, the guard interval or the streams are none of its format, or
+                         * are one of the ten combinations that VHT leaves out (wf_path_rate_vht) */
   WF_BAD_TICK = 6,      /* the clock would move by more than 10,000,000 microseconds */
   WF_BAD_TID = 7,       /* the TID is above 7 */
-  WF_BAD_AIR = 8,       /* the airtime is 0 or above 65,535 microseconds */
+  WF_BAD_AIR = 8,       /* the airtime is 0 or above 65,535 microseconds; at the end of an exchange: the one that is named is above
+                         * `charge` */
   WF_BAD_INDEX = 9,     /* the exchange has no transmission of that index */
   WF_LIVE = 10,         /* the station is live already */
   WF_NO_STATION = 11,   /* the station is not live */
@@ -99,7 +101,7 @@ enum wf_code {
   WF_NO_MEMORY = 40,    /* there is no memory */
   WF_BAD_LENGTH = 41,   /* a body has no octet, or more than WF_GREATEST_BODY */
   WF_SMALL_BUFFER = 42, /* the buffer is too small */
-  WF_BAD_CALL = 43,     /* the numbers show no call, or one that brings a frame or takes one */
+  WF_BAD_CALL = 43,     /* the numbers show no call, or one that brings a frame or takes one, or a rate of no format */
   /* octets that are no BlockAck to the exchange */
   WF_BLOCK_LENGTH = 51, /* not 28 octets, or 52 where the window is above 64 */
   WF_BLOCK_KIND = 52,   /* not a BlockAck */
@@ -109,7 +111,7 @@ enum wf_code {
   WF_BLOCK_NARROW = 56, /* not of 256 bits, and the window is above 64 */
   WF_NOT_MINE = 57,     /* not to the access point, or not from the exchange's station */
   WF_WRONG_TID = 58,    /* of another TID */
-  /* wf_path_make, wf_cell_make: 100 and the place of the first setting that is out of its range, 1 to 12 */
+  /* wf_path_make, wf_cell_make: 100 and the place of the first setting that is out of its range, 1 to 13 */
   WF_BAD_SETTING = 100
 };
 
@@ -150,13 +152,13 @@ enum wf_kind {
 enum wf_call_kind {
   WF_CALL_JOIN = 0,    /* station, window, start, exponent, weight */
   WF_CALL_LEAVE = 1,   /* station */
-  WF_CALL_RATE = 2,    /* station, mcs, mhz, short_guard */
+  WF_CALL_RATE = 2,    /* station, form, mcs, mhz; of HT short_guard, of VHT short_guard and streams, of HE guard and streams */
   WF_CALL_TICK = 3,    /* by */
   WF_CALL_ENQUEUE = 4, /* station, tid, flow, length; made by wf_cell_enqueue */
   WF_CALL_PULL = 5,    /* class_ */
   WF_CALL_ARRIVE = 6,  /* exchange, index */
   WF_CALL_ANSWER = 7,  /* exchange */
-  WF_CALL_DONE = 8,    /* exchange, heard */
+  WF_CALL_DONE = 8,    /* exchange, heard, air, which is 0 where no airtime is named */
   WF_CALL_SLEEP = 9,   /* station */
   WF_CALL_WAKE = 10,   /* station */
   WF_CALL_POLL = 11,   /* station */
@@ -186,7 +188,8 @@ struct wf_settings {
   uint32_t agg;          /* frames in one aggregate [1..256] */
   uint32_t cap;          /* data time of one aggregate, microseconds [3000..5400] */
   uint32_t sleeping;     /* frames queued per sleeping station and class [1..65535] */
-  uint32_t calls;        /* entries of a history, which a path does not keep [1..1048576] */
+  uint32_t calls;        /* entries of a history, which a path does not keep [1..4294967295] */
+  uint32_t charge;       /* microseconds that the end of an exchange may name, where that names any [0..65535] */
 };
 
 /* An answer (enum wf_kind). */
@@ -253,6 +256,9 @@ struct wf_share {
   uint64_t received; /* what it used itself (wf_path_receive) */
 };
 
+/* The formats of rates. The numbers of a call for a rate show no call where `form` is another. */
+enum wf_form { WF_FORM_HT = 0, WF_FORM_VHT = 1, WF_FORM_HE = 2 };
+
 /* The handle of a cell. */
 struct wf_cell {
   void *at;
@@ -263,20 +269,23 @@ struct wf_call {
   uint64_t exchange;
   uint32_t flow;
   uint32_t by;         /* what the clock moves by, in microseconds */
-  uint32_t air;        /* what the station used, in microseconds */
+  uint32_t air;        /* what the station used, or what an exchange took, in microseconds */
   uint16_t station;
   uint16_t window;     /* in frames */
   uint16_t start;      /* the first sequence number */
   uint16_t index;      /* of a transmission of the exchange, from 0 on */
   uint16_t length;     /* of the frame's body, in octets */
+  uint16_t guard;      /* of a rate of HE: the guard interval, in nanoseconds */
   uint8_t kind;        /* enum wf_call_kind */
   uint8_t tid;
   uint8_t class_;      /* enum wf_class */
   uint8_t exponent;    /* of the A-MPDU length */
   uint8_t weight;
+  uint8_t form;        /* enum wf_form: of what format the rate is */
   uint8_t mcs;
   uint8_t mhz;
-  uint8_t short_guard; /* 1, or any number but 0, for the short guard interval */
+  uint8_t short_guard; /* of a rate of HT or VHT: 1, or any number but 0, for the short guard interval */
+  uint8_t streams;     /* of a rate of VHT or HE: the spatial streams */
   uint8_t heard;       /* 1, or any number but 0, where the exchange ends with its answer heard */
 };
 
@@ -315,10 +324,21 @@ int32_t wf_path_join(struct wf_path *path, uint16_t station, uint16_t window, ui
 /* A station is no longer live; its frames are dropped. WF_BAD_STATION, WF_NO_STATION, WF_STILL_OPEN. */
 int32_t wf_path_leave(struct wf_path *path, uint16_t station, struct wf_reply *reply);
 
-/* A live station is sent to at this rate: MCS 0 to 15, 20 or 40 MHz, the short guard interval where `short_guard` is not 0.
+/* A live station is sent to at this rate of HT: MCS 0 to 15, 20 or 40 MHz, the short guard interval where `short_guard` is not 0.
  * WF_BAD_STATION, WF_BAD_RATE, WF_NO_STATION. */
 int32_t wf_path_rate(struct wf_path *path, uint16_t station, uint8_t mcs, uint8_t mhz, uint8_t short_guard,
                      struct wf_reply *reply);
+
+/* A live station is sent to at this rate of VHT: MCS 0 to 9, 20, 40, 80 or 160 MHz, the short guard interval where `short_guard` is
+ * not 0, 1 to 8 spatial streams. There is no rate of MCS 9 on 20 MHz with 1, 2, 4, 5, 7 or 8 streams, of MCS 6 on 80 MHz with 3 or 7,
+ * of MCS 9 on 80 MHz with 6, and of MCS 9 on 160 MHz with 3. WF_BAD_STATION, WF_BAD_RATE, WF_NO_STATION. */
+int32_t wf_path_rate_vht(struct wf_path *path, uint16_t station, uint8_t mcs, uint8_t mhz, uint8_t short_guard, uint8_t streams,
+                         struct wf_reply *reply);
+
+/* A live station is sent to at this rate of HE: MCS 0 to 11, 20, 40, 80 or 160 MHz, a guard interval of 800, 1600 or 3200
+ * nanoseconds, 1 to 8 spatial streams. WF_BAD_STATION, WF_BAD_RATE, WF_NO_STATION. */
+int32_t wf_path_rate_he(struct wf_path *path, uint16_t station, uint8_t mcs, uint8_t mhz, uint16_t guard, uint8_t streams,
+                        struct wf_reply *reply);
 
 /* The clock moves on by 0 to 10,000,000 microseconds. WF_BAD_TICK. */
 int32_t wf_path_tick(struct wf_path *path, uint32_t by, struct wf_reply *reply);
@@ -362,17 +382,20 @@ int32_t wf_path_frame_id(struct wf_path *path, uint64_t exchange, uint16_t index
  * as it was, and `size` too, but where there is too little room it says how much is needed. */
 int32_t wf_path_mpdu(struct wf_path *path, uint64_t exchange, uint16_t index, uint8_t *out, size_t room, size_t *size);
 
-/* An exchange ends: its station pays for it, and its frames are acknowledged, wait again or are dropped. WF_NO_EXCHANGE.
+/* An exchange ends: its station pays for it, and its frames are acknowledged, wait again or are dropped. What it pays is `air`, 1 to
+ * `charge` microseconds, which a device has measured; where `air` is 0, what wf_path_pull answered. WF_NO_EXCHANGE, and then
+ * WF_BAD_AIR where `air` is above `charge`: by the standard settings, where that is 0, each number but 0 is.
  * Nothing was heard; */
-int32_t wf_path_done_lost(struct wf_path *path, uint64_t exchange, struct wf_reply *reply);
+int32_t wf_path_done_lost(struct wf_path *path, uint64_t exchange, uint32_t air, struct wf_reply *reply);
 
 /* or a BlockAck was heard of this start (modulo 4096) and this bitmap, the least significant bit of the first octet first: 64 bits
  * count, or 256 where the window is above 64; */
-int32_t wf_path_done_bits(struct wf_path *path, uint64_t exchange, uint16_t start, const uint8_t bits[32], struct wf_reply *reply);
+int32_t wf_path_done_bits(struct wf_path *path, uint64_t exchange, uint16_t start, const uint8_t bits[32], uint32_t air,
+                          struct wf_reply *reply);
 
-/* or the octets of a BlockAck were heard. WF_BLOCK_LENGTH to WF_WRONG_TID say why they are none to this exchange: it is then open
- * still, and `reply` as it was, as also after WF_NO_EXCHANGE here. */
-int32_t wf_path_done_octets(struct wf_path *path, uint64_t exchange, const uint8_t *octets, size_t length,
+/* or the octets of a BlockAck were heard. WF_BLOCK_LENGTH to WF_WRONG_TID say why they are none to this exchange, and come before
+ * WF_BAD_AIR: it is then open still, and `reply` as it was, as also after WF_NO_EXCHANGE and WF_BAD_AIR here. */
+int32_t wf_path_done_octets(struct wf_path *path, uint64_t exchange, const uint8_t *octets, size_t length, uint32_t air,
                             struct wf_reply *reply);
 
 /* ---- what a path tells */
@@ -402,7 +425,8 @@ size_t wf_path_tim(struct wf_path *path, uint8_t out[256]);
  * a cell asks too. Each call names its caller by a number, which the history keeps and the machine does not look at. */
 
 /* Puts a cell of these settings into a handle that holds nothing. WF_BAD_SETTING + n, WF_NO_MEMORY; the handle then holds nothing
- * still. It takes memory for the path, for the receive halves and for a history of `calls` entries. */
+ * still. It takes memory for the path, for the receive halves and for a history of `calls` entries, of 48 octets each: with very
+ * many it is WF_NO_MEMORY. */
 int32_t wf_cell_make(struct wf_cell *cell, const struct wf_settings *settings);
 
 /* Frees the cell of a handle with all frames inside; the handle then holds nothing. */
@@ -410,7 +434,8 @@ void wf_cell_free(struct wf_cell *cell);
 
 /* Makes a call that brings no frame and takes none: all kinds but WF_CALL_ENQUEUE and WF_CALL_REAP. It writes its answer to `reply`,
  * and gives the refusal. The call is one entry of the history, refused or not. WF_HISTORY_FULL where the history has `calls`
- * entries, and WF_BAD_CALL where the numbers show no such call, and then `reply` is as it was; after both nothing has changed. */
+ * entries, and WF_BAD_CALL where the numbers show no such call, or a rate of no format, and then `reply` is as it was; after both
+ * nothing has changed. */
 int32_t wf_cell_ask(struct wf_cell *cell, uint32_t caller, const struct wf_call *call, struct wf_reply *reply);
 
 /* A frame comes for a station, as in wf_path_enqueue; it takes memory for the frame. Also WF_HISTORY_FULL. The call is one

@@ -1,63 +1,149 @@
-"""Rates and airtimes, by the rules of docs/MACHINE.md ("Pull"): for the models beside the machine, which tells its own airtimes."""
+"""Rates and times of data, by the rules of docs/MACHINE.md ("Rate" and "Time of data"): for the models beside the machine, which tells
+its own airtimes, and for the checks."""
 from dataclasses import dataclass
 
-BITS = {
-    20: [26, 52, 78, 104, 156, 208, 234, 260, 52, 104, 156, 208, 312, 416, 468, 520],
-    40: [54, 108, 162, 216, 324, 432, 486, 540, 108, 216, 324, 432, 648, 864, 972, 1080],
-}
+# Data bits of twelve carriers, bits of a carrier, and the code, by modulation.
+BITS_OF_TWELVE = (6, 12, 18, 24, 36, 48, 54, 60, 72, 80, 90, 100)
+BITS_OF_CARRIER = (1, 2, 2, 4, 4, 6, 6, 6, 8, 8, 10, 10)
+CODE_RATES = ((1, 2), (1, 2), (3, 4), (1, 2), (3, 4), (2, 3), (3, 4), (5, 6), (3, 4), (5, 6), (3, 4), (5, 6))
+CARRIERS = {"ht": {20: 52, 40: 108}, "vht": {20: 52, 40: 108, 80: 234, 160: 468}, "he": {20: 234, 40: 468, 80: 980, 160: 1960}}
+TRAINING_FIELDS = (1, 2, 4, 4, 6, 6, 8, 8)
+GUARDS = {"long": 800, "short": 400}
+MOST_MCS = {"ht": 15, "vht": 9, "he": 11}
+# What VHT has no rate for: MCS, MHz and streams.
+NO_VHT_RATES = {*((9, 20, streams) for streams in (1, 2, 4, 5, 7, 8)), (6, 80, 3), (6, 80, 7), (9, 80, 6), (9, 160, 3)}
+
 SIFS = 16
 BLOCK_ACK = 32
 WIDE_BLOCK_ACK = 40
-MAX_AGGREGATE_OCTETS = 2**16 - 1  # of the A-MPDU length exponent 3
+# Of the A-MPDU length exponent 3.
+MOST_OCTETS = {"ht": 2**16 - 1, "vht": 2**20 - 1, "he": 2**20 - 1}
 SLOW_KBIT = 12_000  # CoDel is more patient below this rate
 
 
 @dataclass(frozen=True)
 class Rate:
-    """A rate as in a trace's line: MCS 0 to 15, 20 or 40 MHz, long or short guard interval."""
+    """A rate: its format `ht`, `vht` or `he`, the MCS, the width in MHz, the guard interval in nanoseconds, and the streams."""
 
+    format: str
     mcs: int
     mhz: int
-    guard: str
+    guard: int
+    streams: int
 
     def __str__(self):
-        return f"{self.mcs} {self.mhz} {self.guard}"
+        """As in a trace's line."""
+        if self.format == "he":
+            return f"he {self.mcs} {self.mhz} {self.guard} {self.streams}"
+        guard = "short" if self.guard == 400 else "long"
+        if self.format == "vht":
+            return f"vht {self.mcs} {self.mhz} {guard} {self.streams}"
+        return f"{self.mcs} {self.mhz} {guard}"
+
+    @property
+    def modulation(self):
+        return self.mcs % 8 if self.format == "ht" else self.mcs
+
+    @property
+    def carriers(self):
+        """Carriers of all streams."""
+        return CARRIERS[self.format][self.mhz] * self.streams
+
+    @property
+    def bits_of_all_twelves(self):
+        """Twelve times the data bits of one symbol, with their fraction."""
+        return self.carriers * BITS_OF_TWELVE[self.modulation]
 
     @property
     def bits(self):
         """Data bits of one symbol."""
-        return BITS[self.mhz][self.mcs]
+        return self.bits_of_all_twelves // 12
+
+    @property
+    def symbol(self):
+        """Tenths of a microsecond of one symbol."""
+        if self.format == "he":
+            return 128 + self.guard // 100
+        return 36 if self.guard == 400 else 40
 
     @property
     def kbit(self):
         """Kilobits a second, rounded down."""
-        return 250 * self.bits if self.guard == "long" else 2500 * self.bits // 9
+        return 10_000 * self.bits // self.symbol
+
+    @property
+    def encoders(self):
+        """How many encoders there are: of VHT the fewest that leave each a whole number of its code's blocks in a symbol."""
+        if self.format == "he":
+            return 1
+        if self.format == "ht":
+            return 1 if self.bits <= 1200 else 2
+        count = -(-self.bits // 2160)
+        while self.carriers * BITS_OF_CARRIER[self.modulation] % (CODE_RATES[self.modulation][1] * count):
+            count += 1
+        return count
+
+    @property
+    def training(self):
+        """Tenths of a microsecond of each training field."""
+        if self.format == "he":
+            return (128 if self.guard == 3200 else 64) + self.guard // 100
+        return 40
 
     @property
     def preamble(self):
-        """Microseconds of the preamble: 32, and 4 for each stream."""
-        return 36 if self.mcs < 8 else 40
+        """Tenths of a microsecond before the first symbol of data."""
+        return (320 if self.format == "ht" else 360) + self.training * TRAINING_FIELDS[self.streams - 1]
+
+    def payload(self, octets):
+        """Bits of so many octets, with SERVICE and the tails."""
+        return 8 * octets + 16 + 6 * self.encoders
+
+    def symbols(self, octets):
+        return -(-self.payload(octets) // self.bits)
+
+    def tenths(self, octets):
+        """Tenths of a microsecond of the data of an aggregate of so many octets. HT and VHT have whole times of 4 microseconds."""
+        payload = self.symbol * self.symbols(octets)
+        return self.preamble + (payload if self.format == "he" else -(-payload // 40) * 40)
 
     def data_time(self, octets):
-        """Microseconds of the data of an aggregate of so many octets."""
-        symbols = -(-(8 * octets + 22) // self.bits)
-        return self.preamble + 4 * (symbols if self.guard == "long" else -(-9 * symbols // 10))
+        """The same, in whole microseconds."""
+        return -(-self.tenths(octets) // 10)
 
     def octets_within(self, microseconds):
         """The most octets whose data time is at most this."""
-        units = (microseconds - self.preamble) // 4
-        symbols = units if self.guard == "long" else 10 * units // 9
-        return (symbols * self.bits - 22) // 8
+        room = 10 * microseconds - self.preamble
+        symbols = (room if self.format == "he" else room // 40 * 40) // self.symbol
+        return (symbols * self.bits - self.payload(0)) // 8
+
+    @property
+    def most_octets(self):
+        """The most octets of an aggregate, at the A-MPDU length exponent 3."""
+        return MOST_OCTETS[self.format]
+
+
+def rate_of(form, mcs, mhz, guard, streams):
+    """The rate of these numbers, or None where there is no such rate."""
+    guards = (800, 1600, 3200) if form == "he" else (800, 400)
+    if mcs > MOST_MCS[form] or mhz not in CARRIERS[form] or guard not in guards or not 1 <= streams <= 8:
+        return None
+    if form == "vht" and (mcs, mhz, streams) in NO_VHT_RATES:
+        return None
+    return Rate(form, mcs, mhz, guard, streams)
 
 
 def parse_rate(text):
-    """The rate that a text `MCS MHZ long|short` stands for, or None."""
+    """The rate that a text as in a trace's line stands for, `MCS MHZ GUARD`, `vht MCS MHZ GUARD N` or `he MCS MHZ GUARD N`, or None."""
     words = text.split()
-    if len(words) != 3 or not words[0].isdecimal() or words[2] not in ("long", "short"):
+    form = words.pop(0) if words[:1] in (["vht"], ["he"]) else "ht"
+    if len(words) != (3 if form == "ht" else 4):
         return None
-    if int(words[0]) > 15 or words[1] not in ("20", "40"):
+    guard = words.pop(2) if form == "he" else GUARDS.get(words.pop(2))
+    if guard is None or not all(word.isdecimal() for word in [*words, str(guard)]):
         return None
-    return Rate(int(words[0]), int(words[1]), words[2])
+    mcs, mhz, *streams = map(int, words)
+    return rate_of(form, mcs, mhz, int(guard), streams[0] if streams else 1 + mcs // 8)
 
 
 def subframe(body):

@@ -32,7 +32,7 @@ STANDARD = {  # of those that the bench or a model goes by
 MACHINE = "airtime"  # the path that is no model
 PICTURES = ("airtime", "throughput", "delay", "time")
 KINDS = ("saturated", "mbit", "every_ms", "poisson_per_s", "responsive")
-RATE_WANTED = '"MCS MHZ long|short" is, MCS 0 to 15 and MHZ 20 or 40, as "15 20 short"'
+RATE_WANTED = 'a rate is, as in a trace: "15 20 short", "vht 9 80 short 2" or "he 11 80 800 2"'
 LONGEST = 86_400
 
 

@@ -26,7 +26,7 @@ int main(void) {
   if (wf_path_pull(&path, WF_VI, &reply, &frames) != WF_OK) return 1;
   printf("exchange %d: %d microseconds, frame %d, number %d\n", (int)reply.exchange, (int)reply.air,
          (int)frames.ids[0], (int)frames.numbers[0]);
-  if (wf_path_done_bits(&path, reply.exchange, 4095, bits, &reply) != WF_OK) return 1;
+  if (wf_path_done_bits(&path, reply.exchange, 4095, bits, 0, &reply) != WF_OK) return 1;
   printf("%d acknowledged\n", (int)reply.acked);
   if (wf_path_reap(&path, &reply, &taken, body, sizeof body) != WF_OK) return 1;
   printf("reaped: station %d, TID %d, flow %d, %d octets, fate %d\n", (int)taken.station, (int)taken.tid,

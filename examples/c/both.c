@@ -13,7 +13,7 @@
 #include "words.h"
 #include "wf.h"
 
-enum { STATIONS = 6, OPEN = 32 };
+enum { STATIONS = 6, OPEN = 32, CHARGE = 5000 };
 
 static struct wf_cell cell;
 static struct wf_reply reply;
@@ -90,6 +90,18 @@ static uint8_t some_kind(void) {
   return (uint8_t)below(WF_CALL_REAP);
 }
 
+/* A width in MHz, now and then one of no format. */
+static uint8_t some_width(void) {
+  static const uint8_t WIDTHS[] = {20, 40, 80, 160};
+  return below(9) ? WIDTHS[below(4)] : 30;
+}
+
+/* An airtime for the end of an exchange: none, or one that may be named, or now and then one that may not. */
+static uint32_t some_airtime(void) {
+  if (below(2)) return 0;
+  return below(8) ? 1 + below(CHARGE) : CHARGE + 1 + below(3);
+}
+
 static void call_ask(uint32_t caller, uint16_t station) {
   struct wf_call call = {0};
   int32_t code;
@@ -102,13 +114,17 @@ static void call_ask(uint32_t caller, uint16_t station) {
   call.heard = (uint8_t)(below(4) != 0);
   call.by = below(50) ? below(20000) : 10000000 + below(2);
   call.air = below(50) ? below(2000) : 65535 + below(2);
+  if (call.kind == WF_CALL_DONE) call.air = some_airtime();
   call.window = (uint16_t)(below(4) ? 1 + below(64) : 1 + below(257));
   call.start = (uint16_t)below(4100);
   call.exponent = (uint8_t)below(5);
   call.weight = (uint8_t)below(18);
+  call.form = (uint8_t)below(3);
   call.mcs = (uint8_t)below(17);
-  call.mhz = (uint8_t)(below(9) ? 20 + 20 * below(2) : 30);
+  call.mhz = some_width();
   call.short_guard = (uint8_t)below(2);
+  call.guard = (uint16_t)(below(9) ? 800 << below(3) : 400);
+  call.streams = (uint8_t)below(10);
   code = wf_cell_ask(&cell, caller, &call, &reply);
   follow(call.exchange);
   write_answer(code);
@@ -149,6 +165,24 @@ static void call(void) {
   else call_ask(caller, station);
 }
 
+/* Writes what a call for a rate asks for. */
+static void write_rate(const struct wf_call *c) {
+  unsigned s = c->station, mcs = c->mcs, mhz = c->mhz, streams = c->streams;
+  switch (c->form) {
+    case WF_FORM_HT: fprintf(trace, "rate %u %u %u %s\n", s, mcs, mhz, GUARDS[c->short_guard]); break;
+    case WF_FORM_VHT: fprintf(trace, "rate %u vht %u %u %s %u\n", s, mcs, mhz, GUARDS[c->short_guard], streams); break;
+    case WF_FORM_HE: fprintf(trace, "rate %u he %u %u %u %u\n", s, mcs, mhz, (unsigned)c->guard, streams); break;
+    default: fail("a rate of no format");
+  }
+}
+
+/* Writes how an exchange ends, and the airtime that is named, if any. */
+static void write_done(const struct wf_call *c) {
+  fprintf(trace, "done %llu %s", (unsigned long long)c->exchange, c->heard ? "heard" : "lost");
+  if (c->air) fprintf(trace, " air %lu", (unsigned long)c->air);
+  fprintf(trace, "\n");
+}
+
 /* Writes an entry of the history as a line of the trace. */
 static void write_entry(uint64_t place) {
   struct wf_call c = {0};
@@ -162,13 +196,13 @@ static void write_entry(uint64_t place) {
       fprintf(trace, "join %u %u %u %u %u\n", s, (unsigned)c.window, (unsigned)c.start, (unsigned)c.exponent, (unsigned)c.weight);
       break;
     case WF_CALL_LEAVE: fprintf(trace, "leave %u\n", s); break;
-    case WF_CALL_RATE: fprintf(trace, "rate %u %u %u %s\n", s, (unsigned)c.mcs, (unsigned)c.mhz, c.short_guard ? "short" : "long"); break;
+    case WF_CALL_RATE: write_rate(&c); break;
     case WF_CALL_TICK: fprintf(trace, "tick %lu\n", (unsigned long)c.by); break;
     case WF_CALL_ENQUEUE: fprintf(trace, "enq %u %u %lu %u\n", s, (unsigned)c.tid, (unsigned long)c.flow, (unsigned)c.length); break;
     case WF_CALL_PULL: fprintf(trace, "pull %s\n", CLASSES[c.class_]); break;
     case WF_CALL_ARRIVE: fprintf(trace, "arrive %llu %u\n", (unsigned long long)c.exchange, (unsigned)c.index); break;
     case WF_CALL_ANSWER: fprintf(trace, "answer %llu\n", (unsigned long long)c.exchange); break;
-    case WF_CALL_DONE: fprintf(trace, "done %llu %s\n", (unsigned long long)c.exchange, c.heard ? "heard" : "lost"); break;
+    case WF_CALL_DONE: write_done(&c); break;
     case WF_CALL_SLEEP: fprintf(trace, "sleep %u\n", s); break;
     case WF_CALL_WAKE: fprintf(trace, "wake %u\n", s); break;
     case WF_CALL_POLL: fprintf(trace, "poll %u\n", s); break;
@@ -187,11 +221,12 @@ static void open_cell(uint32_t calls) {
   settings.room = 400;
   settings.attempts = 4;
   settings.sleeping = 8;
+  settings.charge = CHARGE;
   settings.calls = 0;
   if (wf_cell_make(&cell, &settings) != WF_BAD_SETTING + 12) fail("a history of no calls is taken");
   settings.calls = calls;
   if (wf_cell_make(&cell, &settings)) fail("there is no cell");
-  fprintf(trace, "cell stations=%d flows=32 limit=40 room=400 attempts=4 sleeping=8\n", STATIONS);
+  fprintf(trace, "cell stations=%d flows=32 limit=40 room=400 attempts=4 sleeping=8 charge=%d\n", STATIONS, CHARGE);
 }
 
 /* The history is full: each call is refused, and is no entry. */
@@ -200,6 +235,9 @@ static void look_at_the_end(uint64_t calls) {
   uint32_t caller = 0;
   none.kind = WF_CALL_REAP;
   if (wf_cell_ask(&cell, 0, &none, &reply) != WF_BAD_CALL) fail("a reap without a buffer is taken");
+  none.kind = WF_CALL_RATE;
+  none.form = 3;
+  if (wf_cell_ask(&cell, 0, &none, &reply) != WF_BAD_CALL) fail("a rate of no format is taken");
   none.kind = WF_CALL_TICK;
   if (wf_cell_ask(&cell, 0, &none, &reply) != WF_HISTORY_FULL) fail("a call past the end is taken");
   if (wf_cell_len(&cell) != calls || wf_cell_room(&cell)) fail("another length");

@@ -90,7 +90,7 @@ static int transmit(struct air *air, uint64_t exchange, uint8_t ack[28]) {
   return arrived;
 }
 
-/* One exchange: pulled, sent, and ended by what was heard. */
+/* One exchange: pulled, sent, and ended by what was heard. No device measures what it took, so no airtime is named. */
 static int exchange_once(struct air *air) {
   static struct wf_frames frames;
   uint8_t ack[28];
@@ -100,9 +100,9 @@ static int exchange_once(struct air *air) {
   exchange = air->reply.exchange;
   took = air->reply.air;
   if (!transmit(air, exchange, ack) || is_lost(air)) {
-    if (wf_path_done_lost(&air->path, exchange, &air->reply)) return 0;
+    if (wf_path_done_lost(&air->path, exchange, 0, &air->reply)) return 0;
   } else {
-    if (wf_path_done_octets(&air->path, exchange, ack, sizeof ack, &air->reply)) return 0;
+    if (wf_path_done_octets(&air->path, exchange, ack, sizeof ack, 0, &air->reply)) return 0;
   }
   return wf_path_tick(&air->path, took, &air->reply) == WF_OK;
 }

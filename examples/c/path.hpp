@@ -2,9 +2,9 @@
  * A path of libwf for C++17: `wf::Path` owns one, and frees it. `./wf install` puts this file at include/wf/path.hpp.
  *
  * Each call of wf.h on a path is a method here, with the same arguments behind the handle, and gives the same:
- * what wf.h says of a call holds of its method. A path may be moved and not copied. One that was moved from holds
- * nothing: it may be destroyed, assigned to and asked by `holds`, and no other method may be called on it. A path
- * stays on the thread that made it.
+ * what wf.h says of a call holds of its method. The airtime of an end stands last, and may be left out. A path may be
+ * moved and not copied. One that was moved from holds nothing: it may be destroyed, assigned to and asked by `holds`,
+ * and no other method may be called on it. A path stays on the thread that made it.
  */
 #ifndef WF_PATH_HPP
 #define WF_PATH_HPP
@@ -73,6 +73,14 @@ class Path {
                                   wf_reply &reply) {
     return wf_path_rate(&handle_, station, mcs, mhz, short_guard, &reply);
   }
+  [[nodiscard]] std::int32_t rate_vht(std::uint16_t station, std::uint8_t mcs, std::uint8_t mhz, bool short_guard,
+                                      std::uint8_t streams, wf_reply &reply) {
+    return wf_path_rate_vht(&handle_, station, mcs, mhz, short_guard, streams, &reply);
+  }
+  [[nodiscard]] std::int32_t rate_he(std::uint16_t station, std::uint8_t mcs, std::uint8_t mhz, std::uint16_t guard,
+                                     std::uint8_t streams, wf_reply &reply) {
+    return wf_path_rate_he(&handle_, station, mcs, mhz, guard, streams, &reply);
+  }
   [[nodiscard]] std::int32_t tick(std::uint32_t by, wf_reply &reply) {
     return wf_path_tick(&handle_, by, &reply);
   }
@@ -112,16 +120,20 @@ class Path {
                                   std::size_t room, std::size_t &size) {
     return wf_path_mpdu(&handle_, exchange, index, out, room, &size);
   }
-  [[nodiscard]] std::int32_t done_lost(std::uint64_t exchange, wf_reply &reply) {
-    return wf_path_done_lost(&handle_, exchange, &reply);
+
+  /* Where the airtime is left out, it is 0, and what was computed is charged. */
+
+  [[nodiscard]] std::int32_t done_lost(std::uint64_t exchange, wf_reply &reply, std::uint32_t air = 0) {
+    return wf_path_done_lost(&handle_, exchange, air, &reply);
   }
   [[nodiscard]] std::int32_t done_bits(std::uint64_t exchange, std::uint16_t start,
-                                       const std::uint8_t (&bits)[32], wf_reply &reply) {
-    return wf_path_done_bits(&handle_, exchange, start, bits, &reply);
+                                       const std::uint8_t (&bits)[32], wf_reply &reply,
+                                       std::uint32_t air = 0) {
+    return wf_path_done_bits(&handle_, exchange, start, bits, air, &reply);
   }
   [[nodiscard]] std::int32_t done_octets(std::uint64_t exchange, const std::uint8_t *octets,
-                                         std::size_t length, wf_reply &reply) {
-    return wf_path_done_octets(&handle_, exchange, octets, length, &reply);
+                                         std::size_t length, wf_reply &reply, std::uint32_t air = 0) {
+    return wf_path_done_octets(&handle_, exchange, octets, length, air, &reply);
   }
 
   /* What a path tells. */

@@ -15,7 +15,7 @@
 #include "words.h"
 #include "wf.h"
 
-enum { STATIONS = 6, NUMBERS = 4096, OPEN = 32 };
+enum { STATIONS = 6, NUMBERS = 4096, OPEN = 32, CHARGE = 5000 };
 
 /* An open exchange. */
 struct exchange {
@@ -76,10 +76,31 @@ static void call_join(uint16_t s) {
   write_answer(code, NULL);
 }
 
+/* A width in MHz, now and then one of no format. */
+static uint8_t some_width(void) {
+  static const uint8_t WIDTHS[] = {20, 40, 80, 160};
+  return below(9) ? WIDTHS[below(4)] : 30;
+}
+
 static void call_rate(uint16_t s) {
-  uint8_t mcs = (uint8_t)below(17), mhz = (uint8_t)(below(9) ? 20 + 20 * below(2) : 30), guard = (uint8_t)below(2);
-  int32_t code = wf_path_rate(&path, s, mcs, mhz, guard, &reply);
-  fprintf(trace, "rate %u %u %u %s\n", (unsigned)s, (unsigned)mcs, (unsigned)mhz, guard ? "short" : "long");
+  uint8_t mcs = (uint8_t)below(17), mhz = some_width(), short_guard = (uint8_t)below(2);
+  int32_t code = wf_path_rate(&path, s, mcs, mhz, short_guard, &reply);
+  fprintf(trace, "rate %u %u %u %s\n", (unsigned)s, (unsigned)mcs, (unsigned)mhz, GUARDS[short_guard]);
+  write_answer(code, NULL);
+}
+
+static void call_rate_vht(uint16_t s) {
+  uint8_t mcs = (uint8_t)below(11), mhz = some_width(), short_guard = (uint8_t)below(2), streams = (uint8_t)below(10);
+  int32_t code = wf_path_rate_vht(&path, s, mcs, mhz, short_guard, streams, &reply);
+  fprintf(trace, "rate %u vht %u %u %s %u\n", (unsigned)s, (unsigned)mcs, (unsigned)mhz, GUARDS[short_guard], (unsigned)streams);
+  write_answer(code, NULL);
+}
+
+static void call_rate_he(uint16_t s) {
+  uint8_t mcs = (uint8_t)below(13), mhz = some_width(), streams = (uint8_t)below(10);
+  uint16_t guard = (uint16_t)(below(9) ? 800 << below(3) : 400);
+  int32_t code = wf_path_rate_he(&path, s, mcs, mhz, guard, streams, &reply);
+  fprintf(trace, "rate %u he %u %u %u %u\n", (unsigned)s, (unsigned)mcs, (unsigned)mhz, (unsigned)guard, (unsigned)streams);
   write_answer(code, NULL);
 }
 
@@ -166,7 +187,7 @@ static uint16_t shown(const struct exchange *x, uint8_t bits[32]) {
 }
 
 /* Ends an exchange by the octets of a BlockAck. */
-static int32_t done_octets(const struct exchange *x, uint16_t start, const uint8_t bits[32]) {
+static int32_t done_octets(const struct exchange *x, uint16_t start, const uint8_t bits[32], uint32_t air) {
   uint8_t frame[WF_GREATEST_MPDU] = {0}, ack[52] = {0};
   size_t size = 0, need = 0, length = windows[x->station] > 64 ? 52 : 28;
   if (wf_path_mpdu(&path, x->number, 0, frame, 15, &need) != WF_SMALL_BUFFER) fail("room for a frame in 15 octets");
@@ -179,32 +200,43 @@ static int32_t done_octets(const struct exchange *x, uint16_t start, const uint8
   ack[18] = (uint8_t)(start << 4);
   ack[19] = (uint8_t)(start >> 4);
   memcpy(ack + 20, bits, length - 20);
-  if (wf_path_done_octets(&path, x->number, ack, length, &reply) != WF_WRONG_TID) fail("another TID is taken");
-  if (wf_path_done_octets(&path, x->number, ack, length - 1, &reply) != WF_BLOCK_LENGTH) fail("a BlockAck cut short is taken");
+  if (wf_path_done_octets(&path, x->number, ack, length, air, &reply) != WF_WRONG_TID) fail("another TID is taken");
+  if (wf_path_done_octets(&path, x->number, ack, length - 1, air, &reply) != WF_BLOCK_LENGTH) fail("a BlockAck cut short is taken");
   ack[17] = (uint8_t)(x->tid << 4);
-  return wf_path_done_octets(&path, x->number, ack, length, &reply);
+  return wf_path_done_octets(&path, x->number, ack, length, air, &reply);
+}
+
+/* Ends an exchange, which may name an airtime. The call with octets leaves `reply` as it was where that is too much, so the one with
+ * bits is then made too, for the answer. */
+static int32_t end_exchange(const struct exchange *x, int heard, uint32_t air) {
+  uint8_t bits[32];
+  uint16_t start;
+  int32_t code = WF_BAD_AIR;
+  if (heard) {
+    start = shown(x, bits);
+    if (below(2)) code = done_octets(x, start, bits, air);
+    if (code == WF_BAD_AIR) code = wf_path_done_bits(&path, x->number, start, bits, air, &reply);
+  } else {
+    code = wf_path_done_lost(&path, x->number, air, &reply);
+  }
+  fprintf(trace, "done %llu %s", (unsigned long long)x->number, heard ? "heard" : "lost");
+  if (air) fprintf(trace, " air %lu", (unsigned long)air);
+  fprintf(trace, "\n");
+  write_answer(code, NULL);
+  return code;
 }
 
 static void call_done(void) {
   struct exchange x;
-  uint8_t bits[32];
-  uint16_t start;
   int which, heard;
-  int32_t code;
   if (open_count == 0) return;
   which = (int)below((uint32_t)open_count);
   x = exchanges[which];
   exchanges[which] = exchanges[--open_count];
   heard = arrive(&x) && below(4);
-  if (heard) {
-    start = shown(&x, bits);
-    code = below(2) ? done_octets(&x, start, bits) : wf_path_done_bits(&path, x.number, start, bits, &reply);
-  } else {
-    code = wf_path_done_lost(&path, x.number, &reply);
-  }
-  fprintf(trace, "done %llu %s\n", (unsigned long long)x.number, heard ? "heard" : "lost");
-  write_answer(code, NULL);
-  if (wf_path_done_lost(&path, x.number, &reply) != WF_NO_EXCHANGE) fail("an exchange that ends twice");
+  if (below(8) == 0 && end_exchange(&x, heard, CHARGE + 1 + below(3)) != WF_BAD_AIR) fail("too great an airtime is taken");
+  if (end_exchange(&x, heard, below(2) ? 1 + below(CHARGE) : 0)) fail("an exchange that does not end");
+  if (wf_path_done_lost(&path, x.number, CHARGE + 1, &reply) != WF_NO_EXCHANGE) fail("an exchange that ends twice");
 }
 
 static void call_reap(void) {
@@ -253,7 +285,9 @@ static void call(void) {
   else if (which < 76) call_done();
   else if (which < 90) call_reap();
   else if (which < 93) call_join(s);
-  else if (which < 95) call_rate(s);
+  else if (which < 94) call_rate(s);
+  else if (which < 95) call_rate_vht(s);
+  else if (which < 96) call_rate_he(s);
   else call_other(s);
 }
 
@@ -296,8 +330,11 @@ static void open_path(void) {
   settings.room = 400;
   settings.attempts = 4;
   settings.sleeping = 8;
+  settings.charge = 70000;
+  if (wf_path_make(&path, &settings) != WF_BAD_SETTING + 13) fail("a charge of 70000 is taken");
+  settings.charge = CHARGE;
   if (wf_path_make(&path, &settings)) fail("there is no path");
-  fprintf(trace, "cell stations=%d flows=32 limit=40 room=400 attempts=4 sleeping=8\n", STATIONS);
+  fprintf(trace, "cell stations=%d flows=32 limit=40 room=400 attempts=4 sleeping=8 charge=%d\n", STATIONS, CHARGE);
 }
 
 int main(int count, char **words) {

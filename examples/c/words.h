@@ -9,6 +9,7 @@
 #include "wf.h"
 
 static const char *const CLASSES[] = {"bk", "be", "vi", "vo"};
+static const char *const GUARDS[] = {"long", "short"};
 static const char *const FATES[] = {"held", "acked", "overlimit", "codel", "retries", "left"};
 static const char *const REFUSALS[] = {
     "", "bad-station", "bad-window", "bad-start", "bad-exponent", "bad-rate", "bad-tick", "bad-tid", "bad-air", "bad-index", "live",

@@ -150,8 +150,8 @@ class PathDevice : public ns3::SimpleNetDevice {
   void End(uint64_t exchange, uint16_t start) {
     std::array<uint8_t, 32> bits{};
     Tick();
-    Must(Transmit(exchange, start, bits) ? wf_path_done_bits(&m_path, exchange, start, bits.data(), &m_reply)
-                                         : wf_path_done_lost(&m_path, exchange, &m_reply));
+    Must(Transmit(exchange, start, bits) ? wf_path_done_bits(&m_path, exchange, start, bits.data(), 0, &m_reply)
+                                         : wf_path_done_lost(&m_path, exchange, 0, &m_reply));
     Reap();
     Begin();
   }

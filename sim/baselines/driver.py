@@ -6,7 +6,7 @@ receiver at once and at no cost, where the machine sends a BlockAckReq.
 from collections import deque
 
 from ..frames import CLASS_OF_TID, CLASSES, Exchange, Path
-from ..rates import MAX_AGGREGATE_OCTETS, charge, padded, subframe
+from ..rates import charge, padded, subframe
 
 
 class Session:
@@ -95,7 +95,7 @@ class Driver(Path):
 
     def set_rate(self, station, rate):
         self.rates[station.number] = rate
-        self.octets[station.number] = min(rate.octets_within(self.scenario.setting("cap")), MAX_AGGREGATE_OCTETS)
+        self.octets[station.number] = min(rate.octets_within(self.scenario.setting("cap")), rate.most_octets)
 
     def can_send(self, session):
         return bool(session.retries) or (self.has_fresh(session) and session.window_is_open())

@@ -45,7 +45,7 @@ FAULTS = [  # a file's text, and what is said behind the file's name
     (GOOD + "[[station]]\ncount = 0\n", "[[station]] 2: count: 0 is not wanted; a whole number from 1 to 256 is"),
     (
         GOOD + '[[station]]\nrate = "15 20"\n',
-        "[[station]] 2: rate: '15 20' is not wanted; \"MCS MHZ long|short\" is, MCS 0 to 15 and MHZ 20 or 40, as \"15 20 short\"",
+        "[[station]] 2: rate: '15 20' is not wanted; a rate is, as in a trace: \"15 20 short\", \"vht 9 80 short 2\" or \"he 11 80 800 2\"",
     ),
     (GOOD + "[[station]]\nweight = 17\n", "[[station]] 2: weight: 17 is not wanted; a whole number from 1 to 16 is"),
     (GOOD + "[[station]]\nwindow = 0\n", "[[station]] 2: window: 0 is not wanted; a whole number from 1 to 256 is"),

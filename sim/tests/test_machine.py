@@ -8,7 +8,6 @@ from sim.baselines.fq_codel import FqCodel
 from sim.baselines.fq_mac import FqMac
 from sim.baselines.one_list import OneList
 from sim.program import Pipe
-from sim.rates import Rate
 
 from .support import ONE_STATION, THREE_STATIONS, fates, machine, program, run, scenario
 
@@ -115,8 +114,7 @@ class TheMachine(unittest.TestCase):
         self.assertGreater(result.jain, 0.999)
 
     def test_it_fits_the_models_airtimes(self):
-        for mcs, mhz, guard in ((0, 20, "long"), (7, 40, "short"), (15, 20, "short"), (11, 40, "long")):
-            rate = Rate(mcs, mhz, guard)
+        for rate in ("0 20 long", "7 40 short", "15 20 short", "11 40 long", "vht 9 80 short 2", "vht 0 20 long 1", "he 11 80 800 2", "he 0 20 3200 1"):
             text = f'seconds = 1\n[[station]]\nname = "a"\nrate = "{rate}"\n[[flow]]\nstation = "a"\nsize = 1001\nsaturated = true\n'
             ours, theirs = scenario(text), scenario(text)
             model, result = run(ours, FqMac(ours))[1], run(theirs, machine(theirs))[1]

@@ -1,4 +1,5 @@
 mod CellSlots
+mod Ended
 mod Ids
 mod Makings
 mod Pairs

@@ -1,5 +1,5 @@
 -- What C is told of an open exchange, and of its end.
-use Rattle.std.specs.Prelude.{◌≡◌, ℕ, List, Option, Some, None}
+use Rattle.std.specs.Prelude.{◌≡◌, ℕ, List, Bool, true, false, Option, Some, None}
 use Rattle.wf_octets_block.specs.declared.decoding.BlockFault.TheVariants.{Length, Kind, NotCompressed, MultiTid, Fragment, NotWide}
 use Rattle.wf_def_world.specs.World.{Exchange}
 use Rattle.wf_path.specs.declared.faults.DoneFault.{DoneFault}
@@ -45,6 +45,12 @@ end_code (Some (done.Block NotWide)) = 56
 end_code (Some done.NotMine) = 57
 end_code (Some (done.WrongTid found)) = 58
 
+-- of an end by octets, by whether it names an airtime that it may not name: the octets come first
+abbrev pub octets_code : Option DoneFault → Bool → ℕ
+octets_code (Some fault) bad_air = end_code (Some fault)
+octets_code None true = 8
+octets_code None false = 0
+
 -- ---- what structs show
 
 -- what the caller's struct shows of an exchange
@@ -57,8 +63,9 @@ needs (Some (fault.SmallBuffer need)) was n = n ≡ need
 needs (Some other) was n = n ≡ was
 needs None was n = Unit {0}
 
--- What the end of exchange e leaves of h, by what was heard of it, and what the caller's struct then shows.
-pub record IsExchangeEnded (h : Held) (e : ℕ) (heard : Option (ℕ × List ℕ)) (k : Held)
+-- What the end of exchange e leaves of h, by what was heard of it and by the airtime that was named, and what
+-- the caller's struct then shows.
+pub record IsExchangeEnded (h : Held) (e : ℕ) (heard : Option (ℕ × List ℕ)) (air : Option ℕ) (k : Held)
     (shown : Reply) : Type 0 where
-  pub ended : IsEnded h.path e heard k.path k.answer.brief
+  pub ended : IsEnded h.path e heard air k.path k.answer.brief
   pub shows : shown ≡ numbers_of k.answer.brief

@@ -2,7 +2,7 @@
 use Rattle.std.specs.Prelude.{◌≡◌, ◌⊎◌, ℕ, ℤ, pos, Option, Some, None, ◌+◌}
 use Rattle.wf_frame.specs.Settings.{first_out_of_range}
 use Rattle.wf_frame.specs.declared.settings.Field.{Field}
-use Rattle.wf_frame.specs.declared.settings.Field.TheVariants.{Stations, Flows, Limit, Room, FlowQuantum, Quantum, Inflight, Attempts, Agg, Cap, Sleeping, Calls}
+use Rattle.wf_frame.specs.declared.settings.Field.TheVariants.{Stations, Flows, Limit, Room, FlowQuantum, Quantum, Inflight, Attempts, Agg, Cap, Sleeping, Calls, Charge}
 use Rattle.wf_frame.specs.declared.settings.Config.{Config}
 use Rattle.wf_c.specs.declared.settings.Settings.{Settings}
 
@@ -20,6 +20,7 @@ field_number Agg = 9
 field_number Cap = 10
 field_number Sleeping = 11
 field_number Calls = 12
+field_number Charge = 13
 
 -- the code of a setting out of its range
 abbrev pub bad_setting : Field → ℕ
@@ -40,6 +41,7 @@ config_of s = record {
   cap = s.cap;
   sleeping = s.sleeping;
   calls = s.calls;
+  charge = s.charge;
 }
 
 -- the first of them that is out of its range, if any

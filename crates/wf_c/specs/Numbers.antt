@@ -1,5 +1,5 @@
 -- What the fields of an answer show.
-use Rattle.std.specs.Prelude.{ℕ, ◌==◌, not, Bool, true, false, Option, Some, None, pos}
+use Rattle.std.specs.Prelude.{ℕ, ◌==◌, not, Bool, true, false, Option, Some, None, pos, if◌then◌else◌}
 use Rattle.wf_frame.specs.Classes.{class_number}
 use Rattle.wf_frame.specs.declared.answers.Brief.{Brief}
 use Rattle.wf_frame.specs.declared.answers.Brief.TheVariants.{Joined, Gone, RateSet, Ticked, Accepted, Send, Released, Ba, Ended, Slept, Woken, Credited, Charged, Reaped, Refused}
@@ -55,6 +55,17 @@ fate_number (Dropped Left) = 5
 abbrev pub flag_of : Bool → ℕ
 flag_of false = 0
 flag_of true = 1
+
+-- ---- airtimes
+
+-- the airtime that a number names, which is none where it is 0
+abbrev pub named_air : ℕ → Option ℕ
+named_air n = if n == 0 then None else Some n
+
+-- the number of an airtime that may be named
+abbrev pub air_number : Option ℕ → ℕ
+air_number None = 0
+air_number (Some air) = air
 
 -- ---- answers
 

@@ -5,6 +5,7 @@
 ghost use Rattle.std.specs.Prelude.{◌≡◌, true, is_some, pos, IfSome};
 ghost use Rattle.wf_frame.specs.Classes.{all_classes, class_among};
 ghost use Rattle.wf_frame.specs.declared.notes.Ask.TheVariants.{Join, Leave, Rate, Tick, Pull, Sleep, Wake, Poll, Rx};
+ghost use Rattle.wf_frame.specs.declared.notes.AskedRate.TheVariants.{Ht, Vht, He};
 ghost use Rattle.wf_path.specs.Jobs.{IsHeard};
 ghost use Rattle.wf_path.specs.declared.job.Job.TheVariants.{Call};
 ghost use Rattle.wf_c.specs.Calls.{Becomes, HoldsSmall, IsCalled};
@@ -15,7 +16,7 @@ use crate::pulled::Frames;
 use crate::reply::Reply;
 use crate::slot::PathSlot;
 use std::alloc::Global;
-use wf_frame::{Ask, Class};
+use wf_frame::{Ask, AskedRate, Class};
 
 impl PathSlot {
     // Makes a call that brings no frame, but for a reap.
@@ -89,7 +90,7 @@ pub extern "C" fn wf_path_leave(
     path.ask(alloc, Ask::Leave { station }, reply)
 }
 
-/// A station is sent to at another rate; `short` other than 0 is the short guard interval.
+/// A station is sent to at another rate, one of HT; `short` other than 0 is the short guard interval.
 #[unsafe(no_mangle)]
 pub extern "C" fn wf_path_rate(
     alloc: Global,
@@ -103,16 +104,69 @@ pub extern "C" fn wf_path_rate(
     requires open { is_some path.old.value ≡ true }
     requires small { HoldsSmall path.old.value }
     ensures called { Becomes (λ h k. IsCalled h
-        (Rate station mcs mhz (is_up short)) k reply.new) path.old.value path.new.value }
+        (Rate station (Ht mcs mhz (is_up short))) k reply.new) path.old.value path.new.value }
     ensures code { result ≡ pos reply.new.refusal }
 {
-    let ask = Ask::Rate {
-        station,
+    let rate = AskedRate::Ht {
         mcs,
         mhz,
         short: short != 0,
     };
-    path.ask(alloc, ask, reply)
+    path.ask(alloc, Ask::Rate { station, rate }, reply)
+}
+
+/// A station is sent to at another rate, one of VHT; `short` other than 0 is the short guard interval.
+#[unsafe(no_mangle)]
+pub extern "C" fn wf_path_rate_vht(
+    alloc: Global,
+    path: &mut PathSlot,
+    station: u16,
+    mcs: u8,
+    mhz: u8,
+    short: u8,
+    streams: u8,
+    reply: &mut Reply,
+) -> i32
+    requires open { is_some path.old.value ≡ true }
+    requires small { HoldsSmall path.old.value }
+    ensures called { Becomes (λ h k. IsCalled h
+        (Rate station (Vht mcs mhz (is_up short) streams)) k reply.new) path.old.value path.new.value }
+    ensures code { result ≡ pos reply.new.refusal }
+{
+    let rate = AskedRate::Vht {
+        mcs,
+        mhz,
+        short: short != 0,
+        streams,
+    };
+    path.ask(alloc, Ask::Rate { station, rate }, reply)
+}
+
+/// A station is sent to at another rate, one of HE, with a guard interval of so many nanoseconds.
+#[unsafe(no_mangle)]
+pub extern "C" fn wf_path_rate_he(
+    alloc: Global,
+    path: &mut PathSlot,
+    station: u16,
+    mcs: u8,
+    mhz: u8,
+    guard: u16,
+    streams: u8,
+    reply: &mut Reply,
+) -> i32
+    requires open { is_some path.old.value ≡ true }
+    requires small { HoldsSmall path.old.value }
+    ensures called { Becomes (λ h k. IsCalled h
+        (Rate station (He mcs mhz guard streams)) k reply.new) path.old.value path.new.value }
+    ensures code { result ≡ pos reply.new.refusal }
+{
+    let rate = AskedRate::He {
+        mcs,
+        mhz,
+        guard,
+        streams,
+    };
+    path.ask(alloc, Ask::Rate { station, rate }, reply)
 }
 
 /// The clock moves on.

@@ -2,6 +2,7 @@
 
 ghost use Rattle.std.specs.Prelude.{◌≡◌, ◌≤◌, ◌⊎◌, ℕ, ◌%◌, true, is_some, pos, Option, Some, None, option_map, take, drop, length, IfOk, OnErr};
 ghost use Rattle.wf_frame.specs.Frames.{FrameValue};
+ghost use Rattle.wf_def_world.specs.Refusals.{is_bad_air};
 ghost use Rattle.wf_def_world.specs.World.{World, exchange as exchange_in};
 ghost use Rattle.wf_octets_bits.specs.Offsets.{offsets_in};
 ghost use Rattle.wf_send_half_refines.specs.Standing.{StandsFor};
@@ -12,7 +13,8 @@ ghost use Rattle.wf_path.specs.Writing.{write_fault};
 ghost use Rattle.wf_path.specs.Driver.{end_fault};
 ghost use Rattle.wf_path.specs.Paths.{IsSmall};
 ghost use Rattle.wf_c.specs.Calls.{Becomes, HoldsFor, HoldsSmall};
-ghost use Rattle.wf_c.specs.Ends.{IsExchangeEnded, end_code, id_code, needs, sent_code, sent_shown, write_code};
+ghost use Rattle.wf_c.specs.Ends.{IsExchangeEnded, end_code, id_code, needs, octets_code, sent_code, sent_shown, write_code};
+ghost use Rattle.wf_c.specs.Numbers.{named_air};
 
 use crate::held::Held;
 use crate::reply::Reply;
@@ -27,6 +29,9 @@ use wf_path::{DoneFault, PathFault};
 const NO_EXCHANGE: i32 = 12;
 
 const BAD_INDEX: i32 = 9;
+
+/// The airtime that an end names is above the setting `charge`.
+const BAD_AIR: i32 = 8;
 
 /// What an open exchange sends, and to whom.
 #[repr(C)]
@@ -151,26 +156,46 @@ pub extern "C" fn wf_path_mpdu(
 /// The buffer is too small.
 pub(crate) const SMALL_BUFFER: i32 = 42;
 
+// The airtime that a number names, which is none where it is 0.
+pub(crate) fn named_air(air: u32) -> Option<u32>
+    ensures { result ≡ named_air air }
+{
+    if air == 0 { None } else { Some(air) }
+}
+
 impl Held {
     // An exchange ends.
-    fn end(&mut self, exchange: u64, heard: Option<(Seq12, Bits256)>) -> Reply
+    fn end(&mut self, exchange: u64, heard: Option<(Seq12, Bits256)>, air: Option<u32>) -> Reply
         requires small { IsSmall self.old.path }
-        ensures { IsExchangeEnded self.old exchange heard self.new result }
+        ensures { IsExchangeEnded self.old exchange heard air self.new result }
     {
-        self.answer.brief = self.path.done_bits(exchange, heard);
+        self.answer.brief = self.path.done_bits(exchange, heard, air);
         Reply::of(self.answer.brief)
     }
 
+    // Whether the end of an exchange may not name this airtime.
+    fn is_bad_air(&self, air: Option<u32>) -> bool
+        ensures value { result ≡ is_bad_air self.now.path.config air }
+        ensures world { (w : World) (bodies : ℕ → FrameValue) → StandsFor self.now.path w bodies →
+            result ≡ is_bad_air w.config air }
+    {
+        match air {
+            Some(air) => air == 0 || air > self.path.config().charge,
+            None => false,
+        }
+    }
+
     // An exchange ends by the octets of a BlockAck.
-    fn end_by(&mut self, exchange: u64, octets: &[u8]) -> Result<Reply, DoneFault>
+    fn end_by(&mut self, exchange: u64, octets: &[u8], air: Option<u32>) -> Result<Reply, DoneFault>
         requires small { IsSmall self.old.path }
         ensures fault { (w : World) (bodies : ℕ → FrameValue) → StandsFor self.old.path w bodies →
             result_err result ≡ end_fault w exchange (Some octets.now) }
         ensures unchanged { OnErr result (self.new.path ≡ self.old.path) }
         ensures ended { IfOk result (λ shown. IsExchangeEnded self.old exchange
-            (Some (block_ack_in octets.now)) self.new shown) }
+            (Some (block_ack_in octets.now)) air self.new shown) }
+        ensures refused { is_bad_air self.old.path.config air ≡ true → self.new.path ≡ self.old.path }
     {
-        self.answer.brief = self.path.done_bytes(exchange, Some(octets))?;
+        self.answer.brief = self.path.done_bytes(exchange, Some(octets), air)?;
         Ok(Reply::of(self.answer.brief))
     }
 }
@@ -182,37 +207,43 @@ impl PathSlot {
         alloc: Global,
         exchange: u64,
         heard: Option<(Seq12, Bits256)>,
+        air: u32,
         reply: &mut Reply,
     ) -> i32
         requires open { is_some self.old.value ≡ true }
         requires small { HoldsSmall self.old.value }
-        ensures ended { Becomes (λ h k. IsExchangeEnded h exchange heard k reply.new) self.old.value self.new.value }
+        ensures ended { Becomes (λ h k. IsExchangeEnded h exchange heard
+            (named_air air) k reply.new) self.old.value self.new.value }
         ensures code { result ≡ pos reply.new.refusal }
     {
         let mut held = self.take(alloc);
-        *reply = held.end(exchange, heard);
+        *reply = held.end(exchange, heard, named_air(air));
         self.put(held);
         i32::from(reply.refusal)
     }
 }
 
-/// An exchange ends, and nothing was heard.
+/// An exchange ends, and nothing was heard. Its station pays `air` microseconds, or where that is 0 what was
+/// computed of the exchange.
 #[unsafe(no_mangle)]
 pub extern "C" fn wf_path_done_lost(
     alloc: Global,
     path: &mut PathSlot,
     exchange: u64,
+    air: u32,
     reply: &mut Reply,
 ) -> i32
     requires open { is_some path.old.value ≡ true }
     requires small { HoldsSmall path.old.value }
-    ensures ended { Becomes (λ h k. IsExchangeEnded h exchange None k reply.new) path.old.value path.new.value }
+    ensures ended { Becomes (λ h k. IsExchangeEnded h exchange None
+        (named_air air) k reply.new) path.old.value path.new.value }
     ensures code { result ≡ pos reply.new.refusal }
 {
-    path.end_exchange(alloc, exchange, None, reply)
+    path.end_exchange(alloc, exchange, None, air, reply)
 }
 
-/// An exchange ends, and a BlockAck of this start and this bitmap was heard.
+/// An exchange ends, and a BlockAck of this start and this bitmap was heard; `air` is as of
+/// `wf_path_done_lost`.
 #[unsafe(no_mangle)]
 pub extern "C" fn wf_path_done_bits(
     alloc: Global,
@@ -220,42 +251,50 @@ pub extern "C" fn wf_path_done_bits(
     exchange: u64,
     start: u16,
     bits: &[u8; 32],
+    air: u32,
     reply: &mut Reply,
 ) -> i32
     requires open { is_some path.old.value ≡ true }
     requires small { HoldsSmall path.old.value }
     ensures ended { Becomes (λ h k. IsExchangeEnded h exchange
-        (Some (start % 4096, offsets_in bits.now)) k reply.new) path.old.value path.new.value }
+        (Some (start % 4096, offsets_in bits.now)) (named_air air)
+        k reply.new) path.old.value path.new.value }
     ensures code { result ≡ pos reply.new.refusal }
 {
     let heard = (Seq12::of(u64::from(start)), Bits256::of_octets(*bits));
-    path.end_exchange(alloc, exchange, Some(heard), reply)
+    path.end_exchange(alloc, exchange, Some(heard), air, reply)
 }
 
-/// An exchange ends, and the octets of a BlockAck were heard. Gives 0, or why they are none to this exchange,
-/// which then is open still; then `reply` is as it was.
+/// An exchange ends, and the octets of a BlockAck were heard; `air` is as of `wf_path_done_lost`. Gives 0, or
+/// why they are none to this exchange, or else 8 where `air` is above the setting `charge`: then the exchange is
+/// open still, and `reply` is as it was.
 #[unsafe(no_mangle)]
 pub extern "C" fn wf_path_done_octets(
     alloc: Global,
     path: &mut PathSlot,
     exchange: u64,
     octets: &[u8],
+    air: u32,
     reply: &mut Reply,
 ) -> i32
     requires open { is_some path.old.value ≡ true }
     requires small { HoldsSmall path.old.value }
     ensures code { (w : World) (bodies : ℕ → FrameValue) → HoldsFor path.old.value w bodies →
-        result ≡ pos (end_code (end_fault w exchange (Some octets.now))) }
+        result ≡ pos (octets_code (end_fault w exchange (Some octets.now))
+        (is_bad_air w.config (named_air air))) }
     ensures ended { (result ≡ pos 0 → Becomes
         (λ h k. IsExchangeEnded h exchange (Some
-        (block_ack_in octets.now)) k reply.new) path.old.value path.new.value) }
+        (block_ack_in octets.now)) (named_air air) k reply.new) path.old.value path.new.value) }
     ensures fault { (result ≡ pos 0) ⊎ Becomes (λ h k. k.path ≡ h.path) path.old.value path.new.value }
     ensures kept { (result ≡ pos 0) ⊎ (reply.new ≡ reply.old) }
 {
     let mut held = path.take(alloc);
-    let ended = held.end_by(exchange, octets);
+    let air = named_air(air);
+    let is_bad = held.is_bad_air(air);
+    let ended = held.end_by(exchange, octets, air);
     path.put(held);
     match ended {
+        Ok(_) if is_bad => BAD_AIR,
         Ok(shown) => {
             *reply = shown;
             0

@@ -20,8 +20,8 @@ mod settings;
 mod slot;
 
 pub use asks::{
-    wf_path_join, wf_path_leave, wf_path_poll, wf_path_pull, wf_path_rate, wf_path_receive,
-    wf_path_sleep, wf_path_tick, wf_path_wake,
+    wf_path_join, wf_path_leave, wf_path_poll, wf_path_pull, wf_path_rate, wf_path_rate_he,
+    wf_path_rate_vht, wf_path_receive, wf_path_sleep, wf_path_tick, wf_path_wake,
 };
 pub use cell::answers::{Block, PassedUp, wf_cell_block, wf_cell_frames, wf_cell_released};
 pub use cell::asks::wf_cell_ask;

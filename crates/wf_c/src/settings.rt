@@ -32,8 +32,10 @@ pub struct Settings {
     pub cap: u32,
     /// The most frames queued for a sleeping station in one class: 1 to 65535.
     pub sleeping: u32,
-    /// The most entries of a history, which a path alone does not keep: 1 to 1048576.
+    /// The most entries of a history, which a path alone does not keep: 1 to 4294967295.
     pub calls: u32,
+    /// The greatest airtime that the end of an exchange may name, in microseconds: 0 to 65535.
+    pub charge: u32,
 }
 
 impl Settings {
@@ -54,6 +56,7 @@ impl Settings {
             cap: self.cap,
             sleeping: self.sleeping,
             calls: self.calls,
+            charge: self.charge,
         }
     }
 
@@ -85,10 +88,11 @@ pub extern "C" fn wf_settings_standard(settings: &mut Settings)
         cap: config.cap,
         sleeping: config.sleeping,
         calls: config.calls,
+        charge: config.charge,
     };
 }
 
-// The place of a setting, 1 to 12.
+// The place of a setting, 1 to 13.
 pub(crate) fn number_of_field(field: Field) -> u8
     ensures { result ≡ field_number field }
 {
@@ -105,5 +109,6 @@ pub(crate) fn number_of_field(field: Field) -> u8
         Field::Cap => 10,
         Field::Sleeping => 11,
         Field::Calls => 12,
+        Field::Charge => 13,
     }
 }

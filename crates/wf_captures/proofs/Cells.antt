@@ -64,21 +64,16 @@ told_low w e reached (Some sent) is = told_tid w e sent reached (sym is)
 one_more : (p q : Past) (e : Entry) → q ≡ with_entry e p → length q.history ≡ length p.history + 1
 one_more p q e is = ap (λ (x : Past). length x.history) is ∙ length-append p.history (e ∷ [])
 
-pub not_empty : (p q : Past) (e : Entry) → q ≡ with_entry e p → length q.history ≡ 0 → ⊥
-not_empty p q e is none = omega (arith, one_more p q e is, none)
-
 last_is : (h : List Entry) (e : Entry) → slice_get (h ++ e ∷ []) (length h) ≡ Some e
 last_is [] e = refl
 last_is (x ∷ h) e = last_is h e
 
-pub last_entry : (p q : Past) (e f : Entry) (count : ℕ) → q ≡ with_entry e p → count ≡ length q.history →
-    slice_get q.history (count - 1) ≡ Some f → f ≡ e
-last_entry p q e f count is long got =
-    let at : count - 1 ≡ length p.history = omega (arith, one_more p q e is, long) in
-    let same : Some f ≡ Some e =
-    sym got ∙ ap (λ k. slice_get q.history k) at ∙ ap
-    (λ (x : Past). slice_get x.history (length p.history)) is ∙ last_is p.history e in
-    cc
+pub last_entry : (p q : Past) (e : Entry) → q ≡ with_entry e p →
+    slice_get q.history (length q.history - 1) ≡ Some e
+last_entry p q e is =
+    let at : length q.history - 1 ≡ length p.history = omega (arith, one_more p q e is) in
+    ap (λ k. slice_get q.history k) at ∙ ap (λ (x : Past). slice_get x.history (length p.history)) is
+    ∙ last_is p.history e
 
 -- ---- the packets of a call, by the world behind it
 

@@ -19,8 +19,8 @@ use Rattle.wf_law_runs.specs.Lengths.{HasLengths}
 use Rattle.wf_law_runs.specs.Queues.{IsAtMost, AreAtMost}
 use Rattle.wf_law_runs.proofs.Sent.Lengths.{IsStocked, stocked}
 use Rattle.wf_path.specs.Transmissions.{header_of, data_octets, octets_of_content}
-use Rattle.wf_cell.proofs.Runs.{world_then, time_after}
-use Rattle.wf_captures.specs.Captures.{sample_of, samples, packets_by, packets_from, packets_in, capture_of}
+use Rattle.wf_cell.proofs.Runs.{world_then, time_by}
+use Rattle.wf_captures.specs.Captures.{most_calls_timed, sample_of, samples, packets_by, packets_from, packets_in, capture_of}
 use Rattle.wf_captures.specs.Packets.{frames_sent, frames_by, block_acks, exchange_answered, packets_at}
 use Rattle.wf_captures.proofs.Sampled.{length_sample}
 
@@ -96,7 +96,7 @@ most_then [] e h k = (k, tt)
 most_then (x ∷ xs) e h k = (h.0, most_then xs e h.1 k)
 
 writable_from : (config : Config) (past rest : List Entry) → IsInRange config → AreAtMost greatest_body past →
-    AreAtMost greatest_body rest → length past + length rest ≤ config.calls →
+    AreAtMost greatest_body rest → length past + length rest ≤ most_calls_timed →
     AreWritable (packets_from (world_after (opening config) past) rest)
 unfolding packets_from
 writable_from config past [] range old new few = tt
@@ -110,14 +110,14 @@ writable_from config past (e ∷ rest) range old new few =
     (writable_at (step w e.1).world.clock (frames_by (step w e.1).world (samples (step w e.1).world) e.1
     (step w e.1).reply)
     (subst (λ (v : World). v.clock < 2 ^ 32 * 1000000)
-    then (time_after config h range (omega (arith, long, few))))
+    then (omega (arith, time_by config h range, long, few)))
     (frames_short (step w e.1).world (subst (IsStocked greatest_body)
     then (stocked greatest_body config h most)) e.1 (step w e.1).reply))
     (subst (λ (v : World). AreWritable (packets_from v rest))
     then (writable_from config h rest range most new.1 (omega (arith, long, few))))
 
 pub run_listed : (config : Config) (history : List Entry) → IsInRange config → HasLengths history →
-    length history ≤ config.calls →
+    length history ≤ most_calls_timed →
     length (capture_of config history) ≤ most_octets_read → IsListed (packets_in config history)
 unfolding world_after
 run_listed config history range lengths few small =

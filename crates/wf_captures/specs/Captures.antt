@@ -19,6 +19,11 @@ sample_of (Asked ask) = new_frame 0 0 0 []
 abbrev pub samples : World → ℕ → FrameValue
 samples w id = sample_of (frame w id).note
 
+-- A packet's header has 32 bits for the seconds. So many calls, each of at most ten seconds, end before the
+-- seconds begin anew.
+abbrev pub most_calls_timed : ℕ
+most_calls_timed = 429496729
+
 -- the packets of a call from a world, at the time of the clock
 abbrev pub packets_by : World → Note → List Sent
 packets_by w note = let o : Outcome = step w note in

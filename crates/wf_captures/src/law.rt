@@ -7,12 +7,12 @@ ghost use Rattle.wf_run_frames.specs.Packets.{most_octets_read};
 ghost use Rattle.wf_run_frames.specs.Law.{IsListed};
 ghost use Rattle.wf_law_runs.specs.Lengths.{HasLengths};
 ghost use Rattle.wf_def_world.specs.Run.{Entry};
-ghost use Rattle.wf_captures.specs.Captures.{packets_in, capture_of};
+ghost use Rattle.wf_captures.specs.Captures.{most_calls_timed, packets_in, capture_of};
 
-/// The command `frames` on the capture of a history of at most `calls` calls, where that has at most
-/// 268,435,456 octets, lists each packet in order, with its time and its length, and no fault.
+/// The command `frames` on the capture of a history of at most 429,496,729 calls, where that has at most
+/// 1,099,511,627,776 octets, lists each packet in order, with its time and its length, and no fault.
 pub fn captured_run_is_listed()
     ensures { (config : Config) (history : List Entry) → IsInRange config → HasLengths history →
-        length history ≤ config.calls →
+        length history ≤ most_calls_timed →
         length (capture_of config history) ≤ most_octets_read → IsListed (packets_in config history) }
 {}

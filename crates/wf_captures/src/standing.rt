@@ -21,14 +21,13 @@ pub(crate) fn sent(cell: &Cell, exchange: u64) -> Option<Sent>
 }
 
 /// The call that was made last.
+#[tactic(auto, using(crate::proofs::Cells::last_entry))]
 pub(crate) fn last_call(cell: &Cell) -> Option<Note>
     ensures { (past : Past) (caller : ℕ) (note : Call) → cell.now.past ≡ with_entry (by caller note) past →
         result ≡ Some note }
 {
-    let count = cell.len();
-    if count == 0 {
-        return None;
+    match cell.last() {
+        Some((_, note)) => Some(note),
+        None => None,
     }
-    let (_, note) = cell.entry(count - 1);
-    Some(note)
 }

@@ -101,17 +101,19 @@ done_reply : (w : World) (note : Note) → refusal w note ≡ None →
 done_reply w note e = ap (λ (o : Outcome). o.reply) (step_done w note e)
 
 -- a Done that is not refused answers so
-open_ends : (w : World) (heard : Bool) (o : Option Exchange) →
-    changes_nothing (outcome_where_open w o (λ x. done_outcome w x heard)).reply ≡ false
+open_ends : (w : World) (heard : Bool) (air : Option ℕ) (o : Option Exchange) →
+    changes_nothing (outcome_where_open w o (λ x. done_outcome w x heard air)).reply ≡ false
 unfolding outcome_where_open done_outcome
-open_ends w heard None = refl
-open_ends w heard (Some x) = refl
+open_ends w heard air None = refl
+open_ends w heard air (Some x) = refl
 
-pub ended_reply : (w : World) (e : ℕ) (heard : Bool) → refusal w (Asked (ask.Done e heard)) ≡ None →
-    changes_nothing (step w (Asked (ask.Done e heard))).reply ≡ false
+pub ended_reply : (w : World) (e : ℕ) (heard : Bool) (air : Option ℕ) →
+    refusal w (Asked (ask.Done e heard air)) ≡ None →
+    changes_nothing (step w (Asked (ask.Done e heard air))).reply ≡ false
 unfolding outcome_of
-ended_reply w e heard done =
-    ap changes_nothing (done_reply w (Asked (ask.Done e heard)) done) ∙ open_ends w heard (exchange w e)
+ended_reply w e heard air done =
+    ap changes_nothing (done_reply w (Asked (ask.Done e heard air)) done)
+    ∙ open_ends w heard air (exchange w e)
 
 -- a refused call leads to where it was, with the same receive halves and marks
 pub refused_meets : (v : EngineValue) (after : TransmitValue) (note : Note) (answered : ReplyNote) (w : World)
@@ -284,20 +286,20 @@ send_brief _ pairs ids sent other = cc (sent.is)
 pub record NotTold (a : Ask) : Type 0 where
   pub arrive : (e i : ℕ) → a ≡ ask.Arrive e i → ⊥
   pub answer : (e : ℕ) → a ≡ ask.Answer e → ⊥
-  pub done : (e : ℕ) (heard : Bool) → a ≡ ask.Done e heard → ⊥
+  pub done : (e : ℕ) (heard : Bool) (air : Option ℕ) → a ≡ ask.Done e heard air → ⊥
   pub join : (s window start exponent weight : ℕ) → a ≡ ask.Join s window start exponent weight → ⊥
   pub pull : (c : Class) → a ≡ ask.Pull c → ⊥
 
 pub other_heard : (a : Ask) → NotTold a → IsHeard (Call a)
 other_heard (ask.Arrive e i) n = n.arrive e i refl
 other_heard (ask.Answer e) n = n.answer e refl
-other_heard (ask.Done e heard) n = n.done e heard refl
+other_heard (ask.Done e heard air) n = n.done e heard air refl
 other_heard _ n = tt
 
 pub other_untold : (a : Ask) → NotTold a → IsUntold (Asked a)
 other_untold (ask.Arrive e i) n = n.arrive e i refl
 other_untold (ask.Answer e) n = n.answer e refl
-other_untold (ask.Done e heard) n = n.done e heard refl
+other_untold (ask.Done e heard air) n = n.done e heard air refl
 other_untold (ask.Join s window start exponent weight) n = n.join s window start exponent weight refl
 other_untold (ask.Pull c) n = n.pull c refl
 other_untold _ n = tt

@@ -10,14 +10,14 @@ use Rattle.wf_frame.specs.declared.notes.Ask.TheVariants.{Arrive, Answer, Done}
 use Rattle.wf_frame.specs.declared.notes.Note.{Note}
 use Rattle.wf_frame.specs.declared.notes.Note.TheVariants.{Asked}
 use Rattle.wf_frame.specs.declared.notes.Refusal.{Refusal}
-use Rattle.wf_frame.specs.declared.notes.Refusal.TheVariants.{NoExchange, NoAnswer, Idle}
+use Rattle.wf_frame.specs.declared.notes.Refusal.TheVariants.{NoExchange, NoAnswer, BadAir, Idle}
 use Rattle.wf_frame.specs.declared.notes.ReplyNote.{ReplyNote}
 use Rattle.wf_frame.specs.declared.notes.ReplyNote.TheVariants.{Refused, Released, Ba}
 use Rattle.wf_def_agreement.specs.Receiver.{Score}
 use Rattle.wf_def_lists.specs.Table.{bits_word}
 use Rattle.wf_def_world.specs.World.{World, Exchange, Content, Frames, Request, exchange}
 use Rattle.wf_def_world.specs.Exchanges.{transmissions, mpdus_of}
-use Rattle.wf_def_world.specs.Refusals.{refusal, refusals, exchange_has}
+use Rattle.wf_def_world.specs.Refusals.{refusal, refusals, exchange_has, is_bad_air}
 use Rattle.wf_def_world.specs.Step.{Outcome, step}
 use Rattle.wf_law_runs.specs.Sent.{IsSent}
 use Rattle.wf_law_runs.specs.Windows.{EachOpen}
@@ -46,6 +46,7 @@ use Rattle.wf_recv_refines.proofs.Arriving.{arrived_hears, arrived_up}
 use Rattle.wf_recv_refines.proofs.Answering.{answered_hears, answer_reply}
 use Rattle.wf_recv_refines.proofs.Telling.{mark_told, arrive_told, answer_told, done_told}
 use Rattle.wf_recv_refines.proofs.Shown.{kept_shown as score_shown}
+use Rattle.wf_frame.specs.declared.settings.Config.{Config}
 
 -- ---- which are open
 
@@ -243,45 +244,50 @@ module _ (v : EngineValue) (w : World) (bodies : ℕ → FrameValue) (e : ℕ) (
 abbrev pub kept_answer : List Mark → ℕ → Bool → Option (ℕ × List ℕ)
 kept_answer marks e heard = if heard then option_and_then (λ m. m.answer) (mark_in marks e) else None
 
-not_idle : (m : Option Mark) (heard : Bool) → done_refusal m heard ≡ Some Idle → ⊥
-not_idle None heard e = absurd (cc)
-not_idle (Some m) heard e = of (heard && is_none m.answer) e
+not_idle : (config : Config) (m : Option Mark) (heard : Bool) (air : Option ℕ) →
+    done_refusal config m heard air ≡ Some Idle → ⊥
+not_idle config None heard air e = absurd (cc)
+not_idle config (Some m) heard air e = of (heard && is_none m.answer) (is_bad_air config air) e
   where
-    of : (b : Bool) → (if b then Some NoAnswer else None) ≡ Some Idle → ⊥
-    of true k = absurd (cc)
-    of false k = absurd (cc)
+    of : (a b : Bool) → (if a then Some NoAnswer else (if b then Some BadAir else None)) ≡ Some Idle → ⊥
+    of true b k = absurd (cc)
+    of false true k = absurd (cc)
+    of false false k = absurd (cc)
 
-module _ (v : EngineValue) (w : World) (bodies : ℕ → FrameValue) (e : ℕ) (heard : Bool)
+module _ (v : EngineValue) (w : World) (bodies : ℕ → FrameValue) (e : ℕ) (heard : Bool) (air : Option ℕ)
     (i : EngineIsIn v w bodies) where
-  pub done_marked : (m : Option Mark) → mark_in v.marks e ≡ m →
-      done_refusal m heard ≡ refusal w (Asked (Done e heard))
-  done_marked m marked = sym (done_told v.peers v.marks w e heard i.hears
-      ∙ ap (λ (p : Option Mark). done_refusal p heard) marked)
+  pub done_marked : (config : Config) → config ≡ v.half.config → (m : Option Mark) → mark_in v.marks e ≡ m →
+      done_refusal config m heard air ≡ refusal w (Asked (Done e heard air))
+  done_marked config same m marked =
+      ap (λ (c : Config). done_refusal c m heard air) (same ∙ i.half.parts.others.config)
+      ∙ sym (done_told v.peers v.marks w e heard air i.hears
+      ∙ ap (λ (p : Option Mark). done_refusal w.config p heard air) marked)
 
-  pub done_refused : (r : Refusal) → Some r ≡ refusal w (Asked (Done e heard)) →
-      EngineMeets w bodies (Asked (Done e heard)) v (Refused r)
+  pub done_refused : (r : Refusal) → Some r ≡ refusal w (Asked (Done e heard air)) →
+      EngineMeets w bodies (Asked (Done e heard air)) v (Refused r)
   done_refused r is =
-      let m = refused_meets v.half w bodies (Asked (Done e heard)) r i.half (sym is)
-      (λ idle. not_idle (mark_in v.marks e) heard (done_marked (mark_in v.marks e) refl ∙ sym is
-      ∙ ap Some idle)) in
+      let m = refused_meets v.half w bodies (Asked (Done e heard air)) r i.half (sym is)
+      (λ idle. not_idle v.half.config (mark_in v.marks e) heard air
+      (done_marked v.half.config refl (mark_in v.marks e) refl ∙ sym is ∙ ap Some idle)) in
       record {
         is_in = record {
           half = m.stands;
           hears =
-              refused_hears v.peers v.marks w (Asked (Done e heard)) r i.half.reached i.hears (sym is);
+              refused_hears v.peers v.marks w (Asked (Done e heard air)) r i.half.reached i.hears (sym is);
         };
         reply =
             m.reply;
       }
 
-  pub ended_meets : (after : TransmitValue) (answered : ReplyNote) → refusal w (Asked (Done e heard)) ≡ None →
-      PathMeets w bodies (Asked (Done e heard)) after answered →
-      EngineMeets w bodies (Asked (Done e heard)) (record
+  pub ended_meets : (after : TransmitValue) (answered : ReplyNote) →
+      refusal w (Asked (Done e heard air)) ≡ None →
+      PathMeets w bodies (Asked (Done e heard air)) after answered →
+      EngineMeets w bodies (Asked (Done e heard air)) (record
       v { half = after; marks = filter (λ m. not (m.number == e)) v.marks }) answered
   ended_meets after answered done m = record {
     is_in = record {
       half = m.stands;
-      hears = ended_hears v.peers v.marks w e heard i.half.reached i.hears
+      hears = ended_hears v.peers v.marks w e heard air i.half.reached i.hears
           done;
     };
     reply = m.reply;
@@ -321,31 +327,34 @@ kept_shown v w bodies e kept i is = of (exchange w e) refl
     of None none k = absurd (cc)
     of (Some x) known k = of_answer x known x.answer refl k
 
-no_answer : (m : Option Mark) → option_and_then (λ k. k.answer) m ≡ None → done_refusal m true ≡ None → ⊥
-no_answer None none ends = absurd (cc)
-no_answer (Some m) none ends = of m.answer none ends
+no_answer : (config : Config) (m : Option Mark) (air : Option ℕ) →
+    option_and_then (λ k. k.answer) m ≡ None → done_refusal config m true air ≡ None → ⊥
+no_answer config None air none ends = absurd (cc)
+no_answer config (Some m) air none ends = of m.answer none ends
   where
-    of : (b : Option (ℕ × List ℕ)) → b ≡ None → (if true && is_none b then Some NoAnswer else None) ≡ None → ⊥
+    of : (b : Option (ℕ × List ℕ)) → b ≡ None → (if true && is_none b then Some NoAnswer
+        else (if is_bad_air config air then Some BadAir else None)) ≡ None → ⊥
     of None n k = absurd (cc)
-    of (Some x) n k = absurd (cc)
+    of (Some x) n k = absurd (cc n)
 
 -- what is made of an exchange by what was heard of it is what its Done makes
 pub end_met : (v : EngineValue) (w : World) (bodies : ℕ → FrameValue) (e : ℕ) (heard : Bool)
-    (i : EngineIsIn v w bodies) (kept : Option (ℕ × List ℕ)) (after : TransmitValue) (b : Brief)
+    (air : Option ℕ) (i : EngineIsIn v w bodies) (kept : Option (ℕ × List ℕ)) (after : TransmitValue)
+    (b : Brief)
     (pairs : List (ℕ × ℕ)) (ids : List ℕ) →
-    kept ≡ kept_answer v.marks e heard → refusal w (Asked (Done e heard)) ≡ None →
+    kept ≡ kept_answer v.marks e heard → refusal w (Asked (Done e heard air)) ≡ None →
     IfNone kept ((u : World) (frames : ℕ → FrameValue) (ps : List (ℕ × ℕ)) (is : List ℕ) →
-    StandsFor v.half u frames → PathMeets u frames (Asked (Done e false)) after (reply_with b ps is)) →
+    StandsFor v.half u frames → PathMeets u frames (Asked (Done e false air)) after (reply_with b ps is)) →
     IfSome kept (λ score. (u : World) (frames : ℕ → FrameValue) (x : Exchange) (a : Score) (ps : List (ℕ × ℕ))
     (is : List ℕ) → StandsFor v.half u frames → exchange u e ≡ Some x → x.answer ≡ Some a →
-    AreShown u x a (Some score) → PathMeets u frames (Asked (Done e true)) after (reply_with b ps is)) →
-    PathMeets w bodies (Asked (Done e heard)) after (reply_with b pairs ids)
-end_met v w bodies e false i None after b pairs ids is done lost shown = lost w bodies pairs ids i.half
-end_met v w bodies e false i (Some score) after b pairs ids is done lost shown = absurd (cc)
-end_met v w bodies e true i None after b pairs ids is done lost shown =
-    absurd (no_answer (mark_in v.marks e) (sym is)
-    (done_marked v w bodies e true i (mark_in v.marks e) refl ∙ done))
-end_met v w bodies e true i (Some score) after b pairs ids is done lost shown =
+    AreShown u x a (Some score) → PathMeets u frames (Asked (Done e true air)) after (reply_with b ps is)) →
+    PathMeets w bodies (Asked (Done e heard air)) after (reply_with b pairs ids)
+end_met v w bodies e false air i None after b pairs ids is done lost shown = lost w bodies pairs ids i.half
+end_met v w bodies e false air i (Some score) after b pairs ids is done lost shown = absurd (cc)
+end_met v w bodies e true air i None after b pairs ids is done lost shown =
+    absurd (no_answer v.half.config (mark_in v.marks e) air (sym is)
+    (done_marked v w bodies e true air i v.half.config refl (mark_in v.marks e) refl ∙ done))
+end_met v w bodies e true air i (Some score) after b pairs ids is done lost shown =
     let k = kept_shown v w bodies e score i (sym is) in
     shown w bodies k.sending k.answer pairs ids i.half k.known k.answered k.shown
 

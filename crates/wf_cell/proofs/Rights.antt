@@ -97,12 +97,12 @@ module _ (v : TransmitValue) (w : World) (bodies : ℕ → FrameValue) (stands :
   back_is (Call ask.Reap) (reply.Refused reason) e = refl
   back_is (Call (ask.Join s window start exponent weight)) answered e = refl
   back_is (Call (ask.Leave s)) answered e = refl
-  back_is (Call (ask.Rate s mcs mhz short)) answered e = refl
+  back_is (Call (ask.Rate s rate)) answered e = refl
   back_is (Call (ask.Tick by)) answered e = refl
   back_is (Call (ask.Pull c)) answered e = refl
   back_is (Call (ask.Arrive exchange index)) answered e = refl
   back_is (Call (ask.Answer exchange)) answered e = refl
-  back_is (Call (ask.Done exchange heard)) answered e = refl
+  back_is (Call (ask.Done exchange heard air)) answered e = refl
   back_is (Call (ask.Sleep s)) answered e = refl
   back_is (Call (ask.Wake s)) answered e = refl
   back_is (Call (ask.Poll s)) answered e = refl

@@ -4,6 +4,7 @@ use Rattle.wf_frame.specs.Frames.{FrameValue}
 use Rattle.wf_frame.specs.declared.classes.Class.{Class}
 use Rattle.wf_frame.specs.declared.settings.Config.{Config}
 use Rattle.wf_frame.specs.Settings.{IsInRange}
+use Rattle.wf_def_lists.specs.Bounds.{greatest_tick}
 use Rattle.wf_def_lists.specs.Lengths.{greatest_body}
 use Rattle.wf_def_lists.specs.Table.{at}
 use Rattle.wf_def_world.specs.World.{World, Station, no_station, opening}
@@ -62,18 +63,23 @@ take_all : (h : List Entry) → take (length h) h ≡ h
 take_all [] = refl
 take_all (e ∷ h) = ap (λ (l : List Entry). e ∷ l) (take_all h)
 
--- the clock after so many calls
-pub time_after : (config : Config) (h : List Entry) → IsInRange config → length h ≤ config.calls →
-    (world_after (opening config) h).clock < 2 ^ 32 * 1000000
-time_after config h range few =
+-- each call takes the clock at most a greatest tick further
+pub time_by : (config : Config) (h : List Entry) → IsInRange config →
+    (world_after (opening config) h).clock ≤ greatest_tick * length h
+time_by config h range =
     let sums : AreSums config (take (length h) h) (length h) (world_at config h (length h)) =
     (laws config h range).sums (length h) in
     let same : (world_at config h (length h)).clock ≡ (world_after (opening config) h).clock =
     ap (λ (l : List Entry). (world_after (opening config) l).clock) (take_all h) in
-    omega (arith, sums.clock, same, range.calls.1, few)
+    omega (arith, sums.clock, same)
+
+-- the clock after as many calls as the settings allow
+pub time_after : (config : Config) (h : List Entry) → IsInRange config → length h ≤ config.calls →
+    (world_after (opening config) h).clock < 2 ^ 56
+time_after config h range few = omega (arith, time_by config h range, range.calls.1, few)
 
 pub clock_small : (v : TransmitValue) (p : Past) (bodies : ℕ → FrameValue) → StandsFor v (world_of p) bodies →
-    length p.history ≤ p.config.calls → (world_of p).clock < 2 ^ 32 * 1000000
+    length p.history ≤ p.config.calls → (world_of p).clock < 2 ^ 56
 clock_small v p bodies stands few =
     let range : IsInRange p.config =
     subst IsInRange (config_after p.history (opening p.config)) stands.reached.in_range in
@@ -95,9 +101,9 @@ of_member P None x both each = tt
 of_member P (Some k) None both each = absurd both
 of_member P (Some k) (Some y) both each = each k y refl both
 
--- a path that stands for the world after at most 1,048,576 calls is small
+-- a path that stands for the world after at most 4,294,967,295 calls is small
 pub small_of : (v : TransmitValue) (p : Past) (bodies : ℕ → FrameValue) → IsInRange p.config →
-    StandsFor v (world_of p) bodies → length p.history ≤ 1048576 → IsSmall v
+    StandsFor v (world_of p) bodies → length p.history ≤ 4294967295 → IsSmall v
 small_of v p bodies range s few =
     let w : World = world_of p in
     let sums = sums_of p (laws p.config p.history range) in

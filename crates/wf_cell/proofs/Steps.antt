@@ -1,5 +1,6 @@
 -- A cell after a call: its history has one entry more, and it stands for the world after that.
-use Rattle.std.proofs.Common.{◌≡◌, ap, ap₂, sym, ◌∙◌, subst, ℕ, ◌<◌, List, [], ◌∷◌, ◌++◌, length, Option, length-append, arith}
+use Rattle.std.proofs.Common.{◌≡◌, refl, ap, ap₂, sym, ◌∙◌, subst, ℕ, ◌<◌, List, [], ◌∷◌, ◌++◌, length, Option, Some, None, length-append, arith}
+use Rattle.std.specs.Prelude.{◌+◌, ◌-◌, slice_get}
 use Rattle.wf_frame.specs.Frames.{FrameValue}
 use Rattle.wf_frame.specs.declared.notes.ReplyNote.{ReplyNote}
 use Rattle.wf_frame.specs.declared.settings.Config.{Config}
@@ -23,9 +24,9 @@ use Rattle.wf_cell.proofs.Runs.{world_then, has_lengths, config_after, small_of,
 
 -- ---- a new cell
 
-pub new_cell : (p : Past) (engine : EngineValue) (capacity : ℕ) (bodies : ℕ → FrameValue) → p.history ≡ [] →
-    EngineIsIn engine (opening p.config) bodies → capacity ≡ p.config.calls → IsCell p engine capacity
-new_cell p engine capacity bodies none is reserved =
+pub new_cell : (p : Past) (engine : EngineValue) (bodies : ℕ → FrameValue) → p.history ≡ [] →
+    EngineIsIn engine (opening p.config) bodies → IsCell p engine 0 None
+new_cell p engine bodies none is =
     let empty : p ≡ record { config = p.config; history = [] } =
     ap (λ (h : List Entry). let q : Past = record { config = p.config; history = h } in q) none in
     record {
@@ -34,12 +35,24 @@ new_cell p engine capacity bodies none is reserved =
           (sym (ap world_of empty ∙ opening_is p.config)) is;
       lengths = subst HasLengths (sym none) (tt, tt);
       few = omega (arith, ap length none);
-      reserved = reserved;
+      counted = sym (ap length none);
+      latest = sym (ap (λ (h : List Entry). slice_get h (length h - 1)) none);
     }
 
 -- ---- a cell
 
-module _ (p : Past) (engine : EngineValue) (capacity : ℕ) (is : IsCell p engine capacity) where
+-- the last of some entries
+at_end : (h : List Entry) (e : Entry) → slice_get (h ++ e ∷ []) (length h) ≡ Some e
+at_end [] e = refl
+at_end (x ∷ h) e = at_end h e
+
+last_of : (h : List Entry) (e : Entry) → slice_get (h ++ e ∷ []) (length (h ++ e ∷ []) - 1) ≡ Some e
+last_of h e =
+    let place : length (h ++ e ∷ []) - 1 ≡ length h = omega (arith, length-append h (e ∷ [])) in
+    rw place (at_end h e)
+
+module _ (p : Past) (engine : EngineValue) (calls : ℕ) (last : Option Entry)
+    (is : IsCell p engine calls last) where
   pub range_of : IsInRange p.config
   range_of = subst IsInRange (config_after p.history (opening p.config)) is.is_in.half.reached.in_range
 
@@ -53,7 +66,8 @@ module _ (p : Past) (engine : EngineValue) (capacity : ℕ) (is : IsCell p engin
   is_small = small_of engine.half p is.bodies range_of is.is_in.half (omega (arith, is.few, range_of.calls.1))
 
 -- after a call, where there was room
-module _ (p : Past) (engine : EngineValue) (capacity : ℕ) (is : IsCell p engine capacity)
+module _ (p : Past) (engine : EngineValue) (calls : ℕ) (last : Option Entry)
+    (is : IsCell p engine calls last)
     (own : p.config ≡ engine.half.config) (room : 0 < room_in p) (caller : ℕ) (job : Job)
     (after : EngineValue)
     (answered : ReplyNote) (given : Option FrameValue)
@@ -90,16 +104,18 @@ module _ (p : Past) (engine : EngineValue) (capacity : ℕ) (is : IsCell p engin
       (sym world_next)
       (done (world_of p) bodies (record { half = stands; hears = is.is_in.hears })).is_in.half
 
-  pub next_cell : (history : List Entry) (reserved : ℕ) →
-      history ≡ p.history ++ by caller (note_of job) ∷ [] → reserved ≡ capacity → HasLength (note_of job) →
+  pub next_cell : (history : List Entry) (count : ℕ) (newest : Option Entry) →
+      history ≡ p.history ++ by caller (note_of job) ∷ [] → count ≡ calls + 1 →
+      newest ≡ Some (by caller (note_of job)) → HasLength (note_of job) →
       IsAtMost greatest_body (note_of job) →
-      IsCell (record { config = after.half.config; history = history }) after reserved
-  next_cell history reserved grown same some most =
-      subst (λ (q : Past). IsCell q after reserved) (sym (past_grown history grown)) (record {
+      IsCell (record { config = after.half.config; history = history }) after count newest
+  next_cell history count newest grown more latest some most =
+      subst (λ (q : Past). IsCell q after count newest) (sym (past_grown history grown)) (record {
         bodies = bodies_after engine.half job answered is.bodies;
         is_in = subst (λ (w : World). EngineIsIn after w (bodies_after engine.half job answered is.bodies))
             (sym world_next) stepped.is_in;
         lengths = has_lengths p.history (by caller (note_of job)) is.lengths some most;
         few = omega (arith, room, length-append p.history (by caller (note_of job) ∷ []));
-        reserved = same ∙ is.reserved;
+        counted = omega (arith, more, is.counted, length-append p.history (by caller (note_of job) ∷ []));
+        latest = latest ∙ sym (last_of p.history (by caller (note_of job)));
       })

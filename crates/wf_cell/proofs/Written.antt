@@ -8,7 +8,7 @@ use Rattle.wf_frame.specs.Frames.{FrameValue}
 use Rattle.wf_def_lists.specs.Lengths.{greatest_body}
 use Rattle.wf_def_lists.specs.Table.{at}
 use Rattle.wf_def_world.specs.World.{World, Exchange, Mpdu, Content, Frames, Request, accepted_count, len_of, exchange, without_exchange, on_share, on_station, with_station}
-use Rattle.wf_def_world.specs.Exchanges.{mpdus_of, transmissions, no_mpdu, after_charge}
+use Rattle.wf_def_world.specs.Exchanges.{mpdus_of, transmissions, no_mpdu, after_charge, charge_of}
 use Rattle.wf_law_runs.specs.Windows.{EachMpdu}
 use Rattle.wf_law_runs.proofs.Sent.Lengths.{IsStocked, stocked}
 use Rattle.wf_octets_fields.specs.Fields.{number_at, two_octets}
@@ -105,7 +105,8 @@ octets_say w bodies e k x octets known low few sent =
 
 -- ---- there is room for them
 
-frames_same : (w : World) (e : ℕ) (x : Exchange) → (after_charge (without_exchange w e) x).frames ≡ w.frames
+frames_same : (w : World) (e : ℕ) (x : Exchange) →
+    (after_charge (without_exchange w e) x None).frames ≡ w.frames
 unfolding after_charge without_exchange on_share on_station with_station
 frames_same w e x = refl
 
@@ -126,13 +127,15 @@ module _ (v : TransmitValue) (w : World) (bodies : ℕ → FrameValue) (h : Stan
   pub is_accepted : (k : ℕ) (m : Mpdu) → slice_get (mpdus_of x.content) k ≡ Some m → m.id < accepted_count w
   is_accepted k m among =
       let sends : IsData x.content (numbers_on_air (mpdus_of x.content)) =
-      data_sent v w bodies h e x known (numbers_on_air (mpdus_of x.content))
+      data_sent v w bodies h e x known None (numbers_on_air (mpdus_of x.content))
       (data_of x.content k m among) in
-      let ending = begun v w bodies h e x known (numbers_on_air (mpdus_of x.content))
+      let ending = begun v w bodies h e x known None (numbers_on_air (mpdus_of x.content))
       (data_of x.content k m among) (λ n. false) in
       let there : slice_get sends.mpdus k ≡ Some m =
       ap (λ (c : Content). slice_get (mpdus_of c) k) (sym sends.content) ∙ among in
-      let loose : IsLoose (after_close v (open_of x)) (after_charge (without_exchange w x.number) x) m =
+      let loose : IsLoose (after_close v (open_of x) (charge_of None x))
+      (after_charge (without_exchange w x.number) x
+      None) m =
       each_at _ sends.mpdus k m ending.loose there in
       omega (arith, loose.low, ap length (frames_same w x.number x))
 

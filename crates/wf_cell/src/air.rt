@@ -24,7 +24,7 @@ ghost use Rattle.wf_cell.specs.Engines.{EngineHasWorld, IsArriving, EngineIsIn, 
 ghost use Rattle.wf_cell.specs.Octets.{IsSentTo};
 
 use crate::engine::{Engine, LONGEST};
-use wf_frame::{Answer, Brief, Ids, Refusal};
+use wf_frame::{Answer, Brief, Config, Ids, Refusal};
 use wf_octets_bits::Bits256;
 use wf_octets_seq12::Seq12;
 use wf_path::{Path, Sent};
@@ -60,11 +60,17 @@ fn answering_refusal(mark: &Mark) -> Option<Refusal>
 }
 
 // Why an exchange with this mark does not end, if it does not.
-fn ending_refusal(mark: &Mark, heard: bool) -> Option<Refusal>
-    ensures { result ≡ done_refusal (Some mark.now) heard }
+fn ending_refusal(settings: &Config, mark: &Mark, heard: bool, air: Option<u32>) -> Option<Refusal>
+    ensures { result ≡ done_refusal settings.now (Some mark.now) heard air }
 {
+    let is_bad = match air {
+        Some(air) => air == 0 || air > settings.charge,
+        None => false,
+    };
     if heard && mark.answer.is_none() {
         Some(Refusal::NoAnswer)
+    } else if is_bad {
+        Some(Refusal::BadAir)
     } else {
         None
     }
@@ -208,33 +214,39 @@ impl Engine {
     }
 
     // An exchange ends; where it was heard, by the answer that was kept.
-    pub(crate) fn done(&mut self, exchange: u64, heard: bool, answer: &mut Answer)
+    pub(crate) fn done(&mut self, exchange: u64, heard: bool, air: Option<u32>, answer: &mut Answer)
         requires some { EngineHasWorld self.old }
         requires small { IsSmall self.old.half }
         ensures meets { (w : World) (bodies : ℕ → FrameValue) → EngineIsIn self.old w bodies →
-            EngineMeets w bodies (Asked (Done exchange heard)) self.new (reply_of answer.new) }
+            EngineMeets w bodies (Asked (Done exchange heard air)) self.new (reply_of answer.new) }
         ensures path_kept { changes_nothing (reply_of answer.new) ≡ true →
             self.new.half ≡ self.old.half }
     {
-        match self.check_done(exchange, heard) {
+        match self.check_done(exchange, heard, air) {
             Err(reason) => answer.brief = Brief::Refused(reason),
             Ok(kept) => {
                 self.marks.close(exchange);
-                answer.brief = self.path.done_bits(exchange, kept);
+                answer.brief = self.path.done_bits(exchange, kept, air);
             }
         }
     }
 
     // What was heard of an exchange that is to end, or why it does not end.
-    fn check_done(&self, exchange: u64, heard: bool) -> Result<Option<(Seq12, Bits256)>, Refusal>
+    fn check_done(
+        &self,
+        exchange: u64,
+        heard: bool,
+        air: Option<u32>,
+    ) -> Result<Option<(Seq12, Bits256)>, Refusal>
         ensures refused { (w : World) (bodies : ℕ → FrameValue) → EngineIsIn self.now w bodies →
-            result_err result ≡ refusal w (Asked (Done exchange heard)) }
+            result_err result ≡ refusal w (Asked (Done exchange heard air)) }
         ensures kept { IfOk result (λ kept. kept
             ≡ (if heard then option_and_then (λ m. m.answer) (mark_in self.now.marks exchange) else None)) }
     {
+        let settings = self.path.config();
         match self.marks.find(exchange) {
             None => Err(Refusal::NoExchange),
-            Some(mark) => match ending_refusal(mark, heard) {
+            Some(mark) => match ending_refusal(&settings, mark, heard, air) {
                 Some(reason) => Err(reason),
                 None => Ok(if heard { mark.answer } else { None }),
             },

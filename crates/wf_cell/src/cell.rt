@@ -1,6 +1,6 @@
-//! The cell and its history.
+//! The cell, whose history clauses alone see.
 
-ghost use Rattle.std.specs.Prelude.{◌≡◌, ◌↔◌, ◌<◌, ◌≤◌, ◌^◌, ◌*◌, ◌||◌, ℕ, true, [], Err, Some, None, is_some, IfOk, IfSome, length, slice_get};
+ghost use Rattle.std.specs.Prelude.{◌≡◌, ◌↔◌, ◌-◌, ◌<◌, ◌≤◌, ◌^◌, ◌||◌, ℕ, true, [], Err, Some, None, is_some, IfOk, IfSome, length, slice_get};
 ghost use Rattle.wf_frame.specs.Answers.{reply_of};
 ghost use Rattle.wf_frame.specs.Frames.{FrameValue};
 ghost use Rattle.wf_frame.specs.Settings.{first_out_of_range};
@@ -25,33 +25,39 @@ use crate::engine::Engine;
 use std::alloc::{AllocError, Global};
 use std::marker::Model;
 use wf_frame::{Answer, Brief, Config, Note, Refusal};
+use wf_machine::History;
 use wf_path::{Job, NewFault, Path};
 use wf_queue_chain::Parcel;
 
-/// A cell: the transmit path of an access point, the receive halves of its stations, and the history of the
-/// calls that were made. A contract sees the history and what the path keeps; the type keeps that they agree
-/// with the machine's run of that history (`wf_def_world`). Only `new` and `of` take memory.
+/// A cell: the transmit path of an access point, the receive halves of its stations, and how many calls were
+/// made. A contract sees the whole history of the calls and what the path keeps; the type keeps that they
+/// agree with the machine's run of that history (`wf_def_world`). The history takes no memory: of its entries
+/// the cell has the last alone (a `Record` of wf_record has all). Only `new` and `of` take memory, and as
+/// much for a history of any length.
 #[derive(Drop)]
 pub struct Cell {
     engine: Engine,
-    past: Vec<(u32, Note)>,
+    /// How many calls were made.
+    calls: u32,
+    /// The last of them.
+    last: Option<(u32, Note)>,
+    past: History<Note>,
 }
 
 impl Model for Cell {
-    ghost use Rattle.std.specs.Prelude.{vec_capacity};
     ghost use Rattle.wf_cell.specs.Cells.{CellValue, IsCell};
 
     ghost Value = { CellValue };
 
     ghost view = { λ c. record {
-      past = record { config = c.engine.half.config; history = c.past.items };
+      past = record { config = c.engine.half.config; history = c.past };
       half = c.engine.half;
     } };
 
     ghost invariant = { λ c. IsCell (record {
       config = c.engine.half.config;
-      history = c.past.items;
-    }) c.engine (vec_capacity c.past) };
+      history = c.past;
+    }) c.engine c.calls c.last };
 }
 
 impl Cell {
@@ -78,9 +84,14 @@ impl Cell {
         ensures stands { IfOk result
             (λ made. (bodies : ℕ → FrameValue) → StandsFor made.half (opening config) bodies) }
     {
-        let past = Vec::with_capacity(alloc, config.calls as usize)?;
         let engine = Engine::new(alloc, config)?;
-        Ok(Cell { engine, past })
+        let past = History::new();
+        Ok(Cell {
+            engine,
+            calls: 0,
+            last: None,
+            past,
+        })
     }
 
     /// Makes a call and answers it. The call is one entry of the history, refused or not, while the history
@@ -132,7 +143,10 @@ impl Cell {
             answer.brief = Brief::Refused(Refusal::HistoryFull);
             return job.parcel();
         }
-        self.past.push_reserved((caller, job.note()));
+        let note = job.note();
+        self.past.push(caller, &note);
+        self.last = Some((caller, note));
+        self.calls += 1;
         self.engine.step(job, answer)
     }
 
@@ -141,22 +155,21 @@ impl Cell {
         ensures count { result ≡ length self.now.past.history }
         ensures most { result ≤ self.now.past.config.calls }
     {
-        self.past.len() as u64
+        u64::from(self.calls)
     }
 
-    /// An entry of the history, counted from 0: its caller and its call.
-    pub fn entry(&self, i: u64) -> (u32, Note)
-        requires { i < length self.now.past.history }
-        ensures { slice_get self.now.past.history i ≡ Some result }
+    /// The last entry of the history, if any: its caller and its call.
+    pub fn last(&self) -> Option<(u32, Note)>
+        ensures { result ≡ slice_get self.now.past.history (length self.now.past.history - 1) }
     {
-        self.past[i as usize]
+        self.last
     }
 
     /// How many entries the history may still take.
     pub fn room(&self) -> u64
         ensures { result ≡ room_in self.now.past }
     {
-        u64::from(self.engine.path.config().calls) - self.past.len() as u64
+        u64::from(self.engine.path.config().calls) - u64::from(self.calls)
     }
 
     /// The settings.
@@ -167,10 +180,10 @@ impl Cell {
     }
 
     /// The clock of the world after the history, in microseconds: it goes by at most ten seconds in each of
-    /// at most 1,048,576 calls.
+    /// at most 4,294,967,295 calls.
     pub fn clock(&self) -> u64
         ensures value { result ≡ (world_of self.now.past).clock }
-        ensures small { result < 2 ^ 32 * 1000000 }
+        ensures small { result < 2 ^ 56 }
     {
         // by the length of the history the clock has its bound
         let _calls = self.len();

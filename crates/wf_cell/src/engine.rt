@@ -96,8 +96,12 @@ impl Engine {
                 self.answer(exchange, answer);
                 None
             }
-            Ask::Done { exchange, heard } => {
-                self.done(exchange, heard, answer);
+            Ask::Done {
+                exchange,
+                heard,
+                air,
+            } => {
+                self.done(exchange, heard, air, answer);
                 None
             }
             Ask::Join {

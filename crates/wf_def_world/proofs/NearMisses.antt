@@ -7,9 +7,10 @@ use Rattle.wf_frame.specs.declared.classes.Class.TheVariants.{Be}
 use Rattle.wf_frame.specs.declared.classes.Cause.TheVariants.{Overlimit}
 use Rattle.wf_frame.specs.declared.classes.Fate.TheVariants.{Dropped}
 use Rattle.wf_frame.specs.declared.notes.Ask.TheVariants.{Join, Leave, Rate, Pull, Arrive, Answer, Done, Sleep, Wake, Poll, Rx, Reap}
+use Rattle.wf_frame.specs.declared.notes.AskedRate.TheVariants.{Ht, Vht, He}
 use Rattle.wf_frame.specs.declared.notes.Note.TheVariants.{Enqueue, Asked}
-use Rattle.wf_frame.specs.declared.notes.Refusal.TheVariants.{BadStation, BadWindow, BadStart, BadExponent, BadWeight, BadRate, BadTid, BadAir, BadIndex, NoStation, NoExchange, Answered, Room, Full, Polled, Nothing}
-use Rattle.wf_frame.specs.declared.notes.ReplyNote.TheVariants.{Joined, Accepted, Send, Released, Ba, Slept, Woken, Credited, Reaped, Refused}
+use Rattle.wf_frame.specs.declared.notes.Refusal.TheVariants.{BadStation, BadWindow, BadStart, BadExponent, BadWeight, BadRate, BadTid, BadAir, BadIndex, NoStation, NoExchange, NoAnswer, Answered, Room, Full, Polled, Nothing}
+use Rattle.wf_frame.specs.declared.notes.ReplyNote.TheVariants.{Joined, RateSet, Accepted, Send, Released, Ba, Ended, Slept, Woken, Credited, Reaped, Refused}
 use Rattle.wf_frame.specs.declared.notes.Part.TheVariants.{Mpdus}
 use Rattle.wf_frame.specs.Settings.{standard}
 use Rattle.wf_def_world.specs.World.{opening}
@@ -139,9 +140,11 @@ first_of_two_faults_calls = map (by 0) (
     Asked (Join 0 64 0 4 0) ∷
     Asked (Join 0 64 0 3 0) ∷
     Asked (Leave 16) ∷
-    Asked (Rate 16 16 20 false) ∷
-    Asked (Rate 1 16 20 false) ∷
-    Asked (Rate 1 0 10 false) ∷
+    Asked (Rate 16 (Ht 16 20 false)) ∷
+    Asked (Rate 1 (Ht 16 20 false)) ∷
+    Asked (Rate 1 (Ht 0 10 false)) ∷
+    Asked (Rate 16 (Vht 9 20 true 2)) ∷
+    Asked (Rate 1 (He 11 160 400 4)) ∷
     Enqueue 16 8 0 64 ∷
     Enqueue 1 8 0 64 ∷
     Asked (Sleep 16) ∷
@@ -164,6 +167,8 @@ pub first_of_two_faults : replies (opening standard) first_of_two_faults_calls �
     Refused BadStation ∷
     Refused BadStation ∷
     Refused BadRate ∷
+    Refused BadRate ∷
+    Refused BadStation ∷
     Refused BadRate ∷
     Refused BadStation ∷
     Refused BadTid ∷
@@ -210,7 +215,7 @@ first_fault_of_an_exchange_calls = map (by 0) (
     Asked (Answer 0) ∷
     Asked (Arrive 0 1) ∷
     Asked (Arrive 0 0) ∷
-    Asked (Done 1 true) ∷
+    Asked (Done 1 true None) ∷
     [])
 
 pub first_fault_of_an_exchange : replies (opening (record standard { inflight = 1 }))
@@ -226,6 +231,28 @@ pub first_fault_of_an_exchange : replies (opening (record standard { inflight = 
     Refused NoExchange ∷ []
 unfolding the_machine
 first_fault_of_an_exchange = refl
+
+-- an exchange that never was before an answer that never came, that before an airtime that may not be
+-- named; and by the standard settings none may be
+abbrev pub first_fault_of_a_named_airtime_calls : List Entry
+first_fault_of_a_named_airtime_calls = map (by 0) (
+    Asked (Join 0 64 0 3 1) ∷
+    Enqueue 0 0 7 100 ∷
+    Asked (Pull Be) ∷
+    Asked (Done 1 true (Some 1)) ∷
+    Asked (Done 0 true (Some 1)) ∷
+    Asked (Done 0 false (Some 1)) ∷
+    Asked (Done 0 false None) ∷
+    [])
+
+pub first_fault_of_a_named_airtime : drop 3
+    (replies (opening standard) first_fault_of_a_named_airtime_calls) ≡
+    Refused NoExchange ∷
+    Refused NoAnswer ∷
+    Refused BadAir ∷
+    Ended 0 1 0 ∷ []
+unfolding the_machine
+first_fault_of_a_named_airtime = refl
 
 -- a credit whose frame was dropped for the limit is still a credit, which a wake clears
 abbrev pub credit_outlives_its_frame_calls : List Entry
@@ -256,6 +283,64 @@ pub credit_outlives_its_frame : replies (opening (record standard { limit = 1 })
     Refused Nothing ∷ []
 unfolding the_machine
 credit_outlives_its_frame = refl
+
+-- ---- rates
+
+-- each format has its own last MCS, widths, guard intervals and streams
+abbrev pub last_rates_of_each_format_calls : List Entry
+last_rates_of_each_format_calls = map (by 0) (
+    Asked (Join 0 64 0 3 1) ∷
+    Asked (Rate 0 (Ht 15 40 true)) ∷
+    Asked (Rate 0 (Ht 15 80 true)) ∷
+    Asked (Rate 0 (Vht 9 160 true 8)) ∷
+    Asked (Rate 0 (Vht 10 160 true 8)) ∷
+    Asked (Rate 0 (Vht 8 160 true 9)) ∷
+    Asked (Rate 0 (Vht 8 160 true 0)) ∷
+    Asked (Rate 0 (Vht 8 10 true 1)) ∷
+    Asked (Rate 0 (He 11 20 3200 8)) ∷
+    Asked (Rate 0 (He 12 20 3200 8)) ∷
+    Asked (Rate 0 (He 11 20 3201 8)) ∷
+    Asked (Rate 0 (He 11 20 3200 9)) ∷
+    Asked (Rate 0 (He 11 200 3200 8)) ∷
+    [])
+
+pub last_rates_of_each_format : replies (opening standard) last_rates_of_each_format_calls ≡
+    Joined ∷
+    RateSet ∷
+    Refused BadRate ∷
+    RateSet ∷
+    Refused BadRate ∷
+    Refused BadRate ∷
+    Refused BadRate ∷
+    Refused BadRate ∷
+    RateSet ∷
+    Refused BadRate ∷
+    Refused BadRate ∷
+    Refused BadRate ∷
+    Refused BadRate ∷ []
+unfolding the_machine
+last_rates_of_each_format = refl
+
+-- exponent 0 ends an aggregate at 8,191 octets at a rate of HT, and only at 131,071 at one of VHT: the rate
+-- of the moment says which
+abbrev pub exponent_zero_of_two_formats_calls : List Entry
+exponent_zero_of_two_formats_calls = map (by 0) (
+    Asked (Join 0 64 0 0 1) ∷
+    times 12 (Enqueue 0 0 7 1500) ++
+    Asked (Rate 0 (Vht 7 20 false 1)) ∷
+    Asked (Rate 0 (Ht 7 20 false)) ∷
+    Asked (Pull Be) ∷
+    Asked (Rate 0 (Vht 7 20 false 1)) ∷
+    Asked (Pull Be) ∷
+    [])
+
+pub exponent_zero_of_two_formats : drop 15 (replies (opening standard) exponent_zero_of_two_formats_calls) ≡
+    Send 0 0 0 1032 (Mpdus ((0, 0) ∷ (1, 1) ∷ (2, 2) ∷ (3, 3) ∷ (4, 4) ∷ [])) false ∷
+    RateSet ∷
+    Send 1 0 0 1412 (Mpdus
+    ((5, 5) ∷ (6, 6) ∷ (7, 7) ∷ (8, 8) ∷ (9, 9) ∷ (10, 10) ∷ (11, 11) ∷ [])) false ∷ []
+unfolding the_machine
+exponent_zero_of_two_formats = refl
 
 -- ---- the traffic map
 
@@ -361,8 +446,8 @@ sleeper_with_a_frame_back_in_its_window_calls = map (by 0) (
     Enqueue 0 0 7 100 ∷
     Asked (Pull Be) ∷
     Asked (Pull Be) ∷
-    Asked (Done 0 false) ∷
-    Asked (Done 1 false) ∷
+    Asked (Done 0 false None) ∷
+    Asked (Done 1 false None) ∷
     Asked (Sleep 0) ∷
     Asked (Poll 0) ∷
     Asked (Pull Be) ∷

@@ -1,5 +1,5 @@
 -- Words to write worked histories and their texts with.
-use Rattle.std.specs.Prelude.{ℕ, zero, suc, true, List, [], ◌∷◌, ◌++◌, map}
+use Rattle.std.specs.Prelude.{ℕ, zero, suc, true, List, [], ◌∷◌, ◌++◌, None, map}
 use Rattle.std.specs.Fmt.{decimal}
 use Rattle.std.specs.List.{concat}
 use Rattle.wf_frame.specs.declared.classes.Class.{Class}
@@ -17,7 +17,7 @@ times (suc n) note = note ∷ times n note
 -- is heard
 abbrev pub served : Class → ℕ → ℕ → List Note
 served c e n = Asked (Pull c) ∷ [] ++ map (λ i. Asked (Arrive e i)) (upto n) ++ Asked (Answer e)
-    ∷ Asked (Done e true) ∷ []
+    ∷ Asked (Done e true None) ∷ []
 
 -- the same line for each number from 0 to below n
 abbrev pub each_line : List ℕ → ℕ → List ℕ

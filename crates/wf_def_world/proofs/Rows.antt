@@ -1,11 +1,12 @@
 -- Worked histories: what the machine replies, computed. Each row's name says what it shows, and the histories
 -- are written as the program reads them, a call a line. Where the first replies tell nothing new, the row
 -- drops them.
-use Rattle.std.proofs.Common.{◌≡◌, refl, negsuc, true, false, List, [], ◌∷◌, ◌++◌, drop, map, Some, None}
+use Rattle.std.proofs.Common.{◌≡◌, refl, pos, negsuc, true, false, List, [], ◌∷◌, ◌++◌, drop, map, Some, None}
 use Rattle.wf_frame.specs.declared.classes.Class.TheVariants.{Be}
 use Rattle.wf_frame.specs.declared.classes.Cause.TheVariants.{Overlimit, Codel, Retries, Left}
 use Rattle.wf_frame.specs.declared.classes.Fate.TheVariants.{Acked, Dropped}
 use Rattle.wf_frame.specs.declared.notes.Ask.TheVariants.{Join, Leave, Rate, Tick, Pull, Arrive, Answer, Done, Sleep, Wake, Poll, Rx, Reap}
+use Rattle.wf_frame.specs.declared.notes.AskedRate.TheVariants.{Ht, Vht, He}
 use Rattle.wf_frame.specs.declared.notes.Note.TheVariants.{Enqueue, Asked}
 use Rattle.wf_frame.specs.declared.notes.Refusal.TheVariants.{BadStation, BadWindow, BadStart, BadExponent, BadRate, BadTick, BadTid, BadAir, BadIndex, Live, NoStation, NoExchange, NoAnswer, Idle, Answered, Arrived, Nothing, Asleep, Awake, Polled, BadWeight, StillOpen, Room, Sleeping, Full, Debt}
 use Rattle.wf_frame.specs.declared.notes.ReplyNote.TheVariants.{Joined, Gone, RateSet, Ticked, Accepted, Send, Released, Ba, Ended, Slept, Credited, Charged, Reaped, Refused}
@@ -20,7 +21,7 @@ use Rattle.wf_def_world.proofs.Rehearsals.{times}
 abbrev pub fast_rate_two_frames_calls : List Entry
 fast_rate_two_frames_calls = map (by 0) (
     Asked (Join 0 64 100 3 1) ∷
-    Asked (Rate 0 7 20 false) ∷
+    Asked (Rate 0 (Ht 7 20 false)) ∷
     Enqueue 0 0 7 1500 ∷
     Enqueue 0 0 7 1500 ∷
     Asked (Pull Be) ∷
@@ -31,6 +32,61 @@ pub fast_rate_two_frames : drop 4 (replies (opening standard) fast_rate_two_fram
 unfolding the_machine
 fast_rate_two_frames = refl
 
+-- a frame at a rate of VHT: 60 microseconds, and 48 for the pause and the answer
+abbrev pub vht_rate_one_frame_calls : List Entry
+vht_rate_one_frame_calls = map (by 0) (
+    Asked (Join 0 64 100 3 1) ∷
+    Asked (Rate 0 (Vht 9 80 true 2)) ∷
+    Enqueue 0 0 7 1500 ∷
+    Asked (Pull Be) ∷
+    [])
+
+pub vht_rate_one_frame : replies (opening standard) vht_rate_one_frame_calls ≡
+    Joined ∷
+    RateSet ∷
+    Accepted 0 None ∷
+    Send 0 0 0 108 (Mpdus ((0, 100) ∷ [])) false ∷ []
+unfolding the_machine
+vht_rate_one_frame = refl
+
+-- a frame at a rate of HE: 64 microseconds, and 48 for the pause and the answer
+abbrev pub he_rate_one_frame_calls : List Entry
+he_rate_one_frame_calls = map (by 0) (
+    Asked (Join 0 64 100 3 1) ∷
+    Asked (Rate 0 (He 11 80 800 2)) ∷
+    Enqueue 0 0 7 1500 ∷
+    Asked (Pull Be) ∷
+    [])
+
+pub he_rate_one_frame : replies (opening standard) he_rate_one_frame_calls ≡
+    Joined ∷
+    RateSet ∷
+    Accepted 0 None ∷
+    Send 0 0 0 112 (Mpdus ((0, 100) ∷ [])) false ∷ []
+unfolding the_machine
+he_rate_one_frame = refl
+
+-- VHT leaves out some streams of an MCS, and HE has no guard interval of 400 nanoseconds
+abbrev pub rates_of_vht_and_he_calls : List Entry
+rates_of_vht_and_he_calls = map (by 0) (
+    Asked (Join 0 64 0 3 1) ∷
+    Asked (Rate 0 (Vht 9 80 true 2)) ∷
+    Asked (Rate 0 (Vht 9 20 true 2)) ∷
+    Asked (Rate 0 (Vht 9 20 true 3)) ∷
+    Asked (Rate 0 (He 11 160 800 4)) ∷
+    Asked (Rate 0 (He 11 160 400 4)) ∷
+    [])
+
+pub rates_of_vht_and_he : replies (opening standard) rates_of_vht_and_he_calls ≡
+    Joined ∷
+    RateSet ∷
+    Refused BadRate ∷
+    RateSet ∷
+    RateSet ∷
+    Refused BadRate ∷ []
+unfolding the_machine
+rates_of_vht_and_he = refl
+
 -- an answer that is not heard sends the frame again
 abbrev pub lost_ack_resends_calls : List Entry
 lost_ack_resends_calls = map (by 0) (
@@ -39,11 +95,11 @@ lost_ack_resends_calls = map (by 0) (
     Asked (Pull Be) ∷
     Asked (Arrive 0 0) ∷
     Asked (Answer 0) ∷
-    Asked (Done 0 false) ∷
+    Asked (Done 0 false None) ∷
     Asked (Pull Be) ∷
     Asked (Arrive 1 0) ∷
     Asked (Answer 1) ∷
-    Asked (Done 1 true) ∷
+    Asked (Done 1 true None) ∷
     [])
 
 pub lost_ack_resends : replies (opening standard) lost_ack_resends_calls ≡
@@ -70,7 +126,7 @@ sequence_wraps_past_4095_calls = map (by 0) (
     Asked (Arrive 0 0) ∷
     Asked (Arrive 0 1) ∷
     Asked (Answer 0) ∷
-    Asked (Done 0 true) ∷
+    Asked (Done 0 true None) ∷
     [])
 
 pub sequence_wraps_past_4095 : drop 3 (replies (opening standard) sequence_wraps_past_4095_calls) ≡
@@ -91,7 +147,7 @@ second_of_two_arrives_calls = map (by 0) (
     Asked (Pull Be) ∷
     Asked (Arrive 0 1) ∷
     Asked (Answer 0) ∷
-    Asked (Done 0 true) ∷
+    Asked (Done 0 true None) ∷
     [])
 
 pub second_of_two_arrives : drop 3 (replies (opening standard) second_of_two_arrives_calls) ≡
@@ -111,12 +167,12 @@ failed_frame_then_request_calls = map (by 0) (
     Asked (Pull Be) ∷
     Asked (Arrive 0 1) ∷
     Asked (Answer 0) ∷
-    Asked (Done 0 true) ∷
+    Asked (Done 0 true None) ∷
     Asked (Pull Be) ∷
     Asked (Pull Be) ∷
     Asked (Arrive 1 0) ∷
     Asked (Answer 1) ∷
-    Asked (Done 1 true) ∷
+    Asked (Done 1 true None) ∷
     [])
 
 pub failed_frame_then_request : drop 3 (replies
@@ -142,18 +198,18 @@ request_lost_three_times_calls = map (by 0) (
     Asked (Pull Be) ∷
     Asked (Arrive 0 1) ∷
     Asked (Answer 0) ∷
-    Asked (Done 0 true) ∷
+    Asked (Done 0 true None) ∷
     Enqueue 0 0 7 1500 ∷
     Asked (Pull Be) ∷
-    Asked (Done 1 false) ∷
+    Asked (Done 1 false None) ∷
     Asked (Pull Be) ∷
-    Asked (Done 2 false) ∷
+    Asked (Done 2 false None) ∷
     Asked (Pull Be) ∷
-    Asked (Done 3 false) ∷
+    Asked (Done 3 false None) ∷
     Asked (Pull Be) ∷
     Asked (Arrive 4 0) ∷
     Asked (Answer 4) ∷
-    Asked (Done 4 true) ∷
+    Asked (Done 4 true None) ∷
     Asked (Pull Be) ∷
     [])
 
@@ -182,7 +238,7 @@ dropped_for_retries_though_released_calls = map (by 0) (
     Asked (Pull Be) ∷
     Asked (Arrive 0 0) ∷
     Asked (Answer 0) ∷
-    Asked (Done 0 false) ∷
+    Asked (Done 0 false None) ∷
     Asked Reap ∷
     [])
 
@@ -205,12 +261,12 @@ request_moves_receiver_calls = map (by 0) (
     Asked (Pull Be) ∷
     Asked (Arrive 1 0) ∷
     Asked (Answer 1) ∷
-    Asked (Done 1 true) ∷
-    Asked (Done 0 false) ∷
+    Asked (Done 1 true None) ∷
+    Asked (Done 0 false None) ∷
     Asked (Pull Be) ∷
     Asked (Arrive 2 0) ∷
     Asked (Answer 2) ∷
-    Asked (Done 2 true) ∷
+    Asked (Done 2 true None) ∷
     [])
 
 pub request_moves_receiver : drop 9 (replies (opening (record standard { agg = 1; attempts = 1 }))
@@ -232,10 +288,10 @@ two_windows_out_of_order_calls = map (by 0) (
     Asked (Pull Be) ∷
     Asked (Arrive 1 0) ∷
     Asked (Answer 1) ∷
-    Asked (Done 1 true) ∷
+    Asked (Done 1 true None) ∷
     Asked (Arrive 0 0) ∷
     Asked (Answer 0) ∷
-    Asked (Done 0 true) ∷
+    Asked (Done 0 true None) ∷
     [])
 
 pub two_windows_out_of_order : drop 5 (replies
@@ -253,7 +309,7 @@ two_windows_out_of_order = refl
 abbrev pub airtime_cap_ends_aggregate_calls : List Entry
 airtime_cap_ends_aggregate_calls = map (by 0) (
     Asked (Join 0 64 100 3 1) ∷
-    Asked (Rate 0 7 20 false) ∷
+    Asked (Rate 0 (Ht 7 20 false)) ∷
     times 21 (Enqueue 0 0 7 1500) ++
     Asked (Pull Be) ∷
     Asked (Pull Be) ∷
@@ -271,7 +327,7 @@ airtime_cap_ends_aggregate = refl
 abbrev pub exponent_zero_ends_aggregate_calls : List Entry
 exponent_zero_ends_aggregate_calls = map (by 0) (
     Asked (Join 0 64 0 0 1) ∷
-    Asked (Rate 0 7 20 false) ∷
+    Asked (Rate 0 (Ht 7 20 false)) ∷
     times 6 (Enqueue 0 0 7 1500) ++
     Asked (Pull Be) ∷
     Asked (Pull Be) ∷
@@ -305,7 +361,7 @@ window_of_two_stalls_calls = map (by 0) (
     Asked (Join 0 2 100 3 1) ∷
     times 3 (Enqueue 0 0 7 1500) ++
     times 3 (Asked (Pull Be)) ++
-    Asked (Done 0 false) ∷
+    Asked (Done 0 false None) ∷
     Asked (Pull Be) ∷
     [])
 
@@ -376,7 +432,7 @@ collision_goes_to_overflow_queue = refl
 abbrev pub codel_drops_two_calls : List Entry
 codel_drops_two_calls = map (by 0) (
     Asked (Join 0 64 0 3 1) ∷
-    Asked (Rate 0 7 20 false) ∷
+    Asked (Rate 0 (Ht 7 20 false)) ∷
     times 10 (Enqueue 0 0 7 1500) ++
     Asked (Tick 30000) ∷
     Asked (Pull Be) ∷
@@ -409,7 +465,7 @@ codel_drops_two = refl
 abbrev pub codel_left_is_after_the_pop_calls : List Entry
 codel_left_is_after_the_pop_calls = map (by 0) (
     Asked (Join 0 64 0 3 1) ∷
-    Asked (Rate 0 7 20 false) ∷
+    Asked (Rate 0 (Ht 7 20 false)) ∷
     times 3 (Enqueue 0 0 7 1500) ++
     Asked (Tick 30000) ∷
     Asked (Pull Be) ∷
@@ -522,7 +578,7 @@ leave_with_open_exchange_calls = map (by 0) (
     Enqueue 0 0 7 100 ∷
     Asked (Pull Be) ∷
     Asked (Leave 0) ∷
-    Asked (Done 0 false) ∷
+    Asked (Done 0 false None) ∷
     Asked (Leave 0) ∷
     Asked Reap ∷
     Asked Reap ∷
@@ -547,7 +603,7 @@ leave_order_across_the_wrap_calls = map (by 0) (
     Enqueue 0 0 7 1500 ∷
     Enqueue 0 0 7 1500 ∷
     Asked (Pull Be) ∷
-    Asked (Done 0 false) ∷
+    Asked (Done 0 false None) ∷
     Asked (Leave 0) ∷
     Asked Reap ∷
     Asked Reap ∷
@@ -575,7 +631,7 @@ leave_order_by_tid_then_window_then_queue_calls = map (by 0) (
     Enqueue 0 0 2 100 ∷
     Enqueue 0 5 0 100 ∷
     Asked (Pull Be) ∷
-    Asked (Done 0 false) ∷
+    Asked (Done 0 false None) ∷
     Asked (Leave 0) ∷
     times 4 (Asked Reap) ++
     [])
@@ -607,12 +663,12 @@ exchange_refusals_calls = map (by 0) (
     Asked (Answer 0) ∷
     Asked (Arrive 0 0) ∷
     Asked (Arrive 0 0) ∷
-    Asked (Done 0 true) ∷
+    Asked (Done 0 true None) ∷
     Asked (Answer 0) ∷
     Asked (Arrive 0 0) ∷
     Asked (Answer 0) ∷
-    Asked (Done 0 true) ∷
-    Asked (Done 0 true) ∷
+    Asked (Done 0 true None) ∷
+    Asked (Done 0 true None) ∷
     [])
 
 pub exchange_refusals : drop 3 (replies (opening standard) exchange_refusals_calls) ≡
@@ -638,7 +694,7 @@ room_of_one_calls = map (by 0) (
     Asked (Pull Be) ∷
     Asked (Arrive 0 0) ∷
     Asked (Answer 0) ∷
-    Asked (Done 0 true) ∷
+    Asked (Done 0 true None) ∷
     Enqueue 0 0 7 1500 ∷
     Asked Reap ∷
     Enqueue 0 0 7 1500 ∷
@@ -667,8 +723,8 @@ refusals_by_argument_calls = map (by 0) (
     Asked (Join 0 64 0 4 1) ∷
     Asked (Join 0 64 100 3 1) ∷
     Asked (Join 0 64 100 3 1) ∷
-    Asked (Rate 0 16 20 false) ∷
-    Asked (Rate 1 0 20 false) ∷
+    Asked (Rate 0 (Ht 16 20 false)) ∷
+    Asked (Rate 1 (Ht 0 20 false)) ∷
     Asked (Tick 10000001) ∷
     Enqueue 0 8 0 64 ∷
     Enqueue 1 0 0 64 ∷
@@ -715,3 +771,28 @@ pub weight_out_of_range : replies (opening standard) weight_out_of_range_calls �
     Refused BadWeight ∷ []
 unfolding the_machine
 weight_out_of_range = refl
+
+-- a Done that names its airtime is charged that, and not the 256 microseconds of its Send; one that names
+-- 0, or more than the setting `charge`, is refused, and nothing is charged
+abbrev pub named_airtime_is_charged_calls : List Entry
+named_airtime_is_charged_calls = map (by 0) (
+    Asked (Join 0 64 0 3 1) ∷
+    Enqueue 0 0 7 100 ∷
+    Asked (Pull Be) ∷
+    Asked (Done 0 false (Some 0)) ∷
+    Asked (Done 0 false (Some 5001)) ∷
+    Asked (Rx 0 Be 1) ∷
+    Asked (Done 0 false (Some 5000)) ∷
+    Asked (Rx 0 Be 1) ∷
+    [])
+
+pub named_airtime_is_charged : drop 2 (replies (opening (record standard { charge = 5000 }))
+    named_airtime_is_charged_calls) ≡
+    Send 0 0 0 256 (Mpdus ((0, 0) ∷ [])) false ∷
+    Refused BadAir ∷
+    Refused BadAir ∷
+    Charged (pos 299) ∷
+    Ended 0 1 0 ∷
+    Charged (negsuc 4701) ∷ []
+unfolding the_machine
+named_airtime_is_charged = refl

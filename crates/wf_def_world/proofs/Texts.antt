@@ -1,9 +1,10 @@
 -- Worked histories: the whole text that the program writes for each, computed.
-use Rattle.std.proofs.Common.{◌≡◌, refl, true, false, List, [], ◌∷◌, ◌++◌, map, codes}
+use Rattle.std.proofs.Common.{◌≡◌, refl, true, false, List, [], ◌∷◌, ◌++◌, None, map, codes}
 use Rattle.std.specs.List.{concat}
 use Rattle.std.specs.Fmt.{digits}
 use Rattle.wf_frame.specs.declared.classes.Class.TheVariants.{Be}
 use Rattle.wf_frame.specs.declared.notes.Ask.TheVariants.{Join, Rate, Pull, Arrive, Answer, Done, Sleep}
+use Rattle.wf_frame.specs.declared.notes.AskedRate.TheVariants.{Ht}
 use Rattle.wf_frame.specs.declared.notes.Note.TheVariants.{Enqueue, Asked}
 use Rattle.wf_frame.specs.Settings.{standard}
 use Rattle.wf_def_world.specs.Run.{Entry, by}
@@ -60,7 +61,7 @@ failed_frame_then_request_calls = map (by 0) (
     Asked (Pull Be) ∷
     Asked (Arrive 0 1) ∷
     Asked (Answer 0) ∷
-    Asked (Done 0 true) ∷
+    Asked (Done 0 true None) ∷
     Asked (Pull Be) ∷
     served Be 1 1 ++
     [])
@@ -117,7 +118,7 @@ abbrev pub airtime_shared_small_calls : List Entry
 airtime_shared_small_calls = map (by 0) (
     Asked (Join 0 64 0 3 1) ∷
     Asked (Join 1 1 0 3 1) ∷
-    Asked (Rate 1 7 20 false) ∷
+    Asked (Rate 1 (Ht 7 20 false)) ∷
     times 8 (Enqueue 0 0 1 1500) ++
     times 20 (Enqueue 1 0 2 1500) ++
     served Be 0 2 ++
@@ -328,7 +329,7 @@ weight_three_against_one = refl
 abbrev pub wide_window_seventy_frames_calls : List Entry
 wide_window_seventy_frames_calls = map (by 0) (
     Asked (Join 0 256 100 3 1) ∷
-    Asked (Rate 0 7 20 false) ∷
+    Asked (Rate 0 (Ht 7 20 false)) ∷
     times 70 (Enqueue 0 0 7 64) ++
     served Be 0 70 ++
     [])

@@ -1,7 +1,7 @@
 -- What a pull sends, and what becomes of it: the scheduler of "Ending the Anomaly" (USENIX ATC 2017),
 -- section 3.2, joined to aggregation and block acknowledgement (IEEE 802.11-2012, 9.12 and 9.21.7).
 -- Deficits, quanta and charges are in microseconds of airtime, lengths in octets.
-use Rattle.std.specs.Prelude.{ℕ, zero, suc, ◌+◌, ◌-◌, ◌*◌, ◌%◌, ◌==◌, max, nat_lt, pos, ◌+ℤ◌, ◌-ℤ◌, Bool, false, not, ◌&&◌, ◌||◌, List, [], ◌∷◌, ◌++◌, Option, Some, None, if◌then◌else◌, length, map, count_by}
+use Rattle.std.specs.Prelude.{ℕ, zero, suc, ◌+◌, ◌-◌, ◌*◌, ◌%◌, ◌==◌, max, nat_lt, pos, ◌+ℤ◌, ◌-ℤ◌, Bool, false, not, ◌&&◌, ◌||◌, List, [], ◌∷◌, ◌++◌, Option, Some, None, if◌then◌else◌, length, map, count_by, unwrap_or}
 use Rattle.std.specs.List.{list_any}
 use Rattle.wf_frame.specs.declared.classes.Class.{Class}
 use Rattle.wf_frame.specs.declared.classes.Cause.TheVariants.{Retries}
@@ -227,10 +227,13 @@ ids_of x numbers = map (λ n. (slot x n).id) numbers
 abbrev pub paid : ℕ → Share → Share
 paid charge y = record y { deficit = y.deficit -ℤ pos charge; charged = y.charged + charge }
 
+-- what an exchange is charged: the airtime that its Done names, in microseconds, else what was computed of it
+abbrev pub charge_of : Option ℕ → Exchange → ℕ
+charge_of air x = unwrap_or air x.charge
+
 -- a station pays for its exchange
-unfoldable pub after_charge : World → Exchange → World
-after_charge w x =
-    on_share w x.station x.class (paid x.charge)
+unfoldable pub after_charge : World → Exchange → Option ℕ → World
+after_charge w x air = on_share w x.station x.class (paid (charge_of air x))
 
 -- whether the kept answer shows a number, where the exchange was heard
 abbrev pub is_acked : Bool → Option Score → ℕ → Bool

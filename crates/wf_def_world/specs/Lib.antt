@@ -1,6 +1,7 @@
 pub mod World
 pub mod FlowQueues
 pub mod CanSend
+pub mod Rates
 pub mod Exchanges
 pub mod Refusals
 pub mod Step

@@ -2,6 +2,7 @@
 -- test holds refuses it.
 use Rattle.std.specs.Prelude.{ℕ, ◌+◌, ◌==◌, nat_lt, nat_le, pos, ◌-ℤ◌, int_lt, Bool, false, not, ◌&&◌, List, [], ◌∷◌, Option, Some, None, is_some, is_none, if◌then◌else◌, length, count_by}
 use Rattle.std.specs.List.{list_any}
+use Rattle.wf_frame.specs.declared.settings.Config.{Config}
 use Rattle.wf_frame.specs.declared.classes.Class.{Class}
 use Rattle.wf_frame.specs.declared.notes.Ask.{Ask}
 use Rattle.wf_frame.specs.declared.notes.Ask.TheVariants.{Join, Leave, Rate, Tick, Pull, Arrive, Answer, Done, Sleep, Wake, Poll, Rx, Reap}
@@ -11,7 +12,8 @@ use Rattle.wf_frame.specs.declared.notes.Refusal.{Refusal}
 use Rattle.wf_frame.specs.declared.notes.Refusal.TheVariants.{BadStation, BadWindow, BadStart, BadExponent, BadRate, BadTick, BadTid, BadAir, BadIndex, Live, NoStation, NoExchange, NoAnswer, StillOpen, Room, Sleeping, Full, Idle, Answered, Arrived, Nothing, Asleep, Awake, Polled, Debt, BadWeight}
 use Rattle.wf_def_lists.specs.Table.{has, upto}
 use Rattle.wf_def_lists.specs.Bounds.{greatest_window, greatest_start, greatest_exponent, greatest_weight, greatest_tid, greatest_tick, greatest_air, deepest_deficit}
-use Rattle.wf_def_air.specs.Airtime.{Ht, is_rate}
+use Rattle.wf_def_air.specs.Airtime.{is_rate}
+use Rattle.wf_def_world.specs.Rates.{rate_asked}
 use Rattle.wf_def_world.specs.World.{World, Exchange, station, is_live, inside, share, exchange}
 use Rattle.wf_frame.specs.Classes.{same_class, lower_tid, upper_tid, class_of}
 use Rattle.wf_def_world.specs.FlowQueues.{frames_queued}
@@ -56,6 +58,11 @@ abbrev pub exchange_has : Option Exchange → (Exchange → Bool) → Bool
 exchange_has None p = false
 exchange_has (Some x) p = p x
 
+-- a Done names an airtime that it may not: 0, or more microseconds than the setting `charge`
+abbrev pub is_bad_air : Config → Option ℕ → Bool
+is_bad_air config None = false
+is_bad_air config (Some air) = not (is_within 1 config.charge air)
+
 -- the rows of a call that is asked, in order
 abbrev pub refusals_of : World → Ask → List (Bool × Refusal)
 refusals_of w (Join s window start exponent weight) = (
@@ -66,8 +73,8 @@ refusals_of w (Join s window start exponent weight) = (
 refusals_of w (Leave s) = (
     (is_bad_station w s, BadStation) ∷ (not (is_live w s), NoStation) ∷
     (nat_lt 0 (open_of_station w s), StillOpen (open_of_station w s)) ∷ [])
-refusals_of w (Rate s mcs mhz short) = (
-    (is_bad_station w s, BadStation) ∷ (not (is_rate (Ht mcs mhz short)), BadRate)
+refusals_of w (Rate s rate) = (
+    (is_bad_station w s, BadStation) ∷ (not (is_rate (rate_asked rate)), BadRate)
     ∷ (not (is_live w s), NoStation) ∷ [])
 refusals_of w (Tick by) = ((nat_lt greatest_tick by, BadTick) ∷ [])
 refusals_of w (Pull c) = (
@@ -82,9 +89,10 @@ refusals_of w (Answer e) = (
     (is_none (exchange w e), NoExchange) ∷
     (exchange_has (exchange w e) (λ x. is_some x.answer), Answered) ∷
     (exchange_has (exchange w e) (λ x. length x.arrived == 0), Nothing) ∷ [])
-refusals_of w (Done e heard) = (
+refusals_of w (Done e heard air) = (
     (is_none (exchange w e), NoExchange) ∷
-    (heard && exchange_has (exchange w e) (λ x. is_none x.answer), NoAnswer) ∷ [])
+    (heard && exchange_has (exchange w e) (λ x. is_none x.answer), NoAnswer) ∷
+    (is_bad_air w.config air, BadAir) ∷ [])
 refusals_of w (Sleep s) = (
     (is_bad_station w s, BadStation) ∷ (not (is_live w s), NoStation) ∷
     ((station w s).asleep, Asleep) ∷ [])

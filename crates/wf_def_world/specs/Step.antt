@@ -5,6 +5,7 @@ use Rattle.wf_frame.specs.declared.classes.Class.TheVariants.{Bk, Be, Vi, Vo}
 use Rattle.wf_frame.specs.declared.classes.Cause.TheVariants.{Left}
 use Rattle.wf_frame.specs.declared.classes.Fate.TheVariants.{Held, Dropped}
 use Rattle.wf_frame.specs.declared.notes.Ask.TheVariants.{Join, Leave, Rate, Tick, Pull, Arrive, Answer, Done, Sleep, Wake, Poll, Rx, Reap}
+use Rattle.wf_frame.specs.declared.notes.AskedRate.{AskedRate}
 use Rattle.wf_frame.specs.declared.notes.Note.{Note}
 use Rattle.wf_frame.specs.declared.notes.Note.TheVariants.{Enqueue, Asked}
 use Rattle.wf_frame.specs.declared.notes.Refusal.{Refusal}
@@ -12,11 +13,12 @@ use Rattle.wf_frame.specs.declared.notes.Refusal.TheVariants.{Idle}
 use Rattle.wf_frame.specs.declared.notes.ReplyNote.{ReplyNote}
 use Rattle.wf_frame.specs.declared.notes.ReplyNote.TheVariants.{Joined, Gone, RateSet, Ticked, Accepted, Send, Released, Ba, Ended, Slept, Woken, Credited, Charged, Reaped, Refused}
 use Rattle.wf_def_lists.specs.Table.{upto, with_member}
-use Rattle.wf_def_air.specs.Airtime.{Ht, lowest_rate}
+use Rattle.wf_def_air.specs.Airtime.{lowest_rate}
 use Rattle.wf_def_codel.specs.Codel.{Item}
 use Rattle.wf_def_rotation.specs.Rotation.{in_order, without_key, no_keys}
 use Rattle.wf_def_agreement.specs.Session.{Slot, State, is_acknowledged, is_waiting, is_failed}
 use Rattle.wf_def_agreement.specs.Receiver.{Receiver, Score, score, bitmap_word, released_between}
+use Rattle.wf_def_world.specs.Rates.{rate_asked}
 use Rattle.wf_def_world.specs.World.{World, Exchange, new_share, new_tid, session, receiver, share, tid_of, rotation, frame, accepted_count, is_wide, exchange, with_station, on_station, on_share, on_receiver, with_rotation, with_queues, with_exchange, without_exchange, with_frames_finished}
 use Rattle.wf_frame.specs.Classes.{all_classes}
 use Rattle.wf_def_world.specs.FlowQueues.{dropped_for_limit, after_limit, queue_for, after_put_in, after_queues_left}
@@ -91,10 +93,10 @@ leave_outcome w s =
     }
 
 -- Rate: the rate of a station's data from then on
-unfoldable pub rate_outcome : World → ℕ → ℕ → ℕ → Bool → Outcome
-rate_outcome w s mcs mhz short =
+unfoldable pub rate_outcome : World → ℕ → AskedRate → Outcome
+rate_outcome w s rate =
     record {
-      world = on_station w s (λ x. record x { rate = Ht mcs mhz short });
+      world = on_station w s (λ x. record x { rate = rate_asked rate });
       reply = RateSet;
     }
 
@@ -166,11 +168,11 @@ answer_outcome w x =
           (is_wide w x.station x.tid);
     }
 
--- Done: the exchange is charged and settled, and the reply counts its numbers that are acknowledged,
--- wait again, and failed
-unfoldable pub done_outcome : World → Exchange → Bool → Outcome
-done_outcome w x heard =
-    let after : World = after_done (after_charge (without_exchange w x.number) x) x heard x.content in
+-- Done: the exchange is charged what is named, else what was computed, and settled, and the reply counts its
+-- numbers that are acknowledged, wait again, and failed
+unfoldable pub done_outcome : World → Exchange → Bool → Option ℕ → Outcome
+done_outcome w x heard air =
+    let after : World = after_done (after_charge (without_exchange w x.number) x air) x heard x.content in
     let count : (State → Bool) → ℕ = count_in after x in
     record {
       world = after;
@@ -225,12 +227,13 @@ outcome_of w (Enqueue s t flow len) = enqueue_outcome w s t flow len
 outcome_of w (Asked (Join s window start exponent weight)) =
     join_outcome w s window start exponent weight
 outcome_of w (Asked (Leave s)) = leave_outcome w s
-outcome_of w (Asked (Rate s mcs mhz short)) = rate_outcome w s mcs mhz short
+outcome_of w (Asked (Rate s rate)) = rate_outcome w s rate
 outcome_of w (Asked (Tick by)) = tick_outcome w by
 outcome_of w (Asked (Pull c)) = pull_outcome w c
 outcome_of w (Asked (Arrive e i)) = outcome_where_open w (exchange w e) (λ x. arrive_outcome w x i)
 outcome_of w (Asked (Answer e)) = outcome_where_open w (exchange w e) (λ x. answer_outcome w x)
-outcome_of w (Asked (Done e heard)) = outcome_where_open w (exchange w e) (λ x. done_outcome w x heard)
+outcome_of w (Asked (Done e heard air)) = outcome_where_open w (exchange w e)
+    (λ x. done_outcome w x heard air)
 outcome_of w (Asked (Sleep s)) = sleep_outcome w s
 outcome_of w (Asked (Wake s)) = wake_outcome w s
 outcome_of w (Asked (Poll s)) = poll_outcome w s
@@ -247,12 +250,12 @@ abbrev pub concerned_station : World → Note → Option ℕ
 concerned_station w (Enqueue s t flow len) = Some s
 concerned_station w (Asked (Join s window start exponent weight)) = Some s
 concerned_station w (Asked (Leave s)) = Some s
-concerned_station w (Asked (Rate s mcs mhz short)) = Some s
+concerned_station w (Asked (Rate s rate)) = Some s
 concerned_station w (Asked (Tick by)) = None
 concerned_station w (Asked (Pull c)) = (picked_station w c).winner
 concerned_station w (Asked (Arrive e i)) = station_of (exchange w e)
 concerned_station w (Asked (Answer e)) = station_of (exchange w e)
-concerned_station w (Asked (Done e heard)) = station_of (exchange w e)
+concerned_station w (Asked (Done e heard air)) = station_of (exchange w e)
 concerned_station w (Asked (Sleep s)) = Some s
 concerned_station w (Asked (Wake s)) = Some s
 concerned_station w (Asked (Poll s)) = Some s

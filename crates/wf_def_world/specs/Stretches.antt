@@ -9,6 +9,7 @@ use Rattle.wf_frame.specs.declared.notes.Note.TheVariants.{Asked}
 use Rattle.wf_def_lists.specs.Table.{has}
 use Rattle.wf_def_world.specs.World.{World, Exchange, opening, rotation, share, exchange}
 use Rattle.wf_frame.specs.Classes.{same_class}
+use Rattle.wf_def_world.specs.Exchanges.{charge_of}
 use Rattle.wf_def_world.specs.Refusals.{refusal}
 use Rattle.wf_def_world.specs.Step.{step}
 use Rattle.wf_def_world.specs.Run.{Entry, world_after}
@@ -17,15 +18,15 @@ use Rattle.wf_def_world.specs.Run.{Entry, world_after}
 abbrev pub world_at : Config → List Entry → ℕ → World
 world_at config h m = world_after (opening config) (take m h)
 
--- what an exchange charges to a station in a class, where it is open
-abbrev pub charge_to : ℕ → Class → Option Exchange → ℕ
-charge_to s c None = 0
-charge_to s c (Some x) = if (x.station == s) && same_class x.class c then x.charge else 0
+-- what the end of an exchange charges to a station in a class, where it is open
+abbrev pub charge_to : ℕ → Class → Option ℕ → Option Exchange → ℕ
+charge_to s c air None = 0
+charge_to s c air (Some x) = if (x.station == s) && same_class x.class c then charge_of air x else 0
 
 -- what a call charges to a station in a class
 abbrev pub charge_by : World → ℕ → Class → Note → ℕ
-charge_by w s c (Asked (Done e heard)) =
-    if is_none (refusal w (Asked (Done e heard))) then charge_to s c (exchange w e) else 0
+charge_by w s c (Asked (Done e heard air)) =
+    if is_none (refusal w (Asked (Done e heard air))) then charge_to s c air (exchange w e) else 0
 charge_by w s c _ = 0
 
 -- what a history charges to a station in a class

@@ -2,7 +2,7 @@
 use Rattle.std.proofs.Common.{◌≡◌, ◌∙◌, ◌↔◌, ℕ, zero, suc, ◌<◌, ◌≤◌, nat_le, Bool, true, false, cond, not, ◌&&◌, List, [], ◌∷◌, get_or, length, None, Some, find, refl, ap, lit<, arith}
 use Rattle.wf_frame.specs.declared.settings.Config.{Config}
 use Rattle.wf_frame.specs.declared.settings.Field.{Field}
-use Rattle.wf_frame.specs.declared.settings.Field.TheVariants.{Stations, Flows, Limit, Room, FlowQuantum, Quantum, Inflight, Attempts, Agg, Cap, Sleeping, Calls}
+use Rattle.wf_frame.specs.declared.settings.Field.TheVariants.{Stations, Flows, Limit, Room, FlowQuantum, Quantum, Inflight, Attempts, Agg, Cap, Sleeping, Calls, Charge}
 use Rattle.wf_frame.specs.Settings.{fields, is_in_range, first_out_of_range, IsInRange}
 
 -- nothing is found behind an item that passes
@@ -47,6 +47,7 @@ in_range c none =
       cap = bounds _ _ _ (holds 9 Stations (lit< tt));
       sleeping = bounds _ _ _ (holds 10 Stations (lit< tt));
       calls = bounds _ _ _ (holds 11 Stations (lit< tt));
+      charge = bounds _ _ _ (holds 12 Stations (lit< tt));
     }
 
 each_holds : (c : Config) → IsInRange c → (field : Field) → not (is_in_range c field) ≡ false
@@ -62,6 +63,7 @@ each_holds c h Agg = within _ _ _ h.agg
 each_holds c h Cap = within _ _ _ h.cap
 each_holds c h Sleeping = within _ _ _ h.sleeping
 each_holds c h Calls = within _ _ _ h.calls
+each_holds c h Charge = within _ _ _ h.charge
 
 pub checked : (c : Config) → (first_out_of_range c ≡ None) ↔ IsInRange c
 checked c = (in_range c, λ h. none_found (λ field. not (is_in_range c field)) fields (each_holds c h))

@@ -2,7 +2,7 @@
 use Rattle.std.specs.Prelude.{ℕ, ◌≤◌, nat_le, Bool, ◌&&◌, not, List, [], ◌∷◌, Option, find}
 use Rattle.wf_frame.specs.declared.settings.Config.{Config}
 use Rattle.wf_frame.specs.declared.settings.Field.{Field}
-use Rattle.wf_frame.specs.declared.settings.Field.TheVariants.{Stations, Flows, Limit, Room, FlowQuantum, Quantum, Inflight, Attempts, Agg, Cap, Sleeping, Calls}
+use Rattle.wf_frame.specs.declared.settings.Field.TheVariants.{Stations, Flows, Limit, Room, FlowQuantum, Quantum, Inflight, Attempts, Agg, Cap, Sleeping, Calls, Charge}
 
 abbrev pub standard : Config
 standard = record {
@@ -18,12 +18,13 @@ standard = record {
   cap = 4000;
   sleeping = 64;
   calls = 1048576;
+  charge = 0;
 }
 
 -- in the order in which they are checked
 abbrev pub fields : List Field
 fields = Stations ∷ Flows ∷ Limit ∷ Room ∷ FlowQuantum ∷ Quantum ∷ Inflight ∷ Attempts ∷ Agg ∷ Cap ∷ Sleeping
-    ∷ Calls ∷ []
+    ∷ Calls ∷ Charge ∷ []
 
 abbrev pub lowest_of : Field → ℕ
 lowest_of Stations = 1
@@ -38,6 +39,7 @@ lowest_of Agg = 1
 lowest_of Cap = 3000
 lowest_of Sleeping = 1
 lowest_of Calls = 1
+lowest_of Charge = 0
 
 abbrev pub greatest_of : Field → ℕ
 greatest_of Stations = 256
@@ -51,7 +53,8 @@ greatest_of Attempts = 64
 greatest_of Agg = 256
 greatest_of Cap = 5400
 greatest_of Sleeping = 65535
-greatest_of Calls = 1048576
+greatest_of Calls = 4294967295
+greatest_of Charge = 65535
 
 abbrev pub value_of : Config → Field → ℕ
 value_of c Stations = c.stations
@@ -66,6 +69,7 @@ value_of c Agg = c.agg
 value_of c Cap = c.cap
 value_of c Sleeping = c.sleeping
 value_of c Calls = c.calls
+value_of c Charge = c.charge
 
 abbrev pub with_value : Config → Field → ℕ → Config
 with_value c Stations value = record c { stations = value }
@@ -80,6 +84,7 @@ with_value c Agg value = record c { agg = value }
 with_value c Cap value = record c { cap = value }
 with_value c Sleeping value = record c { sleeping = value }
 with_value c Calls value = record c { calls = value }
+with_value c Charge value = record c { charge = value }
 
 abbrev pub is_in_range : Config → Field → Bool
 is_in_range c field = nat_le (lowest_of field) (value_of c field)
@@ -101,4 +106,5 @@ pub record IsInRange (config : Config) : Type 0 where
   pub agg : (1 ≤ config.agg) × (config.agg ≤ 256)
   pub cap : (3000 ≤ config.cap) × (config.cap ≤ 5400)
   pub sleeping : (1 ≤ config.sleeping) × (config.sleeping ≤ 65535)
-  pub calls : (1 ≤ config.calls) × (config.calls ≤ 1048576)
+  pub calls : (1 ≤ config.calls) × (config.calls ≤ 4294967295)
+  pub charge : (0 ≤ config.charge) × (config.charge ≤ 65535)

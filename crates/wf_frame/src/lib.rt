@@ -12,5 +12,5 @@ pub use answers::{Answer, Brief};
 pub use classes::{Cause, Class, Fate, tid_number};
 pub use frames::{Frame, GREATEST_BODY};
 pub use lists::{FixedList, Ids, Pairs};
-pub use notes::{Ask, Note, Part, Refusal, ReplyNote};
+pub use notes::{Ask, AskedRate, Note, Part, Refusal, ReplyNote};
 pub use settings::{Config, Field};

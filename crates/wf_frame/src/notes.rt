@@ -4,6 +4,36 @@
 
 use crate::{Class, Fate, Ids, Pairs};
 
+/// The numbers of a rate, as a caller gives them: `mcs` the modulation and coding scheme, `mhz` the width of
+/// the channel, `short` the guard interval of 400 ns in place of 800, `guard` that interval in nanoseconds,
+/// `streams` the spatial streams. The ranges given are those that are not refused; ten combinations of VHT
+/// are refused too.
+#[derive(Clone, Copy, Debug, PartialEq, Eq)]
+pub enum AskedRate {
+    /// A rate of HT (IEEE 802.11-2012, clause 20): MCS 0 to 15, 20 or 40 MHz.
+    Ht {
+        mcs: u8,
+        mhz: u8,
+        short: bool,
+    },
+    /// A rate of VHT to one station (IEEE 802.11-2016, clause 21): MCS 0 to 9, 20, 40, 80 or 160 MHz, 1 to 8
+    /// streams.
+    Vht {
+        mcs: u8,
+        mhz: u8,
+        short: bool,
+        streams: u8,
+    },
+    /// A rate of HE to one station (IEEE 802.11ax-2021, clause 27): MCS 0 to 11, 20, 40, 80 or 160 MHz, 800,
+    /// 1600 or 3200 ns, 1 to 8 streams.
+    He {
+        mcs: u8,
+        mhz: u8,
+        guard: u16,
+        streams: u8,
+    },
+}
+
 /// One of the thirteen calls that carry no frame. The ranges given are those that are not refused.
 #[derive(Clone, Copy, Debug, PartialEq, Eq)]
 pub enum Ask {
@@ -20,13 +50,10 @@ pub enum Ask {
     Leave {
         station: u16,
     },
-    /// A station is sent to at this rate from now on: MCS 0 to 15, 20 or 40 MHz, long or short guard
-    /// interval.
+    /// A station is sent to at this rate from now on.
     Rate {
         station: u16,
-        mcs: u8,
-        mhz: u8,
-        short: bool,
+        rate: AskedRate,
     },
     /// The clock moves on, by 0 to 10,000,000 microseconds.
     Tick {
@@ -45,10 +72,12 @@ pub enum Ask {
     Answer {
         exchange: u64,
     },
-    /// An exchange ends; `heard` tells whether its answer was heard.
+    /// An exchange ends; `heard` tells whether its answer was heard. It is charged the airtime `air` where
+    /// that is named, 1 to `charge` microseconds, else what its Send answered.
     Done {
         exchange: u64,
         heard: bool,
+        air: Option<u32>,
     },
     /// A station goes to sleep.
     Sleep {
@@ -113,7 +142,7 @@ pub enum Refusal {
     BadTick,
     /// The TID is above 7.
     BadTid,
-    /// The airtime is 0 or above 65,535 microseconds.
+    /// The airtime is 0, above 65,535 microseconds, or above the setting `charge` at the end of an exchange.
     BadAir,
     /// The exchange has no transmission of that index.
     BadIndex,

@@ -28,8 +28,10 @@ pub struct Config {
     pub cap: u32,
     /// The most frames queued for a sleeping station in one class: 1 to 65535.
     pub sleeping: u32,
-    /// The most entries of a history: 1 to 1048576.
+    /// The most entries of a history: 1 to 4294967295.
     pub calls: u32,
+    /// The greatest airtime that a Done may name, in microseconds: 0 to 65535. With 0 none may be named.
+    pub charge: u32,
 }
 
 /// The name of one setting, as `Config` has it.
@@ -59,10 +61,12 @@ pub enum Field {
     Sleeping,
     /// Entries of a history.
     Calls,
+    /// Microseconds of airtime that a Done may name.
+    Charge,
 }
 
 /// Each setting, in the order in which they are checked.
-pub const FIELDS: [Field; 12] = [
+pub const FIELDS: [Field; 13] = [
     Field::Stations,
     Field::Flows,
     Field::Limit,
@@ -75,11 +79,12 @@ pub const FIELDS: [Field; 12] = [
     Field::Cap,
     Field::Sleeping,
     Field::Calls,
+    Field::Charge,
 ];
 
 impl Field {
     /// The settings, in the order in which they are checked.
-    pub fn all() -> [Field; 12]
+    pub fn all() -> [Field; 13]
         ensures { result ≡ fields }
     {
         FIELDS
@@ -102,7 +107,8 @@ impl Field {
             Field::Agg => (1, 256),
             Field::Cap => (3000, 5400),
             Field::Sleeping => (1, 65_535),
-            Field::Calls => (1, 1_048_576),
+            Field::Calls => (1, u32::MAX),
+            Field::Charge => (0, 65_535),
         }
     }
 
@@ -123,6 +129,7 @@ impl Field {
             Field::Cap => config.cap,
             Field::Sleeping => config.sleeping,
             Field::Calls => config.calls,
+            Field::Charge => config.charge,
         }
     }
 
@@ -143,6 +150,7 @@ impl Field {
             Field::Cap => config.cap = value,
             Field::Sleeping => config.sleeping = value,
             Field::Calls => config.calls = value,
+            Field::Charge => config.charge = value,
         }
     }
 }
@@ -165,6 +173,7 @@ impl Config {
             cap: 4000,
             sleeping: 64,
             calls: 1_048_576,
+            charge: 0,
         }
     }
 

@@ -1,7 +1,7 @@
 //! What is said of the words of a call or an event.
 
 use crate::Command;
-use crate::forms::{args, form_named, forms, name_of, say_wanted, word_of};
+use crate::forms::{args, form_named, forms, name_of, say_wanted, third_word, word_of};
 use crate::saying::{say, say_number};
 use crate::unknown::is_near;
 use wf_io::Line;
@@ -100,14 +100,6 @@ fn say_unknown(command: Command, word: &[u8], out: &mut Line) {
     }
 }
 
-// The third word of a line.
-fn third_word(line: &[u8]) -> Option<&[u8]> {
-    let (_, rest) = next_word(line)?;
-    let (_, rest) = next_word(rest)?;
-    let (word, _) = next_word(rest)?;
-    Some(word)
-}
-
 // Appends what an argument of an event of an uplink is to be: two of them are judged by the command itself,
 // the octets of a frame and the width of a channel.
 fn say_uplink_arg(kind: FaultKind, form: &'static [u8], args: &[Arg], line: &[u8], out: &mut Line) {
@@ -134,13 +126,13 @@ pub fn say_call(command: Command, kind: FaultKind, line: &[u8], out: &mut Line) 
         say(&[b"a call is missing behind its caller"], out);
         return;
     };
-    let Some(form) = form_named(command, word) else {
+    let Some(form) = form_named(command, word, rest) else {
         say_unknown(command, word, out);
         return;
     };
     match (kind, command) {
-        (FaultKind::Count, _) => say_count(form, args(command, word), rest, out),
-        (_, Command::Uplink) => say_uplink_arg(kind, form, args(command, word), rest, out),
-        _ => say_arg(kind, form, args(command, word), rest, out),
+        (FaultKind::Count, _) => say_count(form, args(command, form), rest, out),
+        (_, Command::Uplink) => say_uplink_arg(kind, form, args(command, form), rest, out),
+        _ => say_arg(kind, form, args(command, form), rest, out),
     }
 }

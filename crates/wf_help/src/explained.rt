@@ -84,7 +84,7 @@ fn say_words(command: Command, kind: FaultKind, line: &[u8], out: &mut Line) {
 fn say_kind(command: Command, kind: FaultKind, line: &[u8], out: &mut Line) {
     match (kind, command) {
         (FaultKind::TooBig, _) => say(
-            &[b"the line does not end within the first 268435456 octets"],
+            &[b"the line does not end within the first 1099511627776 octets"],
             out,
         ),
         (FaultKind::LongLine, _) => say(&[b"a line has at most 160 octets"], out),

@@ -6,17 +6,20 @@ use crate::saying::{say, say_number};
 use wf_io::Line;
 use wf_trace::{Arg, next_word};
 
-const TRACE: [&[u8]; 16] = [
+const TRACE: [&[u8]; 19] = [
     b"cell [NAME=NUMBER ..]",
     b"join S W START X [WEIGHT]",
     b"leave S",
     b"rate S MCS MHZ GUARD",
+    b"rate S vht MCS MHZ GUARD N",
+    b"rate S he MCS MHZ GUARD N",
     b"tick MICROSECONDS",
     b"enq S TID FLOW LENGTH",
     b"pull CLASS",
     b"arrive EXCHANGE INDEX",
     b"answer EXCHANGE",
     b"done EXCHANGE HEARD",
+    b"done EXCHANGE HEARD air MICROSECONDS",
     b"sleep S",
     b"wake S",
     b"poll S",
@@ -24,6 +27,8 @@ const TRACE: [&[u8]; 16] = [
     b"reap",
     b"end",
 ];
+
+const DONE_AIR: &[u8] = b"done EXCHANGE HEARD air MICROSECONDS";
 
 const SESSION: [&[u8]; 6] = [
     b"ask W START",
@@ -59,14 +64,52 @@ pub fn word_of(form: &'static [u8]) -> &'static [u8] {
     }
 }
 
-/// The form of the lines that begin with a word.
-pub fn form_named(command: Command, word: &[u8]) -> Option<&'static [u8]> {
+// The form of the lines that begin with a word and have this word as their second argument, as the format of
+// a rate is one.
+fn form_with(command: Command, word: &[u8], second: &[u8]) -> Option<&'static [u8]> {
     for form in forms(command) {
-        if word_of(form) == word {
+        if word_of(form) == word && name_of(form, 1) == second {
             return Some(form);
         }
     }
     None
+}
+
+/// The form of the lines that begin with a word and have these words behind it: of several forms the one
+/// that names their format, or an airtime, else the first.
+pub fn form_named(command: Command, word: &[u8], rest: &[u8]) -> Option<&'static [u8]> {
+    if let Some(second) = second_word(rest) {
+        if let Some(form) = form_with(command, word, second) {
+            return Some(form);
+        }
+    }
+    for form in forms(command) {
+        if word_of(form) == word {
+            return Some(with_air(form, rest));
+        }
+    }
+    None
+}
+
+// The form of a `done` with these words behind it, which may name an airtime; each other form as it is.
+fn with_air(form: &'static [u8], rest: &[u8]) -> &'static [u8] {
+    match (form, third_word(rest)) {
+        (b"done EXCHANGE HEARD", Some(b"air")) => DONE_AIR,
+        _ => form,
+    }
+}
+
+// The second word of a line.
+fn second_word(line: &[u8]) -> Option<&[u8]> {
+    let (_, rest) = next_word(line)?;
+    let (word, _) = next_word(rest)?;
+    Some(word)
+}
+
+/// The third word of a line.
+pub fn third_word(line: &[u8]) -> Option<&[u8]> {
+    let (_, rest) = next_word(line)?;
+    second_word(rest)
 }
 
 /// The name of an argument of a form, by its place, counted from 0.
@@ -127,27 +170,56 @@ fn uplink_args(word: &[u8]) -> &'static [Arg] {
     }
 }
 
-fn trace_args(word: &[u8]) -> &'static [Arg] {
-    match word {
+fn rate_args(form: &'static [u8]) -> &'static [Arg] {
+    match name_of(form, 1) {
+        b"vht" => &[
+            Arg::Short,
+            Arg::Format,
+            Arg::Octet,
+            Arg::Octet,
+            Arg::Guard,
+            Arg::Octet,
+        ],
+        b"he" => &[
+            Arg::Short,
+            Arg::Format,
+            Arg::Octet,
+            Arg::Octet,
+            Arg::Short,
+            Arg::Octet,
+        ],
+        _ => &[Arg::Short, Arg::Octet, Arg::Octet, Arg::Guard],
+    }
+}
+
+fn done_args(form: &'static [u8]) -> &'static [Arg] {
+    match name_of(form, 2) {
+        b"air" => &[Arg::Long, Arg::Heard, Arg::Air, Arg::Long],
+        _ => &[Arg::Long, Arg::Heard],
+    }
+}
+
+fn trace_args(form: &'static [u8]) -> &'static [Arg] {
+    match word_of(form) {
         b"join" => &[Arg::Short, Arg::Short, Arg::Short, Arg::Octet, Arg::Weight],
         b"leave" | b"sleep" | b"wake" | b"poll" => &[Arg::Short],
-        b"rate" => &[Arg::Short, Arg::Octet, Arg::Octet, Arg::Guard],
+        b"rate" => rate_args(form),
         b"tick" | b"answer" => &[Arg::Long],
         b"enq" => &[Arg::Short, Arg::Octet, Arg::Long, Arg::Length],
         b"pull" => &[Arg::Class],
         b"arrive" => &[Arg::Long, Arg::Short],
-        b"done" => &[Arg::Long, Arg::Heard],
+        b"done" => done_args(form),
         b"rx" => &[Arg::Short, Arg::Class, Arg::Long],
         _ => &[],
     }
 }
 
-/// What the arguments behind a word may be.
-pub fn args(command: Command, word: &[u8]) -> &'static [Arg] {
+/// What the arguments of a form may be.
+pub fn args(command: Command, form: &'static [u8]) -> &'static [Arg] {
     match command {
-        Command::Session => session_args(word),
-        Command::Uplink => uplink_args(word),
-        _ => trace_args(word),
+        Command::Session => session_args(word_of(form)),
+        Command::Uplink => uplink_args(word_of(form)),
+        _ => trace_args(form),
     }
 }
 
@@ -166,8 +238,10 @@ pub fn say_wanted(arg: Arg, out: &mut Line) {
         Arg::Long => say(&[b"0 to 4294967295"], out),
         Arg::Length => say(&[b"1 to 2304"], out),
         Arg::Class => say(&[b"bk, be, vi or vo"], out),
+        Arg::Format => say(&[b"vht or he"], out),
         Arg::Guard => say(&[b"long or short"], out),
         Arg::Heard => say(&[b"heard or lost"], out),
+        Arg::Air => say(&[b"air"], out),
         Arg::End => say(&[b"a or b"], out),
         Arg::Number { low, high } => say_range(low, high, out),
     }

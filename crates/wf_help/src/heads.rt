@@ -18,7 +18,7 @@ struct Setting {
 }
 
 // checks/help compares them with docs/TRACE.md.
-const SETTINGS: [Setting; 12] = [
+const SETTINGS: [Setting; 13] = [
     Setting {
         name: b"stations",
         low: 1,
@@ -77,7 +77,12 @@ const SETTINGS: [Setting; 12] = [
     Setting {
         name: b"calls",
         low: 1,
-        high: 1_048_576,
+        high: 4_294_967_295,
+    },
+    Setting {
+        name: b"charge",
+        low: 0,
+        high: 65_535,
     },
 ];
 

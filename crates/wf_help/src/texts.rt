@@ -52,13 +52,16 @@ A trace is a head, then calls, then the line end:
   join S W START X [WEIGHT]       station and window, 0..65535; first number, 0..65535;
                                   exponent, 0..255; weight, 0..255 (1 where it is left out)
   leave S                         station, 0..65535
-  rate S MCS MHZ GUARD            MCS, 0..255; MHz, 0..255; long or short
+  rate S MCS MHZ GUARD            HT: MCS, 0..255; MHz, 0..255; long or short
+  rate S vht MCS MHZ GUARD N      VHT: and streams, 0..255
+  rate S he MCS MHZ GUARD N       HE: the guard interval in nanoseconds, 0..65535
   tick MICROSECONDS               0..4294967295
   enq S TID FLOW LENGTH           TID, 0..255; flow, 0..4294967295; octets, 1..2304
   pull CLASS                      bk, be, vi or vo
   arrive EXCHANGE INDEX           exchange, 0..4294967295; index, 0..65535
   answer EXCHANGE
   done EXCHANGE HEARD             heard or lost
+  done EXCHANGE HEARD air MICROSECONDS     and the airtime, 0..4294967295
   sleep S
   wake S
   poll S
@@ -68,7 +71,7 @@ A trace is a head, then calls, then the line end:
 
 Settings: stations=1..256 flows=1..4096 limit=1..65535 room=1..131072 flow_quantum=64..65535
 quantum=100..10000 inflight=1..8 attempts=1..64 agg=1..256 cap=3000..5400 sleeping=1..65535
-calls=1..1048576
+calls=1..4294967295 charge=0..65535
 
 Words are parted by spaces. A line whose first octet that is no space is # is skipped. Before
 a call may stand its caller, @0 to @65535. A number is 1 to 10 decimal digits, without a zero
@@ -168,7 +171,7 @@ The last line on standard output is then: fault line N KIND. Lines count from 1,
 ones too; a fault at the end of the input stands on the line behind the last. Of several kinds
 in one line the first of these is told:
 
-  too-big    the line does not end within the first 268435456 octets of the input
+  too-big    the line does not end within the first 1099511627776 octets of the input
   long-line  it has more than 160 characters, a comment too
   not-ascii  an octet is not in 32..126, in a comment too: a tab (9), a letter outside ASCII,
              a carriage return (13), with which lines of a text from Windows end (dos2unix)

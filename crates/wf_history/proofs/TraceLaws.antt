@@ -11,6 +11,8 @@ use Rattle.wf_frame.specs.declared.notes.Note.{Note}
 use Rattle.wf_frame.specs.declared.notes.Note.TheVariants.{Enqueue, Asked}
 use Rattle.wf_frame.specs.declared.notes.Ask.{Ask}
 use Rattle.wf_frame.specs.declared.notes.Ask.TheVariants.{Join, Leave, Rate, Tick, Pull, Arrive, Answer, Done, Sleep, Wake, Poll, Rx, Reap}
+use Rattle.wf_frame.specs.declared.notes.AskedRate.{AskedRate}
+use Rattle.wf_frame.specs.declared.notes.AskedRate.TheVariants.{Ht, Vht, He}
 use Rattle.wf_frame.specs.Classes.{class_word}
 use Rattle.wf_frame.specs.Settings.{standard}
 use Rattle.wf_trace.specs.declared.meaning.Place.{Place}
@@ -21,7 +23,7 @@ use Rattle.wf_trace.specs.Words.{words, skipped}
 use Rattle.wf_trace.specs.Scanning.{begins_word}
 use Rattle.wf_trace.specs.Meanings.{meant}
 use Rattle.wf_trace.specs.Grammar.{guard_word, heard_word}
-use Rattle.wf_trace.specs.Printing.{weight_words, ask_words, note_words, caller_words, note_text, IsAskInRange, NumbersAreInRange}
+use Rattle.wf_trace.specs.Printing.{weight_words, rate_words, ask_words, note_words, caller_words, note_text, IsRateInRange, IsAskInRange, NumbersAreInRange, measured_words, IsAirInRange}
 use Rattle.wf_trace.specs.Reading.{Reading, reading, with_item}
 use Rattle.wf_trace.specs.Reader.{said, read_lines}
 use Rattle.wf_trace.proofs.PlaceLaws.{reading_placed}
@@ -136,6 +138,21 @@ of_short n small = short_number n (omega arith)
 of_octet : (n : ℕ) → n < 2 ^ 8 → length (decimal n) ≤ 10
 of_octet n small = short_number n (omega arith)
 
+short_rate : (rate : AskedRate) → IsRateInRange rate → AreShort (rate_words rate)
+short_rate (Ht mcs mhz short) r = (of_octet mcs r.0, (of_octet mhz r.1, (short_guard short, tt)))
+short_rate (Vht mcs mhz short streams) r = (
+  omega arith,
+  (of_octet mcs r.0, (of_octet mhz r.1, (short_guard short, (of_octet streams r.2, tt)))),
+)
+short_rate (He mcs mhz guard streams) r = (
+  omega arith,
+  (of_octet mcs r.0, (of_octet mhz r.1, (of_short guard r.2, (of_octet streams r.3, tt)))),
+)
+
+short_air : (air : Option ℕ) → IsAirInRange air → AreShort (measured_words air)
+short_air None r = tt
+short_air (Some air) r = (omega arith, (short_number air r, tt))
+
 short_ask : (ask : Ask) → IsAskInRange ask → AreShort (ask_words ask)
 short_ask (Join station window start exponent weight) r = (
   omega arith,
@@ -148,15 +165,22 @@ short_ask (Join station window start exponent weight) r = (
   ),
 )
 short_ask (Leave station) r = (omega arith, (of_short station r, tt))
-short_ask (Rate station mcs mhz short) r = (
-  omega arith,
-  (of_short station r.0, (of_octet mcs r.1, (of_octet mhz r.2, (short_guard short, tt)))),
-)
+short_ask (Rate station rate) r = (omega arith, (of_short station r.0, short_rate rate r.1))
 short_ask (Tick by) r = (omega arith, (short_number by r, tt))
 short_ask (Pull class) r = (omega arith, (short_class class, tt))
 short_ask (Arrive exchange index) r = (omega arith, (short_number exchange r.0, (of_short index r.1, tt)))
 short_ask (Answer exchange) r = (omega arith, (short_number exchange r, tt))
-short_ask (Done exchange heard) r = (omega arith, (short_number exchange r, (short_heard heard, tt)))
+short_ask (Done exchange heard air) r = (
+  omega arith,
+  (
+    short_number exchange r.0,
+    (
+      short_heard heard,
+      short_air air
+          r.1,
+    ),
+  ),
+)
 short_ask (Sleep station) r = (omega arith, (of_short station r, tt))
 short_ask (Wake station) r = (omega arith, (of_short station r, tt))
 short_ask (Poll station) r = (omega arith, (of_short station r, tt))
@@ -179,27 +203,36 @@ short_note (Enqueue station tid flow len) r = (
 )
 short_note (Asked ask) r = short_ask ask r
 
-few_ask : (ask : Ask) → length (ask_words ask) ≤ 6
+few_rate : (rate : AskedRate) → length (rate_words rate) ≤ 5
+few_rate (Ht mcs mhz short) = omega arith
+few_rate (Vht mcs mhz short streams) = omega arith
+few_rate (He mcs mhz guard streams) = omega arith
+
+few_air : (air : Option ℕ) → length (measured_words air) ≤ 2
+few_air None = omega arith
+few_air (Some air) = omega arith
+
+few_ask : (ask : Ask) → length (ask_words ask) ≤ 7
 few_ask (Join station window start exponent weight) = let few = few_weights weight in omega arith
 few_ask (Leave station) = omega arith
-few_ask (Rate station mcs mhz short) = omega arith
+few_ask (Rate station rate) = let few = few_rate rate in omega arith
 few_ask (Tick by) = omega arith
 few_ask (Pull class) = omega arith
 few_ask (Arrive exchange index) = omega arith
 few_ask (Answer exchange) = omega arith
-few_ask (Done exchange heard) = omega arith
+few_ask (Done exchange heard air) = let few = few_air air in omega arith
 few_ask (Sleep station) = omega arith
 few_ask (Wake station) = omega arith
 few_ask (Poll station) = omega arith
 few_ask (Rx station class air) = omega arith
 few_ask Reap = omega arith
 
-few_note : (note : Note) → length (note_words note) ≤ 6
+few_note : (note : Note) → length (note_words note) ≤ 7
 few_note (Enqueue station tid flow len) = omega arith
 few_note (Asked ask) = few_ask ask
 
-short_caller : (caller : ℕ) (others : List (List ℕ)) → caller < 2 ^ 16 → AreShort others → length others ≤ 6 →
-    AreShort (caller_words caller ++ others) × (length (caller_words caller ++ others) ≤ 7)
+short_caller : (caller : ℕ) (others : List (List ℕ)) → caller < 2 ^ 16 → AreShort others → length others ≤ 7 →
+    AreShort (caller_words caller ++ others) × (length (caller_words caller ++ others) ≤ 8)
 short_caller zero others small are few = (are, omega arith)
 short_caller (suc n) others small are few =
     let digits : length (decimal (suc n)) ≤ 5 = length-decimal-le 5 (suc n) (omega arith) (omega arith)
@@ -207,7 +240,7 @@ short_caller (suc n) others small are few =
     rw (not_zero n) ((omega arith, are), omega arith)
 
 pub short_text : (caller : ℕ) (note : Note) → caller < 2 ^ 16 → NumbersAreInRange note →
-    length (note_text caller note) ≤ 77
+    length (note_text caller note) ≤ 88
 short_text caller note small r =
     let both = short_caller caller (note_words note) small (short_note note r) (few_note note) in
     let few = both.1 in
@@ -217,12 +250,12 @@ short_text caller note small r =
 begins_ask : (ask : Ask) → begins_word (join_with_byte 32 (ask_words ask)) ≡ true
 begins_ask (Join station window start exponent weight) = refl
 begins_ask (Leave station) = refl
-begins_ask (Rate station mcs mhz short) = refl
+begins_ask (Rate station rate) = refl
 begins_ask (Tick by) = refl
 begins_ask (Pull class) = refl
 begins_ask (Arrive exchange index) = refl
 begins_ask (Answer exchange) = refl
-begins_ask (Done exchange heard) = refl
+begins_ask (Done exchange heard air) = refl
 begins_ask (Sleep station) = refl
 begins_ask (Wake station) = refl
 begins_ask (Poll station) = refl
@@ -249,12 +282,14 @@ the_place count = Some (record { limit = 1048576; count = count })
 
 -- the lines of so many entries, at most, and the last line lie within the octets of a trace
 most_octets : ℕ
-most_octets = 78
+most_octets = 89
 
 read_end : (closed : Bool) (at line count : ℕ) (behind : List ℕ) → at + 4 ≤ longest_trace →
     read_from closed at line (the_place count) (end_line ++ behind)
     ≡ record { items = []; ending = Some item.Finish }
-read_end closed at line count behind inside = read_line closed at (at + 4) line (the_place count) (codes "end") behind refl (omega arith) (omega arith) inside refl
+read_end closed at line count behind inside = read_line closed at (at + 4) line (the_place count)
+    (codes "end") behind
+    refl (omega arith) (omega arith) inside refl
 
 parted : (text others behind : List ℕ) → ((text ++ 10 ∷ []) ++ others) ++ behind ≡ text ++ 10
     ∷ (others ++ behind)
@@ -262,7 +297,7 @@ parted text others behind = append_assoc (text ++ 10 ∷ []) others behind
     ∙ append_assoc text (10 ∷ []) (others ++ behind)
 
 read_entry : (closed : Bool) (at line count : ℕ) (e : Entry) (behind : List ℕ) → (e.0 ≤ 65535) ×
-    NumbersAreInRange e.1 → at + 78 ≤ longest_trace → count < 1048576 →
+    NumbersAreInRange e.1 → at + 89 ≤ longest_trace → count < 1048576 →
     read_from closed at line (the_place count) (note_text e.0 e.1 ++ 10 ∷ behind)
     ≡ with_item (item.Entry e.0 e.1) (read_from closed (at + (length (note_text e.0 e.1) + 1)) (line + 1)
     (the_place (count + 1)) behind)
@@ -277,7 +312,7 @@ read_entry closed at line count e behind r inside room =
     ∙ rw (text_read e.0 e.1 place small r.1 room) refl
 
 read_entries : (closed : Bool) (at line count : ℕ) (history : List Entry) (behind : List ℕ) →
-    CanBeNamed history → at + 78 * length history + 4 ≤ longest_trace → count + length history ≤ 1048576 →
+    CanBeNamed history → at + 89 * length history + 4 ≤ longest_trace → count + length history ≤ 1048576 →
     read_from closed at line (the_place count) (entry_lines history ++ (end_line ++ behind))
     ≡ record { items = entry_items history; ending = Some item.Finish }
 read_entries closed at line count [] behind are inside room =
@@ -304,6 +339,8 @@ pub trace_read : (history : List Entry) (closed : Bool) (behind : List ℕ) → 
 trace_read history closed behind are room =
     ap (reading closed) (whole history behind)
     ∙ sym (reading_placed closed (head_then history behind))
-    ∙ read_line closed 0 5 1 None (codes "cell") (entry_lines history ++ (end_line ++ behind)) refl (omega arith) refl (omega arith) refl
+    ∙ read_line closed 0 5 1 None (codes "cell") (entry_lines history ++ (end_line ++ behind)) refl
+    (omega arith) refl
+    (omega arith) refl
     ∙ ap (with_item (item.Head standard)) (read_entries closed 5 2 0 history behind are (omega arith)
     (omega arith))

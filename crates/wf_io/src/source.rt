@@ -4,9 +4,10 @@ ghost use Rattle.std.specs.Prelude.{◌≡◌, ℕ, ◌<◌, ◌≤◌, List, le
 ghost use Rattle.std.specs.Io.KnownBytes.{prepend_known, IsAtEnd};
 ghost use Rattle.wf_io.specs.Faults.{CountsFaults};
 
-/// The most octets of an input that a command reads, 2^28: a trace, a script or a capture that goes on behind
-/// them is at fault.
-pub const MOST_OCTETS: u64 = 268_435_456;
+/// The most octets of an input that a command reads, 2^40: a trace, a script or a capture that goes on behind
+/// them is at fault. A trace of 4,294,967,295 calls, of 78 octets each at most as `live` writes them, ends
+/// before.
+pub const MOST_OCTETS: u64 = 1_099_511_627_776;
 
 /// A read or a write failed. The count of faults of its source or sink rose in that call.
 #[derive(Clone, Copy, Debug, PartialEq, Eq)]

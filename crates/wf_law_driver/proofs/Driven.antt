@@ -1,53 +1,56 @@
 -- Whatever a driver does, its history leaves the machine in an unheard world.
-use Rattle.std.proofs.Common.{◌≡◌, refl, ap, sym, ◌∙◌, subst, ℕ, Bool, true, List, [], ◌∷◌, ◌++◌, Option, Some, None, is_none}
+use Rattle.std.proofs.Common.{◌≡◌, refl, sym, ◌∙◌, subst, ℕ, Bool, true, List, [], ◌∷◌, ◌++◌, Option, Some, None, false, if◌then◌else◌}
 use Rattle.wf_frame.specs.declared.settings.Config.{Config}
 use Rattle.wf_frame.specs.declared.notes.Ask.TheVariants.{Done}
 use Rattle.wf_frame.specs.declared.notes.Note.TheVariants.{Asked}
-use Rattle.wf_frame.specs.declared.notes.Refusal.{Refusal}
-use Rattle.wf_frame.specs.declared.notes.Refusal.TheVariants.{NoExchange}
 use Rattle.wf_def_world.specs.World.{World, Exchange, exchange, opening}
-use Rattle.wf_def_world.specs.Refusals.{refusal}
-use Rattle.wf_def_world.specs.Step.{after_refusal, judged_outcome, step}
+use Rattle.wf_def_world.specs.Refusals.{is_bad_air}
 use Rattle.wf_def_world.specs.Run.{Entry, by, world_after}
 use Rattle.wf_law_runs.proofs.Frames.Fates.{world_after-append}
 use Rattle.wf_law_driver.specs.Driven.{Deed, Call, Heard, ending, entries_of, history_of, AreSilent, IsSilentDeed, DrivenLaw}
 use Rattle.wf_law_driver.specs.Told.{told, done_told}
 use Rattle.wf_law_driver.specs.Unheard.{IsUnheard}
-use Rattle.wf_law_driver.proofs.Opened.{first_refuses, one_entry}
+use Rattle.wf_law_driver.proofs.Opened.{one_entry}
 use Rattle.wf_law_driver.proofs.Silent.{silent_law, opening_unheard}
 use Rattle.wf_law_driver.proofs.Told.{told_law}
-
--- a Done of an exchange that is not open changes nothing
-not_open : (w : World) (e : ℕ) → exchange w e ≡ None → refusal w (Asked (Done e true)) ≡ Some NoExchange
-not_open w e none = first_refuses (is_none (exchange w e), NoExchange) _ (ap is_none none)
-
-refused_step : (w : World) (e : ℕ) → refusal w (Asked (Done e true)) ≡ Some NoExchange →
-    (step w (Asked (Done e true))).world ≡ w
-unfolding step judged_outcome after_refusal
-refused_step w e h = ap (λ (r : Option Refusal). (judged_outcome w (Asked (Done e true)) r).world) h
 
 module _ (config : Config) where
   -- the world after a history
   abbrev after : List Entry → World
   after h = world_after (opening config) h
 
-  ended : (o : Option Exchange) (h : List Entry) (caller e : ℕ) (shown : ℕ → Bool) →
+  -- a Done that is not heard
+  lost : (h : List Entry) (caller e : ℕ) (air : Option ℕ) → IsUnheard (after h) →
+      IsUnheard (world_after (after h) (by caller (Asked (Done e false air)) ∷ []))
+  lost h caller e air un =
+      subst IsUnheard (sym (one_entry (after h) (by caller (Asked (Done e false air)))))
+      (silent_law config h (Asked (Done e false air)) tt un)
+
+  ended : (o : Option Exchange) (h : List Entry) (caller e : ℕ) (shown : ℕ → Bool) (air : Option ℕ) →
       exchange (after h) e ≡ o → IsUnheard (after h) →
-      IsUnheard (world_after (after h) (ending caller e shown o))
-  ended None h caller e shown at_e un = subst IsUnheard
-      (sym (one_entry (after h) (by caller (Asked (Done e true)))
-      ∙ refused_step (after h) e (not_open (after h) e at_e))) un
-  ended (Some x) h caller e shown at_e un =
-      let es : List Entry = told caller e shown x.content in
-      let last : Entry = by caller (done_told e shown x.content) in
-      subst IsUnheard (sym (world_after-append es (after h) (last ∷ [])
-      ∙ one_entry (world_after (after h) es) last)) (told_law config h caller e shown x un at_e).unheard
+      IsUnheard (world_after (after h) (ending (after h) caller e shown air o))
+  ended None h caller e shown air at_e un = lost h caller e air un
+  ended (Some x) h caller e shown air at_e un = either (is_bad_air (after h).config air) refl
+    where
+      es : List Entry
+      es = told caller e shown x.content
+
+      last : Entry
+      last = by caller (done_told e shown air x.content)
+
+      either : (bad : Bool) → is_bad_air (after h).config air ≡ bad →
+          IsUnheard (world_after (after h)
+          (if bad then by caller (Asked (Done e false air)) ∷ [] else es ++ last ∷ []))
+      either true is = lost h caller e air un
+      either false is = subst IsUnheard (sym (world_after-append es (after h) (last ∷ [])
+          ∙ one_entry (world_after (after h) es) last))
+          (told_law config h caller e shown air x un at_e is).unheard
 
   one_deed : (d : Deed) (h : List Entry) (caller : ℕ) → IsSilentDeed d → IsUnheard (after h) →
       IsUnheard (world_after (after h) (entries_of (after h) caller d))
   one_deed (Call note) h caller k un = subst IsUnheard (sym (one_entry (after h) (by caller note)))
       (silent_law config h note k un)
-  one_deed (Heard e shown) h caller k un = ended (exchange (after h) e) h caller e shown refl un
+  one_deed (Heard e shown air) h caller k un = ended (exchange (after h) e) h caller e shown air refl un
 
   all_deeds : (ds : List (ℕ × Deed)) (h : List Entry) → AreSilent ds → IsUnheard (after h) →
       IsUnheard (world_after (after h) (history_of (after h) ds))

@@ -1,16 +1,17 @@
 -- Worlds of runs, and what the end of an exchange leaves of receivers and sessions.
-use Rattle.std.proofs.Common.{◌≡◌, refl, ap, sym, ◌∙◌, subst, arith, ℕ, ◌<◌, ◌≤◌, ◌==◌, Bool, true, false, not, List, length, Option, Some, None, is_some, is_none}
+use Rattle.std.proofs.Common.{◌≡◌, refl, ap, sym, ◌∙◌, subst, arith, ℕ, ◌<◌, ◌≤◌, ◌==◌, Bool, true, false, not, List, [], length, Option, Some, None, is_some, is_none}
 use Rattle.std.proofs.Math.Seq.{take-length}
 use Rattle.wf_frame.specs.declared.settings.Config.{Config}
 use Rattle.wf_frame.specs.declared.notes.Ask.TheVariants.{Done}
 use Rattle.wf_frame.specs.declared.notes.Note.{Note}
 use Rattle.wf_frame.specs.declared.notes.Note.TheVariants.{Asked}
+use Rattle.wf_frame.specs.declared.notes.Refusal.TheVariants.{NoExchange, NoAnswer, BadAir}
 use Rattle.wf_def_lists.specs.Table.{at, has}
 use Rattle.wf_def_agreement.specs.Receiver.{Score}
 use Rattle.wf_def_agreement.specs.Session.{Session, State, slot, next_number}
 use Rattle.wf_def_world.specs.World.{World, Station, Exchange, session, receiver, is_live, exchange, without_exchange, opening}
 use Rattle.wf_def_world.specs.CanSend.{with_listings_of}
-use Rattle.wf_def_world.specs.Refusals.{refusal, exchange_has}
+use Rattle.wf_def_world.specs.Refusals.{refusal, exchange_has, is_bad_air}
 use Rattle.wf_def_world.specs.Step.{done_outcome, outcome_where_open, outcome_of, station_of, step}
 use Rattle.wf_def_world.specs.Run.{Entry, world_after}
 use Rattle.wf_law_runs.specs.Kept.{KeepsNumbers, KeepsByCall}
@@ -24,7 +25,7 @@ use Rattle.wf_law_runs.proofs.Windows.Opened.{Each, each_filter, differ}
 use Rattle.wf_law_runs.proofs.Frames.Delivered.{opened_ended}
 use Rattle.wf_law_runs.proofs.Releases.Kept.{Kept, keep_ended}
 use Rattle.wf_law_driver.specs.Unheard.{IsUnmarked, HasAcked}
-use Rattle.wf_law_driver.proofs.Opened.{none_refuses, step_done, found_number}
+use Rattle.wf_law_driver.proofs.Opened.{none_refuses, first_refuses, passes, step_done, found_number}
 use Rattle.wf_law_driver.proofs.Arrivals.{IsOther}
 
 -- ---- the laws, of the world after a history
@@ -91,14 +92,14 @@ unfolding without_exchange
 unmarked_without w e h = each_filter (IsOther e) IsUnmarked (λ y. not (y.number == e)) w.opened
     (λ y keeps other. other (differ y.number e keeps)) h
 
-ended_world : (w : World) (e : ℕ) (x : Exchange) (heard : Bool) → x.number ≡ e →
-    IsEnded e w (done_outcome w x heard).world
-ended_world w e x heard n =
-    let k : Kept w (done_outcome w x heard).world = keep_ended w x heard in
+ended_world : (w : World) (e : ℕ) (x : Exchange) (heard : Bool) (air : Option ℕ) → x.number ≡ e →
+    IsEnded e w (done_outcome w x heard air).world
+ended_world w e x heard air n =
+    let k : Kept w (done_outcome w x heard air).world = keep_ended air w x heard in
     record {
       receivers = k.receivers;
       live = k.live;
-      marks = λ h. subst (Each IsUnmarked) (sym (opened_ended w x heard))
+      marks = λ h. subst (Each IsUnmarked) (sym (opened_ended air w x heard))
           (unmarked_without w x.number (subst (λ (i : ℕ). Each (IsOther i) w.opened) (sym n) h));
     }
 
@@ -109,29 +110,42 @@ ended_same e w u v h d = record {
   marks = λ o. subst (Each IsUnmarked) (sym h.opened) (d.marks o);
 }
 
-pub ended_step : (w : World) (e : ℕ) (x : Exchange) (heard : Bool) → exchange w e ≡ Some x →
-    refusal w (Asked (Done e heard)) ≡ None → IsEnded e w (step w (Asked (Done e heard))).world
+pub ended_step : (w : World) (e : ℕ) (x : Exchange) (heard : Bool) (air : Option ℕ) → exchange w e ≡ Some x →
+    refusal w (Asked (Done e heard air)) ≡ None → IsEnded e w (step w (Asked (Done e heard air))).world
 unfolding outcome_of outcome_where_open
-ended_step w e x heard found fine =
-    let u : World = (done_outcome w x heard).world in
-    let same_step : (step w (Asked (Done e heard))).world ≡ with_listings_of u (Some x.station) =
-    step_done w (Asked (Done e heard)) fine ∙ ap
+ended_step w e x heard air found fine =
+    let u : World = (done_outcome w x heard air).world in
+    let same_step : (step w (Asked (Done e heard air))).world ≡ with_listings_of u (Some x.station) =
+    step_done w (Asked (Done e heard air)) fine ∙ ap
     (λ (o : Option Exchange). with_listings_of
-    (outcome_where_open w o (λ y. done_outcome w y heard)).world (station_of o)) found in
+    (outcome_where_open w o (λ y. done_outcome w y heard air)).world (station_of o)) found in
     subst (IsEnded e w) (sym same_step) (ended_same e w u _ (same_listed (Some x.station) u)
-    (ended_world w e x heard (found_number w e x found)))
+    (ended_world w e x heard air (found_number w e x found)))
 
-pub may_end_lost : (w : World) (e : ℕ) (x : Exchange) → exchange w e ≡ Some x →
-    refusal w (Asked (Done e false)) ≡ None
-may_end_lost w e x found = none_refuses _ (ap is_none found, (refl, tt))
+pub may_end_lost : (w : World) (e : ℕ) (x : Exchange) (air : Option ℕ) → exchange w e ≡ Some x →
+    is_bad_air w.config air ≡ false → refusal w (Asked (Done e false air)) ≡ None
+may_end_lost w e x air found fine = none_refuses _ (ap is_none found, (refl, (fine, tt)))
 
-pub may_end_heard : (w : World) (e : ℕ) (x : Exchange) (b : Score) → exchange w e ≡ Some x →
-    x.answer ≡ Some b → refusal w (Asked (Done e true)) ≡ None
-may_end_heard w e x b found kept = none_refuses _ (
+pub may_end_heard : (w : World) (e : ℕ) (x : Exchange) (b : Score) (air : Option ℕ) → exchange w e ≡ Some x →
+    x.answer ≡ Some b → is_bad_air w.config air ≡ false → refusal w (Asked (Done e true air)) ≡ None
+may_end_heard w e x b air found kept fine = none_refuses _ (
   ap is_none found,
   (
     ap (λ (o : Option Exchange). exchange_has o (λ y. is_none y.answer)) found
         ∙ ap is_none kept,
-    tt,
+    (fine, tt),
   ),
 )
+
+-- an airtime that may not be named is the last fault of a Done
+pub bad_lost : (w : World) (e : ℕ) (x : Exchange) (air : Option ℕ) → exchange w e ≡ Some x →
+    is_bad_air w.config air ≡ true → refusal w (Asked (Done e false air)) ≡ Some BadAir
+bad_lost w e x air found bad = passes (is_none (exchange w e), NoExchange) _ (ap is_none found)
+    ∙ (passes (false, NoAnswer) _ refl ∙ first_refuses (is_bad_air w.config air, BadAir) [] bad)
+
+pub bad_heard : (w : World) (e : ℕ) (x : Exchange) (b : Score) (air : Option ℕ) → exchange w e ≡ Some x →
+    x.answer ≡ Some b → is_bad_air w.config air ≡ true → refusal w (Asked (Done e true air)) ≡ Some BadAir
+bad_heard w e x b air found kept bad = passes (is_none (exchange w e), NoExchange) _ (ap is_none found)
+    ∙ (passes (exchange_has (exchange w e) (λ y. is_none y.answer), NoAnswer) _
+    (ap (λ (o : Option Exchange). exchange_has o (λ y. is_none y.answer)) found ∙ ap is_none kept)
+    ∙ first_refuses (is_bad_air w.config air, BadAir) [] bad)

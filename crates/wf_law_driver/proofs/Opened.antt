@@ -1,5 +1,5 @@
 -- Lists of open exchanges, and single calls.
-use Rattle.std.proofs.Common.{◌≡◌, refl, ap, sym, ◌∙◌, subst, ℕ, ◌==◌, Bool, true, if◌then◌else◌, List, [], ◌∷◌, map, find, Option, Some, None, IfSome}
+use Rattle.std.proofs.Common.{◌≡◌, refl, ap, sym, ◌∙◌, subst, ℕ, ◌==◌, Bool, true, if◌then◌else◌, List, [], ◌∷◌, map, find, Option, Some, None, IfSome, false}
 use Rattle.wf_frame.specs.declared.notes.Note.{Note}
 use Rattle.wf_frame.specs.declared.notes.Refusal.{Refusal}
 use Rattle.wf_law_rules.proofs.Lemmas.Numbers.{on_bool, eq_yes, yes_eq}
@@ -71,6 +71,11 @@ pub first_refuses : (row : Bool × Refusal) (rows : List (Bool × Refusal)) → 
     first_refusal (row ∷ rows) ≡ Some row.1
 unfolding first_refusal
 first_refuses row rows h = ap (λ (b : Bool). if b then Some row.1 else first_refusal rows) h
+
+pub passes : (row : Bool × Refusal) (rows : List (Bool × Refusal)) → row.0 ≡ false →
+    first_refusal (row ∷ rows) ≡ first_refusal rows
+unfolding first_refusal
+passes row rows h = ap (λ (b : Bool). if b then Some row.1 else first_refusal rows) h
 
 pub step_done : (w : World) (note : Note) → refusal w note ≡ None →
     (step w note).world ≡ with_listings_of (outcome_of w note).world (concerned_station w note)

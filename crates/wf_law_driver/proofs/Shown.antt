@@ -2,17 +2,18 @@
 use Rattle.std.proofs.Common.{◌≡◌, refl, ap, sym, ◌∙◌, subst, ℕ, Bool, true, false, List, [], ◌∷◌, Option, Some, None}
 use Rattle.wf_frame.specs.declared.notes.Ask.TheVariants.{Done}
 use Rattle.wf_frame.specs.declared.notes.Note.TheVariants.{Asked}
-use Rattle.wf_frame.specs.declared.notes.ReplyNote.TheVariants.{Ended}
+use Rattle.wf_frame.specs.declared.notes.Refusal.TheVariants.{BadAir}
+use Rattle.wf_frame.specs.declared.notes.ReplyNote.TheVariants.{Ended, Refused}
 use Rattle.wf_def_agreement.specs.Receiver.{Score, shows}
 use Rattle.wf_def_agreement.specs.Session.{is_acknowledged, is_waiting, is_failed}
 use Rattle.wf_def_world.specs.World.{World, Exchange, Mpdu, Content, Frames, Request, exchange, without_exchange}
 use Rattle.wf_def_world.specs.CanSend.{is_request, with_listings_of}
 use Rattle.wf_def_world.specs.Exchanges.{is_acked, mpdus_of, after_charge, with_settled, with_all_settled, after_done, count_in}
-use Rattle.wf_def_world.specs.Refusals.{refusal}
-use Rattle.wf_def_world.specs.Step.{Outcome, done_outcome, outcome_where_open, outcome_of, judged_outcome, station_of, step}
+use Rattle.wf_def_world.specs.Refusals.{refusal, is_bad_air}
+use Rattle.wf_def_world.specs.Step.{Outcome, done_outcome, outcome_where_open, outcome_of, after_refusal, judged_outcome, station_of, step}
 use Rattle.wf_law_runs.specs.Windows.{EachMpdu}
 use Rattle.wf_law_driver.specs.Shown.{SettlesAlike, EndsAsLost}
-use Rattle.wf_law_driver.proofs.Ended.{may_end_lost, may_end_heard}
+use Rattle.wf_law_driver.proofs.Ended.{may_end_lost, may_end_heard, bad_lost, bad_heard}
 use Rattle.wf_law_driver.proofs.Indices.{each_mpdu}
 
 settled_alike : (ms : List Mpdu) (w : World) (s t : ℕ) (p q : ℕ → Bool) →
@@ -37,37 +38,50 @@ after_none (Frames ms) v x b kept frames h =
     (λ m none. subst (λ (o : Option Score). is_acked true o m.number ≡ is_acked false o m.number)
     (sym kept) none) h)
 
-done_none : (w : World) (x : Exchange) (b : Score) → x.answer ≡ Some b → is_request x.content ≡ false →
+done_none : (w : World) (x : Exchange) (b : Score) (air : Option ℕ) → x.answer ≡ Some b →
+    is_request x.content ≡ false →
     EachMpdu (λ m. shows b m.number ≡ false) (mpdus_of x.content) →
-    done_outcome w x true ≡ done_outcome w x false
+    done_outcome w x true air ≡ done_outcome w x false air
 unfolding done_outcome
-done_none w x b kept frames h =
+done_none w x b air kept frames h =
     ap {B = Outcome} (λ (v : World). record {
       world = v;
       reply =
           Ended (count_in v x is_acknowledged) (count_in v x is_waiting) (count_in v x is_failed);
     })
-    (after_none x.content (after_charge (without_exchange w x.number) x) x b kept frames h)
+    (after_none x.content (after_charge (without_exchange w x.number) x air) x b kept frames h)
 
 -- an answered Done, by what it does to the exchange
-done_step : (w : World) (e : ℕ) (x : Exchange) (heard : Bool) → exchange w e ≡ Some x →
-    refusal w (Asked (Done e heard)) ≡ None →
-    step w (Asked (Done e heard)) ≡ record (done_outcome w x heard) {
+done_step : (w : World) (e : ℕ) (x : Exchange) (heard : Bool) (air : Option ℕ) → exchange w e ≡ Some x →
+    refusal w (Asked (Done e heard air)) ≡ None →
+    step w (Asked (Done e heard air)) ≡ record (done_outcome w x heard air) {
       world =
-          with_listings_of (done_outcome w x heard).world (Some x.station);
+          with_listings_of (done_outcome w x heard air).world (Some x.station);
     }
 unfolding step judged_outcome outcome_of outcome_where_open
-done_step w e x heard found fine =
-    ap (judged_outcome w (Asked (Done e heard))) fine
+done_step w e x heard air found fine =
+    ap (judged_outcome w (Asked (Done e heard air))) fine
     ∙ ap {B = Outcome} (λ (o : Option Exchange). record
-    (outcome_where_open w o (λ y. done_outcome w y heard)) {
+    (outcome_where_open w o (λ y. done_outcome w y heard air)) {
       world =
-          with_listings_of (outcome_where_open w o (λ y. done_outcome w y heard)).world (station_of o);
+          with_listings_of (outcome_where_open w o (λ y. done_outcome w y heard air)).world (station_of o);
     }) found
 
+-- a Done that is refused for its airtime changes nothing
+bad_step : (w : World) (e : ℕ) (heard : Bool) (air : Option ℕ) →
+    refusal w (Asked (Done e heard air)) ≡ Some BadAir →
+    step w (Asked (Done e heard air)) ≡ record { world = w; reply = Refused BadAir }
+unfolding step judged_outcome after_refusal
+bad_step w e heard air bad = ap (judged_outcome w (Asked (Done e heard air))) bad
+
 pub ends_as_lost : (w : World) → EndsAsLost w
-ends_as_lost w e x b found kept frames h =
-    done_step w e x true found (may_end_heard w e x b found kept)
-    ∙ (ap {B = Outcome} (λ (o : Outcome). record o { world = with_listings_of o.world (Some x.station) })
-    (done_none w x b kept frames h)
-    ∙ sym (done_step w e x false found (may_end_lost w e x found)))
+ends_as_lost w e x b air found kept frames h = either (is_bad_air w.config air) refl
+  where
+    either : (bad : Bool) → is_bad_air w.config air ≡ bad →
+        step w (Asked (Done e true air)) ≡ step w (Asked (Done e false air))
+    either true is = bad_step w e true air (bad_heard w e x b air found kept is)
+        ∙ sym (bad_step w e false air (bad_lost w e x air found is))
+    either false is = done_step w e x true air found (may_end_heard w e x b air found kept is)
+        ∙ (ap {B = Outcome} (λ (o : Outcome). record o { world = with_listings_of o.world (Some x.station) })
+        (done_none w x b air kept frames h)
+        ∙ sym (done_step w e x false air found (may_end_lost w e x air found is)))

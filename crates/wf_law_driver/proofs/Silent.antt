@@ -112,12 +112,12 @@ marks_without : (w : World) (e : ℕ) → Each IsUnmarked w.opened → Each IsUn
 unfolding without_exchange
 marks_without w e m = each_filter IsUnmarked IsUnmarked (λ y. not (y.number == e)) w.opened (λ y _ h. h) m
 
-silence_ended : (o : Option Exchange) (w : World) (heard : Bool) →
-    Silence w (outcome_where_open w o (λ x. done_outcome w x heard)).world
+silence_ended : (o : Option Exchange) (w : World) (heard : Bool) (air : Option ℕ) →
+    Silence w (outcome_where_open w o (λ x. done_outcome w x heard air)).world
 unfolding outcome_where_open
-silence_ended None w heard = silence w
-silence_ended (Some x) w heard = silence_kept w _ (keep_ended w x heard)
-    (λ m. subst (Each IsUnmarked) (sym (opened_ended w x heard)) (marks_without w x.number m))
+silence_ended None w heard air = silence w
+silence_ended (Some x) w heard air = silence_kept w _ (keep_ended air w x heard)
+    (λ m. subst (Each IsUnmarked) (sym (opened_ended air w x heard)) (marks_without w x.number m))
 
 -- ---- the step
 
@@ -132,13 +132,13 @@ silence_done (Enqueue s t flow len) w k i = silence_same w _ (same_enqueued w s 
 silence_done (Asked (Join s window start exponent weight)) w k i =
     silence_joined w s window start exponent weight
 silence_done (Asked (Leave s)) w k i = silence_gone w s
-silence_done (Asked (Rate s mcs mhz short)) w k i = silence_same w _ (same_on_station w s _ (λ x t. refl))
+silence_done (Asked (Rate s rate)) w k i = silence_same w _ (same_on_station w s _ (λ x t. refl))
 silence_done (Asked (Tick by)) w k i = record { arrived = λ i j n h. h; marks = λ h. h }
 silence_done (Asked (Pull c)) w k i = silence_kept w _ (keep_pulled w c) (marks_pulled w c i)
 silence_done (Asked (Arrive e n)) w k i = absurd k
 silence_done (Asked (Answer e)) w k i = absurd k
-silence_done (Asked (Done e true)) w k i = absurd k
-silence_done (Asked (Done e false)) w k i = silence_ended (exchange w e) w false
+silence_done (Asked (Done e true air)) w k i = absurd k
+silence_done (Asked (Done e false air)) w k i = silence_ended (exchange w e) w false air
 silence_done (Asked (Sleep s)) w k i = silence_same w _ (same_on_station w s _ (λ x t. refl))
 silence_done (Asked (Wake s)) w k i = silence_same w _ (same_on_station w s _ (λ x t. refl))
 silence_done (Asked (Poll s)) w k i = silence_same w _ (same_on_station w s _ (λ x t. refl))

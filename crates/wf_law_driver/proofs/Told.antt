@@ -10,7 +10,7 @@ use Rattle.wf_def_agreement.specs.Session.{Session, State, slot, next_number}
 use Rattle.wf_law_rules.proofs.Lemmas.Numbers.{same_bool, yes_lt}
 use Rattle.wf_def_world.specs.World.{World, Exchange, Mpdu, session, receiver, is_live, exchange, opening}
 use Rattle.wf_def_world.specs.Exchanges.{transmissions, mpdus_of}
-use Rattle.wf_def_world.specs.Refusals.{refusal}
+use Rattle.wf_def_world.specs.Refusals.{refusal, is_bad_air}
 use Rattle.wf_def_world.specs.Step.{step}
 use Rattle.wf_def_world.specs.Run.{Entry, by, world_after}
 use Rattle.wf_law_runs.specs.Kept.{KeepsByCall}
@@ -18,6 +18,7 @@ use Rattle.wf_law_runs.specs.Sent.{NumbersRise, IsSent}
 use Rattle.wf_law_runs.specs.Windows.{EachMpdu, IsOpenRight, KeepsWindows, Settles}
 use Rattle.wf_law_runs.proofs.Windows.Agreement.{below_next}
 use Rattle.wf_law_runs.proofs.Windows.Opened.{Each, each_map}
+use Rattle.wf_law_runs.proofs.Deficits.Configs.{config_run}
 use Rattle.wf_law_runs.proofs.Frames.Fates.{world_after-append}
 use Rattle.wf_law_driver.specs.Told.{arrivals, answer_told, indices_told, told, tells, AreAnswered, AreAckedWhere, KeepsAnswer, IsTold, ToldLaw}
 use Rattle.wf_law_driver.specs.Unheard.{IsUnmarked, HasAcked, IsUnheard}
@@ -73,16 +74,18 @@ others_marked w e un = each_map IsUnmarked (IsOther e) w.opened (λ y h _. h)
 
 -- an unheard world w of a run, whose exchange e is x, and the world u after what is told of it, which is one
 -- of a run too
-record IsBetween (w u : World) (e : ℕ) (shown : ℕ → Bool) (x last : Exchange) (b : Score) : Type 0 where
+record IsBetween (w u : World) (e : ℕ) (shown : ℕ → Bool) (x last : Exchange) (b : Score) (air : Option ℕ) :
+    Type 0 where
   un : IsUnheard w
   found : exchange w e ≡ Some x
   fly : EachMpdu (λ m. Flies w x.station x.tid e m.number) (mpdus_of x.content)
   after : IsAfter e x last (IsAmong x.content (indices_told shown x.content)) w u
   kept : last.answer ≡ Some b
   windows : KeepsWindows u
+  fine : is_bad_air u.config air ≡ false
 
 module _ (w u : World) (e : ℕ) (shown : ℕ → Bool) (x last : Exchange) (b : Score)
-    (k : IsBetween w u e shown x last b) where
+    (air : Option ℕ) (k : IsBetween w u e shown x last b air) where
   abbrev Told : ℕ → Type 0
   Told n = IsAmong x.content (indices_told shown x.content) n
 
@@ -137,7 +140,7 @@ module _ (w u : World) (e : ℕ) (shown : ℕ → Bool) (x last : Exchange) (b :
   -- ---- after the Done
 
   abbrev done_world : World
-  done_world = (step u (Asked (Done e true))).world
+  done_world = (step u (Asked (Done e true air))).world
 
   -- what has arrived of the exchange is acknowledged
   settled : EachMpdu (λ m. ((slot (session done_world x.station x.tid) m.number).state ≡ State.Acked) ↔
@@ -149,7 +152,7 @@ module _ (w u : World) (e : ℕ) (shown : ℕ → Bool) (x last : Exchange) (b :
       (k.windows.settles e) in
       let said = subst (λ (o : Option Score). IfSome o
       (λ _. EachMpdu (λ m. ((slot y m.number).state ≡ State.Acked) ↔ (has r.arrived m.number ≡ true))
-      (mpdus_of last.content))) k.kept all in
+      (mpdus_of last.content))) k.kept (all air k.fine) in
       subst (λ (z : Exchange). EachMpdu (λ m. ((slot (session done_world z.station z.tid) m.number).state
       ≡ State.Acked) ↔ (has (receiver u z.station z.tid).arrived m.number ≡ true)) (mpdus_of z.content))
       k.after.same said
@@ -162,7 +165,8 @@ module _ (w u : World) (e : ℕ) (shown : ℕ → Bool) (x last : Exchange) (b :
       (shown m.number ≡ true)) (mpdus_of x.content)
       (λ m h same. ((λ a. sym same ∙ h.0 a), (λ yes. h.1 (same ∙ yes)))) settled arrived_as_shown
 
-  told_acked : KeepsByCall u (Asked (Done e true)) → IsEnded e u done_world → (n : ℕ) → Told n → Arrived n →
+  told_acked : KeepsByCall u (Asked (Done e true air)) → IsEnded e u done_world → (n : ℕ) → Told n →
+      Arrived n →
       HasAcked (session done_world x.station x.tid) n
   told_acked calls ended n among arrived =
       let y : Session = session u x.station x.tid in
@@ -186,10 +190,10 @@ module _ (w u : World) (e : ℕ) (shown : ℕ → Bool) (x last : Exchange) (b :
         acked = acked;
       }
 
-  heard_unheard : KeepsByCall u (Asked (Done e true)) → refusal u (Asked (Done e true)) ≡ None →
+  heard_unheard : KeepsByCall u (Asked (Done e true air)) → refusal u (Asked (Done e true air)) ≡ None →
       IsUnheard done_world
   heard_unheard calls fine =
-      let ended : IsEnded e u done_world = ended_step u e last true k.after.found fine in
+      let ended : IsEnded e u done_world = ended_step u e last true air k.after.found fine in
       let here : (i j n : ℕ) → has (receiver u i j).arrived n ≡ true → x.station ≡ i → x.tid ≡ j → Told n →
       HasAcked (session done_world i j) n = λ i j n h s t is.
       subst (λ (a : ℕ). HasAcked (session done_world a j) n) s
@@ -202,21 +206,22 @@ module _ (w u : World) (e : ℕ) (shown : ℕ → Bool) (x last : Exchange) (b :
             let had : has (receiver u i j).arrived n ≡ true =
             ap (λ (r : Receiver). has r.arrived n) (sym (ended.receivers i j)) ∙ h in
             elim (k.after.old i j n had) [
-              | inl was ↦ stays_acked w u (Asked (Done e true)) i j n (k.after.sessions i j) calls
+              | inl was ↦ stays_acked w u (Asked (Done e true air)) i j n (k.after.sessions i j) calls
                   (ended.live i) (k.un.acked i j n was)
               | inr is ↦ here i j n had is.0 is.1 is.2
             ];
       }
 
 -- a Done that is not heard
-lost_unheard : (w : World) (e : ℕ) (x : Exchange) → IsUnheard w → KeepsByCall w (Asked (Done e false)) →
-    exchange w e ≡ Some x → IsUnheard (step w (Asked (Done e false))).world
-lost_unheard w e x un calls found =
-    let v : World = (step w (Asked (Done e false))).world in
-    let ended : IsEnded e w v = ended_step w e x false found (may_end_lost w e x found) in
+lost_unheard : (w : World) (e : ℕ) (x : Exchange) (air : Option ℕ) → IsUnheard w →
+    KeepsByCall w (Asked (Done e false air)) → exchange w e ≡ Some x → is_bad_air w.config air ≡ false
+    → IsUnheard (step w (Asked (Done e false air))).world
+lost_unheard w e x air un calls found fine =
+    let v : World = (step w (Asked (Done e false air))).world in
+    let ended : IsEnded e w v = ended_step w e x false air found (may_end_lost w e x air found fine) in
     record {
       marks = of_each IsUnmarked v.opened (ended.marks (others_marked w e un));
-      acked = λ i j n h. stays_acked w w (Asked (Done e false)) i j n refl calls (ended.live i)
+      acked = λ i j n h. stays_acked w w (Asked (Done e false air)) i j n refl calls (ended.live i)
           (un.acked i j n (ap (λ (r : Receiver). has r.arrived n) (sym (ended.receivers i j)) ∙ h));
     }
 
@@ -226,9 +231,10 @@ after_none : (w : World) → world_after w [] ≡ w
 unfolding world_after
 after_none w = refl
 
-module _ (config : Config) (h : List Entry) (caller e : ℕ) (shown : ℕ → Bool) (x : Exchange)
+module _ (config : Config) (h : List Entry) (caller e : ℕ) (shown : ℕ → Bool) (air : Option ℕ) (x : Exchange)
     (un : IsUnheard (world_after (opening config) h))
-    (found : exchange (world_after (opening config) h) e ≡ Some x) where
+    (found : exchange (world_after (opening config) h) e ≡ Some x)
+    (fine : is_bad_air (world_after (opening config) h).config air ≡ false) where
   abbrev w : World
   w = world_after (opening config) h
 
@@ -241,7 +247,7 @@ module _ (config : Config) (h : List Entry) (caller e : ℕ) (shown : ℕ → Bo
       (windows_after config h).opened)
 
   -- where something is shown
-  told_any : (i : ℕ) (is : List ℕ) → indices_told shown x.content ≡ i ∷ is → IsTold w caller e shown x
+  told_any : (i : ℕ) (is : List ℕ) → indices_told shown x.content ≡ i ∷ is → IsTold w caller e shown air x
   told_any i is some =
       let u : World = world_after w entries in
       let k : AllTold caller e x (indices_told shown x.content) w =
@@ -250,41 +256,45 @@ module _ (config : Config) (h : List Entry) (caller e : ℕ) (shown : ℕ → Bo
       (subst (AreIndices 0 (transmissions x.content)) some (told_rise shown x.content))) in
       let later : world_after (opening config) (h ++ entries) ≡ u =
       world_after-append h (opening config) entries in
-      let between : IsBetween w u e shown x k.last k.answer = record {
+      let may : is_bad_air u.config air ≡ false =
+      ap (λ (c : Config). is_bad_air c air) (config_run entries w) ∙ fine in
+      let between : IsBetween w u e shown x k.last k.answer air = record {
         un = un;
         found = found;
         fly = fly;
         after = k.after;
         kept = k.kept;
         windows = subst KeepsWindows later (windows_after config (h ++ entries));
+        fine = may;
       } in
-      let calls : KeepsByCall u (Asked (Done e true)) =
-      subst (λ (v : World). KeepsByCall v (Asked (Done e true))) later
-      (kept_after config (h ++ entries) (Asked (Done e true))) in
+      let calls : KeepsByCall u (Asked (Done e true air)) =
+      subst (λ (v : World). KeepsByCall v (Asked (Done e true air))) later
+      (kept_after config (h ++ entries) (Asked (Done e true air))) in
       let heard : tells shown x.content ≡ true = ap (λ (js : List ℕ). nat_lt 0 (length js)) some
       ∙ yes_lt 0 (length (i ∷ is)) (omega arith) in
-      let fine : refusal u (Asked (Done e true)) ≡ None =
-      may_end_heard u e k.last k.answer k.after.found k.kept in
+      let ends : refusal u (Asked (Done e true air)) ≡ None =
+      may_end_heard u e k.last k.answer air k.after.found k.kept may in
       record {
         answered = k.answered;
-        keeps = λ _. keeps_answer w u e shown x k.last k.answer between;
-        ends = subst (λ (b : Bool). refusal u (Asked (Done e b)) ≡ None) (sym heard) fine;
-        acked = subst (λ (b : Bool). AreAckedWhere (step u (Asked (Done e b))).world shown x) (sym heard)
-            (acked_as_shown w u e shown x k.last k.answer between);
-        unheard = subst (λ (b : Bool). IsUnheard (step u (Asked (Done e b))).world) (sym heard)
-            (heard_unheard w u e shown x k.last k.answer between calls fine);
+        keeps = λ _. keeps_answer w u e shown x k.last k.answer air between;
+        ends = subst (λ (b : Bool). refusal u (Asked (Done e b air)) ≡ None) (sym heard) ends;
+        acked = subst (λ (b : Bool). AreAckedWhere (step u (Asked (Done e b air))).world shown x) (sym heard)
+            (acked_as_shown w u e shown x k.last k.answer air between);
+        unheard = subst (λ (b : Bool). IsUnheard (step u (Asked (Done e b air))).world) (sym heard)
+            (heard_unheard w u e shown x k.last k.answer air between calls ends);
       }
 
   -- where nothing is shown, nothing is acknowledged by the Done, since nothing has arrived
-  none_acked : indices_told shown x.content ≡ [] → AreAckedWhere (step w (Asked (Done e false))).world shown x
+  none_acked : indices_told shown x.content ≡ [] →
+      AreAckedWhere (step w (Asked (Done e false air))).world shown x
   none_acked none =
-      let v : World = (step w (Asked (Done e false))).world in
-      let note : Note = Asked (Done e false) in
+      let v : World = (step w (Asked (Done e false air))).world in
+      let note : Note = Asked (Done e false air) in
       let later : world_after (opening config) (h ++ by caller note ∷ []) ≡ v =
       world_after-append h (opening config) (by caller note ∷ []) ∙ one_entry w (by caller note) in
       let windows : KeepsWindows v = subst KeepsWindows later
       (windows_after config (h ++ by caller note ∷ [])) in
-      let ended : IsEnded e w v = ended_step w e x false found (may_end_lost w e x found) in
+      let ended : IsEnded e w v = ended_step w e x false air found (may_end_lost w e x air found fine) in
       let calls : KeepsByCall w note = kept_after config h note in
       both_mpdu (λ m. Flies w x.station x.tid e m.number)
       (λ m. shown m.number ≡ true → IsAmong x.content (indices_told shown x.content) m.number)
@@ -304,7 +314,7 @@ module _ (config : Config) (h : List Entry) (caller e : ℕ) (shown : ℕ → Bo
       )) fly (shown_told shown x.content)
 
   -- then nothing is told, and the Done is lost
-  told_none : indices_told shown x.content ≡ [] → IsTold w caller e shown x
+  told_none : indices_told shown x.content ≡ [] → IsTold w caller e shown air x
   told_none none =
       let nothing : entries ≡ [] = ap (λ (js : List ℕ). arrivals caller e js ++ answer_told caller e js) none
       in
@@ -313,21 +323,24 @@ module _ (config : Config) (h : List Entry) (caller e : ℕ) (shown : ℕ → Bo
       record {
         answered = subst (AreAnswered w) (sym nothing) tt;
         keeps = λ heard. absurd (cc (heard, lost));
-        ends = subst (λ (v : World). refusal v (Asked (Done e (tells shown x.content))) ≡ None) (sym same)
-            (subst (λ (b : Bool). refusal w (Asked (Done e b)) ≡ None) (sym lost) (may_end_lost w e x found));
-        acked = subst (λ (v : World). AreAckedWhere (step v (Asked (Done e (tells shown x.content)))).world
-            shown x) (sym same) (subst (λ (b : Bool). AreAckedWhere (step w (Asked (Done e b))).world shown x)
+        ends = subst (λ (v : World). refusal v (Asked (Done e (tells shown x.content) air)) ≡ None) (sym same)
+            (subst (λ (b : Bool). refusal w (Asked (Done e b air)) ≡ None) (sym lost)
+            (may_end_lost w e x air found fine));
+        acked = subst (λ (v : World). AreAckedWhere
+            (step v (Asked (Done e (tells shown x.content) air))).world
+            shown x) (sym same) (subst
+            (λ (b : Bool). AreAckedWhere (step w (Asked (Done e b air))).world shown x)
             (sym lost) (none_acked none));
-        unheard = subst (λ (v : World). IsUnheard (step v (Asked (Done e (tells shown x.content)))).world)
+        unheard = subst (λ (v : World). IsUnheard (step v (Asked (Done e (tells shown x.content) air))).world)
             (sym same)
-            (subst (λ (b : Bool). IsUnheard (step w (Asked (Done e b))).world) (sym lost)
-            (lost_unheard w e x un (kept_after config h (Asked (Done e false))) found));
+            (subst (λ (b : Bool). IsUnheard (step w (Asked (Done e b air))).world) (sym lost)
+            (lost_unheard w e x air un (kept_after config h (Asked (Done e false air))) found fine));
       }
 
-  told_right : (is : List ℕ) → indices_told shown x.content ≡ is → IsTold w caller e shown x
+  told_right : (is : List ℕ) → indices_told shown x.content ≡ is → IsTold w caller e shown air x
   told_right [] k = told_none k
   told_right (i ∷ is) k = told_any i is k
 
 pub told_law : (config : Config) (h : List Entry) → ToldLaw config h
-told_law config h caller e shown x un found =
-    told_right config h caller e shown x un found (indices_told shown x.content) refl
+told_law config h caller e shown air x un found fine =
+    told_right config h caller e shown air x un found fine (indices_told shown x.content) refl

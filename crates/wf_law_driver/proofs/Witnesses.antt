@@ -1,7 +1,7 @@
 -- A driver's run in which the laws speak of something, computed: three frames in one aggregate, whose numbers
 -- go across the wrap. The first BlockAck shows the second number alone, the next shows nothing, and the last
 -- shows the two that are left.
-use Rattle.std.proofs.Common.{◌≡◌, refl, ℕ, ◌==◌, true, false, List, [], ◌∷◌, map}
+use Rattle.std.proofs.Common.{◌≡◌, refl, ℕ, ◌==◌, true, false, List, [], ◌∷◌, None, map}
 use Rattle.wf_frame.specs.Settings.{standard}
 use Rattle.wf_frame.specs.declared.classes.Class.TheVariants.{Be}
 use Rattle.wf_frame.specs.declared.classes.Fate.{Fate}
@@ -20,11 +20,11 @@ deeds = map (λ d. (0, d)) (
     Call (Enqueue 0 3 8 200) ∷
     Call (Enqueue 0 3 9 300) ∷
     Call (Asked (Pull Be)) ∷
-    Heard 0 (λ n. n == 4095) ∷
+    Heard 0 (λ n. n == 4095) None ∷
     Call (Asked (Pull Be)) ∷
-    Heard 1 (λ n. false) ∷
+    Heard 1 (λ n. false) None ∷
     Call (Asked (Pull Be)) ∷
-    Heard 2 (λ n. true) ∷ [])
+    Heard 2 (λ n. true) None ∷ [])
 
 abbrev history : List Entry
 history = map (by 0) (
@@ -35,14 +35,14 @@ history = map (by 0) (
     Asked (Pull Be) ∷
     Asked (Arrive 0 1) ∷
     Asked (Answer 0) ∷
-    Asked (Done 0 true) ∷
+    Asked (Done 0 true None) ∷
     Asked (Pull Be) ∷
-    Asked (Done 1 false) ∷
+    Asked (Done 1 false None) ∷
     Asked (Pull Be) ∷
     Asked (Arrive 2 0) ∷
     Asked (Arrive 2 1) ∷
     Asked (Answer 2) ∷
-    Asked (Done 2 true) ∷ [])
+    Asked (Done 2 true None) ∷ [])
 
 its_history : history_of (opening standard) deeds ≡ history
 unfolding the_machine

@@ -1,6 +1,6 @@
 -- How an exchange ends goes by what its kept answer shows of its own numbers, and by nothing else of that
 -- answer.
-use Rattle.std.specs.Prelude.{◌≡◌, ℕ, Bool, true, false, List, Some}
+use Rattle.std.specs.Prelude.{◌≡◌, ℕ, Bool, true, false, List, Option, Some}
 use Rattle.wf_frame.specs.declared.notes.Ask.TheVariants.{Done}
 use Rattle.wf_frame.specs.declared.notes.Note.TheVariants.{Asked}
 use Rattle.wf_def_agreement.specs.Receiver.{Score, shows}
@@ -20,7 +20,7 @@ SettlesAlike w =
 -- in world and reply.
 abbrev pub EndsAsLost : World → Type 0
 EndsAsLost w =
-    (e : ℕ) (x : Exchange) (b : Score) → exchange w e ≡ Some x → x.answer ≡ Some b →
+    (e : ℕ) (x : Exchange) (b : Score) (air : Option ℕ) → exchange w e ≡ Some x → x.answer ≡ Some b →
     is_request x.content ≡ false →
     EachMpdu (λ m. shows b m.number ≡ false) (mpdus_of x.content) →
-    step w (Asked (Done e true)) ≡ step w (Asked (Done e false))
+    step w (Asked (Done e true air)) ≡ step w (Asked (Done e false air))

@@ -2,7 +2,7 @@
 -- exchange's Done each of its numbers that the BlockAck shows arrived, no other did, and the receiver
 -- answered (IEEE 802.11-2012, 9.21.7.7). The calls are those of `caller`, the exchange's number is e, and
 -- `shown` says of each whole number whether the BlockAck shows it.
-use Rattle.std.specs.Prelude.{◌≡◌, ℕ, suc, nat_lt, Bool, true, ◌↔◌, List, [], ◌∷◌, ◌++◌, None, Some, if◌then◌else◌, length, map}
+use Rattle.std.specs.Prelude.{◌≡◌, ℕ, suc, nat_lt, Bool, true, false, ◌↔◌, List, [], ◌∷◌, ◌++◌, Option, None, Some, if◌then◌else◌, length, map}
 use Rattle.wf_frame.specs.declared.settings.Config.{Config}
 use Rattle.wf_frame.specs.declared.notes.Ask.TheVariants.{Arrive, Answer, Done}
 use Rattle.wf_frame.specs.declared.notes.Note.{Note}
@@ -11,7 +11,7 @@ use Rattle.wf_def_agreement.specs.Session.{State, slot}
 use Rattle.wf_def_agreement.specs.Receiver.{Score, shows}
 use Rattle.wf_def_world.specs.World.{World, Exchange, Mpdu, Content, Frames, Request, session, exchange, opening}
 use Rattle.wf_def_world.specs.Exchanges.{mpdus_of}
-use Rattle.wf_def_world.specs.Refusals.{refusal}
+use Rattle.wf_def_world.specs.Refusals.{refusal, is_bad_air}
 use Rattle.wf_def_world.specs.Step.{step}
 use Rattle.wf_def_world.specs.Run.{Entry, by, world_after}
 use Rattle.wf_law_runs.specs.Queues.{HaveLengths, AreAtMost}
@@ -54,9 +54,9 @@ tells shown content = nat_lt 0 (length (indices_told shown content))
 abbrev pub after_told : World → ℕ → ℕ → (ℕ → Bool) → Content → World
 after_told w caller e shown content = world_after w (told caller e shown content)
 
--- the Done that ends the exchange then
-abbrev pub done_told : ℕ → (ℕ → Bool) → Content → Note
-done_told e shown content = Asked (Done e (tells shown content))
+-- the Done that ends the exchange then, and names this airtime
+abbrev pub done_told : ℕ → (ℕ → Bool) → Option ℕ → Content → Note
+done_told e shown air content = Asked (Done e (tells shown content) air)
 
 -- each of these calls is answered: none is refused
 abbrev pub AreAnswered : World → List Entry → Type 0
@@ -81,20 +81,23 @@ AreAckedWhere w shown x =
 -- What a BlockAck tells of x, an open exchange e of w: each of the calls is answered, and the answer that is
 -- then kept shows what the BlockAck does. After the exchange's Done exactly the numbers that were shown are
 -- acknowledged, and no receiver has anything of which its sender does not know.
-pub record IsTold (w : World) (caller e : ℕ) (shown : ℕ → Bool) (x : Exchange) : Type 0 where
+pub record IsTold (w : World) (caller e : ℕ) (shown : ℕ → Bool) (air : Option ℕ) (x : Exchange) : Type 0 where
   pub answered : AreAnswered w (told caller e shown x.content)
   pub keeps : tells shown x.content ≡ true → KeepsAnswer (after_told w caller e shown x.content) e shown x
-  pub ends : refusal (after_told w caller e shown x.content) (done_told e shown x.content) ≡ None
-  pub acked : AreAckedWhere (step (after_told w caller e shown x.content) (done_told e shown x.content)).world
+  pub ends : refusal (after_told w caller e shown x.content) (done_told e shown air x.content) ≡ None
+  pub acked : AreAckedWhere (step (after_told w caller e shown x.content)
+      (done_told e shown air x.content)).world
       shown x
-  pub unheard : IsUnheard (step (after_told w caller e shown x.content) (done_told e shown x.content)).world
+  pub unheard : IsUnheard (step (after_told w caller e shown x.content)
+      (done_told e shown air x.content)).world
 
--- in the world after a history, where it is unheard, of each exchange that is open there
+-- in the world after a history, where it is unheard, of each exchange that is open there, whatever airtime
+-- its Done names of those that it may
 abbrev pub ToldLaw : Config → List Entry → Type 0
 ToldLaw config history =
     let w : World = world_after (opening config) history in
-    (caller e : ℕ) (shown : ℕ → Bool) (x : Exchange) → IsUnheard w → exchange w e ≡ Some x →
-    IsTold w caller e shown x
+    (caller e : ℕ) (shown : ℕ → Bool) (air : Option ℕ) (x : Exchange) → IsUnheard w → exchange w e ≡ Some x →
+    is_bad_air w.config air ≡ false → IsTold w caller e shown air x
 
 -- Calls go on a history: the world after them is the one after both, and where each frame of the history has
 -- an octet or more, or at most so many, so has each of both.

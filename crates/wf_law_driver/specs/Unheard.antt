@@ -36,7 +36,7 @@ pub record IsUnheard (w : World) : Type 0 where
 abbrev pub IsSilent : Note → Type 0
 IsSilent (Asked (Arrive e i)) = ⊥
 IsSilent (Asked (Answer e)) = ⊥
-IsSilent (Asked (Done e true)) = ⊥
+IsSilent (Asked (Done e true air)) = ⊥
 IsSilent note = Unit {0}
 
 -- in the world after a history

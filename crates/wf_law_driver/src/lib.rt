@@ -18,9 +18,9 @@ ghost use Rattle.wf_law_driver.specs.Transmit.{TransmitLaw};
 ghost use Rattle.wf_law_driver.specs.Unheard.{IsUnheard, SilentLaw};
 
 /// In an unheard world of a run, a BlockAck that shows any of an open exchange's numbers tells of calls that
-/// are all answered, and the exchange then keeps an answer that shows exactly those. After its Done exactly
-/// those are acknowledged, and the world is unheard. One that shows none of them tells of nothing, and its
-/// Done is not heard.
+/// are all answered, and the exchange then keeps an answer that shows exactly those. After its Done, be its
+/// airtime computed or named, exactly those are acknowledged, and the world is unheard. One that shows none
+/// of them tells of nothing, and its Done is not heard.
 pub fn told_law()
     ensures told { (config : Config) (history : List Entry) → ToldLaw config history }
 {}

@@ -1,5 +1,5 @@
 -- The laws of the deficits: how far they go, and that they are fair.
-use Rattle.std.specs.Prelude.{◌≡◌, ℕ, ◌+◌, ◌-◌, ◌*◌, ◌≤◌, ◌==◌, pos, ◌-ℤ◌, ◌≤ℤ◌, ◌&&◌, List, [], ◌∷◌, IsTrue, if◌then◌else◌, is_none, take}
+use Rattle.std.specs.Prelude.{◌≡◌, ℕ, ◌+◌, ◌-◌, ◌*◌, ◌≤◌, ◌==◌, max, pos, ◌-ℤ◌, ◌≤ℤ◌, ◌&&◌, List, [], ◌∷◌, IsTrue, if◌then◌else◌, is_none, take}
 use Rattle.wf_frame.specs.declared.settings.Config.{Config}
 use Rattle.wf_frame.specs.declared.classes.Class.{Class}
 use Rattle.wf_frame.specs.declared.notes.Ask.TheVariants.{Join, Rx}
@@ -16,16 +16,20 @@ use Rattle.wf_def_world.specs.Step.{step}
 use Rattle.wf_def_world.specs.Run.{Entry}
 use Rattle.wf_def_world.specs.Stretches.{world_at, charged_between, IsStretch, IsQuiet}
 
--- the greatest charge of an exchange, in microseconds: the greatest time of its data, the pause and the
--- longest BlockAck
+-- the greatest charge that is computed of an exchange, in microseconds: the greatest time of its data, the
+-- pause and the longest BlockAck
+abbrev pub longest_computed : Config → ℕ
+longest_computed config = config.cap + longest_answer
+
+-- the greatest charge of an exchange, in microseconds, be it computed or named by its Done
 abbrev pub longest_exchange : Config → ℕ
-longest_exchange config = config.cap + longest_answer
+longest_exchange config = max (longest_computed config) config.charge
 
 -- what the open exchanges of a class can be charged together, in microseconds
 abbrev pub most_owed : Config → ℕ
 most_owed config = config.inflight * longest_exchange config
 
--- the charges of the open exchanges of a station in a class
+-- the computed charges of the open exchanges of a station in a class
 abbrev pub owed : ℕ → Class → List Exchange → ℕ
 owed s c [] = 0
 owed s c (x ∷ xs) = (if (x.station == s) && same_class x.class c then x.charge else 0) + owed s c xs

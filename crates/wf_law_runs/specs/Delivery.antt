@@ -34,7 +34,7 @@ ids_sent (Some x) = map (λ m. m.id) (mpdus_of x.content)
 
 -- a call ends an exchange that sends the frame, and its answer was heard
 abbrev pub EndsHeard : World → Note → ℕ → Type 0
-EndsHeard w (Asked (Done e true)) id = has (ids_sent (exchange w e)) id ≡ true
+EndsHeard w (Asked (Done e true air)) id = has (ids_sent (exchange w e)) id ≡ true
 EndsHeard w note id = ⊥
 
 -- The entries have a Done of an exchange that sends the frame. It was heard, before it the frame's

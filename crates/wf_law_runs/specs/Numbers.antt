@@ -1,8 +1,8 @@
 -- How large the numbers of a run get, in figures that hold for all settings in their ranges. Each is far
 -- within 32 bits with a sign.
-use Rattle.std.specs.Prelude.{ℕ, ◌+◌, ◌*◌, ◌≤◌, ℤ, pos, ◌+ℤ◌, ◌-ℤ◌, ◌≤ℤ◌, true, ◌≡◌, List}
+use Rattle.std.specs.Prelude.{ℕ, ◌+◌, ◌*◌, ◌≤◌, max, ℤ, pos, ◌+ℤ◌, ◌-ℤ◌, ◌≤ℤ◌, true, ◌≡◌, List}
 use Rattle.wf_frame.specs.declared.settings.Config.{Config}
-use Rattle.wf_frame.specs.declared.settings.Field.TheVariants.{FlowQuantum, Quantum, Inflight, Cap}
+use Rattle.wf_frame.specs.declared.settings.Field.TheVariants.{FlowQuantum, Quantum, Inflight, Cap, Charge}
 use Rattle.wf_frame.specs.declared.classes.Class.{Class}
 use Rattle.wf_frame.specs.Settings.{greatest_of}
 use Rattle.wf_def_lists.specs.Lengths.{greatest_body}
@@ -15,10 +15,14 @@ use Rattle.wf_def_world.specs.Stretches.{world_at}
 use Rattle.wf_law_runs.specs.Queues.{QueueIsListed, AreAtMost}
 use Rattle.wf_law_runs.specs.Windows.{EachOpen}
 
--- the greatest charge of an exchange, in microseconds: the greatest time of its data, the pause and the
--- longest BlockAck
+-- the greatest charge that is computed of an exchange, in microseconds: the greatest time of its data, the
+-- pause and the longest BlockAck
+abbrev pub greatest_computed : ℕ
+greatest_computed = greatest_of Cap + longest_answer
+
+-- the greatest charge of an exchange, in microseconds, be it computed or named by its Done
 abbrev pub greatest_charge : ℕ
-greatest_charge = greatest_of Cap + longest_answer
+greatest_charge = max greatest_computed (greatest_of Charge)
 
 -- the greatest charge of all open exchanges of a class together, in microseconds
 abbrev pub greatest_owed : ℕ
@@ -35,8 +39,8 @@ greatest_deficit = pos (greatest_of Quantum * greatest_weight)
 
 -- the numbers of a world of this history lie in their ranges
 pub record NumbersFit (history : List Entry) (w : World) : Type 0 where
-  -- what an open exchange is charged
-  pub charges : EachOpen (λ x. (1 ≤ x.charge) × (x.charge ≤ greatest_charge)) w.opened
+  -- what is computed of an open exchange
+  pub charges : EachOpen (λ x. (1 ≤ x.charge) × (x.charge ≤ greatest_computed)) w.opened
   pub opened : (c : Class) → open_of_class w c ≤ greatest_of Inflight
   -- a live station's deficit
   pub deficits : (s : ℕ) (c : Class) → is_live w s ≡ true

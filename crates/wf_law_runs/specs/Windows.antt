@@ -5,7 +5,7 @@
 -- the next fresh one, `y.heard` the greatest start of a request that ended as heard, `release_start r` the
 -- least number that has not arrived and is below no start that did, `score_start r` where its scoreboard
 -- starts, and `y.size` the window.
-use Rattle.std.specs.Prelude.{◌≡◌, ℕ, suc, ◌==◌, ◌&&◌, Bool, map, count_by, ◌+◌, ◌*◌, ◌<◌, ◌≤◌, true, false, ◌⊎◌, ◌↔◌, List, [], ◌∷◌, IfSome}
+use Rattle.std.specs.Prelude.{◌≡◌, ℕ, suc, ◌==◌, ◌&&◌, Bool, map, count_by, ◌+◌, ◌*◌, ◌<◌, ◌≤◌, true, false, ◌⊎◌, ◌↔◌, List, [], ◌∷◌, Option, IfSome}
 use Rattle.wf_frame.specs.declared.settings.Config.{Config}
 use Rattle.wf_frame.specs.declared.notes.Ask.TheVariants.{Pull, Done}
 use Rattle.wf_frame.specs.declared.notes.Note.TheVariants.{Asked}
@@ -19,6 +19,7 @@ use Rattle.wf_def_world.specs.Exchanges.{mpdus_of}
 use Rattle.wf_def_world.specs.Step.{step}
 use Rattle.wf_def_world.specs.Run.{Entry}
 use Rattle.wf_def_world.specs.Stretches.{world_at}
+use Rattle.wf_def_world.specs.Refusals.{is_bad_air}
 
 -- the numbers of both sides lie within a window of each other
 pub record AreNear (y : Session) (r : Receiver) : Type 0 where
@@ -97,13 +98,13 @@ pub record IsOpenRight (y : Session) (r : Receiver) (x : Exchange) : Type 0 wher
   pub answer : IfSome x.answer (λ b. EachMpdu (λ m. (shows b m.number ≡ has r.arrived m.number) ×
       (b.start ≤ m.number) × (m.number < b.start + 2 * y.size)) (mpdus_of x.content))
 
--- what a Done that was heard makes of the numbers of an exchange with an answer: those that arrived become
--- acknowledged, and no other
+-- what a Done that was heard, and names no bad airtime, makes of the numbers of an exchange with an
+-- answer: those that arrived become acknowledged, and no other
 abbrev pub Settles : World → ℕ → Exchange → Type 0
 Settles w e x =
-    IfSome x.answer (λ _. EachMpdu (λ m. ((slot (session (step w (Asked (Done e true))).world x.station x.tid)
-    m.number).state ≡ State.Acked) ↔ (has (receiver w x.station x.tid).arrived m.number ≡ true))
-    (mpdus_of x.content))
+    (air : Option ℕ) → is_bad_air w.config air ≡ false → IfSome x.answer (λ _. EachMpdu (λ m.
+    ((slot (session (step w (Asked (Done e true air))).world x.station x.tid) m.number).state ≡ State.Acked)
+    ↔ (has (receiver w x.station x.tid).arrived m.number ≡ true)) (mpdus_of x.content))
 
 -- the law in one world
 pub record KeepsWindows (w : World) : Type 0 where

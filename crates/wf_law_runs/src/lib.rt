@@ -148,10 +148,10 @@ pub fn queue_deficit_law()
     ensures { (config : Config) → (history : List Entry) → IsInRange config → QueueDeficitLaw config history }
 {}
 
-/// After every entry, open exchanges are charged 1 to 5456 microseconds (the greatest time of data, 5400,
-/// with SIFS and the longest BlockAck), a class has at most eight of them, and the deficits of live stations
-/// lie between figures far within 32 bits; so do those of listed queues, where no frame is longer than the
-/// greatest body.
+/// After every entry, what is computed of an open exchange is 1 to 5456 microseconds (the greatest time of
+/// data, 5400, with SIFS and the longest BlockAck), a class has at most eight of them, and the deficits of
+/// live stations lie between figures far within 32 bits; so do those of listed queues, where no frame is
+/// longer than the greatest body.
 pub fn number_law()
     ensures { (config : Config) → (history : List Entry) → IsInRange config → NumberLaw config history }
 {}
@@ -159,7 +159,7 @@ pub fn number_law()
 /// A live station's charged airtime in a class is the sum of the charges of its Dones that were answered
 /// Ended since its join, and its received airtime that of its Rxs that were answered Charged. After m entries
 /// the clock is at most 10,000,000 m microseconds, accepted frames and exchanges are at most m, and the two
-/// sums at most 5456 m and 65,535 m microseconds.
+/// sums at most 65,535 m microseconds each.
 pub fn sum_law()
     ensures { (config : Config) → (history : List Entry) → IsInRange config → SumLaw config history }
 {}

@@ -3,6 +3,5 @@
 pub mod Octets
 mod Shapes
 pub mod Ranges
-pub mod Few
 pub mod Endings
 pub mod Tellings

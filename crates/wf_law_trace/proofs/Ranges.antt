@@ -3,7 +3,7 @@ use Rattle.std.proofs.Common.{◌≡◌, ℕ, ◌≤◌, nat_le, Bool, true, fal
 use Rattle.std.specs.Str.{bytes_eq}
 use Rattle.wf_frame.specs.declared.settings.Config.{Config}
 use Rattle.wf_frame.specs.declared.settings.Field.{Field}
-use Rattle.wf_frame.specs.declared.settings.Field.TheVariants.{Stations, Flows, Limit, Room, FlowQuantum, Quantum, Inflight, Attempts, Agg, Cap, Sleeping, Calls}
+use Rattle.wf_frame.specs.declared.settings.Field.TheVariants.{Stations, Flows, Limit, Room, FlowQuantum, Quantum, Inflight, Attempts, Agg, Cap, Sleeping, Calls, Charge}
 use Rattle.wf_frame.specs.Settings.{standard, lowest_of, greatest_of, with_value, IsInRange}
 use Rattle.wf_def_lists.specs.Lengths.{greatest_body}
 use Rattle.wf_frame.proofs.Ranges.{in_range as standard_in_range}
@@ -19,7 +19,7 @@ use Rattle.wf_trace.specs.declared.reader.Item.{Item}
 use Rattle.wf_trace.specs.declared.reader.Item.TheVariants as item
 use Rattle.wf_trace.specs.declared.call.Call.{Call}
 use Rattle.wf_trace.specs.declared.call.Call.TheVariants as call
-use Rattle.wf_trace.specs.Grammar.{args_of, call_named, read_args}
+use Rattle.wf_trace.specs.Grammar.{call_form, args_of, call_named, read_args}
 use Rattle.wf_trace.specs.Notes.{noted, called, read_call}
 use Rattle.wf_trace.proofs.ArgLaws.{frame_len_ok}
 use Rattle.wf_def_lists.specs.Lengths.{greatest_body}
@@ -65,6 +65,7 @@ setting_in c Stations value r b = record {
   cap = r.cap;
   sleeping = r.sleeping;
   calls = r.calls;
+  charge = r.charge;
 }
 setting_in c Flows value r b = record {
   stations = r.stations;
@@ -80,6 +81,7 @@ setting_in c Flows value r b = record {
   cap = r.cap;
   sleeping = r.sleeping;
   calls = r.calls;
+  charge = r.charge;
 }
 setting_in c Limit value r b = record {
   stations = r.stations;
@@ -95,6 +97,7 @@ setting_in c Limit value r b = record {
   cap = r.cap;
   sleeping = r.sleeping;
   calls = r.calls;
+  charge = r.charge;
 }
 setting_in c Room value r b = record {
   stations = r.stations;
@@ -110,6 +113,7 @@ setting_in c Room value r b = record {
   cap = r.cap;
   sleeping = r.sleeping;
   calls = r.calls;
+  charge = r.charge;
 }
 setting_in c FlowQuantum value r b = record {
   stations = r.stations;
@@ -125,6 +129,7 @@ setting_in c FlowQuantum value r b = record {
   cap = r.cap;
   sleeping = r.sleeping;
   calls = r.calls;
+  charge = r.charge;
 }
 setting_in c Quantum value r b = record {
   stations = r.stations;
@@ -141,6 +146,7 @@ setting_in c Quantum value r b = record {
   cap = r.cap;
   sleeping = r.sleeping;
   calls = r.calls;
+  charge = r.charge;
 }
 setting_in c Inflight value r b = record {
   stations = r.stations;
@@ -157,6 +163,7 @@ setting_in c Inflight value r b = record {
   cap = r.cap;
   sleeping = r.sleeping;
   calls = r.calls;
+  charge = r.charge;
 }
 setting_in c Attempts value r b = record {
   stations = r.stations;
@@ -173,6 +180,7 @@ setting_in c Attempts value r b = record {
   cap = r.cap;
   sleeping = r.sleeping;
   calls = r.calls;
+  charge = r.charge;
 }
 setting_in c Agg value r b = record {
   stations = r.stations;
@@ -187,6 +195,7 @@ setting_in c Agg value r b = record {
   cap = r.cap;
   sleeping = r.sleeping;
   calls = r.calls;
+  charge = r.charge;
 }
 setting_in c Cap value r b = record {
   stations = r.stations;
@@ -202,6 +211,7 @@ setting_in c Cap value r b = record {
   cap = b;
   sleeping = r.sleeping;
   calls = r.calls;
+  charge = r.charge;
 }
 setting_in c Sleeping value r b = record {
   stations = r.stations;
@@ -217,6 +227,7 @@ setting_in c Sleeping value r b = record {
   cap = r.cap;
   sleeping = b;
   calls = r.calls;
+  charge = r.charge;
 }
 setting_in c Calls value r b = record {
   stations = r.stations;
@@ -232,6 +243,23 @@ setting_in c Calls value r b = record {
   cap = r.cap;
   sleeping = r.sleeping;
   calls = b;
+  charge = r.charge;
+}
+setting_in c Charge value r b = record {
+  stations = r.stations;
+  flows = r.flows;
+  limit = r.limit;
+  room =
+      r.room;
+  flow_quantum = r.flow_quantum;
+  quantum = r.quantum;
+  inflight = r.inflight;
+  attempts = r.attempts;
+  agg = r.agg;
+  cap = r.cap;
+  sleeping = r.sleeping;
+  calls = r.calls;
+  charge = b;
 }
 
 -- ---- the head
@@ -282,7 +310,7 @@ pub standard_in : IsInRange standard
 standard_in = standard_in_range standard refl
 
 head_in : (ws : List (List ℕ)) (c : Config) → read_head ws ≡ Ok c → IsInRange c
-head_in ws c e = words_in ws (replicate 12 false) standard c standard_in e
+head_in ws c e = words_in ws (replicate 13 false) standard c standard_in e
 
 -- ---- a call
 
@@ -301,11 +329,14 @@ noted_sized call.Enq ws (Ok values) is = frame_len_ok ws values is
 noted_sized call.Join ws (Ok values) is = (tt, tt)
 noted_sized call.Leave ws (Ok values) is = (tt, tt)
 noted_sized call.Rate ws (Ok values) is = (tt, tt)
+noted_sized call.RateVht ws (Ok values) is = (tt, tt)
+noted_sized call.RateHe ws (Ok values) is = (tt, tt)
 noted_sized call.Tick ws (Ok values) is = (tt, tt)
 noted_sized call.Pull ws (Ok values) is = (tt, tt)
 noted_sized call.Arrive ws (Ok values) is = (tt, tt)
 noted_sized call.Answer ws (Ok values) is = (tt, tt)
 noted_sized call.Done ws (Ok values) is = (tt, tt)
+noted_sized call.DoneAir ws (Ok values) is = (tt, tt)
 noted_sized call.Sleep ws (Ok values) is = (tt, tt)
 noted_sized call.Wake ws (Ok values) is = (tt, tt)
 noted_sized call.Poll ws (Ok values) is = (tt, tt)
@@ -314,7 +345,7 @@ noted_sized call.Reap ws (Ok values) is = (tt, tt)
 
 called_sized : (c : Option Call) (ws : List (List ℕ)) → IsSizedCall (called c ws)
 called_sized None ws = tt
-called_sized (Some c) ws = noted_sized c ws (read_args (args_of c) ws) refl
+called_sized (Some c) ws = noted_sized (call_form c ws) ws (read_args (args_of (call_form c ws)) ws) refl
 
 call_sized : (ws : List (List ℕ)) → IsSizedCall (read_call ws)
 call_sized [] = tt

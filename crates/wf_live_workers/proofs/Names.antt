@@ -50,9 +50,9 @@ own_answered : (w : World) (x : Exchange) → NamesOwn (answer_outcome w x)
 unfolding answer_outcome
 own_answered w x = tt
 
-own_done : (w : World) (x : Exchange) (heard : Bool) → NamesOwn (done_outcome w x heard)
+own_done : (w : World) (x : Exchange) (heard : Bool) (air : Option ℕ) → NamesOwn (done_outcome w x heard air)
 unfolding done_outcome
-own_done w x heard = tt
+own_done w x heard air = tt
 
 own_reaped : (ids : List ℕ) (w : World) → NamesOwn (reap_outcome w ids)
 unfolding reap_outcome
@@ -65,12 +65,12 @@ unfolding outcome_of enqueue_outcome join_outcome leave_outcome rate_outcome tic
 own_outcome (Enqueue s t flow len) w = tt
 own_outcome (Asked (Join s window start exponent weight)) w = tt
 own_outcome (Asked (Leave s)) w = tt
-own_outcome (Asked (Rate s mcs mhz short)) w = tt
+own_outcome (Asked (Rate s rate)) w = tt
 own_outcome (Asked (Tick by)) w = tt
 own_outcome (Asked (Pull c)) w = own_pulled w c
 own_outcome (Asked (Arrive e i)) w = own_open (exchange w e) w _ (λ x. own_arrived w x i)
 own_outcome (Asked (Answer e)) w = own_open (exchange w e) w _ (λ x. own_answered w x)
-own_outcome (Asked (Done e heard)) w = own_open (exchange w e) w _ (λ x. own_done w x heard)
+own_outcome (Asked (Done e heard air)) w = own_open (exchange w e) w _ (λ x. own_done w x heard air)
 own_outcome (Asked (Sleep s)) w = tt
 own_outcome (Asked (Wake s)) w = tt
 own_outcome (Asked (Poll s)) w = tt

@@ -54,9 +54,9 @@ printed_arrivals e (i ∷ is) below = All-cons IsPrintable (Asked (Arrive e i)) 
     (printed_arrivals e is below)
 
 printed_last : (e : ℕ) (some : Bool) → e < room → All IsPrintable (last_calls e some)
-printed_last e true below = All-cons IsPrintable (Asked (Answer e)) (Asked (Done e true) ∷ []) below
-    (All-cons IsPrintable (Asked (Done e true)) [] below (All-nil IsPrintable))
-printed_last e false below = All-cons IsPrintable (Asked (Done e false)) [] below (All-nil IsPrintable)
+printed_last e true below = All-cons IsPrintable (Asked (Answer e)) (Asked (Done e true None) ∷ []) below
+    (All-cons IsPrintable (Asked (Done e true None)) [] below (All-nil IsPrintable))
+printed_last e false below = All-cons IsPrintable (Asked (Done e false None)) [] below (All-nil IsPrintable)
 
 printed_left : (e : ℕ) (some : Bool) (indices : List ℕ) → e < room →
     All IsPrintable (calls_left e some indices)

@@ -2,6 +2,7 @@
 use Rattle.std.specs.Prelude.{ℕ, ◌%◌, false}
 use Rattle.wf_frame.specs.declared.notes.Ask.{Ask}
 use Rattle.wf_frame.specs.declared.notes.Ask.TheVariants.{Join, Rate}
+use Rattle.wf_frame.specs.declared.notes.AskedRate.TheVariants.{Ht}
 
 -- station s joins, with a window of 64 numbers from this one on, the exponent 3 and the weight 1
 abbrev pub standard_join : ℕ → ℕ → Ask
@@ -9,4 +10,4 @@ standard_join s start = Join s 64 start 3 1
 
 -- and its rate is set, at 20 MHz with the long guard interval
 abbrev pub standard_rate : ℕ → Ask
-standard_rate s = Rate s (s % 8) 20 false
+standard_rate s = Rate s (Ht (s % 8) 20 false)

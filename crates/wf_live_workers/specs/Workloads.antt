@@ -37,7 +37,7 @@ words_behind (suc n) words = words_behind n (words_after words)
 -- whether a call ends an exchange. It is made by a try first, which waits for nobody, and each other call in
 -- its turn
 abbrev pub is_done : Ask → Bool
-is_done (Done e heard) = true
+is_done (Done e heard air) = true
 is_done _ = false
 
 -- ---- senders
@@ -67,8 +67,8 @@ arrivals i (suc n) words =
 
 -- the last calls of an exchange: it is answered where a transmission arrived, and then heard
 abbrev pub last_calls : ℕ → Bool → List Note
-last_calls e true = Asked (Answer e) ∷ Asked (Done e true) ∷ []
-last_calls e false = Asked (Done e false) ∷ []
+last_calls e true = Asked (Answer e) ∷ Asked (Done e true None) ∷ []
+last_calls e false = Asked (Done e false None) ∷ []
 
 abbrev pub some_of : List ℕ → Bool
 some_of [] = false

@@ -177,12 +177,14 @@ impl DriverRun {
             desk.ask_at_once(Ask::Done {
                 exchange,
                 heard: true,
+                air: None,
             })?;
             return Ok(());
         }
         desk.ask_at_once(Ask::Done {
             exchange,
             heard: false,
+            air: None,
         })?;
         Ok(())
     }

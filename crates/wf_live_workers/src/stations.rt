@@ -3,7 +3,7 @@
 ghost use Rattle.std.specs.Prelude.{◌≡◌};
 ghost use Rattle.wf_live_workers.specs.Stations.{standard_join, standard_rate};
 
-use wf_frame::Ask;
+use wf_frame::{Ask, AskedRate};
 
 /// The join of a station: a window of 64 numbers from `start` on, the greatest exponent and the weight 1.
 pub fn standard_join(station: u16, start: u16) -> Ask
@@ -24,8 +24,10 @@ pub fn standard_rate(station: u16) -> Ask
 {
     Ask::Rate {
         station,
-        mcs: (station % 8) as u8,
-        mhz: 20,
-        short: false,
+        rate: AskedRate::Ht {
+            mcs: (station % 8) as u8,
+            mhz: 20,
+            short: false,
+        },
     }
 }

@@ -1,7 +1,12 @@
 //! What makes one step for each call and keeps a history: a machine, which a gate may share among threads.
+//! Its history may be one that takes no memory.
 #![tactic(auto)]
 
+mod history;
+
 ghost use Rattle.std.specs.Prelude.{◌≡◌, ℕ, ◌+◌, ◌<◌, List, [], ◌∷◌, ◌++◌};
+
+pub use history::History;
 
 /// A machine that makes one step for each call and keeps a history of them.
 pub trait Machine {

@@ -1,6 +1,6 @@
 -- The end of an exchange: what is asked of it, and what it leaves.
-use Rattle.std.proofs.Common.{◌≡◌, refl, ap, sym, ◌∙◌, subst, arith, ℕ, suc, ◌<◌, ◌==◌, ◌^◌, nat_lt, Bool, ◌↔◌, List, [], ◌∷◌, ◌++◌, length, true, false, Option, Some, None, option_map}
-use Rattle.std.specs.Prelude.{find, IfSome, IfNone, Result, Err, is_some}
+use Rattle.std.proofs.Common.{◌≡◌, refl, ap, sym, ◌∙◌, subst, arith, ℕ, suc, ◌<◌, ◌==◌, ◌^◌, nat_lt, Bool, ◌↔◌, List, [], ◌∷◌, ◌++◌, length, true, false, Option, Some, None, option_map, if◌then◌else◌}
+use Rattle.std.specs.Prelude.{find, IfSome, IfNone, Result, Err, is_none}
 use Rattle.wf_frame.specs.Answers.{reply_with}
 use Rattle.wf_frame.specs.Classes.{class_of}
 use Rattle.wf_frame.specs.Frames.{FrameValue}
@@ -29,7 +29,7 @@ use Rattle.wf_send_exchanges.specs.declared.opened.Open.{Open}
 use Rattle.wf_send_stations.specs.Members.{member, charged_in}
 use Rattle.wf_send_half.specs.declared.finish.Ended.{Ended}
 use Rattle.wf_def_agreement.specs.Receiver.{Score}
-use Rattle.wf_send_half.specs.Bits.{AreShown, is_shown, ended_reply, count_shown_of, IsChargeSmall}
+use Rattle.wf_send_half.specs.Bits.{AreShown, is_shown, ended_reply, end_refusal, count_shown_of, IsChargeSmall}
 use Rattle.wf_def_world.specs.World.{is_wide}
 use Rattle.wf_send_half.specs.Driven.{ended_by, outcome_after_done, world_after_done, IsAfterDone, MeetsUnheard}
 use Rattle.wf_send_half.specs.Half.{HasWorld}
@@ -39,13 +39,14 @@ use Rattle.wf_send_half_refines.specs.Half.{TransmitValue, is_ready_of}
 use Rattle.wf_send_half_refines.specs.Standing.{StandsFor, Meets, IsReached, open_of}
 use Rattle.wf_send_half_refines.proofs.Readers.{exchange_same}
 use Rattle.wf_send_half_refines.proofs.Whole.{arrive_stands, answer_stands}
-use Rattle.wf_send_half.proofs.Dones.{refused_done}
+use Rattle.wf_send_half.proofs.Dones.{refused_done, ends_unknown}
 use Rattle.wf_path.proofs.Opened.{open_within, open_low}
 use Rattle.wf_path.specs.Driver.{IsEnded}
 use Rattle.wf_path.specs.Flags.{Flags, flags_in, with_flag}
 use Rattle.wf_path.specs.Paths.{IsPath, IsTracked, IsSmall, RiseLittle}
 use Rattle.wf_path.proofs.Flags.{AreNearly, set_alone}
 use Rattle.wf_path.proofs.Rises.{rise_little}
+use Rattle.wf_def_world.specs.Refusals.{is_bad_air}
 
 pub has_world : (v : TransmitValue) → IsPath v → HasWorld v
 has_world v h = record { world = h.world; bodies = h.bodies; stands = h.stands }
@@ -63,28 +64,35 @@ charge_small v x same e small = subst (λ (z : TransmitValue). IsChargeSmall z e
 
 -- ---- the settings stay
 
-config_ended : (w : World) (caller e : ℕ) (heard : Option (ℕ × List ℕ)) (x : Option Exchange) →
-    (ended_by w caller e heard x).world.config ≡ w.config
-config_ended w caller e None x = config_step w (Asked (Done e false))
-config_ended w caller e (Some score) None = config_step w (Asked (Done e false))
-config_ended w caller e (Some score) (Some x) =
-    config_step _ _ ∙ config_run (told caller e (is_shown (is_wide w x.station x.tid) (Some score)) x.content)
-    w
+config_ended : (w : World) (caller e : ℕ) (heard : Option (ℕ × List ℕ)) (air : Option ℕ)
+    (x : Option Exchange) → (ended_by w caller e heard air x).world.config ≡ w.config
+config_ended w caller e None air x = config_step w (Asked (Done e false air))
+config_ended w caller e (Some score) air None = config_step w (Asked (Done e false air))
+config_ended w caller e (Some score) air (Some x) = either (is_bad_air w.config air)
+  where
+    shown : ℕ → Bool
+    shown = is_shown (is_wide w x.station x.tid) (Some score)
+
+    either : (bad : Bool) → (if bad then step w (Asked (Done e false air))
+        else step (after_told w caller e shown x.content) (done_told e shown air x.content)).world.config
+        ≡ w.config
+    either true = config_step w (Asked (Done e false air))
+    either false = config_step _ _ ∙ config_run (told caller e shown x.content) w
 
 -- ---- of what was heard
 
-told_at : (w : World) → IsReached w → (caller e : ℕ) (shown : ℕ → Bool) (x : Exchange) → IsUnheard w →
-    exchange w e ≡ Some x → IsTold w caller e shown x
-told_at w r caller e shown x =
-    subst (λ (u : World). IsUnheard u → exchange u e ≡ Some x → IsTold u caller e shown x) (sym r.after)
-    (told_law w.config r.history caller e shown x)
+told_at : (w : World) → IsReached w → (caller e : ℕ) (shown : ℕ → Bool) (air : Option ℕ) (x : Exchange) →
+    IsUnheard w → exchange w e ≡ Some x → is_bad_air w.config air ≡ false → IsTold w caller e shown air x
+told_at w r caller e shown air x =
+    subst (λ (u : World). IsUnheard u → exchange u e ≡ Some x → is_bad_air u.config air ≡ false →
+    IsTold u caller e shown air x) (sym r.after) (told_law w.config r.history caller e shown air x)
 
 world_after_none : (w : World) → world_after w [] ≡ w
 unfolding world_after
 world_after_none w = refl
 
 module _ (w : World) (r : IsReached w) (un : IsUnheard w) (caller e : ℕ) (x : Exchange)
-    (known : exchange w e ≡ Some x) where
+    (known : exchange w e ≡ Some x) (air : Option ℕ) (fine : is_bad_air w.config air ≡ false) where
   abbrev shown_by : Option (ℕ × List ℕ) → ℕ → Bool
   shown_by heard = is_shown (is_wide w x.station x.tid) heard
 
@@ -94,9 +102,9 @@ module _ (w : World) (r : IsReached w) (un : IsUnheard w) (caller e : ℕ) (x : 
 
   -- of what was not heard nothing is acknowledged
   acked_lost : (c : Content) → x.content ≡ c →
-      AreAckedWhere (step w (Asked (Done e false))).world (shown_by None) x
+      AreAckedWhere (step w (Asked (Done e false air))).world (shown_by None) x
   acked_lost (Request start) is = subst (λ (d : Content). EachMpdu
-      (λ m. ((slot (session (step w (Asked (Done e false))).world x.station x.tid) m.number).state
+      (λ m. ((slot (session (step w (Asked (Done e false air))).world x.station x.tid) m.number).state
       ≡ State.Acked) ↔ (shown_by None m.number ≡ true)) (mpdus_of d)) (sym is) tt
   acked_lost (Frames ms) is =
       let none : indices_told (shown_by None) x.content ≡ [] =
@@ -105,19 +113,23 @@ module _ (w : World) (r : IsReached w) (un : IsUnheard w) (caller e : ℕ) (x : 
       ap (λ (js : List ℕ). world_after w (arrivals caller e js ++ answer_told caller e js)) none
       ∙ world_after_none w in
       let quiet : tells (shown_by None) x.content ≡ false = ap (λ (js : List ℕ). nat_lt 0 (length js)) none in
-      subst (λ (b : Bool). AreAckedWhere (step w (Asked (Done e b))).world (shown_by None) x) quiet
-      (subst (λ (u : World). AreAckedWhere (step u (done_told e (shown_by None) x.content)).world
-      (shown_by None) x) after (told_at w r caller e (shown_by None) x un known).acked)
+      subst (λ (b : Bool). AreAckedWhere (step w (Asked (Done e b air))).world (shown_by None) x) quiet
+      (subst (λ (u : World). AreAckedWhere (step u (done_told e (shown_by None) air x.content)).world
+      (shown_by None) x) after (told_at w r caller e (shown_by None) air x un known fine).acked)
 
   acked_open : (heard : Option (ℕ × List ℕ)) →
-      AreAckedWhere (ended_by w caller e heard (Some x)).world (shown_by heard) x
+      AreAckedWhere (ended_by w caller e heard air (Some x)).world (shown_by heard) x
   acked_open None = acked_lost x.content refl
-  acked_open (Some score) = (told_at w r caller e (shown_by (Some score)) x un known).acked
+  acked_open (Some score) =
+      let shown : ℕ → Bool = shown_by (Some score) in
+      subst (λ (bad : Bool). AreAckedWhere (if bad then step w (Asked (Done e false air))
+      else step (after_told w caller e shown x.content) (done_told e shown air x.content)).world shown x)
+      (sym fine) (told_at w r caller e shown air x un known fine).acked
 
   pub acked_where_shown : (heard : Option (ℕ × List ℕ)) →
-      AreAckedWhere (world_after_done w caller e heard) (shown_by heard) x
+      AreAckedWhere (world_after_done w caller e heard air) (shown_by heard) x
   acked_where_shown heard = subst (λ (o : Option Exchange).
-      AreAckedWhere (ended_by w caller e heard o).world (shown_by heard) x) (sym known) (acked_open heard)
+      AreAckedWhere (ended_by w caller e heard air o).world (shown_by heard) x) (sym known) (acked_open heard)
 
 -- ---- the counts
 
@@ -130,41 +142,52 @@ told_stands v w bodies h caller e shown content =
     (λ u d k. answer_stands v u bodies d k) w caller e shown content h
 
 rise_ended : (v u : TransmitValue) (w : World) (bodies : ℕ → FrameValue) → StandsFor v w bodies →
-    (caller e : ℕ) (heard : Option (ℕ × List ℕ)) (x : Option Exchange) →
-    StandsFor u (ended_by w caller e heard x).world bodies → RiseLittle v u
-rise_ended v u w bodies h caller e None x st = rise_little v u w bodies bodies (Asked (Done e false)) h st
-rise_ended v u w bodies h caller e (Some score) None st =
-    rise_little v u w bodies bodies (Asked (Done e false)) h st
-rise_ended v u w bodies h caller e (Some score) (Some x) st =
-    let shown : ℕ → Bool = is_shown (is_wide w x.station x.tid) (Some score) in
-    rise_little v u (after_told w caller e shown x.content) bodies bodies (done_told e shown x.content)
-    (told_stands v w bodies h caller e shown x.content) st
+    (caller e : ℕ) (heard : Option (ℕ × List ℕ)) (air : Option ℕ) (x : Option Exchange) →
+    StandsFor u (ended_by w caller e heard air x).world bodies → RiseLittle v u
+rise_ended v u w bodies h caller e None air x st =
+    rise_little v u w bodies bodies (Asked (Done e false air)) h st
+rise_ended v u w bodies h caller e (Some score) air None st =
+    rise_little v u w bodies bodies (Asked (Done e false air)) h st
+rise_ended v u w bodies h caller e (Some score) air (Some x) st = either (is_bad_air w.config air) st
+  where
+    shown : ℕ → Bool
+    shown = is_shown (is_wide w x.station x.tid) (Some score)
+
+    either : (bad : Bool) → StandsFor u (if bad then step w (Asked (Done e false air))
+        else step (after_told w caller e shown x.content) (done_told e shown air x.content)).world bodies →
+        RiseLittle v u
+    either true there = rise_little v u w bodies bodies (Asked (Done e false air)) h there
+    either false there =
+        rise_little v u (after_told w caller e shown x.content) bodies bodies
+        (done_told e shown air x.content)
+        (told_stands v w bodies h caller e shown x.content) there
 
 -- ---- what it leaves
 
 -- x are the fields of a path, and u what `Transmit::done` leaves of them
 module _ (x : TransmitValue) (r : Flags) (h : IsTracked x r) (u : TransmitValue) (e : ℕ)
-    (heard : Option (ℕ × List ℕ)) (result : Result Ended Refusal)
-    (done : IsAfterDone x u e heard result) where
-  ended : MeetsUnheard h.path.bodies (outcome_after_done h.path.world 0 e heard) u
+    (heard : Option (ℕ × List ℕ)) (air : Option ℕ) (result : Result Ended Refusal)
+    (done : IsAfterDone x u e heard air result) where
+  ended : MeetsUnheard h.path.bodies (outcome_after_done h.path.world 0 e heard air) u
       (reply_of_result ended_reply result)
-  ended = meets_unheard x u h.path.world h.path.bodies h.path.stands h.path.unheard e heard result done 0
+  ended = meets_unheard x u h.path.world h.path.bodies h.path.stands h.path.unheard e heard air result done 0
 
   pub ended_path : IsPath u
   ended_path = record {
-    world = (outcome_after_done h.path.world 0 e heard).world;
+    world = (outcome_after_done h.path.world 0 e heard air).world;
     bodies = h.path.bodies;
     stands = ended.stands;
     unheard = ended.unheard;
   }
 
   rises : RiseLittle x u
-  rises = rise_ended x u h.path.world h.path.bodies h.path.stands 0 e heard (exchange h.path.world e)
+  rises = rise_ended x u h.path.world h.path.bodies h.path.stands 0 e heard air (exchange h.path.world e)
       ended.stands
 
   config : x.config ≡ u.config
   config = h.path.stands.parts.others.config ∙ sym
-      (config_ended h.path.world 0 e heard (exchange h.path.world e)) ∙ sym ended.stands.parts.others.config
+      (config_ended h.path.world 0 e heard air (exchange h.path.world e))
+      ∙ sym ended.stands.parts.others.config
 
   -- of an exchange that was open
   module _ (o : Open) (is : Some o ≡ find (λ y. y.number == e) x.opened) where
@@ -196,7 +219,7 @@ module _ (x : TransmitValue) (r : Flags) (h : IsTracked x r) (u : TransmitValue)
           tells = λ d i small out.
               (h.flags d).tells i (subst (λ (z : Config). i < z.stations) (sym config) small)
               ∙ sym (ready_as_before x u h.path.world h.path.bodies h.path.stands h.path.unheard e heard
-              result done i d (out_of i d out));
+              air result done i d (out_of i d out));
         }
 
   -- v is the path's value before
@@ -210,33 +233,37 @@ module _ (x : TransmitValue) (r : Flags) (h : IsTracked x r) (u : TransmitValue)
 
     lost_if : (o : Option (ℕ × List ℕ)) → IfNone o
         ((w : World) (bodies : ℕ → FrameValue) → StandsFor x w bodies →
-        Meets w bodies (Asked (Done e false)) u (reply_of_result ended_reply result)) →
+        Meets w bodies (Asked (Done e false air)) u (reply_of_result ended_reply result)) →
         IfNone o ((w : World) (bodies : ℕ → FrameValue) (pairs : List (ℕ × ℕ)) (ids : List ℕ) →
-        StandsFor v w bodies → Meets w bodies (Asked (Done e false)) u (reply_with b pairs ids))
+        StandsFor v w bodies → Meets w bodies (Asked (Done e false air)) u (reply_with b pairs ids))
     lost_if None f = λ w bodies pairs ids st. subst
-        (λ (z : ReplyNote). Meets w bodies (Asked (Done e false)) u z) (says pairs ids)
+        (λ (z : ReplyNote). Meets w bodies (Asked (Done e false air)) u z) (says pairs ids)
         (f w bodies (before w bodies st))
     lost_if (Some score) f = tt
 
-    pub is_ended : (find (λ y. y.number == e) x.opened ≡ None → (b ≡ brief.Refused NoExchange) × (u ≡ x)) →
-        IsEnded v e heard u b
-    is_ended none = record {
+    pub is_ended : ((why : Refusal) → end_refusal x e air ≡ Some why → (b ≡ brief.Refused why) × (u ≡ x)) →
+        IsEnded v e heard air u b
+    is_ended refuses = record {
       lost = lost_if heard done.lost;
       shown = shown_if heard done.shown;
       none_shown = λ w bodies y pairs ids st known plain hidden.
-          subst (λ (z : ReplyNote). Meets w bodies (Asked (Done e false)) u z) (says pairs ids)
+          subst (λ (z : ReplyNote). Meets w bodies (Asked (Done e false air)) u z) (says pairs ids)
           (done.none_shown w bodies y (before w bodies st) known plain hidden);
       driven = λ w bodies caller pairs ids st un.
-          subst (λ (z : ReplyNote). MeetsUnheard bodies (outcome_after_done w caller e heard) u z)
+          subst (λ (z : ReplyNote). MeetsUnheard bodies (outcome_after_done w caller e heard air) u z)
           (says pairs ids)
-          (meets_unheard x u w bodies (before w bodies st) un e heard result done caller);
-      acked_where = λ w bodies caller y st un known.
-          acked_where_shown w st.reached un caller e y known heard;
+          (meets_unheard x u w bodies (before w bodies st) un e heard air result done caller);
+      acked_where = λ w bodies caller y st un known fine.
+          acked_where_shown w st.reached un caller e y known air fine heard;
       acked = λ a i f is. subst (λ (z : TransmitValue).
           IfSome (find (λ y. y.number == e) z.opened) (λ y. a ≡ count_shown_of z heard y)) same
           (acked a i f is);
-      not_open = λ e'. let k = none (ap (λ (z : TransmitValue). find (λ y. y.number == e) z.opened) same ∙ e')
-          in (k.0, k.1 ∙ same);
+      refused = λ why is.
+          let k = refuses why (ap (λ (z : TransmitValue). end_refusal z e air) same ∙ is) in
+          (k.0, k.1 ∙ same);
+      not_open = λ e'. let k = refuses NoExchange (ends_unknown x e air
+          (sym (ap (λ (z : TransmitValue). find (λ y. y.number == e) z.opened) same ∙ e'))) in
+          (k.0, k.1 ∙ same);
       path = ended_path;
       rises = subst (λ (z : TransmitValue). RiseLittle z u) same rises;
     }
@@ -244,21 +271,21 @@ module _ (x : TransmitValue) (r : Flags) (h : IsTracked x r) (u : TransmitValue)
         shown_if : (o : Option (ℕ × List ℕ)) → IfSome o
             (λ score. (w : World) (bodies : ℕ → FrameValue) (y : Exchange) (answer : Score) →
             StandsFor x w bodies → exchange w e ≡ Some y → y.answer ≡ Some answer →
-            AreShown w y answer (Some score) → Meets w bodies (Asked (Done e true)) u
+            AreShown w y answer (Some score) → Meets w bodies (Asked (Done e true air)) u
             (reply_of_result ended_reply result)) →
             IfSome o (λ score. (w : World) (bodies : ℕ → FrameValue) (y : Exchange) (answer : Score)
             (pairs : List (ℕ × ℕ)) (ids : List ℕ) → StandsFor v w bodies → exchange w e ≡ Some y →
             y.answer ≡ Some answer → AreShown w y answer (Some score) →
-            Meets w bodies (Asked (Done e true)) u (reply_with b pairs ids))
+            Meets w bodies (Asked (Done e true air)) u (reply_with b pairs ids))
         shown_if None f = tt
         shown_if (Some score) f = λ w bodies y answer pairs ids st known kept shows.
-            subst (λ (z : ReplyNote). Meets w bodies (Asked (Done e true)) u z) (says pairs ids)
+            subst (λ (z : ReplyNote). Meets w bodies (Asked (Done e true air)) u z) (says pairs ids)
             (f w bodies y answer (before w bodies st) known kept shows)
 
 -- ---- an exchange that is not open
 
 module _ (x : TransmitValue) (r : Flags) (h : IsTracked x r) (e : ℕ) (heard : Option (ℕ × List ℕ))
-    (none : None ≡ find (λ y. y.number == e) x.opened) where
+    (air : Option ℕ) (none : None ≡ find (λ y. y.number == e) x.opened) where
   never : (w : World) (bodies : ℕ → FrameValue) (y : Exchange) → StandsFor x w bodies →
       exchange w e ≡ Some y → ⊥
   never w bodies y st known =
@@ -267,28 +294,32 @@ module _ (x : TransmitValue) (r : Flags) (h : IsTracked x r) (e : ℕ) (heard : 
 
   refused_if : (o : Option (ℕ × List ℕ)) → IfNone o
       ((w : World) (bodies : ℕ → FrameValue) → StandsFor x w bodies →
-      Meets w bodies (Asked (Done e false)) x (Refused NoExchange))
-  refused_if None = λ w bodies st. refused_done x w bodies st e false none
+      Meets w bodies (Asked (Done e false air)) x (Refused NoExchange))
+  refused_if None = λ w bodies st. refused_done x w bodies st e false air none
   refused_if (Some score) = tt
 
   shown_never : (o : Option (ℕ × List ℕ)) → IfSome o
       (λ score. (w : World) (bodies : ℕ → FrameValue) (y : Exchange) (answer : Score) → StandsFor x w bodies →
       exchange w e ≡ Some y → y.answer ≡ Some answer → AreShown w y answer (Some score) →
-      Meets w bodies (Asked (Done e true)) x (Refused NoExchange))
+      Meets w bodies (Asked (Done e true air)) x (Refused NoExchange))
   shown_never None = tt
   shown_never (Some score) = λ w bodies y answer st known kept shows. absurd (never w bodies y st known)
 
-  unchanged : IsAfterDone x x e heard (Err NoExchange)
+  unknown : end_refusal x e air ≡ Some NoExchange
+  unknown = ends_unknown x e air none
+
+  unchanged : IsAfterDone x x e heard air (Err NoExchange)
   unchanged = record {
     lost = refused_if heard;
     shown = shown_never heard;
     none_shown = λ w bodies y st known plain hidden. absurd (never w bodies y st known);
-    found = ap (λ (o : Option Open). is_some o) none;
-    refused = (refl, refl);
+    found = sym (ap is_none unknown);
+    refused = (unknown, refl);
   }
 
-  pub nothing_ended : (v : TransmitValue) → x ≡ v → IsEnded v e heard v (brief.Refused NoExchange)
+  pub nothing_ended : (v : TransmitValue) → x ≡ v → IsEnded v e heard air v (brief.Refused NoExchange)
   nothing_ended v same =
-      subst (λ (z : TransmitValue). IsEnded v e heard z (brief.Refused NoExchange)) same
-      (is_ended x r h x e heard (Err NoExchange) unchanged v same (brief.Refused NoExchange)
-      (λ pairs ids. refl) (λ a i f is. absurd (cc is)) (λ _. (refl, refl)))
+      subst (λ (z : TransmitValue). IsEnded v e heard air z (brief.Refused NoExchange)) same
+      (is_ended x r h x e heard air (Err NoExchange) unchanged v same (brief.Refused NoExchange)
+      (λ pairs ids. refl) (λ a i f is. absurd (cc is))
+      (λ why is. (ap brief.Refused (cc (unknown, is)), refl)))

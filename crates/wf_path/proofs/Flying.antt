@@ -7,7 +7,7 @@ use Rattle.wf_frame.specs.Frames.{FrameValue}
 use Rattle.wf_def_lists.specs.Table.{has}
 use Rattle.wf_def_agreement.specs.Session.{Session, slot, is_settled}
 use Rattle.wf_def_world.specs.World.{World, Exchange, Mpdu, Content, Frames, Request, session, exchange, without_exchange}
-use Rattle.wf_def_world.specs.Exchanges.{mpdus_of, after_charge, with_all_settled}
+use Rattle.wf_def_world.specs.Exchanges.{mpdus_of, after_charge, with_all_settled, charge_of}
 use Rattle.wf_law_runs.specs.Windows.{EachMpdu}
 use Rattle.wf_send_exchanges.specs.declared.opened.Open.{Open}
 use Rattle.wf_send_exchanges.specs.declared.opened.Sending.TheVariants.{Data}
@@ -69,24 +69,26 @@ module _ (v : TransmitValue) (o : Open) (index : ℕ) (w : World) (bodies : ℕ 
   mpdus = mpdus_of x.content
 
   abbrev sends : IsData x.content (numbers_on_air mpdus)
-  sends = data_sent v w bodies f.stands f.number x f.known (numbers_on_air mpdus)
+  sends = data_sent v w bodies f.stands f.number x f.known None (numbers_on_air mpdus)
       (data_of x.content index m f.among)
 
   -- the end of its exchange could begin
-  ending : IsEnding (after_close v (open_of x))
-      (after_charge (without_exchange w x.number) x) bodies x.station x.tid x.number (λ n. false) sends.mpdus
-      (with_all_settled (after_charge (without_exchange w x.number) x) x.station x.tid
+  ending : IsEnding (after_close v (open_of x) (charge_of None x))
+      (after_charge (without_exchange w x.number) x None) bodies x.station x.tid x.number
+      (λ n. false) sends.mpdus
+      (with_all_settled (after_charge (without_exchange w x.number) x None) x.station x.tid
       (λ n. false) sends.mpdus)
-  ending = begun v w bodies f.stands f.number x f.known (numbers_on_air mpdus)
+  ending = begun v w bodies f.stands f.number x f.known None (numbers_on_air mpdus)
       (data_of x.content index m f.among) (λ n. false)
 
   at : slice_get sends.mpdus index ≡ Some m
   at = ap (λ (c : Content). slice_get (mpdus_of c) index) (sym sends.content) ∙ f.among
 
-  same_session : session (after_charge (without_exchange w x.number) x) x.station x.tid ≡ y
-  same_session = ap (λ (a : Agreements). a.sessions x.station x.tid) (closed_agreements w x)
+  same_session : session (after_charge (without_exchange w x.number) x None) x.station x.tid ≡ y
+  same_session = ap (λ (a : Agreements). a.sessions x.station x.tid) (closed_agreements w x None)
 
-  flies : IsFlyingIn y (ending_of (after_charge (without_exchange w x.number) x).config x.number (λ n. false))
+  flies : IsFlyingIn y (ending_of (after_charge (without_exchange w x.number) x None).config x.number
+      (λ n. false))
       m.number
   flies =
       let among : has (map (λ (k : Mpdu). k.number) sends.mpdus) m.number ≡ true =
@@ -94,7 +96,7 @@ module _ (v : TransmitValue) (o : Open) (index : ℕ) (w : World) (bodies : ℕ 
       (slice_get-map (λ (k : Mpdu). k.number) sends.mpdus index
       ∙ ap (option_map (λ (k : Mpdu). k.number)) at) in
       subst (λ (z : Session). IsFlyingIn z (ending_of
-      (after_charge (without_exchange w x.number) x).config x.number (λ n. false)) m.number) same_session
+      (after_charge (without_exchange w x.number) x None).config x.number (λ n. false)) m.number) same_session
       (ending.flying.each m.number among)
 
   pub held : holds_parcel (slot y m.number).state ≡ true
@@ -107,7 +109,9 @@ module _ (v : TransmitValue) (o : Open) (index : ℕ) (w : World) (bodies : ℕ 
   -- its frame has its id
   pub own_id : (bodies m.id).id ≡ m.id
   own_id =
-      let loose : IsLoose (after_close v (open_of x)) (after_charge (without_exchange w x.number) x) m =
+      let loose : IsLoose (after_close v (open_of x) (charge_of None x))
+      (after_charge (without_exchange w x.number) x
+      None) m =
       each_at _ sends.mpdus index m ending.loose at in
       (ending.parts.others.notes m.id loose.low).id
 

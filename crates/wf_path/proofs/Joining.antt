@@ -72,17 +72,17 @@ unfolding outcome_of tick_outcome rate_outcome sleep_outcome wake_outcome poll_o
 were_done (Enqueue s t flow len) w i = were_same (Enqueue s t flow len) w _ (same_enqueued w s t flow len)
 were_done (Asked (Join s window start exponent weight)) w i = were_joined w s window start exponent weight
 were_done (Asked (Leave s)) w i = were_gone w s
-were_done (Asked (Rate s mcs mhz short)) w i =
-    were_same (Asked (Rate s mcs mhz short)) w _ (same_on_station w s _ (λ x t. refl))
+were_done (Asked (Rate s rate)) w i =
+    were_same (Asked (Rate s rate)) w _ (same_on_station w s _ (λ x t. refl))
 were_done (Asked (Tick by)) w i = λ s other live. live
 were_done (Asked (Pull c)) w i = were_last (Asked (Pull c)) w _ (last_pulled w c i)
 were_done (Asked (Arrive e n)) w i =
     were_open (Asked (Arrive e n)) (IsFound w i) (exchange w e) w _ (found w i e) (λ x f. last_arrived w x n)
 were_done (Asked (Answer e)) w i = were_open (Asked (Answer e)) (IsFound w i) (exchange w e) w _ (found w i e)
     (λ x f. last_answered w x)
-were_done (Asked (Done e heard)) w i =
-    were_open (Asked (Done e heard)) (IsFound w i) (exchange w e) w _ (found w i e)
-    (λ x f. last_ended w i x heard f)
+were_done (Asked (Done e heard air)) w i =
+    were_open (Asked (Done e heard air)) (IsFound w i) (exchange w e) w _ (found w i e)
+    (λ x f. last_ended air w i x heard f)
 were_done (Asked (Sleep s)) w i = were_same (Asked (Sleep s)) w _ (same_on_station w s _ (λ x t. refl))
 were_done (Asked (Wake s)) w i = were_same (Asked (Wake s)) w _ (same_on_station w s _ (λ x t. refl))
 were_done (Asked (Poll s)) w i = were_same (Asked (Poll s)) w _ (same_on_station w s _ (λ x t. refl))
@@ -104,12 +104,12 @@ begun (Asked (Join i window start exponent weight)) w s n fine own =
     ∙ ap (λ (b : Bool). if b then 0 else n) own
 begun (Enqueue i t flow len) w s n fine own = absurd (cc own)
 begun (Asked (Leave i)) w s n fine own = absurd (cc own)
-begun (Asked (Rate i mcs mhz short)) w s n fine own = absurd (cc own)
+begun (Asked (Rate i rate)) w s n fine own = absurd (cc own)
 begun (Asked (Tick by)) w s n fine own = absurd (cc own)
 begun (Asked (Pull c)) w s n fine own = absurd (cc own)
 begun (Asked (Arrive e i)) w s n fine own = absurd (cc own)
 begun (Asked (Answer e)) w s n fine own = absurd (cc own)
-begun (Asked (Done e heard)) w s n fine own = absurd (cc own)
+begun (Asked (Done e heard air)) w s n fine own = absurd (cc own)
 begun (Asked (Sleep i)) w s n fine own = absurd (cc own)
 begun (Asked (Wake i)) w s n fine own = absurd (cc own)
 begun (Asked (Poll i)) w s n fine own = absurd (cc own)

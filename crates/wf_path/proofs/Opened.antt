@@ -34,7 +34,8 @@ module _ (v : TransmitValue) (w : World) (bodies : ℕ → FrameValue) (h : Stan
   low = by_content x.content refl
     where
       by_content : (c : Content) → x.content ≡ c → x.tid < 8
-      by_content (Frames mpdus) is = (begun v w bodies h e x known (numbers_on_air mpdus) (ap sending_of is)
+      by_content (Frames mpdus) is = (begun v w bodies h e x known None (numbers_on_air mpdus)
+          (ap sending_of is)
           (λ n. false)).tid
       by_content (Request start) is = request_tid v w bodies h e x known start is
 

@@ -21,22 +21,24 @@ use Rattle.wf_def_world.specs.Stretches.{charge_to, charge_by}
 use Rattle.wf_law_rules.proofs.Lemmas.Numbers.{on_bool, le_yes}
 use Rattle.wf_law_runs.specs.Numbers.{greatest_charge}
 use Rattle.wf_law_runs.specs.Sums.{since_join, air_by, charged_over, received_over}
-use Rattle.wf_law_runs.specs.Windows.{EachOpen}
-use Rattle.wf_law_runs.proofs.Deficits.Numbers.{number_law}
+use Rattle.wf_law_runs.proofs.Deficits.Numbers.{longest_within}
 use Rattle.wf_law_runs.proofs.Frames.Fates.{brought, steady_run, steady_first, counted_step, world_after-append}
 use Rattle.wf_law_runs.proofs.Sums.Airtime.{HasAdded, added}
 use Rattle.wf_law_runs.proofs.Sums.Counters.{counts_step}
 use Rattle.wf_law_runs.proofs.Windows.Agreed.{lawful}
-use Rattle.wf_law_runs.proofs.Windows.Opened.{NoRow, no_row, each_find}
+use Rattle.wf_law_runs.proofs.Windows.Opened.{NoRow, no_row}
 use Rattle.wf_sched_stations_refines.specs.Standing.{share_in}
 use Rattle.wf_send_stations.specs.Members.{member, charged_in, received_in}
 use Rattle.wf_send_stations.specs.Tally.{Counts}
 use Rattle.wf_send_stations.specs.declared.members.Member.{Member}
 use Rattle.wf_send_half_refines.specs.Half.{TransmitValue}
 use Rattle.wf_send_half_refines.specs.Standing.{StandsFor, Meets, IsReached, AreBoth, IsMember}
-use Rattle.wf_send_half_refines.proofs.Reached.{by_law}
 use Rattle.wf_path.specs.Paths.{IsPath, HasCountsBelow, RiseLittle}
 use Rattle.wf_path.proofs.Joining.{new_sum}
+use Rattle.wf_def_world.specs.Exchanges.{charge_of}
+use Rattle.wf_law_runs.proofs.Deficits.KeptStep.{charge_within, kept}
+use Rattle.wf_law_runs.proofs.Deficits.Kept.{IsKept}
+use Rattle.wf_law_runs.proofs.Deficits.Books.{books}
 
 -- ---- what one call adds
 
@@ -57,20 +59,30 @@ since_less (Asked (Join i window start exponent weight)) w s n =
     kept_or_none (is_none (refusal w (Asked (Join i window start exponent weight))) && (i == s)) n
 since_less _ w s n = omega arith
 
-abbrev AreCharged : World → Type 0
-AreCharged w = EachOpen (λ x. (1 ≤ x.charge) × (x.charge ≤ greatest_charge)) w.opened
+charged_most : (air : Option ℕ) (s : ℕ) (c : Class) (o : Option Exchange) →
+    IfSome o (λ x. charge_of air x ≤ greatest_charge) → charge_to s c air o ≤ greatest_charge
+charged_most air s c None h = omega arith
+charged_most air s c (Some x) h =
+    at_most_if ((x.station == s) && same_class x.class c) (charge_of air x) greatest_charge h
 
-charged_most : (s : ℕ) (c : Class) (o : Option Exchange) → IfSome o (λ x. x.charge ≤ greatest_charge) →
-    charge_to s c o ≤ greatest_charge
-charged_most s c None h = omega arith
-charged_most s c (Some x) h = at_most_if ((x.station == s) && same_class x.class c) x.charge greatest_charge h
+if_found : (P : Exchange → Type 0) (o : Option Exchange) → ((x : Exchange) → o ≡ Some x → P x) → IfSome o P
+if_found P None h = tt
+if_found P (Some x) h = h x refl
 
-charge_little : (note : Note) (w : World) (s : ℕ) (c : Class) → AreCharged w →
+unless_refused : (o : Option Refusal) (m n : ℕ) → (o ≡ None → m ≤ n) → (if is_none o then m else 0) ≤ n
+unless_refused None m n h = h refl
+unless_refused (Some r) m n h = omega arith
+
+charge_little : (note : Note) (w : World) (s : ℕ) (c : Class) → IsKept (books w) →
     charge_by w s c note ≤ greatest_charge
-charge_little (Asked (Done e heard)) w s c k =
-    at_most_if (is_none (refusal w (Asked (Done e heard)))) (charge_to s c (exchange w e)) greatest_charge
-    (charged_most s c (exchange w e) (each_find (λ x. (1 ≤ x.charge) × (x.charge ≤ greatest_charge))
-    (λ x. x.charge ≤ greatest_charge) (λ x. x.number == e) w.opened (λ x _ h. h.1) k))
+charge_little (Asked (Done e heard air)) w s c k =
+    unless_refused (refusal w (Asked (Done e heard air))) (charge_to s c air (exchange w e)) greatest_charge
+    (λ fine. charged_most air s c (exchange w e) (if_found (λ x. charge_of air x ≤ greatest_charge)
+    (exchange w e) (λ x found. omega (
+      arith,
+      charge_within w e x air k found (no_row (refusals w (Asked (Done e heard air))) fine).1.1.0,
+      longest_within w.config k.range,
+    ))))
 charge_little _ w s c k = omega arith
 
 air_row : (s i : ℕ) (d c : Class) (air : ℕ) (w : World) (r : Option Refusal) →
@@ -118,8 +130,7 @@ record AreBelow (n : ℕ) (w : World) : Type 0 where
   charged : (s : ℕ) (c : Class) → is_live w s ≡ true → (share w s c).charged < n
   received : (s : ℕ) (c : Class) → is_live w s ≡ true → (share w s c).received < n
 
-module _ (config : Config) (h : List Entry) (note : Note) (range : IsInRange config)
-    (charges : AreCharged (world_after (opening config) h)) where
+module _ (config : Config) (h : List Entry) (note : Note) (range : IsInRange config) where
   abbrev w : World
   w = world_after (opening config) h
 
@@ -162,7 +173,7 @@ module _ (config : Config) (h : List Entry) (note : Note) (range : IsInRange con
             let old : ℕ = charged_over (opening config) s c h 0 in
             sum_little n old _ (since_join w s note old) (charge_by w s c note)
             ((added_then s c live).charged ∙ charged_then h (opening config) s c (by 0 note) 0)
-            (omega (arith, charge_little note w s c charges)) some
+            (omega (arith, charge_little note w s c (kept config h range))) some
             (since_as s n old live (λ was. omega (
               arith,
               (added config h s c range was).charged,
@@ -184,10 +195,8 @@ module _ (config : Config) (h : List Entry) (note : Note) (range : IsInRange con
 reached_below : (w : World) (note : Note) → IsReached w → (n : ℕ) → AreBelow n w →
     AreBelow (n + greatest_tick) (step w note).world
 reached_below w note r n =
-    let charges : AreCharged w = by_law AreCharged w r
-    (λ m. (number_law w.config r.history r.in_range m).charges) in
     subst (λ (u : World). AreBelow n u → AreBelow (n + greatest_tick) (step u note).world) (sym r.after)
-    (below_step w.config r.history note r.in_range (subst AreCharged r.after charges) n)
+    (below_step w.config r.history note r.in_range n)
 
 -- ---- of a path
 

@@ -28,7 +28,7 @@ frame_of (Call ask) = None
 abbrev pub IsHeard : Job → Type 0
 IsHeard (Call (Arrive exchange index)) = ⊥
 IsHeard (Call (Answer exchange)) = ⊥
-IsHeard (Call (Done exchange heard)) = ⊥
+IsHeard (Call (Done exchange heard air)) = ⊥
 IsHeard job = Unit {0}
 
 -- the calls whose answer is a brief alone, or with the frames of an aggregate: none of exchanges that are
@@ -36,7 +36,7 @@ IsHeard job = Unit {0}
 abbrev pub IsBrief : Ask → Type 0
 IsBrief (Arrive exchange index) = ⊥
 IsBrief (Answer exchange) = ⊥
-IsBrief (Done exchange heard) = ⊥
+IsBrief (Done exchange heard air) = ⊥
 IsBrief Reap = ⊥
 IsBrief ask = Unit {0}
 

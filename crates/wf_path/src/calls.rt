@@ -17,7 +17,7 @@ ghost use Rattle.wf_path.specs.Jobs.{IsHeard, IsBrief, note_of, bodies_after, fr
 ghost use Rattle.wf_path.specs.Paths.{IsPath, IsSmall, RiseLittle, IsAnswered, IsToldBriefly};
 
 use crate::{Job, Path};
-use wf_frame::{Answer, Ask, Brief, Class, Pairs, Refusal};
+use wf_frame::{Answer, Ask, AskedRate, Brief, Class, Pairs, Refusal};
 use wf_queue_chain::Parcel;
 
 impl Path {
@@ -130,12 +130,7 @@ impl Path {
                 weight,
             } => self.join(station, window, start, exponent, weight),
             Ask::Leave { station } => self.leave(station),
-            Ask::Rate {
-                station,
-                mcs,
-                mhz,
-                short,
-            } => self.rate(station, mcs, mhz, short),
+            Ask::Rate { station, rate } => self.rate(station, rate),
             Ask::Tick { by } => self.tick(by),
             Ask::Pull { class } => self.pull(class, pairs),
             Ask::Sleep { station } => self.sleep(station),
@@ -172,10 +167,10 @@ impl Path {
         }
     }
 
-    fn rate(&mut self, station: u16, mcs: u8, mhz: u8, short: bool) -> Brief
-        ensures { IsToldBriefly self.old (Rate station mcs mhz short) self.new result }
+    fn rate(&mut self, station: u16, rate: AskedRate) -> Brief
+        ensures { IsToldBriefly self.old (Rate station rate) self.new result }
     {
-        match self.half.rate(station, mcs, mhz, short) {
+        match self.half.rate(station, rate) {
             Ok(()) => Brief::RateSet,
             Err(reason) => Brief::Refused(reason),
         }

@@ -22,16 +22,23 @@ impl Path {
     /// answer: the start and the bits of a BlockAck (IEEE 802.11-2012, 8.3.1.9), of which the first 64 count,
     /// or all 256 where the TID's window is above 64. Each number that it shows is acknowledged; each other
     /// one waits again, or fails where it was sent `attempts` times. A request is heard where anything was.
-    /// Where the exchange is not open, refused as NoExchange.
-    pub fn done_bits(&mut self, exchange: u64, heard: Option<(Seq12, Bits256)>) -> Brief
+    /// Where `air` is named, the station pays so many microseconds, and not what was computed of the
+    /// exchange. Where the exchange is not open, refused as NoExchange, and then, where `air` is 0 or above
+    /// the setting `charge`, as BadAir.
+    pub fn done_bits(
+        &mut self,
+        exchange: u64,
+        heard: Option<(Seq12, Bits256)>,
+        air: Option<u32>,
+    ) -> Brief
         requires small { IsSmall self.old }
-        ensures { IsEnded self.old exchange heard self.new result }
+        ensures { IsEnded self.old exchange heard air self.new result }
     {
         let Some(open) = self.half.exchange(exchange) else {
             return Brief::Refused(Refusal::NoExchange);
         };
         let (station, tid) = (open.station, open.tid);
-        match self.half.done(exchange, heard) {
+        match self.half.done(exchange, heard, air) {
             Ok(ended) => {
                 self.ready.set(&self.half, station, Class::of_tid(tid));
                 Brief::Ended {
@@ -46,14 +53,20 @@ impl Path {
 
     /// The same, where `heard` are the octets of the BlockAck that was heard. Refused as NoExchange where the
     /// exchange is not open, and else for the first check of the octets that fails; then the exchange is as
-    /// it was, and nothing has changed.
-    pub fn done_bytes(&mut self, exchange: u64, heard: Option<&[u8]>) -> Result<Brief, DoneFault>
+    /// it was, and nothing has changed. Octets that pass, and an `air` that may not be named: the answer is
+    /// refused as BadAir.
+    pub fn done_bytes(
+        &mut self,
+        exchange: u64,
+        heard: Option<&[u8]>,
+        air: Option<u32>,
+    ) -> Result<Brief, DoneFault>
         requires small { IsSmall self.old }
         ensures fault { (w : World) (bodies : ℕ → FrameValue) → StandsFor self.old w bodies →
             result_err result ≡ end_fault w exchange (option_map (λ octets. octets.now) heard.entry) }
         ensures unchanged { OnErr result (self.new ≡ self.old) }
         ensures ended { IfOk result (λ brief. IsEnded self.old exchange
-            (option_map (λ octets. block_ack_in octets.now) heard.entry) self.new brief) }
+            (option_map (λ octets. block_ack_in octets.now) heard.entry) air self.new brief) }
         ensures path { IsPath self.new }
         ensures rises { RiseLittle self.old self.new }
     {
@@ -62,7 +75,7 @@ impl Path {
             None if self.sent(exchange).is_some() => None,
             None => return Err(DoneFault::NoExchange),
         };
-        Ok(self.done_bits(exchange, shown))
+        Ok(self.done_bits(exchange, shown, air))
     }
 
     /// What an open exchange sends, and to whom. None where it is not open.

@@ -48,7 +48,8 @@ file_head_octets =
     ++ little_bytes 4 0 ++ little_bytes 4 65535
     ++ little_bytes 4 link_of_frames
 
--- the header that is written of a packet of so many octets, at a time in microseconds
+-- the header that is written of a packet of so many octets, at a time in microseconds: of the seconds it has
+-- the low 32 bits
 abbrev pub packet_head : ℕ → ℕ → List ℕ
 packet_head at count = little_bytes 4 (at / 1000000) ++ little_bytes 4 (at % 1000000) ++ little_bytes 4 count
     ++ little_bytes 4 count

@@ -1,6 +1,6 @@
 //! A capture file as it is written: little-endian, in microseconds.
 
-ghost use Rattle.std.specs.Prelude.{◌≡◌, ℕ, ◌*◌, ◌^◌, ◌<◌, ◌≤◌, length, take, OnOk};
+ghost use Rattle.std.specs.Prelude.{◌≡◌, ℕ, ◌≤◌, length, take, OnOk};
 ghost use Rattle.std.specs.Io.KnownBytes.{append_known};
 ghost use Rattle.wf_io.specs.Faults.{CountsFaults};
 ghost use Rattle.wf_pcap.specs.Capture.{file_head_octets, packet_head, packet_octets};
@@ -22,10 +22,10 @@ pub fn write_head<K: Sink>(sink: &mut K) -> Result<(), Failed>
     write_all(sink, &head())
 }
 
-/// Writes a packet that was captured whole at a time in microseconds: its header, and its octets. After a
-/// fault, some octets from their front have been written.
+/// Writes a packet that was captured whole at a time in microseconds: its header, and its octets. The header
+/// has 32 bits for the seconds, which begin anew at 0 behind 4,294,967,295. After a fault, some octets from
+/// their front have been written.
 pub fn write_packet<K: Sink>(sink: &mut K, at: u64, octets: &[u8]) -> Result<(), Failed>
-    requires time { at < 2 ^ 32 * 1000000 }
     requires some { 1 ≤ length octets.now }
     requires most { length octets.now ≤ 65535 }
     ensures written { OnOk result (K.held sink.new
@@ -52,12 +52,12 @@ fn head() -> [u8; FILE_HEAD]
 }
 
 // The header of a packet of so many octets.
+#[tactic(auto, using(crate::proofs::Seconds::seconds_wrap))]
 fn packet_head(at: u64, count: u32) -> [u8; PACKET_HEAD]
-    requires { at < 2 ^ 32 * 1000000 }
     ensures { result ≡ packet_head at count }
 {
     let mut head = [0; PACKET_HEAD];
-    LittleEndian::write_u32(&mut head, (at / 1_000_000) as u32);
+    LittleEndian::write_u32(&mut head, (at / 1_000_000 % (1 << 32)) as u32);
     LittleEndian::write_u32(&mut head[4..], (at % 1_000_000) as u32);
     LittleEndian::write_u32(&mut head[8..], count);
     LittleEndian::write_u32(&mut head[12..], count);

@@ -161,12 +161,12 @@ unfolding outcome_of tick_outcome rate_outcome sleep_outcome wake_outcome poll_o
 left_untold (Enqueue s t flow len) w k = left_same w _ (same_enqueued w s t flow len)
 left_untold (Asked (Join s window start exponent weight)) w k = absurd k
 left_untold (Asked (Leave s)) w k = left_gone w s
-left_untold (Asked (Rate s mcs mhz short)) w k = left_same w _ (same_on_station w s _ (λ x t. refl))
+left_untold (Asked (Rate s rate)) w k = left_same w _ (same_on_station w s _ (λ x t. refl))
 left_untold (Asked (Tick by)) w k = left_here w _ refl refl
 left_untold (Asked (Pull c)) w k = absurd k
 left_untold (Asked (Arrive e n)) w k = absurd k
 left_untold (Asked (Answer e)) w k = absurd k
-left_untold (Asked (Done e heard)) w k = absurd k
+left_untold (Asked (Done e heard air)) w k = absurd k
 left_untold (Asked (Sleep s)) w k = left_same w _ (same_on_station w s _ (λ x t. refl))
 left_untold (Asked (Wake s)) w k = left_same w _ (same_on_station w s _ (λ x t. refl))
 left_untold (Asked (Poll s)) w k = left_same w _ (same_on_station w s _ (λ x t. refl))
@@ -225,26 +225,27 @@ opened_without : (w : World) (e : ℕ) → (without_exchange w e).opened
 unfolding without_exchange
 opened_without w e = refl
 
-pub ended_hears : (peers : List PeerValue) (marks : List Mark) (w : World) (e : ℕ) (heard : Bool) →
-    IsReached w → Hears peers marks w →
-    refusal w (Asked (Done e heard)) ≡ None → Hears peers (filter (λ m. not (m.number == e)) marks)
-    (step w (Asked (Done e heard))).world
+pub ended_hears : (peers : List PeerValue) (marks : List Mark) (w : World) (e : ℕ) (heard : Bool)
+    (air : Option ℕ) → IsReached w → Hears peers marks w →
+    refusal w (Asked (Done e heard air)) ≡ None → Hears peers (filter (λ m. not (m.number == e)) marks)
+    (step w (Asked (Done e heard air))).world
 unfolding outcome_of outcome_where_open
-ended_hears peers marks w e heard reached h fine = go (exchange w e) refl
+ended_hears peers marks w e heard air reached h fine = go (exchange w e) refl
   where
     go : (o : Option Exchange) → exchange w e ≡ o →
-        Hears peers (filter (λ m. not (m.number == e)) marks) (step w (Asked (Done e heard))).world
+        Hears peers (filter (λ m. not (m.number == e)) marks) (step w (Asked (Done e heard air))).world
     go None none = absurd (cc (sym fine ∙ first_refuses (is_none (exchange w e), NoExchange) _
         (ap is_none none)))
     go (Some x) found =
-        let u : World = (done_outcome w x heard).world in
-        let same : (outcome_of w (Asked (Done e heard))).world ≡ u =
-        ap (λ (o : Option Exchange). (outcome_where_open w o (λ y. done_outcome w y heard)).world) found in
+        let u : World = (done_outcome w x heard air).world in
+        let same : (outcome_of w (Asked (Done e heard air))).world ≡ u =
+        ap (λ (o : Option Exchange). (outcome_where_open w o (λ y. done_outcome w y heard air)).world) found
+        in
         let opened : u.opened ≡ filter (λ y. not (y.number == e)) w.opened =
-        opened_ended w x heard ∙ (ap (λ (n : ℕ). (without_exchange w n).opened) (found_number w e x found)
+        opened_ended air w x heard ∙ (ap (λ (n : ℕ). (without_exchange w n).opened) (found_number w e x found)
         ∙ opened_without w e) in
-        hears_outcome peers marks _ w (Asked (Done e heard)) (lawful_now w reached) fine
-        (subst (Stays w) (sym same) (stays_kept w u (keep_ended w x heard)))
+        hears_outcome peers marks _ w (Asked (Done e heard air)) (lawful_now w reached) fine
+        (subst (Stays w) (sym same) (stays_kept w u (keep_ended air w x heard)))
         (ap (filter (λ m. not (m.number == e))) h.kept
         ∙ (marks_without w.opened e ∙ ap (map mark_of)
         (sym (ap (λ (v : World). v.opened) same ∙ opened)))) h

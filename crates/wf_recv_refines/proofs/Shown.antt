@@ -150,11 +150,11 @@ answered_below : (w : World) (x : Exchange) → IsLawful w → IsOpenIn w x → 
 unfolding answer_outcome with_exchange
 answered_below w x i o h = replaced_below w _ (below_answered w x i o) h
 
-ended_below : (w : World) (x : Exchange) (heard : Bool) → AllBelow w w.opened →
-    AllBelow w (done_outcome w x heard).world.opened
+ended_below : (w : World) (x : Exchange) (heard : Bool) (air : Option ℕ) → AllBelow w w.opened →
+    AllBelow w (done_outcome w x heard air).world.opened
 unfolding without_exchange
-ended_below w x heard h =
-    subst (AllBelow w) (sym (opened_ended w x heard))
+ended_below w x heard air h =
+    subst (AllBelow w) (sym (opened_ended air w x heard))
     (each_filter (KeepsBelow w) (KeepsBelow w) (λ y. not (y.number == x.number)) w.opened (λ y _ p. p) h)
 
 open_below : (P : Exchange → Type 0) (o : Option Exchange) (w : World) (f : Exchange → Outcome) → IfSome o P →
@@ -191,12 +191,12 @@ done_below (Asked (Arrive e n)) w i h =
     (replaced_below w _ (below_arrived w x n f.below) h))
 done_below (Asked (Answer e)) w i h = open_below (IsRead w) (exchange w e) w _ (read w i h e) h
     (λ x f. answered_below w x i f.open_in h)
-done_below (Asked (Done e heard)) w i h = open_below (IsRead w) (exchange w e) w _ (read w i h e) h
-    (λ x f. ended_below w x heard h)
+done_below (Asked (Done e heard air)) w i h = open_below (IsRead w) (exchange w e) w _ (read w i h e) h
+    (λ x f. ended_below w x heard air h)
 done_below (Enqueue s t flow len) w i h = left_below w _ (left_untold (Enqueue s t flow len) w tt) h
 done_below (Asked (Leave s)) w i h = left_below w _ (left_untold (Asked (Leave s)) w tt) h
-done_below (Asked (Rate s mcs mhz short)) w i h =
-    left_below w _ (left_untold (Asked (Rate s mcs mhz short)) w tt) h
+done_below (Asked (Rate s rate)) w i h =
+    left_below w _ (left_untold (Asked (Rate s rate)) w tt) h
 done_below (Asked (Tick by)) w i h = left_below w _ (left_untold (Asked (Tick by)) w tt) h
 done_below (Asked (Sleep s)) w i h = left_below w _ (left_untold (Asked (Sleep s)) w tt) h
 done_below (Asked (Wake s)) w i h = left_below w _ (left_untold (Asked (Wake s)) w tt) h

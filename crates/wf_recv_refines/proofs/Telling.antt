@@ -5,18 +5,19 @@ use Rattle.wf_frame.specs.declared.notes.Ask.TheVariants.{Join, Leave, Rate, Tic
 use Rattle.wf_frame.specs.declared.notes.Note.{Note}
 use Rattle.wf_frame.specs.declared.notes.Note.TheVariants.{Enqueue, Asked}
 use Rattle.wf_frame.specs.declared.notes.Refusal.{Refusal}
-use Rattle.wf_frame.specs.declared.notes.Refusal.TheVariants.{NoExchange, NoAnswer, BadIndex, Answered, Arrived, Nothing}
+use Rattle.wf_frame.specs.declared.notes.Refusal.TheVariants.{NoExchange, NoAnswer, BadAir, BadIndex, Answered, Arrived, Nothing}
 use Rattle.wf_frame.specs.declared.notes.ReplyNote.TheVariants.{Refused}
 use Rattle.wf_def_lists.specs.Table.{has}
 use Rattle.wf_def_agreement.specs.Receiver.{Score}
 use Rattle.wf_def_world.specs.World.{World, Exchange, exchange}
 use Rattle.wf_def_world.specs.Exchanges.{transmissions, picked_station, after_pick}
-use Rattle.wf_def_world.specs.Refusals.{first_refusal, exchange_has, refusal}
+use Rattle.wf_def_world.specs.Refusals.{first_refusal, exchange_has, refusal, is_bad_air}
 use Rattle.wf_def_world.specs.Step.{Outcome, join_outcome, leave_outcome, rate_outcome, tick_outcome, enqueue_outcome, send_outcome, pull_outcome_for, pull_outcome, arrive_outcome, answer_outcome, done_outcome, outcome_where_open, sleep_outcome, wake_outcome, poll_outcome, rx_outcome, reap_outcome, outcome_of, judged_outcome, step}
 use Rattle.wf_send_exchanges.specs.declared.marks.Mark.{Mark}
 use Rattle.wf_recv_peer.specs.Agreements.{PeerValue}
 use Rattle.wf_recv_refines.specs.Hearing.{kept_of, mark_of, Hears}
 use Rattle.wf_recv_refines.specs.Refusing.{mark_in, arrive_refusal, answer_refusal, done_refusal}
+use Rattle.wf_frame.specs.declared.settings.Config.{Config}
 
 -- ---- the mark of an exchange
 
@@ -82,19 +83,19 @@ pub answer_told : (peers : List PeerValue) (marks : List Mark) (w : World) (e : 
 answer_told peers marks w e h = answer_rows (exchange w e)
     ∙ ap answer_refusal (sym (mark_told peers marks w e h))
 
-done_rows : (o : Option Exchange) (heard : Bool) →
-    first_refusal ((is_none o, NoExchange) ∷ (heard && exchange_has o (λ x. is_none x.answer), NoAnswer) ∷ [])
-    ≡ done_refusal (option_map mark_of o) heard
+done_rows : (o : Option Exchange) (config : Config) (heard : Bool) (air : Option ℕ) →
+    first_refusal ((is_none o, NoExchange) ∷ (heard && exchange_has o (λ x. is_none x.answer), NoAnswer)
+    ∷ (is_bad_air config air, BadAir) ∷ []) ≡ done_refusal config (option_map mark_of o) heard air
 unfolding first_refusal
-done_rows None heard = refl
-done_rows (Some x) heard = ap (λ (b : Bool). if heard && b then Some NoAnswer else None)
-    (sym (none_kept x.answer))
+done_rows None config heard air = refl
+done_rows (Some x) config heard air = ap (λ (b : Bool). if heard && b then Some NoAnswer
+    else (if is_bad_air config air then Some BadAir else None)) (sym (none_kept x.answer))
 
-pub done_told : (peers : List PeerValue) (marks : List Mark) (w : World) (e : ℕ) (heard : Bool) →
-    Hears peers marks w →
-    refusal w (Asked (Done e heard)) ≡ done_refusal (mark_in marks e) heard
-done_told peers marks w e heard h = done_rows (exchange w e) heard
-    ∙ ap (λ (m : Option Mark). done_refusal m heard) (sym (mark_told peers marks w e h))
+pub done_told : (peers : List PeerValue) (marks : List Mark) (w : World) (e : ℕ) (heard : Bool)
+    (air : Option ℕ) → Hears peers marks w →
+    refusal w (Asked (Done e heard air)) ≡ done_refusal w.config (mark_in marks e) heard air
+done_told peers marks w e heard air h = done_rows (exchange w e) w.config heard air
+    ∙ ap (λ (m : Option Mark). done_refusal w.config m heard air) (sym (mark_told peers marks w e h))
 
 -- ---- replies
 
@@ -126,12 +127,12 @@ unfolding outcome_of enqueue_outcome join_outcome leave_outcome rate_outcome tic
 never_refused (Enqueue s t flow len) w r h = cc h
 never_refused (Asked (Join s window start exponent weight)) w r h = cc h
 never_refused (Asked (Leave s)) w r h = cc h
-never_refused (Asked (Rate s mcs mhz short)) w r h = cc h
+never_refused (Asked (Rate s rate)) w r h = cc h
 never_refused (Asked (Tick by)) w r h = cc h
 never_refused (Asked (Pull c)) w r h = never_pulled w c r h
 never_refused (Asked (Arrive e n)) w r h = never_open (exchange w e) w _ r (λ x k. cc k) h
 never_refused (Asked (Answer e)) w r h = never_open (exchange w e) w _ r (λ x k. cc k) h
-never_refused (Asked (Done e heard)) w r h = never_open (exchange w e) w _ r (λ x k. cc k) h
+never_refused (Asked (Done e heard air)) w r h = never_open (exchange w e) w _ r (λ x k. cc k) h
 never_refused (Asked (Sleep s)) w r h = cc h
 never_refused (Asked (Wake s)) w r h = cc h
 never_refused (Asked (Poll s)) w r h = cc h

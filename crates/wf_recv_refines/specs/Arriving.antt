@@ -55,5 +55,5 @@ IsUntold (Asked (Join s window start exponent weight)) = ⊥
 IsUntold (Asked (Pull c)) = ⊥
 IsUntold (Asked (Arrive e i)) = ⊥
 IsUntold (Asked (Answer e)) = ⊥
-IsUntold (Asked (Done e heard)) = ⊥
+IsUntold (Asked (Done e heard air)) = ⊥
 IsUntold note = Unit {0}

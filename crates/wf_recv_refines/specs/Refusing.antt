@@ -1,9 +1,11 @@
 -- Why an Arrive, an Answer or a Done is refused, by the mark of the exchange, where it is open.
 use Rattle.std.specs.Prelude.{ℕ, nat_le, ◌==◌, ◌&&◌, Bool, List, find, length, Option, Some, None, is_some, is_none, if◌then◌else◌}
 use Rattle.wf_frame.specs.declared.notes.Refusal.{Refusal}
-use Rattle.wf_frame.specs.declared.notes.Refusal.TheVariants.{NoExchange, NoAnswer, BadIndex, Answered, Arrived, Nothing}
+use Rattle.wf_frame.specs.declared.notes.Refusal.TheVariants.{NoExchange, NoAnswer, BadAir, BadIndex, Answered, Arrived, Nothing}
 use Rattle.wf_def_lists.specs.Table.{has}
 use Rattle.wf_send_exchanges.specs.declared.marks.Mark.{Mark}
+use Rattle.wf_frame.specs.declared.settings.Config.{Config}
+use Rattle.wf_def_world.specs.Refusals.{is_bad_air}
 
 -- the mark of the open exchange of a number
 abbrev pub mark_in : List Mark → ℕ → Option Mark
@@ -22,7 +24,9 @@ answer_refusal None = Some NoExchange
 answer_refusal (Some m) = if is_some m.answer then Some Answered
     else (if length m.arrived == 0 then Some Nothing else None)
 
--- a Done, heard or not
-abbrev pub done_refusal : Option Mark → Bool → Option Refusal
-done_refusal None heard = Some NoExchange
-done_refusal (Some m) heard = if heard && is_none m.answer then Some NoAnswer else None
+-- a Done, heard or not, that names this airtime or none
+abbrev pub done_refusal : Config → Option Mark → Bool → Option ℕ → Option Refusal
+done_refusal config None heard air = Some NoExchange
+done_refusal config (Some m) heard air =
+    if heard && is_none m.answer then Some NoAnswer
+    else (if is_bad_air config air then Some BadAir else None)

@@ -7,7 +7,7 @@
 //! without a body that names it in its contract.
 #![tactic(auto)]
 
-ghost use Rattle.std.specs.Prelude.{◌≡◌, ◌<◌, ◌≤◌, ℕ, ◌==◌, not, ◌++◌, Bool, List, [], ◌∷◌, Some, None, IfSome, option_map, filter, length, nat_lt, All};
+ghost use Rattle.std.specs.Prelude.{◌≡◌, ◌<◌, ◌≤◌, ℕ, ◌==◌, not, ◌++◌, Bool, List, [], ◌∷◌, Some, None, IfSome, option_map, filter, length, nat_lt, All, Option};
 ghost use Rattle.wf_frame.specs.declared.classes.Class.{Class};
 ghost use Rattle.wf_frame.specs.declared.notes.Ask.TheVariants.{Join, Pull, Arrive, Answer, Done};
 ghost use Rattle.wf_frame.specs.declared.notes.Note.{Note};
@@ -87,10 +87,11 @@ pub fn an_exchange_opens()
 
 /// An exchange ends: its mark goes.
 pub fn an_exchange_ends()
-    ensures { (peers : List PeerValue) (marks : List Mark) (w : World) (e : ℕ) (heard : Bool) → IsReached w →
+    ensures { (peers : List PeerValue) (marks : List Mark) (w : World) (e : ℕ) (heard : Bool)
+        (air : Option ℕ) → IsReached w →
         Hears peers marks w →
-        refusal w (Asked (Done e heard)) ≡ None →
-        Hears peers (filter (λ m. not (m.number == e)) marks) (step w (Asked (Done e heard))).world }
+        refusal w (Asked (Done e heard air)) ≡ None →
+        Hears peers (filter (λ m. not (m.number == e)) marks) (step w (Asked (Done e heard air))).world }
 {}
 
 /// Transmission i of an open exchange reaches its station, within the reach of its receiver. The agreement of
@@ -139,7 +140,8 @@ pub fn an_answer_is_made()
 {}
 
 /// The marks tell which exchanges are open, and so why an Arrive, an Answer or a Done is refused, if it is.
-/// An Arrive goes also by how many transmissions the exchange is made of, where it is open.
+/// An Arrive goes also by how many transmissions the exchange is made of, where it is open, and a Done by the
+/// airtime that it names.
 pub fn the_marks_tell()
     ensures mark { (peers : List PeerValue) (marks : List Mark) (w : World) (e : ℕ) → Hears peers marks w →
         mark_in marks e ≡ option_map mark_of (exchange w e) }
@@ -149,9 +151,9 @@ pub fn the_marks_tell()
         refusal w (Asked (Arrive e i)) ≡ arrive_refusal (mark_in marks e) count i }
     ensures answer { (peers : List PeerValue) (marks : List Mark) (w : World) (e : ℕ) → Hears peers marks w →
         refusal w (Asked (Answer e)) ≡ answer_refusal (mark_in marks e) }
-    ensures done { (peers : List PeerValue) (marks : List Mark) (w : World) (e : ℕ) (heard : Bool) →
-        Hears peers marks w →
-        refusal w (Asked (Done e heard)) ≡ done_refusal (mark_in marks e) heard }
+    ensures done { (peers : List PeerValue) (marks : List Mark) (w : World) (e : ℕ) (heard : Bool)
+        (air : Option ℕ) → Hears peers marks w →
+        refusal w (Asked (Done e heard air)) ≡ done_refusal w.config (mark_in marks e) heard air }
 {}
 
 /// What is kept of an answer shows of each number of its exchange what the answer does: none of its offsets

@@ -5,15 +5,15 @@ use Rattle.wf_trace.specs.Reading.{reading}
 use Rattle.wf_run_frames.specs.Packets.{most_octets_read}
 use Rattle.wf_run_frames.specs.Law.{IsListed, capture_of_packets}
 use Rattle.wf_run_frames.proofs.Captures.{written_law}
+use Rattle.wf_captures.specs.Captures.{most_calls_timed}
 use Rattle.wf_captures.proofs.Listed.{run_listed}
 use Rattle.wf_law_trace.specs.Histories.{settings_among, history_among}
-use Rattle.wf_law_trace.proofs.Few.{few_calls}
 use Rattle.wf_law_trace.proofs.Ranges.{reading_in, trace_laws}
 use Rattle.wf_run_capture.specs.Captured.{packets_with}
 use Rattle.wf_run_capture.specs.Outcome.{CaptureLaw}
 
 abbrev IsListedWith : Option Config → List ℕ → Type 0
-IsListedWith config input =
+IsListedWith config input = length (history_among (reading true input).items) ≤ most_calls_timed →
     length (capture_of_packets (packets_with config (history_among (reading true input).items)))
     ≤ most_octets_read → IsListed (packets_with config (history_among (reading true input).items))
 
@@ -22,8 +22,8 @@ capture_law input = of (settings_among (reading true input).items) refl
   where
     of : (config : Option Config) → settings_among (reading true input).items ≡ config →
         IsListedWith (settings_among (reading true input).items) input
-    of None none = subst (λ (o : Option Config). IsListedWith o input) (sym none) (written_law [] tt)
+    of None none = subst (λ (o : Option Config). IsListedWith o input) (sym none) (λ timed. written_law [] tt)
     of (Some config) is =
         subst (λ (o : Option Config). IsListedWith o input) (sym is)
         (run_listed config (history_among (reading true input).items) (reading_in true input config is)
-        ((trace_laws true input config is).1) (few_calls true input config is))
+        ((trace_laws true input config is).1))

@@ -4,7 +4,9 @@ use Rattle.wf_trace.specs.Reading.{reading}
 use Rattle.wf_io.specs.declared.status.Status.{Status}
 use Rattle.wf_run_frames.specs.Packets.{most_octets_read}
 use Rattle.wf_run_frames.specs.Law.{IsListed}
+use Rattle.wf_law_trace.specs.Histories.{history_among}
 use Rattle.wf_law_trace.specs.Outcomes.{TraceOutcome}
+use Rattle.wf_captures.specs.Captures.{most_calls_timed}
 use Rattle.wf_run_capture.specs.Captured.{packets_captured, captured}
 
 -- By the octets of the input, those of them that were taken, and those that were written: the capture of the
@@ -12,8 +14,9 @@ use Rattle.wf_run_capture.specs.Captured.{packets_captured, captured}
 abbrev pub CaptureOutcome : Status → List ℕ → List ℕ → List ℕ → Type 0
 CaptureOutcome status input taken written = TraceOutcome captured captured status input taken written
 
--- the law of `frames` over it: a capture that is not too big lists each of its packets in order, with its
--- fields, and no fault
+-- the law of `frames` over it: a capture that is not too big, of calls that end before a packet's seconds
+-- begin anew, lists each of its packets in order, with its fields, and no fault
 abbrev pub CaptureLaw : List ℕ → Type 0
-CaptureLaw input = length (captured (reading true input)) ≤ most_octets_read →
+CaptureLaw input = length (history_among (reading true input).items) ≤ most_calls_timed →
+    length (captured (reading true input)) ≤ most_octets_read →
     IsListed (packets_captured (reading true input))

@@ -9,9 +9,9 @@ ghost use Rattle.wf_run_live.specs.Sitting.{HasMade, left_of};
 
 use std::alloc::Global;
 use std::sync::Wait;
-use wf_cell::{Answered, Asking, Cell};
 use wf_frame::Answer;
 use wf_gate::{Gate, Seat, TryFault, Turnstile};
+use wf_record::{Answered, Asking, Record};
 
 /// The answer's box comes back: with the answer, or as it was where the seat was spent.
 pub(crate) type Back = Result<Box<Answer, Global>, Box<Answer, Global>>;
@@ -35,9 +35,9 @@ fn answer_back(asking: Asking) -> Box<Answer, Global> {
 /// A call at the gate, between the two calls of the turnstile. It may wait for other seats.
 pub(crate) fn call_at<R: Wait, T: Turnstile>(
     rt: &R,
-    gate: &Gate<Cell>,
+    gate: &Gate<Record>,
     turnstile: &T,
-    seat: &mut Seat<Cell>,
+    seat: &mut Seat<Record>,
     asking: Asking,
 ) -> Back
     requires own { IsOf gate.now seat.old }
@@ -60,9 +60,9 @@ pub(crate) fn call_at<R: Wait, T: Turnstile>(
 /// The same by a try, and by a call that may wait where the try found others at the gate.
 pub(crate) fn call_at_once<R: Wait, T: Turnstile>(
     rt: &R,
-    gate: &Gate<Cell>,
+    gate: &Gate<Record>,
     turnstile: &T,
-    seat: &mut Seat<Cell>,
+    seat: &mut Seat<Record>,
     asking: Asking,
 ) -> Back
     requires own { IsOf gate.now seat.old }

@@ -1,4 +1,4 @@
-//! The cell, once the workers are done.
+//! The record of the calls, once the workers are done.
 
 ghost use Rattle.std.specs.Prelude.{◌≡◌, ◌≤◌, ℕ, All, IfOk};
 ghost use Rattle.wf_frame.specs.Settings.{standard};
@@ -11,11 +11,11 @@ use crate::lives::live;
 use std::alloc::{AllocError, Global};
 use std::sync::Wait;
 use std::thread::Threads;
-use wf_cell::Cell;
 use wf_gate::{Gate, Seat, Turnstile};
+use wf_record::Record;
 
-// The cell, once all workers have given their seats back.
-fn close(gate: Gate<Cell>, seats: Vec<Seat<Cell>>) -> Cell
+// The record, once all workers have given their seats back.
+fn close(gate: Gate<Record>, seats: Vec<Seat<Record>>) -> Record
     requires own { All (IsOf gate) seats.items }
     requires all { AreAll gate seats.items }
     ensures config { (senders : ℕ) → gate.opening.machine.past
@@ -32,8 +32,8 @@ fn close(gate: Gate<Cell>, seats: Vec<Seat<Cell>>) -> Cell
     cell
 }
 
-/// The cell, after so many senders, 1 to 8, each with so many frames, 1 to 10,000, and four drivers were run
-/// at one gate before it. Fails only for want of memory.
+/// The record, after so many senders, 1 to 8, each with so many frames, 1 to 10,000, and four drivers were
+/// run at one gate before it. Fails only for want of memory.
 pub(crate) fn run<R: Threads + Wait + Sync, T: Turnstile + Sync>(
     rt: &R,
     alloc: Global,
@@ -41,7 +41,7 @@ pub(crate) fn run<R: Threads + Wait + Sync, T: Turnstile + Sync>(
     senders: u32,
     frames: u32,
     turnstile: &T,
-) -> Result<Cell, AllocError>
+) -> Result<Record, AllocError>
     requires senders { (1 ≤ senders) × (senders ≤ 8) }
     requires frames { (1 ≤ frames) × (frames ≤ 10000) }
     ensures config { IfOk result (λ cell. cell.past.config ≡ standard) }

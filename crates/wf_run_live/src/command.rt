@@ -11,12 +11,12 @@ use crate::history::write_history;
 use std::alloc::Global;
 use std::sync::Wait;
 use std::thread::Threads;
-use wf_cell::Cell;
 use wf_gate::Turnstile;
 use wf_io::{Sink, Status};
+use wf_record::Record;
 
 // Writes the trace and the summary of what the workers did.
-fn tell<K: Sink>(cell: &Cell, sink: &mut K) -> Status
+fn tell<K: Sink>(cell: &Record, sink: &mut K) -> Status
     requires standard { cell.now.past.config ≡ standard }
     requires live { (seed senders frames : ℕ) × (senders ≤ 8) ×
         IsLiveHistory seed senders frames cell.now.past.history }

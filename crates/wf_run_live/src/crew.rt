@@ -10,8 +10,8 @@ use std::alloc::{AllocError, Global};
 use std::sync::Wait;
 use std::thread;
 use std::thread::Threads;
-use wf_cell::Cell;
 use wf_gate::{Gate, Seat, Turnstile};
+use wf_record::Record;
 
 // All values, where there is no error among them.
 pub(crate) fn all_of<V: Drop>(
@@ -31,11 +31,11 @@ pub(crate) fn all_of<V: Drop>(
 fn run_all<R: Threads + Wait + Sync, T: Turnstile + Sync>(
     rt: &R,
     alloc: Global,
-    gate: &Gate<Cell>,
+    gate: &Gate<Record>,
     turnstile: &T,
-    seats: Vec<Seat<Cell>>,
+    seats: Vec<Seat<Record>>,
     plan: Plan,
-) -> Result<Vec<Result<Seat<Cell>, AllocError>>, AllocError>
+) -> Result<Vec<Result<Seat<Record>, AllocError>>, AllocError>
     requires ready { All (IsReady gate.now plan.senders plan.frames) seats.items }
     ensures count { IfOk result (λ back. length back.items ≡ length seats.items) }
     ensures each { IfOk result
@@ -57,12 +57,12 @@ fn run_all<R: Threads + Wait + Sync, T: Turnstile + Sync>(
 pub fn work<R: Threads + Wait + Sync, T: Turnstile + Sync>(
     rt: &R,
     alloc: Global,
-    gate: &Gate<Cell>,
-    seats: Vec<Seat<Cell>>,
+    gate: &Gate<Record>,
+    seats: Vec<Seat<Record>>,
     seed: u64,
     frames: u32,
     turnstile: &T,
-) -> Result<Vec<Seat<Cell>>, AllocError>
+) -> Result<Vec<Seat<Record>>, AllocError>
     requires seats { EachIndex gate.now.opening.quotas
         (λ k. slice_get seats.items k ≡ Some (new_seat gate.now k)) }
     requires count { length seats.items ≡ length gate.now.opening.quotas }

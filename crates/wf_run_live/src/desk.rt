@@ -9,19 +9,19 @@ ghost use Rattle.wf_run_live.specs.Sitting.{HasMade, HasMadeAndLooked, left_of, 
 use crate::calls::{Back, call_at, call_at_once};
 use std::alloc::Global;
 use std::sync::Wait;
-use wf_cell::{Asking, Cell, Job};
 use wf_frame::{Answer, Ask};
 use wf_gate::{Gate, Seat, Turnstile};
 use wf_live_workers::{Desk, Spent};
 use wf_queue_chain::Parcel;
+use wf_record::{Asking, Job, Record};
 
 /// Where one worker sits: its seat at a gate, and the answer that goes in with each call and comes back.
 #[derive(Drop)]
 pub(crate) struct GateDesk<'a, R, T> {
     pub(crate) rt: &'a R,
-    pub(crate) gate: &'a Gate<Cell>,
+    pub(crate) gate: &'a Gate<Record>,
     pub(crate) turnstile: &'a T,
-    pub(crate) seat: Seat<Cell>,
+    pub(crate) seat: Seat<Record>,
     pub(crate) answer: Option<Box<Answer, Global>>,
     ghost own: { IsOf gate.now seat },
     ghost ready: { is_some answer ≡ true },
@@ -82,7 +82,7 @@ impl<'a, R: Wait, T: Turnstile> GateDesk<'a, R, T> {
 
 impl<'a, R: Wait, T: Turnstile> Desk for GateDesk<'a, R, T> {
     // The gate, and the number of the seat.
-    type Place = (Gate<Cell>, u32);
+    type Place = (Gate<Record>, u32);
 
     ghost has = { λ desk place made. HasMadeAndLooked desk.seat place made };
 

@@ -1,24 +1,26 @@
-//! The history of a cell, as it is written.
+//! The history of a record, as it is written.
 
-ghost use Rattle.std.specs.Prelude.{◌≡◌, OnOk};
+ghost use Rattle.std.specs.Prelude.{◌≡◌, OnOk, length};
 ghost use Rattle.std.specs.Io.KnownBytes.{append_known};
 ghost use Rattle.wf_frame.specs.Settings.{standard};
+ghost use Rattle.wf_def_world.specs.Run.{world_of};
+ghost use Rattle.wf_def_world.specs.Text.{summary as summary_of};
 ghost use Rattle.wf_io.specs.Faults.{CountsFaults};
 ghost use Rattle.wf_io.specs.Fronts.{HoldsFront};
 ghost use Rattle.wf_history.specs.Traces.{ArePrintable, CanBeNamed};
 ghost use Rattle.wf_run_live.specs.Lives.{live_text};
 
 use std::marker::Model;
-use wf_cell::Cell;
 use wf_frame::Note;
 use wf_history::{Entries, write_trace};
 use wf_io::{Failed, Sink};
+use wf_record::Record;
 use wf_report::summary;
 
-/// The history that a cell keeps.
+/// The history that a record keeps.
 #[derive(Drop)]
 pub(crate) struct Kept<'a> {
-    cell: &'a Cell,
+    cell: &'a Record,
 }
 
 impl<'a> Model for Kept<'a> {
@@ -42,9 +44,9 @@ impl<'a> Entries for Kept<'a> {
     }
 }
 
-/// Writes the trace and the summary of a cell's history. After a fault some octets from the front have been
+/// Writes the trace and the summary of a record's history. After a fault some octets from the front have been
 /// written.
-pub(crate) fn write_history<K: Sink>(cell: &Cell, sink: &mut K) -> Result<(), Failed>
+pub(crate) fn write_history<K: Sink>(cell: &Record, sink: &mut K) -> Result<(), Failed>
     requires standard { cell.now.past.config ≡ standard }
     requires printable { ArePrintable cell.now.past.history }
     ensures written { OnOk result (K.held sink.new
@@ -54,5 +56,16 @@ pub(crate) fn write_history<K: Sink>(cell: &Cell, sink: &mut K) -> Result<(), Fa
     ensures cause { CountsFaults (K.faults sink.old) (K.faults sink.new) result }
 {
     write_trace(&Kept { cell }, sink)?;
-    summary(cell, sink)
+    write_summary(cell, sink)
+}
+
+// Writes the summary of a record's cell.
+fn write_summary<K: Sink>(cell: &Record, sink: &mut K) -> Result<(), Failed>
+    ensures written { OnOk result (K.held sink.new ≡ append_known (K.held sink.old)
+        (summary_of (world_of cell.now.past) (length cell.now.past.history))) }
+    ensures front { HoldsFront (K.held sink.old) (K.held sink.new)
+        (summary_of (world_of cell.now.past) (length cell.now.past.history)) }
+    ensures cause { CountsFaults (K.faults sink.old) (K.faults sink.new) result }
+{
+    summary(cell.cell(), sink)
 }

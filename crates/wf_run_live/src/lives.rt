@@ -1,4 +1,4 @@
-//! The workers at the gate before a new cell.
+//! The workers at the gate before a new record.
 
 ghost use Rattle.std.specs.Prelude.{◌≡◌, ◌≤◌, ◌+◌, map, length, All, EachIndex, slice_get, Some, Ok, IfOk};
 ghost use Rattle.wf_frame.specs.Settings.{standard};
@@ -12,15 +12,15 @@ use crate::work;
 use std::alloc::{AllocError, Global};
 use std::sync::Wait;
 use std::thread::Threads;
-use wf_cell::Cell;
 use wf_gate::{Gate, Seat, Turnstile};
+use wf_record::Record;
 
-// The gate before a cell to which the opening calls were made, and all its seats.
+// The gate before a record to which the opening calls were made, and all its seats.
 fn open_gate(
     alloc: Global,
     senders: u32,
     frames: u32,
-) -> Result<(Gate<Cell>, Vec<Seat<Cell>>), AllocError>
+) -> Result<(Gate<Record>, Vec<Seat<Record>>), AllocError>
     requires { (1 ≤ senders) × (senders ≤ 8) × (frames ≤ 10000) }
     ensures opening { IfOk result (λ r. r.0.opening.machine.past
         ≡ record { config = standard; history = opening_calls senders }) }
@@ -45,9 +45,9 @@ fn with_seats<G: Drop, S>(gate: G, seats: Result<S, AllocError>) -> Result<(G, S
 }
 
 /// Runs so many senders, 1 to 8, each with so many frames, 1 to 10,000, and four drivers at one gate before
-/// one cell: the gate, and all its seats in their order. The cell has the standard settings and the opening
-/// calls when the gate is made. Round each call at the gate the turnstile is called. Fails only for want of
-/// memory; then gate and seats are dropped.
+/// one record: the gate, and all its seats in their order. The record has the standard settings and the
+/// opening calls when the gate is made. Round each call at the gate the turnstile is called. Fails only for
+/// want of memory; then gate and seats are dropped.
 pub fn live<R: Threads + Wait + Sync, T: Turnstile + Sync>(
     rt: &R,
     alloc: Global,
@@ -55,7 +55,7 @@ pub fn live<R: Threads + Wait + Sync, T: Turnstile + Sync>(
     senders: u32,
     frames: u32,
     turnstile: &T,
-) -> Result<(Gate<Cell>, Vec<Seat<Cell>>), AllocError>
+) -> Result<(Gate<Record>, Vec<Seat<Record>>), AllocError>
     requires senders { (1 ≤ senders) × (senders ≤ 8) }
     requires frames { (1 ≤ frames) × (frames ≤ 10000) }
 

@@ -1,4 +1,4 @@
-//! The cell before the gate is made, and the quotas of the seats.
+//! The record before the gate is made, and the quotas of the seats.
 
 ghost use Rattle.std.specs.Prelude.{◌≡◌, ◌+◌, ◌∷◌, ◌≤◌, ◌<◌, [], length, IfOk};
 ghost use Rattle.wf_frame.specs.Settings.{standard};
@@ -9,17 +9,17 @@ ghost use Rattle.wf_run_live.specs.Crew.{quotas_of};
 
 use std::alloc::{AllocError, Global};
 use std::marker::Model;
-use wf_cell::{Cell, Job};
 use wf_frame::{Answer, Ask, Config};
 use wf_live_workers::{Opens, open_stations};
+use wf_record::{Job, Record};
 
 // How many calls each of the four drivers may make.
 const DRIVER_QUOTA: u32 = 150_000;
 
-/// A cell to which the opening calls are made.
+/// A record to which the opening calls are made.
 #[derive(Drop)]
 pub(crate) struct Opened {
-    cell: Cell,
+    cell: Record,
 }
 
 impl Model for Opened {
@@ -47,7 +47,7 @@ impl Opened {
     fn new(alloc: Global) -> Result<Opened, AllocError>
         ensures { IfOk result (λ o. o ≡ record { config = standard; history = [] }) }
     {
-        let cell = Cell::of(alloc, Config::standard())?;
+        let cell = Record::of(alloc, Config::standard())?;
         Ok(Opened { cell })
     }
 
@@ -61,8 +61,8 @@ impl Opened {
         Ok(opened)
     }
 
-    /// The cell.
-    pub(crate) fn into_cell(self) -> Cell
+    /// The record.
+    pub(crate) fn into_cell(self) -> Record
         ensures { result.past ≡ self }
     {
         self.cell

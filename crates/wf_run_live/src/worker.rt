@@ -8,10 +8,10 @@ ghost use Rattle.wf_run_live.specs.Sitting.{IsReady, HasWorked};
 use crate::desk::GateDesk;
 use std::alloc::{AllocError, Global};
 use std::sync::Wait;
-use wf_cell::Cell;
 use wf_frame::{Answer, Class};
 use wf_gate::{Gate, Seat, Turnstile};
 use wf_live_workers::{drive, send};
+use wf_record::Record;
 
 /// How many drivers there are, one for each class.
 pub(crate) const DRIVERS: u32 = 4;
@@ -43,9 +43,9 @@ impl<'a, R: Wait, T: Turnstile> GateDesk<'a, R, T> {
     fn new(
         rt: &'a R,
         alloc: Global,
-        gate: &'a Gate<Cell>,
+        gate: &'a Gate<Record>,
         turnstile: &'a T,
-        seat: Seat<Cell>,
+        seat: Seat<Record>,
     ) -> Result<GateDesk<'a, R, T>, AllocError>
         requires own { IsOf gate.now seat }
         ensures seat { IfOk result (λ desk. desk.seat ≡ seat) }
@@ -84,11 +84,11 @@ fn make_calls<R: Wait, T: Turnstile>(
 pub(crate) fn run_worker<R: Wait, T: Turnstile>(
     rt: &R,
     alloc: Global,
-    gate: &Gate<Cell>,
+    gate: &Gate<Record>,
     turnstile: &T,
-    seat: Seat<Cell>,
+    seat: Seat<Record>,
     plan: Plan,
-) -> Result<Seat<Cell>, AllocError>
+) -> Result<Seat<Record>, AllocError>
     requires { IsReady gate.now plan.senders plan.frames seat }
     ensures { IfOk result (HasWorked gate.now plan.seed plan.senders plan.frames seat) }
 {

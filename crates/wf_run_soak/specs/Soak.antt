@@ -101,7 +101,7 @@ after_answer_if answered e k = if answered then call (Asked (Answer e)) k else k
 
 -- an exchange is heard where it was answered, but for one word in twenty
 abbrev pub exchange_ended : Bool → ℕ → Soak → Soak
-exchange_ended answered e k = call (Asked (Done e (answered && not (word k % 20 == 0)))) (drawn k)
+exchange_ended answered e k = call (Asked (Done e (answered && not (word k % 20 == 0)) None)) (drawn k)
 
 abbrev pub transmissions_in : Part → ℕ
 transmissions_in (Mpdus pairs) = length pairs

@@ -220,7 +220,14 @@ impl SoakRun {
     {
         let word = self.draw();
         let heard = answered && word % 20 != 0;
-        self.ask(Ask::Done { exchange, heard }, answer);
+        self.ask(
+            Ask::Done {
+                exchange,
+                heard,
+                air: None,
+            },
+            answer,
+        );
     }
 
     #[tactic(auto, unfolding(crate::specs::Soak::exchange_played))]

@@ -38,11 +38,13 @@ picked_stands : (v u : SchedValue) (w : World) (c : Class) → SchedulerStandsFo
     HasPickedInClass w c v u → SchedulerStandsFor u (after_pick w c)
 picked_stands v u w c h k = pick_stands v u w c k.ready h k.tells k.turned k.others
 
-ended_stands : (o : Option Exchange) (v : SchedValue) (w : World) (heard : Bool) → SchedulerStandsFor v w →
-    SchedulerStandsFor (with_charge_of v o) (outcome_where_open w o (λ x. done_outcome w x heard)).world
+ended_stands : (o : Option Exchange) (v : SchedValue) (w : World) (heard : Bool) (air : Option ℕ) →
+    SchedulerStandsFor v w →
+    SchedulerStandsFor (with_charge_of v air o)
+    (outcome_where_open w o (λ x. done_outcome w x heard air)).world
 unfolding outcome_where_open
-ended_stands None v w heard h = h
-ended_stands (Some x) v w heard h = end_stands v w x heard h
+ended_stands None v w heard air h = h
+ended_stands (Some x) v w heard air h = end_stands v w x heard air h
 
 open_leaves : (o : Option Exchange) (w : World) (f : Exchange → Outcome) →
     ((x : Exchange) → LeavesRotas w (f x).world) → LeavesRotas w (outcome_where_open w o f).world
@@ -65,15 +67,15 @@ done_stands (Asked (Join s window start exponent weight)) v u w rows h k =
     (join_stands v w s window start exponent weight h (leb-false _ _ rows.0))
 done_stands (Asked (Leave s)) v u w rows h k =
     to (everywhere (after_station_left s) v) u _ k (gone_stands v w s h)
-done_stands (Asked (Rate s mcs mhz short)) v u w rows h k = to v u _ k (rate_leaves w s mcs mhz short v h)
+done_stands (Asked (Rate s rate)) v u w rows h k = to v u _ k (rate_leaves w s rate v h)
 done_stands (Asked (Tick by)) v u w rows h k = to v u _ k (tick_leaves w by v h)
 done_stands (Asked (Pull c)) v u w rows h k = pulled_stands v u w c h k
 done_stands (Asked (Arrive e i)) v u w rows h k =
     to v u _ k (open_leaves (exchange w e) w (λ x. arrive_outcome w x i) (λ x. arrived_leaves w x i) v h)
 done_stands (Asked (Answer e)) v u w rows h k =
     to v u _ k (open_leaves (exchange w e) w (λ x. answer_outcome w x) (λ x. answered_leaves w x) v h)
-done_stands (Asked (Done e heard)) v u w rows h k =
-    to (with_charge_of v (exchange w e)) u _ k (ended_stands (exchange w e) v w heard h)
+done_stands (Asked (Done e heard air)) v u w rows h k =
+    to (with_charge_of v air (exchange w e)) u _ k (ended_stands (exchange w e) v w heard air h)
 done_stands (Asked (Sleep s)) v u w rows h k = to v u _ k (slept_leaves w s v h)
 done_stands (Asked (Wake s)) v u w rows h k = to v u _ k (woken_leaves w s v h)
 done_stands (Asked (Poll s)) v u w rows h k = to v u _ k (credited_leaves w s v h)

@@ -1,10 +1,10 @@
 -- A charge leaves a deficit.
-use Rattle.std.proofs.Common.{◌≡◌, refl, ap, sym, ◌∙◌, subst, arith, ℕ, ◌*◌, ◌<◌, ℤ, pos, ◌-ℤ◌, ◌<ℤ◌, int_lt, ◌↔◌, Bool, true, Some, is_some, option_map, inl, inr}
+use Rattle.std.proofs.Common.{◌≡◌, refl, ap, sym, ◌∙◌, subst, arith, ℕ, ◌*◌, ◌<◌, ℤ, pos, ◌-ℤ◌, ◌<ℤ◌, int_lt, ◌↔◌, Bool, true, Option, Some, is_some, option_map, inl, inr}
 use Rattle.wf_frame.specs.declared.classes.Class.{Class}
 use Rattle.wf_frame.specs.declared.notes.ReplyNote.TheVariants.{Charged}
 use Rattle.wf_def_lists.specs.Bounds.{deepest_deficit}
 use Rattle.wf_def_world.specs.World.{World, Share, Exchange, share, is_live}
-use Rattle.wf_def_world.specs.Exchanges.{after_charge}
+use Rattle.wf_def_world.specs.Exchanges.{charge_of, after_charge}
 use Rattle.wf_def_world.specs.Step.{rx_outcome, done_outcome}
 use Rattle.wf_law_runs.proofs.Deficits.Books.{cases_class, updc_same, updc_other, Account, Books, books, with_account, on_part}
 use Rattle.wf_law_runs.proofs.Deficits.BookSteps.{charge_share, receive_share, books_charged, books_received, books_ended, without}
@@ -58,17 +58,19 @@ stands_charged v b c s n g takes h = stands_account v (with_deficit_charged v s 
           ∙ ap (λ (x : Share). x.deficit) (sym (updc_other a.shares c d (g (a.shares c)) other))
     ]
 
-pub charge_stands : (v : SchedValue) (w : World) (x : Exchange) → SchedulerStandsFor v w →
-    SchedulerStandsFor (with_deficit_charged v x.station x.class x.charge) (after_charge w x)
-charge_stands v w x h = with_books _ _ _ (books_charged w x)
-    (stands_charged v (books w) x.class x.station x.charge (charge_share x.charge) (λ y. refl)
-    (to_books v w h))
+pub charge_stands : (v : SchedValue) (w : World) (x : Exchange) (air : Option ℕ) → SchedulerStandsFor v w →
+    SchedulerStandsFor (with_deficit_charged v x.station x.class (charge_of air x)) (after_charge w x air)
+charge_stands v w x air h = with_books _ _ _ (books_charged air w x)
+    (stands_charged v (books w) x.class x.station (charge_of air x) (charge_share (charge_of air x))
+    (λ y. refl) (to_books v w h))
 
-pub end_stands : (v : SchedValue) (w : World) (x : Exchange) (heard : Bool) → SchedulerStandsFor v w →
-    SchedulerStandsFor (with_deficit_charged v x.station x.class x.charge) (done_outcome w x heard).world
-end_stands v w x heard h = with_books _ _ _ (books_ended w x heard)
-    (stands_charged v (without (books w) x.number) x.class x.station x.charge (charge_share x.charge)
-    (λ y. refl) (stands_opened v (books w) _ _ (to_books v w h)))
+pub end_stands : (v : SchedValue) (w : World) (x : Exchange) (heard : Bool) (air : Option ℕ) →
+    SchedulerStandsFor v w →
+    SchedulerStandsFor (with_deficit_charged v x.station x.class (charge_of air x))
+    (done_outcome w x heard air).world
+end_stands v w x heard air h = with_books _ _ _ (books_ended air w x heard)
+    (stands_charged v (without (books w) x.number) x.class x.station (charge_of air x)
+    (charge_share (charge_of air x)) (λ y. refl) (stands_opened v (books w) _ _ (to_books v w h)))
 
 pub receive_stands : (v : SchedValue) (w : World) (s : ℕ) (c : Class) (air : ℕ) → SchedulerStandsFor v w →
     SchedulerStandsFor (with_deficit_charged v s c air) (rx_outcome w s c air).world

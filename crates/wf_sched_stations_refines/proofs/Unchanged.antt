@@ -2,6 +2,7 @@
 use Rattle.std.proofs.Common.{◌≡◌, refl, ap, ap₂, sym, ◌∙◌, subst, ℕ, ◌*◌, ◌<◌, Bool, true, false, if◌then◌else◌, List, [], ◌∷◌, Option, Some, None, is_some, IfSome, option_map, inl, inr}
 use Rattle.wf_frame.specs.declared.classes.Class.{Class}
 use Rattle.wf_frame.specs.declared.classes.Fate.{Fate}
+use Rattle.wf_frame.specs.declared.notes.AskedRate.{AskedRate}
 use Rattle.wf_frame.specs.declared.notes.Note.{Note}
 use Rattle.wf_frame.specs.Classes.{class_number}
 use Rattle.wf_def_lists.specs.Table.{at, put}
@@ -214,10 +215,10 @@ after_done_leaves w x heard (Request start) = session_leaves w _ _ _
 pub enqueued_leaves : (w : World) (s t flow len : ℕ) → LeavesRotas w (enqueue_outcome w s t flow len).world
 enqueued_leaves w s t flow len = leaves_same w _ (books_enqueued w s t flow len)
 
-pub rate_leaves : (w : World) (s mcs mhz : ℕ) (short : Bool) →
-    LeavesRotas w (rate_outcome w s mcs mhz short).world
+pub rate_leaves : (w : World) (s : ℕ) (rate : AskedRate) →
+    LeavesRotas w (rate_outcome w s rate).world
 unfolding rate_outcome
-rate_leaves w s mcs mhz short = station_leaves w s _ (record { weight = λ x. refl; deficits = λ x c. refl })
+rate_leaves w s rate = station_leaves w s _ (record { weight = λ x. refl; deficits = λ x c. refl })
 
 pub tick_leaves : (w : World) (by : ℕ) → LeavesRotas w (tick_outcome w by).world
 unfolding tick_outcome

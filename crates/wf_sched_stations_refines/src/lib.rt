@@ -12,6 +12,7 @@ ghost use Rattle.std.specs.Prelude.{◌≡◌, ◌↔◌, ℕ, ◌*◌, ◌-◌,
 ghost use Rattle.wf_frame.specs.declared.settings.Config.{Config};
 ghost use Rattle.wf_frame.specs.declared.classes.Class.{Class};
 ghost use Rattle.wf_frame.specs.declared.classes.Fate.{Fate};
+ghost use Rattle.wf_frame.specs.declared.notes.AskedRate.{AskedRate};
 ghost use Rattle.wf_frame.specs.declared.notes.Note.{Note};
 ghost use Rattle.wf_frame.specs.declared.notes.ReplyNote.TheVariants.{Charged};
 ghost use Rattle.wf_frame.specs.declared.notes.Refusal.{Refusal};
@@ -24,7 +25,7 @@ ghost use Rattle.wf_def_agreement.specs.Receiver.{Receiver};
 ghost use Rattle.wf_def_world.specs.World.{World, Station, Tid, Queue, Exchange, Content, opening as opening_world, share, rotation, is_live, with_station, on_station, on_tid, on_session, on_receiver, on_queue, with_queues, with_fate, with_frame_finished, with_frames_finished, with_exchange, without_exchange};
 ghost use Rattle.wf_def_world.specs.FlowQueues.{taken_for_tid};
 ghost use Rattle.wf_def_world.specs.CanSend.{is_ready, with_listing_in, with_listings_in, with_listings_of};
-ghost use Rattle.wf_def_world.specs.Exchanges.{Prepared, picked_station, after_pick, after_tid_turn, without_credit, aggregate_of, prepared_exchange, with_exchange_opened, after_charge, after_done};
+ghost use Rattle.wf_def_world.specs.Exchanges.{Prepared, picked_station, after_pick, after_tid_turn, without_credit, aggregate_of, prepared_exchange, with_exchange_opened, charge_of, after_charge, after_done};
 ghost use Rattle.wf_def_world.specs.Refusals.{refusal};
 ghost use Rattle.wf_def_world.specs.Stretches.{world_at};
 ghost use Rattle.wf_def_world.specs.Run.{Entry};
@@ -54,14 +55,16 @@ pub fn a_station()
         IsNowhere v s }
 {}
 
-/// An exchange ends: its charge leaves the deficit of its station in its class. In the worlds of a run no
-/// deficit comes near the ends of 64 bits, whatever 32 bits of airtime it is charged.
+/// An exchange ends: its charge, computed or named, leaves the deficit of its station in its class. In the
+/// worlds of a run no deficit comes near the ends of 64 bits, whatever 32 bits of airtime it is charged.
 pub fn a_charge()
-    ensures charged { (v : SchedValue) (w : World) (x : Exchange) → SchedulerStandsFor v w →
-        SchedulerStandsFor (with_deficit_charged v x.station x.class x.charge) (after_charge w x) }
-    ensures ended { (v : SchedValue) (w : World) (x : Exchange) (heard : Bool) → SchedulerStandsFor v w →
-        SchedulerStandsFor (with_deficit_charged v x.station x.class x.charge)
-        (done_outcome w x heard).world }
+    ensures charged { (v : SchedValue) (w : World) (x : Exchange) (air : Option ℕ) → SchedulerStandsFor v w →
+        SchedulerStandsFor (with_deficit_charged v x.station x.class (charge_of air x))
+        (after_charge w x air) }
+    ensures ended { (v : SchedValue) (w : World) (x : Exchange) (heard : Bool) (air : Option ℕ) →
+        SchedulerStandsFor v w →
+        SchedulerStandsFor (with_deficit_charged v x.station x.class (charge_of air x))
+        (done_outcome w x heard air).world }
     ensures fits { (config : Config) (history : List Entry) (m : ℕ) (v : SchedValue) (s : ℕ) (c : Class)
         (air : ℕ) → IsInRange config →
         SchedulerStandsFor v (world_at config history m) → is_live (world_at config history m) s ≡ true →
@@ -189,8 +192,8 @@ pub fn a_change_of_exchanges()
 /// once a station is picked.
 pub fn a_call_that_leaves_the_turns()
     ensures enqueued { (w : World) (s t flow len : ℕ) → LeavesRotas w (enqueue_outcome w s t flow len).world }
-    ensures rate { (w : World) (s mcs mhz : ℕ) (short : Bool) →
-        LeavesRotas w (rate_outcome w s mcs mhz short).world }
+    ensures rate { (w : World) (s : ℕ) (rate : AskedRate) →
+        LeavesRotas w (rate_outcome w s rate).world }
     ensures ticked { (w : World) (by : ℕ) → LeavesRotas w (tick_outcome w by).world }
     ensures pulled { (w : World) (c : Class) (winner : Option ℕ) →
         LeavesRotas w (pull_outcome_for w c winner).world }

@@ -4,13 +4,15 @@ use Rattle.std.specs.Prelude.{int_lt, ◌<ℤ◌}
 use Rattle.std.proofs.lemmas.Bool.{cases_Bool}
 use Rattle.std.proofs.lemmas.Bool.Decides.{nat_tests}
 use Rattle.wf_frame.specs.declared.classes.Class.{Class}
+use Rattle.wf_frame.specs.declared.notes.AskedRate.{AskedRate}
 use Rattle.wf_frame.specs.declared.notes.Note.TheVariants.{Asked}
 use Rattle.wf_frame.specs.declared.notes.Ask.TheVariants.{Join, Rate as Rates, Tick, Sleep, Wake, Poll, Rx, Reap}
 use Rattle.wf_frame.specs.declared.notes.ReplyNote.TheVariants.{Joined, RateSet, Ticked, Slept, Woken, Credited, Charged, Reaped, Refused}
 use Rattle.wf_frame.specs.declared.notes.Refusal.TheVariants.{Debt, Nothing}
 use Rattle.wf_frame.specs.Frames.{FrameValue}
-use Rattle.wf_def_air.specs.Airtime.{Rate, Ht}
+use Rattle.wf_def_air.specs.Airtime.{Rate}
 use Rattle.wf_def_lists.specs.Bounds.{deepest_deficit}
+use Rattle.wf_def_world.specs.Rates.{rate_asked}
 use Rattle.wf_def_world.specs.World.{World, is_live, share}
 use Rattle.wf_def_world.specs.Refusals.{refusal}
 use Rattle.wf_def_world.specs.Step.{class_to_send}
@@ -65,19 +67,16 @@ module _ (v x : TransmitValue) (same : x ≡ v) (w : World) (bodies : ℕ → Fr
       (record x { clock = x.clock + k }) (Ticked (x.clock + k))) (sym e)
       (tick_meets x w bodies at_x by (sym done))
 
-  pub rate_done : (s mcs mhz : ℕ) (short : Bool) (members : List (Option Member)) (rate : Rate) →
-      rate ≡ Ht mcs mhz short →
-      members ≡ on_member x.members s (with_rate rate) → None ≡ refusal w (Asked (Rates s mcs mhz short)) →
-      Meets w bodies (Asked (Rates s mcs mhz short)) (record x { members = members }) RateSet
-  rate_done s mcs mhz short members rate is e done =
-      met_by (record x {
-        members = on_member x.members s
-            (with_rate (Ht mcs mhz short));
-      })
-      (record x { members = members }) w bodies (Asked (Rates s mcs mhz short)) RateSet
+  pub rate_done : (s : ℕ) (asked : AskedRate) (members : List (Option Member)) (rate : Rate) →
+      rate ≡ rate_asked asked →
+      members ≡ on_member x.members s (with_rate rate) → None ≡ refusal w (Asked (Rates s asked)) →
+      Meets w bodies (Asked (Rates s asked)) (record x { members = members }) RateSet
+  rate_done s asked members rate is e done =
+      met_by (record x { members = on_member x.members s (with_rate (rate_asked asked)) })
+      (record x { members = members }) w bodies (Asked (Rates s asked)) RateSet
       (ap (λ (m : List (Option Member)). record x { members = m })
       (e ∙ ap (λ (r : Rate). on_member x.members s (with_rate r)) is))
-      (rate_meets x w bodies at_x s mcs mhz short (sym done))
+      (rate_meets x w bodies at_x s asked (sym done))
 
   pub sleep_done : (s : ℕ) (sleepers : List Sleeper) (y : TransmitValue) →
       sleepers ≡ with_sleeper x.sleepers s (record (sleeper x.sleepers s) { asleep = true }) →

@@ -1,21 +1,21 @@
 -- A whole Done, from what it does to the parts of the half.
-use Rattle.std.proofs.Common.{◌≡◌, refl, ap, ap₂, sym, ◌∙◌, subst, arith, ℕ, ◌-◌, ◌^◌, ◌<◌, ◌≤◌, ◌==◌, pos, negsuc, ◌-ℤ◌, ◌≤ℤ◌, Bool, true, false, not, List, [], ◌∷◌, length, Option, Some, None, is_none, option_map, if◌then◌else◌}
+use Rattle.std.proofs.Common.{◌≡◌, refl, ap, ap₂, sym, ◌∙◌, subst, arith, ℕ, ◌-◌, ◌^◌, ◌<◌, ◌≤◌, ◌==◌, pos, negsuc, ◌-ℤ◌, ◌≤ℤ◌, Bool, true, false, not, List, [], ◌∷◌, length, Option, Some, None, is_none, option_map, unwrap_or, if◌then◌else◌, is_some, ◌&&◌}
 use Rattle.std.specs.Prelude.{find, filter, IfSome, IfNone}
 use Rattle.wf_frame.specs.declared.notes.Note.TheVariants.{Asked}
 use Rattle.wf_frame.specs.declared.notes.Ask.TheVariants.{Done}
 use Rattle.wf_frame.specs.declared.notes.ReplyNote.{ReplyNote}
 use Rattle.wf_frame.specs.declared.notes.ReplyNote.TheVariants.{Refused}
-use Rattle.wf_frame.specs.declared.notes.Refusal.TheVariants.{NoExchange}
+use Rattle.wf_frame.specs.declared.notes.Refusal.TheVariants.{NoExchange, BadAir}
 use Rattle.wf_frame.specs.declared.settings.Config.{Config}
 use Rattle.wf_frame.specs.Frames.{FrameValue}
 use Rattle.wf_def_agreement.specs.Receiver.{Score, shows}
 use Rattle.wf_def_world.specs.World.{World, Exchange, Mpdu, exchange, is_live, is_wide}
 use Rattle.wf_def_world.specs.CanSend.{is_request}
-use Rattle.wf_def_world.specs.Exchanges.{mpdus_of, is_acked}
-use Rattle.wf_def_world.specs.Refusals.{refusal}
+use Rattle.wf_def_world.specs.Exchanges.{mpdus_of, is_acked, charge_of}
+use Rattle.wf_def_world.specs.Refusals.{refusal, is_bad_air}
 use Rattle.wf_def_world.specs.Step.{done_outcome}
 use Rattle.wf_law_runs.specs.Windows.{EachMpdu, EachOpen}
-use Rattle.wf_law_runs.specs.Numbers.{greatest_charge}
+use Rattle.wf_law_runs.specs.Numbers.{greatest_computed}
 use Rattle.wf_law_runs.proofs.Deficits.Numbers.{number_law}
 use Rattle.wf_send_exchanges.specs.declared.opened.Open.{Open}
 use Rattle.wf_send_stations.specs.declared.members.Member.{Member}
@@ -33,9 +33,11 @@ use Rattle.wf_send_half_refines.proofs.Endings.{found, open_live}
 use Rattle.wf_send_half_refines.proofs.Meets.{refused_meets}
 use Rattle.wf_send_half_refines.proofs.Reached.{now_is, by_law}
 use Rattle.wf_send_half_refines.proofs.Readers.{exchange_same}
-use Rattle.wf_send_half.specs.Bits.{is_shown, AreShown, NoneIsShown, GoesBy, IsClosed, IsChargeSmall, ended_reply}
+use Rattle.wf_send_half.specs.Bits.{is_shown, AreShown, NoneIsShown, GoesBy, IsClosed, IsChargeSmall, has_bad_air, end_refusal, ended_reply}
 use Rattle.wf_send_half.specs.Half.{HasWorld}
 use Rattle.wf_send_half.specs.declared.finish.Ended.{Ended}
+use Rattle.std.proofs.lemmas.Bool.{and_parts, leb-true, not-false}
+use Rattle.wf_law_driver.proofs.Ended.{bad_lost, bad_heard}
 
 -- ---- the exchange that is open
 
@@ -60,13 +62,94 @@ module _ (v : TransmitValue) (w : World) (bodies : ℕ → FrameValue) (h : Stan
   pub none_open : None ≡ find (λ x. x.number == e) v.opened → exchange w e ≡ None
   none_open is = none_by (exchange w e) (is ∙ exchange_same v w bodies e h.parts)
 
-  pub refused_done : (answered : Bool) → None ≡ find (λ x. x.number == e) v.opened →
-      Meets w bodies (Asked (Done e answered)) v (Refused NoExchange)
-  refused_done answered is =
-      refused_meets v w bodies (Asked (Done e answered)) NoExchange h
+  -- it is refused where it is not open
+  pub refused_done : (answered : Bool) (air : Option ℕ) → None ≡ find (λ x. x.number == e) v.opened →
+      Meets w bodies (Asked (Done e answered air)) v (Refused NoExchange)
+  refused_done answered air is =
+      refused_meets v w bodies (Asked (Done e answered air)) NoExchange h
       (first_refuses (is_none (exchange w e), NoExchange) _ (ap is_none (none_open is))) (λ i. cc i)
 
+  -- and where its airtime may not be named
+  pub bad_done : (answered : Bool) (air : Option ℕ) →
+      refusal w (Asked (Done e answered air)) ≡ Some BadAir →
+      Meets w bodies (Asked (Done e answered air)) v (Refused BadAir)
+  bad_done answered air bad =
+      refused_meets v w bodies (Asked (Done e answered air)) BadAir h bad (λ i. cc i)
+
+-- why it is refused
+
+pub ends_unknown : (v : TransmitValue) (e : ℕ) (air : Option ℕ) → None ≡ find (λ x. x.number == e) v.opened →
+    end_refusal v e air ≡ Some NoExchange
+ends_unknown v e air none = ap (λ (f : Option Open). if is_none f then Some NoExchange
+    else if is_bad_air v.config air then Some BadAir else None) (sym none)
+
+pub ends_bad : (v : TransmitValue) (e : ℕ) (air : Option ℕ) (o : Open) →
+    Some o ≡ find (λ x. x.number == e) v.opened → is_bad_air v.config air ≡ true →
+    end_refusal v e air ≡ Some BadAir
+ends_bad v e air o some bad = ap (λ (f : Option Open). if is_none f then Some NoExchange
+    else if is_bad_air v.config air then Some BadAir else None) (sym some)
+    ∙ ap (λ (b : Bool). if b then Some BadAir else None) bad
+
+pub ends_well : (v : TransmitValue) (e : ℕ) (air : Option ℕ) (o : Open) →
+    Some o ≡ find (λ x. x.number == e) v.opened → is_bad_air v.config air ≡ false →
+    end_refusal v e air ≡ None
+ends_well v e air o some fine = ap (λ (f : Option Open). if is_none f then Some NoExchange
+    else if is_bad_air v.config air then Some BadAir else None) (sym some)
+    ∙ ap (λ (b : Bool). if b then Some BadAir else None) fine
+
+-- the exchange is open, and its airtime may not be named
+pub record IsBad (v : TransmitValue) (e : ℕ) (air : Option ℕ) : Type 0 where
+  pub opened : Open
+  pub some : Some opened ≡ find (λ x. x.number == e) v.opened
+  pub bad : is_bad_air v.config air ≡ true
+
+pub bad_of : (v : TransmitValue) (e : ℕ) (air : Option ℕ) → has_bad_air v e air ≡ true → IsBad v e air
+bad_of v e air h = go (find (λ x. x.number == e) v.opened) refl h
+  where
+    go : (o : Option Open) → find (λ x. x.number == e) v.opened ≡ o →
+        is_some o && is_bad_air v.config air ≡ true → IsBad v e air
+    go None is k = absurd (cc k)
+    go (Some x) is k = record { opened = x; some = sym is; bad = k }
+
+-- it may be named, as the half has found
+pub fine_then : (v u : TransmitValue) (e : ℕ) (air : Option ℕ) (o : Open) (found : Bool) → u ≡ v →
+    found ≡ has_bad_air v e air → found ≡ false → Some o ≡ find (λ x. x.number == e) u.opened →
+    is_bad_air u.config air ≡ false
+fine_then v u e air o found same is none some =
+    ap (λ (f : Option Open). is_some f && is_bad_air u.config air) some
+    ∙ (ap (λ (z : TransmitValue). has_bad_air z e air) same ∙ (sym is ∙ none))
+
+module _ (v : TransmitValue) (w : World) (bodies : ℕ → FrameValue) (h : StandsFor v w bodies) (e : ℕ)
+    (air : Option ℕ) (k : IsBad v e air) where
+  bad_there : is_bad_air w.config air ≡ true
+  bad_there = sym (ap (λ (c : Config). is_bad_air c air) h.parts.others.config) ∙ k.bad
+
+  pub bad_meets_lost : Meets w bodies (Asked (Done e false air)) v (Refused BadAir)
+  bad_meets_lost =
+      let it : IsKnown w e k.opened = known_of v w bodies h e k.opened k.some in
+      bad_done v w bodies h e false air (bad_lost w e it.exchange_is air it.known bad_there)
+
+  pub bad_meets_heard : (x : Exchange) (b : Score) → exchange w e ≡ Some x → x.answer ≡ Some b →
+      Meets w bodies (Asked (Done e true air)) v (Refused BadAir)
+  bad_meets_heard x b known kept =
+      bad_done v w bodies h e true air (bad_heard w e x b air known kept bad_there)
+
 -- ---- its charge
+
+-- what is charged of an exchange that the half keeps is what the machine charges
+pub at_charge : (v self : TransmitValue) (o : Open) (x : Exchange) (air : Option ℕ) → o ≡ open_of x →
+    self ≡ after_close v o (unwrap_or air o.charge) → self ≡ after_close v o (charge_of air x)
+at_charge v self o x air same closed =
+    closed ∙ ap (λ (k : Open). after_close v o (unwrap_or air k.charge)) same
+
+named_few : (config : Config) (air : Option ℕ) (computed : ℕ) → is_bad_air config air ≡ false →
+    config.charge ≤ 65535 → computed < 2 ^ 32 → unwrap_or air computed < 2 ^ 32
+named_few config None computed fine range few = few
+named_few config (Some n) computed fine range few = omega (
+  arith,
+  leb-true n config.charge (and_parts _ _ (not-false _ fine)).1,
+  range,
+)
 
 module _ (v : TransmitValue) (some : HasWorld v) (e : ℕ) (o : Open)
     (is : Some o ≡ find (λ x. x.number == e) v.opened) where
@@ -96,43 +179,54 @@ module _ (v : TransmitValue) (some : HasWorld v) (e : ℕ) (o : Open)
     ap (λ (k : Config). k.stations) some.stands.parts.others.config,
   )
 
-  charge_few : o.charge < 2 ^ 32
-  charge_few =
+  charge_few : (air : Option ℕ) → is_bad_air v.config air ≡ false → unwrap_or air o.charge < 2 ^ 32
+  charge_few air fine =
       let r = some.stands.reached in
-      let each : EachOpen (λ y. (1 ≤ y.charge) × (y.charge ≤ greatest_charge)) some.world.opened =
-      by_law (λ u. EachOpen (λ y. (1 ≤ y.charge) × (y.charge ≤ greatest_charge)) u.opened) some.world r
+      let each : EachOpen (λ y. (1 ≤ y.charge) × (y.charge ≤ greatest_computed)) some.world.opened =
+      by_law (λ u. EachOpen (λ y. (1 ≤ y.charge) × (y.charge ≤ greatest_computed)) u.opened) some.world r
       (λ m. (number_law some.world.config r.history r.in_range m).charges) in
-      let few = found (λ y. (1 ≤ y.charge) × (y.charge ≤ greatest_charge)) some.world.opened e it.exchange_is
+      let few = found (λ y. (1 ≤ y.charge) × (y.charge ≤ greatest_computed)) some.world.opened e
+      it.exchange_is
       it.known each in
-      omega (arith, ap (λ (k : Open). k.charge) it.same, few.1)
+      named_few v.config air o.charge fine (omega (
+        arith,
+        ap (λ (k : Config). k.charge) some.stands.parts.others.config,
+        r.in_range.charge.1,
+      )) (omega (arith, ap (λ (k : Open). k.charge) it.same, few.1))
 
-  pub charge_low : negsuc (2 ^ 62 - 1) ≤ℤ (deficit v.sched o.class o.station -ℤ pos o.charge)
-  charge_low =
+  pub charge_low : (air : Option ℕ) (n : ℕ) → is_bad_air v.config air ≡ false → n ≡ unwrap_or air o.charge →
+      negsuc (2 ^ 62 - 1) ≤ℤ (deficit v.sched o.class o.station -ℤ pos n)
+  charge_low air n fine charge =
       let r = some.stands.reached in
       let back = sym (now_is some.world r) in
-      charge_fits some.world.config r.history (length r.history) v.sched o.station o.class o.charge r.in_range
+      charge_fits some.world.config r.history (length r.history) v.sched o.station o.class n r.in_range
       (subst (TurnsStandFor v.sched) back some.stands.parts.others.turns)
-      (subst (λ (u : World). is_live u o.station ≡ true) back station_live) charge_few
+      (subst (λ (u : World). is_live u o.station ≡ true) back station_live)
+      (omega (arith, charge, charge_few air fine))
 
   pub charge_small : IsChargeSmall v e → IfSome (member v.members o.station)
       (λ m. charged_in m o.class < 2 ^ 62)
   charge_small small = subst (λ (f : Option Open).
       IfSome f (λ x. IfSome (member v.members x.station) (λ m. charged_in m x.class < 2 ^ 62))) (sym is) small
 
-  pub closes : (opened : List Open) (turns : SchedValue) (members : List (Option Member)) →
+  pub closes : (air : Option ℕ) (n : ℕ) (opened : List Open) (turns : SchedValue)
+      (members : List (Option Member)) → n ≡ unwrap_or air o.charge →
       opened ≡ filter (λ x. not (x.number == e)) v.opened →
-      turns ≡ with_turns_charged v.sched o.station o.class o.charge →
-      members ≡ on_member v.members o.station (with_charge o.class o.charge) →
+      turns ≡ with_turns_charged v.sched o.station o.class n →
+      members ≡ on_member v.members o.station (with_charge o.class n) →
       record v { opened = opened; sched = turns; members = members } ≡ after_close v o
-  closes opened turns members a b c =
+      (unwrap_or air o.charge)
+  closes air n opened turns members charge a b c =
       let number : e ≡ o.number = sym (ap (λ (k : Open). k.number) it.same
       ∙ found_number some.world e it.exchange_is it.known) in
       ap₂ (λ (z : List Open) (y : SchedValue). record v { opened = z; sched = y; members = members })
-      (a ∙ ap (λ (n : ℕ). filter (λ (x : Open). not (x.number == n)) v.opened) number) b
-      ∙ ap (λ (m : List (Option Member)). record (after_close v o) { members = m }) c
+      (a ∙ ap (λ (i : ℕ). filter (λ (x : Open). not (x.number == i)) v.opened) number) b
+      ∙ ap (λ (m : List (Option Member)). record (after_close v o n) { members = m }) c
+      ∙ ap (after_close v o) charge
 
-  pub closed_now : (self : TransmitValue) → self ≡ after_close v o → IsClosed self o
-  closed_now self is_closed = record {
+  pub closed_now : (air : Option ℕ) (self : TransmitValue) → self ≡ after_close v o (unwrap_or air o.charge) →
+      IsClosed self o
+  closed_now air self is_closed = record {
     before = v;
     world = some.world;
     bodies = some.bodies;
@@ -141,8 +235,8 @@ module _ (v : TransmitValue) (some : HasWorld v) (e : ℕ) (o : Open)
     stands = some.stands;
     known = it.known;
     same = it.same;
-    closed =
-        is_closed;
+    air = air;
+    closed = at_charge v self o it.exchange_is air it.same is_closed;
   }
 
 -- where it is not open, none is taken out
@@ -225,15 +319,17 @@ goes_unshown w x heard data_is none = record {
 
 module _ (v : TransmitValue) (w : World) (bodies : ℕ → FrameValue) (h : StandsFor v w bodies) (e : ℕ)
     (x : Exchange) (known : exchange w e ≡ Some x) (o : Open) (same : o ≡ open_of x) (answered : Bool)
-    (allowed : refusal w (Asked (Done e answered)) ≡ None)
+    (air : Option ℕ) (allowed : refusal w (Asked (Done e answered air)) ≡ None)
     (z y : TransmitValue) (ended : Ended) where
-  pub done_whole : Parts z (done_outcome w x answered).world bodies →
-      ended_reply ended ≡ (done_outcome w x answered).reply → y ≡ after_listing z o.station →
-      Meets w bodies (Asked (Done e answered)) y (ended_reply ended)
+  pub done_whole : Parts z (done_outcome w x answered air).world bodies →
+      ended_reply ended ≡ (done_outcome w x answered air).reply → y ≡ after_listing z o.station →
+      Meets w bodies (Asked (Done e answered air)) y (ended_reply ended)
   done_whole parts told listed =
-      let met : Meets w bodies (Asked (Done e answered)) (after_listing z x.station)
-      (done_outcome w x answered).reply = done_meets v z w bodies e answered x h known allowed parts in
+      let met : Meets w bodies (Asked (Done e answered air)) (after_listing z x.station)
+      (done_outcome w x answered air).reply =
+      done_meets v z w bodies e answered air x h known allowed parts in
       let is : y ≡ after_listing z x.station = listed ∙ ap (λ (k : Open). after_listing z k.station) same in
-      subst (λ (k : TransmitValue). Meets w bodies (Asked (Done e answered)) k (ended_reply ended)) (sym is)
-      (subst (λ (r : ReplyNote). Meets w bodies (Asked (Done e answered)) (after_listing z x.station) r)
+      subst (λ (k : TransmitValue). Meets w bodies (Asked (Done e answered air)) k (ended_reply ended))
+      (sym is)
+      (subst (λ (r : ReplyNote). Meets w bodies (Asked (Done e answered air)) (after_listing z x.station) r)
       (sym told) met)

@@ -1,14 +1,14 @@
 -- An exchange whose receiver a driver tells of by a BlockAck alone ends, and the half stands for an unheard
 -- world again.
 use Rattle.std.proofs.Common.{◌≡◌, refl, ap, sym, ◌∙◌, subst, arith, ℕ, suc, ◌==◌, nat_lt, Bool, true, false, if◌then◌else◌}
-use Rattle.std.proofs.Common.{List, [], ◌∷◌, ◌++◌, length, Option, Some, None, is_some, option_map}
+use Rattle.std.proofs.Common.{List, [], ◌∷◌, ◌++◌, length, Option, Some, None, is_none, option_map}
 use Rattle.std.specs.Prelude.{find, IfSome, Result, Ok, Err, is_ok, IfErr}
 use Rattle.wf_frame.specs.declared.classes.Class.{Class}
 use Rattle.wf_frame.specs.declared.notes.Note.{Note}
 use Rattle.wf_frame.specs.declared.notes.Note.TheVariants.{Asked}
 use Rattle.wf_frame.specs.declared.notes.Ask.TheVariants.{Done}
 use Rattle.wf_frame.specs.declared.notes.Refusal.{Refusal}
-use Rattle.wf_frame.specs.declared.notes.Refusal.TheVariants.{NoExchange}
+use Rattle.wf_frame.specs.declared.notes.Refusal.TheVariants.{NoExchange, BadAir}
 use Rattle.wf_frame.specs.declared.notes.ReplyNote.{ReplyNote}
 use Rattle.wf_frame.specs.declared.notes.ReplyNote.TheVariants.{Refused}
 use Rattle.wf_frame.specs.Classes.{class_of}
@@ -36,12 +36,15 @@ use Rattle.wf_send_half_refines.specs.Standing.{IsReached, StandsFor, Meets, ope
 use Rattle.wf_send_half_refines.proofs.Beyond.{ready_ended}
 use Rattle.wf_send_half_refines.proofs.Readers.{exchange_same, ready_same}
 use Rattle.wf_send_half_refines.proofs.Whole.{arrive_stands, answer_stands}
-use Rattle.wf_send_half.specs.Bits.{is_shown, AreShown, ended_reply}
+use Rattle.wf_send_half.specs.Bits.{is_shown, AreShown, end_refusal, ended_reply}
 use Rattle.wf_send_half.specs.Driven.{ended_by, outcome_after_done, world_after_done, IsAfterDone, MeetsUnheard}
 use Rattle.wf_send_half.specs.Replies.{reply_of_result}
 use Rattle.wf_send_half.specs.declared.finish.Ended.{Ended}
-use Rattle.wf_send_half.proofs.Dones.{from_none, refused_done}
+use Rattle.wf_send_half.proofs.Dones.{from_none, refused_done, bad_done, ends_unknown, ends_bad}
 use Rattle.wf_send_half.proofs.Worlds.{met_by}
+use Rattle.wf_def_world.specs.Refusals.{is_bad_air}
+use Rattle.wf_law_driver.proofs.Ended.{bad_lost}
+use Rattle.wf_frame.specs.declared.settings.Config.{Config}
 
 -- ---- unheard worlds of runs
 
@@ -52,12 +55,12 @@ unheard_step w note r silent =
     subst (λ (u : World). IsUnheard u → IsUnheard (step u note).world) (sym r.after)
     (silent_law w.config r.history note silent)
 
-told_reached : (w : World) (r : IsReached w) (caller e : ℕ) (shown : ℕ → Bool) (x : Exchange) → IsUnheard w →
-    exchange w e ≡ Some x →
-    IsTold w caller e shown x
-told_reached w r caller e shown x =
-    subst (λ (u : World). IsUnheard u → exchange u e ≡ Some x → IsTold u caller e shown x) (sym r.after)
-    (told_law w.config r.history caller e shown x)
+told_reached : (w : World) (r : IsReached w) (caller e : ℕ) (shown : ℕ → Bool) (air : Option ℕ)
+    (x : Exchange) → IsUnheard w → exchange w e ≡ Some x → is_bad_air w.config air ≡ false
+    → IsTold w caller e shown air x
+told_reached w r caller e shown air x =
+    subst (λ (u : World). IsUnheard u → exchange u e ≡ Some x → is_bad_air u.config air ≡ false →
+    IsTold u caller e shown air x) (sym r.after) (told_law w.config r.history caller e shown air x)
 
 -- ---- what a BlockAck tells of
 
@@ -137,17 +140,18 @@ kept_shows w u e score x wide k =
 
 module _ (v : TransmitValue) (w : World) (bodies : ℕ → FrameValue) (h : StandsFor v w bodies)
     (un : IsUnheard w) (e : ℕ) (x : Exchange)
-    (known : exchange w e ≡ Some x) (score : ℕ × List ℕ) (caller : ℕ) where
+    (known : exchange w e ≡ Some x) (score : ℕ × List ℕ) (caller : ℕ) (air : Option ℕ)
+    (fine : is_bad_air w.config air ≡ false) where
   abbrev shown : ℕ → Bool
   shown = shown_of w x score
 
   abbrev after : World
   after = after_told w caller e shown x.content
 
-  is_told : IsTold w caller e shown x
-  is_told = told_reached w h.reached caller e shown x un known
+  is_told : IsTold w caller e shown air x
+  is_told = told_reached w h.reached caller e shown air x un known fine
 
-  pub told_unheard : IsUnheard (step after (done_told e shown x.content)).world
+  pub told_unheard : IsUnheard (step after (done_told e shown air x.content)).world
   told_unheard = is_told.unheard
 
   stands_after : StandsFor v after bodies
@@ -178,19 +182,19 @@ module _ (v : TransmitValue) (w : World) (bodies : ℕ → FrameValue) (h : Stan
 
   -- its Done leaves who is ready elsewhere
   told_ready : (i : ℕ) (c : Class) → (i ≡ x.station → class_of x.tid ≡ c → ⊥) →
-      is_ready (step after (done_told e shown x.content)).world c i ≡ is_ready w c i
+      is_ready (step after (done_told e shown air x.content)).world c i ≡ is_ready w c i
   told_ready i c other =
       let o : IsOpenThen = still_open in
-      ready_ended after e (tells shown x.content) o.now stands_after.reached o.known_then i c
+      ready_ended after e (tells shown x.content) air o.now stands_after.reached o.known_then i c
       (λ s t. other (s ∙ ap (λ (z : Exchange). z.station) o.same)
       (sym (ap (λ (z : Exchange). class_of z.tid) o.same) ∙ t))
       ∙ sym (ready_same v after bodies c i stands_after.parts)
       ∙ ready_same v w bodies c i h.parts
 
   module _ (u : TransmitValue) (result : Result Ended Refusal)
-      (done : IsAfterDone v u e (Some score) result) where
+      (done : IsAfterDone v u e (Some score) air result) where
     meets_as : (b : Bool) → tells shown x.content ≡ b →
-        Meets after bodies (Asked (Done e b)) u (reply_of_result ended_reply result)
+        Meets after bodies (Asked (Done e b air)) u (reply_of_result ended_reply result)
     meets_as true some =
         let k : KeepsAnswer after e shown x = is_told.keeps some in
         let wide : is_wide after x.station x.tid ≡ is_wide w x.station x.tid =
@@ -199,64 +203,91 @@ module _ (v : TransmitValue) (w : World) (bodies : ℕ → FrameValue) (h : Stan
         (kept_shows w after e score x wide k)
     meets_as false none =
         let n : TellsNothing caller e shown x.content = nothing_told none in
-        subst (λ (z : World). Meets z bodies (Asked (Done e false)) u (reply_of_result ended_reply result))
+        subst (λ (z : World). Meets z bodies (Asked (Done e false air)) u
+        (reply_of_result ended_reply result))
         (sym (told_nothing w caller e shown x.content n))
         (done.none_shown w bodies x h known n.data_is n.none)
 
-    pub told_meets : Meets after bodies (done_told e shown x.content) u (reply_of_result ended_reply result)
+    pub told_meets : Meets after bodies (done_told e shown air x.content) u
+        (reply_of_result ended_reply result)
     told_meets = meets_as (tells shown x.content) refl
 
 -- ---- whatever was heard
 
--- where none of that number is open, it is refused
-refused_result : (v u : TransmitValue) (r : Result Ended Refusal) → is_ok r ≡ false →
-    IfErr r (λ reason. (reason ≡ NoExchange) × (u ≡ v)) →
-    (reply_of_result ended_reply r ≡ Refused NoExchange) × (u ≡ v)
-refused_result v u (Ok ended) is f = absurd (cc is)
-refused_result v u (Err reason) is f = (ap Refused f.0, f.1)
+-- where its end is refused, it is answered so, and nothing changes
+refused_result : (v u : TransmitValue) (e : ℕ) (air : Option ℕ) (r : Result Ended Refusal) (why : Refusal) →
+    end_refusal v e air ≡ Some why → is_ok r ≡ is_none (end_refusal v e air) →
+    IfErr r (λ reason. (end_refusal v e air ≡ Some reason) × (u ≡ v)) →
+    (reply_of_result ended_reply r ≡ Refused why) × (u ≡ v)
+refused_result v u e air (Ok ended) why is found f = absurd (cc (found, ap is_none is))
+refused_result v u e air (Err reason) why is found f = (ap Refused (cc (f.0, is)), f.1)
 
 module _ (v u : TransmitValue) (w : World) (bodies : ℕ → FrameValue) (h : StandsFor v w bodies)
     (un : IsUnheard w)
-    (e : ℕ) (heard : Option (ℕ × List ℕ)) (result : Result Ended Refusal)
-    (done : IsAfterDone v u e heard result) where
+    (e : ℕ) (heard : Option (ℕ × List ℕ)) (air : Option ℕ) (result : Result Ended Refusal)
+    (done : IsAfterDone v u e heard air result) where
   found : find (λ x. x.number == e) v.opened ≡ option_map open_of (exchange w e)
   found = exchange_same v w bodies e h.parts
 
+  none_found : exchange w e ≡ None → None ≡ find (λ x. x.number == e) v.opened
+  none_found none = sym (found ∙ ap (option_map open_of) none)
+
   not_open : exchange w e ≡ None → (reply_of_result ended_reply result ≡ Refused NoExchange) × (u ≡ v)
-  not_open none = refused_result v u result (done.found ∙ ap is_some (found ∙ ap (option_map open_of) none))
+  not_open none = refused_result v u e air result NoExchange
+      (ends_unknown v e air (none_found none)) done.found
       done.refused
 
-  refused_meets : exchange w e ≡ None → Meets w bodies (Asked (Done e false)) u
+  refused_meets : exchange w e ≡ None → Meets w bodies (Asked (Done e false air)) u
       (reply_of_result ended_reply result)
   refused_meets none =
       let r = not_open none in
-      subst (λ (z : ReplyNote). Meets w bodies (Asked (Done e false)) u z) (sym r.0)
-      (met_by v u w bodies (Asked (Done e false)) (Refused NoExchange) r.1
-      (refused_done v w bodies h e false (sym (found ∙ ap (option_map open_of) none))))
+      subst (λ (z : ReplyNote). Meets w bodies (Asked (Done e false air)) u z) (sym r.0)
+      (met_by v u w bodies (Asked (Done e false air)) (Refused NoExchange) r.1
+      (refused_done v w bodies h e false air (none_found none)))
 
-  lost_meets : Meets w bodies (Asked (Done e false)) u (reply_of_result ended_reply result) →
-      MeetsUnheard bodies (step w (Asked (Done e false))) u (reply_of_result ended_reply result)
+  bad_meets : (x : Exchange) → exchange w e ≡ Some x → is_bad_air w.config air ≡ true →
+      Meets w bodies (Asked (Done e false air)) u (reply_of_result ended_reply result)
+  bad_meets x known bad =
+      let here : is_bad_air v.config air ≡ true =
+      ap (λ (k : Config). is_bad_air k air) h.parts.others.config ∙ bad in
+      let r = refused_result v u e air result BadAir (ends_bad v e air (open_of x)
+      (sym (found ∙ ap (option_map open_of) known)) here) done.found done.refused in
+      subst (λ (z : ReplyNote). Meets w bodies (Asked (Done e false air)) u z) (sym r.0)
+      (met_by v u w bodies (Asked (Done e false air)) (Refused BadAir) r.1
+      (bad_done v w bodies h e false air (bad_lost w e x air known bad)))
+
+  lost_meets : Meets w bodies (Asked (Done e false air)) u (reply_of_result ended_reply result) →
+      MeetsUnheard bodies (step w (Asked (Done e false air))) u (reply_of_result ended_reply result)
   lost_meets m = record {
     stands = m.stands;
-    unheard = unheard_step w (Asked (Done e false)) h.reached tt un;
+    unheard = unheard_step w (Asked (Done e false air)) h.reached tt un;
     reply = m.reply;
   }
 
   by_case : (caller : ℕ) (o : Option (ℕ × List ℕ)) (x : Option Exchange) → heard ≡ o → exchange w e ≡ x →
-      MeetsUnheard bodies (ended_by w caller e o x) u (reply_of_result ended_reply result)
+      MeetsUnheard bodies (ended_by w caller e o air x) u (reply_of_result ended_reply result)
   by_case caller None x none known = lost_meets (from_none _ heard none done.lost w bodies h)
   by_case caller (Some score) None some none = lost_meets (refused_meets none)
-  by_case caller (Some score) (Some x) some known =
-      let m = told_meets v w bodies h un e x known score caller u result
-      (subst (λ o. IsAfterDone v u e o result) some done) in
-      record {
-        stands = m.stands;
-        unheard = told_unheard v w bodies h un e x known score caller;
-        reply =
-            m.reply;
-      }
+  by_case caller (Some score) (Some x) some known = either (is_bad_air w.config air) refl
+    where
+      shown_of_x : ℕ → Bool
+      shown_of_x = is_shown (is_wide w x.station x.tid) (Some score)
 
-  pub meets_unheard : (caller : ℕ) → MeetsUnheard bodies (outcome_after_done w caller e heard) u
+      either : (bad : Bool) → is_bad_air w.config air ≡ bad →
+          MeetsUnheard bodies (if bad then step w (Asked (Done e false air))
+          else step (after_told w caller e shown_of_x x.content) (done_told e shown_of_x air x.content)) u
+          (reply_of_result ended_reply result)
+      either true bad = lost_meets (bad_meets x known bad)
+      either false fine =
+          let m = told_meets v w bodies h un e x known score caller air fine u result
+          (subst (λ o. IsAfterDone v u e o air result) some done) in
+          record {
+            stands = m.stands;
+            unheard = told_unheard v w bodies h un e x known score caller air fine;
+            reply = m.reply;
+          }
+
+  pub meets_unheard : (caller : ℕ) → MeetsUnheard bodies (outcome_after_done w caller e heard air) u
       (reply_of_result ended_reply result)
   meets_unheard caller = by_case caller heard (exchange w e) refl refl
 
@@ -265,20 +296,31 @@ module _ (v u : TransmitValue) (w : World) (bodies : ℕ → FrameValue) (h : St
 module _ (v : TransmitValue) (w : World) (bodies : ℕ → FrameValue) (h : StandsFor v w bodies)
     (un : IsUnheard w) (caller e : ℕ) (x : Exchange)
     (known : exchange w e ≡ Some x) (i : ℕ) (c : Class) (other : i ≡ x.station → class_of x.tid ≡ c → ⊥) where
-  ready_heard : (heard : Option (ℕ × List ℕ)) →
-      is_ready (ended_by w caller e heard (Some x)).world c i ≡ is_ready w c i
-  ready_heard None = ready_ended w e false x h.reached known i c other
-  ready_heard (Some score) = told_ready v w bodies h un e x known score caller i c other
+  ready_heard : (heard : Option (ℕ × List ℕ)) (air : Option ℕ) →
+      is_ready (ended_by w caller e heard air (Some x)).world c i ≡ is_ready w c i
+  ready_heard None air = ready_ended w e false air x h.reached known i c other
+  ready_heard (Some score) air = either (is_bad_air w.config air) refl
+    where
+      shown_of_x : ℕ → Bool
+      shown_of_x = is_shown (is_wide w x.station x.tid) (Some score)
 
-  pub ready_after_done : (heard : Option (ℕ × List ℕ)) →
-      is_ready (world_after_done w caller e heard) c i ≡ is_ready w c i
-  ready_after_done heard = subst (λ (o : Option Exchange). is_ready (ended_by w caller e heard o).world c i
-      ≡ is_ready w c i) (sym known) (ready_heard heard)
+      either : (bad : Bool) → is_bad_air w.config air ≡ bad →
+          is_ready (if bad then step w (Asked (Done e false air))
+          else step (after_told w caller e shown_of_x x.content) (done_told e shown_of_x air x.content)).world
+          c i ≡ is_ready w c i
+      either true bad = ready_ended w e false air x h.reached known i c other
+      either false fine = told_ready v w bodies h un e x known score caller air fine i c other
+
+  pub ready_after_done : (heard : Option (ℕ × List ℕ)) (air : Option ℕ) →
+      is_ready (world_after_done w caller e heard air) c i ≡ is_ready w c i
+  ready_after_done heard air =
+      subst (λ (o : Option Exchange). is_ready (ended_by w caller e heard air o).world c i ≡ is_ready w c i)
+      (sym known) (ready_heard heard air)
 
 module _ (v u : TransmitValue) (w : World) (bodies : ℕ → FrameValue) (h : StandsFor v w bodies)
     (un : IsUnheard w)
-    (e : ℕ) (heard : Option (ℕ × List ℕ)) (result : Result Ended Refusal)
-    (done : IsAfterDone v u e heard result) (i : ℕ) (c : Class) where
+    (e : ℕ) (heard : Option (ℕ × List ℕ)) (air : Option ℕ) (result : Result Ended Refusal)
+    (done : IsAfterDone v u e heard air result) (i : ℕ) (c : Class) where
   -- an open exchange is elsewhere than station i in class c
   abbrev IsElsewhere : Option Open → Type 0
   IsElsewhere o = IfSome o (λ x. i ≡ x.station → class_of x.tid ≡ c → ⊥)
@@ -286,11 +328,11 @@ module _ (v u : TransmitValue) (w : World) (bodies : ℕ → FrameValue) (h : St
   ready_by : (o : Option Exchange) → exchange w e ≡ o → IsElsewhere (option_map open_of o) →
       is_ready_of u c i ≡ is_ready_of v c i
   ready_by None none f = ap (λ (z : TransmitValue). is_ready_of z c i)
-      (not_open v u w bodies h un e heard result done none).1
+      (not_open v u w bodies h un e heard air result done none).1
   ready_by (Some x) known f =
-      ready_same u (world_after_done w 0 e heard) bodies c i
-      (meets_unheard v u w bodies h un e heard result done 0).stands.parts
-      ∙ ready_after_done v w bodies h un 0 e x known i c f heard
+      ready_same u (world_after_done w 0 e heard air) bodies c i
+      (meets_unheard v u w bodies h un e heard air result done 0).stands.parts
+      ∙ ready_after_done v w bodies h un 0 e x known i c f heard air
       ∙ sym (ready_same v w bodies c i h.parts)
 
   pub ready_as_before : IfSome (find (λ x. x.number == e) v.opened)

@@ -10,7 +10,7 @@ use Rattle.wf_def_lists.specs.Table.{at, has}
 use Rattle.wf_law_rules.proofs.Lemmas.Sums.{sum_put, sum_put_within}
 use Rattle.wf_def_world.specs.World.{World, Station, Tid, Exchange, Mpdu, Content, Frames, Request, no_station, no_tid, is_live, session, exchange, without_exchange, is_wide}
 use Rattle.wf_def_world.specs.CanSend.{is_request}
-use Rattle.wf_def_world.specs.Exchanges.{mpdus_of, is_acked, after_charge, with_all_settled, count_in}
+use Rattle.wf_def_world.specs.Exchanges.{mpdus_of, is_acked, after_charge, with_all_settled, count_in, charge_of}
 use Rattle.wf_def_world.specs.Step.{done_outcome}
 use Rattle.wf_law_runs.specs.Room.{unsettled_of, in_windows_of, in_windows}
 use Rattle.wf_law_runs.specs.Sent.{HasSome}
@@ -121,9 +121,9 @@ some_first [] h = absurd (omega (arith, h))
 some_first (m ∷ ms) h = record { first = m; behind = ms; is = refl }
 
 module _ (v : TransmitValue) (w : World) (bodies : ℕ → FrameValue) (h : StandsFor v w bodies) (e : ℕ)
-    (x : Exchange) (known : exchange w e ≡ Some x) where
+    (x : Exchange) (known : exchange w e ≡ Some x) (air : Option ℕ) where
   abbrev closed : World
-  closed = after_charge (without_exchange w x.number) x
+  closed = after_charge (without_exchange w x.number) x air
 
   tried : (ms : List Mpdu) → EachMpdu (λ m. (slot (session w x.station x.tid) m.number).state
       ≡ State.Flying x.number) ms → EachMpdu (λ k. (slot (session w x.station x.tid) k.number).attempts
@@ -153,19 +153,22 @@ module _ (v : TransmitValue) (w : World) (bodies : ℕ → FrameValue) (h : Stan
         (found HasSome w.opened e x known sent (ap is_request sends.content))
 
     -- its numbers begin to be settled
-    pub begun : (acked : ℕ → Bool) → IsEnding (after_close v (open_of x)) closed bodies x.station x.tid
+    pub begun : (acked : ℕ → Bool) →
+        IsEnding (after_close v (open_of x) (charge_of air x)) closed bodies x.station x.tid
         x.number acked ms (with_all_settled closed x.station x.tid acked ms)
     begun acked =
         let f : HasFirst ms = some_first ms some_sent in
         let both : mpdus_of x.content ≡ f.first ∷ f.behind = content_is ∙ f.is in
-        subst (λ (l : List Mpdu). IsEnding (after_close v (open_of x)) closed bodies x.station x.tid x.number
+        subst (λ (l : List Mpdu). IsEnding
+        (after_close v (open_of x) (charge_of air x)) closed bodies x.station x.tid
+        x.number
         acked l (with_all_settled closed x.station x.tid acked l)) (sym f.is)
         (begins v w bodies h e x known acked f.first f.behind both
         (tried (f.first ∷ f.behind) (subst (EachMpdu (λ m. (slot (session w x.station x.tid) m.number).state
-        ≡ State.Flying x.number)) both (of_windows v w bodies h e x known).flies)))
+        ≡ State.Flying x.number)) both (of_windows v w bodies h e x known).flies)) air)
 
     same_session : session closed x.station x.tid ≡ session w x.station x.tid
-    same_session = ap (λ (a : Agreements). a.sessions x.station x.tid) (closed_agreements w x)
+    same_session = ap (λ (a : Agreements). a.sessions x.station x.tid) (closed_agreements w x air)
 
     few : length ms ≤ in_windows w
     few =
@@ -183,7 +186,7 @@ module _ (v : TransmitValue) (w : World) (bodies : ℕ → FrameValue) (h : Stan
         )
 
     -- and there is room to finish each of its frames
-    pub place : CanFinish (after_close v (open_of x)) (length numbers)
+    pub place : CanFinish (after_close v (open_of x) (charge_of air x)) (length numbers)
     place =
         let room : HasPlace w.config.room w = has_place w h.reached in
         let flows = h.parts.others.flows in
@@ -214,27 +217,28 @@ module _ (v : TransmitValue) (w : World) (bodies : ℕ → FrameValue) (h : Stan
       abbrev shown : ℕ → Bool
       shown = is_shown (is_wide w x.station x.tid) heard
 
-      same_world : (done_outcome w x answered).world ≡ with_all_settled closed x.station x.tid shown ms
+      same_world : (done_outcome w x answered air).world ≡ with_all_settled closed x.station x.tid shown ms
       same_world =
-          data_world w x answered ms sends.content
+          data_world w x answered air ms sends.content
           ∙ settles_alike closed x.station x.tid (is_acked answered x.answer) shown ms
           (subst (EachMpdu (λ m. is_acked answered x.answer m.number ≡ shown m.number)) content_is alike)
 
       pub data_parts : Parts z (with_all_settled closed x.station x.tid shown ms) bodies →
-          Parts z (done_outcome w x answered).world bodies
+          Parts z (done_outcome w x answered air).world bodies
       data_parts parts = subst (λ (u : World). Parts z u bodies) (sym same_world) parts
 
       pub data_reply : AreCounted (with_all_settled closed x.station x.tid shown ms) x.station x.tid ms
-          ended → ended_reply ended ≡ (done_outcome w x answered).reply
+          ended → ended_reply ended ≡ (done_outcome w x answered air).reply
       data_reply counted =
-          let c : AreCounted (done_outcome w x answered).world x.station x.tid (mpdus_of x.content) ended =
-          subst (λ (l : List Mpdu). AreCounted (done_outcome w x answered).world x.station x.tid l ended)
+          let c : AreCounted (done_outcome w x answered air).world x.station x.tid
+          (mpdus_of x.content) ended =
+          subst (λ (l : List Mpdu). AreCounted (done_outcome w x answered air).world x.station x.tid l ended)
           (sym content_is)
           (subst (λ (u : World). AreCounted u x.station x.tid ms ended) (sym same_world) counted) in
           ap₂ (λ (i j : ℕ). Ends i j ended.failed) c.acked c.waiting
-          ∙ ap (λ (k : ℕ). Ends (count_in (done_outcome w x answered).world x is_acknowledged)
-          (count_in (done_outcome w x answered).world x is_waiting) k) c.failed
-          ∙ sym (done_reply w x answered)
+          ∙ ap (λ (k : ℕ). Ends (count_in (done_outcome w x answered air).world x is_acknowledged)
+          (count_in (done_outcome w x answered air).world x is_waiting) k) c.failed
+          ∙ sym (done_reply w x answered air)
 
   -- ---- an exchange of a request
 
@@ -256,19 +260,19 @@ module _ (v : TransmitValue) (w : World) (bodies : ℕ → FrameValue) (h : Stan
     near = heard_near (window_of v.windows x.station x.tid) (session w x.station x.tid) bodies
         (h.parts.windows.all.stands x.station x.tid live low) asked.start seq asked.air waits.start waits.next
 
-    request_reply : (answered : Bool) → Ends 0 0 0 ≡ (done_outcome w x answered).reply
+    request_reply : (answered : Bool) → Ends 0 0 0 ≡ (done_outcome w x answered air).reply
     request_reply answered =
         let none : mpdus_of x.content ≡ [] = ap mpdus_of asked.content in
-        let u : World = (done_outcome w x answered).world in
+        let u : World = (done_outcome w x answered air).world in
         let count : (p : State → Bool) → 0 ≡ count_in u x p =
         λ p. ap (λ (l : List Mpdu). count_by (λ (m : Mpdu).
         p (slot (session u x.station x.tid) m.number).state) l) (sym none) in
         ap₂ (λ (i j : ℕ). Ends i j 0) (count is_acknowledged) (count is_waiting)
         ∙ ap (λ (k : ℕ). Ends (count_in u x is_acknowledged) (count_in u x is_waiting) k)
-        (count is_failed) ∙ sym (done_reply w x answered)
+        (count is_failed) ∙ sym (done_reply w x answered air)
 
     pub reply_by : (heard : Option (ℕ × List ℕ)) (answered : Bool) → GoesBy w x heard answered →
-        Ends 0 0 0 ≡ (done_outcome w x answered).reply
+        Ends 0 0 0 ≡ (done_outcome w x answered air).reply
     reply_by heard answered goes = request_reply answered
 
     answered_is : (heard : Option (ℕ × List ℕ)) (answered : Bool) → GoesBy w x heard answered →
@@ -276,11 +280,13 @@ module _ (v : TransmitValue) (w : World) (bodies : ℕ → FrameValue) (h : Stan
     answered_is heard answered goes = goes.request (ap is_request asked.content)
 
     pub lost_parts : (heard : Option (ℕ × List ℕ)) (answered : Bool) → GoesBy w x heard answered →
-        is_some heard ≡ false → Parts (after_close v (open_of x)) (done_outcome w x answered).world bodies
+        is_some heard ≡ false → Parts (after_close v (open_of x) (charge_of air x)) (done_outcome w x answered
+        air).world bodies
     lost_parts heard answered goes off =
-        subst (λ (b : Bool). Parts (after_close v (open_of x)) (done_outcome w x b).world bodies)
+        subst (λ (b : Bool). Parts (after_close v (open_of x) (charge_of air x))
+        (done_outcome w x b air).world bodies)
         (sym (answered_is heard answered goes ∙ off))
-        (unheard_parts v w bodies h e x known asked.start asked.content)
+        (unheard_parts v w bodies h e x known asked.start asked.content air)
 
     pub told_parts : (heard : Option (ℕ × List ℕ)) (answered : Bool) → GoesBy w x heard answered →
         is_some heard ≡ true → (windows : List WindowValue) → WindowsHaveRoom windows →
@@ -289,154 +295,169 @@ module _ (v : TransmitValue) (w : World) (bodies : ℕ → FrameValue) (h : Stan
         WindowStandsFor (window_of v.windows x.station x.tid) y bs → seq ≡ f % 4096 → f ≤ start_of y →
         next_number y ≤ f + y.size →
         WindowStandsFor (window_of windows x.station x.tid) (record y { heard = max y.heard f }) bs) →
-        Parts (record (after_close v (open_of x)) { windows = windows })
-        (done_outcome w x answered).world bodies
+        Parts (record (after_close v (open_of x) (charge_of air x)) { windows = windows })
+        (done_outcome w x answered air).world bodies
     told_parts heard answered goes on windows room others stands =
         let z : WindowValue = window_of windows x.station x.tid in
         let now = stands (session w x.station x.tid) bodies asked.start
         (h.parts.windows.all.stands x.station x.tid live low) asked.air waits.start waits.next in
-        let there : Parts (record (after_close v (open_of x)) {
+        let there : Parts (record (after_close v (open_of x) (charge_of air x)) {
           windows =
               with_window v.windows x.station x.tid z;
-        }) (done_outcome w x true).world bodies =
-        heard_parts v w bodies h e x known asked.start asked.content z
+        }) (done_outcome w x true air).world bodies =
+        heard_parts v w bodies h e x known asked.start asked.content air z
         (subst WindowsHaveRoom others room) now in
-        subst (λ (b : Bool). Parts (record (after_close v (open_of x)) { windows = windows })
-        (done_outcome w x b).world bodies) (sym (answered_is heard answered goes ∙ on))
-        (subst (λ (l : List WindowValue). Parts (record (after_close v (open_of x)) { windows = l })
-        (done_outcome w x true).world bodies) (sym others) there)
+        subst (λ (b : Bool). Parts
+        (record (after_close v (open_of x) (charge_of air x)) { windows = windows })
+        (done_outcome w x b air).world bodies) (sym (answered_is heard answered goes ∙ on))
+        (subst (λ (l : List WindowValue). Parts
+        (record (after_close v (open_of x) (charge_of air x)) { windows = l })
+        (done_outcome w x true air).world bodies) (sym others) there)
 
   -- ---- of the half that was just closed, and of what it kept of the exchange
 
-  module _ (self : TransmitValue) (o : Open) (same : o ≡ open_of x) (closed_is : self ≡ after_close v o) where
-    carried : (P : Open → TransmitValue → Type 0) → P (open_of x) (after_close v (open_of x)) → P o self
-    carried P p = subst (P o) (sym closed_is) (subst (λ k. P k (after_close v k)) (sym same) p)
+  module _ (self : TransmitValue) (o : Open) (same : o ≡ open_of x)
+      (closed_is : self ≡ after_close v o (charge_of air
+      x))
+    where
+      carried : (P : Open → TransmitValue → Type 0) →
+          P (open_of x) (after_close v (open_of x) (charge_of air x)) →
+          P o self
+      carried P p = subst (P o) (sym closed_is)
+          (subst (λ k. P k (after_close v k (charge_of air x))) (sym same) p)
 
-    there : is_live w x.station ≡ true
-    there = open_live w h.reached e x known
+      there : is_live w x.station ≡ true
+      there = open_live w h.reached e x known
 
-    within : x.tid < 8 → tid_number x.station x.tid < length v.windows
-    within low = omega (arith, h.parts.windows.sized, h.parts.others.turns.live x.station there, low)
+      within : x.tid < 8 → tid_number x.station x.tid < length v.windows
+      within low = omega (arith, h.parts.windows.sized, h.parts.others.turns.live x.station there, low)
 
-    pub data_tid : (numbers : List ℕ) → o.sending ≡ Data numbers → o.tid < 8
-    data_tid numbers = carried (λ k z. k.sending ≡ Data numbers → k.tid < 8)
-        (λ is. (begun numbers is (λ n. false)).tid)
+      pub data_tid : (numbers : List ℕ) → o.sending ≡ Data numbers → o.tid < 8
+      data_tid numbers = carried (λ k z. k.sending ≡ Data numbers → k.tid < 8)
+          (λ is. (begun numbers is (λ n. false)).tid)
 
-    pub data_within : (numbers : List ℕ) → o.sending ≡ Data numbers →
-        tid_number o.station o.tid < length self.windows
-    data_within numbers = carried (λ k z. k.sending ≡ Data numbers →
-        tid_number k.station k.tid < length z.windows) (λ is. within (begun numbers is (λ n. false)).tid)
+      pub data_within : (numbers : List ℕ) → o.sending ≡ Data numbers →
+          tid_number o.station o.tid < length self.windows
+      data_within numbers = carried (λ k z. k.sending ≡ Data numbers →
+          tid_number k.station k.tid < length z.windows) (λ is. within (begun numbers is (λ n. false)).tid)
 
-    pub data_place : (numbers : List ℕ) → o.sending ≡ Data numbers → CanFinish self (length numbers)
-    data_place numbers = carried (λ k z. k.sending ≡ Data numbers → CanFinish z (length numbers))
-        (place numbers)
+      pub data_place : (numbers : List ℕ) → o.sending ≡ Data numbers → CanFinish self (length numbers)
+      data_place numbers = carried (λ k z. k.sending ≡ Data numbers → CanFinish z (length numbers))
+          (place numbers)
 
-    pub data_some : (numbers : List ℕ) (acked : ℕ → Bool) → o.sending ≡ Data numbers →
-        IsToSettle self o.station o.tid numbers acked
-    data_some numbers acked = carried (λ k z. k.sending ≡ Data numbers →
-        IsToSettle z k.station k.tid numbers acked)
-        (λ is. record {
-          world = closed;
-          bodies = bodies;
-          exchange = x.number;
-          mpdus =
-              (sends numbers is).mpdus;
-          after = with_all_settled closed x.station x.tid acked
-              (sends numbers is).mpdus;
-          ending = begun numbers is acked;
-          numbers_are = (sends numbers is).air;
-        })
+      pub data_some : (numbers : List ℕ) (acked : ℕ → Bool) → o.sending ≡ Data numbers →
+          IsToSettle self o.station o.tid numbers acked
+      data_some numbers acked = carried (λ k z. k.sending ≡ Data numbers →
+          IsToSettle z k.station k.tid numbers acked)
+          (λ is. record {
+            world = closed;
+            bodies = bodies;
+            exchange = x.number;
+            mpdus =
+                (sends numbers is).mpdus;
+            after = with_all_settled closed x.station x.tid acked
+                (sends numbers is).mpdus;
+            ending = begun numbers is acked;
+            numbers_are = (sends numbers is).air;
+          })
 
-    module _ (numbers : List ℕ) (wide : Bool) (heard : Option (ℕ × List ℕ)) (answered : Bool)
-        (goes : GoesBy w x heard answered) where
-      wide_is : (is : sending_of x.content ≡ Data numbers) → wide ≡ is_wide_of v x.station x.tid →
-          wide ≡ is_wide w x.station x.tid
-      wide_is is told = told ∙ wide_same v w bodies x.station x.tid h.parts there
-          (begun numbers is (λ n. false)).tid
+      module _ (numbers : List ℕ) (wide : Bool) (heard : Option (ℕ × List ℕ)) (answered : Bool)
+          (goes : GoesBy w x heard answered) where
+        wide_is : (is : sending_of x.content ≡ Data numbers) → wide ≡ is_wide_of v x.station x.tid →
+            wide ≡ is_wide w x.station x.tid
+        wide_is is told = told ∙ wide_same v w bodies x.station x.tid h.parts there
+            (begun numbers is (λ n. false)).tid
 
-      ends_here : (is : sending_of x.content ≡ Data numbers) → wide ≡ is_wide_of v x.station x.tid →
-          IsEnding (after_close v (open_of x)) closed bodies x.station x.tid x.number (is_shown wide heard)
-          (sends numbers is).mpdus (with_all_settled closed x.station x.tid
-          (is_shown (is_wide w x.station x.tid) heard) (sends numbers is).mpdus)
-      ends_here is told =
-          subst (λ (b : Bool). IsEnding (after_close v (open_of x)) closed bodies x.station x.tid x.number
-          (is_shown b heard) (sends numbers is).mpdus
-          (with_all_settled closed x.station x.tid (is_shown (is_wide w x.station x.tid) heard)
-          (sends numbers is).mpdus)) (sym (wide_is is told))
-          (begun numbers is (is_shown (is_wide w x.station x.tid) heard))
+        ends_here : (is : sending_of x.content ≡ Data numbers) → wide ≡ is_wide_of v x.station x.tid →
+            IsEnding (after_close v (open_of x) (charge_of air x)) closed bodies x.station x.tid x.number
+            (is_shown
+            wide heard)
+            (sends numbers is).mpdus (with_all_settled closed x.station x.tid
+            (is_shown (is_wide w x.station x.tid) heard) (sends numbers is).mpdus)
+        ends_here is told =
+            subst (λ (b : Bool). IsEnding
+            (after_close v (open_of x) (charge_of air x)) closed bodies x.station x.tid
+            x.number
+            (is_shown b heard) (sends numbers is).mpdus
+            (with_all_settled closed x.station x.tid (is_shown (is_wide w x.station x.tid) heard)
+            (sends numbers is).mpdus)) (sym (wide_is is told))
+            (begun numbers is (is_shown (is_wide w x.station x.tid) heard))
 
-      pub data_settled : (z : TransmitValue) → o.sending ≡ Data numbers →
-          wide ≡ is_wide_of self o.station o.tid →
-          ((u after : World) (bs : ℕ → FrameValue) (n : ℕ) (mpdus : List Mpdu) →
-          IsEnding self u bs o.station o.tid n (is_shown wide heard) mpdus after →
-          numbers ≡ numbers_on_air mpdus → Parts z after bs) →
-          Parts z (done_outcome w x answered).world bodies
-      data_settled z = carried (λ k y. k.sending ≡ Data numbers → wide ≡ is_wide_of y k.station k.tid →
-          ((u after : World) (bs : ℕ → FrameValue) (n : ℕ) (mpdus : List Mpdu) →
-          IsEnding y u bs k.station k.tid n (is_shown wide heard) mpdus after →
-          numbers ≡ numbers_on_air mpdus → Parts z after bs) →
-          Parts z (done_outcome w x answered).world bodies)
-          (λ is told all. data_parts numbers is z (record { acked = 0; waiting = 0; failed = 0 }) heard
-          answered goes.numbers (all closed _ bodies x.number (sends numbers is).mpdus (ends_here is told)
-          (sends numbers is).air))
+        pub data_settled : (z : TransmitValue) → o.sending ≡ Data numbers →
+            wide ≡ is_wide_of self o.station o.tid →
+            ((u after : World) (bs : ℕ → FrameValue) (n : ℕ) (mpdus : List Mpdu) →
+            IsEnding self u bs o.station o.tid n (is_shown wide heard) mpdus after →
+            numbers ≡ numbers_on_air mpdus → Parts z after bs) →
+            Parts z (done_outcome w x answered air).world bodies
+        data_settled z = carried (λ k y. k.sending ≡ Data numbers → wide ≡ is_wide_of y k.station k.tid →
+            ((u after : World) (bs : ℕ → FrameValue) (n : ℕ) (mpdus : List Mpdu) →
+            IsEnding y u bs k.station k.tid n (is_shown wide heard) mpdus after →
+            numbers ≡ numbers_on_air mpdus → Parts z after bs) →
+            Parts z (done_outcome w x answered air).world bodies)
+            (λ is told all. data_parts numbers is z (record { acked = 0; waiting = 0; failed = 0 }) heard
+            answered goes.numbers (all closed _ bodies x.number (sends numbers is).mpdus (ends_here is told)
+            (sends numbers is).air))
 
-      pub data_told : (ended : Ended) → o.sending ≡ Data numbers → wide ≡ is_wide_of self o.station o.tid →
-          ((u after : World) (bs : ℕ → FrameValue) (n : ℕ) (mpdus : List Mpdu) →
-          IsEnding self u bs o.station o.tid n (is_shown wide heard) mpdus after →
-          numbers ≡ numbers_on_air mpdus → AreCounted after o.station o.tid mpdus ended) →
-          ended_reply ended ≡ (done_outcome w x answered).reply
-      data_told ended = carried (λ k y. k.sending ≡ Data numbers → wide ≡ is_wide_of y k.station k.tid →
-          ((u after : World) (bs : ℕ → FrameValue) (n : ℕ) (mpdus : List Mpdu) →
-          IsEnding y u bs k.station k.tid n (is_shown wide heard) mpdus after →
-          numbers ≡ numbers_on_air mpdus → AreCounted after k.station k.tid mpdus ended) →
-          ended_reply ended ≡ (done_outcome w x answered).reply)
-          (λ is told all. data_reply numbers is v ended heard answered goes.numbers
-          (all closed _ bodies x.number (sends numbers is).mpdus (ends_here is told)
-          (sends numbers is).air))
+        pub data_told : (ended : Ended) → o.sending ≡ Data numbers → wide ≡ is_wide_of self o.station o.tid →
+            ((u after : World) (bs : ℕ → FrameValue) (n : ℕ) (mpdus : List Mpdu) →
+            IsEnding self u bs o.station o.tid n (is_shown wide heard) mpdus after →
+            numbers ≡ numbers_on_air mpdus → AreCounted after o.station o.tid mpdus ended) →
+            ended_reply ended ≡ (done_outcome w x answered air).reply
+        data_told ended = carried (λ k y. k.sending ≡ Data numbers → wide ≡ is_wide_of y k.station k.tid →
+            ((u after : World) (bs : ℕ → FrameValue) (n : ℕ) (mpdus : List Mpdu) →
+            IsEnding y u bs k.station k.tid n (is_shown wide heard) mpdus after →
+            numbers ≡ numbers_on_air mpdus → AreCounted after k.station k.tid mpdus ended) →
+            ended_reply ended ≡ (done_outcome w x answered air).reply)
+            (λ is told all. data_reply numbers is v ended heard answered goes.numbers
+            (all closed _ bodies x.number (sends numbers is).mpdus (ends_here is told)
+            (sends numbers is).air))
 
-    -- a request
-    pub request_low : (seq : ℕ) → o.sending ≡ Starts_at seq → o.tid < 8
-    request_low seq = carried (λ k z. k.sending ≡ Starts_at seq → k.tid < 8) (low seq)
+      -- a request
+      pub request_low : (seq : ℕ) → o.sending ≡ Starts_at seq → o.tid < 8
+      request_low seq = carried (λ k z. k.sending ≡ Starts_at seq → k.tid < 8) (low seq)
 
-    pub request_within : (seq : ℕ) → o.sending ≡ Starts_at seq →
-        tid_number o.station o.tid < length self.windows
-    request_within seq = carried (λ k z. k.sending ≡ Starts_at seq →
-        tid_number k.station k.tid < length z.windows) (λ is. within (low seq is))
+      pub request_within : (seq : ℕ) → o.sending ≡ Starts_at seq →
+          tid_number o.station o.tid < length self.windows
+      request_within seq = carried (λ k z. k.sending ≡ Starts_at seq →
+          tid_number k.station k.tid < length z.windows) (λ is. within (low seq is))
 
-    pub request_near : (seq : ℕ) → o.sending ≡ Starts_at seq →
-        distance (window_of self.windows o.station o.tid).start seq + length
-        (window_of self.windows o.station o.tid).places ≤ (window_of self.windows o.station o.tid).size
-    request_near seq = carried (λ k z. k.sending ≡ Starts_at seq →
-        distance (window_of z.windows k.station k.tid).start seq + length
-        (window_of z.windows k.station k.tid).places ≤ (window_of z.windows k.station k.tid).size) (near seq)
+      pub request_near : (seq : ℕ) → o.sending ≡ Starts_at seq →
+          distance (window_of self.windows o.station o.tid).start seq + length
+          (window_of self.windows o.station o.tid).places ≤ (window_of self.windows o.station o.tid).size
+      request_near seq = carried (λ k z. k.sending ≡ Starts_at seq →
+          distance (window_of z.windows k.station k.tid).start seq + length
+          (window_of z.windows k.station k.tid).places ≤ (window_of z.windows k.station k.tid).size)
+          (near seq)
 
-    pub request_told : (seq : ℕ) (heard : Option (ℕ × List ℕ)) (answered : Bool) → GoesBy w x heard answered →
-        o.sending ≡ Starts_at seq → Ends 0 0 0 ≡ (done_outcome w x answered).reply
-    request_told seq heard answered goes = carried
-        (λ k z. k.sending ≡ Starts_at seq → Ends 0 0 0 ≡ (done_outcome w x answered).reply)
-        (λ is. reply_by seq is heard answered goes)
+      pub request_told : (seq : ℕ) (heard : Option (ℕ × List ℕ)) (answered : Bool) →
+          GoesBy w x heard answered →
+          o.sending ≡ Starts_at seq → Ends 0 0 0 ≡ (done_outcome w x answered air).reply
+      request_told seq heard answered goes = carried
+          (λ k z. k.sending ≡ Starts_at seq → Ends 0 0 0 ≡ (done_outcome w x answered air).reply)
+          (λ is. reply_by seq is heard answered goes)
 
-    pub request_lost : (seq : ℕ) (heard : Option (ℕ × List ℕ)) (answered : Bool) → GoesBy w x heard answered →
-        is_some heard ≡ false → o.sending ≡ Starts_at seq →
-        Parts self (done_outcome w x answered).world bodies
-    request_lost seq heard answered goes off = carried
-        (λ k z. k.sending ≡ Starts_at seq → Parts z (done_outcome w x answered).world bodies)
-        (λ is. lost_parts seq is heard answered goes off)
+      pub request_lost : (seq : ℕ) (heard : Option (ℕ × List ℕ)) (answered : Bool) →
+          GoesBy w x heard answered →
+          is_some heard ≡ false → o.sending ≡ Starts_at seq →
+          Parts self (done_outcome w x answered air).world bodies
+      request_lost seq heard answered goes off = carried
+          (λ k z. k.sending ≡ Starts_at seq → Parts z (done_outcome w x answered air).world bodies)
+          (λ is. lost_parts seq is heard answered goes off)
 
-    pub request_heard : (seq : ℕ) (heard : Option (ℕ × List ℕ)) (answered : Bool) →
-        GoesBy w x heard answered → is_some heard ≡ true → (windows : List WindowValue) →
-        WindowsHaveRoom windows → o.sending ≡ Starts_at seq →
-        windows ≡ with_window self.windows o.station o.tid (window_of windows o.station o.tid) →
-        ((y : Session) (bs : ℕ → FrameValue) (f : ℕ) →
-        WindowStandsFor (window_of self.windows o.station o.tid) y bs → seq ≡ f % 4096 → f ≤ start_of y →
-        next_number y ≤ f + y.size →
-        WindowStandsFor (window_of windows o.station o.tid) (record y { heard = max y.heard f }) bs) →
-        Parts (record self { windows = windows }) (done_outcome w x answered).world bodies
-    request_heard seq heard answered goes on windows room = carried (λ k z. k.sending ≡ Starts_at seq →
-        windows ≡ with_window z.windows k.station k.tid (window_of windows k.station k.tid) →
-        ((y : Session) (bs : ℕ → FrameValue) (f : ℕ) →
-        WindowStandsFor (window_of z.windows k.station k.tid) y bs → seq ≡ f % 4096 → f ≤ start_of y →
-        next_number y ≤ f + y.size →
-        WindowStandsFor (window_of windows k.station k.tid) (record y { heard = max y.heard f }) bs) →
-        Parts (record z { windows = windows }) (done_outcome w x answered).world bodies)
-        (λ is. told_parts seq is heard answered goes on windows room)
+      pub request_heard : (seq : ℕ) (heard : Option (ℕ × List ℕ)) (answered : Bool) →
+          GoesBy w x heard answered → is_some heard ≡ true → (windows : List WindowValue) →
+          WindowsHaveRoom windows → o.sending ≡ Starts_at seq →
+          windows ≡ with_window self.windows o.station o.tid (window_of windows o.station o.tid) →
+          ((y : Session) (bs : ℕ → FrameValue) (f : ℕ) →
+          WindowStandsFor (window_of self.windows o.station o.tid) y bs → seq ≡ f % 4096 → f ≤ start_of y →
+          next_number y ≤ f + y.size →
+          WindowStandsFor (window_of windows o.station o.tid) (record y { heard = max y.heard f }) bs) →
+          Parts (record self { windows = windows }) (done_outcome w x answered air).world bodies
+      request_heard seq heard answered goes on windows room = carried (λ k z. k.sending ≡ Starts_at seq →
+          windows ≡ with_window z.windows k.station k.tid (window_of windows k.station k.tid) →
+          ((y : Session) (bs : ℕ → FrameValue) (f : ℕ) →
+          WindowStandsFor (window_of z.windows k.station k.tid) y bs → seq ≡ f % 4096 → f ≤ start_of y →
+          next_number y ≤ f + y.size →
+          WindowStandsFor (window_of windows k.station k.tid) (record y { heard = max y.heard f }) bs) →
+          Parts (record z { windows = windows }) (done_outcome w x answered air).world bodies)
+          (λ is. told_parts seq is heard answered goes on windows room)

@@ -1,6 +1,6 @@
 -- What a BlockAck shows of sequence numbers, by its start and its bits alone, and how the end of an exchange
 -- goes by it.
-use Rattle.std.specs.Prelude.{◌≡◌, ℕ, ◌+◌, ◌<◌, ◌≤◌, ◌^◌, ◌==◌, nat_lt, Bool, true, false, is_some, ◌&&◌, List, [], count_by, find, Option, Some, None, IfSome, if◌then◌else◌}
+use Rattle.std.specs.Prelude.{◌≡◌, ℕ, ◌+◌, ◌<◌, ◌≤◌, ◌^◌, ◌==◌, nat_lt, Bool, true, false, is_some, is_none, ◌&&◌, List, [], count_by, find, Option, Some, None, IfSome, if◌then◌else◌}
 use Rattle.wf_frame.specs.Frames.{FrameValue}
 use Rattle.wf_frame.specs.declared.notes.ReplyNote.{ReplyNote}
 use Rattle.wf_frame.specs.declared.notes.ReplyNote.TheVariants.{Ended as Ends}
@@ -9,7 +9,7 @@ use Rattle.wf_def_agreement.specs.Receiver.{Score, shows}
 use Rattle.wf_def_lists.specs.Table.{has}
 use Rattle.wf_def_world.specs.World.{World, Exchange, Mpdu, exchange, is_wide}
 use Rattle.wf_def_world.specs.CanSend.{is_request}
-use Rattle.wf_def_world.specs.Exchanges.{mpdus_of, is_acked}
+use Rattle.wf_def_world.specs.Exchanges.{mpdus_of, is_acked, charge_of}
 use Rattle.wf_law_runs.specs.Windows.{EachMpdu}
 use Rattle.wf_send_stations.specs.Tally.{held_in}
 use Rattle.wf_queue_flows.specs.Backlog.{held_in_backlog}
@@ -25,6 +25,9 @@ use Rattle.wf_send_half_refines.specs.Standing.{numbers_on_air, open_of, StandsF
 use Rattle.wf_send_half_refines.specs.Ending.{after_close, IsEnding}
 use Rattle.wf_send_half_refines.specs.Pulling.{is_wide_of}
 use Rattle.wf_send_half.specs.declared.finish.Ended.{Ended}
+use Rattle.wf_def_world.specs.Refusals.{is_bad_air}
+use Rattle.wf_frame.specs.declared.notes.Refusal.{Refusal}
+use Rattle.wf_frame.specs.declared.notes.Refusal.TheVariants.{BadAir, NoExchange}
 
 -- ---- a BlockAck
 
@@ -80,6 +83,16 @@ abbrev pub IsChargeSmall : TransmitValue → ℕ → Type 0
 IsChargeSmall v e = IfSome (find (λ x. x.number == e) v.opened)
     (λ x. IfSome (member v.members x.station) (λ m. charged_in m x.class < 2 ^ 62))
 
+-- the exchange is open, and its end may not name this airtime
+abbrev pub has_bad_air : TransmitValue → ℕ → Option ℕ → Bool
+has_bad_air v e air = is_some (find (λ x. x.number == e) v.opened) && is_bad_air v.config air
+
+-- why the end of an exchange is refused, if it is
+abbrev pub end_refusal : TransmitValue → ℕ → Option ℕ → Option Refusal
+end_refusal v e air = if is_none (find (λ x. x.number == e) v.opened) then Some NoExchange
+    else if is_bad_air v.config air then Some BadAir
+    else None
+
 -- so many frames are held outside the flow queues, and there is room to finish each
 pub record CanFinish (v : TransmitValue) (count : ℕ) : Type 0 where
   pub room : held_in_backlog v.flows.backlog + count ≤ v.flows.backlog.room
@@ -95,7 +108,8 @@ pub record IsToSettle (v : TransmitValue) (s t : ℕ) (numbers : List ℕ) (acke
   pub ending : IsEnding v world bodies s t exchange acked mpdus after
   pub numbers_are : numbers ≡ numbers_on_air mpdus
 
--- exchange o is just closed and charged, and what it sent is still to be settled
+-- exchange o is just closed and charged what was named, if anything was, and what it sent is still to be
+-- settled
 pub record IsClosed (v : TransmitValue) (o : Open) : Type 0 where
   pub before : TransmitValue
   pub world : World
@@ -105,7 +119,8 @@ pub record IsClosed (v : TransmitValue) (o : Open) : Type 0 where
   pub stands : StandsFor before world bodies
   pub known : exchange world number ≡ Some exchange_is
   pub same : o ≡ open_of exchange_is
-  pub closed : v ≡ after_close before o
+  pub air : Option ℕ
+  pub closed : v ≡ after_close before o (charge_of air exchange_is)
 
 -- ---- what it gives
 

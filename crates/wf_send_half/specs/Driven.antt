@@ -1,21 +1,21 @@
 -- The end of an exchange whose receiver a driver tells of by a BlockAck alone.
-use Rattle.std.specs.Prelude.{◌≡◌, ℕ, ◌==◌, Bool, true, false, List, find, Option, Some, None, is_some, IfSome, IfNone, Result, is_ok, IfErr}
+use Rattle.std.specs.Prelude.{◌≡◌, ℕ, Bool, true, false, List, Option, Some, None, is_none, if◌then◌else◌, IfSome, IfNone, Result, is_ok, IfErr}
 use Rattle.wf_frame.specs.declared.notes.Ask.TheVariants.{Done}
 use Rattle.wf_frame.specs.declared.notes.Note.TheVariants.{Asked}
 use Rattle.wf_frame.specs.declared.notes.Refusal.{Refusal}
-use Rattle.wf_frame.specs.declared.notes.Refusal.TheVariants.{NoExchange}
 use Rattle.wf_frame.specs.declared.notes.ReplyNote.{ReplyNote}
 use Rattle.wf_frame.specs.Frames.{FrameValue}
 use Rattle.wf_def_agreement.specs.Receiver.{Score}
 use Rattle.wf_def_world.specs.World.{World, Exchange, exchange, is_wide}
 use Rattle.wf_def_world.specs.CanSend.{is_request}
+use Rattle.wf_def_world.specs.Refusals.{is_bad_air}
 use Rattle.wf_def_world.specs.Step.{Outcome, step}
 use Rattle.wf_law_driver.specs.Told.{after_told, done_told}
 use Rattle.wf_law_driver.specs.Unheard.{IsUnheard}
 use Rattle.wf_send_half_refines.specs.Half.{TransmitValue}
 use Rattle.wf_send_half_refines.specs.Standing.{StandsFor, Meets}
 use Rattle.wf_send_half.specs.declared.finish.Ended.{Ended}
-use Rattle.wf_send_half.specs.Bits.{is_shown, AreShown, NoneIsShown, ended_reply}
+use Rattle.wf_send_half.specs.Bits.{is_shown, AreShown, NoneIsShown, end_refusal, ended_reply}
 use Rattle.wf_send_half.specs.Replies.{reply_of_result}
 
 -- ---- in the machine
@@ -23,39 +23,40 @@ use Rattle.wf_send_half.specs.Replies.{reply_of_result}
 -- What the machine makes of w where exchange e ends by what was heard. Where that is a BlockAck of x, the
 -- open exchange, the calls come first that it tells of (`told`, wf_law_driver): exactly the numbers that it
 -- shows arrive, and their receiver answers. Where nothing was heard the Done alone comes, and is lost; where
--- none is open, it is refused.
-abbrev pub ended_by : World → ℕ → ℕ → Option (ℕ × List ℕ) → Option Exchange → Outcome
-ended_by w caller e None x = step w (Asked (Done e false))
-ended_by w caller e (Some score) None = step w (Asked (Done e false))
-ended_by w caller e (Some score) (Some x) =
+-- none is open, or the airtime may not be named, it is refused.
+abbrev pub ended_by : World → ℕ → ℕ → Option (ℕ × List ℕ) → Option ℕ → Option Exchange → Outcome
+ended_by w caller e None air x = step w (Asked (Done e false air))
+ended_by w caller e (Some score) air None = step w (Asked (Done e false air))
+ended_by w caller e (Some score) air (Some x) =
     let shown : ℕ → Bool = is_shown (is_wide w x.station x.tid) (Some score) in
-    step (after_told w caller e shown x.content) (done_told e shown x.content)
+    if is_bad_air w.config air then step w (Asked (Done e false air))
+    else step (after_told w caller e shown x.content) (done_told e shown air x.content)
 
 -- the same, of the exchange of that number
-abbrev pub outcome_after_done : World → ℕ → ℕ → Option (ℕ × List ℕ) → Outcome
-outcome_after_done w caller e heard = ended_by w caller e heard (exchange w e)
+abbrev pub outcome_after_done : World → ℕ → ℕ → Option (ℕ × List ℕ) → Option ℕ → Outcome
+outcome_after_done w caller e heard air = ended_by w caller e heard air (exchange w e)
 
 -- the world in which it has ended
-abbrev pub world_after_done : World → ℕ → ℕ → Option (ℕ × List ℕ) → World
-world_after_done w caller e heard = (outcome_after_done w caller e heard).world
+abbrev pub world_after_done : World → ℕ → ℕ → Option (ℕ × List ℕ) → Option ℕ → World
+world_after_done w caller e heard air = (outcome_after_done w caller e heard air).world
 
 -- ---- in the half
 
--- what `Transmit::done` says, of exchange e and of what was heard of it, where it made u of v and gave this
--- result
-pub record IsAfterDone (v u : TransmitValue) (e : ℕ) (heard : Option (ℕ × List ℕ))
+-- what `Transmit::done` says, of exchange e, of what was heard of it and of the airtime that was named,
+-- where it made u of v and gave this result
+pub record IsAfterDone (v u : TransmitValue) (e : ℕ) (heard : Option (ℕ × List ℕ)) (air : Option ℕ)
     (result : Result Ended Refusal) : Type 0 where
   pub lost : IfNone heard ((w : World) (bodies : ℕ → FrameValue) → StandsFor v w bodies →
-      Meets w bodies (Asked (Done e false)) u (reply_of_result ended_reply result))
+      Meets w bodies (Asked (Done e false air)) u (reply_of_result ended_reply result))
   pub shown : IfSome heard (λ score. (w : World) (bodies : ℕ → FrameValue) (x : Exchange) (b : Score) →
       StandsFor v w bodies →
       exchange w e ≡ Some x → x.answer ≡ Some b → AreShown w x b (Some score) →
-      Meets w bodies (Asked (Done e true)) u (reply_of_result ended_reply result))
+      Meets w bodies (Asked (Done e true air)) u (reply_of_result ended_reply result))
   pub none_shown : (w : World) (bodies : ℕ → FrameValue) (x : Exchange) → StandsFor v w bodies →
       exchange w e ≡ Some x → is_request x.content ≡ false → NoneIsShown w x heard →
-      Meets w bodies (Asked (Done e false)) u (reply_of_result ended_reply result)
-  pub found : is_ok result ≡ is_some (find (λ x. x.number == e) v.opened)
-  pub refused : IfErr result (λ reason. (reason ≡ NoExchange) × (u ≡ v))
+      Meets w bodies (Asked (Done e false air)) u (reply_of_result ended_reply result)
+  pub found : is_ok result ≡ is_none (end_refusal v e air)
+  pub refused : IfErr result (λ reason. (end_refusal v e air ≡ Some reason) × (u ≡ v))
 
 -- u stands for the world that an outcome leads to, that world is unheard, and the reply is the outcome's
 pub record MeetsUnheard (bodies : ℕ → FrameValue) (o : Outcome) (u : TransmitValue)

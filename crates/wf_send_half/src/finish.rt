@@ -1,21 +1,21 @@
 //! The end of an exchange.
 
-ghost use Rattle.std.specs.Prelude.{◌≡◌, ◌≢◌, ◌<◌, ◌==◌, ℕ, Bool, true, false, Some, length, find, is_ok, is_some, IfOk, IfErr, IfNone, IfSome, List};
+ghost use Rattle.std.specs.Prelude.{◌≡◌, ◌≢◌, ◌<◌, ◌==◌, ℕ, Bool, true, false, Some, length, find, is_ok, is_none, is_some, Option, IfOk, IfErr, IfNone, IfSome, List};
 ghost use Rattle.wf_frame.specs.Frames.{FrameValue};
 ghost use Rattle.wf_frame.specs.declared.classes.Fate.TheVariants.{Held};
 ghost use Rattle.wf_def_world.specs.World.{World, Mpdu, Exchange, exchange as exchange_in};
 ghost use Rattle.wf_def_world.specs.CanSend.{is_request};
+ghost use Rattle.wf_def_world.specs.Exchanges.{charge_of};
 ghost use Rattle.wf_def_world.specs.Step.{done_outcome};
 ghost use Rattle.wf_send_half_refines.specs.Half.{TransmitValue};
 ghost use Rattle.wf_send_half_refines.specs.Standing.{StandsFor, Meets, Parts, numbers_on_air, open_of};
 ghost use Rattle.wf_send_half_refines.specs.Ending.{IsEnding, after_close, after_finish, after_answer};
-ghost use Rattle.wf_send_half.specs.Bits.{is_shown, CanFinish, IsToSettle, IsClosed, GoesBy, with_one_more, all_ended, ended_reply, IsChargeSmall, AreShown, NoneIsShown, count_shown, count_shown_of};
+ghost use Rattle.wf_send_half.specs.Bits.{is_shown, has_bad_air, end_refusal, CanFinish, IsToSettle, IsClosed, GoesBy, with_one_more, all_ended, ended_reply, IsChargeSmall, AreShown, NoneIsShown, count_shown, count_shown_of};
 ghost use Rattle.wf_send_half.specs.Half.{HasWorld};
 ghost use Rattle.wf_send_half.specs.Replies.{reply_of_result};
 ghost use Rattle.wf_def_agreement.specs.Receiver.{Score};
 ghost use Rattle.wf_frame.specs.declared.notes.Ask.TheVariants.{Done};
 ghost use Rattle.wf_frame.specs.declared.notes.Note.TheVariants.{Asked};
-ghost use Rattle.wf_frame.specs.declared.notes.Refusal.TheVariants.{NoExchange};
 ghost use Rattle.wf_send_half.specs.Counts.{AreCounted, HasFate};
 
 use crate::Transmit;
@@ -60,34 +60,57 @@ impl Transmit {
     /// answer: the start and the bits of a BlockAck (IEEE 802.11-2012, 8.3.1.9), of which the first 64 count,
     /// or all 256 where the TID's window is above 64. Each number that it shows is acknowledged, and `acked`
     /// counts them; each other one waits again, or fails where it was sent `attempts` times. A request is
-    /// heard where anything was. Where the exchange is not open, refused as NoExchange.
-    pub fn done(&mut self, exchange: u64, heard: Option<(Seq12, Bits256)>) -> Result<Ended, Refusal>
+    /// heard where anything was. Where `air` is named, the station pays so many microseconds, and not what
+    /// was computed of the exchange. Where the exchange is not open, refused as NoExchange, and then, where
+    /// `air` is 0 or above the setting `charge`, as BadAir.
+    pub fn done(
+        &mut self,
+        exchange: u64,
+        heard: Option<(Seq12, Bits256)>,
+        air: Option<u32>,
+    ) -> Result<Ended, Refusal>
         requires some { HasWorld self.old }
         requires small { IsChargeSmall self.old exchange }
         ensures lost { IfNone heard ((w : World) (bodies : ℕ → FrameValue) → StandsFor self.old w bodies →
-            Meets w bodies (Asked (Done exchange false)) self.new (reply_of_result ended_reply result)) }
+            Meets w bodies (Asked (Done exchange false air)) self.new (reply_of_result ended_reply result)) }
         ensures shown { IfSome heard (λ score. (w : World) (bodies : ℕ → FrameValue) (x : Exchange)
             (b : Score) → StandsFor self.old w bodies →
             exchange_in w exchange ≡ Some x → x.answer ≡ Some b → AreShown w x b (Some score) →
-            Meets w bodies (Asked (Done exchange true)) self.new (reply_of_result ended_reply result)) }
+            Meets w bodies (Asked (Done exchange true air)) self.new (reply_of_result ended_reply result)) }
         ensures none_shown { (w : World) (bodies : ℕ → FrameValue) (x : Exchange) →
             StandsFor self.old w bodies →
             exchange_in w exchange ≡ Some x → is_request x.content ≡ false → NoneIsShown w x heard →
-            Meets w bodies (Asked (Done exchange false)) self.new (reply_of_result ended_reply result) }
-        ensures found { is_ok result ≡ is_some (find (λ x. x.number == exchange) self.old.opened) }
-        ensures refused { IfErr result (λ reason. (reason ≡ NoExchange) × (self.new ≡ self.old)) }
+            Meets w bodies (Asked (Done exchange false air)) self.new (reply_of_result ended_reply result) }
+        ensures found { is_ok result ≡ is_none (end_refusal self.old exchange air) }
+        ensures refused { IfErr result (λ reason. (end_refusal self.old exchange air ≡ Some reason) ×
+            (self.new ≡ self.old)) }
         ensures acked { IfOk result (λ ended. IfSome (find (λ x. x.number == exchange) self.old.opened) (λ x.
             ended.acked ≡ count_shown_of self.old heard x)) }
         ensures kept { IfNone heard (HasWorld self.new) }
     {
+        if self.has_bad_air(exchange, air) {
+            return Err(Refusal::BadAir);
+        }
         let Some(open) = self.opened.take_out(exchange) else {
             return Err(Refusal::NoExchange);
         };
-        self.sched.charge(open.station, open.class, open.charge);
-        self.members.charge(open.station, open.class, open.charge);
+        let charge = air.unwrap_or(open.charge);
+        self.sched.charge(open.station, open.class, charge);
+        self.members.charge(open.station, open.class, charge);
         let ended = self.settle(&open, &heard);
         self.list(open.station);
         Ok(ended)
+    }
+
+    // Whether an exchange is open, and its end may not name this airtime.
+    fn has_bad_air(&self, exchange: u64, air: Option<u32>) -> bool
+        ensures { result ≡ has_bad_air self.now exchange air }
+    {
+        let is_bad = match air {
+            Some(air) => air == 0 || air > self.config.charge,
+            None => false,
+        };
+        self.opened.find(exchange).is_some() && is_bad
     }
 
     // What an exchange sent is settled, once it is closed and charged: the numbers of an aggregate by what
@@ -95,15 +118,15 @@ impl Transmit {
     fn settle(&mut self, open: &Open, heard: &Option<(Seq12, Bits256)>) -> Ended
         requires some { IsClosed self.old open.now }
         ensures settled { (v : TransmitValue) (w : World) (bodies : ℕ → FrameValue) (e : ℕ) (x : Exchange)
-            (answered : Bool) →
+            (answered : Bool) (air : Option ℕ) →
             StandsFor v w bodies → exchange_in w e ≡ Some x → open.now ≡ open_of x →
-            self.old ≡ after_close v open.now → GoesBy w x heard.now answered →
-            Parts self.new (done_outcome w x answered).world bodies }
+            self.old ≡ after_close v open.now (charge_of air x) → GoesBy w x heard.now answered →
+            Parts self.new (done_outcome w x answered air).world bodies }
         ensures reply { (v : TransmitValue) (w : World) (bodies : ℕ → FrameValue) (e : ℕ) (x : Exchange)
-            (answered : Bool) →
+            (answered : Bool) (air : Option ℕ) →
             StandsFor v w bodies → exchange_in w e ≡ Some x → open.now ≡ open_of x →
-            self.old ≡ after_close v open.now → GoesBy w x heard.now answered →
-            ended_reply result ≡ (done_outcome w x answered).reply }
+            self.old ≡ after_close v open.now (charge_of air x) → GoesBy w x heard.now answered →
+            ended_reply result ≡ (done_outcome w x answered air).reply }
         ensures acked { result.acked ≡ count_shown_of self.old heard.now open.now }
         ensures config { self.new.config ≡ self.old.config }
     {

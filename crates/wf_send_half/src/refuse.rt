@@ -7,7 +7,8 @@ ghost use Rattle.wf_frame.specs.declared.notes.Note.TheVariants.{Asked};
 ghost use Rattle.wf_frame.specs.declared.notes.Refusal.TheVariants.{BadRate, BadStation, NoStation, Debt};
 ghost use Rattle.wf_frame.specs.declared.classes.Class.TheVariants.{Bk, Be, Vi, Vo};
 ghost use Rattle.wf_def_lists.specs.Bounds.{deepest_deficit};
-ghost use Rattle.wf_def_air.specs.Airtime.{Ht, is_rate};
+ghost use Rattle.wf_def_air.specs.Airtime.{is_rate};
+ghost use Rattle.wf_def_world.specs.Rates.{rate_asked};
 ghost use Rattle.wf_def_world.specs.World.{World, share};
 ghost use Rattle.wf_def_world.specs.Refusals.{refusal, is_within};
 ghost use Rattle.wf_def_world.specs.Step.{class_to_send};
@@ -19,7 +20,7 @@ ghost use Rattle.std.specs.Result.{result_err};
 
 use crate::Transmit;
 use wf_air_time::Rate;
-use wf_frame::{Class, Refusal};
+use wf_frame::{AskedRate, Class, Refusal};
 
 /// The most that one tick moves the clock, in microseconds.
 const LONGEST_TICK: u32 = 10_000_000;
@@ -54,12 +55,35 @@ pub(crate) fn refuse_where(condition: bool, reason: Refusal) -> Result<(), Refus
     if condition { Err(reason) } else { Ok(()) }
 }
 
-// The rate of an MCS, a width in MHz and a guard interval.
-fn rate_of(mcs: u8, mhz: u8, short: bool) -> Result<Rate, Refusal>
-    ensures refused { result_err result ≡ (if not (is_rate (Ht mcs mhz short)) then Some BadRate else None) }
-    ensures rate { IfOk result (λ rate. rate ≡ Ht mcs mhz short) }
+// The rate of these numbers, where there is one.
+fn made_rate(asked: AskedRate) -> Result<Rate, wf_air_time::BadRate>
+    ensures made { IfOk result (λ rate. rate ≡ rate_asked asked) }
+    ensures within { IfOk result (λ _. is_rate (rate_asked asked) ≡ true) }
+    ensures refused { IfErr result (λ _. is_rate (rate_asked asked) ≡ false) }
 {
-    match Rate::ht(mcs, mhz, short) {
+    match asked {
+        AskedRate::Ht { mcs, mhz, short } => Rate::ht(mcs, mhz, short),
+        AskedRate::Vht {
+            mcs,
+            mhz,
+            short,
+            streams,
+        } => Rate::vht(mcs, mhz, short, streams),
+        AskedRate::He {
+            mcs,
+            mhz,
+            guard,
+            streams,
+        } => Rate::he(mcs, mhz, guard, streams),
+    }
+}
+
+// The rate of these numbers.
+fn rate_of(asked: AskedRate) -> Result<Rate, Refusal>
+    ensures refused { result_err result ≡ (if not (is_rate (rate_asked asked)) then Some BadRate else None) }
+    ensures rate { IfOk result (λ rate. rate ≡ rate_asked asked) }
+{
+    match made_rate(asked) {
         Ok(rate) => Ok(rate),
         Err(_) => Err(Refusal::BadRate),
     }
@@ -147,20 +171,14 @@ impl Transmit {
     }
 
     // A station that is sent to at another rate.
-    pub(crate) fn check_rate(
-        &self,
-        station: u16,
-        mcs: u8,
-        mhz: u8,
-        short: bool,
-    ) -> Result<Rate, Refusal>
+    pub(crate) fn check_rate(&self, station: u16, asked: AskedRate) -> Result<Rate, Refusal>
         ensures refused { (w : World) (bodies : ℕ → FrameValue) → StandsFor self.now w bodies →
-            result_err result ≡ refusal w (Asked (Rates station mcs mhz short)) }
-        ensures rate { IfOk result (λ rate. rate ≡ Ht mcs mhz short) }
+            result_err result ≡ refusal w (Asked (Rates station asked)) }
+        ensures rate { IfOk result (λ rate. rate ≡ rate_asked asked) }
         ensures within { IfOk result (λ _. station < self.now.config.stations) }
     {
         self.in_range(station)?;
-        let rate = rate_of(mcs, mhz, short)?;
+        let rate = rate_of(asked)?;
         self.live(station)?;
         Ok(rate)
     }

@@ -12,7 +12,7 @@ ghost use Rattle.wf_send_half.specs.Replies.{reply_of_result};
 
 use crate::Transmit;
 use crate::refuse::check_tick;
-use wf_frame::{Class, Refusal};
+use wf_frame::{AskedRate, Class, Refusal};
 use wf_octets_seq12::Seq12;
 
 impl Transmit {
@@ -59,14 +59,14 @@ impl Transmit {
     }
 
     /// A station is sent to at this rate from now on. Refused as BadStation, BadRate or NoStation.
-    pub fn rate(&mut self, station: u16, mcs: u8, mhz: u8, short: bool) -> Result<(), Refusal>
+    pub fn rate(&mut self, station: u16, asked: AskedRate) -> Result<(), Refusal>
         ensures meets { (w : World) (bodies : ℕ → FrameValue) → StandsFor self.old w bodies →
-            Meets w bodies (Asked (Rate station mcs mhz short)) self.new
+            Meets w bodies (Asked (Rate station asked)) self.new
             (reply_of_result (λ _. RateSet) result) }
         ensures refused { IfErr result (λ _. self.new ≡ self.old) }
         ensures kept { HasWorld self.old → HasWorld self.new }
     {
-        let rate = self.check_rate(station, mcs, mhz, short)?;
+        let rate = self.check_rate(station, asked)?;
         self.members.set_rate(station, rate);
         Ok(())
     }

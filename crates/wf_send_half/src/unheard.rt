@@ -16,25 +16,27 @@ ghost use Rattle.wf_send_half.specs.Driven.{outcome_after_done, world_after_done
 ghost use Rattle.wf_send_half.specs.Replies.{reply_of_result};
 ghost use Rattle.wf_send_half.specs.declared.finish.Ended.{Ended};
 
-/// An exchange ends, whatever bits were heard. A half that stood for an unheard world stands for the one in
-/// which exactly the numbers that the bits show arrived just before their Done; that world is unheard too,
-/// and the reply is that Done's. So a half is never without a world. Who is ready stays so, but for the
-/// exchange's station in the class of its TID.
+/// An exchange ends, whatever bits were heard and whatever airtime is named. A half that stood for an
+/// unheard world stands for the one in which exactly the numbers that the bits show arrived just before
+/// their Done; that world is unheard too, and the reply is that Done's. So a half is never without a world.
+/// Who is ready stays so, but for the exchange's station in the class of its TID.
 pub fn an_exchange_ends_as_a_driver_tells()
     ensures meets { (v u : TransmitValue) (w : World) (bodies : ℕ → FrameValue) → StandsFor v w bodies →
         IsUnheard w →
-        (e : ℕ) (heard : Option (ℕ × List ℕ)) (result : Result Ended Refusal) →
-        IsAfterDone v u e heard result → (caller : ℕ) →
-        MeetsUnheard bodies (outcome_after_done w caller e heard) u (reply_of_result ended_reply result) }
+        (e : ℕ) (heard : Option (ℕ × List ℕ)) (air : Option ℕ) (result : Result Ended Refusal) →
+        IsAfterDone v u e heard air result → (caller : ℕ) →
+        MeetsUnheard bodies (outcome_after_done w caller e heard air) u
+        (reply_of_result ended_reply result) }
     ensures ready { (v : TransmitValue) (w : World) (bodies : ℕ → FrameValue) → StandsFor v w bodies →
         IsUnheard w →
         (caller e : ℕ) (x : Exchange) → exchange w e ≡ Some x → (i : ℕ) (c : Class) →
         (i ≡ x.station → class_of x.tid ≡ c → ⊥) →
-        (heard : Option (ℕ × List ℕ)) → is_ready (world_after_done w caller e heard) c i ≡ is_ready w c i }
+        (heard : Option (ℕ × List ℕ)) (air : Option ℕ) →
+        is_ready (world_after_done w caller e heard air) c i ≡ is_ready w c i }
     ensures flags { (v u : TransmitValue) (w : World) (bodies : ℕ → FrameValue) → StandsFor v w bodies →
         IsUnheard w →
-        (e : ℕ) (heard : Option (ℕ × List ℕ)) (result : Result Ended Refusal) →
-        IsAfterDone v u e heard result → (i : ℕ) (c : Class) →
+        (e : ℕ) (heard : Option (ℕ × List ℕ)) (air : Option ℕ) (result : Result Ended Refusal) →
+        IsAfterDone v u e heard air result → (i : ℕ) (c : Class) →
         IfSome (find (λ x. x.number == e) v.opened) (λ x. i ≡ x.station → class_of x.tid ≡ c → ⊥) →
         is_ready_of u c i ≡ is_ready_of v c i }
 {}

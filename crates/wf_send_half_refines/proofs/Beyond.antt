@@ -116,10 +116,10 @@ unfolding after_done
 beyond_after_done (Frames mpdus) w x heard = beyond_all_settled mpdus w _ _ _
 beyond_after_done (Request start) w x heard = beyond_on_session w _ _ _
 
-pub beyond_ended : (w : World) (x : Exchange) (heard : Bool) →
-    IsBeyond x.station x.tid (without_exchange w x.number) (done_outcome w x heard).world
+pub beyond_ended : (w : World) (x : Exchange) (heard : Bool) (air : Option ℕ) →
+    IsBeyond x.station x.tid (without_exchange w x.number) (done_outcome w x heard air).world
 unfolding done_outcome after_charge
-beyond_ended w x heard = beyond_then x.station x.tid (without_exchange w x.number) _ _
+beyond_ended w x heard air = beyond_then x.station x.tid (without_exchange w x.number) _ _
     (beyond_on_share (without_exchange w x.number) x.station x.tid x.class _)
     (beyond_after_done x.content _ x heard)
 
@@ -139,13 +139,13 @@ asks_filtered s j p (y ∷ ys) h = elim (cases_Bool (p y)) [
     not_this true b = refl
     not_this false b = refl
 
-module _ (w : World) (e : ℕ) (x : Exchange) (heard : Bool) (kept : IsKept (books w))
+module _ (w : World) (e : ℕ) (x : Exchange) (heard : Bool) (air : Option ℕ) (kept : IsKept (books w))
     (found : IsFound w e x) where
-  ended_tid : (j : ℕ) → (j ≡ x.tid → ⊥) → IsSameTid w (done_outcome w x heard).world x.station j
+  ended_tid : (j : ℕ) → (j ≡ x.tid → ⊥) → IsSameTid w (done_outcome w x heard air).world x.station j
   unfolding without_exchange
   ended_tid j other =
-      let b : IsBeyond x.station x.tid (without_exchange w x.number) (done_outcome w x heard).world =
-      beyond_ended w x heard in
+      let b : IsBeyond x.station x.tid (without_exchange w x.number) (done_outcome w x heard air).world =
+      beyond_ended w x heard air in
       record {
         session = ap (λ (y : Tid). y.session) (b.tids j other);
         request = ap (asks x.station j) b.opened
@@ -154,37 +154,38 @@ module _ (w : World) (e : ℕ) (x : Exchange) (heard : Bool) (kept : IsKept (boo
             (λ z. not (z.number == x.number) ≡ false → z.tid ≡ j → ⊥)
             (λ z k goes is. other (sym is ∙ ap (λ (y : Exchange). y.tid)
             (k (eqb-true _ _ (not-false _ goes))))) w.opened (only_this w e x kept found));
-        queued = queued_same w (done_outcome w x heard).world x.station j
+        queued = queued_same w (done_outcome w x heard air).world x.station j
             (ap (λ (y : Tid). y.queues) (b.tids j other))
-            (λ q _. ap (λ (z : Shelves). length (z.queues q).items) (shelves_ended w x heard));
+            (λ q _. ap (λ (z : Shelves). length (z.queues q).items) (shelves_ended air w x heard));
       }
 
   own_ended : (c : Class) → (class_of x.tid ≡ c → ⊥) →
-      is_ready (done_outcome w x heard).world c x.station ≡ is_ready w c x.station
+      is_ready (done_outcome w x heard air).world c x.station ≡ is_ready w c x.station
   unfolding without_exchange
   own_ended c other =
-      let b : IsBeyond x.station x.tid (without_exchange w x.number) (done_outcome w x heard).world =
-      beyond_ended w x heard in
-      ready_same_by w (done_outcome w x heard).world c x.station b.live (b.receives c)
+      let b : IsBeyond x.station x.tid (without_exchange w x.number) (done_outcome w x heard air).world =
+      beyond_ended w x heard air in
+      ready_same_by w (done_outcome w x heard air).world c x.station b.live (b.receives c)
       (ended_tid (lower_tid c) (λ k. other (ap class_of (sym k) ∙ lower_class c)))
       (ended_tid (upper_tid c) (λ k. other (ap class_of (sym k) ∙ upper_class c)))
 
-done_is : (w : World) (e : ℕ) (heard : Bool) (x : Exchange) → exchange w e ≡ Some x →
-    (outcome_of w (Asked (Done e heard))).world ≡ (done_outcome w x heard).world
+done_is : (w : World) (e : ℕ) (heard : Bool) (air : Option ℕ) (x : Exchange) → exchange w e ≡ Some x →
+    (outcome_of w (Asked (Done e heard air))).world ≡ (done_outcome w x heard air).world
 unfolding outcome_of outcome_where_open
-done_is w e heard x found = ap (λ (o : Option Exchange).
-    (outcome_where_open w o (λ y. done_outcome w y heard)).world) found
+done_is w e heard air x found = ap (λ (o : Option Exchange).
+    (outcome_where_open w o (λ y. done_outcome w y heard air)).world) found
 
-pub ready_ended : (w : World) (e : ℕ) (heard : Bool) (x : Exchange) → IsReached w → exchange w e ≡ Some x →
+pub ready_ended : (w : World) (e : ℕ) (heard : Bool) (air : Option ℕ) (x : Exchange) → IsReached w →
+    exchange w e ≡ Some x →
     (i : ℕ) (c : Class) → (i ≡ x.station → class_of x.tid ≡ c → ⊥) →
-    is_ready (step w (Asked (Done e heard))).world c i ≡ is_ready w c i
-ready_ended w e heard x r found i c other = elim (cases_eq i x.station) [
-  | inl same ↦ subst (λ (n : ℕ). is_ready (step w (Asked (Done e heard))).world c n ≡ is_ready w c n)
+    is_ready (step w (Asked (Done e heard air))).world c i ≡ is_ready w c i
+ready_ended w e heard air x r found i c other = elim (cases_eq i x.station) [
+  | inl same ↦ subst (λ (n : ℕ). is_ready (step w (Asked (Done e heard air))).world c n ≡ is_ready w c n)
       (sym same)
-      (ready_stepped w (Asked (Done e heard)) x.station c
-      (λ _. ap (λ (u : World). is_ready u c x.station) (done_is w e heard x found)
-      ∙ own_ended w e x heard (orderly_reached w r).kept found c (other same)))
-  | inr differs ↦ ready_others w (Asked (Done e heard)) r i c
+      (ready_stepped w (Asked (Done e heard air)) x.station c
+      (λ _. ap (λ (u : World). is_ready u c x.station) (done_is w e heard air x found)
+      ∙ own_ended w e x heard air (orderly_reached w r).kept found c (other same)))
+  | inr differs ↦ ready_others w (Asked (Done e heard air)) r i c
       (λ k. differs (elsewhere (exchange w e) found k)) refl
 ]
   where

@@ -3,7 +3,9 @@ use Rattle.std.proofs.Common.{◌≡◌, refl, ap, sym, ◌∙◌, subst, arith,
 use Rattle.std.proofs.lemmas.List.Elements.{All-rest}
 use Rattle.wf_frame.specs.declared.classes.Class.{Class}
 use Rattle.wf_frame.specs.Frames.{FrameValue}
-use Rattle.wf_def_air.specs.Airtime.{Rate, Ht}
+use Rattle.wf_frame.specs.declared.notes.AskedRate.{AskedRate}
+use Rattle.wf_def_air.specs.Airtime.{Rate}
+use Rattle.wf_def_world.specs.Rates.{rate_asked}
 use Rattle.wf_def_world.specs.World.{World, Share, on_share}
 use Rattle.wf_def_world.specs.Step.{class_to_send, tick_outcome, rate_outcome, sleep_outcome, wake_outcome, poll_outcome, rx_outcome, reap_outcome}
 use Rattle.wf_law_runs.proofs.Deficits.Books.{updc, updc_idle}
@@ -47,20 +49,17 @@ tick_parts v w bodies by h =
 
 module _ (v : TransmitValue) (w : World) (bodies : ℕ → FrameValue) (s : ℕ) (low : s < w.config.stations)
     (h : Parts v w bodies) where
-  pub rate_parts : (mcs mhz : ℕ) (short : Bool) →
-      Parts (record v {
-        members = on_member v.members s
-            (with_rate (Ht mcs mhz short));
-      })
-      (rate_outcome w s mcs mhz short).world bodies
+  pub rate_parts : (rate : AskedRate) →
+      Parts (record v { members = on_member v.members s (with_rate (rate_asked rate)) })
+      (rate_outcome w s rate).world bodies
   unfolding rate_outcome
-  rate_parts mcs mhz short =
-      let rate : Rate = Ht mcs mhz short in
-      station_parts v w bodies s (λ x. record x { rate = rate }) (λ x. record x { rate = rate })
-      (on_member v.members s (with_rate rate)) v.sleepers v.sched
-      (λ x. refl) (λ x. refl) (rate_leaves w s mcs mhz short v.sched h.others.turns)
-      (λ k. member_changed v.members v.sleepers w.config.stations (roster w).stations s (with_rate rate)
-      (λ x. record x { rate = rate }) k low (rated rate) (λ x. refl) (λ x. refl)) h
+  rate_parts rate =
+      let given : Rate = rate_asked rate in
+      station_parts v w bodies s (λ x. record x { rate = given }) (λ x. record x { rate = given })
+      (on_member v.members s (with_rate given)) v.sleepers v.sched
+      (λ x. refl) (λ x. refl) (rate_leaves w s rate v.sched h.others.turns)
+      (λ k. member_changed v.members v.sleepers w.config.stations (roster w).stations s (with_rate given)
+      (λ x. record x { rate = given }) k low (rated given) (λ x. refl) (λ x. refl)) h
 
   pub sleep_parts : Parts (record v {
     sleepers =

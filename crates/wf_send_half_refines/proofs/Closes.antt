@@ -1,10 +1,10 @@
 -- An exchange ends: it is no longer open, and its station pays.
-use Rattle.std.proofs.Common.{◌≡◌, refl, ap, ◌∙◌, ℕ, ◌+◌, ◌<◌, ◌==◌, Bool, true, false, not, if◌then◌else◌, List, [], ◌∷◌, map}
+use Rattle.std.proofs.Common.{◌≡◌, refl, ap, ◌∙◌, ℕ, ◌+◌, ◌<◌, ◌==◌, Bool, true, false, not, if◌then◌else◌, List, [], ◌∷◌, map, Option}
 use Rattle.std.specs.Prelude.{filter}
 use Rattle.wf_frame.specs.declared.classes.Class.{Class}
 use Rattle.wf_frame.specs.Frames.{FrameValue}
 use Rattle.wf_def_world.specs.World.{World, Share, Exchange, on_share, without_exchange}
-use Rattle.wf_def_world.specs.Exchanges.{after_charge, paid}
+use Rattle.wf_def_world.specs.Exchanges.{after_charge, paid, charge_of}
 use Rattle.wf_law_runs.proofs.Deficits.Books.{updc, updc_idle}
 use Rattle.wf_sched_stations_refines.specs.Standing.{with_deficit_charged as with_turns_charged, share_in}
 use Rattle.wf_sched_stations_refines.proofs.Charges.{charge_stands}
@@ -52,38 +52,39 @@ close_parts v w bodies e h =
       frames = p.frames;
     })
 
-pub charge_parts : (v : TransmitValue) (w : World) (bodies : ℕ → FrameValue) (x : Exchange) →
+pub charge_parts : (v : TransmitValue) (w : World) (bodies : ℕ → FrameValue) (x : Exchange) (air : Option ℕ) →
     x.station < w.config.stations → Parts v w bodies →
     Parts (record v {
-      sched = with_turns_charged v.sched x.station x.class x.charge;
+      sched = with_turns_charged v.sched x.station x.class (charge_of air x);
       members =
-          on_member v.members x.station (with_charge x.class x.charge);
-    }) (after_charge w x) bodies
+          on_member v.members x.station (with_charge x.class (charge_of air x));
+    }) (after_charge w x air) bodies
 unfolding after_charge on_share
-charge_parts v w bodies x low h =
-    let f : Share → Share = paid x.charge in
+charge_parts v w bodies x air low h =
+    let n : ℕ = charge_of air x in
+    let f : Share → Share = paid n in
     let c : Class = x.class in
     station_parts v w bodies x.station (λ y. reshared y c f)
-    (λ y. record y { charged = updc y.charged c (y.charged c + x.charge) })
-    (on_member v.members x.station (with_charge c x.charge)) v.sleepers
-    (with_turns_charged v.sched x.station c x.charge)
+    (λ y. record y { charged = updc y.charged c (y.charged c + n) })
+    (on_member v.members x.station (with_charge c n)) v.sleepers
+    (with_turns_charged v.sched x.station c n)
     (λ y. refl)
     (λ y. view_reshared y c f
     ∙ ap (λ (g : Class → Bool). record (view_of y) {
       upper = g;
       charged =
-          updc (view_of y).charged c ((share_in y c).charged + x.charge);
+          updc (view_of y).charged c ((share_in y c).charged + n);
       received =
           updc (view_of y).received c (share_in y c).received;
     })
     (updc_idle (view_of y).upper c (share_in y c).upper refl)
     ∙ ap (λ (g : Class → ℕ). record (view_of y) {
       charged =
-          updc (view_of y).charged c ((share_in y c).charged + x.charge);
+          updc (view_of y).charged c ((share_in y c).charged + n);
       received = g;
     })
     (updc_idle (view_of y).received c (share_in y c).received refl))
-    (charge_stands v.sched w x h.others.turns)
+    (charge_stands v.sched w x air h.others.turns)
     (λ k. member_changed v.members v.sleepers w.config.stations (roster w).stations x.station
-    (with_charge c x.charge) (λ y. record y { charged = updc y.charged c (y.charged c + x.charge) }) k low
-    (charged c x.charge) (λ y. refl) (λ y. refl)) h
+    (with_charge c n) (λ y. record y { charged = updc y.charged c (y.charged c + n) }) k low
+    (charged c n) (λ y. refl) (λ y. refl)) h

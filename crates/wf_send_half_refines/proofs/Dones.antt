@@ -7,7 +7,7 @@ use Rattle.wf_frame.specs.declared.notes.ReplyNote.TheVariants.{Ended}
 use Rattle.wf_frame.specs.Frames.{FrameValue}
 use Rattle.wf_def_agreement.specs.Session.{Session, Slot, slot, is_acknowledged, is_waiting, is_failed, numbers_where}
 use Rattle.wf_def_world.specs.World.{World, Exchange, Mpdu, Content, Frames, Request, is_live, session, exchange, on_session, without_exchange}
-use Rattle.wf_def_world.specs.Exchanges.{is_acked, with_all_settled, with_heard_start, after_charge, after_done, count_in}
+use Rattle.wf_def_world.specs.Exchanges.{is_acked, with_all_settled, with_heard_start, after_charge, after_done, count_in, charge_of}
 use Rattle.wf_def_world.specs.Refusals.{refusal}
 use Rattle.wf_def_world.specs.Step.{Outcome, outcome_of, outcome_where_open, station_of, done_outcome}
 use Rattle.wf_law_runs.specs.Windows.{IfAsks, IsPending}
@@ -30,24 +30,29 @@ use Rattle.wf_send_half_refines.proofs.Endings.{closed_agreements, closed_parts,
 
 -- ---- the world after it
 
-pub data_world : (w : World) (x : Exchange) (heard : Bool) (mpdus : List Mpdu) → x.content ≡ Frames mpdus →
-    (done_outcome w x heard).world ≡ with_all_settled
-    (after_charge (without_exchange w x.number) x) x.station x.tid (is_acked heard x.answer) mpdus
+pub data_world : (w : World) (x : Exchange) (heard : Bool) (air : Option ℕ) (mpdus : List Mpdu) →
+    x.content ≡ Frames mpdus →
+    (done_outcome w x heard air).world ≡ with_all_settled
+    (after_charge (without_exchange w x.number) x air) x.station x.tid (is_acked heard x.answer) mpdus
 unfolding done_outcome after_done
-data_world w x heard mpdus is = ap (after_done (after_charge (without_exchange w x.number) x) x heard) is
+data_world w x heard air mpdus is = ap
+    (after_done (after_charge (without_exchange w x.number) x air) x heard) is
 
-pub request_world : (w : World) (x : Exchange) (heard : Bool) (start : ℕ) → x.content ≡ Request start →
-    (done_outcome w x heard).world ≡ on_session (after_charge (without_exchange w x.number) x) x.station x.tid
-    (with_heard_start heard start)
+pub request_world : (w : World) (x : Exchange) (heard : Bool) (air : Option ℕ) (start : ℕ) →
+    x.content ≡ Request start →
+    (done_outcome w x heard air).world ≡ on_session
+    (after_charge (without_exchange w x.number) x air) x.station
+    x.tid (with_heard_start heard start)
 unfolding done_outcome after_done
-request_world w x heard start is = ap (after_done (after_charge (without_exchange w x.number) x) x heard) is
+request_world w x heard air start is = ap
+    (after_done (after_charge (without_exchange w x.number) x air) x heard) is
 
-pub done_reply : (w : World) (x : Exchange) (heard : Bool) →
-    (done_outcome w x heard).reply ≡ Ended (count_in (done_outcome w x heard).world x is_acknowledged)
-    (count_in (done_outcome w x heard).world x is_waiting)
-    (count_in (done_outcome w x heard).world x is_failed)
+pub done_reply : (w : World) (x : Exchange) (heard : Bool) (air : Option ℕ) →
+    (done_outcome w x heard air).reply ≡ Ended (count_in (done_outcome w x heard air).world x is_acknowledged)
+    (count_in (done_outcome w x heard air).world x is_waiting)
+    (count_in (done_outcome w x heard air).world x is_failed)
 unfolding done_outcome
-done_reply w x heard = refl
+done_reply w x heard air = refl
 
 -- ---- a request
 
@@ -77,13 +82,14 @@ module _ (v : TransmitValue) (w : World) (bodies : ℕ → FrameValue) (h : Stan
       (owned.mine x.station x.tid (slot y y.first).id y.first
       (record { from = omega arith; below = omega (arith, some); id = refl })).1
 
-  pub unheard_parts : Parts (after_close v (open_of x)) (done_outcome w x false).world bodies
-  unheard_parts =
-      let u : World = after_charge (without_exchange w x.number) x in
+  pub unheard_parts : (air : Option ℕ) →
+      Parts (after_close v (open_of x) (charge_of air x)) (done_outcome w x false air).world bodies
+  unheard_parts air =
+      let u : World = after_charge (without_exchange w x.number) x air in
       let live : is_live w x.station ≡ true = open_live w h.reached e x known in
-      subst (λ (k : World). Parts (after_close v (open_of x)) k bodies)
-      (sym (request_world w x false start is))
-      (leaves_parts (after_close v (open_of x)) u (on_session u x.station x.tid
+      subst (λ (k : World). Parts (after_close v (open_of x) (charge_of air x)) k bodies)
+      (sym (request_world w x false air start is))
+      (leaves_parts (after_close v (open_of x) (charge_of air x)) u (on_session u x.station x.tid
       (with_heard_start false start)) bodies
       (record {
         part = session_alone u x.station x.tid _;
@@ -93,40 +99,46 @@ module _ (v : TransmitValue) (w : World) (bodies : ℕ → FrameValue) (h : Stan
         ledger =
             ledger_session u x.station x.tid _;
       })
-      (session_leaves u x.station x.tid _) (closed_parts v w bodies x
+      (session_leaves u x.station x.tid _) (closed_parts v w bodies x air
       (h.parts.others.turns.live x.station live) h.parts))
 
-  pub heard_parts : (z : WindowValue) → WindowsHaveRoom (with_window v.windows x.station x.tid z) →
+  pub heard_parts : (air : Option ℕ) (z : WindowValue) →
+      WindowsHaveRoom (with_window v.windows x.station x.tid z) →
       WindowStandsFor z (record (session w x.station x.tid) {
         heard =
             max (session w x.station x.tid).heard start;
       }) bodies →
-      Parts (record (after_close v (open_of x)) { windows = with_window v.windows x.station x.tid z })
-      (done_outcome w x true).world bodies
-  heard_parts z room stands =
-      let u : World = after_charge (without_exchange w x.number) x in
+      Parts (record (after_close v (open_of x) (charge_of air x))
+      { windows = with_window v.windows x.station x.tid z })
+      (done_outcome w x true air).world bodies
+  heard_parts air z room stands =
+      let u : World = after_charge (without_exchange w x.number) x air in
       let live : is_live w x.station ≡ true = open_live w h.reached e x known in
-      let a : agreements u ≡ agreements w = closed_agreements w x in
-      subst (λ (k : World). Parts (record (after_close v (open_of x)) {
+      let a : agreements u ≡ agreements w = closed_agreements w x air in
+      subst (λ (k : World). Parts (record (after_close v (open_of x) (charge_of air x)) {
         windows =
             with_window v.windows x.station x.tid z;
-      }) k bodies) (sym (request_world w x true start is))
-      (session_parts (after_close v (open_of x)) u bodies x.station x.tid (with_heard_start true start) z
+      }) k bodies) (sym (request_world w x true air start is))
+      (session_parts (after_close v (open_of x) (charge_of air x)) u bodies x.station x.tid
+      (with_heard_start true start) z
       (ap (λ (k : Agreements). k.live x.station) a ∙ live) request_tid room
       (subst (λ (y : Session). WindowStandsFor z (record y { heard = max y.heard start }) bodies)
       (sym (ap (λ (k : Agreements). k.sessions x.station x.tid) a)) stands)
-      (closed_parts v w bodies x (h.parts.others.turns.live x.station live) h.parts))
+      (closed_parts v w bodies x air (h.parts.others.turns.live x.station live) h.parts))
 
 -- ---- the whole call
 
 pub done_meets : (v z : TransmitValue) (w : World) (bodies : ℕ → FrameValue) (e : ℕ) (heard : Bool)
-    (x : Exchange) → StandsFor v w bodies → exchange w e ≡ Some x → refusal w (Asked (Done e heard)) ≡ None →
-    Parts z (done_outcome w x heard).world bodies →
-    Meets w bodies (Asked (Done e heard)) (after_listing z x.station) (done_outcome w x heard).reply
+    (air : Option ℕ) (x : Exchange) → StandsFor v w bodies → exchange w e ≡ Some x →
+    refusal w (Asked (Done e heard air)) ≡ None →
+    Parts z (done_outcome w x heard air).world bodies →
+    Meets w bodies (Asked (Done e heard air)) (after_listing z x.station) (done_outcome w x heard air).reply
 unfolding outcome_of outcome_where_open
-done_meets v z w bodies e heard x h known done parts =
-    let outcome : outcome_where_open w (exchange w e) (λ y. done_outcome w y heard) ≡ done_outcome w x heard =
-    ap (λ (o : Option Exchange). outcome_where_open w o (λ y. done_outcome w y heard)) known in
-    subst (λ (o : Outcome). Meets w bodies (Asked (Done e heard)) (after_listing z x.station) o.reply) outcome
-    (listed_meets z w bodies (Asked (Done e heard)) h.reached tt tt done
+done_meets v z w bodies e heard air x h known done parts =
+    let outcome : outcome_where_open w (exchange w e) (λ y. done_outcome w y heard air)
+    ≡ done_outcome w x heard air =
+    ap (λ (o : Option Exchange). outcome_where_open w o (λ y. done_outcome w y heard air)) known in
+    subst (λ (o : Outcome). Meets w bodies (Asked (Done e heard air)) (after_listing z x.station) o.reply)
+    outcome
+    (listed_meets z w bodies (Asked (Done e heard air)) h.reached tt tt done
     (subst (λ (o : Outcome). Parts z o.world bodies) (sym outcome) parts) x.station (ap station_of known))

@@ -1,5 +1,5 @@
 -- An exchange of data begins to end, and one that sent a request ends.
-use Rattle.std.proofs.Common.{◌≡◌, refl, ap, sym, ◌∙◌, subst, arith, ℕ, suc, ◌<◌, ◌≤◌, ◌==◌, ◌||◌, Bool, true, false, if◌then◌else◌, List, [], ◌∷◌, ◌++◌, map, length, take, get_or, Some, None, inl, inr, eq-eqb}
+use Rattle.std.proofs.Common.{◌≡◌, refl, ap, sym, ◌∙◌, subst, arith, ℕ, suc, ◌<◌, ◌≤◌, ◌==◌, ◌||◌, Bool, true, false, if◌then◌else◌, List, [], ◌∷◌, ◌++◌, map, length, take, get_or, Some, None, inl, inr, eq-eqb, Option}
 use Rattle.std.specs.Prelude.{find, filter, not, sum_by, ◌%◌}
 use Rattle.std.proofs.lemmas.List.Sums.{sum_by-cons}
 use Rattle.std.proofs.lemmas.Bool.{cases_eq, cases_lt, ne_eqb}
@@ -12,7 +12,7 @@ use Rattle.wf_def_codel.specs.Codel.{Item}
 use Rattle.wf_def_lists.specs.Table.{at, has}
 use Rattle.wf_law_rules.proofs.Lemmas.Counts.{on-append, on-has}
 use Rattle.wf_def_world.specs.World.{World, Exchange, opening, Mpdu, is_live, session, receiver, queue, frame, accepted_count, exchange, without_exchange}
-use Rattle.wf_def_world.specs.Exchanges.{mpdus_of, paid, after_charge, with_all_settled}
+use Rattle.wf_def_world.specs.Exchanges.{mpdus_of, paid, after_charge, with_all_settled, charge_of}
 use Rattle.wf_law_runs.specs.Finished.{KeepsFinished, reaped_ids}
 use Rattle.wf_law_runs.specs.Places.{Queued, Numbered, IsNumbered, StandsOnce}
 use Rattle.wf_law_runs.specs.Sent.{IsSent, NumbersRise}
@@ -219,27 +219,29 @@ module _ (w : World) (r : IsReached w) (s t : ℕ) where
   )
 
 -- what a world has kept where an exchange is closed and charged
-closed_part : (w : World) (x : Exchange) → flows_part (after_charge (without_exchange w x.number) x)
-    ≡ flows_part w
+closed_part : (w : World) (x : Exchange) (air : Option ℕ) →
+    flows_part (after_charge (without_exchange w x.number) x air) ≡ flows_part w
 unfolding after_charge
-closed_part w x = share_alone (without_exchange w x.number) x.station x.class (paid x.charge)
+closed_part w x air = share_alone (without_exchange w x.number) x.station x.class (paid (charge_of air x))
     ∙ closing_alone w x.number
 
-pub closed_agreements : (w : World) (x : Exchange) →
-    agreements (after_charge (without_exchange w x.number) x) ≡ agreements w
+pub closed_agreements : (w : World) (x : Exchange) (air : Option ℕ) →
+    agreements (after_charge (without_exchange w x.number) x air) ≡ agreements w
 unfolding after_charge without_exchange
-closed_agreements w x = agreements_share (without_exchange w x.number) x.station x.class (paid x.charge)
+closed_agreements w x air =
+    agreements_share (without_exchange w x.number) x.station x.class (paid (charge_of air x))
 
 closed_config : (w : World) (x : Exchange) → (without_exchange w x.number).config ≡ w.config
 unfolding without_exchange
 closed_config w x = refl
 
-pub closed_parts : (v : TransmitValue) (w : World) (bodies : ℕ → FrameValue) (x : Exchange) →
+pub closed_parts : (v : TransmitValue) (w : World) (bodies : ℕ → FrameValue) (x : Exchange) (air : Option ℕ) →
     x.station < w.config.stations → Parts v w bodies →
-    Parts (after_close v (open_of x)) (after_charge (without_exchange w x.number) x) bodies
-closed_parts v w bodies x low h =
+    Parts (after_close v (open_of x) (charge_of air x))
+    (after_charge (without_exchange w x.number) x air) bodies
+closed_parts v w bodies x air low h =
     charge_parts (record v { opened = filter (λ y. not (y.number == x.number)) v.opened })
-    (without_exchange w x.number) bodies x (subst (λ (c : Config). x.station < c.stations)
+    (without_exchange w x.number) bodies x air (subst (λ (c : Config). x.station < c.stations)
     (sym (closed_config w x)) low) (close_parts v w bodies x.number h)
 
 -- each transmission of an exchange of data
@@ -280,21 +282,24 @@ module _ (v : TransmitValue) (w : World) (bodies : ℕ → FrameValue) (h : Stan
             number.carries;
       })).1
 
-  closed : World
-  closed = after_charge (without_exchange w x.number) x
+  closed : Option ℕ → World
+  closed air = after_charge (without_exchange w x.number) x air
 
   pub begins : (acked : ℕ → Bool) (m : Mpdu) (ms : List Mpdu) → mpdus_of x.content ≡ m ∷ ms →
       EachMpdu (λ k. (slot (session w x.station x.tid) k.number).attempts < w.config.attempts) (m ∷ ms) →
-      IsEnding (after_close v (open_of x)) (after_charge (without_exchange w x.number) x) bodies x.station
-      x.tid x.number acked (m ∷ ms) (with_all_settled
-      (after_charge (without_exchange w x.number) x) x.station x.tid acked (m ∷ ms))
+      (air : Option ℕ) →
+      IsEnding (after_close v (open_of x) (charge_of air x))
+      (after_charge (without_exchange w x.number) x air)
+      bodies x.station x.tid x.number acked (m ∷ ms) (with_all_settled
+      (after_charge (without_exchange w x.number) x air) x.station x.tid acked (m ∷ ms))
   unfolding closed
-  begins acked m ms is tried =
+  begins acked m ms is tried air =
       let y : Session = session w x.station x.tid in
-      let a : agreements closed ≡ agreements w = closed_agreements w x in
-      let p : flows_part closed ≡ flows_part w = closed_part w x in
-      let same : session closed x.station x.tid ≡ y = ap (λ (z : Agreements). z.sessions x.station x.tid) a in
-      let config : closed.config ≡ w.config = ap (λ (z : Agreements). z.config) a in
+      let a : agreements (closed air) ≡ agreements w = closed_agreements w x air in
+      let p : flows_part (closed air) ≡ flows_part w = closed_part w x air in
+      let same : session (closed air) x.station x.tid ≡ y = ap
+      (λ (z : Agreements). z.sessions x.station x.tid) a in
+      let config : (closed air).config ≡ w.config = ap (λ (z : Agreements). z.config) a in
       let live : is_live w x.station ≡ true = open_live w h.reached e x known in
       let each : EachMpdu (λ k. IsNumbered w k.id x.station x.tid k.number) (m ∷ ms) =
       subst (EachMpdu (λ k. IsNumbered w k.id x.station x.tid k.number)) is numbered in
@@ -312,10 +317,10 @@ module _ (v : TransmitValue) (w : World) (bodies : ℕ → FrameValue) (h : Stan
         once = rise_once y.first (m ∷ ms) rises;
       } in
       record {
-        parts = closed_parts v w bodies x (h.parts.others.turns.live x.station live) h.parts;
+        parts = closed_parts v w bodies x air (h.parts.others.turns.live x.station live) h.parts;
         live = ap (λ (z : Agreements). z.live x.station) a ∙ live;
         tid = tid_below m each.0;
-        flying = subst (λ (c : Config). AreFlying (session closed x.station x.tid)
+        flying = subst (λ (c : Config). AreFlying (session (closed air) x.station x.tid)
             (ending_of c x.number acked) (map (λ k. k.number) (m ∷ ms))) (sym config)
             (subst (λ (z : Session). AreFlying z ending (map (λ k. k.number) (m ∷ ms))) (sym same) flying);
         ids = subst (λ (z : Session). EachMpdu (λ k. (slot z k.number).id ≡ k.id) (m ∷ ms)) (sym same)
@@ -326,11 +331,12 @@ module _ (v : TransmitValue) (w : World) (bodies : ℕ → FrameValue) (h : Stan
       }
     where
       loose_each : (ks : List Mpdu) → EachMpdu (λ k. IsNumbered w k.id x.station x.tid k.number) ks →
-          EachMpdu (IsLoose (after_close v (open_of x)) (after_charge (without_exchange w x.number) x)) ks
+          EachMpdu (IsLoose (after_close v (open_of x) (charge_of air x))
+          (after_charge (without_exchange w x.number) x air)) ks
       loose_each [] each = tt
       loose_each (k ∷ ks) each =
-          let p : flows_part (after_charge (without_exchange w x.number) x) ≡ flows_part w =
-          closed_part w x in
+          let p : flows_part (after_charge (without_exchange w x.number) x air) ≡ flows_part w =
+          closed_part w x air in
           let is = known_id v w bodies h k.id x.station x.tid k.number each.0 in (
             record {
               low = omega (arith, is.0, ap (λ (z : Part). z.accepted) p);

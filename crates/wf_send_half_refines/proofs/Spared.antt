@@ -288,7 +288,7 @@ long_done (Asked (Join i window start exponent weight)) w s t q r keeps other sp
 long_done (Asked (Leave i)) w s t q r keeps other spared k =
     apart_gone (λ _. Unit {0}) (length (queue w q).items) q i w (λ _. tt)
     (apart_other w i s t q keeps (λ h. other (ap (λ (z : ℕ). Some z) (sym h))) (not-false _ r.1.0) k)
-long_done (Asked (Rate i mcs mhz short)) w s t q r keeps other spared k = long_on_station w i q _
+long_done (Asked (Rate i rate)) w s t q r keeps other spared k = long_on_station w i q _
 long_done (Asked (Tick by)) w s t q r keeps other spared k = omega arith
 long_done (Asked (Pull c)) w s t q r keeps other spared k =
     long_pulled (picked_station w c).winner w c s t q keeps refl other k
@@ -296,8 +296,8 @@ long_done (Asked (Arrive e j)) w s t q r keeps other spared k =
     long_open (exchange w e) w (λ x. arrive_outcome w x j) q (λ x. shelves_arrived w x j)
 long_done (Asked (Answer e)) w s t q r keeps other spared k =
     long_open (exchange w e) w (λ x. answer_outcome w x) q (λ x. shelves_answered w x)
-long_done (Asked (Done e heard)) w s t q r keeps other spared k =
-    long_open (exchange w e) w (λ x. done_outcome w x heard) q (λ x. shelves_ended w x heard)
+long_done (Asked (Done e heard air)) w s t q r keeps other spared k =
+    long_open (exchange w e) w (λ x. done_outcome w x heard air) q (λ x. shelves_ended air w x heard)
 long_done (Asked (Sleep i)) w s t q r keeps other spared k = long_on_station w i q _
 long_done (Asked (Wake i)) w s t q r keeps other spared k = long_on_station w i q _
 long_done (Asked (Poll i)) w s t q r keeps other spared k = long_on_station w i q _

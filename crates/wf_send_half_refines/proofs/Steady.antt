@@ -4,6 +4,7 @@ use Rattle.std.proofs.Common.{◌≡◌, refl, ap, ap₂, sym, ◌∙◌, ℕ, B
 use Rattle.std.specs.Prelude.{◌==◌}
 use Rattle.std.specs.List.{list_any}
 use Rattle.wf_frame.specs.declared.classes.Class.{Class}
+use Rattle.wf_frame.specs.declared.notes.AskedRate.{AskedRate}
 use Rattle.wf_frame.specs.declared.notes.Note.{Note}
 use Rattle.wf_frame.specs.declared.notes.Note.TheVariants.{Enqueue, Asked}
 use Rattle.wf_frame.specs.declared.notes.Ask.TheVariants.{Join, Leave, Rate, Tick, Pull, Arrive, Answer, Done, Sleep, Wake, Poll, Rx, Reap}
@@ -76,9 +77,9 @@ requests_on_station : (w : World) (i : ℕ) (f : Station → Station) (s t : ℕ
 unfolding on_station with_station
 requests_on_station w i f s t = refl
 
-steady_rated : (w : World) (i mcs mhz : ℕ) (short : Bool) → IsSteady w (rate_outcome w i mcs mhz short).world
+steady_rated : (w : World) (i : ℕ) (rate : AskedRate) → IsSteady w (rate_outcome w i rate).world
 unfolding rate_outcome
-steady_rated w i mcs mhz short = record {
+steady_rated w i rate = record {
   part = station_alone w i _ (λ x. refl);
   agreements = agreements_station w i _ (λ x. refl);
   requests = requests_on_station w i _;
@@ -165,7 +166,7 @@ ready_reap (id ∷ ids) w c s = refl
 steady_done : (note : Note) (w : World) → IsReached w → leaves_ready note ≡ true → (c : Class) (s : ℕ) →
     is_ready (outcome_of w note).world c s ≡ is_ready w c s
 unfolding outcome_of
-steady_done (Asked (Rate i mcs mhz short)) w r h c s = steady_ready w _ (steady_rated w i mcs mhz short) c s
+steady_done (Asked (Rate i rate)) w r h c s = steady_ready w _ (steady_rated w i rate) c s
 steady_done (Asked (Tick by)) w r h c s = ready_tick w by c s
 steady_done (Asked (Arrive e i)) w r h c s = steady_ready w
     (outcome_where_open w (exchange w e) (λ x. arrive_outcome w x i)).world
@@ -181,7 +182,7 @@ steady_done (Enqueue i t flow len) w r h c s = absurd (cc h)
 steady_done (Asked (Join i window start exponent weight)) w r h c s = absurd (cc h)
 steady_done (Asked (Leave i)) w r h c s = absurd (cc h)
 steady_done (Asked (Pull d)) w r h c s = absurd (cc h)
-steady_done (Asked (Done e heard)) w r h c s = absurd (cc h)
+steady_done (Asked (Done e heard air)) w r h c s = absurd (cc h)
 steady_done (Asked (Sleep i)) w r h c s = absurd (cc h)
 steady_done (Asked (Wake i)) w r h c s = absurd (cc h)
 steady_done (Asked (Poll i)) w r h c s = absurd (cc h)

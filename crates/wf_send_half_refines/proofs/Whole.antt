@@ -5,6 +5,7 @@ use Rattle.std.specs.Prelude.{nat_le}
 use Rattle.std.proofs.lemmas.Bool.{and_parts, leb-false}
 use Rattle.std.proofs.lemmas.List.{get_or-set_same}
 use Rattle.wf_frame.specs.declared.classes.Class.{Class}
+use Rattle.wf_frame.specs.declared.notes.AskedRate.{AskedRate}
 use Rattle.wf_frame.specs.declared.notes.Note.TheVariants.{Asked}
 use Rattle.wf_frame.specs.declared.notes.Ask.TheVariants.{Join, Rate, Tick, Arrive, Answer, Sleep, Wake, Poll, Rx, Reap}
 use Rattle.wf_frame.specs.declared.notes.Refusal.{Refusal}
@@ -13,7 +14,7 @@ use Rattle.wf_frame.specs.declared.notes.ReplyNote.TheVariants.{Joined, RateSet,
 use Rattle.wf_frame.specs.Classes.{lower_tid, upper_tid}
 use Rattle.wf_frame.specs.Frames.{FrameValue}
 use Rattle.wf_def_rotation.specs.Rotation.{Rotation, has_key}
-use Rattle.wf_def_air.specs.Airtime.{Ht}
+use Rattle.wf_def_world.specs.Rates.{rate_asked}
 use Rattle.wf_def_world.specs.World.{World, Exchange, rotation, is_live, exchange, on_station, on_tid, on_receiver, on_share, with_station, with_exchange}
 use Rattle.wf_def_world.specs.CanSend.{has_credit, is_ready, with_listings_of}
 use Rattle.wf_def_world.specs.Refusals.{refusal, refusals}
@@ -80,19 +81,19 @@ same_ready v s f turns low c = ap (λ (b : Bool). b
     && (not (sleeper v.sleepers s).asleep || has_credit (sleeper v.sleepers s).credit c)))
     (member_kept v.members s f low)
 
-rate_lists : (w : World) (s mcs mhz : ℕ) (short : Bool) (c : Class) →
-    rotation (rate_outcome w s mcs mhz short).world c ≡ rotation w c
+rate_lists : (w : World) (s : ℕ) (rate : AskedRate) (c : Class) →
+    rotation (rate_outcome w s rate).world c ≡ rotation w c
 unfolding rate_outcome on_station with_station
-rate_lists w s mcs mhz short c = refl
+rate_lists w s rate c = refl
 
 rx_lists : (w : World) (s : ℕ) (d : Class) (air : ℕ) (c : Class) →
     rotation (rx_outcome w s d air).world c ≡ rotation w c
 unfolding rx_outcome on_share on_station with_station
 rx_lists w s d air c = refl
 
-rate_reply : (w : World) (s mcs mhz : ℕ) (short : Bool) → (rate_outcome w s mcs mhz short).reply ≡ RateSet
+rate_reply : (w : World) (s : ℕ) (rate : AskedRate) → (rate_outcome w s rate).reply ≡ RateSet
 unfolding rate_outcome
-rate_reply w s mcs mhz short = refl
+rate_reply w s rate = refl
 
 -- ---- the calls
 
@@ -124,36 +125,28 @@ module _ (v : TransmitValue) (w : World) (bodies : ℕ → FrameValue) (h : Stan
       (unlisted_meets (record v { inside = v.inside - 1; flows = with_finished v.flows behind }) w bodies
       (Asked Reap) h.reached tt tt done (reap_parts v w bodies f behind e h.parts) refl)
 
-  pub rate_meets : (s mcs mhz : ℕ) (short : Bool) → refusal w (Asked (Rate s mcs mhz short)) ≡ None →
-      Meets w bodies (Asked (Rate s mcs mhz short))
-      (record v {
-        members = on_member v.members s
-            (with_rate (Ht mcs mhz short));
-      }) RateSet
+  pub rate_meets : (s : ℕ) (rate : AskedRate) → refusal w (Asked (Rate s rate)) ≡ None →
+      Meets w bodies (Asked (Rate s rate))
+      (record v { members = on_member v.members s (with_rate (rate_asked rate)) }) RateSet
   unfolding outcome_of
-  rate_meets s mcs mhz short done =
-      let rows : NoRow (refusals w (Asked (Rate s mcs mhz short))) =
-      no_row (refusals w (Asked (Rate s mcs mhz short))) done in
+  rate_meets s rate done =
+      let rows : NoRow (refusals w (Asked (Rate s rate))) =
+      no_row (refusals w (Asked (Rate s rate))) done in
       rated (below w s rows.0)
     where
-      rated : s < w.config.stations → Meets w bodies (Asked (Rate s mcs mhz short))
-          (record v {
-            members = on_member v.members s
-                (with_rate (Ht mcs mhz short));
-          }) RateSet
+      rated : s < w.config.stations → Meets w bodies (Asked (Rate s rate))
+          (record v { members = on_member v.members s (with_rate (rate_asked rate)) }) RateSet
       rated low =
-          let x : TransmitValue = record v {
-            members = on_member v.members s
-                (with_rate (Ht mcs mhz short));
-          } in
-          let k : Parts x (rate_outcome w s mcs mhz short).world bodies =
-          rate_parts v w bodies s low h.parts mcs mhz short in
-          subst (λ (z : ReplyNote). Meets w bodies (Asked (Rate s mcs mhz short)) x z)
-          (rate_reply w s mcs mhz short)
-          (idle_meets x w bodies (Asked (Rate s mcs mhz short)) h.reached tt tt done k s refl
-          (same_listed v x w (rate_outcome w s mcs mhz short).world bodies s h.reached h.parts k
-          (same_ready v s (with_rate (Ht mcs mhz short)) v.sched
-          (sized s low)) (rate_lists w s mcs mhz short)))
+          let x : TransmitValue =
+          record v { members = on_member v.members s (with_rate (rate_asked rate)) } in
+          let k : Parts x (rate_outcome w s rate).world bodies =
+          rate_parts v w bodies s low h.parts rate in
+          subst (λ (z : ReplyNote). Meets w bodies (Asked (Rate s rate)) x z)
+          (rate_reply w s rate)
+          (idle_meets x w bodies (Asked (Rate s rate)) h.reached tt tt done k s refl
+          (same_listed v x w (rate_outcome w s rate).world bodies s h.reached h.parts k
+          (same_ready v s (with_rate (rate_asked rate)) v.sched
+          (sized s low)) (rate_lists w s rate)))
 
   pub rx_meets : (s : ℕ) (c : Class) (air : ℕ) → refusal w (Asked (Rx s c air)) ≡ None →
       Meets w bodies (Asked (Rx s c air)) (record v {

@@ -19,13 +19,13 @@ use Rattle.wf_send_window.specs.Ending.{Ending, AreFlying}
 use Rattle.wf_send_half_refines.specs.Half.{TransmitValue}
 use Rattle.wf_send_half_refines.specs.Standing.{Parts}
 
--- an exchange is no longer open, and its station pays for it
-abbrev pub after_close : TransmitValue → Open → TransmitValue
-after_close v x =
+-- an exchange is no longer open, and its station pays so many microseconds for it
+abbrev pub after_close : TransmitValue → Open → ℕ → TransmitValue
+after_close v x charge =
     record v {
       opened = filter (λ y. not (y.number == x.number)) v.opened;
-      sched = with_turns_charged v.sched x.station x.class x.charge;
-      members = on_member v.members x.station (with_charge x.class x.charge);
+      sched = with_turns_charged v.sched x.station x.class charge;
+      members = on_member v.members x.station (with_charge x.class charge);
     }
 
 -- a frame goes last on the finished list, with its fate

@@ -17,7 +17,7 @@ loses_in w (Asked ask) s c = false
 -- whether it is a call that leaves who is ready, of every station: a rate, the clock, what arrives and
 -- is answered, a receive charge, and a reap
 abbrev pub leaves_ready : Note → Bool
-leaves_ready (Asked (Rate station mcs mhz short)) = true
+leaves_ready (Asked (Rate station rate)) = true
 leaves_ready (Asked (Tick by)) = true
 leaves_ready (Asked (Arrive exchange index)) = true
 leaves_ready (Asked (Answer exchange)) = true

@@ -8,7 +8,7 @@
 //! accepted and not reaped, each with its body.
 #![tactic(auto)]
 
-ghost use Rattle.std.specs.Prelude.{◌≡◌, ◌<◌, ◌≤◌, ℕ, suc, ◌+◌, ◌-◌, ◌*◌, ◌==◌, ◌||◌, ◌++◌, pos, ◌-ℤ◌, Bool, true, false, List, [], ◌∷◌, Some, None, is_some, option_map, map, find, count_by, set, length, max, unwrap_or, ◌%◌, ◌&&◌, nat_lt, nat_le, if◌then◌else◌, All};
+ghost use Rattle.std.specs.Prelude.{◌≡◌, ◌<◌, ◌≤◌, ℕ, suc, ◌+◌, ◌-◌, ◌*◌, ◌==◌, ◌||◌, ◌++◌, pos, ◌-ℤ◌, Bool, true, false, List, [], ◌∷◌, Some, None, is_some, option_map, map, find, count_by, set, length, max, unwrap_or, ◌%◌, ◌&&◌, nat_lt, nat_le, if◌then◌else◌, All, Option};
 ghost use Rattle.std.specs.List.{list_any};
 ghost use Rattle.wf_frame.specs.Classes.{lower_tid, upper_tid, same_class, class_of, tid_number};
 ghost use Rattle.wf_frame.specs.Frames.{FrameValue};
@@ -18,6 +18,7 @@ ghost use Rattle.wf_frame.specs.declared.classes.Class.TheVariants.{Bk, Be, Vi, 
 ghost use Rattle.wf_frame.specs.declared.classes.Fate.{Fate};
 ghost use Rattle.wf_frame.specs.declared.classes.Fate.TheVariants.{Held};
 ghost use Rattle.wf_frame.specs.declared.notes.Ask.TheVariants.{Done, Join, Leave, Pull, Rate, Tick, Arrive, Answer, Sleep, Wake, Poll, Rx, Reap};
+ghost use Rattle.wf_frame.specs.declared.notes.AskedRate.{AskedRate};
 ghost use Rattle.wf_frame.specs.declared.notes.Note.{Note};
 ghost use Rattle.wf_frame.specs.declared.notes.Note.TheVariants.{Enqueue, Asked};
 ghost use Rattle.wf_frame.specs.declared.notes.Refusal.{Refusal};
@@ -25,7 +26,7 @@ ghost use Rattle.wf_frame.specs.declared.notes.Refusal.TheVariants.{Idle, Full};
 ghost use Rattle.wf_frame.specs.declared.notes.ReplyNote.TheVariants.{Accepted, Ended, Gone, Joined, RateSet, Ticked, Slept, Woken, Credited, Charged, Reaped, Refused, Send};
 ghost use Rattle.wf_frame.specs.declared.settings.Config.{Config};
 ghost use Rattle.wf_frame.specs.declared.notes.Part.TheVariants.{Mpdus, Request as Starts};
-ghost use Rattle.wf_def_air.specs.Airtime.{Rate as RateValue, Ht, data_charge, request_charge};
+ghost use Rattle.wf_def_air.specs.Airtime.{Rate as RateValue, data_charge, request_charge};
 ghost use Rattle.wf_def_codel.specs.Codel.{Params};
 ghost use Rattle.wf_def_codel.specs.Parameters.{params_at};
 ghost use Rattle.wf_def_air.specs.Fit.{fits, aggregate_octets};
@@ -36,10 +37,11 @@ ghost use Rattle.wf_def_agreement.specs.Receiver.{Receiver};
 ghost use Rattle.wf_def_lists.specs.Table.{has, upto};
 ghost use Rattle.wf_def_rotation.specs.Rotation.{Rotation, has_key};
 ghost use Rattle.wf_def_agreement.specs.Session.{Session, State, slot, start_of, next_number, request_due, with_state, is_acknowledged, is_waiting, is_failed, with_number_given};
+ghost use Rattle.wf_def_world.specs.Rates.{rate_asked};
 ghost use Rattle.wf_def_world.specs.World.{World, Station, Tid, Share, Queue, Exchange, Mpdu, frame, accepted_count, is_held, codel_params, with_frame_finished, with_frames_finished, Frames, Request, opening, without_exchange, is_live, session, rotation, exchange, on_station, on_tid, on_session, on_receiver, on_share, on_queue, with_queues, with_rotation, is_wide};
 ghost use Rattle.wf_def_world.specs.FlowQueues.{frames_queued as world_queued, after_limit, dropped_for_limit as dropped_for_limit_in};
 ghost use Rattle.wf_def_world.specs.CanSend.{request_open, has_waiting, can_send, can_send_in, is_ready, with_listings_of};
-ghost use Rattle.wf_def_world.specs.Exchanges.{Aggregate, Prepared, picked_station, sending_tid, after_pick, after_tid_turn, aggregate_of, prepared_data, mpdus_of, is_acked, after_charge, with_settled, with_all_settled, count_in, part_of, lens_of, mpdu_of, aggregate_charge};
+ghost use Rattle.wf_def_world.specs.Exchanges.{Aggregate, Prepared, picked_station, sending_tid, after_pick, after_tid_turn, aggregate_of, prepared_data, mpdus_of, is_acked, charge_of, after_charge, with_settled, with_all_settled, count_in, part_of, lens_of, mpdu_of, aggregate_charge};
 ghost use Rattle.wf_def_world.specs.Refusals.{refusal, open_of_station, open_of_class, queued_in_class, can_send_any};
 ghost use Rattle.wf_def_world.specs.Step.{outcome_of, concerned_station, class_to_send, step, done_outcome, send_outcome};
 ghost use Rattle.wf_law_runs.specs.Queues.{HasLength, IsAtMost};
@@ -227,13 +229,10 @@ pub fn a_call_that_moves_no_frame()
         Meets w bodies (Asked Reap) (record v { inside = v.inside - 1; flows = with_finished v.flows behind })
         (Reaped f.id f.fate) }
     ensures rate { (v : TransmitValue) (w : World) (bodies : ℕ → FrameValue) → StandsFor v w bodies →
-        (s mcs mhz : ℕ) (short : Bool) →
-        refusal w (Asked (Rate s mcs mhz short)) ≡ None →
-        Meets w bodies (Asked (Rate s mcs mhz short))
-        (record v {
-          members = on_member v.members s
-              (with_rate (Ht mcs mhz short));
-        }) RateSet }
+        (s : ℕ) (rate : AskedRate) →
+        refusal w (Asked (Rate s rate)) ≡ None →
+        Meets w bodies (Asked (Rate s rate))
+        (record v { members = on_member v.members s (with_rate (rate_asked rate)) }) RateSet }
     ensures rx { (v : TransmitValue) (w : World) (bodies : ℕ → FrameValue) → StandsFor v w bodies →
         (s : ℕ) (c : Class) (air : ℕ) →
         refusal w (Asked (Rx s c air)) ≡ None →
@@ -309,9 +308,10 @@ pub fn an_exchange_of_data_ends()
         (e : ℕ) (x : Exchange) → exchange w e ≡ Some x →
         (acked : ℕ → Bool) (m : Mpdu) (ms : List Mpdu) → mpdus_of x.content ≡ m ∷ ms →
         EachMpdu (λ k. (slot (session w x.station x.tid) k.number).attempts < w.config.attempts) (m ∷ ms) →
-        IsEnding (after_close v (open_of x))
-        (after_charge (without_exchange w x.number) x) bodies x.station x.tid x.number acked (m ∷ ms)
-        (with_all_settled (after_charge (without_exchange w x.number) x) x.station x.tid acked (m ∷ ms)) }
+        (air : Option ℕ) →
+        IsEnding (after_close v (open_of x) (charge_of air x))
+        (after_charge (without_exchange w x.number) x air) bodies x.station x.tid x.number acked (m ∷ ms)
+        (with_all_settled (after_charge (without_exchange w x.number) x air) x.station x.tid acked (m ∷ ms)) }
     ensures next { (v : TransmitValue) (w : World) (bodies : ℕ → FrameValue) (s t e : ℕ) (acked : ℕ →
         Bool) (m : Mpdu) (ms : List Mpdu) (after : World) (x : WindowValue) →
         IsEnding v w bodies s t e acked (m ∷ ms) after → WindowsHaveRoom (with_window v.windows s t x) →
@@ -329,9 +329,10 @@ pub fn an_exchange_of_data_ends()
     ensures done { (v : TransmitValue) (w : World) (bodies : ℕ → FrameValue) (s t e : ℕ) (acked : ℕ → Bool)
         (after : World) →
         IsEnding v w bodies s t e acked [] after → Parts v after bodies }
-    ensures world { (w : World) (x : Exchange) (heard : Bool) (mpdus : List Mpdu) → x.content ≡ Frames mpdus →
-        (done_outcome w x heard).world ≡ with_all_settled
-        (after_charge (without_exchange w x.number) x) x.station x.tid (is_acked heard x.answer) mpdus }
+    ensures world { (w : World) (x : Exchange) (heard : Bool) (air : Option ℕ) (mpdus : List Mpdu) →
+        x.content ≡ Frames mpdus →
+        (done_outcome w x heard air).world ≡ with_all_settled
+        (after_charge (without_exchange w x.number) x air) x.station x.tid (is_acked heard x.answer) mpdus }
 {}
 
 /// An exchange of a request ends: it is closed and charged, and where it was heard the window of its TID is
@@ -345,18 +346,20 @@ pub fn an_exchange_of_a_request_ends()
         (start : ℕ) → x.content ≡ Request start → x.tid < 8 }
     ensures unheard { (v : TransmitValue) (w : World) (bodies : ℕ → FrameValue) → StandsFor v w bodies →
         (e : ℕ) (x : Exchange) → exchange w e ≡ Some x →
-        (start : ℕ) → x.content ≡ Request start →
-        Parts (after_close v (open_of x)) (done_outcome w x false).world bodies }
+        (start : ℕ) → x.content ≡ Request start → (air : Option ℕ) →
+        Parts (after_close v (open_of x) (charge_of air x)) (done_outcome w x false air).world bodies }
     ensures heard { (v : TransmitValue) (w : World) (bodies : ℕ → FrameValue) → StandsFor v w bodies →
         (e : ℕ) (x : Exchange) → exchange w e ≡ Some x →
-        (start : ℕ) → x.content ≡ Request start → (z : WindowValue) →
+        (start : ℕ) → x.content ≡ Request start → (air : Option ℕ) (z : WindowValue) →
         WindowsHaveRoom (with_window v.windows x.station x.tid z) →
         WindowStandsFor z (record (session w x.station x.tid) {
           heard = max
               (session w x.station x.tid).heard start;
         }) bodies →
-        Parts (record (after_close v (open_of x)) { windows = with_window v.windows x.station x.tid z })
-        (done_outcome w x true).world bodies }
+        Parts (record (after_close v (open_of x) (charge_of air x)) {
+          windows = with_window v.windows x.station x.tid z;
+        })
+        (done_outcome w x true air).world bodies }
 {}
 
 /// A whole Done: where the parts stand for what it makes of the world, the station of the exchange is listed
@@ -365,14 +368,16 @@ pub fn a_done()
     ensures live { (w : World) → IsReached w → (e : ℕ) (x : Exchange) → exchange w e ≡ Some x →
         is_live w x.station ≡ true }
     ensures whole { (v z : TransmitValue) (w : World) (bodies : ℕ → FrameValue) (e : ℕ) (heard : Bool)
-        (x : Exchange) → StandsFor v w bodies →
+        (air : Option ℕ) (x : Exchange) → StandsFor v w bodies →
         exchange w e ≡ Some x →
-        refusal w (Asked (Done e heard)) ≡ None → Parts z (done_outcome w x heard).world bodies →
-        Meets w bodies (Asked (Done e heard)) (after_listing z x.station) (done_outcome w x heard).reply }
-    ensures reply { (w : World) (x : Exchange) (heard : Bool) →
-        (done_outcome w x heard).reply ≡ Ended (count_in (done_outcome w x heard).world x is_acknowledged)
-        (count_in (done_outcome w x heard).world x is_waiting)
-        (count_in (done_outcome w x heard).world x is_failed) }
+        refusal w (Asked (Done e heard air)) ≡ None → Parts z (done_outcome w x heard air).world bodies →
+        Meets w bodies (Asked (Done e heard air)) (after_listing z x.station)
+        (done_outcome w x heard air).reply }
+    ensures reply { (w : World) (x : Exchange) (heard : Bool) (air : Option ℕ) →
+        (done_outcome w x heard air).reply ≡ Ended
+        (count_in (done_outcome w x heard air).world x is_acknowledged)
+        (count_in (done_outcome w x heard air).world x is_waiting)
+        (count_in (done_outcome w x heard air).world x is_failed) }
 {}
 
 /// One window changes with the session that it stands for; one frame that is held goes last on the finished
@@ -738,9 +743,10 @@ pub fn readiness_stays()
     ensures pull { (w : World) (d : Class) → IsReached w → (i : ℕ) (c : Class) →
         ((picked_station w d).winner ≡ Some i → d ≡ c → ⊥) →
         is_ready (step w (Asked (Pull d))).world c i ≡ is_ready w c i }
-    ensures done { (w : World) (e : ℕ) (heard : Bool) (x : Exchange) → IsReached w → exchange w e ≡ Some x →
+    ensures done { (w : World) (e : ℕ) (heard : Bool) (air : Option ℕ) (x : Exchange) → IsReached w →
+        exchange w e ≡ Some x →
         (i : ℕ) (c : Class) → (i ≡ x.station → class_of x.tid ≡ c → ⊥) →
-        is_ready (step w (Asked (Done e heard))).world c i ≡ is_ready w c i }
+        is_ready (step w (Asked (Done e heard air))).world c i ≡ is_ready w c i }
     ensures nobody { (w : World) (note : Note) → IsReached w → leaves_ready note ≡ true →
         (s : ℕ) (c : Class) →
         is_ready (step w note).world c s ≡ is_ready w c s }

@@ -2,9 +2,9 @@
 ghost use Rattle.std.specs.Prelude.{◌≡◌, ℕ, ◌+◌, ◌%◌, []};
 ghost use Rattle.wf_show_gate.specs.Sums.{octets_at};
 
-use http_server::Log;
 use std::marker::Model;
 use wf_gate::Machine;
+use wf_machine::History;
 
 /// How many sums a counter has. Callers whose numbers have the same remainder share one.
 const SUMS: usize = 256;
@@ -16,7 +16,7 @@ pub struct Counter {
     sums: [u64; SUMS],
     left: u32,
     // The history takes no memory: only clauses read it.
-    history: Log<u32, u32>,
+    history: History<u32>,
 }
 
 impl Model for Counter {
@@ -25,9 +25,9 @@ impl Model for Counter {
 
     ghost Value = { List (ℕ × ℕ) × ℕ };
 
-    ghost view = { λ c. (c.history.items, c.left) };
+    ghost view = { λ c. (c.history, c.left) };
 
-    ghost invariant = { λ c. AreSums c.sums c.history.items × AreSmall c.sums c.left };
+    ghost invariant = { λ c. AreSums c.sums c.history × AreSmall c.sums c.left };
 }
 
 impl Counter {
@@ -38,7 +38,7 @@ impl Counter {
         Counter {
             sums: [0; SUMS],
             left: calls,
-            history: Log::new(),
+            history: History::new(),
         }
     }
 
@@ -81,7 +81,7 @@ impl Machine for Counter {
         let sum = self.sums[place] + call as u64;
         self.sums[place] = sum;
         self.left -= 1;
-        self.history = self.history.and(&caller, &call);
+        self.history.push(caller, &call);
         sum
     }
 }

@@ -103,7 +103,7 @@ impl Air {
         let octets = buffer.get(..size).unwrap_or(&[]);
         show(rt, "heard", octets)?;
         ensure!(self.path.has_small_counts(), "the path ran for too long");
-        let brief = self.path.done_bytes(exchange, Some(octets))?;
+        let brief = self.path.done_bytes(exchange, Some(octets), None)?;
         println!(rt; "{brief:?}")?;
         Ok(())
     }

@@ -107,7 +107,7 @@ fn octets_are_no_answer(rt: HostRuntime) -> Result<(), Fail> {
             octets[place] = octet;
         }
         if path.has_small_counts() {
-            assert_eq!(rt; path.done_bytes(0, Some(&octets)), Err(fault));
+            assert_eq!(rt; path.done_bytes(0, Some(&octets), None), Err(fault));
         }
     }
     Ok(())
@@ -117,7 +117,7 @@ fn octets_are_no_answer(rt: HostRuntime) -> Result<(), Fail> {
 fn an_answer_ends_its_exchange(rt: HostRuntime) -> Result<(), Fail> {
     let mut path = with_exchange(rt.alloc())?;
     if path.has_small_counts() {
-        let ended = path.done_bytes(0, Some(&ANSWER));
+        let ended = path.done_bytes(0, Some(&ANSWER), None);
         assert!(rt; ended.is_ok());
     }
     assert!(rt; path.sent(0).is_none());

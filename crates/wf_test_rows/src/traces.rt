@@ -1,7 +1,7 @@
 //! When the reader of traces reads, and the line of each call.
 
 use std::test::Fail;
-use wf_frame::{Ask, Class, Note};
+use wf_frame::{Ask, AskedRate, Class, Note};
 use wf_io::{Given, Line};
 use wf_trace::{Item, TraceReader, print_note};
 
@@ -29,7 +29,7 @@ fn calls_have_their_lines(rt: HostRuntime) {
         exponent: 3,
         weight,
     });
-    let cases: [(u32, Note, &[u8]); 15] = [
+    let cases: [(u32, Note, &[u8]); 18] = [
         (0, join(1), b"join 65535 64 4095 3\n"),
         (3, join(16), b"@3 join 65535 64 4095 3 16\n"),
         (0, Note::Asked(Ask::Leave { station: 7 }), b"leave 7\n"),
@@ -37,11 +37,39 @@ fn calls_have_their_lines(rt: HostRuntime) {
             65535,
             Note::Asked(Ask::Rate {
                 station: 7,
-                mcs: 15,
-                mhz: 40,
-                short: true,
+                rate: AskedRate::Ht {
+                    mcs: 15,
+                    mhz: 40,
+                    short: true,
+                },
             }),
             b"@65535 rate 7 15 40 short\n",
+        ),
+        (
+            0,
+            Note::Asked(Ask::Rate {
+                station: 7,
+                rate: AskedRate::Vht {
+                    mcs: 9,
+                    mhz: 80,
+                    short: true,
+                    streams: 2,
+                },
+            }),
+            b"rate 7 vht 9 80 short 2\n",
+        ),
+        (
+            65535,
+            Note::Asked(Ask::Rate {
+                station: 65535,
+                rate: AskedRate::He {
+                    mcs: 11,
+                    mhz: 160,
+                    guard: 3200,
+                    streams: 8,
+                },
+            }),
+            b"@65535 rate 65535 he 11 160 3200 8\n",
         ),
         (
             0,
@@ -73,8 +101,18 @@ fn calls_have_their_lines(rt: HostRuntime) {
             Note::Asked(Ask::Done {
                 exchange: 9,
                 heard: false,
+                air: None,
             }),
             b"@2 done 9 lost\n",
+        ),
+        (
+            0,
+            Note::Asked(Ask::Done {
+                exchange: 9,
+                heard: true,
+                air: Some(4_294_967_295),
+            }),
+            b"done 9 heard air 4294967295\n",
         ),
         (0, Note::Asked(Ask::Sleep { station: 1 }), b"sleep 1\n"),
         (0, Note::Asked(Ask::Wake { station: 1 }), b"wake 1\n"),

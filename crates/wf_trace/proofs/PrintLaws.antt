@@ -1,6 +1,6 @@
 -- What is printed is read again.
 use Rattle.std.proofs.Common.{◌≡◌, ◌≢◌, ℕ, zero, suc, ◌^◌, ◌<◌, ◌≤◌, List, [], ◌∷◌, ◌++◌, length, get_or, Bool, true, false, not, nat_eq, nat_le, ◌&&◌, ◌||◌, refl, ◌∙◌, ap, append_assoc, arith, rules}
-use Rattle.std.specs.Prelude.{Some, Ok, filter}
+use Rattle.std.specs.Prelude.{Option, Some, None, Ok, filter}
 use Rattle.std.specs.List.{list_all, join_with_byte}
 use Rattle.std.specs.Fmt.{decimal}
 use Rattle.std.proofs.lemmas.Bool.Decides.{nat_tests}
@@ -12,6 +12,8 @@ use Rattle.wf_frame.specs.declared.notes.Note.{Note}
 use Rattle.wf_frame.specs.declared.notes.Note.TheVariants.{Enqueue, Asked}
 use Rattle.wf_frame.specs.declared.notes.Ask.{Ask}
 use Rattle.wf_frame.specs.declared.notes.Ask.TheVariants.{Join, Leave, Rate, Tick, Pull, Arrive, Answer, Done, Sleep, Wake, Poll, Rx, Reap}
+use Rattle.wf_frame.specs.declared.notes.AskedRate.{AskedRate}
+use Rattle.wf_frame.specs.declared.notes.AskedRate.TheVariants.{Ht, Vht, He}
 use Rattle.wf_frame.specs.Classes.{class_word}
 use Rattle.wf_def_lists.specs.Lengths.{greatest_body}
 use Rattle.wf_io.specs.Digits.{is_digit, value_from}
@@ -19,17 +21,19 @@ use Rattle.wf_io.specs.Words.{spaced}
 use Rattle.wf_io.proofs.Spaces.{join-spaced, spaced-append}
 use Rattle.wf_trace.specs.declared.call.Call.{Call}
 use Rattle.wf_trace.specs.declared.call.Call.TheVariants as call
+use Rattle.wf_trace.specs.declared.call.RateFormat.{RateFormat}
+use Rattle.wf_trace.specs.declared.call.RateFormat.TheVariants as format
 use Rattle.wf_trace.specs.declared.call.Arg.TheVariants as arg
 use Rattle.wf_trace.specs.declared.call.Value.{Value}
-use Rattle.wf_trace.specs.declared.call.Value.TheVariants.{Short, Octet, Long, Class as TheClass, Guard, Heard}
+use Rattle.wf_trace.specs.declared.call.Value.TheVariants.{Short, Octet, Long, Class as TheClass, Format, Guard, Heard, Air}
 use Rattle.wf_trace.specs.declared.meaning.Place.{Place}
 use Rattle.wf_trace.specs.declared.meaning.Meaning.TheVariants.{Entry}
 use Rattle.wf_trace.specs.Lines.{is_printable}
 use Rattle.wf_trace.specs.Words.{words, parts, in_front, is_word, is_number, number_of, in_range}
-use Rattle.wf_trace.specs.Grammar.{call_word, call_named, args_of, read_arg, read_args, guard_word, heard_word}
-use Rattle.wf_trace.specs.Notes.{note_of_values, read_call}
+use Rattle.wf_trace.specs.Grammar.{call_word, format_word, format_named, args_of, read_arg, read_args, guard_word, heard_word, air_word}
+use Rattle.wf_trace.specs.Notes.{note_of_values, in_form, read_call}
 use Rattle.wf_trace.specs.Meanings.{meant, entry_of}
-use Rattle.wf_trace.specs.Printing.{weight_words, ask_words, note_words, caller_words, note_text, IsAskInRange, NumbersAreInRange}
+use Rattle.wf_trace.specs.Printing.{weight_words, rate_words, measured_words, ask_words, note_words, caller_words, note_text, IsRateInRange, IsAirInRange, IsAskInRange, NumbersAreInRange}
 
 own : IsNumeralModel (λ ds. list_all is_digit ds ≡ true) (value_from 0)
 own = numerals_by_fold _ (search rules) value_from (search rules)
@@ -78,6 +82,10 @@ class_read Be = refl
 class_read Vi = refl
 class_read Vo = refl
 
+format_read : (f : RateFormat) → read_arg arg.Format (format_word f) ≡ Ok (Format f)
+format_read format.Vht = refl
+format_read format.He = refl
+
 guard_read : (short : Bool) → read_arg arg.Guard (guard_word short) ≡ Ok (Guard short)
 guard_read true = refl
 guard_read false = refl
@@ -86,26 +94,22 @@ heard_read : (heard : Bool) → read_arg arg.Heard (heard_word heard) ≡ Ok (He
 heard_read true = refl
 heard_read false = refl
 
--- and every call of the table
-call_read : (c : Call) → call_named (call_word c) ≡ Some c
-call_read call.Join = refl
-call_read call.Leave = refl
-call_read call.Rate = refl
-call_read call.Tick = refl
-call_read call.Enq = refl
-call_read call.Pull = refl
-call_read call.Arrive = refl
-call_read call.Answer = refl
-call_read call.Done = refl
-call_read call.Sleep = refl
-call_read call.Wake = refl
-call_read call.Poll = refl
-call_read call.Rx = refl
-call_read call.Reap = refl
+-- a number names no format
+digits_format : (digits : List ℕ) → list_all is_digit digits ≡ true → format_named digits ≡ None
+digits_format [] all = refl
+digits_format (octet ∷ digits) all =
+    let vht : nat_eq 118 octet ≡ false = grind (arith, nat_tests) in
+    let he : nat_eq 104 octet ≡ false = grind (arith, nat_tests) in
+    rw (vht, he) refl
 
+number_format : (n : ℕ) → n < 2 ^ 8 → format_named (decimal n) ≡ None
+number_format n small = digits_format (decimal n) (digits_decimal own n (omega arith))
+
+-- a line in whose form the arguments are read
 named_read : (c : Call) (texts : List (List ℕ)) (values : List Value) →
-    read_args (args_of c) texts ≡ Ok values → read_call (call_word c ∷ texts) ≡ Ok (note_of_values c values)
-named_read c texts values read = rw (call_read c, read) refl
+    read_call (call_word c ∷ texts) ≡ in_form c texts → read_args (args_of c) texts ≡ Ok values →
+    read_call (call_word c ∷ texts) ≡ Ok (note_of_values c values)
+named_read c texts values named read = named ∙ rw read refl
 
 not_one : (n : ℕ) → nat_eq (suc (suc n)) 1 ≡ false
 not_one n = grind (arith, nat_tests)
@@ -116,13 +120,52 @@ weight_read zero small = let one = decimal_digit 0 (omega arith) in rw one refl
 weight_read (suc zero) small = refl
 weight_read (suc (suc n)) small = rw (not_one n, octet_read (suc (suc n)) small) refl
 
+-- the words of a rate name it
+rate_read : (station : ℕ) (rate : AskedRate) → station < 2 ^ 16 → IsRateInRange rate →
+    read_call (ask_words (Rate station rate)) ≡ Ok (Asked (Rate station rate))
+rate_read station (Ht mcs mhz short) small r =
+    named_read call.Rate (decimal station ∷ rate_words (Ht mcs mhz short))
+    (Short station ∷ Octet mcs ∷ Octet mhz ∷ Guard short ∷ []) (rw (number_format mcs r.0) refl)
+    (rw (short_read station small, octet_read mcs r.0, octet_read mhz r.1, guard_read short) refl)
+rate_read station (Vht mcs mhz short streams) small r =
+    named_read call.RateVht (decimal station ∷ rate_words (Vht mcs mhz short streams))
+    (Short station ∷ Format format.Vht ∷ Octet mcs ∷ Octet mhz ∷ Guard short ∷ Octet streams ∷ []) refl
+    (rw (
+      short_read station small,
+      octet_read mcs r.0,
+      octet_read mhz r.1,
+      guard_read short,
+      octet_read streams r.2,
+    ) refl)
+rate_read station (He mcs mhz guard streams) small r =
+    named_read call.RateHe (decimal station ∷ rate_words (He mcs mhz guard streams))
+    (Short station ∷ Format format.He ∷ Octet mcs ∷ Octet mhz ∷ Short guard ∷ Octet streams ∷ []) refl
+    (rw (
+      short_read station small,
+      octet_read mcs r.0,
+      octet_read mhz r.1,
+      short_read guard r.2,
+      octet_read streams r.3,
+    ) refl)
+
+-- the words of a `done` name it
+done_read : (exchange : ℕ) (heard : Bool) (air : Option ℕ) → exchange < 2 ^ 32 → IsAirInRange air →
+    read_call (ask_words (Done exchange heard air)) ≡ Ok (Asked (Done exchange heard air))
+done_read exchange heard None small r =
+    named_read call.Done (decimal exchange ∷ heard_word heard ∷ []) (Long exchange ∷ Heard heard ∷ [])
+    refl (rw (long_read exchange small, heard_read heard) refl)
+done_read exchange heard (Some air) small r =
+    named_read call.DoneAir (decimal exchange ∷ heard_word heard ∷ air_word ∷ decimal air ∷ [])
+    (Long exchange ∷ Heard heard ∷ Air ∷ Long air ∷ [])
+    refl (rw (long_read exchange small, heard_read heard, long_read air r) refl)
+
 -- the words of a call name it
 ask_read : (ask : Ask) → IsAskInRange ask → read_call (ask_words ask) ≡ Ok (Asked ask)
 ask_read (Join station window start exponent weight) r =
     named_read call.Join (decimal station ∷ decimal window ∷ decimal start ∷ decimal exponent
     ∷ weight_words weight)
     (Short station ∷ Short window ∷ Short start ∷ Octet exponent ∷ Octet weight ∷ [])
-    (rw (
+    refl (rw (
       short_read station r.0,
       short_read window r.1,
       short_read start r.2,
@@ -130,32 +173,27 @@ ask_read (Join station window start exponent weight) r =
       weight_read weight r.4,
     ) refl)
 ask_read (Leave station) r = named_read call.Leave (decimal station ∷ []) (Short station ∷ [])
-    (rw (short_read station r) refl)
-ask_read (Rate station mcs mhz short) r =
-    named_read call.Rate (decimal station ∷ decimal mcs ∷ decimal mhz ∷ guard_word short ∷ [])
-    (Short station ∷ Octet mcs ∷ Octet mhz ∷ Guard short ∷ [])
-    (rw (short_read station r.0, octet_read mcs r.1, octet_read mhz r.2, guard_read short) refl)
-ask_read (Tick by) r = named_read call.Tick (decimal by ∷ []) (Long by ∷ []) (rw (long_read by r) refl)
+    refl (rw (short_read station r) refl)
+ask_read (Rate station rate) r = rate_read station rate r.0 r.1
+ask_read (Tick by) r = named_read call.Tick (decimal by ∷ []) (Long by ∷ []) refl (rw (long_read by r) refl)
 ask_read (Pull class) r = named_read call.Pull (class_word class ∷ []) (TheClass class ∷ [])
-    (rw (class_read class) refl)
+    refl (rw (class_read class) refl)
 ask_read (Arrive exchange index) r =
     named_read call.Arrive (decimal exchange ∷ decimal index ∷ []) (Long exchange ∷ Short index ∷ [])
-    (rw (long_read exchange r.0, short_read index r.1) refl)
+    refl (rw (long_read exchange r.0, short_read index r.1) refl)
 ask_read (Answer exchange) r = named_read call.Answer (decimal exchange ∷ []) (Long exchange ∷ [])
-    (rw (long_read exchange r) refl)
-ask_read (Done exchange heard) r =
-    named_read call.Done (decimal exchange ∷ heard_word heard ∷ []) (Long exchange ∷ Heard heard ∷ [])
-    (rw (long_read exchange r, heard_read heard) refl)
+    refl (rw (long_read exchange r) refl)
+ask_read (Done exchange heard air) r = done_read exchange heard air r.0 r.1
 ask_read (Sleep station) r = named_read call.Sleep (decimal station ∷ []) (Short station ∷ [])
-    (rw (short_read station r) refl)
+    refl (rw (short_read station r) refl)
 ask_read (Wake station) r = named_read call.Wake (decimal station ∷ []) (Short station ∷ [])
-    (rw (short_read station r) refl)
+    refl (rw (short_read station r) refl)
 ask_read (Poll station) r = named_read call.Poll (decimal station ∷ []) (Short station ∷ [])
-    (rw (short_read station r) refl)
+    refl (rw (short_read station r) refl)
 ask_read (Rx station class air) r =
     named_read call.Rx (decimal station ∷ class_word class ∷ decimal air ∷ [])
     (Short station ∷ TheClass class ∷ Long air ∷ [])
-    (rw (short_read station r.0, class_read class, long_read air r.1) refl)
+    refl (rw (short_read station r.0, class_read class, long_read air r.1) refl)
 ask_read Reap r = refl
 
 len_read : (len : ℕ) → 1 ≤ len → len ≤ greatest_body → read_arg arg.Length (decimal len) ≡ Ok (Short len)
@@ -165,7 +203,7 @@ note_read : (note : Note) → NumbersAreInRange note → read_call (note_words n
 note_read (Enqueue station tid flow len) r =
     named_read call.Enq (decimal station ∷ decimal tid ∷ decimal flow ∷ decimal len ∷ [])
     (Short station ∷ Octet tid ∷ Long flow ∷ Short len ∷ [])
-    (rw (short_read station r.0, octet_read tid r.1, long_read flow r.2, len_read len r.3 r.4) refl)
+    refl (rw (short_read station r.0, octet_read tid r.1, long_read flow r.2, len_read len r.3 r.4) refl)
 note_read (Asked ask) r = ask_read ask r
 
 -- words that are not empty, of octets that are printable and not spaces
@@ -229,6 +267,10 @@ class_plain Be = (refl, refl)
 class_plain Vi = (refl, refl)
 class_plain Vo = (refl, refl)
 
+format_plain : (f : RateFormat) → IsPlain (format_word f)
+format_plain format.Vht = (refl, refl)
+format_plain format.He = (refl, refl)
+
 guard_plain : (short : Bool) → IsPlain (guard_word short)
 guard_plain true = (refl, refl)
 guard_plain false = (refl, refl)
@@ -241,12 +283,15 @@ name_plain : (c : Call) → IsPlain (call_word c)
 name_plain call.Join = (refl, refl)
 name_plain call.Leave = (refl, refl)
 name_plain call.Rate = (refl, refl)
+name_plain call.RateVht = (refl, refl)
+name_plain call.RateHe = (refl, refl)
 name_plain call.Tick = (refl, refl)
 name_plain call.Enq = (refl, refl)
 name_plain call.Pull = (refl, refl)
 name_plain call.Arrive = (refl, refl)
 name_plain call.Answer = (refl, refl)
 name_plain call.Done = (refl, refl)
+name_plain call.DoneAir = (refl, refl)
 name_plain call.Sleep = (refl, refl)
 name_plain call.Wake = (refl, refl)
 name_plain call.Poll = (refl, refl)
@@ -265,6 +310,27 @@ short_plain n small = number_plain n (omega arith)
 octet_plain : (n : ℕ) → n < 2 ^ 8 → IsPlain (decimal n)
 octet_plain n small = number_plain n (omega arith)
 
+rate_plain : (rate : AskedRate) → IsRateInRange rate → ArePlain (rate_words rate)
+rate_plain (Ht mcs mhz short) r = (octet_plain mcs r.0, (octet_plain mhz r.1, (guard_plain short, tt)))
+rate_plain (Vht mcs mhz short streams) r = (
+  format_plain format.Vht,
+  (
+    octet_plain mcs r.0,
+    (octet_plain mhz r.1, (guard_plain short, (octet_plain streams r.2, tt))),
+  ),
+)
+rate_plain (He mcs mhz guard streams) r = (
+  format_plain format.He,
+  (
+    octet_plain mcs r.0,
+    (octet_plain mhz r.1, (short_plain guard r.2, (octet_plain streams r.3, tt))),
+  ),
+)
+
+air_plain : (air : Option ℕ) → IsAirInRange air → ArePlain (measured_words air)
+air_plain None r = tt
+air_plain (Some air) r = ((refl, refl), (number_plain air r, tt))
+
 ask_plain : (ask : Ask) → IsAskInRange ask → ArePlain (ask_words ask)
 ask_plain (Join station window start exponent weight) r = (
   name_plain call.Join,
@@ -280,10 +346,7 @@ ask_plain (Join station window start exponent weight) r = (
   ),
 )
 ask_plain (Leave station) r = (name_plain call.Leave, (short_plain station r, tt))
-ask_plain (Rate station mcs mhz short) r = (
-  name_plain call.Rate,
-  (short_plain station r.0, (octet_plain mcs r.1, (octet_plain mhz r.2, (guard_plain short, tt)))),
-)
+ask_plain (Rate station rate) r = (name_plain call.Rate, (short_plain station r.0, rate_plain rate r.1))
 ask_plain (Tick by) r = (name_plain call.Tick, (number_plain by r, tt))
 ask_plain (Pull class) r = (name_plain call.Pull, (class_plain class, tt))
 ask_plain (Arrive exchange index) r = (
@@ -291,7 +354,10 @@ ask_plain (Arrive exchange index) r = (
   (number_plain exchange r.0, (short_plain index r.1, tt)),
 )
 ask_plain (Answer exchange) r = (name_plain call.Answer, (number_plain exchange r, tt))
-ask_plain (Done exchange heard) r = (name_plain call.Done, (number_plain exchange r, (heard_plain heard, tt)))
+ask_plain (Done exchange heard air) r = (
+  name_plain call.Done,
+  (number_plain exchange r.0, (heard_plain heard, air_plain air r.1)),
+)
 ask_plain (Sleep station) r = (name_plain call.Sleep, (short_plain station r, tt))
 ask_plain (Wake station) r = (name_plain call.Wake, (short_plain station r, tt))
 ask_plain (Poll station) r = (name_plain call.Poll, (short_plain station r, tt))
@@ -366,12 +432,12 @@ ask_line : (ask : Ask) (place : Place) → meant (Some place) (ask_words ask)
     ≡ entry_of 0 (Some place) (ask_words ask)
 ask_line (Join station window start exponent weight) place = refl
 ask_line (Leave station) place = refl
-ask_line (Rate station mcs mhz short) place = refl
+ask_line (Rate station rate) place = refl
 ask_line (Tick by) place = refl
 ask_line (Pull class) place = refl
 ask_line (Arrive exchange index) place = refl
 ask_line (Answer exchange) place = refl
-ask_line (Done exchange heard) place = refl
+ask_line (Done exchange heard air) place = refl
 ask_line (Sleep station) place = refl
 ask_line (Wake station) place = refl
 ask_line (Poll station) place = refl

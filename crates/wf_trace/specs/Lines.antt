@@ -1,6 +1,7 @@
 -- A trace as lines: parted by the octet 10, and a rest that is not empty is a line too.
 use Rattle.std.specs.Prelude.{ℕ, ◌+◌, List, [], ◌∷◌, length, Bool, true, false, ◌==◌, ◌&&◌, nat_lt, nat_le, if◌then◌else◌, Option, Some, None}
 use Rattle.std.specs.List.{list_all}
+use Rattle.wf_io.specs.declared.source.TheConstants.{MOST_OCTETS}
 use Rattle.wf_trace.specs.declared.fault.FaultKind.{FaultKind}
 use Rattle.wf_trace.specs.declared.fault.FaultKind.TheVariants.{TooBig, LongLine, NotAscii}
 use Rattle.wf_trace.specs.declared.fault.End.{End}
@@ -24,9 +25,9 @@ lines closed at (octet ∷ octets) =
     if octet == 10 then record { octets = []; end = at + 1 } ∷ lines closed (at + 1) octets
     else onto closed octet (at + 1) (lines closed (at + 1) octets)
 
--- the most octets of a trace up to the end of its `end` line, 2^28
+-- the most octets of a trace up to the end of its `end` line, 2^40
 abbrev pub longest_trace : ℕ
-longest_trace = 268435456
+longest_trace = MOST_OCTETS
 
 -- the most octets of a line, without its octet 10
 abbrev pub longest_line : ℕ

@@ -16,7 +16,7 @@ use Rattle.wf_trace.specs.Settings.{read_words}
 
 -- the settings that the words behind `cell` name, and the standard ones for the others
 abbrev pub read_head : List (List ℕ) → Result Config FaultKind
-read_head words = read_words words (replicate 12 false) standard
+read_head words = read_words words (replicate 13 false) standard
 
 -- a call, where one may stand
 abbrev pub allowed : ℕ → Option Place → Result Note FaultKind → Result Meaning FaultKind

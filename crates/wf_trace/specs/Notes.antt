@@ -11,7 +11,8 @@ use Rattle.wf_frame.specs.declared.classes.Class.TheVariants.{Bk}
 use Rattle.wf_frame.specs.declared.notes.Note.{Note}
 use Rattle.wf_frame.specs.declared.notes.Note.TheVariants.{Enqueue, Asked}
 use Rattle.wf_frame.specs.declared.notes.Ask.TheVariants.{Join, Leave, Rate, Tick, Pull, Arrive, Answer, Done, Sleep, Wake, Poll, Rx, Reap}
-use Rattle.wf_trace.specs.Grammar.{call_named, args_of, read_args}
+use Rattle.wf_frame.specs.declared.notes.AskedRate.TheVariants.{Ht, Vht, He}
+use Rattle.wf_trace.specs.Grammar.{call_named, call_form, args_of, read_args}
 
 -- Each argument's value has the kind that its argument gives, so the other kinds and None are unreached
 -- below.
@@ -22,9 +23,11 @@ short_in (Some (value.Short s)) = s
 short_in (Some (value.Octet x)) = 0
 short_in (Some (value.Long x)) = 0
 short_in (Some (value.Class x)) = 0
+short_in (Some (value.Format x)) = 0
 short_in (Some (value.Guard x)) = 0
 short_in (Some (value.Heard x)) = 0
 short_in (Some (value.End x)) = 0
+short_in (Some value.Air) = 0
 short_in None = 0
 
 -- the same, of the value at a place
@@ -37,9 +40,11 @@ octet_in (Some (value.Octet o)) = o
 octet_in (Some (value.Short x)) = 0
 octet_in (Some (value.Long x)) = 0
 octet_in (Some (value.Class x)) = 0
+octet_in (Some (value.Format x)) = 0
 octet_in (Some (value.Guard x)) = 0
 octet_in (Some (value.Heard x)) = 0
 octet_in (Some (value.End x)) = 0
+octet_in (Some value.Air) = 0
 octet_in None = 0
 
 -- the same, of the value at a place
@@ -52,9 +57,11 @@ long_in (Some (value.Long l)) = l
 long_in (Some (value.Short x)) = 0
 long_in (Some (value.Octet x)) = 0
 long_in (Some (value.Class x)) = 0
+long_in (Some (value.Format x)) = 0
 long_in (Some (value.Guard x)) = 0
 long_in (Some (value.Heard x)) = 0
 long_in (Some (value.End x)) = 0
+long_in (Some value.Air) = 0
 long_in None = 0
 
 -- the same, of the value at a place
@@ -67,9 +74,11 @@ class_in (Some (value.Class c)) = c
 class_in (Some (value.Short x)) = Bk
 class_in (Some (value.Octet x)) = Bk
 class_in (Some (value.Long x)) = Bk
+class_in (Some (value.Format x)) = Bk
 class_in (Some (value.Guard x)) = Bk
 class_in (Some (value.Heard x)) = Bk
 class_in (Some (value.End x)) = Bk
+class_in (Some value.Air) = Bk
 class_in None = Bk
 
 -- the same, of the value at a place
@@ -83,8 +92,10 @@ guard_in (Some (value.Short x)) = false
 guard_in (Some (value.Octet x)) = false
 guard_in (Some (value.Long x)) = false
 guard_in (Some (value.Class x)) = false
+guard_in (Some (value.Format x)) = false
 guard_in (Some (value.Heard x)) = false
 guard_in (Some (value.End x)) = false
+guard_in (Some value.Air) = false
 guard_in None = false
 
 -- the same, of the value at a place
@@ -98,8 +109,10 @@ heard_in (Some (value.Short x)) = false
 heard_in (Some (value.Octet x)) = false
 heard_in (Some (value.Long x)) = false
 heard_in (Some (value.Class x)) = false
+heard_in (Some (value.Format x)) = false
 heard_in (Some (value.Guard x)) = false
 heard_in (Some (value.End x)) = false
+heard_in (Some value.Air) = false
 heard_in None = false
 
 -- the same, of the value at a place
@@ -113,8 +126,10 @@ end_in (Some (value.Short x)) = false
 end_in (Some (value.Octet x)) = false
 end_in (Some (value.Long x)) = false
 end_in (Some (value.Class x)) = false
+end_in (Some (value.Format x)) = false
 end_in (Some (value.Guard x)) = false
 end_in (Some (value.Heard x)) = false
+end_in (Some value.Air) = false
 end_in None = false
 
 -- the same, of the value at a place
@@ -128,14 +143,22 @@ note_of_values call.Join values =
     (octet_at values 4))
 note_of_values call.Leave values = Asked (Leave (short_at values 0))
 note_of_values call.Rate values =
-    Asked (Rate (short_at values 0) (octet_at values 1) (octet_at values 2) (guard_at values 3))
+    Asked (Rate (short_at values 0) (Ht (octet_at values 1) (octet_at values 2) (guard_at values 3)))
+note_of_values call.RateVht values =
+    Asked (Rate (short_at values 0) (Vht (octet_at values 2) (octet_at values 3) (guard_at values 4)
+    (octet_at values 5)))
+note_of_values call.RateHe values =
+    Asked (Rate (short_at values 0) (He (octet_at values 2) (octet_at values 3) (short_at values 4)
+    (octet_at values 5)))
 note_of_values call.Tick values = Asked (Tick (long_at values 0))
 note_of_values call.Enq values =
     Enqueue (short_at values 0) (octet_at values 1) (long_at values 2) (short_at values 3)
 note_of_values call.Pull values = Asked (Pull (class_at values 0))
 note_of_values call.Arrive values = Asked (Arrive (long_at values 0) (short_at values 1))
 note_of_values call.Answer values = Asked (Answer (long_at values 0))
-note_of_values call.Done values = Asked (Done (long_at values 0) (heard_at values 1))
+note_of_values call.Done values = Asked (Done (long_at values 0) (heard_at values 1) None)
+note_of_values call.DoneAir values = Asked
+    (Done (long_at values 0) (heard_at values 1) (Some (long_at values 3)))
 note_of_values call.Sleep values = Asked (Sleep (short_at values 0))
 note_of_values call.Wake values = Asked (Wake (short_at values 0))
 note_of_values call.Poll values = Asked (Poll (short_at values 0))
@@ -147,10 +170,14 @@ abbrev pub noted : Call → Result (List Value) FaultKind → Result Note FaultK
 noted call (Ok values) = Ok (note_of_values call values)
 noted call (Err fault) = Err fault
 
+-- the call that words name in this form
+abbrev pub in_form : Call → List (List ℕ) → Result Note FaultKind
+in_form form words = noted form (read_args (args_of form) words)
+
 -- the call that a name and the words behind it name
 abbrev pub called : Option Call → List (List ℕ) → Result Note FaultKind
 called None words = Err kind.Word
-called (Some call) words = noted call (read_args (args_of call) words)
+called (Some call) words = in_form (call_form call words) words
 
 -- the call that the words of a line name
 abbrev pub read_call : List (List ℕ) → Result Note FaultKind

@@ -5,7 +5,7 @@ use Rattle.wf_trace.specs.declared.fault.FaultKind.{FaultKind}
 use Rattle.wf_trace.specs.declared.fault.FaultKind.TheVariants as kind
 use Rattle.wf_frame.specs.declared.settings.Config.{Config}
 use Rattle.wf_frame.specs.declared.settings.Field.{Field}
-use Rattle.wf_frame.specs.declared.settings.Field.TheVariants.{Stations, Flows, Limit, Room, FlowQuantum, Quantum, Inflight, Attempts, Agg, Cap, Sleeping, Calls}
+use Rattle.wf_frame.specs.declared.settings.Field.TheVariants.{Stations, Flows, Limit, Room, FlowQuantum, Quantum, Inflight, Attempts, Agg, Cap, Sleeping, Calls, Charge}
 use Rattle.wf_frame.specs.Settings.{fields, lowest_of, greatest_of, with_value}
 use Rattle.wf_trace.specs.Faults.{earlier_fault}
 use Rattle.wf_trace.specs.Words.{number_of, in_range}
@@ -24,6 +24,7 @@ name_of Agg = codes "agg"
 name_of Cap = codes "cap"
 name_of Sleeping = codes "sleeping"
 name_of Calls = codes "calls"
+name_of Charge = codes "charge"
 
 -- the setting of a name
 abbrev pub field_named : List ℕ → Option Field
@@ -47,6 +48,7 @@ field_number Agg = 8
 field_number Cap = 9
 field_number Sleeping = 10
 field_number Calls = 11
+field_number Charge = 12
 
 -- an octet in front of what stands before the =
 abbrev pub grown : ℕ → Option (List ℕ × List ℕ) → Option (List ℕ × List ℕ)

@@ -5,7 +5,7 @@ ghost use Rattle.wf_trace.specs.Words.{words, number_of, in_range};
 ghost use Rattle.wf_trace.specs.declared.call.Arg.{Arg as Kind};
 ghost use Rattle.wf_trace.specs.Grammar.{octet_most, known_value, read_arg, absent_arg, result_seen, both, read_args};
 
-use crate::call::{Arg, Value};
+use crate::call::{Arg, RateFormat, Value};
 use crate::fault::{FaultKind, first_of};
 use crate::words::{in_range, next_word};
 use arrayvec::ArrayVec;
@@ -58,10 +58,15 @@ fn known(arg: Arg, word: &[u8]) -> Option<Value>
             Some(class) => Some(Value::Class(class)),
             None => None,
         },
+        (Arg::Format, _) => match RateFormat::named(word) {
+            Some(format) => Some(Value::Format(format)),
+            None => None,
+        },
         (Arg::Guard, b"long") => Some(Value::Guard(false)),
         (Arg::Guard, b"short") => Some(Value::Guard(true)),
         (Arg::Heard, b"heard") => Some(Value::Heard(true)),
         (Arg::Heard, b"lost") => Some(Value::Heard(false)),
+        (Arg::Air, b"air") => Some(Value::Air),
         (Arg::End, b"a") => Some(Value::End(false)),
         (Arg::End, b"b") => Some(Value::End(true)),
         _ => None,
@@ -78,7 +83,9 @@ fn read_one(arg: Arg, word: &[u8]) -> Result<Value, FaultKind>
         Arg::Long => long(0, u32::MAX, word),
         Arg::Number { low, high } => long(low, high, word),
         Arg::Length => short(1, GREATEST_BODY, word),
-        Arg::Class | Arg::Guard | Arg::Heard | Arg::End => known(arg, word).ok_or(FaultKind::Word),
+        Arg::Class | Arg::Format | Arg::Guard | Arg::Heard | Arg::Air | Arg::End => known(
+            arg, word,
+        ).ok_or(FaultKind::Word),
     }
 }
 
@@ -104,8 +111,8 @@ fn next_arg(arg: Arg, line: &[u8]) -> (Result<Value, FaultKind>, &[u8])
 }
 
 /// The values of a line's arguments, or the fault that it is judged by.
-pub fn read_all(args: &[Arg], line: &[u8]) -> Result<ArrayVec<Value, 5>, FaultKind>
-    requires { length args.now ≤ 5 }
+pub fn read_all(args: &[Arg], line: &[u8]) -> Result<ArrayVec<Value, 6>, FaultKind>
+    requires { length args.now ≤ 6 }
     ensures { result_seen (λ values. values.items) result ≡ read_args args.now (words line.now) }
 {
     let mut values = ArrayVec::new();

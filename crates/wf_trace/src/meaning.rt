@@ -2,11 +2,12 @@
 
 ghost use Rattle.std.specs.Prelude.{◌≡◌, ◌∷◌};
 ghost use Rattle.wf_trace.specs.Words.{words};
+ghost use Rattle.wf_trace.specs.Grammar.{call_form};
 ghost use Rattle.wf_trace.specs.Notes.{read_call};
 ghost use Rattle.wf_trace.specs.Meanings.{entry_of, caller_of, caller_first, meant, named as named_line, HasRoomForLine};
 
 use crate::args::read_all;
-use crate::call::Call;
+use crate::call::{Call, RateFormat};
 use crate::fault::FaultKind;
 use crate::note::note_from;
 use crate::settings::read_head;
@@ -31,6 +32,55 @@ pub struct Place {
 /// The greatest number of a caller.
 pub const GREATEST_CALLER: u32 = 65_535;
 
+// The form of a rate's line with these words behind its name: it names its format behind the station, or
+// none.
+fn rate_form(line: &[u8]) -> Call
+    ensures { result ≡ call_form Call.Rate (words line.now) }
+{
+    let Some((_, rest)) = next_word(line) else {
+        return Call::Rate;
+    };
+    let Some((format, _)) = next_word(rest) else {
+        return Call::Rate;
+    };
+    match RateFormat::named(format) {
+        None => Call::Rate,
+        Some(RateFormat::Vht) => Call::RateVht,
+        Some(RateFormat::He) => Call::RateHe,
+    }
+}
+
+// The form of the line of a `done` with these words behind its name: it names an airtime behind the others,
+// or none.
+fn done_form(line: &[u8]) -> Call
+    ensures { result ≡ call_form Call.Done (words line.now) }
+{
+    let Some((_, rest)) = next_word(line) else {
+        return Call::Done;
+    };
+    let Some((_, rest)) = next_word(rest) else {
+        return Call::Done;
+    };
+    let Some((word, _)) = next_word(rest) else {
+        return Call::Done;
+    };
+    match word {
+        b"air" => Call::DoneAir,
+        _ => Call::Done,
+    }
+}
+
+// The form of a call's line with these words behind its name.
+fn form(call: Call, line: &[u8]) -> Call
+    ensures { result ≡ call_form call (words line.now) }
+{
+    match call {
+        Call::Rate => rate_form(line),
+        Call::Done => done_form(line),
+        _ => call,
+    }
+}
+
 // The call that a line names.
 fn call(line: &[u8]) -> Result<Note, FaultKind>
     ensures { result ≡ read_call (words line.now) }
@@ -41,8 +91,9 @@ fn call(line: &[u8]) -> Result<Note, FaultKind>
     let Some(call) = Call::named(name) else {
         return Err(FaultKind::Word);
     };
-    match read_all(call.args(), rest) {
-        Ok(values) => Ok(note_from(call, values.as_slice())),
+    let form = form(call, rest);
+    match read_all(form.args(), rest) {
+        Ok(values) => Ok(note_from(form, values.as_slice())),
         Err(fault) => Err(fault),
     }
 }

@@ -5,7 +5,7 @@ ghost use Rattle.wf_trace.specs.Notes.{note_of_values};
 
 use crate::call::{Call, Value};
 use crate::values::{class_at, guard_at, heard_at, long_at, octet_at, short_at};
-use wf_frame::{Ask, Note};
+use wf_frame::{Ask, AskedRate, Note};
 
 /// The call with the values of its arguments in order.
 pub fn note_from(call: Call, values: &[Value]) -> Note
@@ -32,9 +32,29 @@ pub fn note_from(call: Call, values: &[Value]) -> Note
         },
         Call::Rate => Ask::Rate {
             station: short_at(values, 0),
-            mcs: octet_at(values, 1),
-            mhz: octet_at(values, 2),
-            short: guard_at(values, 3),
+            rate: AskedRate::Ht {
+                mcs: octet_at(values, 1),
+                mhz: octet_at(values, 2),
+                short: guard_at(values, 3),
+            },
+        },
+        Call::RateVht => Ask::Rate {
+            station: short_at(values, 0),
+            rate: AskedRate::Vht {
+                mcs: octet_at(values, 2),
+                mhz: octet_at(values, 3),
+                short: guard_at(values, 4),
+                streams: octet_at(values, 5),
+            },
+        },
+        Call::RateHe => Ask::Rate {
+            station: short_at(values, 0),
+            rate: AskedRate::He {
+                mcs: octet_at(values, 2),
+                mhz: octet_at(values, 3),
+                guard: short_at(values, 4),
+                streams: octet_at(values, 5),
+            },
         },
         Call::Tick => Ask::Tick {
             by: long_at(values, 0),
@@ -52,6 +72,12 @@ pub fn note_from(call: Call, values: &[Value]) -> Note
         Call::Done => Ask::Done {
             exchange: u64::from(long_at(values, 0)),
             heard: heard_at(values, 1),
+            air: None,
+        },
+        Call::DoneAir => Ask::Done {
+            exchange: u64::from(long_at(values, 0)),
+            heard: heard_at(values, 1),
+            air: Some(long_at(values, 3)),
         },
         Call::Sleep => Ask::Sleep {
             station: short_at(values, 0),

@@ -10,10 +10,10 @@ ghost use Rattle.wf_trace.specs.Meanings.{greatest_caller};
 ghost use Rattle.wf_trace.specs.Words.{words as words_of};
 ghost use Rattle.wf_trace.specs.Meanings.{meant};
 ghost use Rattle.wf_trace.specs.Grammar.{call_word, guard_word as word_of_guard, heard_word as word_of_heard};
-ghost use Rattle.wf_trace.specs.Printing.{ask_words, note_words, weight_words, note_text, note_line, IsAskPrintable, IsPrintable, IsAskInRange, NumbersAreInRange};
+ghost use Rattle.wf_trace.specs.Printing.{ask_words, note_words, weight_words, note_text, note_line, IsAskPrintable, IsPrintable, IsRateInRange, IsAirInRange, IsAskInRange, NumbersAreInRange};
 
-use crate::call::Call;
-use wf_frame::{Ask, Class, Note};
+use crate::call::{AIR, Call, RateFormat};
+use wf_frame::{Ask, AskedRate, Class, Note};
 use wf_io::{Line, Word};
 
 // The word of a guard interval.
@@ -65,19 +65,99 @@ fn push_join(out: &mut Line, words: &[Word], weight: u8)
     }
 }
 
-// A `rate`.
-fn push_rate(out: &mut Line, station: u16, mcs: u8, mhz: u8, short: bool)
+// A `rate` of VHT.
+fn push_vht(out: &mut Line, station: u16, mcs: u8, mhz: u8, short: bool, streams: u8)
     requires { length out.old ≤ 22 }
-    ensures text { out.new ≡ out.old ++ join_with_byte 32 (ask_words (Ask.Rate station mcs mhz short)) }
+    ensures text { out.new ≡ out.old
+        ++ join_with_byte 32 (ask_words (Ask.Rate station (AskedRate.Vht mcs mhz short streams))) }
     ensures len { length out.new ≤ length out.old + 120 }
 {
     let words = [
         Word::Number(u64::from(station)),
+        Word::Text(RateFormat::Vht.word()),
         Word::Number(u64::from(mcs)),
         Word::Number(u64::from(mhz)),
         Word::Text(guard_word(short)),
+        Word::Number(u64::from(streams)),
     ];
-    push_call(out, Call::Rate, &words);
+    push_call(out, Call::RateVht, &words);
+}
+
+// A `rate` of HE.
+fn push_he(out: &mut Line, station: u16, mcs: u8, mhz: u8, guard: u16, streams: u8)
+    requires { length out.old ≤ 22 }
+    ensures text { out.new ≡ out.old
+        ++ join_with_byte 32 (ask_words (Ask.Rate station (AskedRate.He mcs mhz guard streams))) }
+    ensures len { length out.new ≤ length out.old + 120 }
+{
+    let words = [
+        Word::Number(u64::from(station)),
+        Word::Text(RateFormat::He.word()),
+        Word::Number(u64::from(mcs)),
+        Word::Number(u64::from(mhz)),
+        Word::Number(u64::from(guard)),
+        Word::Number(u64::from(streams)),
+    ];
+    push_call(out, Call::RateHe, &words);
+}
+
+// A `rate`, whose format is named where it is not HT.
+fn push_rate(out: &mut Line, station: u16, rate: AskedRate)
+    requires { length out.old ≤ 22 }
+    ensures text { out.new ≡ out.old ++ join_with_byte 32 (ask_words (Ask.Rate station rate)) }
+    ensures len { length out.new ≤ length out.old + 120 }
+    ensures range { IsRateInRange rate }
+{
+    match rate {
+        AskedRate::Ht { mcs, mhz, short } => push_call(
+            out,
+            Call::Rate,
+            &[
+                Word::Number(u64::from(station)),
+                Word::Number(u64::from(mcs)),
+                Word::Number(u64::from(mhz)),
+                Word::Text(guard_word(short)),
+            ],
+        ),
+        AskedRate::Vht {
+            mcs,
+            mhz,
+            short,
+            streams,
+        } => push_vht(out, station, mcs, mhz, short, streams),
+        AskedRate::He {
+            mcs,
+            mhz,
+            guard,
+            streams,
+        } => push_he(out, station, mcs, mhz, guard, streams),
+    }
+}
+
+// A `done`, whose airtime stands where it is named.
+fn push_done(out: &mut Line, exchange: u64, heard: bool, air: Option<u32>)
+    requires { length out.old ≤ 22 }
+    ensures text { out.new ≡ out.old ++ join_with_byte 32 (ask_words (Ask.Done exchange heard air)) }
+    ensures len { length out.new ≤ length out.old + 120 }
+    ensures range { IsAirInRange air }
+{
+    match air {
+        None => push_call(
+            out,
+            Call::Done,
+            &[Word::Number(exchange), Word::Text(heard_word(heard))],
+        ),
+        Some(air) => push_call(
+            out,
+            Call::DoneAir,
+            &[
+                Word::Number(exchange),
+                Word::Text(heard_word(heard)),
+                Word::Text(AIR),
+                Word::Number(u64::from(air)),
+            ],
+        ),
+    }
 }
 
 // An `rx`.
@@ -120,12 +200,7 @@ fn push_ask(ask: Ask, out: &mut Line)
             weight,
         ),
         Ask::Leave { station } => push_station(out, Call::Leave, station),
-        Ask::Rate {
-            station,
-            mcs,
-            mhz,
-            short,
-        } => push_rate(out, station, mcs, mhz, short),
+        Ask::Rate { station, rate } => push_rate(out, station, rate),
         Ask::Tick { by } => push_call(out, Call::Tick, &[Word::Number(u64::from(by))]),
         Ask::Pull { class } => push_call(out, Call::Pull, &[Word::Text(class.word())]),
         Ask::Arrive { exchange, index } => push_call(
@@ -134,11 +209,11 @@ fn push_ask(ask: Ask, out: &mut Line)
             &[Word::Number(exchange), Word::Number(u64::from(index))],
         ),
         Ask::Answer { exchange } => push_call(out, Call::Answer, &[Word::Number(exchange)]),
-        Ask::Done { exchange, heard } => push_call(
-            out,
-            Call::Done,
-            &[Word::Number(exchange), Word::Text(heard_word(heard))],
-        ),
+        Ask::Done {
+            exchange,
+            heard,
+            air,
+        } => push_done(out, exchange, heard, air),
         Ask::Sleep { station } => push_station(out, Call::Sleep, station),
         Ask::Wake { station } => push_station(out, Call::Wake, station),
         Ask::Poll { station } => push_station(out, Call::Poll, station),
@@ -181,8 +256,9 @@ fn push_note(note: &Note, out: &mut Line)
 
 /// Writes the canonical line of an entry to an empty line: the words of the call parted by one space, `@` and
 /// the caller in front exactly where it is not 0, and the octet 10 at the end. The weight of a `join` stands
-/// exactly where it is not 1. An exchange number must be below 2^32, and a length 1 to 2304 octets: a line
-/// names no other. Behind a head that allows one more call the line is read as this entry.
+/// exactly where it is not 1, the format of a `rate` where it is not HT, and the airtime of a `done` where it
+/// is named. An exchange number must be below 2^32, and a length 1 to 2304 octets: a line names no other.
+/// Behind a head that allows one more call the line is read as this entry.
 pub fn print_note(caller: u32, note: &Note, out: &mut Line)
     requires empty { out.old ≡ [] }
     requires caller { caller ≤ greatest_caller }

@@ -26,6 +26,7 @@ fn name(field: Field) -> &'static [u8]
         Field::Cap => b"cap",
         Field::Sleeping => b"sleeping",
         Field::Calls => b"calls",
+        Field::Charge => b"charge",
     }
 }
 
@@ -48,7 +49,7 @@ fn value_of(field: Field, word: &[u8]) -> Result<u32, FaultKind>
 // Its number in the table.
 fn place(field: Field) -> usize
     ensures value { result ≡ field_number field }
-    ensures below { result < 12 }
+    ensures below { result < 13 }
 {
     field as usize
 }
@@ -79,7 +80,7 @@ fn setting(word: &[u8]) -> Option<(Field, &[u8])>
 }
 
 // Sets what a word says, and answers what is wrong with it.
-fn apply(word: &[u8], seen: &mut [bool; 12], config: &mut Config) -> Option<FaultKind>
+fn apply(word: &[u8], seen: &mut [bool; 13], config: &mut Config) -> Option<FaultKind>
     ensures { (others : List Bool → Config → Result Config FaultKind) →
         set_one (named_field (split_once word.now)) seen.old config.old others
         ≡ after_fault result (others seen.new config.new) }
@@ -102,10 +103,10 @@ fn apply(word: &[u8], seen: &mut [bool; 12], config: &mut Config) -> Option<Faul
 
 /// The settings of a head whose word `cell` stands before this, or the fault that it is judged by.
 pub fn read_head(line: &[u8]) -> Result<Config, FaultKind>
-    ensures { result ≡ read_words (words line.now) (replicate 12 false) standard }
+    ensures { result ≡ read_words (words line.now) (replicate 13 false) standard }
 {
     let mut config = Config::standard();
-    let mut seen = [false; 12];
+    let mut seen = [false; 13];
     let mut fault = None;
     let mut rest = line;
     while let Some((word, behind)) = next_word(rest) {

@@ -1,14 +1,14 @@
 //! A call of a cell, as numbers in a struct of the caller's.
 
-ghost use Rattle.std.specs.Prelude.{◌≡◌};
-ghost use Rattle.wf_frame.specs.declared.notes.Ask.TheVariants.{Join, Rate, Rx};
+ghost use Rattle.std.specs.Prelude.{◌≡◌, option_map};
+ghost use Rattle.wf_frame.specs.declared.notes.Ask.TheVariants.{Done, Join, Rate, Rx};
 ghost use Rattle.wf_frame.specs.declared.notes.Note.TheVariants.{Asked};
-ghost use Rattle.wf_c.specs.CallNumbers.{asked, blank_call, numbers_of_call};
-ghost use Rattle.wf_c.specs.Numbers.{is_up};
+ghost use Rattle.wf_c.specs.CallNumbers.{asked, blank_call, numbers_of_call, numbers_of_rate, rate_shown};
 
 use crate::asks::class_of_number;
+use crate::exchanges::named_air;
 use crate::reply::number_of_class;
-use wf_frame::{Ask, Class, Note};
+use wf_frame::{Ask, AskedRate, Class, Note};
 
 /// A call. `kind` says which one, and which other fields mean something; those are 0 that mean nothing.
 #[repr(C)]
@@ -20,7 +20,8 @@ pub struct CallNumbers {
     pub flow: u32,
     /// What the clock moves by, in microseconds.
     pub by: u32,
-    /// The airtime that a station used, in microseconds.
+    /// The airtime that a station used, or that the end of an exchange names, which is none where this is 0:
+    /// in microseconds.
     pub air: u32,
     /// The station.
     pub station: u16,
@@ -32,6 +33,8 @@ pub struct CallNumbers {
     pub index: u16,
     /// The length of a frame's body, in octets.
     pub length: u16,
+    /// The guard interval that a station is sent to with at a rate of HE, in nanoseconds.
+    pub guard: u16,
     /// Which call: 0 to 13.
     pub kind: u8,
     /// The TID of a frame.
@@ -42,12 +45,16 @@ pub struct CallNumbers {
     pub exponent: u8,
     /// Its weight.
     pub weight: u8,
-    /// The MCS that a station is sent to at.
+    /// The format of the rate that a station is sent to at: 0 for HT, 1 for VHT, 2 for HE.
+    pub form: u8,
+    /// Its MCS.
     pub mcs: u8,
     /// The width of the channel, in MHz.
     pub mhz: u8,
-    /// Other than 0 for the short guard interval.
+    /// Other than 0 for the short guard interval of HT or VHT.
     pub short: u8,
+    /// The spatial streams of VHT or HE.
+    pub streams: u8,
     /// Other than 0 where an exchange ends with its answer heard.
     pub heard: u8,
 }
@@ -63,14 +70,17 @@ const BLANK: CallNumbers = CallNumbers {
     start: 0,
     index: 0,
     length: 0,
+    guard: 0,
     kind: 0,
     tid: 0,
     class: 0,
     exponent: 0,
     weight: 0,
+    form: 0,
     mcs: 0,
     mhz: 0,
     short: 0,
+    streams: 0,
     heard: 0,
 };
 
@@ -92,7 +102,7 @@ impl CallNumbers {
             1 => Some(Ask::Leave {
                 station: self.station,
             }),
-            2 => Some(self.rate()),
+            2 => self.rate(),
             3 => Some(Ask::Tick { by: self.by }),
             5 => Some(Ask::Pull {
                 class: class_of_number(self.class),
@@ -107,6 +117,7 @@ impl CallNumbers {
             8 => Some(Ask::Done {
                 exchange: self.exchange,
                 heard: self.heard != 0,
+                air: named_air(self.air),
             }),
             9 => Some(Ask::Sleep {
                 station: self.station,
@@ -140,15 +151,38 @@ impl CallNumbers {
         }
     }
 
-    // A station is sent to at another rate.
-    fn rate(&self) -> Ask
-        ensures { result ≡ Rate self.now.station self.now.mcs self.now.mhz (is_up self.now.short) }
+    // A station is sent to at another rate, where the numbers show one.
+    fn rate(&self) -> Option<Ask>
+        ensures { result ≡ option_map (Rate self.now.station) (rate_shown self.now) }
     {
-        Ask::Rate {
+        let rate = self.rate_shown()?;
+        Some(Ask::Rate {
             station: self.station,
-            mcs: self.mcs,
-            mhz: self.mhz,
-            short: self.short != 0,
+            rate,
+        })
+    }
+
+    // The rate that the numbers show, where the form is that of a format.
+    fn rate_shown(&self) -> Option<AskedRate>
+        ensures { result ≡ rate_shown self.now }
+    {
+        let (mcs, mhz, streams) = (self.mcs, self.mhz, self.streams);
+        let short = self.short != 0;
+        match self.form {
+            0 => Some(AskedRate::Ht { mcs, mhz, short }),
+            1 => Some(AskedRate::Vht {
+                mcs,
+                mhz,
+                short,
+                streams,
+            }),
+            2 => Some(AskedRate::He {
+                mcs,
+                mhz,
+                guard: self.guard,
+                streams,
+            }),
+            _ => None,
         }
     }
 
@@ -186,12 +220,7 @@ impl CallNumbers {
                 weight,
             } => of_join(station, window, start, exponent, weight),
             Ask::Leave { station } => of_station(1, station),
-            Ask::Rate {
-                station,
-                mcs,
-                mhz,
-                short,
-            } => of_rate(station, mcs, mhz, short),
+            Ask::Rate { station, rate } => of_rate(station, rate),
             Ask::Tick { by } => CallNumbers { by, ..of_kind(3) },
             Ask::Pull { class } => CallNumbers {
                 class: number_of_class(class),
@@ -202,10 +231,11 @@ impl CallNumbers {
                 ..of_exchange(6, exchange)
             },
             Ask::Answer { exchange } => of_exchange(7, exchange),
-            Ask::Done { exchange, heard } => CallNumbers {
-                heard: u8::from(heard),
-                ..of_exchange(8, exchange)
-            },
+            Ask::Done {
+                exchange,
+                heard,
+                air,
+            } => of_end(exchange, heard, air),
             Ask::Sleep { station } => of_station(9, station),
             Ask::Wake { station } => of_station(10, station),
             Ask::Poll { station } => of_station(11, station),
@@ -233,14 +263,54 @@ fn of_join(station: u16, window: u16, start: u16, exponent: u8, weight: u8) -> C
 }
 
 // A station is sent to at another rate.
-fn of_rate(station: u16, mcs: u8, mhz: u8, short: bool) -> CallNumbers
-    ensures { result ≡ numbers_of_call (Asked (Rate station mcs mhz short)) }
+fn of_rate(station: u16, rate: AskedRate) -> CallNumbers
+    ensures { result ≡ numbers_of_rate station rate }
+{
+    match rate {
+        AskedRate::Ht { mcs, mhz, short } => CallNumbers {
+            form: 0,
+            mcs,
+            mhz,
+            short: u8::from(short),
+            ..of_station(2, station)
+        },
+        AskedRate::Vht {
+            mcs,
+            mhz,
+            short,
+            streams,
+        } => CallNumbers {
+            form: 1,
+            mcs,
+            mhz,
+            short: u8::from(short),
+            streams,
+            ..of_station(2, station)
+        },
+        AskedRate::He {
+            mcs,
+            mhz,
+            guard,
+            streams,
+        } => CallNumbers {
+            form: 2,
+            mcs,
+            mhz,
+            guard,
+            streams,
+            ..of_station(2, station)
+        },
+    }
+}
+
+// An exchange ends.
+fn of_end(exchange: u64, heard: bool, air: Option<u32>) -> CallNumbers
+    ensures { result ≡ numbers_of_call (Asked (Done exchange heard air)) }
 {
     CallNumbers {
-        mcs,
-        mhz,
-        short: u8::from(short),
-        ..of_station(2, station)
+        heard: u8::from(heard),
+        air: air.unwrap_or(0),
+        ..of_exchange(8, exchange)
     }
 }
 

@@ -9,33 +9,33 @@ ghost use Rattle.wf_c.specs.CellCalls.{IsStepped};
 
 use crate::reply::Reply;
 use std::alloc::Global;
-use wf_cell::{Cell, Job};
 use wf_frame::{Answer, Ask, Config};
+use wf_record::{Job, Record};
 
-/// A cell, and its answer to the last call, which is lent to one call after another.
+/// A record, and its answer to the last call, which is lent to one call after another.
 #[derive(Drop)]
 pub struct HeldCell {
-    pub(crate) cell: Cell,
+    pub(crate) cell: Record,
     pub(crate) answer: Answer,
 }
 
 impl HeldCell {
-    // A cell of these settings, in a block of its own. None where a setting is out of its range, or there is
-    // no memory.
+    // A record of these settings, in a block of its own. None where a setting is out of its range, or there
+    // is no memory.
     pub(crate) fn made(alloc: Global, config: Config) -> Option<Box<HeldCell, Global>>
         ensures past { IfSome result (λ made. made.value.cell.past
             ≡ record { config = config; history = [] }) }
         ensures stands { IfSome result (λ made. (bodies : ℕ → FrameValue) →
             StandsFor made.value.cell.half (opening config) bodies) }
     {
-        match Cell::new(alloc, config) {
+        match Record::new(alloc, config) {
             Ok(cell) => HeldCell::boxed(alloc, cell),
             Err(_) => None,
         }
     }
 
-    // A cell in a block of its own.
-    fn boxed(alloc: Global, cell: Cell) -> Option<Box<HeldCell, Global>>
+    // A record in a block of its own.
+    fn boxed(alloc: Global, cell: Record) -> Option<Box<HeldCell, Global>>
         ensures { IfSome result (λ made. made.value.cell ≡ cell) }
     {
         let answer = Answer::new();

@@ -238,36 +238,38 @@ tried_heard : (b : Bool) (limit f : ℕ) (y : Session) → AllTried limit y →
 tried_heard true limit f y h = h
 tried_heard false limit f y h = h
 
-tried_after : (c : Content) (limit : ℕ) (w : World) (i : IsLawful w) (x : Exchange) (heard : Bool)
+tried_after : (air : Option ℕ) (c : Content) (limit : ℕ) (w : World) (i : IsLawful w) (x : Exchange)
+    (heard : Bool)
     (v : World) → x.content ≡ c
-    → v ≡ after_charge (without_exchange w x.number) x → v.config.attempts ≡ limit → IsFound w i x →
+    → v ≡ after_charge (without_exchange w x.number) x air → v.config.attempts ≡ limit → IsFound w i x →
     Tried limit v
     → Tried limit (after_done v x heard c)
 unfolding after_done
-tried_after (Frames ms) limit w i x heard v e is same_limit f h =
+tried_after air (Frames ms) limit w i x heard v e is same_limit f h =
     tried_all ms limit x.number x.station x.tid v (is_acked heard x.answer) same_limit
     (subst (λ (u : World). IsEnding x.number x.station x.tid (is_acked heard x.answer) u ms) (sym is)
-    (ending_of w i x ms heard e f)) h
-tried_after (Request g) limit w i x heard v e is same_limit f h =
+    (ending_of air w i x ms heard e f)) h
+tried_after air (Request g) limit w i x heard v e is same_limit f h =
     tried_on_session limit v x.station x.tid _
     (tried_heard heard limit g (session v x.station x.tid) (h x.station x.tid)) h
 
-config_charged : (w : World) (x : Exchange) → (after_charge (without_exchange w x.number) x).config ≡ w.config
+config_charged : (air : Option ℕ) (w : World) (x : Exchange) →
+    (after_charge (without_exchange w x.number) x air).config ≡ w.config
 unfolding after_charge without_exchange on_share on_station with_station
-config_charged w x = refl
+config_charged air w x = refl
 
 tried_without : (limit : ℕ) (w : World) (e : ℕ) → Tried limit w → Tried limit (without_exchange w e)
 unfolding without_exchange
 tried_without limit w e h = h
 
-tried_ended : (limit : ℕ) (w : World) (i : IsLawful w) (x : Exchange) (heard : Bool) →
+tried_ended : (air : Option ℕ) (limit : ℕ) (w : World) (i : IsLawful w) (x : Exchange) (heard : Bool) →
     w.config.attempts ≡ limit → IsFound w i x
-    → Tried limit w → Tried limit (done_outcome w x heard).world
+    → Tried limit w → Tried limit (done_outcome w x heard air).world
 unfolding done_outcome
-tried_ended limit w i x heard same_limit f h =
-    tried_after x.content limit w i x heard _ refl refl
-    (ap (λ (c : Config). c.attempts) (config_charged w x) ∙ same_limit) f
-    (tried_same limit _ _ (same_charged (without_exchange w x.number) x)
+tried_ended air limit w i x heard same_limit f h =
+    tried_after air x.content limit w i x heard _ refl refl
+    (ap (λ (c : Config). c.attempts) (config_charged air w x) ∙ same_limit) f
+    (tried_same limit _ _ (same_charged air (without_exchange w x.number) x)
     (tried_without limit w x.number h))
 
 -- ---- the other calls
@@ -321,7 +323,7 @@ tried_done (Enqueue s t flow len) limit w some same_limit i h =
 tried_done (Asked (Join s window start exponent weight)) limit w some same_limit i h =
     tried_joined limit w s window start exponent weight some h
 tried_done (Asked (Leave s)) limit w some same_limit i h = tried_gone limit w s some h
-tried_done (Asked (Rate s mcs mhz short)) limit w some same_limit i h =
+tried_done (Asked (Rate s rate)) limit w some same_limit i h =
     tried_same limit w _ (same_on_station w s _ (λ x t. refl)) h
 tried_done (Asked (Tick by)) limit w some same_limit i h = h
 tried_done (Asked (Pull c)) limit w some same_limit i h = tried_pulled limit w c some i h
@@ -329,9 +331,9 @@ tried_done (Asked (Arrive e n)) limit w some same_limit i h =
     tried_open (IsFound w i) (exchange w e) limit w _ (found w i e) (λ x _. tried_arrived limit w x n h) h
 tried_done (Asked (Answer e)) limit w some same_limit i h =
     tried_open (IsFound w i) (exchange w e) limit w _ (found w i e) (λ x _. tried_answered limit w x h) h
-tried_done (Asked (Done e heard)) limit w some same_limit i h =
+tried_done (Asked (Done e heard air)) limit w some same_limit i h =
     tried_open (IsFound w i) (exchange w e) limit w _ (found w i e)
-    (λ x f. tried_ended limit w i x heard same_limit f h) h
+    (λ x f. tried_ended air limit w i x heard same_limit f h) h
 tried_done (Asked (Sleep s)) limit w some same_limit i h =
     tried_same limit w _ (same_on_station w s _ (λ x t. refl)) h
 tried_done (Asked (Wake s)) limit w some same_limit i h =

@@ -19,7 +19,7 @@ use Rattle.wf_def_world.specs.World.{World, Station, Share, Tid, Queue, Exchange
 use Rattle.wf_frame.specs.Classes.{class_number}
 use Rattle.wf_def_world.specs.FlowQueues.{without_head, after_limit, with_listed_queue, with_appended, after_put_in, with_queues_paid, taken_by_codel, taken_from_picked, taken_for_tid, after_queue_left, after_queues_left}
 use Rattle.wf_def_world.specs.CanSend.{with_listing_in, with_listings_in, with_listings_of}
-use Rattle.wf_def_world.specs.Exchanges.{Aggregate, Prepared, with_station_paid, with_stations_paid, after_pick, after_tid_turn, with_fresh, aggregate_of, with_number, without_credit, prepared_data, prepared_exchange, with_exchange_opened, after_charge, with_failed_finished, with_settled, with_all_settled, after_done}
+use Rattle.wf_def_world.specs.Exchanges.{Aggregate, Prepared, with_station_paid, with_stations_paid, after_pick, after_tid_turn, with_fresh, aggregate_of, with_number, without_credit, prepared_data, prepared_exchange, with_exchange_opened, after_charge, with_failed_finished, with_settled, with_all_settled, after_done, charge_of}
 use Rattle.wf_def_world.specs.Step.{Outcome, join_outcome, after_tid_left, after_tids_left, without_listings, leave_outcome, rate_outcome, tick_outcome, with_frame, enqueue_outcome, send_outcome, pull_outcome_for, pull_outcome, arrive_outcome, answer_outcome, done_outcome, outcome_where_open, sleep_outcome, wake_outcome, poll_outcome, rx_outcome, reap_outcome, outcome_of, after_refusal, judged_outcome, step}
 use Rattle.wf_def_world.specs.Run.{Entry, world_after}
 use Rattle.wf_law_runs.proofs.Deficits.Balance.{IsBalanced, IsFairStation, IsFair}
@@ -277,10 +277,10 @@ fair_answered : (w : World) (x : Exchange) → IsFair w → IsFair (answer_outco
 unfolding answer_outcome
 fair_answered w x h = fair_with_exchange w _ h
 
-fair_charged : (w : World) (x : Exchange) → IsFair w → IsFair (after_charge w x)
+fair_charged : (air : Option ℕ) (w : World) (x : Exchange) → IsFair w → IsFair (after_charge w x air)
 unfolding after_charge
-fair_charged w x h = fair_on_share w _ _ _ h (λ y b.
-    record { deficit = charged_number _ y.charged y.received x.charge y.deficit b.deficit })
+fair_charged air w x h = fair_on_share w _ _ _ h (λ y b.
+    record { deficit = charged_number _ y.charged y.received (charge_of air x) y.deficit b.deficit })
 
 fair_settled : (w : World) (s t : ℕ) (acked : Bool) (m : Mpdu) → IsFair w →
     IsFair (with_settled w s t acked m)
@@ -301,9 +301,10 @@ unfolding after_done
 fair_after_done (Frames mpdus) w x heard h = fair_all_settled mpdus w _ _ _ h
 fair_after_done (Request start) w x heard h = fair_on_session w _ _ _ h
 
-fair_ended : (w : World) (x : Exchange) (heard : Bool) → IsFair w → IsFair (done_outcome w x heard).world
+fair_ended : (air : Option ℕ) (w : World) (x : Exchange) (heard : Bool) → IsFair w →
+    IsFair (done_outcome w x heard air).world
 unfolding done_outcome
-fair_ended w x heard h = fair_after_done _ _ x heard (fair_charged _ x (fair_without_exchange w _ h))
+fair_ended air w x heard h = fair_after_done _ _ x heard (fair_charged air _ x (fair_without_exchange w _ h))
 
 -- ---- stations
 
@@ -356,12 +357,12 @@ unfolding outcome_of tick_outcome rate_outcome sleep_outcome wake_outcome poll_o
 fair_done (Enqueue s t flow len) w h = fair_enqueued w s t flow len h
 fair_done (Asked (Join s window start exponent weight)) w h = fair_joined w s window start exponent weight h
 fair_done (Asked (Leave s)) w h = fair_gone w s h
-fair_done (Asked (Rate s mcs mhz short)) w h = fair_on_station w s _ h (λ q x k. k)
+fair_done (Asked (Rate s rate)) w h = fair_on_station w s _ h (λ q x k. k)
 fair_done (Asked (Tick by)) w h = record { each = h.each }
 fair_done (Asked (Pull c)) w h = fair_pulled w c h
 fair_done (Asked (Arrive e i)) w h = fair_on_open _ w _ h (λ x. fair_arrived w x i h)
 fair_done (Asked (Answer e)) w h = fair_on_open _ w _ h (λ x. fair_answered w x h)
-fair_done (Asked (Done e heard)) w h = fair_on_open _ w _ h (λ x. fair_ended w x heard h)
+fair_done (Asked (Done e heard air)) w h = fair_on_open _ w _ h (λ x. fair_ended air w x heard h)
 fair_done (Asked (Sleep s)) w h = fair_on_station w s _ h (λ q x k. k)
 fair_done (Asked (Wake s)) w h = fair_on_station w s _ h (λ q x k. k)
 fair_done (Asked (Poll s)) w h = fair_on_station w s _ h (λ q x k. k)

@@ -6,13 +6,15 @@ use Rattle.std.proofs.lemmas.Bool.{cases_Bool, cases_eq}
 use Rattle.wf_frame.specs.declared.classes.Class.{Class}
 use Rattle.wf_frame.specs.declared.classes.Class.TheVariants.{Bk, Be, Vi, Vo}
 use Rattle.wf_def_lists.specs.Table.{at}
-use Rattle.wf_def_air.specs.Airtime.{Ht, lowest_rate}
+use Rattle.wf_def_air.specs.Airtime.{lowest_rate}
 use Rattle.wf_def_codel.specs.Codel.{Item}
 use Rattle.wf_def_rotation.specs.Rotation.{without_key, in_order, Picked}
+use Rattle.wf_def_world.specs.Rates.{rate_asked}
 use Rattle.wf_def_world.specs.World.{World, Station, Share, Exchange, Mpdu, Content, Frames, Request, no_share, no_station, rotation, quantum, with_rotation, without_exchange}
 use Rattle.wf_frame.specs.Classes.{class_number}
+use Rattle.wf_frame.specs.declared.notes.AskedRate.{AskedRate}
 use Rattle.wf_def_world.specs.FlowQueues.{without_head, after_limit, with_listed_queue, with_appended, after_put_in, with_queues_paid, taken_by_codel, taken_from_picked, taken_for_tid, after_queue_left, after_queues_left}
-use Rattle.wf_def_world.specs.Exchanges.{Aggregate, Prepared, with_station_paid, with_stations_paid, after_pick, after_tid_turn, with_fresh, aggregate_of, with_number, without_credit, prepared_data, prepared_exchange, with_exchange_opened, after_charge, with_failed_finished, with_settled, with_all_settled, after_done, exchange_of, picked_station}
+use Rattle.wf_def_world.specs.Exchanges.{Aggregate, Prepared, with_station_paid, with_stations_paid, after_pick, after_tid_turn, with_fresh, aggregate_of, with_number, without_credit, prepared_data, prepared_exchange, with_exchange_opened, after_charge, with_failed_finished, with_settled, with_all_settled, after_done, exchange_of, picked_station, charge_of}
 use Rattle.wf_def_world.specs.Step.{join_outcome, after_tid_left, after_tids_left, without_listings, leave_outcome, rate_outcome, with_frame, enqueue_outcome, send_outcome, done_outcome, sleep_outcome, wake_outcome, poll_outcome, rx_outcome, reap_outcome}
 use Rattle.wf_law_runs.proofs.Deficits.Books.{upd, updc, Account, plain, account, core, Books, books, with_account, with_lists, on_part, books_with_station, books_with_rotation, books_on_station, books_hidden, books_on_session, books_with_queues, books_on_share, books_on_queue, books_finish, books_finish_all, books_if, updc_idle, upd_idle, upd_same, upd_other, updc_same}
 use Rattle.wf_def_lists.specs.Lists.{on}
@@ -146,10 +148,10 @@ charge_share n y = record y { deficit = y.deficit -ℤ pos n; charged = y.charge
 abbrev pub with_charge : Books → ℕ → Class → ℕ → Books
 with_charge b s c n = with_account b s (option_map (on_part c (charge_share n)) (b.accounts s))
 
-pub books_charged : (w : World) (x : Exchange) →
-    books (after_charge w x) ≡ with_charge (books w) x.station x.class x.charge
+pub books_charged : (air : Option ℕ) (w : World) (x : Exchange) →
+    books (after_charge w x air) ≡ with_charge (books w) x.station x.class (charge_of air x)
 unfolding after_charge
-books_charged w x = books_on_share w x.station x.class _ (charge_share x.charge) (λ y. refl)
+books_charged air w x = books_on_share w x.station x.class _ (charge_share (charge_of air x)) (λ y. refl)
 
 books_settled : (w : World) (s t : ℕ) (acked : Bool) (m : Mpdu) → books (with_settled w s t acked m) ≡ books w
 unfolding with_settled with_failed_finished
@@ -169,11 +171,12 @@ unfolding after_done
 books_after_done (Frames mpdus) w x heard = books_all_settled mpdus w _ _ _
 books_after_done (Request start) w x heard = books_on_session w _ _ _
 
-pub books_ended : (w : World) (x : Exchange) (heard : Bool) →
-    books (done_outcome w x heard).world ≡ with_charge (without (books w) x.number) x.station x.class x.charge
+pub books_ended : (air : Option ℕ) (w : World) (x : Exchange) (heard : Bool) →
+    books (done_outcome w x heard air).world
+    ≡ with_charge (without (books w) x.number) x.station x.class (charge_of air x)
 unfolding done_outcome
-books_ended w x heard = books_after_done x.content _ x heard
-    ∙ (books_charged _ x ∙ ap (λ (b : Books). with_charge b x.station x.class x.charge)
+books_ended air w x heard = books_after_done x.content _ x heard
+    ∙ (books_charged air _ x ∙ ap (λ (b : Books). with_charge b x.station x.class (charge_of air x))
     (books_without w x.number))
 
 -- ---- stations
@@ -232,14 +235,14 @@ pub books_credited : (w : World) (s : ℕ) → books (poll_outcome w s).world �
 unfolding poll_outcome
 books_credited w s = books_hidden w s _ (λ x. refl)
 
-abbrev pub rated : ℕ → ℕ → Bool → Account → Account
-rated mcs mhz short a = record a { rate = Ht mcs mhz short }
+abbrev pub rated : AskedRate → Account → Account
+rated rate a = record a { rate = rate_asked rate }
 
-pub books_with_rate : (w : World) (s mcs mhz : ℕ) (short : Bool) →
-    books (rate_outcome w s mcs mhz short).world
-    ≡ with_account (books w) s (option_map (rated mcs mhz short) ((books w).accounts s))
+pub books_with_rate : (w : World) (s : ℕ) (rate : AskedRate) →
+    books (rate_outcome w s rate).world
+    ≡ with_account (books w) s (option_map (rated rate) ((books w).accounts s))
 unfolding rate_outcome
-books_with_rate w s mcs mhz short = books_on_station w s _ (rated mcs mhz short) (λ x. refl)
+books_with_rate w s rate = books_on_station w s _ (rated rate) (λ x. refl)
 
 abbrev pub fresh_share : ℕ → Share
 fresh_share q = record { deficit = pos q; quanta = 0; charged = 0; received = 0; upper = false }

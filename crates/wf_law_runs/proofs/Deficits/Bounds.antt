@@ -9,7 +9,7 @@ use Rattle.wf_def_world.specs.World.{Share}
 use Rattle.wf_law_runs.specs.Deficits.{most_owed}
 use Rattle.wf_law_runs.proofs.Deficits.BookSteps.{pay_share, charge_share, receive_share, fresh_share}
 
--- with m owed by open exchanges
+-- with m that open exchanges may be charged
 pub record IsBounded (config : Config) (m weight : ℕ) (x : Share) : Type 0 where
   pub most : x.deficit ≤ℤ pos (config.quantum * weight)
   pub least : pos m ≤ℤ (x.deficit +ℤ pos (greatest_debt + most_owed config))
@@ -76,7 +76,7 @@ bounded_less config m k weight x h b = record {
   quiet = λ r. omega (arith, ints, b.quiet r);
 }
 
--- what was owed is charged
+-- a charge is made that might be
 pub bounded_charge : (config : Config) (m k n weight : ℕ) (x : Share) → k + n ≤ m →
     IsBounded config m weight x → IsBounded config k weight (charge_share n x)
 bounded_charge config m k n weight x h b = record {

@@ -73,14 +73,14 @@ config_done (Enqueue s t flow len) w = ap (λ (z : Books). z.config) (books_enqu
 config_done (Asked (Join s window start exponent weight)) w =
     ap (λ (z : Books). z.config) (books_joined w s window start exponent weight)
 config_done (Asked (Leave s)) w = ap (λ (z : Books). z.config) (books_gone w s)
-config_done (Asked (Rate s mcs mhz short)) w =
-    ap (λ (z : Books). z.config) (books_with_rate w s mcs mhz short)
+config_done (Asked (Rate s rate)) w =
+    ap (λ (z : Books). z.config) (books_with_rate w s rate)
 config_done (Asked (Tick by)) w = refl
 config_done (Asked (Pull c)) w = config_pulled w c
 config_done (Asked (Arrive e j)) w = config_open (exchange w e) w _ (λ x. config_arrived w x j)
 config_done (Asked (Answer e)) w = config_open (exchange w e) w _ (λ x. config_answered w x)
-config_done (Asked (Done e heard)) w = config_open (exchange w e) w _
-    (λ x. ap (λ (z : Books). z.config) (books_ended w x heard))
+config_done (Asked (Done e heard air)) w = config_open (exchange w e) w _
+    (λ x. ap (λ (z : Books). z.config) (books_ended air w x heard))
 config_done (Asked (Sleep s)) w = ap (λ (z : Books). z.config) (books_slept w s)
 config_done (Asked (Wake s)) w = ap (λ (z : Books). z.config) (books_woken w s)
 config_done (Asked (Poll s)) w = ap (λ (z : Books). z.config) (books_credited w s)

@@ -10,26 +10,30 @@ use Rattle.wf_def_air.specs.Airtime.{IsRate}
 use Rattle.wf_def_world.specs.World.{Exchange}
 use Rattle.wf_frame.specs.Classes.{class_number, same_class}
 use Rattle.wf_frame.specs.Settings.{IsInRange}
-use Rattle.wf_law_runs.specs.Deficits.{longest_exchange, most_owed, owed}
+use Rattle.wf_law_runs.specs.Deficits.{longest_computed, longest_exchange, most_owed}
 use Rattle.wf_def_lists.specs.Lists.{on}
 use Rattle.wf_law_rules.proofs.Lemmas.Counts.{on-nil, on-cons_same, on-cons_other, on-append, on-filter_le, on-filter_out, hasnot-on}
 use Rattle.wf_law_runs.proofs.Deficits.Books.{each_upd, upd_other, each_updc, updc_same, cases_class, same_number, Account, core, Books, with_account, with_lists, on_part}
 use Rattle.wf_law_runs.proofs.Deficits.BookSteps.{with_opened, without, charge_share, with_charge, off, all_off, fresh_account, pay_share, paid, all_paid, after}
-use Rattle.wf_law_runs.proofs.Deficits.Openings.{Every, every_map, every_append, every_filter, Rising, rising_append, rising_filter, many, many-more, many-other, many-filter, part_of, owed-append, owed-filter, owed-ended, owed_most}
+use Rattle.wf_law_runs.proofs.Deficits.Openings.{Every, every_map, every_append, every_filter, Rising, rising_append, rising_filter, many, many-more, many-other, many-filter, part_of, reserved, reserved-append, reserved-filter, reserved-ended, reserved_most}
 use Rattle.wf_law_runs.proofs.Deficits.Bounds.{IsBounded, paid_least, bounded_pay, bounded_open, bounded_less, bounded_charge, bounded_fresh}
 
 -- an open exchange
 pub record IsOpen (b : Books) (x : Exchange) : Type 0 where
   pub live : is_some (b.accounts x.station) ≡ true
   pub below : x.number < b.exchanges
-  pub charge : x.charge ≤ longest_exchange b.config
+  pub charge : x.charge ≤ longest_computed b.config
   pub some : 1 ≤ x.charge
+
+-- what the open exchanges of a station in a class may be charged together
+abbrev pub at_stake : Config → ℕ → Class → List Exchange → ℕ
+at_stake config s c opened = reserved (longest_exchange config) s c opened
 
 -- a live station's account
 pub record IsGood (config : Config) (opened : List Exchange) (s : ℕ) (a : Account) : Type 0 where
   pub weight : 0 < a.weight
   pub rate : IsRate a.rate
-  pub bounds : (c : Class) → IsBounded config (owed s c opened) a.weight (a.shares c)
+  pub bounds : (c : Class) → IsBounded config (at_stake config s c opened) a.weight (a.shares c)
 
 pub record IsKept (b : Books) : Type 0 where
   pub range : IsInRange b.config
@@ -156,14 +160,10 @@ kept_add b c s i off_lists is = record {
 times_most : (m n l k : ℕ) → m ≤ n → k ≤ m * l → k ≤ n * l
 times_most m n l k h e = grind arith
 
-pub owed_kept : (b : Books) → IsKept b → (s : ℕ) (c : Class) → owed s c b.opened ≤ most_owed b.config
-owed_kept b i s c =
-    let each : owed s c b.opened ≤ many c b.opened * longest_exchange b.config =
-    owed_most s c (longest_exchange b.config) b.opened
-    (every_map (IsOpen b) (λ x. x.charge ≤ longest_exchange b.config) (λ x o. o.charge) b.opened i.opens)
-    in
-    let few : many c b.opened ≤ b.config.inflight = i.few c in
-    times_most (many c b.opened) b.config.inflight (longest_exchange b.config) (owed s c b.opened) few each
+pub at_stake_most : (b : Books) → IsKept b → (s : ℕ) (c : Class) →
+    at_stake b.config s c b.opened ≤ most_owed b.config
+at_stake_most b i s c = times_most (many c b.opened) b.config.inflight (longest_exchange b.config)
+    (at_stake b.config s c b.opened) (i.few c) (reserved_most (longest_exchange b.config) s c b.opened)
 
 pub kept_fresh : (b : Books) (s weight : ℕ) → IsKept b → 0 < weight →
     IsKept (with_account b s (Some (fresh_account b.config.quantum weight)))
@@ -181,8 +181,9 @@ kept_fresh b s weight i some = record {
         weight = some;
         rate = refl;
         bounds =
-            λ c. bounded_fresh b.config (owed s c b.opened) weight (omega (arith, i.range.quantum.0)) some
-            (owed_kept b i s c);
+            λ c. bounded_fresh b.config (at_stake b.config s c b.opened) weight
+            (omega (arith, i.range.quantum.0)) some
+            (at_stake_most b i s c);
       });
 }
   where
@@ -255,7 +256,7 @@ kept_gone b s i away = record {
 -- ---- exchanges
 
 pub kept_opened : (b : Books) (x : Exchange) → IsKept b → is_some (b.accounts x.station) ≡ true →
-    x.number ≡ b.exchanges → x.charge ≤ longest_exchange b.config → 1 ≤ x.charge →
+    x.number ≡ b.exchanges → x.charge ≤ longest_computed b.config → 1 ≤ x.charge →
     many x.class b.opened < b.config.inflight
     → IfSome (b.accounts x.station) (λ a. pos 1 ≤ℤ (a.shares x.class).deficit) → IsKept (with_opened b x)
 kept_opened b x i is number charge some room above = record {
@@ -297,22 +298,17 @@ kept_opened b x i is number charge some room above = record {
       | inr other ↦ omega (arith, many-other c b.opened (core x) other, i.few c)
     ]
 
-    total : (s : ℕ) (c : Class) → owed s c (b.opened ++ core x ∷ []) ≤ most_owed b.config
-    total s c =
-        let each : owed s c (b.opened ++ core x ∷ [])
-        ≤ many c (b.opened ++ core x ∷ []) * longest_exchange b.config =
-        owed_most s c (longest_exchange b.config) (b.opened ++ core x ∷ [])
-        (every_map (IsOpen (with_opened b x)) (λ y. y.charge ≤ longest_exchange b.config)
-        (λ y o. o.charge) (b.opened ++ core x ∷ []) opens) in
-        times_most (many c (b.opened ++ core x ∷ [])) b.config.inflight (longest_exchange b.config)
-        (owed s c (b.opened ++ core x ∷ [])) (few c) each
+    total : (s : ℕ) (c : Class) → at_stake b.config s c (b.opened ++ core x ∷ []) ≤ most_owed b.config
+    total s c = times_most (many c (b.opened ++ core x ∷ [])) b.config.inflight (longest_exchange b.config)
+        (at_stake b.config s c (b.opened ++ core x ∷ [])) (few c)
+        (reserved_most (longest_exchange b.config) s c (b.opened ++ core x ∷ []))
 
     bound : (s : ℕ) (a : Account) → b.accounts s ≡ Some a → IsGood b.config b.opened s a → (c : Class) →
-        IsBounded b.config (owed s c (b.opened ++ core x ∷ [])) a.weight (a.shares c)
+        IsBounded b.config (at_stake b.config s c (b.opened ++ core x ∷ [])) a.weight (a.shares c)
     bound s a e good c = go ((x.station == s) && same_class x.class c) refl
       where
         go : (t : Bool) → ((x.station == s) && same_class x.class c) ≡ t →
-            IsBounded b.config (owed s c (b.opened ++ core x ∷ [])) a.weight (a.shares c)
+            IsBounded b.config (at_stake b.config s c (b.opened ++ core x ∷ [])) a.weight (a.shares c)
         go true t =
             let both : ((x.station == s) ≡ true) × (same_class x.class c ≡ true) = and_parts _ _ t in
             let here : IfSome (b.accounts s) (λ z. pos 1 ≤ℤ (z.shares x.class).deficit) =
@@ -325,19 +321,20 @@ kept_opened b x i is number charge some room above = record {
             subst (λ (o : Option Account). IfSome o (λ z. pos 1 ≤ℤ (z.shares c).deficit)) e there in
             bounded_open b.config _ a.weight (a.shares c) known (total s c) (good.bounds c).most
         go false t =
-            let none : part_of s c (core x) ≡ 0 = rw t refl in
-            bounded_less b.config (owed s c b.opened) _ a.weight (a.shares c)
-            (omega (arith, owed-append s c b.opened (core x))) (good.bounds c)
+            let none : part_of (longest_exchange b.config) s c (core x) ≡ 0 = rw t refl in
+            bounded_less b.config (at_stake b.config s c b.opened) _ a.weight (a.shares c)
+            (omega (arith, reserved-append (longest_exchange b.config) s c b.opened (core x))) (good.bounds c)
 
--- an exchange ends, and its charge leaves the deficit
-pub kept_ended : (b : Books) (x : Exchange) (e : ℕ) → IsKept b → find (λ z. z.number == e) b.opened ≡ Some x →
-    IsKept (with_charge (without b e) x.station x.class x.charge)
-kept_ended b x e i found = record {
+-- an exchange ends, and a charge that is at most the longest leaves the deficit
+pub kept_ended : (b : Books) (x : Exchange) (e n : ℕ) → IsKept b →
+    find (λ z. z.number == e) b.opened ≡ Some x → n ≤ longest_exchange b.config →
+    IsKept (with_charge (without b e) x.station x.class n)
+kept_ended b x e n i found within = record {
   range = i.range;
   once = i.once;
   live = λ c y stands. same_live y ∙ i.live c y stands;
-  opens = every_filter (IsOpen (with_charge (without b e) x.station x.class x.charge)) _ b.opened
-      (every_map (IsOpen b) (IsOpen (with_charge (without b e) x.station x.class x.charge))
+  opens = every_filter (IsOpen (with_charge (without b e) x.station x.class n)) _ b.opened
+      (every_map (IsOpen b) (IsOpen (with_charge (without b e) x.station x.class n))
       (λ y o. record {
         live = same_live y.station ∙ o.live;
         below = o.below;
@@ -355,35 +352,39 @@ kept_ended b x e i found = record {
         bounds = λ c. less s c a (good.bounds c);
       }))
       (if_map (IsGood b.config b.opened x.station) (IsGood b.config (without b e).opened x.station)
-      (on_part x.class (charge_share x.charge)) (b.accounts x.station) (i.goods x.station)
+      (on_part x.class (charge_share n)) (b.accounts x.station) (i.goods x.station)
       (λ a _ good. record {
         weight = good.weight;
         rate = good.rate;
-        bounds = each_updc (λ c z. IsBounded b.config (owed x.station c (without b e).opened) a.weight z)
-            a.shares x.class (charge_share x.charge (a.shares x.class))
+        bounds = each_updc (λ c z. IsBounded b.config
+            (at_stake b.config x.station c (without b e).opened) a.weight z)
+            a.shares x.class (charge_share n (a.shares x.class))
             (λ c. less x.station c a (good.bounds c))
-            (bounded_charge b.config (owed x.station x.class b.opened) _ x.charge a.weight
+            (bounded_charge b.config (at_stake b.config x.station x.class b.opened) _ n a.weight
             (a.shares x.class) own (good.bounds x.class));
       }));
 }
   where
-    same_live : (y : ℕ) → is_some ((with_charge (without b e) x.station x.class x.charge).accounts y)
+    same_live : (y : ℕ) → is_some ((with_charge (without b e) x.station x.class n).accounts y)
         ≡ is_some (b.accounts y)
     same_live = each_upd (λ y o. is_some o ≡ is_some (b.accounts y)) b.accounts x.station
-        (option_map (on_part x.class (charge_share x.charge)) (b.accounts x.station)) (λ y. refl)
-        (some_map (on_part x.class (charge_share x.charge)) (b.accounts x.station))
+        (option_map (on_part x.class (charge_share n)) (b.accounts x.station)) (λ y. refl)
+        (some_map (on_part x.class (charge_share n)) (b.accounts x.station))
 
-    less : (s : ℕ) (c : Class) (a : Account) → IsBounded b.config (owed s c b.opened) a.weight (a.shares c) →
-        IsBounded b.config (owed s c (without b e).opened) a.weight (a.shares c)
-    less s c a h = bounded_less b.config (owed s c b.opened) (owed s c (without b e).opened) a.weight
-        (a.shares c) (owed-filter s c (λ y. not (y.number == e)) b.opened) h
+    less : (s : ℕ) (c : Class) (a : Account) →
+        IsBounded b.config (at_stake b.config s c b.opened) a.weight (a.shares c) →
+        IsBounded b.config (at_stake b.config s c (without b e).opened) a.weight (a.shares c)
+    less s c a h = bounded_less b.config (at_stake b.config s c b.opened)
+        (at_stake b.config s c (without b e).opened) a.weight (a.shares c)
+        (reserved-filter (longest_exchange b.config) s c (λ y. not (y.number == e)) b.opened) h
 
-    own : owed x.station x.class (without b e).opened + x.charge ≤ owed x.station x.class b.opened
+    own : at_stake b.config x.station x.class (without b e).opened + n
+        ≤ at_stake b.config x.station x.class b.opened
     own =
-        let all : part_of x.station x.class x ≡ x.charge =
+        let all : part_of (longest_exchange b.config) x.station x.class x ≡ longest_exchange b.config =
         rw (eq-eqb x.station x.station refl, eq-eqb (class_number x.class) (class_number x.class) refl)
         refl in
-        omega (arith, owed-ended x.station x.class b.opened x e found)
+        omega (arith, reserved-ended (longest_exchange b.config) x.station x.class b.opened x e found)
 
 -- ---- a pick
 
@@ -432,12 +433,14 @@ kept_after b c p i k = kept_lists (all_paid b c p.quanta (in_order (b.rotations 
           (λ a e good. record {
             weight = good.weight;
             rate = good.rate;
-            bounds = each_updc (λ d z. IsBounded b.config (owed s d b.opened) a.weight z) a.shares c _ good.bounds
+            bounds = each_updc (λ d z. IsBounded b.config (at_stake b.config s d b.opened) a.weight z)
+                a.shares c _ good.bounds
                 (let need : p.quanta s ≤ need_of (b.config.quantum * a.weight) (a.shares c).deficit =
                 subst (λ (o : Option Account). IfSome o (λ a. p.quanta s
                 ≤ need_of (b.config.quantum * a.weight) (a.shares c).deficit)) e (k.needed s) in
-                bounded_pay b.config (owed s c b.opened) a.weight (on (in_order (b.rotations c)) s * p.quanta s)
-                (a.shares c) (once_times _ _ _ (i.once c s) need) (good.bounds c));
+                bounded_pay b.config (at_stake b.config s c b.opened) a.weight
+                (on (in_order (b.rotations c)) s * p.quanta s) (a.shares c)
+                (once_times _ _ _ (i.once c s) need) (good.bounds c));
           });
     }
 

@@ -3,6 +3,7 @@ use Rattle.std.proofs.Common.{◌≡◌, ◌≢◌, refl, ap, sym, ◌∙◌, su
 use Rattle.std.proofs.lemmas.Int.{ints}
 use Rattle.std.proofs.lemmas.Bool.{eqb-true, eqb-false, and_parts, not-true, not-false, leb-true}
 use Rattle.std.proofs.lemmas.List.Sums.{sum_by-cons}
+use Rattle.std.proofs.Math.Nat.{le-max_left, le-max_right}
 use Rattle.wf_frame.specs.declared.settings.Config.{Config}
 use Rattle.wf_frame.specs.declared.classes.Class.{Class}
 use Rattle.wf_frame.specs.declared.notes.Ask.TheVariants.{Join, Leave, Rate, Tick, Pull, Arrive, Answer, Done, Sleep, Wake, Poll, Rx, Reap}
@@ -18,12 +19,12 @@ use Rattle.wf_def_world.specs.World.{World, Station, Exchange, no_share, no_stat
 use Rattle.wf_law_rules.proofs.Lemmas.Numbers.{le_no}
 use Rattle.wf_frame.specs.Classes.{class_number, all_classes}
 use Rattle.wf_def_world.specs.CanSend.{is_ready, with_listing_in, with_listings_in, with_listings_of}
-use Rattle.wf_def_world.specs.Exchanges.{Prepared, station_need, picked_station, after_pick, after_tid_turn, prepared_exchange, exchange_of, after_arrival, sending_tid}
-use Rattle.wf_def_world.specs.Refusals.{first_refusal, refusals, refusal, open_of_class, is_within}
+use Rattle.wf_def_world.specs.Exchanges.{Prepared, station_need, picked_station, after_pick, after_tid_turn, prepared_exchange, exchange_of, after_arrival, sending_tid, charge_of}
+use Rattle.wf_def_world.specs.Refusals.{first_refusal, refusals, refusal, open_of_class, is_within, is_bad_air}
 use Rattle.wf_def_world.specs.Step.{Outcome, tick_outcome, send_outcome, pull_outcome_for, pull_outcome, arrive_outcome, answer_outcome, outcome_where_open, rx_outcome, outcome_of, after_refusal, judged_outcome, step}
 use Rattle.wf_def_world.specs.Run.{Entry, world_after}
 use Rattle.wf_frame.specs.Settings.{IsInRange}
-use Rattle.wf_law_runs.specs.Deficits.{longest_exchange, owed}
+use Rattle.wf_law_runs.specs.Deficits.{longest_computed, longest_exchange}
 use Rattle.wf_def_lists.specs.Lists.{on}
 use Rattle.wf_law_rules.proofs.Lemmas.Counts.{on-nil}
 use Rattle.wf_law_rules.proofs.Lemmas.Rotations.{pick_on, pick_need, IsWinner, pick_winner}
@@ -31,7 +32,7 @@ use Rattle.wf_law_runs.proofs.Deficits.Books.{Account, account, core, Books, boo
 use Rattle.wf_law_runs.proofs.Deficits.BookSteps.{books_after_turn, books_prepared, books_sent, books_ended, books_gone, books_enqueued, receive_share, books_received, books_reaped, books_slept, books_woken, books_credited, rated, books_with_rate, books_joined, books_after_pick}
 use Rattle.wf_law_runs.proofs.Deficits.Openings.{Every, every_map, every_find, only_one, many, many-count, many-core}
 use Rattle.wf_law_runs.proofs.Deficits.Bounds.{IsBounded, bounded_receive}
-use Rattle.wf_law_runs.proofs.Deficits.Kept.{IsGood, IsKept, some_map, if_same, kept_on, kept_add, owed_kept, kept_fresh, kept_gone, kept_opened, kept_ended, IsPick, kept_after, above_after}
+use Rattle.wf_law_runs.proofs.Deficits.Kept.{IsOpen, at_stake, IsGood, IsKept, some_map, if_same, kept_on, kept_add, at_stake_most, kept_fresh, kept_gone, kept_opened, kept_ended, IsPick, kept_after, above_after}
 use Rattle.wf_law_runs.proofs.Deficits.LongestCharge.{charge_most, charge_some}
 
 -- ---- a call that is not refused
@@ -152,8 +153,8 @@ kept_sent v c s t i m =
     let e : books p.world ≡ books v = books_prepared v s t in
     let k : IsKept (books p.world) = subst IsKept (sym e) i in
     let n : MaySend c s (books p.world) = subst (MaySend c s) (sym e) m in
-    let cap : longest_exchange p.world.config ≡ longest_exchange v.config =
-    ap (λ (b : Books). longest_exchange b.config) e in
+    let cap : longest_computed p.world.config ≡ longest_computed v.config =
+    ap (λ (b : Books). longest_computed b.config) e in
     is _ _ (books_sent s t c p) (kept_opened (books p.world) (exchange_of s t c p) k n.live refl
     (subst (λ (l : ℕ). p.charge ≤ l) (sym cap) (charge_most v s t (i.range.cap.0) (rate_kept v s i)))
     (charge_some v s t) n.room n.above)
@@ -249,6 +250,20 @@ pub books_answered : (w : World) (e : ℕ) (x : Exchange) → IsKept (books w) �
 unfolding answer_outcome
 books_answered w e x i found = books_with_exchange w _ (only_this w e x i found)
 
+-- what is charged in the end is at most the longest, be it computed or named
+pub charge_within : (w : World) (e : ℕ) (x : Exchange) (air : Option ℕ) → IsKept (books w) → IsFound w e x →
+    is_bad_air w.config air ≡ false → charge_of air x ≤ longest_exchange w.config
+charge_within w e x None i found fine =
+    let computed : x.charge ≤ longest_computed w.config =
+    (every_find (IsOpen (books w)) (λ z. z.number == x.number) (map core w.opened) (core x) i.opens
+    (at_number w e x found)).1.charge in
+    omega (arith, computed, le-max_left (longest_computed w.config) w.config.charge)
+charge_within w e x (Some n) i found fine = omega (
+  arith,
+  leb-true n w.config.charge (and_parts _ _ (not-false _ fine)).1,
+  le-max_right (longest_computed w.config) w.config.charge,
+)
+
 -- ---- the step
 
 kept_open : (w : World) (e : ℕ) (o : Option Exchange) (f : Exchange → Outcome) → exchange w e ≡ o →
@@ -268,10 +283,11 @@ kept_received w s c air h k i = is _ _ (books_received w s c air)
     (kept_on (books w) s (on_part c (receive_share air)) i (λ a e good. record {
       weight = good.weight;
       rate = good.rate;
-      bounds = each_updc (λ d z. IsBounded w.config (owed s d (books w).opened) a.weight z) a.shares c
+      bounds = each_updc (λ d z. IsBounded w.config (at_stake w.config s d (books w).opened) a.weight z)
+          a.shares c
           (receive_share air (a.shares c)) good.bounds
-          (bounded_receive w.config (owed s c (books w).opened) air a.weight (a.shares c)
-          (owed_kept (books w) i s c) (leb-true _ _ (and_parts _ _ (not-false _ h)).0) (known a e)
+          (bounded_receive w.config (at_stake w.config s c (books w).opened) air a.weight (a.shares c)
+          (at_stake_most (books w) i s c) (leb-true _ _ (and_parts _ _ (not-false _ h)).0) (known a e)
           (good.bounds c));
     }))
   where
@@ -315,9 +331,9 @@ kept_done (Asked (Join s window start exponent weight)) w e i =
     (kept_fresh (books w) s weight i (leb-true _ _ (and_parts _ _ (not-false _ e.1.1.1.1.0)).0))
 kept_done (Asked (Leave s)) w e i = is _ _ (books_gone w s)
     (kept_gone (books w) s i (none_open w.opened s e.1.1.0))
-kept_done (Asked (Rate s mcs mhz short)) w e i =
-    is _ _ (books_with_rate w s mcs mhz short)
-    (kept_on (books w) s (rated mcs mhz short) i
+kept_done (Asked (Rate s rate)) w e i =
+    is _ _ (books_with_rate w s rate)
+    (kept_on (books w) s (rated rate) i
     (λ a _ good. record { weight = good.weight; rate = not-false _ e.1.0; bounds = good.bounds }))
 kept_done (Asked (Tick by)) w e i = i
 kept_done (Asked (Pull c)) w e i = kept_pulled w c e.0 i
@@ -325,8 +341,9 @@ kept_done (Asked (Arrive e j)) w _ i = kept_open w e (exchange w e) _ refl i
     (λ x f. is _ _ (books_arrived w e j x i f) i)
 kept_done (Asked (Answer e)) w _ i = kept_open w e (exchange w e) _ refl i
     (λ x f. is _ _ (books_answered w e x i f) i)
-kept_done (Asked (Done e heard)) w _ i = kept_open w e (exchange w e) _ refl i
-    (λ x f. is _ _ (books_ended w x heard) (kept_ended (books w) (core x) x.number i (at_number w e x f)))
+kept_done (Asked (Done e heard air)) w r i = kept_open w e (exchange w e) _ refl i
+    (λ x f. is _ _ (books_ended air w x heard) (kept_ended (books w) (core x) x.number (charge_of air x) i
+    (at_number w e x f) (charge_within w e x air i f r.1.1.0)))
 kept_done (Asked (Sleep s)) w e i = is _ _ (books_slept w s) i
 kept_done (Asked (Wake s)) w e i = is _ _ (books_woken w s) i
 kept_done (Asked (Poll s)) w e i = is _ _ (books_credited w s) i

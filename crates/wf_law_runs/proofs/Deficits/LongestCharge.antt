@@ -11,7 +11,7 @@ use Rattle.wf_def_world.specs.FlowQueues.{Taken, taken_for_tid}
 use Rattle.wf_def_agreement.specs.Session.{request_due}
 use Rattle.wf_def_world.specs.CanSend.{can_give}
 use Rattle.wf_def_world.specs.Exchanges.{Aggregate, Prepared, fits_in, most_frames, waiting_mpdus, longest_fitting, fresh_mpdus, with_number, with_fresh, aggregate_of, prepared_data, prepared_exchange}
-use Rattle.wf_law_runs.specs.Deficits.{longest_exchange}
+use Rattle.wf_law_runs.specs.Deficits.{longest_computed}
 use Rattle.wf_law_runs.proofs.Deficits.Books.{Account, account, Books, books}
 use Rattle.wf_law_runs.proofs.Deficits.BookSteps.{books_take, books_with_number, books_filled}
 
@@ -107,9 +107,9 @@ request_most true n h = omega arith
 request_most false n h = omega arith
 
 pub charge_most : (w : World) (s t : ℕ) → 3000 ≤ w.config.cap → IsRate (station w s).rate →
-    (prepared_exchange w s t).charge ≤ longest_exchange w.config
+    (prepared_exchange w s t).charge ≤ longest_computed w.config
 unfolding prepared_exchange prepared_data
-charge_most w s t h k = charge_if (request_due (session w s t)) (longest_exchange w.config)
+charge_most w s t h k = charge_if (request_due (session w s t)) (longest_computed w.config)
     (record { world = w; content = Request _; charge = request_charge (is_wide w s t) })
     (prepared_data s t (aggregate_of w s t))
     (request_most (is_wide w s t) w.config.cap h)

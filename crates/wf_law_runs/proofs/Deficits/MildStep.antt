@@ -288,19 +288,20 @@ unfolding after_done
 mild_after_done (Frames mpdus) w x heard = mild_all_settled mpdus w _ _ _
 mild_after_done (Request start) w x heard = mild_on_session w _ _ _
 
-mild_charged : (s : ℕ) (w : World) (x : Exchange) → IsMild s w (after_charge w x)
+mild_charged : (air : Option ℕ) (s : ℕ) (w : World) (x : Exchange) → IsMild s w (after_charge w x air)
 unfolding after_charge
-mild_charged s w x = mild_on_share s w _ _ _
+mild_charged air s w x = mild_on_share s w _ _ _
 
-mild_ended : (w : World) (e : ℕ) (x : Exchange) (heard : Bool) → IsKept (books w) → IsFound w e x →
-    IsMild x.station w (done_outcome w x heard).world
+mild_ended : (air : Option ℕ) (w : World) (e : ℕ) (x : Exchange) (heard : Bool) → IsKept (books w) →
+    IsFound w e x →
+    IsMild x.station w (done_outcome w x heard air).world
 unfolding done_outcome
-mild_ended w e x heard i found =
+mild_ended air w e x heard i found =
     mild_then x.station w _ _ (mild_then x.station w _ _
     (mild_without w x.number x.station (every_map (λ y. y.number ≡ x.number → core y ≡ core x)
     (λ y. y.number ≡ x.number → y.station ≡ x.station)
     (λ y h k. ap (λ (z : Exchange). z.station) (h k)) w.opened (only_this w e x i found)))
-    (mild_charged x.station _ x)) (mild_after_done x.content _ x heard)
+    (mild_charged air x.station _ x)) (mild_after_done x.content _ x heard)
 
 -- ---- stations
 
@@ -546,15 +547,15 @@ mild_done (Enqueue i t flow len) w s r k o h =
 mild_done (Asked (Join i window start exponent weight)) w s r k o h =
     named i s w _ h (mild_joined w i window start exponent weight (leb-false _ _ r.0))
 mild_done (Asked (Leave i)) w s r k o h = named i s w _ h (mild_gone w i)
-mild_done (Asked (Rate i mcs mhz short)) w s r k o h = named i s w _ h (mild_on_station w i _ (λ x. refl))
+mild_done (Asked (Rate i rate)) w s r k o h = named i s w _ h (mild_on_station w i _ (λ x. refl))
 mild_done (Asked (Tick by)) w s r k o h = mild_plain s w _ refl refl refl refl
 mild_done (Asked (Pull c)) w s r k o h = mild_pulled s w c h
 mild_done (Asked (Arrive e j)) w s r k o h = mild_open (exchange w e) w e s _ refl h
     (λ x f. mild_arrived w e j x k f)
 mild_done (Asked (Answer e)) w s r k o h = mild_open (exchange w e) w e s _ refl h
     (λ x f. mild_answered w e x k f)
-mild_done (Asked (Done e heard)) w s r k o h =
-    mild_open (exchange w e) w e s _ refl h (λ x f. mild_ended w e x heard k f)
+mild_done (Asked (Done e heard air)) w s r k o h =
+    mild_open (exchange w e) w e s _ refl h (λ x f. mild_ended air w e x heard k f)
 mild_done (Asked (Sleep i)) w s r k o h = named i s w _ h (mild_on_station w i _ (λ x. refl))
 mild_done (Asked (Wake i)) w s r k o h = named i s w _ h (mild_on_station w i _ (λ x. refl))
 mild_done (Asked (Poll i)) w s r k o h = named i s w _ h (mild_on_station w i _ (λ x. refl))

@@ -1,9 +1,9 @@
 -- How large charges and deficits get, in figures that hold for all settings, answered.
 use Rattle.std.proofs.Common.{sym, subst, arith, ℕ, ◌*◌, ◌≤◌, List, [], ◌∷◌, map, take}
 use Rattle.std.proofs.lemmas.Int.{ints}
-use Rattle.std.proofs.Math.Nat.{mul-le-mul_left, mul-le-mul_right}
+use Rattle.std.proofs.Math.Nat.{mul-le-mul_left, mul-le-mul_right, le-max_left, le-max_right, max-le}
 use Rattle.wf_frame.specs.declared.settings.Config.{Config}
-use Rattle.wf_frame.specs.declared.settings.Field.TheVariants.{Inflight, Quantum}
+use Rattle.wf_frame.specs.declared.settings.Field.TheVariants.{Inflight, Quantum, Charge}
 use Rattle.wf_frame.specs.Settings.{greatest_of, IsInRange}
 use Rattle.wf_def_lists.specs.Lengths.{greatest_body}
 use Rattle.wf_def_lists.specs.Bounds.{greatest_weight}
@@ -11,8 +11,8 @@ use Rattle.wf_def_world.specs.World.{World, Exchange, opening}
 use Rattle.wf_def_world.specs.Run.{Entry}
 use Rattle.wf_def_world.specs.Stretches.{world_at}
 use Rattle.wf_law_runs.specs.Windows.{EachOpen}
-use Rattle.wf_law_runs.specs.Deficits.{IsAccounted, longest_exchange, most_owed}
-use Rattle.wf_law_runs.specs.Numbers.{greatest_charge, greatest_owed, NumberLaw}
+use Rattle.wf_law_runs.specs.Deficits.{IsAccounted, longest_computed, longest_exchange, most_owed}
+use Rattle.wf_law_runs.specs.Numbers.{greatest_computed, greatest_charge, greatest_owed, NumberLaw}
 use Rattle.wf_law_runs.specs.Ranges.{KeepsRanges}
 use Rattle.wf_law_runs.proofs.Deficits.Books.{Books, core, books}
 use Rattle.wf_law_runs.proofs.Deficits.Configs.{config_run}
@@ -30,11 +30,17 @@ times a b m n h k = let left : a * b ≤ m * b = mul-le-mul_right b h in
     le_trans : (x y z : ℕ) → x ≤ y → y ≤ z → x ≤ z
     le_trans x y z h k = omega (arith, h, k)
 
--- what an open exchange is charged
-pub charged_within : (b : Books) (xs : List Exchange) → longest_exchange b.config ≤ greatest_charge →
-    Every (IsOpen b) (map core xs) → EachOpen (λ x. (1 ≤ x.charge) × (x.charge ≤ greatest_charge)) xs
-charged_within b [] h e = tt
-charged_within b (x ∷ xs) h e = ((e.0.some, omega (arith, e.0.charge, h)), charged_within b xs h e.1)
+-- what is computed of an open exchange
+computed_within : (b : Books) (xs : List Exchange) → longest_computed b.config ≤ greatest_computed →
+    Every (IsOpen b) (map core xs) → EachOpen (λ x. (1 ≤ x.charge) × (x.charge ≤ greatest_computed)) xs
+computed_within b [] h e = tt
+computed_within b (x ∷ xs) h e = ((e.0.some, omega (arith, e.0.charge, h)), computed_within b xs h e.1)
+
+-- the longest exchange of settings in their ranges
+pub longest_within : (config : Config) → IsInRange config → longest_exchange config ≤ greatest_charge
+longest_within config range = max-le
+    (omega (arith, range.cap.1, le-max_left greatest_computed (greatest_of Charge)))
+    (omega (arith, range.charge.1, le-max_right greatest_computed (greatest_of Charge)))
 
 pub number_law : (config : Config) (h : List Entry) → IsInRange config → NumberLaw config h
 number_law config h range m =
@@ -43,10 +49,10 @@ number_law config h range m =
     let r : KeepsRanges config w = range_law config h range m in
     let owed : most_owed config ≤ greatest_owed =
     times config.inflight (longest_exchange config)
-    (greatest_of Inflight) greatest_charge range.inflight.1 (omega (arith, range.cap.1)) in
+    (greatest_of Inflight) greatest_charge range.inflight.1 (longest_within config range) in
     record {
-      charges = charged_within (books w) w.opened (subst
-          (λ (c : Config). longest_exchange c ≤ greatest_charge)
+      charges = computed_within (books w) w.opened (subst
+          (λ (c : Config). longest_computed c ≤ greatest_computed)
           (sym (config_run (take m h) (opening config))) (omega (arith, range.cap.1))) k.opens;
       opened = λ c. omega (arith, k.few c, k.range.inflight.1, many-count c w.opened, many-core c w.opened);
       deficits = λ s c live.

@@ -1,4 +1,4 @@
--- Lists of open exchanges: what each has, how many they are, and what they are charged.
+-- Lists of open exchanges: what each has, how many they are, and what they may be charged.
 use Rattle.std.proofs.Common.{◌≡◌, refl, ap, ◌∙◌, subst, arith, ℕ, suc, ◌+◌, ◌*◌, ◌<◌, ◌≤◌, Bool, true, false, if◌then◌else◌, cond, List, [], ◌∷◌, ◌++◌, Some, not, ◌&&◌, map, filter, find, ◌==◌, count_by}
 use Rattle.std.proofs.lemmas.Bool.{ne_eqb, eqb-true, eqb-false}
 use Rattle.std.proofs.lemmas.List.Sums.{sum_by-cons}
@@ -149,58 +149,81 @@ many-filter c p (x ∷ xs) = many_if (p x) c x (filter p xs) (many c xs) (many-f
 
 -- ---- what they are charged
 
-abbrev pub part_of : ℕ → Class → Exchange → ℕ
-part_of s c x = if (x.station == s) && same_class x.class c then x.charge else 0
-
 pub owed-core : (s : ℕ) (c : Class) (xs : List Exchange) → owed s c (map core xs) ≡ owed s c xs
 owed-core s c [] = refl
-owed-core s c (x ∷ xs) = ap (λ (n : ℕ). part_of s c x + n) (owed-core s c xs)
+owed-core s c (x ∷ xs) =
+    ap (λ (n : ℕ). (if (x.station == s) && same_class x.class c then x.charge else 0) + n) (owed-core s c xs)
 
-pub owed-append : (s : ℕ) (c : Class) (xs : List Exchange) (x : Exchange) →
-    owed s c (xs ++ x ∷ []) ≡ owed s c xs + part_of s c x
-owed-append s c [] x = omega arith
-owed-append s c (y ∷ ys) x = omega (arith, owed-append s c ys x)
+-- what an exchange may be charged to a station in a class, where none is charged more than l
+abbrev pub part_of : ℕ → ℕ → Class → Exchange → ℕ
+part_of l s c x = if (x.station == s) && same_class x.class c then l else 0
 
-owed_if : (b : Bool) (s : ℕ) (c : Class) (x : Exchange) (xs : List Exchange) (n : ℕ) → owed s c xs ≤ n →
-    owed s c (cond b (x ∷ xs) xs) ≤ part_of s c x + n
-owed_if true s c x xs n h = omega arith
-owed_if false s c x xs n h = omega arith
+-- what the open exchanges of a station in a class may be charged together
+abbrev pub reserved : ℕ → ℕ → Class → List Exchange → ℕ
+reserved l s c [] = 0
+reserved l s c (x ∷ xs) = part_of l s c x + reserved l s c xs
 
-pub owed-filter : (s : ℕ) (c : Class) (p : Exchange → Bool) (xs : List Exchange) →
-    owed s c (filter p xs) ≤ owed s c xs
-owed-filter s c p [] = omega arith
-owed-filter s c p (x ∷ xs) = owed_if (p x) s c x (filter p xs) (owed s c xs) (owed-filter s c p xs)
+pub reserved-append : (l s : ℕ) (c : Class) (xs : List Exchange) (x : Exchange) →
+    reserved l s c (xs ++ x ∷ []) ≡ reserved l s c xs + part_of l s c x
+reserved-append l s c [] x = omega arith
+reserved-append l s c (y ∷ ys) x = omega (arith, reserved-append l s c ys x)
 
-ended_step : (s : ℕ) (c : Class) (xs : List Exchange) (x y : Exchange) (e : ℕ) →
-    (find (λ z. z.number == e) xs ≡ Some x → owed s c (filter (λ z. not (z.number == e)) xs) + part_of s c x
-    ≤ owed s c xs)
+reserved_if : (b : Bool) (l s : ℕ) (c : Class) (x : Exchange) (xs : List Exchange) (n : ℕ) →
+    reserved l s c xs ≤ n → reserved l s c (cond b (x ∷ xs) xs) ≤ part_of l s c x + n
+reserved_if true l s c x xs n h = omega arith
+reserved_if false l s c x xs n h = omega arith
+
+pub reserved-filter : (l s : ℕ) (c : Class) (p : Exchange → Bool) (xs : List Exchange) →
+    reserved l s c (filter p xs) ≤ reserved l s c xs
+reserved-filter l s c p [] = omega arith
+reserved-filter l s c p (x ∷ xs) =
+    reserved_if (p x) l s c x (filter p xs) (reserved l s c xs) (reserved-filter l s c p xs)
+
+ended_step : (l s : ℕ) (c : Class) (xs : List Exchange) (x y : Exchange) (e : ℕ) →
+    (find (λ z. z.number == e) xs ≡ Some x →
+    reserved l s c (filter (λ z. not (z.number == e)) xs) + part_of l s c x ≤ reserved l s c xs)
     → (b : Bool) → (y.number == e) ≡ b → cond b (Some y) (find (λ z. z.number == e) xs) ≡ Some x →
-    owed s c (cond (not b) (y ∷ filter (λ z. not (z.number == e)) xs)
-    (filter (λ z. not (z.number == e)) xs)) + part_of s c x ≤ part_of s c y + owed s c xs
-ended_step s c xs x y e below true t k =
-    let same : part_of s c y ≡ part_of s c x = ap (part_of s c) (same_some y x k) in
-    omega (arith, owed-filter s c (λ z. not (z.number == e)) xs)
-ended_step s c xs x y e below false t k = omega (arith, below k)
+    reserved l s c (cond (not b) (y ∷ filter (λ z. not (z.number == e)) xs)
+    (filter (λ z. not (z.number == e)) xs)) + part_of l s c x ≤ part_of l s c y + reserved l s c xs
+ended_step l s c xs x y e below true t k =
+    let same : part_of l s c y ≡ part_of l s c x = ap (part_of l s c) (same_some y x k) in
+    omega (arith, reserved-filter l s c (λ z. not (z.number == e)) xs)
+ended_step l s c xs x y e below false t k = omega (arith, below k)
 
--- an exchange that ends owes no more
-pub owed-ended : (s : ℕ) (c : Class) (xs : List Exchange) (x : Exchange) (e : ℕ) →
-    find (λ z. z.number == e) xs ≡ Some x → owed s c (filter (λ z. not (z.number == e)) xs) + part_of s c x
-    ≤ owed s c xs
-owed-ended s c [] x e k = absurd (cc k)
-owed-ended s c (y ∷ ys) x e k = ended_step s c ys x y e (owed-ended s c ys x e) (y.number == e) refl k
+-- an exchange that ends may be charged no more
+pub reserved-ended : (l s : ℕ) (c : Class) (xs : List Exchange) (x : Exchange) (e : ℕ) →
+    find (λ z. z.number == e) xs ≡ Some x →
+    reserved l s c (filter (λ z. not (z.number == e)) xs) + part_of l s c x ≤ reserved l s c xs
+reserved-ended l s c [] x e k = absurd (cc k)
+reserved-ended l s c (y ∷ ys) x e k =
+    ended_step l s c ys x y e (reserved-ended l s c ys x e) (y.number == e) refl k
 
-owed_one : (a b : Bool) (n l : ℕ) → n ≤ l → (if a && b then n else 0) ≤ (if b then 1 else 0) * l
-owed_one true true n l h = omega arith
-owed_one true false n l h = omega arith
-owed_one false true n l h = omega arith
-owed_one false false n l h = omega arith
+reserved_one : (a b : Bool) (l : ℕ) → (if a && b then l else 0) ≤ (if b then 1 else 0) * l
+reserved_one true true l = omega arith
+reserved_one true false l = omega arith
+reserved_one false true l = omega arith
+reserved_one false false l = omega arith
 
--- a class owes at most its number of exchanges times the longest
-pub owed_most : (s : ℕ) (c : Class) (l : ℕ) (xs : List Exchange) → Every (λ x. x.charge ≤ l) xs →
-    owed s c xs ≤ many c xs * l
-owed_most s c l [] e = omega arith
-owed_most s c l (x ∷ xs) e = both (part_of s c x) (if same_class x.class c then 1 else 0) (owed s c xs)
-    (many c xs) (owed_one (x.station == s) (same_class x.class c) x.charge l e.0) (owed_most s c l xs e.1)
+-- a station's exchanges of a class are among those of the class
+pub reserved_most : (l s : ℕ) (c : Class) (xs : List Exchange) → reserved l s c xs ≤ many c xs * l
+reserved_most l s c [] = omega arith
+reserved_most l s c (x ∷ xs) = both (part_of l s c x) (if same_class x.class c then 1 else 0)
+    (reserved l s c xs) (many c xs) (reserved_one (x.station == s) (same_class x.class c) l)
+    (reserved_most l s c xs)
   where
     both : (a b m n : ℕ) → a ≤ b * l → m ≤ n * l → a + m ≤ (b + n) * l
     both a b m n h k = omega arith
+
+owed_one : (b : Bool) (l n : ℕ) → n ≤ l → (if b then n else 0) ≤ (if b then l else 0)
+owed_one true l n h = h
+owed_one false l n h = omega arith
+
+-- what was computed is within what may be charged
+pub owed_reserved : (l s : ℕ) (c : Class) (xs : List Exchange) → Every (λ x. x.charge ≤ l) xs →
+    owed s c xs ≤ reserved l s c xs
+owed_reserved l s c [] e = omega arith
+owed_reserved l s c (x ∷ xs) e = omega (
+  arith,
+  owed_one ((x.station == s) && same_class x.class c) l x.charge e.0,
+  owed_reserved l s c xs e.1,
+)

@@ -12,7 +12,7 @@ use Rattle.wf_def_lists.specs.Table.{at}
 use Rattle.wf_def_rotation.specs.Rotation.{in_order}
 use Rattle.wf_def_world.specs.World.{World, Station, Share, Exchange, no_share, no_station, share, rotation, is_live, exchange, opening}
 use Rattle.wf_frame.specs.Classes.{class_number, same_class}
-use Rattle.wf_def_world.specs.Exchanges.{picked_station}
+use Rattle.wf_def_world.specs.Exchanges.{picked_station, charge_of}
 use Rattle.wf_def_world.specs.Refusals.{refusals, refusal}
 use Rattle.wf_def_world.specs.Step.{Outcome, tick_outcome, outcome_where_open, outcome_of, after_refusal, judged_outcome, step}
 use Rattle.wf_def_world.specs.Run.{Entry, world_after}
@@ -160,20 +160,20 @@ heard_done (Asked (Join i window start exponent weight)) w c n s r k h =
     (heard_joined c n s i w.config.quantum weight (books w) h)
 heard_done (Asked (Leave i)) w c n s r k h = heard_books c n s _ _ (books_gone w i)
     (heard_gone c n s i (books w) h)
-heard_done (Asked (Rate i mcs mhz short)) w c n s r k h =
-    heard_books c n s _ _ (books_with_rate w i mcs mhz short)
-    (heard_on c n s i (books w) (rated mcs mhz short) (λ a. refl) h)
+heard_done (Asked (Rate i rate)) w c n s r k h =
+    heard_books c n s _ _ (books_with_rate w i rate)
+    (heard_on c n s i (books w) (rated rate) (λ a. refl) h)
 heard_done (Asked (Tick by)) w c n s r k h = h
 heard_done (Asked (Pull d)) w c n s r k h = heard_calm c n s _ _ (calm_pulled w d) (heard_after c n s w d h)
 heard_done (Asked (Arrive e j)) w c n s r k h =
     heard_open w e (exchange w e) _ c n s refl h (λ x f. heard_books c n s _ _ (books_arrived w e j x k f) h)
 heard_done (Asked (Answer e)) w c n s r k h =
     heard_open w e (exchange w e) _ c n s refl h (λ x f. heard_books c n s _ _ (books_answered w e x k f) h)
-heard_done (Asked (Done e heard)) w c n s r k h =
+heard_done (Asked (Done e heard air)) w c n s r k h =
     heard_open w e (exchange w e) _ c n s refl h
-    (λ x f. heard_books c n s _ _ (books_ended w x heard)
-    (heard_on c n s x.station (books w) (on_part x.class (charge_share x.charge))
-    (λ a. at_part c x.class (charge_share x.charge) a (λ y. refl)) h))
+    (λ x f. heard_books c n s _ _ (books_ended air w x heard)
+    (heard_on c n s x.station (books w) (on_part x.class (charge_share (charge_of air x)))
+    (λ a. at_part c x.class (charge_share (charge_of air x)) a (λ y. refl)) h))
 heard_done (Asked (Sleep i)) w c n s r k h = heard_books c n s _ _ (books_slept w i) h
 heard_done (Asked (Wake i)) w c n s r k h = heard_books c n s _ _ (books_woken w i) h
 heard_done (Asked (Poll i)) w c n s r k h = heard_books c n s _ _ (books_credited w i) h

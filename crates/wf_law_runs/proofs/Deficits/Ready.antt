@@ -125,16 +125,16 @@ keeps_done (Asked (Join i window start exponent weight)) w s k h =
     keeps_same s w _ (ap (λ (b : Books). b.rotations) (books_joined w i window start exponent weight))
 keeps_done (Asked (Leave i)) w s k h = keeps_named i s w _ h
     (keeps_books i w _ _ (books_gone w i) (keeps_off i w))
-keeps_done (Asked (Rate i mcs mhz short)) w s k h =
-    keeps_same s w _ (ap (λ (b : Books). b.rotations) (books_with_rate w i mcs mhz short))
+keeps_done (Asked (Rate i rate)) w s k h =
+    keeps_same s w _ (ap (λ (b : Books). b.rotations) (books_with_rate w i rate))
 keeps_done (Asked (Tick by)) w s k h = keeps_same s w _ refl
 keeps_done (Asked (Pull c)) w s k h = keeps_pulled s w c
 keeps_done (Asked (Arrive e j)) w s k h = keeps_open (exchange w e) w e s _ refl
     (λ x f. ap (λ (b : Books). b.rotations) (books_arrived w e j x k f))
 keeps_done (Asked (Answer e)) w s k h = keeps_open (exchange w e) w e s _ refl
     (λ x f. ap (λ (b : Books). b.rotations) (books_answered w e x k f))
-keeps_done (Asked (Done e heard)) w s k h = keeps_open (exchange w e) w e s _ refl
-    (λ x f. ap (λ (b : Books). b.rotations) (books_ended w x heard))
+keeps_done (Asked (Done e heard air)) w s k h = keeps_open (exchange w e) w e s _ refl
+    (λ x f. ap (λ (b : Books). b.rotations) (books_ended air w x heard))
 keeps_done (Asked (Sleep i)) w s k h = keeps_same s w _ (ap (λ (b : Books). b.rotations) (books_slept w i))
 keeps_done (Asked (Wake i)) w s k h = keeps_same s w _ (ap (λ (b : Books). b.rotations) (books_woken w i))
 keeps_done (Asked (Poll i)) w s k h = keeps_same s w _ (ap (λ (b : Books). b.rotations) (books_credited w i))

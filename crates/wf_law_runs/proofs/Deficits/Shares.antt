@@ -1,6 +1,7 @@
 -- The deficit of a live station in a class, in every world of a run.
-use Rattle.std.proofs.Common.{◌≡◌, refl, sym, subst, arith, ℕ, ◌+◌, ◌*◌, pos, ◌-ℤ◌, ◌≤ℤ◌, true, List, Option, Some, None, is_some, IfSome, unwrap_or, option_map, map}
+use Rattle.std.proofs.Common.{◌≡◌, refl, sym, subst, arith, ℕ, ◌+◌, ◌*◌, ◌≤◌, pos, ◌-ℤ◌, ◌≤ℤ◌, true, List, Option, Some, None, is_some, IfSome, unwrap_or, option_map, map}
 use Rattle.std.proofs.lemmas.Int.{ints}
+use Rattle.std.proofs.Math.Nat.{le-max_left}
 use Rattle.wf_frame.specs.declared.settings.Config.{Config}
 use Rattle.wf_frame.specs.declared.classes.Class.{Class}
 use Rattle.wf_def_lists.specs.Table.{at}
@@ -9,13 +10,13 @@ use Rattle.wf_def_world.specs.World.{World, Station, Share, no_share, no_station
 use Rattle.wf_frame.specs.Classes.{class_number}
 use Rattle.wf_def_world.specs.Run.{Entry, world_after}
 use Rattle.wf_frame.specs.Settings.{IsInRange}
-use Rattle.wf_law_runs.specs.Deficits.{most_owed, owed}
+use Rattle.wf_law_runs.specs.Deficits.{longest_computed, longest_exchange, most_owed, owed}
 use Rattle.wf_law_runs.proofs.Deficits.Balance.{IsBalanced, IsFairStation, IsFair}
 use Rattle.wf_law_runs.proofs.Deficits.Accounts.{accounts, below_four}
 use Rattle.wf_law_runs.proofs.Deficits.Books.{plain, account, core, books}
-use Rattle.wf_law_runs.proofs.Deficits.Openings.{owed-core}
+use Rattle.wf_law_runs.proofs.Deficits.Openings.{every_map, owed-core, owed_reserved}
 use Rattle.wf_law_runs.proofs.Deficits.Bounds.{IsBounded}
-use Rattle.wf_law_runs.proofs.Deficits.Kept.{IsGood, IsKept}
+use Rattle.wf_law_runs.proofs.Deficits.Kept.{IsOpen, at_stake, IsGood, IsKept}
 use Rattle.wf_law_runs.proofs.Deficits.KeptStep.{kept}
 
 -- a share of a station of this weight, with m owed by open exchanges
@@ -27,7 +28,7 @@ pub record IsMoney (config : Config) (m weight : ℕ) (x : Share) : Type 0 where
   pub quiet : x.received ≡ 0 → (pos 1 -ℤ pos (most_owed config)) ≤ℤ (x.deficit -ℤ pos m)
   pub floor : x.received ≡ 0 → (pos 1 -ℤ pos (most_owed config)) ≤ℤ x.deficit
 
-money_of : (config : Config) (m k weight : ℕ) (x : Share) → m ≡ k → IsBalanced (config.quantum * weight) x →
+money_of : (config : Config) (m k weight : ℕ) (x : Share) → k ≤ m → IsBalanced (config.quantum * weight) x →
     IsBounded config m weight (plain x) → IsMoney config k weight x
 money_of config m k weight x e h b = record {
   exact = h.deficit;
@@ -41,6 +42,16 @@ pub money : (w : World) (s : ℕ) (c : Class) → IsFair w → IsKept (books w) 
     IsMoney w.config (owed s c w.opened) (station w s).weight (share w s c)
 money w s c f k live = go (at None w.stations s) refl live (f.each s) (k.goods s)
   where
+    -- what was computed of the open exchanges is within what they may be charged
+    computed : owed s c w.opened ≤ at_stake w.config s c (map core w.opened)
+    computed =
+        let within : owed s c (map core w.opened) ≤ at_stake w.config s c (map core w.opened) =
+        owed_reserved (longest_exchange w.config) s c (map core w.opened)
+        (every_map (IsOpen (books w)) (λ x. x.charge ≤ longest_exchange w.config)
+        (λ x o. omega (arith, o.charge, le-max_left (longest_computed w.config) w.config.charge))
+        (map core w.opened) k.opens) in
+        omega (arith, within, owed-core s c w.opened)
+
     go : (o : Option Station) → at None w.stations s ≡ o → is_some o ≡ true →
         IfSome o (IsFairStation w.config.quantum) →
         IfSome (option_map account o) (IsGood w.config (map core w.opened) s) →
@@ -49,9 +60,8 @@ money w s c f k live = go (at None w.stations s) refl live (f.each s) (k.goods s
     go (Some x) e is h g =
         subst (λ (o : Option Station). IsMoney w.config (owed s c w.opened) (unwrap_or o no_station).weight
         (at no_share (unwrap_or o no_station).shares (class_number c))) (sym e)
-        (money_of w.config (owed s c (map core w.opened)) (owed s c w.opened) x.weight
-        (at no_share x.shares (class_number c)) (owed-core s c w.opened)
-        (h (class_number c) (below_four c)) (g.bounds c))
+        (money_of w.config (at_stake w.config s c (map core w.opened)) (owed s c w.opened) x.weight
+        (at no_share x.shares (class_number c)) computed (h (class_number c) (below_four c)) (g.bounds c))
 
 pub money_after : (config : Config) (h : List Entry) (s : ℕ) (c : Class) → IsInRange config →
     is_live (world_after (opening config) h) s ≡ true

@@ -4,6 +4,7 @@ use Rattle.std.proofs.lemmas.Bool.{cases_eq, ne_eqb, not_from_true, not_from_fal
 use Rattle.wf_frame.specs.declared.classes.Class.{Class}
 use Rattle.wf_frame.specs.declared.classes.Class.TheVariants.{Bk, Be, Vi, Vo}
 use Rattle.wf_frame.specs.declared.notes.Ask.TheVariants.{Join, Leave, Rate, Tick, Pull, Arrive, Answer, Done, Sleep, Wake, Poll, Rx, Reap}
+use Rattle.wf_frame.specs.declared.notes.AskedRate.{AskedRate}
 use Rattle.wf_frame.specs.declared.notes.Note.{Note}
 use Rattle.wf_frame.specs.declared.notes.Note.TheVariants.{Enqueue, Asked}
 use Rattle.wf_frame.specs.declared.notes.Refusal.{Refusal}
@@ -13,7 +14,7 @@ use Rattle.wf_def_rotation.specs.Rotation.{Rotation, with_new_key, in_order, Pic
 use Rattle.wf_def_world.specs.World.{World, Share, Exchange, no_station, rotation, is_live, exchange, with_rotation}
 use Rattle.wf_frame.specs.Classes.{class_number, same_class, all_classes}
 use Rattle.wf_def_world.specs.CanSend.{is_ready, with_listing_in, with_listings_in, with_listings_of}
-use Rattle.wf_def_world.specs.Exchanges.{Prepared, station_need, picked_station, after_pick, after_tid_turn, prepared_exchange, exchange_of, sending_tid}
+use Rattle.wf_def_world.specs.Exchanges.{Prepared, station_need, picked_station, after_pick, after_tid_turn, prepared_exchange, exchange_of, sending_tid, charge_of}
 use Rattle.wf_def_world.specs.Refusals.{refusals, refusal}
 use Rattle.wf_def_world.specs.Step.{Outcome, join_outcome, tick_outcome, rate_outcome, pull_outcome_for, pull_outcome, done_outcome, outcome_where_open, rx_outcome, outcome_of, after_refusal, judged_outcome, step}
 use Rattle.wf_def_world.specs.Stretches.{charge_to, charge_by}
@@ -398,58 +399,62 @@ turn_received w s d air c i j = subst (IsTurn c i j 0 0 (books w)) (sym (books_r
     (turn_on c i j s (books w) (on_part d (receive_share air)) (λ _. 0) (λ y _. refl) (λ _. refl)
     (grown_receive c d air) (quanta_receive c d air))
 
-turn_rated : (w : World) (s mcs mhz : ℕ) (short : Bool) (c : Class) (i j : ℕ) →
-    IsTurn c i j 0 0 (books w) (books (rate_outcome w s mcs mhz short).world)
-turn_rated w s mcs mhz short c i j = subst (IsTurn c i j 0 0 (books w))
-    (sym (books_with_rate w s mcs mhz short))
-    (turn_on c i j s (books w) (rated mcs mhz short) (λ _. 0) (λ y _. refl) (λ _. refl)
+turn_rated : (w : World) (s : ℕ) (rate : AskedRate) (c : Class) (i j : ℕ) →
+    IsTurn c i j 0 0 (books w) (books (rate_outcome w s rate).world)
+turn_rated w s rate c i j = subst (IsTurn c i j 0 0 (books w))
+    (sym (books_with_rate w s rate))
+    (turn_on c i j s (books w) (rated rate) (λ _. 0) (λ y _. refl) (λ _. refl)
     (λ a. record { weight = refl; quanta = omega arith; charged = omega arith; received = omega arith })
     (λ a. refl))
 
-charge_here : (x : Exchange) (c : Class) → charge_to x.station c (Some x)
-    ≡ (if same_class x.class c then x.charge else 0)
-charge_here x c = rw (eq-eqb x.station x.station refl) refl
+charge_here : (air : Option ℕ) (x : Exchange) (c : Class) → charge_to x.station c air (Some x)
+    ≡ (if same_class x.class c then charge_of air x else 0)
+charge_here air x c = rw (eq-eqb x.station x.station refl) refl
 
-charge_elsewhere : (x : Exchange) (c : Class) (y : ℕ) → (y ≡ x.station → ⊥) → charge_to y c (Some x) ≡ 0
-charge_elsewhere x c y other = rw (ne_eqb x.station y (λ e. other (sym e))) refl
+charge_elsewhere : (air : Option ℕ) (x : Exchange) (c : Class) (y : ℕ) → (y ≡ x.station → ⊥) →
+    charge_to y c air (Some x) ≡ 0
+charge_elsewhere air x c y other = rw (ne_eqb x.station y (λ e. other (sym e))) refl
 
-turn_ended : (w : World) (e : ℕ) (x : Exchange) (heard : Bool) (c : Class) (i j : ℕ) → IsKept (books w) →
-    IsFound w e x → IsTurn c i j (charge_to i c (Some x)) (charge_to j c (Some x)) (books w)
-    (books (done_outcome w x heard).world)
-turn_ended w e x heard c i j k found =
+turn_ended : (air : Option ℕ) (w : World) (e : ℕ) (x : Exchange) (heard : Bool) (c : Class) (i j : ℕ) →
+    IsKept (books w) →
+    IsFound w e x → IsTurn c i j (charge_to i c air (Some x)) (charge_to j c air (Some x)) (books w)
+    (books (done_outcome w x heard air).world)
+turn_ended air w e x heard c i j k found =
     let live : is_some ((books w).accounts x.station) ≡ true =
     (every_find (IsOpen (books w)) (λ z. z.number == x.number) (map core w.opened) (core x) k.opens
     (at_number w e x found)).1.live in
-    let t : IsTurn c i j (charge_to i c (Some x)) (charge_to j c (Some x)) (books w)
-    (with_charge (books w) x.station x.class x.charge) =
-    turn_on c i j x.station (books w) (on_part x.class (charge_share x.charge)) (λ y. charge_to y c (Some x))
-    (charge_elsewhere x c)
+    let t : IsTurn c i j (charge_to i c air (Some x)) (charge_to j c air (Some x)) (books w)
+    (with_charge (books w) x.station x.class (charge_of air x)) =
+    turn_on c i j x.station (books w) (on_part x.class (charge_share (charge_of air x)))
+    (λ y. charge_to y c air (Some x))
+    (charge_elsewhere air x c)
     (λ none. absurd (cc (live, none)))
-    (λ a. subst (λ (n : ℕ). IsGrown c n a (on_part x.class (charge_share x.charge) a)) (sym (charge_here x c))
-    (grown_charge c x.class x.charge a))
-    (quanta_charge c x.class x.charge) in
-    subst (IsTurn c i j (charge_to i c (Some x)) (charge_to j c (Some x)) (books w))
-    (sym (books_ended w x heard))
-    (turn_calm c i j _ _ (books w) (with_charge (books w) x.station x.class x.charge) _
+    (λ a. subst (λ (n : ℕ). IsGrown c n a (on_part x.class (charge_share (charge_of air x)) a))
+    (sym (charge_here air x c))
+    (grown_charge c x.class (charge_of air x) a))
+    (quanta_charge c x.class (charge_of air x)) in
+    subst (IsTurn c i j (charge_to i c air (Some x)) (charge_to j c air (Some x)) (books w))
+    (sym (books_ended air w x heard))
+    (turn_calm c i j _ _ (books w) (with_charge (books w) x.station x.class (charge_of air x)) _
     (record { accounts = refl; old = λ d. refl }) t)
 
 -- ---- the step
 
 -- what a call charges where it is not refused
 abbrev pub owing : World → ℕ → Class → Note → ℕ
-owing w s c (Asked (Done e heard)) = charge_to s c (exchange w e)
+owing w s c (Asked (Done e heard air)) = charge_to s c air (exchange w e)
 owing w s c _ = 0
 
 pub owing_done : (note : Note) (w : World) (s : ℕ) (c : Class) → refusal w note ≡ None →
     charge_by w s c note ≡ owing w s c note
-owing_done (Asked (Done e heard)) w s c h = ap
-    (λ (o : Option Refusal). if is_none o then charge_to s c (exchange w e) else 0) h
+owing_done (Asked (Done e heard air)) w s c h = ap
+    (λ (o : Option Refusal). if is_none o then charge_to s c air (exchange w e) else 0) h
 owing_done _ w s c h = refl
 
 pub owing_refused : (note : Note) (r : Refusal) (w : World) (s : ℕ) (c : Class) → refusal w note ≡ Some r →
     charge_by w s c note ≡ 0
-owing_refused (Asked (Done e heard)) r w s c h =
-    ap (λ (o : Option Refusal). if is_none o then charge_to s c (exchange w e) else 0) h
+owing_refused (Asked (Done e heard air)) r w s c h =
+    ap (λ (o : Option Refusal). if is_none o then charge_to s c air (exchange w e) else 0) h
 owing_refused _ r w s c h = refl
 
 turn_open : (w : World) (e : ℕ) (o : Option Exchange) (f : Exchange → Outcome) (c : Class) (i j : ℕ)
@@ -472,7 +477,7 @@ turn_done (Asked (Join s window start exponent weight)) w c i j r k h h' =
 turn_done (Asked (Leave s)) w c i j r k h h' =
     subst (λ (b : Books). Both c i j b → IsTurn c i j 0 0 (books w) b) (sym (books_gone w s))
     (turn_off (books w) s c i j) h'
-turn_done (Asked (Rate s mcs mhz short)) w c i j r k h h' = turn_rated w s mcs mhz short c i j
+turn_done (Asked (Rate s rate)) w c i j r k h h' = turn_rated w s rate c i j
 turn_done (Asked (Tick by)) w c i j r k h h' = turn_here c i j (books w)
 turn_done (Asked (Pull d)) w c i j r k h h' = turn_pulled w d c i j k h h'
 turn_done (Asked (Arrive e n)) w c i j r k h h' =
@@ -481,9 +486,9 @@ turn_done (Asked (Arrive e n)) w c i j r k h h' =
 turn_done (Asked (Answer e)) w c i j r k h h' =
     turn_open w e (exchange w e) _ c i j (λ _ _. 0) (λ _. refl) refl
     (λ x f. turn_same c i j _ _ (books_answered w e x k f))
-turn_done (Asked (Done e heard)) w c i j r k h h' =
-    turn_open w e (exchange w e) _ c i j (λ y o. charge_to y c o) (λ _. refl) refl
-    (λ x f. turn_ended w e x heard c i j k f)
+turn_done (Asked (Done e heard air)) w c i j r k h h' =
+    turn_open w e (exchange w e) _ c i j (λ y o. charge_to y c air o) (λ _. refl) refl
+    (λ x f. turn_ended air w e x heard c i j k f)
 turn_done (Asked (Sleep s)) w c i j r k h h' = turn_same c i j _ _ (books_slept w s)
 turn_done (Asked (Wake s)) w c i j r k h h' = turn_same c i j _ _ (books_woken w s)
 turn_done (Asked (Poll s)) w c i j r k h h' = turn_same c i j _ _ (books_credited w s)

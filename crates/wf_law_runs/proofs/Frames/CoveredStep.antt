@@ -40,10 +40,10 @@ queue_finish : (w : World) (fate : Fate) (id q k : ℕ) → carries (queue w q).
 unfolding with_frame_finished with_fate
 queue_finish w fate id q k h = h
 
-queues_charged : (w : World) (x : Exchange) (q k : ℕ) → carries (queue w q).items k ≡ true →
-    carries (queue (after_charge (without_exchange w x.number) x) q).items k ≡ true
+queues_charged : (air : Option ℕ) (w : World) (x : Exchange) (q k : ℕ) → carries (queue w q).items k ≡ true →
+    carries (queue (after_charge (without_exchange w x.number) x air) q).items k ≡ true
 unfolding after_charge without_exchange on_share on_station with_station
-queues_charged w x q k h = h
+queues_charged air w x q k h = h
 
 queues_with_queues : (w : World) (s t : ℕ) (r : Rotation) (q k : ℕ) → carries (queue w q).items k ≡ true →
     carries (queue (with_queues w s t r) q).items k ≡ true
@@ -274,38 +274,43 @@ covers_all_settled (m ∷ ms) l e s t acked w n a p c =
     (placed_settled (acked m.number) l e s t acked w m ms n p)
     (covers_settled (acked m.number) l e s t acked w m ms n a.0 p c)
 
-covers_after : (c : Content) (l : List ℕ) (w : World) (i : IsLawful w) (x : Exchange) (heard : Bool) →
+covers_after : (air : Option ℕ) (c : Content) (l : List ℕ) (w : World) (i : IsLawful w) (x : Exchange)
+    (heard : Bool) →
     x.content ≡ c → IsFound w i x → Labelled (session w x.station x.tid) (mpdus_of c) →
-    Placing l (after_charge (without_exchange w x.number) x) →
-    Full (after_charge (without_exchange w x.number) x)
-    → Full (after_done (after_charge (without_exchange w x.number) x) x heard c)
+    Placing l (after_charge (without_exchange w x.number) x air) →
+    Full (after_charge (without_exchange w x.number) x air)
+    → Full (after_done (after_charge (without_exchange w x.number) x air) x heard c)
 unfolding after_done
-covers_after (Frames ms) l w i x heard e f a p c =
-    let v : World = after_charge (without_exchange w x.number) x in
+covers_after air (Frames ms) l w i x heard e f a p c =
+    let v : World = after_charge (without_exchange w x.number) x air in
     let d : session v x.station x.tid ≡ session w x.station x.tid =
-    session_same _ _ (same_charged (without_exchange w x.number) x) x.station x.tid
+    session_same _ _ (same_charged air (without_exchange w x.number) x) x.station x.tid
     ∙ without_same w x.number x.station x.tid in
     covers_all_settled ms l x.number x.station x.tid (is_acked heard x.answer) v
-    (ending_of w i x ms heard e f) (subst (λ (y : Session). Labelled y ms) (sym d) a) p c
-covers_after (Request g) l w i x heard e f a p c =
-    covers_session (after_charge (without_exchange w x.number) x) x.station x.tid (with_heard_start heard g)
+    (ending_of air w i x ms heard e f) (subst (λ (y : Session). Labelled y ms) (sym d) a) p c
+covers_after air (Request g) l w i x heard e f a p c =
+    covers_session (after_charge (without_exchange w x.number) x air) x.station x.tid
+    (with_heard_start heard g)
     (λ k n d. carries_heard heard g _ k n d) c
 
-covers_without : (w : World) (x : Exchange) → Full w → Full (after_charge (without_exchange w x.number) x)
+covers_without : (air : Option ℕ) (w : World) (x : Exchange) → Full w →
+    Full (after_charge (without_exchange w x.number) x air)
 unfolding after_charge without_exchange on_share
-covers_without w x c = covers_calm w _ (λ q k h. queues_charged w x q k h)
-    (λ s t. session_same _ _ (same_charged (without_exchange w x.number) x) s t ∙ without_same w x.number s t)
-    ((untouched_charged (without_exchange w x.number) x).frames ∙ (untouched_without w x.number).frames) c
+covers_without air w x c = covers_calm w _ (λ q k h. queues_charged air w x q k h)
+    (λ s t. session_same _ _ (same_charged air (without_exchange w x.number) x) s t
+    ∙ without_same w x.number s t)
+    ((untouched_charged air (without_exchange w x.number) x).frames ∙ (untouched_without w x.number).frames) c
 
-pub covers_ended : (l : List ℕ) (w : World) (i : IsLawful w) (x : Exchange) (heard : Bool) → IsFound w i x →
+pub covers_ended : (air : Option ℕ) (l : List ℕ) (w : World) (i : IsLawful w) (x : Exchange) (heard : Bool) →
+    IsFound w i x →
     Labelled (session w x.station x.tid) (mpdus_of x.content) → Placing l w → Full w →
-    Full (done_outcome w x heard).world
+    Full (done_outcome w x heard air).world
 unfolding done_outcome
-covers_ended l w i x heard f a p c =
+covers_ended air l w i x heard f a p c =
     let u : World = without_exchange w x.number in
-    covers_after x.content l w i x heard refl f a
-    (placed_less l u (after_charge u x) (less_charged Any u x) (same_charged u x).sides
-    (placed_without l w x.number p)) (covers_without w x c)
+    covers_after air x.content l w i x heard refl f a
+    (placed_less l u (after_charge u x air) (less_charged air Any u x) (same_charged air u x).sides
+    (placed_without l w x.number p)) (covers_without air w x c)
 
 -- ---- a station leaves
 

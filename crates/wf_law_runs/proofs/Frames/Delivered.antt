@@ -336,38 +336,40 @@ exchanges_without : (w : World) (e : ℕ) → (without_exchange w e).exchanges �
 unfolding without_exchange
 exchanges_without w e = refl
 
-pub exchanges_ended : (w : World) (x : Exchange) (heard : Bool) →
-    (done_outcome w x heard).world.exchanges ≡ w.exchanges
+pub exchanges_ended : (air : Option ℕ) (w : World) (x : Exchange) (heard : Bool) →
+    (done_outcome w x heard air).world.exchanges ≡ w.exchanges
 unfolding done_outcome
-exchanges_ended w x heard = exchanges_after x.content _ x heard
-    ∙ (same_charged (without_exchange w x.number) x).exchanges ∙ exchanges_without w x.number
+exchanges_ended air w x heard = exchanges_after x.content _ x heard
+    ∙ (same_charged air (without_exchange w x.number) x).exchanges ∙ exchanges_without w x.number
 
-pub opened_ended : (w : World) (x : Exchange) (heard : Bool) →
-    (done_outcome w x heard).world.opened ≡ (without_exchange w x.number).opened
+pub opened_ended : (air : Option ℕ) (w : World) (x : Exchange) (heard : Bool) →
+    (done_outcome w x heard air).world.opened ≡ (without_exchange w x.number).opened
 unfolding done_outcome
-opened_ended w x heard = opened_after x.content _ x heard
-    ∙ (same_charged (without_exchange w x.number) x).opened
+opened_ended air w x heard = opened_after x.content _ x heard
+    ∙ (same_charged air (without_exchange w x.number) x).opened
 
 pub filtered : (w : World) (e : ℕ) (P : Exchange → Type 0) → Each P w.opened →
     Each P (without_exchange w e).opened
 unfolding without_exchange
 filtered w e P h = each_filter P P (λ y. not (y.number == e)) w.opened (λ y _ k. k) h
 
-labelled_ended : (w : World) (x : Exchange) (heard : Bool) → IsLawful w → IsLabelled w →
-    IsLabelled (done_outcome w x heard).world
-labelled_ended w x heard i a = record {
-  labels = subst (Each (λ y. Labelled (session (done_outcome w x heard).world y.station y.tid)
-      (mpdus_of y.content))) (sym (opened_ended w x heard))
+labelled_ended : (air : Option ℕ) (w : World) (x : Exchange) (heard : Bool) → IsLawful w → IsLabelled w →
+    IsLabelled (done_outcome w x heard air).world
+labelled_ended air w x heard i a = record {
+  labels = subst (Each (λ y. Labelled (session (done_outcome w x heard air).world y.station y.tid)
+      (mpdus_of y.content))) (sym (opened_ended air w x heard))
       (go (each_both (IsOpenIn w) (λ y. Labelled (session w y.station y.tid) (mpdus_of y.content))
-      (λ y. Labelled (session (done_outcome w x heard).world y.station y.tid) (mpdus_of y.content)) w.opened
+      (λ y. Labelled (session (done_outcome w x heard air).world y.station y.tid) (mpdus_of y.content))
+      w.opened
       (λ y o l. labelled_kept (mpdus_of y.content) (session w y.station y.tid)
-      (session (done_outcome w x heard).world y.station y.tid) (session w y.station y.tid).first
-      ((keep_ended w x heard).sessions y.station y.tid) (omega arith) o.opened.flies.rising l) i.opened
+      (session (done_outcome w x heard air).world y.station y.tid) (session w y.station y.tid).first
+      ((keep_ended air w x heard).sessions y.station y.tid) (omega arith) o.opened.flies.rising l) i.opened
       a.labels));
 }
   where
-    go : Each (λ y. Labelled (session (done_outcome w x heard).world y.station y.tid) (mpdus_of y.content))
-        w.opened → Each (λ y. Labelled (session (done_outcome w x heard).world y.station y.tid)
+    go : Each (λ y. Labelled (session (done_outcome w x heard air).world y.station y.tid)
+        (mpdus_of y.content))
+        w.opened → Each (λ y. Labelled (session (done_outcome w x heard air).world y.station y.tid)
         (mpdus_of y.content)) (without_exchange w x.number).opened
     go e = filtered w x.number _ e
 
@@ -433,11 +435,11 @@ unfolding after_done
 less_after (Frames ms) w x heard = less_all ms _ w x.station x.tid _ (λ id k. k)
 less_after (Request f) w x heard = less_on_session _ w x.station x.tid _
 
-pub less_ended : (w : World) (x : Exchange) (heard : Bool) →
-    Less (AckedAmong (is_acked heard x.answer) (mpdus_of x.content)) w (done_outcome w x heard).world
+pub less_ended : (air : Option ℕ) (w : World) (x : Exchange) (heard : Bool) →
+    Less (AckedAmong (is_acked heard x.answer) (mpdus_of x.content)) w (done_outcome w x heard air).world
 unfolding done_outcome
-less_ended w x heard = then_less _ _ _ _ (less_without _ w x.number)
-    (then_less _ _ _ _ (less_charged _ _ x) (less_after x.content _ x heard))
+less_ended air w x heard = then_less _ _ _ _ (less_without _ w x.number)
+    (then_less _ _ _ _ (less_charged air _ _ x) (less_after x.content _ x heard))
 
 -- a number of a live station carries the frame, is acknowledged, and is in its receiver's set
 pub record HasArrived (w : World) (id : ℕ) : Type 0 where
@@ -474,14 +476,15 @@ reached_among (m ∷ ms) v y r s t id lo acked live k e b rises labels backed st
       (omega (arith, b, rises.0)) rises.2 labels.1 backed.1 states.1 rest
 ]
 
-states_after : (c : Content) (w : World) (x : Exchange) (heard : Bool) → x.content ≡ c → IsOpenIn w x →
-    EachMpdu (λ m. ((slot (session (after_done (after_charge (without_exchange w x.number) x) x heard c)
+states_after : (air : Option ℕ) (c : Content) (w : World) (x : Exchange) (heard : Bool) → x.content ≡ c →
+    IsOpenIn w x →
+    EachMpdu (λ m. ((slot (session (after_done (after_charge (without_exchange w x.number) x air) x heard c)
     x.station x.tid) m.number).state ≡ State.Acked) ↔ (is_acked heard x.answer m.number ≡ true)) (mpdus_of c)
 unfolding after_done
-states_after (Request f) w x heard e o = tt
-states_after (Frames ms) w x heard e o =
-    let v : World = after_charge (without_exchange w x.number) x in
-    let k : Same (without_exchange w x.number) v = same_charged (without_exchange w x.number) x in
+states_after air (Request f) w x heard e o = tt
+states_after air (Frames ms) w x heard e o =
+    let v : World = after_charge (without_exchange w x.number) x air in
+    let k : Same (without_exchange w x.number) v = same_charged air (without_exchange w x.number) x in
     let y : Session = session w x.station x.tid in
     let same_y : session v x.station x.tid ≡ y = session_same _ _ k x.station x.tid
     ∙ without_same w x.number x.station x.tid in
@@ -491,25 +494,25 @@ states_after (Frames ms) w x heard e o =
     (k.live x.station ∙ without_live w x.number x.station ∙ o.live)
     (omega (arith, ap (λ (z : Session). z.first) same_y)) flies.rising
 
-states_ended : (w : World) (x : Exchange) (heard : Bool) → IsOpenIn w x →
-    EachMpdu (λ m. ((slot (session (done_outcome w x heard).world x.station x.tid) m.number).state
+states_ended : (air : Option ℕ) (w : World) (x : Exchange) (heard : Bool) → IsOpenIn w x →
+    EachMpdu (λ m. ((slot (session (done_outcome w x heard air).world x.station x.tid) m.number).state
     ≡ State.Acked) ↔ (is_acked heard x.answer m.number ≡ true)) (mpdus_of x.content)
 unfolding done_outcome
-states_ended w x heard o = states_after x.content w x heard refl o
+states_ended air w x heard o = states_after air x.content w x heard refl o
 
-reached_ended : (w : World) (x : Exchange) (heard : Bool) (id : ℕ) → IsOpenIn w x →
+reached_ended : (air : Option ℕ) (w : World) (x : Exchange) (heard : Bool) (id : ℕ) → IsOpenIn w x →
     Labelled (session w x.station x.tid) (mpdus_of x.content) →
     AckedAmong (is_acked heard x.answer) (mpdus_of x.content) id →
-    HasArrived (done_outcome w x heard).world id
-reached_ended w x heard id o l h =
-    let k : Kept w (done_outcome w x heard).world = keep_ended w x heard in
+    HasArrived (done_outcome w x heard air).world id
+reached_ended air w x heard id o l h =
+    let k : Kept w (done_outcome w x heard air).world = keep_ended air w x heard in
     let y : Session = session w x.station x.tid in
-    reached_among (mpdus_of x.content) (done_outcome w x heard).world y
+    reached_among (mpdus_of x.content) (done_outcome w x heard air).world y
     (receiver w x.station x.tid) x.station x.tid id y.first (is_acked heard x.answer)
     (k.live x.station ∙ o.live) (k.sessions x.station x.tid) (k.receivers x.station x.tid)
     (omega arith) o.opened.flies.rising l
     (backed_by (mpdus_of x.content) heard x.answer (receiver w x.station x.tid) o.opened.kept)
-    (states_ended w x heard o) h
+    (states_ended air w x heard o) h
 
 reached_same : (w v : World) (id : ℕ) → Same w v → HasArrived w id → HasArrived v id
 reached_same w v id h r = record {
@@ -746,23 +749,24 @@ sent_among (m ∷ ms) acked id h = elim h [
   | inr later ↦ or_right (m.id == id) (has (map (λ m. m.id) ms) id) (sent_among ms acked id later)
 ]
 
-ends_heard : (w : World) (e : ℕ) (heard : Bool) (id : ℕ) → heard ≡ true →
-    has (ids_sent (exchange w e)) id ≡ true → EndsHeard w (Asked (Done e heard)) id
-ends_heard w e true id h sent = sent
-ends_heard w e false id h sent = absurd (cc h)
+ends_heard : (air : Option ℕ) (w : World) (e : ℕ) (heard : Bool) (id : ℕ) → heard ≡ true →
+    has (ids_sent (exchange w e)) id ≡ true → EndsHeard w (Asked (Done e heard air)) id
+ends_heard air w e true id h sent = sent
+ends_heard air w e false id h sent = absurd (cc h)
 
-delivered_ended : (w : World) (x : Exchange) (e : ℕ) (heard : Bool) → exchange w e ≡ Some x → IsRead w x →
-    IsLawful w → IsLabelled w → IsDelivered (Asked (Done e heard)) w (done_outcome w x heard).world
-delivered_ended w x e heard at_number r i a = record {
-  labelled = labelled_ended w x heard i a;
-  acks = λ id d. elim ((less_ended w x heard).fates id d) [
+delivered_ended : (air : Option ℕ) (w : World) (x : Exchange) (e : ℕ) (heard : Bool) → exchange w e ≡ Some x →
+    IsRead w x →
+    IsLawful w → IsLabelled w → IsDelivered (Asked (Done e heard air)) w (done_outcome w x heard air).world
+delivered_ended air w x e heard at_number r i a = record {
+  labelled = labelled_ended air w x heard i a;
+  acks = λ id d. elim ((less_ended air w x heard).fates id d) [
     | inl was ↦ inl was
     | inr now ↦
         inr (
-          ends_heard w e heard id (heard_among (mpdus_of x.content) heard x.answer id now)
+          ends_heard air w e heard id (heard_among (mpdus_of x.content) heard x.answer id now)
               (ap (λ (o : Option Exchange). has (ids_sent o) id) at_number
               ∙ sent_among (mpdus_of x.content) (is_acked heard x.answer) id now),
-          reached_ended w x heard id r.open_in r.labels now,
+          reached_ended air w x heard id r.open_in r.labels now,
         )
   ];
 }
@@ -788,7 +792,7 @@ delivered_done (Asked (Leave s)) w i a e = record {
   acks =
       acks_less (Asked (Leave s)) w _ (less_gone None_of w s);
 }
-delivered_done (Asked (Rate s mcs mhz short)) w i a e = delivered_station _ w s _ (λ x t. refl) i a
+delivered_done (Asked (Rate s rate)) w i a e = delivered_station _ w s _ (λ x t. refl) i a
 delivered_done (Asked (Tick by)) w i a e = delivered_plain _ w _ refl refl refl (λ id h. h) i a
 delivered_done (Asked (Pull c)) w i a e = record {
   labelled = labelled_pulled w c i a;
@@ -808,9 +812,10 @@ delivered_done (Asked (Answer x)) w i a e = delivered_open _ (IsRead w) (exchang
       acks =
           acks_less (Asked (Answer x)) w _ (less_answered None_of w y);
     })
-delivered_done (Asked (Done x heard)) w i a e =
+delivered_done (Asked (Done x heard air)) w i a e =
     delivered_open _ (λ y. (exchange w x ≡ Some y) × IsRead w y) (exchange w x) w _
-    (with_itself (exchange w x) (IsRead w) (read w i a x)) a (λ y r. delivered_ended w y x heard r.0 r.1 i a)
+    (with_itself (exchange w x) (IsRead w) (read w i a x)) a
+    (λ y r. delivered_ended air w y x heard r.0 r.1 i a)
 delivered_done (Asked (Sleep s)) w i a e = delivered_station _ w s _ (λ x t. refl) i a
 delivered_done (Asked (Wake s)) w i a e = delivered_station _ w s _ (λ x t. refl) i a
 delivered_done (Asked (Poll s)) w i a e = delivered_station _ w s _ (λ x t. refl) i a

@@ -885,22 +885,23 @@ fresh_without : (w : World) (e : ℕ) → Fresh w → Fresh (without_exchange w 
 unfolding without_exchange
 fresh_without w e h = fresh_calm w _ (less_plain Any w _ refl refl) (λ s t. refl) refl h
 
-safe_after : (c : Content) (l : List ℕ) (w : World) (i : IsLawful w) (x : Exchange) (heard : Bool) →
+safe_after : (air : Option ℕ) (c : Content) (l : List ℕ) (w : World) (i : IsLawful w) (x : Exchange)
+    (heard : Bool) →
     x.content ≡ c → IsFound w i x → Labelled (session w x.station x.tid) (mpdus_of c) →
-    Placing l (after_charge (without_exchange w x.number) x) →
-    Fresh (after_charge (without_exchange w x.number) x) →
-    Safe l (after_charge (without_exchange w x.number) x)
-    (after_done (after_charge (without_exchange w x.number) x) x heard c)
+    Placing l (after_charge (without_exchange w x.number) x air) →
+    Fresh (after_charge (without_exchange w x.number) x air) →
+    Safe l (after_charge (without_exchange w x.number) x air)
+    (after_done (after_charge (without_exchange w x.number) x air) x heard c)
 unfolding after_done
-safe_after (Frames ms) l w i x heard e f a p h =
-    let v : World = after_charge (without_exchange w x.number) x in
+safe_after air (Frames ms) l w i x heard e f a p h =
+    let v : World = after_charge (without_exchange w x.number) x air in
     let d : session v x.station x.tid ≡ session w x.station x.tid =
-    session_same _ _ (same_charged (without_exchange w x.number) x) x.station x.tid
+    session_same _ _ (same_charged air (without_exchange w x.number) x) x.station x.tid
     ∙ without_same w x.number x.station x.tid in
-    safe_all ms l x.number x.station x.tid (is_acked heard x.answer) v (ending_of w i x ms heard e f)
+    safe_all ms l x.number x.station x.tid (is_acked heard x.answer) v (ending_of air w i x ms heard e f)
     (subst (λ (y : Session). Labelled y ms) (sym d) a) p h
-safe_after (Request g) l w i x heard e f a p h =
-    let v : World = after_charge (without_exchange w x.number) x in
+safe_after air (Request g) l w i x heard e f a p h =
+    let v : World = after_charge (without_exchange w x.number) x air in
     record {
       placing = placed_session l v x.station x.tid (with_heard_start heard g) (kept_heard heard g _)
           (next-heard heard g _) p;
@@ -909,18 +910,19 @@ safe_after (Request g) l w i x heard e f a p h =
       stays = stays_same v _ (untouched_on_session v x.station x.tid _);
     }
 
-safe_ended : (l : List ℕ) (w : World) (i : IsLawful w) (x : Exchange) (heard : Bool) → IsFound w i x →
+safe_ended : (air : Option ℕ) (l : List ℕ) (w : World) (i : IsLawful w) (x : Exchange) (heard : Bool) →
+    IsFound w i x →
     Labelled (session w x.station x.tid) (mpdus_of x.content) → Placing l w → Fresh w →
-    Safe l w (done_outcome w x heard).world
+    Safe l w (done_outcome w x heard air).world
 unfolding done_outcome
-safe_ended l w i x heard f a p h =
+safe_ended air l w i x heard f a p h =
     let u : World = without_exchange w x.number in
     let pu : Placing l u = placed_without l w x.number p in
-    let k : Safe l u (after_charge u x) = safe_calm l u (after_charge u x) (less_charged Any u x)
-    (same_charged u x) (untouched_charged u x) pu (fresh_without w x.number h) in
+    let k : Safe l u (after_charge u x air) = safe_calm l u (after_charge u x air) (less_charged air Any u x)
+    (same_charged air u x) (untouched_charged air u x) pu (fresh_without w x.number h) in
     then_safe l w u _ (stays_same w u (untouched_without w x.number))
-    (then_safe l u (after_charge u x) _ k.stays
-    (safe_after x.content l w i x heard refl f a k.placing k.fresh))
+    (then_safe l u (after_charge u x air) _ k.stays
+    (safe_after air x.content l w i x heard refl f a k.placing k.fresh))
 
 -- ---- a frame is queued
 
@@ -1586,7 +1588,7 @@ fates_done (Enqueue s t flow len) l w i e a p h = of_entered w _ (enqueue_kept l
 fates_done (Asked (Join s window start exponent weight)) l w i e a p h =
     of_safe l w _ (safe_joined l w s window start exponent weight p h)
 fates_done (Asked (Leave s)) l w i e a p h = of_safe l w _ (safe_gone l w s p h)
-fates_done (Asked (Rate s mcs mhz short)) l w i e a p h = fates_station w s _ (λ x t. refl) h
+fates_done (Asked (Rate s rate)) l w i e a p h = fates_station w s _ (λ x t. refl) h
 fates_done (Asked (Tick by)) l w i e a p h = fates_plain w _ refl (record { frames = refl; finished = refl })
     (λ s t. refl) h
 fates_done (Asked (Pull c)) l w i e a p h = of_safe l w _ (safe_pulled l w c i p h)
@@ -1594,9 +1596,9 @@ fates_done (Asked (Arrive x n)) l w i e a p h =
     fates_open (IsFoundNamed w i) (exchange w x) w _ (found_named w i a x) h (λ y f. fates_arrived w y n h)
 fates_done (Asked (Answer x)) l w i e a p h =
     fates_open (IsFoundNamed w i) (exchange w x) w _ (found_named w i a x) h (λ y f. fates_answered w y h)
-fates_done (Asked (Done x heard)) l w i e a p h =
+fates_done (Asked (Done x heard air)) l w i e a p h =
     fates_open (IsFoundNamed w i) (exchange w x) w _ (found_named w i a x) h
-    (λ y f. of_safe l w _ (safe_ended l w i y heard f.found_one f.labels p h))
+    (λ y f. of_safe l w _ (safe_ended air l w i y heard f.found_one f.labels p h))
 fates_done (Asked (Sleep s)) l w i e a p h = fates_station w s _ (λ x t. refl) h
 fates_done (Asked (Wake s)) l w i e a p h = fates_station w s _ (λ x t. refl) h
 fates_done (Asked (Poll s)) l w i e a p h = fates_station w s _ (λ x t. refl) h

@@ -282,9 +282,10 @@ less_purge_queues P (q ∷ qs) w = then_less P _ _ _
     (then_less P _ _ _ (less_on_queue P w q _ (fewer_none _)) (less_drop_all P _ _ _ (λ h. cc h)))
     (less_purge_queues P qs _)
 
-pub less_charged : (P : ℕ → Type 0) (w : World) (x : Exchange) → Less P w (after_charge w x)
+pub less_charged : (air : Option ℕ) (P : ℕ → Type 0) (w : World) (x : Exchange) →
+    Less P w (after_charge w x air)
 unfolding after_charge
-less_charged P w x = less_on_share P w _ _ _
+less_charged air P w x = less_on_share P w _ _ _
 
 -- ---- a take
 

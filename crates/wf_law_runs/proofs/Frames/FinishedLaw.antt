@@ -42,7 +42,7 @@ unfolding outcome_of enqueue_outcome join_outcome leave_outcome rate_outcome tic
 reaps (Enqueue s t flow len) w = inl (record { reply = refl; call = refl })
 reaps (Asked (Join s window start exponent weight)) w = inl (record { reply = refl; call = refl })
 reaps (Asked (Leave s)) w = inl (record { reply = refl; call = refl })
-reaps (Asked (Rate s mcs mhz short)) w = inl (record { reply = refl; call = refl })
+reaps (Asked (Rate s rate)) w = inl (record { reply = refl; call = refl })
 reaps (Asked (Tick by)) w = inl (record { reply = refl; call = refl })
 reaps (Asked (Pull c)) w = inl (record {
   reply =
@@ -55,7 +55,7 @@ reaps (Asked (Arrive e n)) w = inl (record {
       refl;
 })
 reaps (Asked (Answer e)) w = inl (record { reply = reaped_open (exchange w e) w _ (λ x. refl); call = refl })
-reaps (Asked (Done e heard)) w = inl (record {
+reaps (Asked (Done e heard air)) w = inl (record {
   reply = reaped_open (exchange w e) w _ (λ x. refl);
   call =
       refl;

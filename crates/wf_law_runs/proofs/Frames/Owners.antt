@@ -318,25 +318,31 @@ slots_all [] e s t acked w n = slots_same w w (λ i j. refl)
 slots_all (m ∷ ms) e s t acked w n = then_slots w _ _ (slots_settled (acked m.number) e s t acked w m ms n)
     (slots_all ms e s t acked _ (ending_settled (acked m.number) e s t acked w m ms refl n))
 
-slots_after : (c : Content) (w : World) (i : IsLawful w) (x : Exchange) (heard : Bool) → x.content ≡ c →
-    IsFound w i x → SlotsFrom (after_charge (without_exchange w x.number) x)
-    (after_done (after_charge (without_exchange w x.number) x) x heard c)
+slots_after : (air : Option ℕ) (c : Content) (w : World) (i : IsLawful w) (x : Exchange) (heard : Bool) →
+    x.content ≡ c →
+    IsFound w i x → SlotsFrom (after_charge (without_exchange w x.number) x air)
+    (after_done (after_charge (without_exchange w x.number) x air) x heard c)
 unfolding after_done
-slots_after (Frames ms) w i x heard e f = slots_all ms x.number x.station x.tid (is_acked heard x.answer) _
-    (ending_of w i x ms heard e f)
-slots_after (Request g) w i x heard e f = slots_session _ x.station x.tid (with_heard_start heard g)
+slots_after air (Frames ms) w i x heard e f = slots_all ms x.number x.station x.tid
+    (is_acked heard x.answer) _
+    (ending_of air w i x ms heard e f)
+slots_after air (Request g) w i x heard e f = slots_session _ x.station x.tid (with_heard_start heard g)
     (bears_kept _ _ (kept_heard heard g _) (next-heard heard g _))
 
-slots_ended : (w : World) (i : IsLawful w) (x : Exchange) (heard : Bool) → IsFound w i x →
-    SlotsFrom w (done_outcome w x heard).world
+slots_ended : (air : Option ℕ) (w : World) (i : IsLawful w) (x : Exchange) (heard : Bool) → IsFound w i x →
+    SlotsFrom w (done_outcome w x heard air).world
 unfolding done_outcome
-slots_ended w i x heard f =
+slots_ended air w i x heard f =
     let u : World = without_exchange w x.number in
     then_slots w u _ (slots_same w u (λ s t. without_same w x.number s t))
-    (then_slots u (after_charge u x) _ (slots_same u (after_charge u x)
-    (session_same u (after_charge u x) (same_charged u x))) (slots_after x.content w i x heard refl f))
+    (then_slots u (after_charge u x air) _ (slots_same u (after_charge u x air)
+    (session_same u (after_charge u x air) (same_charged air u x)))
+    (slots_after air x.content w i x heard refl f))
 
-pub owned_ended : (w : World) (i : IsLawful w) (x : Exchange) (heard : Bool) → IsFound w i x → IsOwned w →
-    IsOwned (done_outcome w x heard).world
-owned_ended w i x heard f o = owned_along w (done_outcome w x heard).world (slots_ended w i x heard f)
-    (notes_shelves w (done_outcome w x heard).world (shelves_ended w x heard)) o
+pub owned_ended : (air : Option ℕ) (w : World) (i : IsLawful w) (x : Exchange) (heard : Bool) →
+    IsFound w i x →
+    IsOwned w →
+    IsOwned (done_outcome w x heard air).world
+owned_ended air w i x heard f o = owned_along w (done_outcome w x heard air).world
+    (slots_ended air w i x heard f)
+    (notes_shelves w (done_outcome w x heard air).world (shelves_ended air w x heard)) o

@@ -278,7 +278,7 @@ stood_done (Asked (Leave s)) l most w k r f h i =
       full =
           covers_gone l w s k.placing (quiet_of w s f r.1.1.0) i.owned i.full;
     }
-stood_done (Asked (Rate s mcs mhz short)) l most w k r f h i = stood_station w s _ (λ x t. refl) i
+stood_done (Asked (Rate s rate)) l most w k r f h i = stood_station w s _ (λ x t. refl) i
 stood_done (Asked (Tick by)) l most w k r f h i = stood_plain w _ refl refl refl i
 stood_done (Asked (Pull c)) l most w k r f h i =
     record {
@@ -292,12 +292,12 @@ stood_done (Asked (Arrive x n)) l most w k r f h i =
 stood_done (Asked (Answer x)) l most w k r f h i =
     stood_open (IsFoundNamed w k.lawful) (exchange w x) w _ (found_named w k.lawful k.labelled x) i
     (λ y g. stood_answered w y i)
-stood_done (Asked (Done x heard)) l most w k r f h i =
+stood_done (Asked (Done x heard air)) l most w k r f h i =
     stood_open (IsFoundNamed w k.lawful) (exchange w x) w _ (found_named w k.lawful k.labelled x) i
     (λ y g. record {
-      owned = owned_ended w k.lawful y heard g.found_one i.owned;
+      owned = owned_ended air w k.lawful y heard g.found_one i.owned;
       full =
-          covers_ended l w k.lawful y heard g.found_one g.labels k.placing i.full;
+          covers_ended air l w k.lawful y heard g.found_one g.labels k.placing i.full;
     })
 stood_done (Asked (Sleep s)) l most w k r f h i = stood_station w s _ (λ x t. refl) i
 stood_done (Asked (Wake s)) l most w k r f h i = stood_station w s _ (λ x t. refl) i

@@ -58,9 +58,9 @@ pub untouched_after_turn : (w : World) (s : ℕ) (c : Class) (t : ℕ) → Untou
 unfolding after_tid_turn on_share
 untouched_after_turn w s c t = untouched_on_station w s _
 
-pub untouched_charged : (w : World) (x : Exchange) → Untouched w (after_charge w x)
+pub untouched_charged : (air : Option ℕ) (w : World) (x : Exchange) → Untouched w (after_charge w x air)
 unfolding after_charge on_share
-untouched_charged w x = untouched_on_station w _ _
+untouched_charged air w x = untouched_on_station w _ _
 
 untouched_pay_stations : (ss : List ℕ) (w : World) (c : Class) (quanta : ℕ → ℕ) →
     Untouched w (with_stations_paid w c quanta ss)

@@ -216,20 +216,21 @@ last_without : (w : World) (e : ℕ) → Last w (without_exchange w e)
 unfolding without_exchange
 last_without w e = record { sessions = λ s t. lasts_refl (session w s t); live = λ s. refl }
 
-last_after_done : (c : Content) (w : World) (i : IsLawful w) (x : Exchange) (heard : Bool) → x.content ≡ c →
+last_after_done : (air : Option ℕ) (c : Content) (w : World) (i : IsLawful w) (x : Exchange) (heard : Bool) →
+    x.content ≡ c →
     IsFound w i x
-    → Last w (after_charge (without_exchange w x.number) x) →
-    Last w (after_done (after_charge (without_exchange w x.number) x) x heard c)
+    → Last w (after_charge (without_exchange w x.number) x air) →
+    Last w (after_done (after_charge (without_exchange w x.number) x air) x heard c)
 unfolding after_done
-last_after_done (Frames ms) w i x heard e f h =
+last_after_done air (Frames ms) w i x heard e f h =
     then_last w _ _ h (last_all_settled ms x.number x.station x.tid _ (is_acked heard x.answer)
-    (ending_of w i x ms heard e f))
-last_after_done (Request g) w i x heard e f h =
+    (ending_of air w i x ms heard e f))
+last_after_done air (Request g) w i x heard e f h =
     then_last w _ _ h (last_on_session _ x.station x.tid (with_heard_start heard g) (lasts_heard heard g _))
 
-pub last_ended : (w : World) (i : IsLawful w) (x : Exchange) (heard : Bool) → IsFound w i x →
-    Last w (done_outcome w x heard).world
+pub last_ended : (air : Option ℕ) (w : World) (i : IsLawful w) (x : Exchange) (heard : Bool) → IsFound w i x →
+    Last w (done_outcome w x heard air).world
 unfolding done_outcome
-last_ended w i x heard f =
-    last_after_done x.content w i x heard refl f (then_last w _ _ (last_without w x.number)
-    (last_same _ _ (same_charged (without_exchange w x.number) x)))
+last_ended air w i x heard f =
+    last_after_done air x.content w i x heard refl f (then_last w _ _ (last_without w x.number)
+    (last_same _ _ (same_charged air (without_exchange w x.number) x)))

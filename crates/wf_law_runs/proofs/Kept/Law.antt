@@ -111,7 +111,7 @@ stays_done (Enqueue s t flow len) w i r = stays_same _ w _ (same_enqueued w s t 
 stays_done (Asked (Join s window start exponent weight)) w i r =
     stays_join _ w s window start exponent weight r.1.1.1.1.1.0
 stays_done (Asked (Leave s)) w i r = stays_leave w s
-stays_done (Asked (Rate s mcs mhz short)) w i r = stays_same _ w _ (same_on_station w s _ (λ x t. refl))
+stays_done (Asked (Rate s rate)) w i r = stays_same _ w _ (same_on_station w s _ (λ x t. refl))
 stays_done (Asked (Tick by)) w i r = stays_last _ w _
     (record { sessions = λ s t. lasts_refl (session w s t); live = λ s. refl })
 stays_done (Asked (Pull c)) w i r = stays_last _ w _ (last_pulled w c i)
@@ -119,8 +119,8 @@ stays_done (Asked (Arrive e n)) w i r = stays_last _ w _
     (last_open (IsFound w i) (exchange w e) w _ (found w i e) (λ x f. last_arrived w x n))
 stays_done (Asked (Answer e)) w i r = stays_last _ w _
     (last_open (IsFound w i) (exchange w e) w _ (found w i e) (λ x f. last_answered w x))
-stays_done (Asked (Done e heard)) w i r = stays_last _ w _
-    (last_open (IsFound w i) (exchange w e) w _ (found w i e) (λ x f. last_ended w i x heard f))
+stays_done (Asked (Done e heard air)) w i r = stays_last _ w _
+    (last_open (IsFound w i) (exchange w e) w _ (found w i e) (λ x f. last_ended air w i x heard f))
 stays_done (Asked (Sleep s)) w i r = stays_same _ w _ (same_on_station w s _ (λ x t. refl))
 stays_done (Asked (Wake s)) w i r = stays_same _ w _ (same_on_station w s _ (λ x t. refl))
 stays_done (Asked (Poll s)) w i r = stays_same _ w _ (same_on_station w s _ (λ x t. refl))

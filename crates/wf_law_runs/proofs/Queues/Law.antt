@@ -45,7 +45,7 @@ shelved_done (Enqueue s t flow len) l most w r short p i =
 shelved_done (Asked (Join s window start exponent weight)) l most w r short p i =
     shelved_joined most w s window start exponent weight (leb-false _ _ r.0) r.1.1.1.1.1.0 i
 shelved_done (Asked (Leave s)) l most w r short p i = shelved_gone most w s (not_false _ r.1.0) i
-shelved_done (Asked (Rate s mcs mhz short)) l most w r small p i =
+shelved_done (Asked (Rate s rate)) l most w r small p i =
     subst (IsShelved most) (sym (shelves_hidden w s _ (λ x. refl))) i
 shelved_done (Asked (Tick by)) l most w r short p i = later most (shelves w) by i
 shelved_done (Asked (Pull c)) l most w r short p i = shelved_pulled most w c i
@@ -53,8 +53,8 @@ shelved_done (Asked (Arrive x n)) l most w r short p i =
     subst (IsShelved most) (sym (shelves_open (exchange w x) w _ (λ y. shelves_arrived w y n))) i
 shelved_done (Asked (Answer x)) l most w r short p i =
     subst (IsShelved most) (sym (shelves_open (exchange w x) w _ (λ y. shelves_answered w y))) i
-shelved_done (Asked (Done x heard)) l most w r short p i =
-    subst (IsShelved most) (sym (shelves_open (exchange w x) w _ (λ y. shelves_ended w y heard))) i
+shelved_done (Asked (Done x heard air)) l most w r short p i =
+    subst (IsShelved most) (sym (shelves_open (exchange w x) w _ (λ y. shelves_ended air w y heard))) i
 shelved_done (Asked (Sleep s)) l most w r short p i =
     subst (IsShelved most) (sym (shelves_hidden w s _ (λ x. refl))) i
 shelved_done (Asked (Wake s)) l most w r short p i =

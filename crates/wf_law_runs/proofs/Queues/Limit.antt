@@ -164,12 +164,13 @@ less_asked : (ask : Ask) (w : World) → Less Any w (outcome_of w (Asked ask)).w
 unfolding outcome_of tick_outcome rate_outcome sleep_outcome wake_outcome poll_outcome rx_outcome
 less_asked (Join s window start exponent weight) w = less_joined Any w s window start exponent weight
 less_asked (Leave s) w = less_gone Any w s
-less_asked (Rate s mcs mhz short) w = less_on_station Any w s _
+less_asked (Rate s rate) w = less_on_station Any w s _
 less_asked (Tick by) w = less_plain Any w _ refl refl
 less_asked (Pull c) w = less_pulled Any w c
 less_asked (Arrive e n) w = less_open (exchange w e) w _ (λ x. less_arrived Any w x n)
 less_asked (Answer e) w = less_open (exchange w e) w _ (λ x. less_answered Any w x)
-less_asked (Done e heard) w = less_open (exchange w e) w _ (λ x. less_any _ w _ (less_ended w x heard))
+less_asked (Done e heard air) w = less_open (exchange w e) w _
+    (λ x. less_any _ w _ (less_ended air w x heard))
 less_asked (Sleep s) w = less_on_station Any w s _
 less_asked (Wake s) w = less_on_station Any w s _
 less_asked (Poll s) w = less_on_station Any w s _

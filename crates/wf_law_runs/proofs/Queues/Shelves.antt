@@ -271,10 +271,10 @@ unfolding after_done
 shelves_after_done (Frames mpdus) w x heard = shelves_all_settled mpdus w _ _ _
 shelves_after_done (Request start) w x heard = shelves_on_session w _ _ _
 
-pub shelves_ended : (w : World) (x : Exchange) (heard : Bool) →
-    shelves (done_outcome w x heard).world ≡ shelves w
+pub shelves_ended : (air : Option ℕ) (w : World) (x : Exchange) (heard : Bool) →
+    shelves (done_outcome w x heard air).world ≡ shelves w
 unfolding done_outcome after_charge without_exchange
-shelves_ended w x heard = shelves_after_done x.content _ x heard ∙ shelves_on_share _ _ _ _
+shelves_ended air w x heard = shelves_after_done x.content _ x heard ∙ shelves_on_share _ _ _ _
 
 pub shelves_arrived : (w : World) (x : Exchange) (n : ℕ) → shelves (arrive_outcome w x n).world ≡ shelves w
 unfolding arrive_outcome with_exchange

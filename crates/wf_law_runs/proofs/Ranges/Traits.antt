@@ -226,9 +226,10 @@ unfolding after_done
 kept_after_done (Frames mpdus) w x heard h = kept_all_settled mpdus w _ _ _ h
 kept_after_done (Request start) w x heard h = kept_session w _ _ _ h
 
-kept_ended : (w : World) (x : Exchange) (heard : Bool) → Traits w → Traits (done_outcome w x heard).world
+kept_ended : (air : Option ℕ) (w : World) (x : Exchange) (heard : Bool) → Traits w →
+    Traits (done_outcome w x heard air).world
 unfolding done_outcome after_charge without_exchange
-kept_ended w x heard h = kept_after_done x.content _ x heard (kept_share _ x.station x.class _ h)
+kept_ended air w x heard h = kept_after_done x.content _ x heard (kept_share _ x.station x.class _ h)
 
 kept_arrived : (w : World) (x : Exchange) (n : ℕ) → Traits w → Traits (arrive_outcome w x n).world
 unfolding arrive_outcome with_exchange on_receiver
@@ -299,7 +300,7 @@ kept_done (Enqueue s t flow len) w e h = kept_enqueued w s t flow len h
 kept_done (Asked (Join s window start exponent weight)) w e h =
     kept_joined w s window start exponent weight e.1.1.1.0 e.1.1.1.1.0 h
 kept_done (Asked (Leave s)) w e h = kept_gone w s h
-kept_done (Asked (Rate s mcs mhz short)) w e h =
+kept_done (Asked (Rate s rate)) w e h =
     set_station w s _ (λ x _ k. record {
       weight = k.weight;
       rate = not-false _ e.1.0;
@@ -310,7 +311,7 @@ kept_done (Asked (Tick by)) w e h = h
 kept_done (Asked (Pull c)) w e h = kept_pulled w c h
 kept_done (Asked (Arrive x n)) w e h = kept_open (exchange w x) w _ (λ y. kept_arrived w y n h) h
 kept_done (Asked (Answer x)) w e h = kept_open (exchange w x) w _ (λ y. kept_answered w y h) h
-kept_done (Asked (Done x heard)) w e h = kept_open (exchange w x) w _ (λ y. kept_ended w y heard h) h
+kept_done (Asked (Done x heard air)) w e h = kept_open (exchange w x) w _ (λ y. kept_ended air w y heard h) h
 kept_done (Asked (Sleep s)) w e h = set_station w s _
     (λ x _ k. record {
       weight = k.weight;

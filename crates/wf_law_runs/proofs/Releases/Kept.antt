@@ -209,10 +209,11 @@ keep_without w e = record {
       λ s. refl;
 }
 
-pub keep_ended : (w : World) (x : Exchange) (heard : Bool) → Kept w (done_outcome w x heard).world
+pub keep_ended : (air : Option ℕ) (w : World) (x : Exchange) (heard : Bool) →
+    Kept w (done_outcome w x heard air).world
 unfolding done_outcome
-keep_ended w x heard = then_keep w _ _ (keep_without w x.number)
-    (then_keep _ _ _ (kept_same _ _ (same_charged (without_exchange w x.number) x))
+keep_ended air w x heard = then_keep w _ _ (keep_without w x.number)
+    (then_keep _ _ _ (kept_same _ _ (same_charged air (without_exchange w x.number) x))
     (keep_after_done x.content _ x heard))
 
 pub keep_answered : (w : World) (x : Exchange) → Kept w (answer_outcome w x).world

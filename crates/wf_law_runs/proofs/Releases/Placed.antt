@@ -344,21 +344,23 @@ pub placed_without : (l : List ℕ) (w : World) (e : ℕ) → Placing l w → Pl
 unfolding without_exchange
 placed_without l w e p = placed_less l w _ (less_plain Any w _ refl refl) (λ s t. refl) p
 
-pub placed_after : (c : Content) (l : List ℕ) (w : World) (i : IsLawful w) (x : Exchange) (heard : Bool) →
-    x.content ≡ c → IsFound w i x → Placing l (after_charge (without_exchange w x.number) x) →
-    Placing l (after_done (after_charge (without_exchange w x.number) x) x heard c)
+pub placed_after : (air : Option ℕ) (c : Content) (l : List ℕ) (w : World) (i : IsLawful w)
+    (x : Exchange) (heard : Bool) →
+    x.content ≡ c → IsFound w i x → Placing l (after_charge (without_exchange w x.number) x air) →
+    Placing l (after_done (after_charge (without_exchange w x.number) x air) x heard c)
 unfolding after_done
-placed_after (Frames ms) l w i x heard e f p =
-    placed_all ms l x.number x.station x.tid (is_acked heard x.answer) _ (ending_of w i x ms heard e f) p
-placed_after (Request g) l w i x heard e f p =
+placed_after air (Frames ms) l w i x heard e f p =
+    placed_all ms l x.number x.station x.tid (is_acked heard x.answer) _ (ending_of air w i x ms heard e f) p
+placed_after air (Request g) l w i x heard e f p =
     placed_session l _ x.station x.tid (with_heard_start heard g) (kept_heard heard g _)
     (next-heard heard g _) p
 
-pub placed_ended : (l : List ℕ) (w : World) (i : IsLawful w) (x : Exchange) (heard : Bool) → IsFound w i x →
-    Placing l w → Placing l (done_outcome w x heard).world
+pub placed_ended : (air : Option ℕ) (l : List ℕ) (w : World) (i : IsLawful w) (x : Exchange) (heard : Bool) →
+    IsFound w i x →
+    Placing l w → Placing l (done_outcome w x heard air).world
 unfolding done_outcome
-placed_ended l w i x heard f p = placed_after x.content l w i x heard refl f
-    (placed_same l _ _ (same_charged _ x) (less_charged Any _ x) (placed_without l w x.number p))
+placed_ended air l w i x heard f p = placed_after air x.content l w i x heard refl f
+    (placed_same l _ _ (same_charged air _ x) (less_charged air Any _ x) (placed_without l w x.number p))
 
 -- ---- arrivals
 
@@ -821,12 +823,12 @@ unfolding outcome_of enqueue_outcome join_outcome leave_outcome rate_outcome tic
 named_done (Enqueue s t flow len) w = inl refl
 named_done (Asked (Join s window start exponent weight)) w = inl refl
 named_done (Asked (Leave s)) w = inl refl
-named_done (Asked (Rate s mcs mhz short)) w = inl refl
+named_done (Asked (Rate s rate)) w = inl refl
 named_done (Asked (Tick by)) w = inl refl
 named_done (Asked (Pull c)) w = inl (named_pulled_by (picked_station w c).winner (after_pick w c) c)
 named_done (Asked (Arrive e n)) w = inr (e, n, refl)
 named_done (Asked (Answer e)) w = inl (named_open (exchange w e) w _ (λ x. refl))
-named_done (Asked (Done e heard)) w = inl (named_open (exchange w e) w _ (λ x. refl))
+named_done (Asked (Done e heard air)) w = inl (named_open (exchange w e) w _ (λ x. refl))
 named_done (Asked (Sleep s)) w = inl refl
 named_done (Asked (Wake s)) w = inl refl
 named_done (Asked (Poll s)) w = inl refl
@@ -841,7 +843,7 @@ placed_call (Enqueue s t flow len) l w i e p r = placed_enqueued l w s t flow le
 placed_call (Asked (Join s window start exponent weight)) l w i e p r =
     placed_joined l w s window start exponent weight p
 placed_call (Asked (Leave s)) l w i e p r = placed_gone l w s p
-placed_call (Asked (Rate s mcs mhz short)) l w i e p r = placed_on_station l w s _ (λ x t. refl) p
+placed_call (Asked (Rate s rate)) l w i e p r = placed_on_station l w s _ (λ x t. refl) p
 placed_call (Asked (Tick by)) l w i e p r = placed_less l w _ (less_plain Any w _ refl refl) (λ s t. refl) p
 placed_call (Asked (Pull c)) l w i e p r = placed_pulled l w c i p
 placed_call (Asked (Arrive x n)) l w i e p r =
@@ -851,9 +853,9 @@ placed_call (Asked (Arrive x n)) l w i e p r =
     (if_on (exchange w x) (λ y. nat_le (transmissions y.content) n) e.1.0) p)
 placed_call (Asked (Answer x)) l w i e p r = placed_open (λ _. Unit {0}) (λ _. Unit {0}) (exchange w x) l w _
     (any_some (exchange w x)) (λ y _. placed_answered l w y p) p
-placed_call (Asked (Done x heard)) l w i e p r =
+placed_call (Asked (Done x heard air)) l w i e p r =
     placed_open (IsFound w i) (λ _. Unit {0}) (exchange w x) l w _ (found w i x)
-    (λ y f. placed_ended l w i y heard f p) p
+    (λ y f. placed_ended air l w i y heard f p) p
 placed_call (Asked (Sleep s)) l w i e p r = placed_on_station l w s _ (λ x t. refl) p
 placed_call (Asked (Wake s)) l w i e p r = placed_on_station l w s _ (λ x t. refl) p
 placed_call (Asked (Poll s)) l w i e p r = placed_on_station l w s _ (λ x t. refl) p

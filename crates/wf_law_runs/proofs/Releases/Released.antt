@@ -10,6 +10,7 @@ use Rattle.wf_frame.specs.Classes.{all_classes}
 use Rattle.wf_def_world.specs.CanSend.{with_listings_of}
 use Rattle.wf_def_world.specs.Exchanges.{transmissions, no_mpdu, after_arrival, mpdus_of, ids_of}
 use Rattle.wf_frame.specs.declared.notes.Ask.TheVariants.{Join, Leave, Rate, Tick, Pull, Arrive, Answer, Done, Sleep, Wake, Poll, Rx, Reap}
+use Rattle.wf_frame.specs.declared.notes.AskedRate.{AskedRate}
 use Rattle.wf_frame.specs.declared.notes.Note.{Note}
 use Rattle.wf_frame.specs.declared.notes.Note.TheVariants.{Enqueue, Asked}
 use Rattle.wf_frame.specs.declared.notes.Refusal.{Refusal}
@@ -290,9 +291,9 @@ keep_station : (w : World) (s : ℕ) (f : Station → Station) →
     Kept w (on_station w s f)
 keep_station w s f h = kept_same w _ (same_on_station w s f h)
 
-pub keep_rate : (w : World) (a mcs mhz : ℕ) (short : Bool) → Kept w (rate_outcome w a mcs mhz short).world
+pub keep_rate : (w : World) (a : ℕ) (rate : AskedRate) → Kept w (rate_outcome w a rate).world
 unfolding rate_outcome
-keep_rate w a mcs mhz short = keep_station w a _ (λ x t. refl)
+keep_rate w a rate = keep_station w a _ (λ x t. refl)
 
 pub keep_tick : (w : World) (by : ℕ) → Kept w (tick_outcome w by).world
 unfolding tick_outcome
@@ -334,9 +335,9 @@ passed_done (Asked (Join a window start exponent weight)) w i s t l e h =
     joins_by w a window start exponent weight s t l h
 passed_done (Asked (Leave a)) w i s t l e h =
     passed_quiet w (Asked (Leave a)) (leave_outcome w a) s t l refl refl (passed_gone w a s t l h)
-passed_done (Asked (Rate a mcs mhz short)) w i s t l e h =
-    passed_quiet w (Asked (Rate a mcs mhz short)) (rate_outcome w a mcs mhz short) s t l refl refl
-    (passed_kept w _ s t l i (keep_rate w a mcs mhz short) h)
+passed_done (Asked (Rate a rate)) w i s t l e h =
+    passed_quiet w (Asked (Rate a rate)) (rate_outcome w a rate) s t l refl refl
+    (passed_kept w _ s t l i (keep_rate w a rate) h)
 passed_done (Asked (Tick by)) w i s t l e h =
     passed_quiet w (Asked (Tick by)) (tick_outcome w by) s t l refl refl
     (passed_kept w _ s t l i (keep_tick w by) h)
@@ -348,9 +349,10 @@ passed_done (Asked (Arrive x n)) w i s t l r h =
 passed_done (Asked (Answer x)) w i s t l e h =
     passed_quiet w (Asked (Answer x)) (outcome_where_open w (exchange w x) (λ y. answer_outcome w y)) s t l
     refl refl (passed_kept w _ s t l i (keep_open (exchange w x) w _ (keep_answered w)) h)
-passed_done (Asked (Done x heard)) w i s t l e h =
-    passed_quiet w (Asked (Done x heard)) (outcome_where_open w (exchange w x) (λ y. done_outcome w y heard))
-    s t l refl refl (passed_kept w _ s t l i (keep_open (exchange w x) w _ (λ y. keep_ended w y heard)) h)
+passed_done (Asked (Done x heard air)) w i s t l e h =
+    passed_quiet w (Asked (Done x heard air))
+    (outcome_where_open w (exchange w x) (λ y. done_outcome w y heard air))
+    s t l refl refl (passed_kept w _ s t l i (keep_open (exchange w x) w _ (λ y. keep_ended air w y heard)) h)
 passed_done (Asked (Sleep a)) w i s t l e h =
     passed_quiet w (Asked (Sleep a)) (sleep_outcome w a) s t l refl refl
     (passed_kept w _ s t l i (keep_slept w a) h)

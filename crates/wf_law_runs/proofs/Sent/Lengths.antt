@@ -592,12 +592,12 @@ stocked_arrived most w x n a i =
     (ap (map (λ y. if y.number == z.number then z else y))
     (opened_on_receiver w x.station x.tid (after_arrival x.content n))) a i
 
-stocked_ended : (most : ℕ) (w : World) (x : Exchange) (heard : Bool) → IsStocked most w →
-    IsStocked most (done_outcome w x heard).world
-stocked_ended most w x heard i =
-    stocked_sifted most (shelves w) (shelves (done_outcome w x heard).world)
-    (without_exchange w x.number).opened _ (sifted_is _ _ (shelves_ended w x heard))
-    (opened_ended w x heard)
+stocked_ended : (air : Option ℕ) (most : ℕ) (w : World) (x : Exchange) (heard : Bool) → IsStocked most w →
+    IsStocked most (done_outcome w x heard air).world
+stocked_ended air most w x heard i =
+    stocked_sifted most (shelves w) (shelves (done_outcome w x heard air).world)
+    (without_exchange w x.number).opened _ (sifted_is _ _ (shelves_ended air w x heard))
+    (opened_ended air w x heard)
     (record {
       short = i.short;
       measured = i.measured;
@@ -649,7 +649,7 @@ stocked_done most (Asked (Join s window start exponent weight)) l w e a k i =
     stocked_joined most w s window start exponent weight i
 stocked_done most (Asked (Leave s)) l w e a k i =
     stocked_sifted most (shelves w) _ w.opened _ (sifted_gone w s (not-false _ e.1.0)) (opened_gone w s) i
-stocked_done most (Asked (Rate s mcs mhz short)) l w e a k i =
+stocked_done most (Asked (Rate s rate)) l w e a k i =
     stocked_on_station most w s _ (λ x. refl) (λ x t. refl) i
 stocked_done most (Asked (Tick by)) l w e a k i =
     record { short = i.short; measured = i.measured; lens = i.lens }
@@ -660,9 +660,9 @@ stocked_done most (Asked (Arrive x n)) l w e a k i =
 stocked_done most (Asked (Answer x)) l w e a k i =
     stocked_open most (λ y. AreMeasured (shelves w).notes (mpdus_of y.content)) (exchange w x) w _
     (measured_open most w x i) (λ y b. stocked_answered most w y b i) i
-stocked_done most (Asked (Done x heard)) l w e a k i =
+stocked_done most (Asked (Done x heard air)) l w e a k i =
     stocked_open most (λ y. AreMeasured (shelves w).notes (mpdus_of y.content)) (exchange w x) w _
-    (measured_open most w x i) (λ y _. stocked_ended most w y heard i) i
+    (measured_open most w x i) (λ y _. stocked_ended air most w y heard i) i
 stocked_done most (Asked (Sleep s)) l w e a k i = stocked_on_station most w s _ (λ x. refl) (λ x t. refl) i
 stocked_done most (Asked (Wake s)) l w e a k i = stocked_on_station most w s _ (λ x. refl) (λ x t. refl) i
 stocked_done most (Asked (Poll s)) l w e a k i = stocked_on_station most w s _ (λ x. refl) (λ x t. refl) i

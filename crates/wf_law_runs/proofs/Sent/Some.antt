@@ -324,8 +324,10 @@ unfolding arrive_outcome with_exchange
 some_arrived w x n a h = some_replaced w (record x { arrived = with_member n x.arrived }) _
     (opened_on_receiver w x.station x.tid (after_arrival x.content n)) a h
 
-some_ended : (w : World) (x : Exchange) (heard : Bool) → AllSome w → AllSome (done_outcome w x heard).world
-some_ended w x heard h = subst (Each HasSome) (sym (opened_ended w x heard)) (filtered w x.number HasSome h)
+some_ended : (air : Option ℕ) (w : World) (x : Exchange) (heard : Bool) → AllSome w →
+    AllSome (done_outcome w x heard air).world
+some_ended air w x heard h = subst (Each HasSome) (sym (opened_ended air w x heard))
+    (filtered w x.number HasSome h)
 
 some_open : (o : Option Exchange) (w : World) (f : Exchange → Outcome) → IfSome o HasSome
     → ((x : Exchange) → HasSome x → AllSome (f x).world) → AllSome w →
@@ -356,7 +358,7 @@ some_done (Enqueue s t flow len) w l a h = some_opened w (enqueue_outcome w s t 
 some_done (Asked (Join s window start exponent weight)) w l a h =
     some_joined w s window start exponent weight h
 some_done (Asked (Leave s)) w l a h = some_opened w (leave_outcome w s).world (opened_gone w s) h
-some_done (Asked (Rate s mcs mhz short)) w l a h =
+some_done (Asked (Rate s rate)) w l a h =
     subst (Each HasSome) (sym (same_on_station w s _ (λ x t. refl)).opened) h
 some_done (Asked (Tick by)) w l a h = h
 some_done (Asked (Pull c)) w l a h = some_pulled w c l a h
@@ -364,8 +366,8 @@ some_done (Asked (Arrive x n)) w l a h = some_open (exchange w x) w _ (found_som
     (λ y k. some_arrived w y n k h) h
 some_done (Asked (Answer x)) w l a h = some_open (exchange w x) w _ (found_some w x h)
     (λ y k. some_answered w y k h) h
-some_done (Asked (Done x heard)) w l a h = some_open (exchange w x) w _ (found_some w x h)
-    (λ y k. some_ended w y heard h) h
+some_done (Asked (Done x heard air)) w l a h = some_open (exchange w x) w _ (found_some w x h)
+    (λ y k. some_ended air w y heard h) h
 some_done (Asked (Sleep s)) w l a h = subst (Each HasSome)
     (sym (same_on_station w s _ (λ x t. refl)).opened) h
 some_done (Asked (Wake s)) w l a h = subst (Each HasSome) (sym (same_on_station w s _ (λ x t. refl)).opened) h

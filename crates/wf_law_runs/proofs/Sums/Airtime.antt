@@ -11,7 +11,7 @@ use Rattle.wf_frame.specs.declared.notes.Refusal.TheVariants.{Idle}
 use Rattle.wf_def_lists.specs.Table.{at}
 use Rattle.wf_def_world.specs.World.{World, Station, Share, Exchange, no_share, no_station, share, is_live, exchange, opening}
 use Rattle.wf_frame.specs.Classes.{class_number, same_class}
-use Rattle.wf_def_world.specs.Exchanges.{picked_station}
+use Rattle.wf_def_world.specs.Exchanges.{picked_station, charge_of}
 use Rattle.wf_def_world.specs.Refusals.{refusal}
 use Rattle.wf_def_world.specs.Step.{Outcome, tick_outcome, done_outcome, rx_outcome, outcome_where_open, outcome_of, after_refusal, judged_outcome, step}
 use Rattle.wf_def_world.specs.Run.{Entry, world_after}
@@ -163,14 +163,15 @@ sending_refused _ r w s c h = refl
 still : (c : Class) (p q : ℕ) (o : Option Account) → HasSum c p q o → HasSum c (p + 0) (q + 0) o
 still c p q o k = sum_is c p q (p + 0) (q + 0) o (omega arith) (omega arith) k
 
-sum_ended : (w : World) (x : Exchange) (heard : Bool) (c : Class) (p q s : ℕ) →
-    HasSum c p q ((books w).accounts s) → HasSum c (p + charge_to s c (Some x)) (q + 0)
-    ((books (done_outcome w x heard).world).accounts s)
-sum_ended w x heard c p q s k =
+sum_ended : (air : Option ℕ) (w : World) (x : Exchange) (heard : Bool) (c : Class) (p q s : ℕ) →
+    HasSum c p q ((books w).accounts s) → HasSum c (p + charge_to s c air (Some x)) (q + 0)
+    ((books (done_outcome w x heard air).world).accounts s)
+sum_ended air w x heard c p q s k =
     let none : (if (x.station == s) && same_class x.class c then 0 else 0) ≡ 0 = nothing_if _ in
-    let part = sum_part c x.class p q s x.station x.charge 0 (books w) (charge_share x.charge)
+    let part = sum_part c x.class p q s x.station (charge_of air x) 0 (books w)
+    (charge_share (charge_of air x))
     (λ y a. record { charged = omega (arith, a.charged); received = omega (arith, a.received) }) k in
-    sum_books c _ _ s _ _ (books_ended w x heard) (sum_is c _ _ _ _ _ refl (omega (arith, none)) part)
+    sum_books c _ _ s _ _ (books_ended air w x heard) (sum_is c _ _ _ _ _ refl (omega (arith, none)) part)
 
 sum_received : (w : World) (i : ℕ) (d : Class) (air : ℕ) (c : Class) (p q s : ℕ) →
     HasSum c p q ((books w).accounts s) → HasSum c (p + 0)
@@ -201,9 +202,9 @@ sum_done (Asked (Join i window start exponent weight)) w c p q s k h =
     (sum_joined c p q s i w.config.quantum weight (books w) h))
 sum_done (Asked (Leave i)) w c p q s k h = still c p q _
     (sum_books c p q s _ _ (books_gone w i) (sum_gone c p q s i (books w) h))
-sum_done (Asked (Rate i mcs mhz short)) w c p q s k h =
-    still c p q _ (sum_books c p q s _ _ (books_with_rate w i mcs mhz short)
-    (sum_on c p q s i (books w) (rated mcs mhz short) (λ a z. z) h))
+sum_done (Asked (Rate i rate)) w c p q s k h =
+    still c p q _ (sum_books c p q s _ _ (books_with_rate w i rate)
+    (sum_on c p q s i (books w) (rated rate) (λ a z. z) h))
 sum_done (Asked (Tick by)) w c p q s k h = still c p q _ h
 sum_done (Asked (Pull d)) w c p q s k h = still c p q _
     (sum_calm c p q s _ _ (calm_pulled w d) (sum_after c p q s w d h))
@@ -212,9 +213,9 @@ sum_done (Asked (Arrive e j)) w c p q s k h =
     (λ x f. still c p q _ (sum_books c p q s _ _ (books_arrived w e j x k f) h))
 sum_done (Asked (Answer e)) w c p q s k h = sum_open w e (exchange w e) _ c p q s (λ _. 0) refl refl h
     (λ x f. still c p q _ (sum_books c p q s _ _ (books_answered w e x k f) h))
-sum_done (Asked (Done e heard)) w c p q s k h =
-    sum_open w e (exchange w e) _ c p q s (λ o. charge_to s c o) refl refl h
-    (λ x f. sum_ended w x heard c p q s h)
+sum_done (Asked (Done e heard air)) w c p q s k h =
+    sum_open w e (exchange w e) _ c p q s (λ o. charge_to s c air o) refl refl h
+    (λ x f. sum_ended air w x heard c p q s h)
 sum_done (Asked (Sleep i)) w c p q s k h = still c p q _ (sum_books c p q s _ _ (books_slept w i) h)
 sum_done (Asked (Wake i)) w c p q s k h = still c p q _ (sum_books c p q s _ _ (books_woken w i) h)
 sum_done (Asked (Poll i)) w c p q s k h = still c p q _ (sum_books c p q s _ _ (books_credited w i) h)

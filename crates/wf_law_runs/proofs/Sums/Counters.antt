@@ -166,9 +166,10 @@ module _ (a b : ℕ) where
   kept_after_done (Frames mpdus) w x heard h = kept_all_settled mpdus w _ _ _ h
   kept_after_done (Request start) w x heard h = kept_session w _ _ _ h
 
-  kept_ended : (w : World) (x : Exchange) (heard : Bool) → Counts w → Counts (done_outcome w x heard).world
+  kept_ended : (air : Option ℕ) (w : World) (x : Exchange) (heard : Bool) → Counts w →
+      Counts (done_outcome w x heard air).world
   unfolding done_outcome after_charge without_exchange
-  kept_ended w x heard h = kept_after_done x.content _ x heard (kept_share _ x.station x.class _ h)
+  kept_ended air w x heard h = kept_after_done x.content _ x heard (kept_share _ x.station x.class _ h)
 
   kept_arrived : (w : World) (x : Exchange) (n : ℕ) → Counts w → Counts (arrive_outcome w x n).world
   unfolding arrive_outcome with_exchange on_receiver
@@ -249,15 +250,15 @@ unfolding outcome_of join_outcome rate_outcome sleep_outcome wake_outcome poll_o
 kept_done a b (Enqueue s t flow len) w e h = more a b _ _ (kept_enqueued a b w s t flow len h)
 kept_done a b (Asked (Join s window start exponent weight)) w e h = more a b _ _ (put_station a b w s _ h)
 kept_done a b (Asked (Leave s)) w e h = more a b _ _ (kept_gone a b w s h)
-kept_done a b (Asked (Rate s mcs mhz short)) w e h = more a b _ _ (set_station a b w s _ h)
+kept_done a b (Asked (Rate s rate)) w e h = more a b _ _ (set_station a b w s _ h)
 kept_done a b (Asked (Tick by)) w e h = ticked a b by w e.0 h
 kept_done a b (Asked (Pull c)) w e h = kept_pulled a b w c h
 kept_done a b (Asked (Arrive x n)) w e h = more a b _ _
     (kept_open a b (exchange w x) w _ (λ y. kept_arrived a b w y n h) h)
 kept_done a b (Asked (Answer x)) w e h = more a b _ _
     (kept_open a b (exchange w x) w _ (λ y. kept_answered a b w y h) h)
-kept_done a b (Asked (Done x heard)) w e h = more a b _ _
-    (kept_open a b (exchange w x) w _ (λ y. kept_ended a b w y heard h) h)
+kept_done a b (Asked (Done x heard air)) w e h = more a b _ _
+    (kept_open a b (exchange w x) w _ (λ y. kept_ended a b air w y heard h) h)
 kept_done a b (Asked (Sleep s)) w e h = more a b _ _ (set_station a b w s _ h)
 kept_done a b (Asked (Wake s)) w e h = more a b _ _ (set_station a b w s _ h)
 kept_done a b (Asked (Poll s)) w e h = more a b _ _ (set_station a b w s _ h)

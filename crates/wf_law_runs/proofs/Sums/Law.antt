@@ -15,18 +15,18 @@ use Rattle.wf_def_world.specs.Refusals.{refusals, refusal}
 use Rattle.wf_def_world.specs.Step.{step}
 use Rattle.wf_def_world.specs.Run.{Entry, world_after}
 use Rattle.wf_def_world.specs.Stretches.{world_at, charge_to, charge_by}
-use Rattle.wf_law_runs.specs.Windows.{EachOpen}
 use Rattle.wf_law_runs.specs.Numbers.{greatest_charge}
 use Rattle.wf_law_runs.specs.Sums.{since_join, air_by, charged_over, received_over, SumLaw}
 use Rattle.wf_law_rules.proofs.Lemmas.Numbers.{le_yes}
-use Rattle.wf_law_runs.proofs.Windows.Opened.{NoRow, no_row, each_find}
+use Rattle.wf_law_runs.proofs.Windows.Opened.{NoRow, no_row}
 use Rattle.wf_law_runs.proofs.Deficits.Books.{books}
 use Rattle.wf_law_runs.proofs.Deficits.Kept.{IsKept}
-use Rattle.wf_law_runs.proofs.Deficits.KeptStep.{kept_step, kept_opening}
-use Rattle.wf_law_runs.proofs.Deficits.Numbers.{charged_within}
+use Rattle.wf_law_runs.proofs.Deficits.KeptStep.{kept_step, kept_opening, charge_within}
+use Rattle.wf_law_runs.proofs.Deficits.Numbers.{longest_within}
 use Rattle.wf_law_runs.proofs.Frames.Fates.{brought, Steady, steady_step, steady_first, counted_step}
 use Rattle.wf_law_runs.proofs.Sums.Counters.{counts_step}
 use Rattle.wf_law_runs.proofs.Sums.Airtime.{HasAdded, added}
+use Rattle.wf_def_world.specs.Exchanges.{charge_of}
 
 -- ---- the clock and the counts
 
@@ -87,20 +87,32 @@ since_less (Asked (Join i window start exponent weight)) w s n =
     go false = omega arith
 since_less _ w s n = omega arith
 
-charge_most : (s : ℕ) (c : Class) (o : Option Exchange) → IfSome o (λ x. x.charge ≤ greatest_charge) →
-    charge_to s c o ≤ greatest_charge
-charge_most s c None h = omega arith
-charge_most s c (Some x) h = at_most_if ((x.station == s) && same_class x.class c) x.charge greatest_charge h
+charge_most : (air : Option ℕ) (s : ℕ) (c : Class) (o : Option Exchange) →
+    IfSome o (λ x. charge_of air x ≤ greatest_charge) → charge_to s c air o ≤ greatest_charge
+charge_most air s c None h = omega arith
+charge_most air s c (Some x) h =
+    at_most_if ((x.station == s) && same_class x.class c) (charge_of air x) greatest_charge h
+
+if_found : (P : Exchange → Type 0) (o : Option Exchange) → ((x : Exchange) → o ≡ Some x → P x) → IfSome o P
+if_found P None h = tt
+if_found P (Some x) h = h x refl
+
+unless_refused : (o : Option Refusal) (m n : ℕ) → (o ≡ None → m ≤ n) → (if is_none o then m else 0) ≤ n
+unless_refused None m n h = h refl
+unless_refused (Some r) m n h = omega arith
 
 -- a call charges the greatest charge at most
 charge_step : (note : Note) (w : World) (s : ℕ) (c : Class) → IsKept (books w) →
     charge_by w s c note ≤ greatest_charge
-charge_step (Asked (Done e heard)) w s c k =
-    let within : EachOpen (λ x. (1 ≤ x.charge) × (x.charge ≤ greatest_charge)) w.opened =
-    charged_within (books w) w.opened (omega (arith, k.range.cap.1)) k.opens in
-    at_most_if (is_none (refusal w (Asked (Done e heard)))) (charge_to s c (exchange w e)) greatest_charge
-    (charge_most s c (exchange w e) (each_find (λ x. (1 ≤ x.charge) × (x.charge ≤ greatest_charge))
-    (λ x. x.charge ≤ greatest_charge) (λ x. x.number == e) w.opened (λ x _ h. h.1) within))
+charge_step (Asked (Done e heard air)) w s c k =
+    unless_refused (refusal w (Asked (Done e heard air))) (charge_to s c air (exchange w e)) greatest_charge
+    (λ fine. charge_most air s c (exchange w e)
+    (if_found (λ x. charge_of air x ≤ greatest_charge) (exchange w e)
+    (λ x found. omega (
+      arith,
+      charge_within w e x air k found (no_row (refusals w (Asked (Done e heard air))) fine).1.1.0,
+      longest_within w.config k.range,
+    ))))
 charge_step _ w s c k = omega arith
 
 air_row : (s i : ℕ) (d c : Class) (air : ℕ) (w : World) (r : Option Refusal) →

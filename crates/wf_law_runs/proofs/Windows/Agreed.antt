@@ -824,12 +824,12 @@ open_heard_start true x y r f h o = open_heard x y r (max y.heard f) h o
 open_heard_start false x y r f h o = o
 
 -- the world in which the exchange has ended, and its charge is made
-pub ending_of : (w : World) (i : IsLawful w) (x : Exchange) (ms : List Mpdu) (heard : Bool) →
+pub ending_of : (air : Option ℕ) (w : World) (i : IsLawful w) (x : Exchange) (ms : List Mpdu) (heard : Bool) →
     x.content ≡ Frames ms → IsFound w i x → IsEnding x.number x.station x.tid (is_acked heard x.answer)
-    (after_charge (without_exchange w x.number) x) ms
-ending_of w i x ms heard e f =
+    (after_charge (without_exchange w x.number) x air) ms
+ending_of air w i x ms heard e f =
     ending_same x.number x.station x.tid (is_acked heard x.answer) (without_exchange w x.number) _ ms
-    (same_charged (without_exchange w x.number) x) (record {
+    (same_charged air (without_exchange w x.number) x) (record {
       lawful = lawful_without w i x.number;
       others = others_without w i x.number;
       flies = subst (λ (a : Side). FlyIn x.number ms a.session)
@@ -893,10 +893,11 @@ ended_by (Request g) w i x heard v e f told k =
     (λ y b silent s t o. open_heard_start heard y (session v x.station x.tid) (receiver v x.station x.tid) g
     (silent_of x.station x.tid y s t silent) o) lawful
 
-pub lawful_ended : (w : World) (i : IsLawful w) (x : Exchange) (heard : Bool) → IsFound w i x →
-    (heard ≡ true → is_some x.answer ≡ true) → IsLawful (done_outcome w x heard).world
+pub lawful_ended : (air : Option ℕ) (w : World) (i : IsLawful w) (x : Exchange) (heard : Bool) →
+    IsFound w i x →
+    (heard ≡ true → is_some x.answer ≡ true) → IsLawful (done_outcome w x heard air).world
 unfolding done_outcome
-lawful_ended w i x heard f told = ended_by x.content w i x heard _ refl f told (same_charged _ x)
+lawful_ended air w i x heard f told = ended_by x.content w i x heard _ refl f told (same_charged air _ x)
 
 -- ---- joining and leaving
 
@@ -1027,7 +1028,7 @@ lawful_done (Enqueue s t flow len) w e i = lawful_enqueued w s t flow len i
 lawful_done (Asked (Join s window start exponent weight)) w e i =
     lawful_joined w s window start exponent weight e.1.1.1.1.1.0 i
 lawful_done (Asked (Leave s)) w e i = lawful_gone w s e.1.1.0 i
-lawful_done (Asked (Rate s mcs mhz short)) w e i = lawful_on_station w s _ (λ x t. refl) i
+lawful_done (Asked (Rate s rate)) w e i = lawful_on_station w s _ (λ x t. refl) i
 lawful_done (Asked (Tick by)) w e i = lawful_plain w _ refl refl refl i
 lawful_done (Asked (Pull c)) w e i = lawful_pulled w c i
 lawful_done (Asked (Arrive e n)) w r i = lawful_on_open (IsFound w i)
@@ -1040,9 +1041,9 @@ lawful_done (Asked (Arrive e n)) w r i = lawful_on_open (IsFound w i)
 lawful_done (Asked (Answer e)) w r i = lawful_on_open (IsFound w i) (λ x. (length x.arrived == 0) ≡ false)
     (exchange w e) w _ (found w i e) (if_on (exchange w e) (λ x. length x.arrived == 0) r.1.1.0) i
     (λ x f g. lawful_answered w i x f g)
-lawful_done (Asked (Done e heard)) w r i = lawful_on_open (IsFound w i)
+lawful_done (Asked (Done e heard air)) w r i = lawful_on_open (IsFound w i)
     (λ x. heard ≡ true → is_some x.answer ≡ true) (exchange w e) w _ (found w i e)
-    (heard_told (exchange w e) heard r.1.0) i (λ x f g. lawful_ended w i x heard f g)
+    (heard_told (exchange w e) heard r.1.0) i (λ x f g. lawful_ended air w i x heard f g)
 lawful_done (Asked (Sleep s)) w e i = lawful_on_station w s _ (λ x t. refl) i
 lawful_done (Asked (Wake s)) w e i = lawful_on_station w s _ (λ x t. refl) i
 lawful_done (Asked (Poll s)) w e i = lawful_on_station w s _ (λ x t. refl) i

@@ -244,13 +244,14 @@ marked_answered w i x a some h =
       }) (λ y _ m. record { arrived = m.arrived; answered = m.answered }) h.marks;
     }
 
-marked_ended : (w : World) (x : Exchange) (heard : Bool) → Marked w → Marked (done_outcome w x heard).world
-marked_ended w x heard h =
-    let v : World = (done_outcome w x heard).world in
+marked_ended : (air : Option ℕ) (w : World) (x : Exchange) (heard : Bool) → Marked w →
+    Marked (done_outcome w x heard air).world
+marked_ended air w x heard h =
+    let v : World = (done_outcome w x heard air).world in
     record {
-      marks = subst (Each (IsMarked v)) (sym (opened_ended w x heard))
+      marks = subst (Each (IsMarked v)) (sym (opened_ended air w x heard))
           (filtered w x.number (IsMarked v) (each_map (IsMarked w) (IsMarked v) w.opened
-          (λ y a. still_marked w v y (grown_kept w v (keep_ended w x heard)) a) h.marks));
+          (λ y a. still_marked w v y (grown_kept w v (keep_ended air w x heard)) a) h.marks));
     }
 
 -- ---- joining and leaving
@@ -309,7 +310,7 @@ marked_done (Enqueue s t flow len) w i r h = marked_same w _ (same_enqueued w s 
 marked_done (Asked (Join s window start exponent weight)) w i r h =
     marked_joined w s window start exponent weight r.1.1.1.1.1.0 i h
 marked_done (Asked (Leave s)) w i r h = marked_gone w s r.1.1.0 h
-marked_done (Asked (Rate s mcs mhz short)) w i r h = marked_same w _ (same_on_station w s _ (λ x t. refl)) h
+marked_done (Asked (Rate s rate)) w i r h = marked_same w _ (same_on_station w s _ (λ x t. refl)) h
 marked_done (Asked (Tick by)) w i r h = marked_kept w _ (keep_plain w _ refl) refl h
 marked_done (Asked (Pull c)) w i r h = marked_pulled w c i h
 marked_done (Asked (Arrive e n)) w i r h = marked_open
@@ -326,8 +327,8 @@ marked_done (Asked (Answer e)) w i r h = marked_open (λ x. IsRead w x × ((leng
     (both_some (IsRead w) (λ x. (length x.arrived == 0) ≡ false) (exchange w e) (read w i h e)
     (if_on (exchange w e) (λ x. length x.arrived == 0) r.1.1.0))
     h (λ x f. marked_answered w i x f.0.marked f.1 h)
-marked_done (Asked (Done e heard)) w i r h = marked_open (IsRead w) (exchange w e) w _ (read w i h e) h
-    (λ x f. marked_ended w x heard h)
+marked_done (Asked (Done e heard air)) w i r h = marked_open (IsRead w) (exchange w e) w _ (read w i h e) h
+    (λ x f. marked_ended air w x heard h)
 marked_done (Asked (Sleep s)) w i r h = marked_same w _ (same_on_station w s _ (λ x t. refl)) h
 marked_done (Asked (Wake s)) w i r h = marked_same w _ (same_on_station w s _ (λ x t. refl)) h
 marked_done (Asked (Poll s)) w i r h = marked_same w _ (same_on_station w s _ (λ x t. refl)) h

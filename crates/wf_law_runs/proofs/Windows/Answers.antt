@@ -122,12 +122,12 @@ module _ (e : ℕ) (b : Score) (s t : ℕ) (c : Content) where
       (exchanges_on_receiver w x.station x.tid (after_arrival x.content n))
       (λ k. absurd (other_one x f none k)) h
 
-  standing_ended : (w : World) (x : Exchange) (heard : Bool) → IsStanding e b s t c w →
-      IsStanding e b s t c (done_outcome w x heard).world
-  standing_ended w x heard h = record {
-    below = omega (arith, h.below, exchanges_ended w x heard);
+  standing_ended : (air : Option ℕ) (w : World) (x : Exchange) (heard : Bool) → IsStanding e b s t c w →
+      IsStanding e b s t c (done_outcome w x heard air).world
+  standing_ended air w x heard h = record {
+    below = omega (arith, h.below, exchanges_ended air w x heard);
     stands =
-        subst (Each AsThen) (sym (opened_ended w x heard)) (filtered w x.number AsThen h.stands);
+        subst (Each AsThen) (sym (opened_ended air w x heard)) (filtered w x.number AsThen h.stands);
   }
 
   standing_with_station : (w : World) (i : ℕ) (o : Option Station) → IsStanding e b s t c w →
@@ -175,7 +175,7 @@ module _ (e : ℕ) (b : Score) (s t : ℕ) (c : Content) where
   standing_done (Asked (Join i window start exponent weight)) w l r h =
       standing_joined w i window start exponent weight h
   standing_done (Asked (Leave i)) w l r h = standing_gone w i h
-  standing_done (Asked (Rate i mcs mhz short)) w l r h = standing_station w i _ (λ x t. refl) h
+  standing_done (Asked (Rate i rate)) w l r h = standing_station w i _ (λ x t. refl) h
   standing_done (Asked (Tick by)) w l r h = standing_plain w _ refl refl h
   standing_done (Asked (Pull d)) w l r h = standing_pulled w d l h
   standing_done (Asked (Arrive x n)) w l r h = standing_open AsThen (λ y. is_some y.answer ≡ false)
@@ -184,9 +184,9 @@ module _ (e : ℕ) (b : Score) (s t : ℕ) (c : Content) where
   standing_done (Asked (Answer x)) w l r h = standing_open AsThen (λ y. is_some y.answer ≡ false)
       (exchange w x) w _ (found_then w x h) (if_on (exchange w x) (λ y. is_some y.answer) r.1.0) h
       (λ y f none. standing_answered w y f none h)
-  standing_done (Asked (Done x heard)) w l r h =
+  standing_done (Asked (Done x heard air)) w l r h =
       standing_open AsThen AsThen (exchange w x) w _ (found_then w x h) (found_then w x h) h
-      (λ y f g. standing_ended w y heard h)
+      (λ y f g. standing_ended air w y heard h)
   standing_done (Asked (Sleep i)) w l r h = standing_station w i _ (λ x t. refl) h
   standing_done (Asked (Wake i)) w l r h = standing_station w i _ (λ x t. refl) h
   standing_done (Asked (Poll i)) w l r h = standing_station w i _ (λ x t. refl) h

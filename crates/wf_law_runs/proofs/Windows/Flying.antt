@@ -167,10 +167,11 @@ landing_without : (w : World) (e : ℕ) → Landing w (without_exchange w e)
 unfolding without_exchange
 landing_without w e = record { lands = λ s t. lands_refl (session w s t) }
 
-landing_ended : (w : World) (x : Exchange) (heard : Bool) → Landing w (done_outcome w x heard).world
+landing_ended : (air : Option ℕ) (w : World) (x : Exchange) (heard : Bool) →
+    Landing w (done_outcome w x heard air).world
 unfolding done_outcome
-landing_ended w x heard = then_landing w _ _ (landing_without w x.number)
-    (then_landing _ _ _ (landing_same _ _ (same_charged (without_exchange w x.number) x))
+landing_ended air w x heard = then_landing w _ _ (landing_without w x.number)
+    (then_landing _ _ _ (landing_same _ _ (same_charged air (without_exchange w x.number) x))
     (landing_after x.content _ x heard))
 
 -- ---- some open exchange
@@ -486,15 +487,16 @@ among_each P (m ∷ ms) n h k = elim (either (m.number == n) (has (map (λ m. m.
   | inr d ↦ among_each P ms n h.1 d
 ]
 
-landed_after : (c : Content) (w : World) (x : Exchange) (heard : Bool) → x.content ≡ c → IsOpenIn w x →
+landed_after : (air : Option ℕ) (c : Content) (w : World) (x : Exchange) (heard : Bool) → x.content ≡ c →
+    IsOpenIn w x →
     EachMpdu (λ m. (e : ℕ) → (slot (session (after_done
-    (after_charge (without_exchange w x.number) x) x heard c) x.station x.tid) m.number).state
+    (after_charge (without_exchange w x.number) x air) x heard c) x.station x.tid) m.number).state
     ≡ State.Flying e → ⊥) (mpdus_of c)
 unfolding after_done
-landed_after (Request f) w x heard e o = tt
-landed_after (Frames ms) w x heard e o =
-    let v : World = after_charge (without_exchange w x.number) x in
-    let k : Same (without_exchange w x.number) v = same_charged (without_exchange w x.number) x in
+landed_after air (Request f) w x heard e o = tt
+landed_after air (Frames ms) w x heard e o =
+    let v : World = after_charge (without_exchange w x.number) x air in
+    let k : Same (without_exchange w x.number) v = same_charged air (without_exchange w x.number) x in
     let y : Session = session w x.station x.tid in
     let same_y : session v x.station x.tid ≡ y = session_same _ _ k x.station x.tid
     ∙ without_same w x.number x.station x.tid in
@@ -504,11 +506,12 @@ landed_after (Frames ms) w x heard e o =
     (k.live x.station ∙ without_live w x.number x.station ∙ o.live)
     (omega (arith, ap (λ (z : Session). z.first) same_y)) flies.rising
 
-landed_ended : (w : World) (x : Exchange) (heard : Bool) → IsOpenIn w x →
-    EachMpdu (λ m. (e : ℕ) → (slot (session (done_outcome w x heard).world x.station x.tid) m.number).state
+landed_ended : (air : Option ℕ) (w : World) (x : Exchange) (heard : Bool) → IsOpenIn w x →
+    EachMpdu (λ m. (e : ℕ) → (slot
+    (session (done_outcome w x heard air).world x.station x.tid) m.number).state
     ≡ State.Flying e → ⊥) (mpdus_of x.content)
 unfolding done_outcome
-landed_ended w x heard o = landed_after x.content w x heard refl o
+landed_ended air w x heard o = landed_after air x.content w x heard refl o
 
 -- a number of x does not fly after its end
 not_own : (v : World) (x : Exchange) (s t e n : ℕ) →
@@ -534,19 +537,19 @@ rises_without : (w : World) (e : ℕ) → OpenRises 0 w.exchanges w.opened →
 unfolding without_exchange
 rises_without w e r = rises_filter w.opened (λ y. not (y.number == e)) 0 w.exchanges r
 
-flown_ended : (w : World) (x : Exchange) (heard : Bool) → IsOnly w x → IsFlown_by w →
-    IsFlown_by (done_outcome w x heard).world
-flown_ended w x heard u k =
-    let v : World = (done_outcome w x heard).world in
+flown_ended : (air : Option ℕ) (w : World) (x : Exchange) (heard : Bool) → IsOnly w x → IsFlown_by w →
+    IsFlown_by (done_outcome w x heard air).world
+flown_ended air w x heard u k =
+    let v : World = (done_outcome w x heard air).world in
     record {
-      rising = subst (λ (c : ℕ). OpenRises 0 c v.opened) (sym (exchanges_ended w x heard))
-          (subst (OpenRises 0 w.exchanges) (sym (opened_ended w x heard))
+      rising = subst (λ (c : ℕ). OpenRises 0 c v.opened) (sym (exchanges_ended air w x heard))
+          (subst (OpenRises 0 w.exchanges) (sym (opened_ended air w x heard))
           (rises_without w x.number k.rising));
       flown = λ s t n e b f.
-          let p = ((landing_ended w x heard).lands s t).flew n e b f in
-          subst (SomeOpen (IsSending s t e n)) (sym (opened_ended w x heard))
+          let p = ((landing_ended air w x heard).lands s t).flew n e b f in
+          subst (SomeOpen (IsSending s t e n)) (sym (opened_ended air w x heard))
           (kept_open w x.number s t e n x u.only (λ own.
-          not_own v x s t e n (landed_ended w x heard u.open_in) own f) (k.flown s t n e p.0 p.1));
+          not_own v x s t e n (landed_ended air w x heard u.open_in) own f) (k.flown s t n e p.0 p.1));
     }
 
 -- ---- joining and leaving
@@ -634,15 +637,15 @@ flown_done (Enqueue s t flow len) w i k = flown_same w _ (same_enqueued w s t fl
 flown_done (Asked (Join s window start exponent weight)) w i k =
     flown_joined w s window start exponent weight k
 flown_done (Asked (Leave s)) w i k = flown_gone w s k
-flown_done (Asked (Rate s mcs mhz short)) w i k = flown_station w s _ (λ x t. refl) k
+flown_done (Asked (Rate s rate)) w i k = flown_station w s _ (λ x t. refl) k
 flown_done (Asked (Tick by)) w i k = flown_plain w _ refl refl refl k
 flown_done (Asked (Pull c)) w i k = flown_pulled w c i k
 flown_done (Asked (Arrive x n)) w i k = flown_open (IsOnly w) (exchange w x) w _ (only_found w x i k) k
     (λ y u. flown_arrived w y n u k)
 flown_done (Asked (Answer x)) w i k = flown_open (IsOnly w) (exchange w x) w _ (only_found w x i k) k
     (λ y u. flown_answered w y u k)
-flown_done (Asked (Done x heard)) w i k = flown_open (IsOnly w) (exchange w x) w _ (only_found w x i k) k
-    (λ y u. flown_ended w y heard u k)
+flown_done (Asked (Done x heard air)) w i k = flown_open (IsOnly w) (exchange w x) w _ (only_found w x i k) k
+    (λ y u. flown_ended air w y heard u k)
 flown_done (Asked (Sleep s)) w i k = flown_station w s _ (λ x t. refl) k
 flown_done (Asked (Wake s)) w i k = flown_station w s _ (λ x t. refl) k
 flown_done (Asked (Poll s)) w i k = flown_station w s _ (λ x t. refl) k

@@ -9,14 +9,14 @@ use Rattle.wf_def_world.specs.Exchanges.{is_acked, mpdus_of, after_charge, with_
 use Rattle.wf_frame.specs.declared.notes.Ask.TheVariants.{Done}
 use Rattle.wf_frame.specs.declared.notes.Note.TheVariants.{Asked}
 use Rattle.wf_frame.specs.declared.notes.Refusal.{Refusal}
-use Rattle.wf_def_world.specs.Refusals.{exchange_has, first_refusal}
+use Rattle.wf_def_world.specs.Refusals.{exchange_has, first_refusal, is_bad_air}
 use Rattle.wf_def_world.specs.Step.{done_outcome, outcome_where_open, outcome_of, judged_outcome, step, station_of}
 use Rattle.wf_law_runs.proofs.Sessions.Flights.{Rises}
 use Rattle.wf_law_rules.proofs.Lemmas.Numbers.{on_if}
 use Rattle.wf_law_runs.proofs.Windows.Sides.{Same, same_finish, same_listed, same_charged}
 use Rattle.wf_law_runs.proofs.Windows.Agreement.{slot_other, slot_same, AllRight}
 use Rattle.wf_law_runs.proofs.Windows.Opened.{each_find, FlyIn}
-use Rattle.wf_frame.specs.declared.notes.Refusal.TheVariants.{NoExchange, NoAnswer}
+use Rattle.wf_frame.specs.declared.notes.Refusal.TheVariants.{NoExchange, NoAnswer, BadAir}
 use Rattle.wf_law_runs.specs.Windows.{EachMpdu, Settles}
 use Rattle.wf_law_runs.proofs.Windows.Agreed.{IsLawful, IsOpenIn, session_same, session_on_session, live_on_session, missed_not_acked}
 
@@ -152,15 +152,16 @@ pub without_live : (w : World) (e s : ℕ) → is_live (without_exchange w e) s 
 unfolding without_exchange
 without_live w e s = refl
 
-heard_frames : (c : Content) (w : World) (x : Exchange) (b : Score) → x.content ≡ c → x.answer ≡ Some b →
+heard_frames : (air : Option ℕ) (c : Content) (w : World) (x : Exchange) (b : Score) → x.content ≡ c →
+    x.answer ≡ Some b →
     IsOpenIn w x → EachMpdu (λ m. ((slot (session
-    (after_done (after_charge (without_exchange w x.number) x) x true c) x.station x.tid) m.number).state
+    (after_done (after_charge (without_exchange w x.number) x air) x true c) x.station x.tid) m.number).state
     ≡ State.Acked) ↔ (shows b m.number ≡ true)) (mpdus_of c)
 unfolding after_done
-heard_frames (Request f) w x b e d o = tt
-heard_frames (Frames ms) w x b e d o =
-    let v : World = after_charge (without_exchange w x.number) x in
-    let k : Same (without_exchange w x.number) v = same_charged (without_exchange w x.number) x in
+heard_frames air (Request f) w x b e d o = tt
+heard_frames air (Frames ms) w x b e d o =
+    let v : World = after_charge (without_exchange w x.number) x air in
+    let k : Same (without_exchange w x.number) v = same_charged air (without_exchange w x.number) x in
     let y : Session = session w x.station x.tid in
     let same_y : session v x.station x.tid ≡ y = session_same _ _ k x.station x.tid
     ∙ without_same w x.number x.station x.tid in
@@ -173,34 +174,40 @@ heard_frames (Frames ms) w x b e d o =
     (k.live x.station ∙ without_live w x.number x.station ∙ o.live)
     (omega (arith, ap (λ (z : Session). z.first) same_y)) flies.rising)
 
-heard_ended : (w : World) (x : Exchange) (b : Score) (u : World) → x.answer ≡ Some b → IsOpenIn w x →
-    Same (done_outcome w x true).world u → EachMpdu
+heard_ended : (air : Option ℕ) (w : World) (x : Exchange) (b : Score) (u : World) → x.answer ≡ Some b →
+    IsOpenIn w x →
+    Same (done_outcome w x true air).world u → EachMpdu
     (λ m. ((slot (session u x.station x.tid) m.number).state ≡ State.Acked) ↔
     (has (receiver w x.station x.tid).arrived m.number ≡ true)) (mpdus_of x.content)
 unfolding done_outcome
-heard_ended w x b u d o k =
+heard_ended air w x b u d o k =
     same_acked (mpdus_of x.content) _ u x.station x.tid b (receiver w x.station x.tid) k
     (subst (λ (a : Option Score). IfSome a (λ b. AllRight b (receiver w x.station x.tid)
     (mpdus_of x.content))) d o.opened.kept)
-    (heard_frames x.content w x b refl d o)
+    (heard_frames air x.content w x b refl d o)
 
-done_heard : (o : Option Exchange) (w : World) (e : ℕ) (x : Exchange) (b : Score) → o ≡ Some x →
-    x.answer ≡ Some b → first_refusal ((is_none o, NoExchange)
-    ∷ (true && exchange_has o (λ x. is_none x.answer), NoAnswer) ∷ []) ≡ None
+done_heard : (o : Option Exchange) (w : World) (x : Exchange) (b : Score) (air : Option ℕ) → o ≡ Some x →
+    x.answer ≡ Some b → is_bad_air w.config air ≡ false → first_refusal ((is_none o, NoExchange)
+    ∷ (true && exchange_has o (λ x. is_none x.answer), NoAnswer) ∷ (is_bad_air w.config air, BadAir) ∷ [])
+    ≡ None
 unfolding first_refusal
-done_heard o w e x b h d =
+done_heard o w x b air h d fine =
     subst (λ (o : Option Exchange). (if is_none o then Some NoExchange
-    else (if true && exchange_has o (λ x. is_none x.answer) then Some NoAnswer else None)) ≡ None) (sym h)
-    (subst (λ (a : Option Score). (if is_none a then Some NoAnswer else None) ≡ None) (sym d) refl)
+    else (if true && exchange_has o (λ x. is_none x.answer) then Some NoAnswer
+    else (if is_bad_air w.config air then Some BadAir else None))) ≡ None) (sym h)
+    (subst (λ (a : Option Score). (if is_none a then Some NoAnswer
+    else (if is_bad_air w.config air then Some BadAir else None)) ≡ None) (sym d)
+    (subst (λ (z : Bool). (if z then Some BadAir else None) ≡ None) (sym fine) refl))
 
-step_heard : (w : World) (e : ℕ) (x : Exchange) (b : Score) → exchange w e ≡ Some x → x.answer ≡ Some b →
-    Same (done_outcome w x true).world (step w (Asked (Done e true))).world
+step_heard : (w : World) (e : ℕ) (x : Exchange) (b : Score) (air : Option ℕ) → exchange w e ≡ Some x →
+    x.answer ≡ Some b → is_bad_air w.config air ≡ false
+    → Same (done_outcome w x true air).world (step w (Asked (Done e true air))).world
 unfolding step judged_outcome outcome_of outcome_where_open
-step_heard w e x b h d =
-    subst (λ (r : Option Refusal). Same (done_outcome w x true).world
-    (judged_outcome w (Asked (Done e true)) r).world) (sym (done_heard (exchange w e) w e x b h d))
-    (subst (λ (o : Option Exchange). Same (done_outcome w x true).world
-    (with_listings_of (outcome_where_open w o (λ x. done_outcome w x true)).world (station_of o))) (sym h)
+step_heard w e x b air h d fine =
+    subst (λ (r : Option Refusal). Same (done_outcome w x true air).world
+    (judged_outcome w (Asked (Done e true air)) r).world) (sym (done_heard (exchange w e) w x b air h d fine))
+    (subst (λ (o : Option Exchange). Same (done_outcome w x true air).world
+    (with_listings_of (outcome_where_open w o (λ x. done_outcome w x true air)).world (station_of o))) (sym h)
     (same_listed _ _))
 
 some_answer : (o : Option Score) (P : Type 0) → ((b : Score) → o ≡ Some b → P) → IfSome o (λ _. P)
@@ -214,6 +221,7 @@ some_exchange (Some x) P Q k h = h x refl k
 
 pub settles : (w : World) (i : IsLawful w) (e : ℕ) → IfSome (exchange w e) (Settles w e)
 settles w i e = some_exchange (exchange w e) (IsOpenIn w) (Settles w e)
-    (each_find (IsOpenIn w) (IsOpenIn w) (λ x. x.number == e) w.opened (λ x _ f. f) i.opened) (λ x found o.
-    some_answer x.answer _ (λ b d. heard_ended w x b (step w (Asked (Done e true))).world d o
-    (step_heard w e x b found d)))
+    (each_find (IsOpenIn w) (IsOpenIn w) (λ x. x.number == e) w.opened (λ x _ f. f) i.opened)
+    (λ x found o air fine.
+    some_answer x.answer _ (λ b d. heard_ended air w x b (step w (Asked (Done e true air))).world d o
+    (step_heard w e x b air found d fine)))

@@ -226,6 +226,6 @@ same_purge_queues [] w = same w
 same_purge_queues (q ∷ qs) w = then_same _ _ _ (then_same _ _ _ (same_on_queue w q _) (same_finish_all _ _ _))
     (same_purge_queues qs _)
 
-pub same_charged : (w : World) (x : Exchange) → Same w (after_charge w x)
+pub same_charged : (air : Option ℕ) (w : World) (x : Exchange) → Same w (after_charge w x air)
 unfolding after_charge
-same_charged w x = same_on_share w _ _ _
+same_charged air w x = same_on_share w _ _ _

@@ -128,14 +128,14 @@ sized_done (Enqueue s t flow len) w e i = sized_kept w _ (keep_enqueued w s t fl
 sized_done (Asked (Join s window start exponent weight)) w e i =
     sized_joined w s window start exponent weight e.1.0 i
 sized_done (Asked (Leave s)) w e i = sized_gone w s i
-sized_done (Asked (Rate s mcs mhz short)) w e i = sized_kept w _ (keep_rate w s mcs mhz short) i
+sized_done (Asked (Rate s rate)) w e i = sized_kept w _ (keep_rate w s rate) i
 sized_done (Asked (Tick by)) w e i = sized_kept w _ (keep_tick w by) i
 sized_done (Asked (Pull c)) w e i = sized_kept w _ (keep_pulled w c) i
 sized_done (Asked (Arrive x n)) w e i = sized_open (exchange w x) w _ (λ y. sized_arrived w y n i) i
 sized_done (Asked (Answer x)) w e i = sized_open (exchange w x) w _
     (λ y. sized_kept w _ (keep_answered w y) i) i
-sized_done (Asked (Done x heard)) w e i = sized_open (exchange w x) w _
-    (λ y. sized_kept w _ (keep_ended w y heard) i) i
+sized_done (Asked (Done x heard air)) w e i = sized_open (exchange w x) w _
+    (λ y. sized_kept w _ (keep_ended air w y heard) i) i
 sized_done (Asked (Sleep s)) w e i = sized_kept w _ (keep_slept w s) i
 sized_done (Asked (Wake s)) w e i = sized_kept w _ (keep_woken w s) i
 sized_done (Asked (Poll s)) w e i = sized_kept w _ (keep_credited w s) i

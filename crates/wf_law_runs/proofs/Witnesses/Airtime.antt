@@ -1,5 +1,5 @@
 -- A history in which the two laws speak of something: weights 1 and 3, sixteen exchanges.
-use Rattle.std.proofs.Common.{◌≡◌, refl, ℕ, zero, suc, Bool, true, ◌&&◌, List, [], ◌∷◌, ◌++◌, map, replicate}
+use Rattle.std.proofs.Common.{◌≡◌, refl, ℕ, zero, suc, Bool, true, ◌&&◌, List, [], ◌∷◌, ◌++◌, None, map, replicate}
 use Rattle.wf_frame.specs.declared.settings.Config.{Config}
 use Rattle.wf_frame.specs.declared.classes.Class.TheVariants.{Be}
 use Rattle.wf_frame.specs.declared.notes.Ask.TheVariants.{Join, Pull, Arrive, Answer, Done}
@@ -26,11 +26,12 @@ config = record {
   cap = 4000;
   sleeping = 64;
   calls = 1048576;
+  charge = 0;
 }
 
 abbrev rounds : ℕ → ℕ → List Note
 rounds zero e = []
-rounds (suc n) e = Asked (Pull Be) ∷ Asked (Arrive e 0) ∷ Asked (Answer e) ∷ Asked (Done e true)
+rounds (suc n) e = Asked (Pull Be) ∷ Asked (Arrive e 0) ∷ Asked (Answer e) ∷ Asked (Done e true None)
     ∷ rounds n (suc e)
 
 abbrev history : List Entry

@@ -26,6 +26,7 @@ config = record {
   cap = 4000;
   sleeping = 64;
   calls = 1048576;
+  charge = 0;
 }
 
 abbrev until_kept : List Entry
@@ -39,10 +40,10 @@ until_kept = map (by 0) (
     Asked (Pull Be) ∷
     Asked (Arrive 0 0) ∷
     Asked (Answer 0) ∷
-    Asked (Done 0 true) ∷
+    Asked (Done 0 true None) ∷
     Asked (Arrive 1 0) ∷
     Asked (Answer 1) ∷
-    Asked (Done 1 true) ∷
+    Asked (Done 1 true None) ∷
     Asked (Pull Be) ∷
     Asked (Pull Be) ∷
     Asked (Arrive 2 0) ∷
@@ -50,7 +51,8 @@ until_kept = map (by 0) (
     Asked (Arrive 3 0) ∷ [])
 
 abbrev until_left : List Entry
-until_left = until_kept ++ map (by 0) (Asked (Done 2 true) ∷ Asked (Done 3 false) ∷ Asked (Leave 0) ∷ [])
+until_left = until_kept ++ map (by 0)
+    (Asked (Done 2 true None) ∷ Asked (Done 3 false None) ∷ Asked (Leave 0) ∷ [])
 
 abbrev until_rejoined : List Entry
 until_rejoined = until_left ++ map (by 0) (Asked (Join 0 2 100 3 1) ∷ Enqueue 0 0 7 100 ∷ Asked (Pull Be)

@@ -1,7 +1,7 @@
 -- The words of the laws of places, room, limit, queues and tallies, computed on one history: room for six
 -- frames and a limit of three in the queues; two exchanges, the first with one frame that did not arrive; a
 -- call that is refused for the room; a frame that is reaped; and one that is dropped for the limit.
-use Rattle.std.proofs.Common.{◌≡◌, refl, pos, true, List, [], ◌∷◌, map}
+use Rattle.std.proofs.Common.{◌≡◌, refl, pos, true, List, [], ◌∷◌, map, None}
 use Rattle.wf_frame.specs.declared.settings.Config.{Config}
 use Rattle.wf_frame.specs.declared.classes.Cause.TheVariants.{Overlimit}
 use Rattle.wf_frame.specs.declared.classes.Class.TheVariants.{Be}
@@ -35,6 +35,7 @@ config = record {
   cap = 4000;
   sleeping = 64;
   calls = 1048576;
+  charge = 0;
 }
 
 abbrev first_part : List Entry
@@ -46,7 +47,7 @@ first_part = map (by 0) (
     Asked (Pull Be) ∷
     Asked (Arrive 0 0) ∷
     Asked (Answer 0) ∷
-    Asked (Done 0 true) ∷
+    Asked (Done 0 true None) ∷
     Asked (Pull Be) ∷
     Enqueue 0 0 7 100 ∷
     Enqueue 0 0 7 100 ∷
@@ -61,7 +62,7 @@ whole = map (by 0) (
     Asked (Pull Be) ∷
     Asked (Arrive 0 0) ∷
     Asked (Answer 0) ∷
-    Asked (Done 0 true) ∷
+    Asked (Done 0 true None) ∷
     Asked (Pull Be) ∷
     Enqueue 0 0 7 100 ∷
     Enqueue 0 0 7 100 ∷

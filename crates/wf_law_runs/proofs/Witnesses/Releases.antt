@@ -1,6 +1,6 @@
 -- The words of the release and delivery laws, computed on one history: two sessions of a station, with a
 -- frame that is sent twice.
-use Rattle.std.proofs.Common.{◌≡◌, refl, true, List, [], ◌∷◌, map}
+use Rattle.std.proofs.Common.{◌≡◌, refl, true, List, [], ◌∷◌, map, None}
 use Rattle.wf_frame.specs.declared.settings.Config.{Config}
 use Rattle.wf_frame.specs.declared.classes.Class.TheVariants.{Be}
 use Rattle.wf_frame.specs.declared.classes.Fate.TheVariants.{Acked}
@@ -25,6 +25,7 @@ config = record {
   cap = 4000;
   sleeping = 64;
   calls = 1048576;
+  charge = 0;
 }
 
 abbrev first_part : List Entry
@@ -37,11 +38,11 @@ first_part = map (by 0) (
     Asked (Arrive 0 1) ∷
     Asked (Arrive 0 0) ∷
     Asked (Answer 0) ∷
-    Asked (Done 0 true) ∷
+    Asked (Done 0 true None) ∷
     Asked (Pull Be) ∷
     Asked (Arrive 1 0) ∷
     Asked (Answer 1) ∷
-    Asked (Done 1 true) ∷ [])
+    Asked (Done 1 true None) ∷ [])
 
 abbrev whole : List Entry
 whole = map (by 0) (
@@ -53,11 +54,11 @@ whole = map (by 0) (
     Asked (Arrive 0 1) ∷
     Asked (Arrive 0 0) ∷
     Asked (Answer 0) ∷
-    Asked (Done 0 true) ∷
+    Asked (Done 0 true None) ∷
     Asked (Pull Be) ∷
     Asked (Arrive 1 0) ∷
     Asked (Answer 1) ∷
-    Asked (Done 1 true) ∷
+    Asked (Done 1 true None) ∷
     Asked (Leave 0) ∷
     Asked (Join 0 4 4094 3 1) ∷
     Enqueue 0 0 7 100 ∷

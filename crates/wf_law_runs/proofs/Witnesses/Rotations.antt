@@ -27,6 +27,7 @@ config = record {
   cap = 4000;
   sleeping = 64;
   calls = 1048576;
+  charge = 0;
 }
 
 abbrev history : List Entry

@@ -6,10 +6,10 @@ returns-in_err-write_trace-clause-front g c = trace_front c.args.cell.now.past _
 
 pub returns-clause-written : goal.returns-clause-written
 returns-clause-written g c =
-    on_ok c.summary.result c.summary.ensures.written
+    on_ok c.write_summary.result c.write_summary.ensures.written
     (λ wrote. text_written c.args.cell.now.past c.requires.standard _ _ _ c.in_ok-write_trace.ensures.written
     wrote)
 
 pub returns-clause-front : goal.returns-clause-front
 returns-clause-front g c = text_front c.args.cell.now.past c.requires.standard _ _ _
-    c.in_ok-write_trace.ensures.written c.summary.ensures.front
+    c.in_ok-write_trace.ensures.written c.write_summary.ensures.front

@@ -1,4 +1,5 @@
 use Rattle.std.proofs.Common.{◌≡◌, ◌≤◌, ◌+◌}
+use Rattle.wf_trace.specs.Lines.{longest_trace}
 use Rattle.wf_trace.specs.Cutting.{room}
 use Rattle.wf_script.proofs.Conversing.{Conversing}
 use Rattle.wf_script.proofs.conversation.answer_lines.Given as goal
@@ -10,7 +11,7 @@ invariant-lines g l = record {
       (g.K.Sink.held l.sink);
   reads : g.S.Source.faults l.source ≡ g.S.Source.faults l.fn.source;
   writes : g.K.Sink.faults l.sink ≡ g.K.Sink.faults l.fn.sink;
-  few : l.count + room l.cut.cutter ≤ 268435457;
+  few : l.count + room l.cut.cutter ≤ longest_trace + 1;
 }
 
 abbrev pub decreases-lines : goal.decreases-lines

@@ -1,4 +1,4 @@
-use Rattle.std.proofs.Common.{◌≡◌, ap, ap₂, sym, subst, List, vec_capacity, arith}
+use Rattle.std.proofs.Common.{◌≡◌, ap₂, sym, subst, List}
 use Rattle.wf_frame.specs.declared.settings.Config.{Config}
 use Rattle.wf_def_world.specs.World.{opening}
 use Rattle.wf_def_world.specs.Run.{Entry, Past}
@@ -10,20 +10,18 @@ use Rattle.wf_cell.proofs.cell.Cell.of.Goals as goal
 pub invariant_of-result : goal.invariant_of-result
 invariant_of-result c =
     let engine : EngineValue = c.in_ok-engine.engine in
-    let v = c.in_ok-past in
     let same : engine.half.config ≡ c.args.config =
     (c.in_ok-engine.ensures no_frames).half.parts.others.config in
     let is_in : EngineIsIn engine (opening engine.half.config) no_frames =
     subst (λ (k : Config). EngineIsIn engine (opening k) no_frames) (sym same)
     (c.in_ok-engine.ensures no_frames) in
-    new_cell (record { config = engine.half.config; history = v.past.items }) engine
-    (vec_capacity v.past) no_frames v.ensures.items is_in
-    (omega (arith, v.ensures.exact, ap (λ (k : Config). k.calls) same))
+    new_cell (record { config = engine.half.config; history = c.new-past.result }) engine no_frames
+    c.new-past.ensures is_in
 
 pub returns-clause-past : goal.returns-clause-past
 returns-clause-past c =
     ap₂ (λ (k : Config) (h : List Entry). let p : Past = record { config = k; history = h } in p)
-    ((c.in_ok-engine.ensures no_frames).half.parts.others.config) c.in_ok-past.ensures.items
+    ((c.in_ok-engine.ensures no_frames).half.parts.others.config) c.new-past.ensures
 
 pub returns-clause-stands : goal.returns-clause-stands
 returns-clause-stands c = λ bodies. (c.in_ok-engine.ensures bodies).half

@@ -11,7 +11,7 @@ use Rattle.wf_cell.proofs.cell.Cell.path.Goals as goal
 pub returns-clause-inside : goal.returns-clause-inside
 returns-clause-inside c = λ id.
     let engine : EngineValue = c.self.inside.engine in
-    let p : Past = record { config = engine.half.config; history = c.self.inside.past.items } in
+    let p : Past = record { config = engine.half.config; history = c.self.inside.past } in
     subst (λ (u : CellValue). is_some (body_of u.half id) ≡ is_inside (world_of u.past) id) c.self.view_is
     (ids_inside engine.half (world_of p) c.self.invariant.bodies c.self.invariant.is_in.half id)
 

@@ -31,7 +31,7 @@ returns-in-Done-clause-done c = λ w bodies i.
     let x = c.in-Done in
     subst (λ (a : Ask). IsJobDone w bodies (Call a) c.args.self.now.half c.done.new.self
     (reply_of c.done.new.answer) None) (sym x.is)
-    (ask_done c.args.self.now c.done.new.self (Done x.exchange x.heard) (reply_of c.done.new.answer)
+    (ask_done c.args.self.now c.done.new.self (Done x.exchange x.heard x.air) (reply_of c.done.new.answer)
     (λ b. refl) c.done.ensures.meets w bodies i)
 
 pub returns-in-Join-clause-done : goal.returns-in-Join-clause-done

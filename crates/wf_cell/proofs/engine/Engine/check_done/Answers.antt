@@ -13,7 +13,8 @@ returns-in-None-clause-refused c = λ w bodies i.
     } in
     let j : EngineIsIn v w bodies = subst (λ (u : EngineValue). EngineIsIn u w bodies)
     (sym c.self.view_is) i in
-    done_marked v w bodies c.args.exchange c.args.heard j None (sym c.in-None.ensures)
+    done_marked v w bodies c.args.exchange c.args.heard c.args.air j c.config-settings.result
+    c.config-settings.ensures.value None (sym c.in-None.ensures)
 
 pub returns-in-Some-ending_refusal-clause-refused : goal.returns-in-Some-ending_refusal-clause-refused
 returns-in-Some-ending_refusal-clause-refused c = λ w bodies i.
@@ -25,8 +26,8 @@ returns-in-Some-ending_refusal-clause-refused c = λ w bodies i.
     } in
     let j : EngineIsIn v w bodies = subst (λ (u : EngineValue). EngineIsIn u w bodies)
     (sym c.self.view_is) i in
-    c.in-Some-ending_refusal.ensures ∙ done_marked v w bodies c.args.exchange c.args.heard j
-    (Some c.in-Some.mark.now) (sym c.in-Some.ensures)
+    c.in-Some-ending_refusal.ensures ∙ done_marked v w bodies c.args.exchange c.args.heard c.args.air j
+    c.config-settings.result c.config-settings.ensures.value (Some c.in-Some.mark.now) (sym c.in-Some.ensures)
 
 pub returns-after-heard-clause-refused : goal.returns-after-heard-clause-refused
 returns-after-heard-clause-refused c = λ w bodies i.
@@ -38,5 +39,5 @@ returns-after-heard-clause-refused c = λ w bodies i.
     } in
     let j : EngineIsIn v w bodies = subst (λ (u : EngineValue). EngineIsIn u w bodies)
     (sym c.self.view_is) i in
-    c.in-None-ending_refusal.ensures ∙ done_marked v w bodies c.args.exchange c.args.heard j
-    (Some c.in-Some.mark.now) (sym c.in-Some.ensures)
+    c.in-None-ending_refusal.ensures ∙ done_marked v w bodies c.args.exchange c.args.heard c.args.air j
+    c.config-settings.result c.config-settings.ensures.value (Some c.in-Some.mark.now) (sym c.in-Some.ensures)

@@ -11,7 +11,7 @@ use Rattle.wf_cell.proofs.engine.Engine.done.Goals as goal
 
 pub returns-in-Err-clause-meets : goal.returns-in-Err-clause-meets
 returns-in-Err-clause-meets c = λ w bodies i.
-    done_refused c.args.self.now w bodies c.args.exchange c.args.heard i
+    done_refused c.args.self.now w bodies c.args.exchange c.args.heard c.args.air i
     c.in-Err.reason (c.in-Err.ensures.refused w bodies i)
 
 pub returns-in-Ok-clause-meets : goal.returns-in-Ok-clause-meets
@@ -30,12 +30,14 @@ returns-in-Ok-clause-meets c = λ w bodies i.
     let done = sym (c.in-Ok.ensures.refused w bodies i) in
     let kept = subst (λ (u : EngineValue). c.in-Ok.kept ≡ kept_answer u.marks c.args.exchange c.args.heard)
     (sym c.self.view_is) c.in-Ok.ensures.kept in
-    let met = end_met v w bodies c.args.exchange c.args.heard j c.in-Ok.kept d.new.self d.result pairs ids
+    let met = end_met v w bodies c.args.exchange c.args.heard c.args.air j c.in-Ok.kept d.new.self d.result
+    pairs ids
     kept done d.ensures.lost d.ensures.shown in
     subst (λ (ms : List Mark). let u : EngineValue =
     record { half = d.new.self; peers = c.self.inside.peers; marks = ms } in
-    EngineMeets w bodies (Asked (Done c.args.exchange c.args.heard)) u (reply_with d.result pairs ids))
-    (sym c.close.ensures) (ended_meets v w bodies c.args.exchange c.args.heard j d.new.self
+    EngineMeets w bodies (Asked (Done c.args.exchange c.args.heard c.args.air)) u
+    (reply_with d.result pairs ids))
+    (sym c.close.ensures) (ended_meets v w bodies c.args.exchange c.args.heard c.args.air j d.new.self
     (reply_with d.result pairs ids) done met)
 
 pub returns-in-Ok-clause-path_kept : goal.returns-in-Ok-clause-path_kept
@@ -44,5 +46,5 @@ returns-in-Ok-clause-path_kept c = λ is.
     let met = returns-in-Ok-clause-meets c k.world k.bodies k.is_in in
     let answered = sym (c.in-Ok.ensures.refused k.world k.bodies k.is_in) in
     let both : true ≡ false = sym is ∙ ap changes_nothing met.reply
-    ∙ ended_reply k.world c.args.exchange c.args.heard answered in
+    ∙ ended_reply k.world c.args.exchange c.args.heard c.args.air answered in
     cc

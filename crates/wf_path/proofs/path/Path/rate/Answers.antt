@@ -11,18 +11,18 @@ use Rattle.wf_path.proofs.path.Path.rate.Goals.{in-Ok, in-Err}
 pub invariant_of-self : goal.invariant_of-self
 invariant_of-self c =
     tracked_still c.self.inside.half c.rate.new.self c.self.inside.ready
-    (Rate c.args.station c.args.mcs c.args.mhz c.args.short) _ c.self.invariant c.rate.ensures.meets tt
+    (Rate c.args.station c.args.rate) _ c.self.invariant c.rate.ensures.meets tt
     refl
 
 pub returns : goal.returns
 returns c = elim c.match-rate.branch [
   | in-Ok w ↦ told_briefly c.self.inside.half c.self.inside.ready c.self.invariant
-      (Rate c.args.station c.args.mcs c.args.mhz c.args.short)
+      (Rate c.args.station c.args.rate)
       (reply.RateSet) c.rate.new.self w.in-Ok.ensures.meets
       c.args.self.now c.self.view_is c.match-rate.result
       (λ pairs ids. ap (λ (b : Brief). reply_with b pairs ids) w.result-is) tt (λ e. absurd (cc e))
   | in-Err w ↦ told_briefly c.self.inside.half c.self.inside.ready c.self.invariant
-      (Rate c.args.station c.args.mcs c.args.mhz c.args.short)
+      (Rate c.args.station c.args.rate)
       (reply.Refused w.in-Err.reason) c.rate.new.self w.in-Err.ensures.meets
       c.args.self.now c.self.view_is c.match-rate.result
       (λ pairs ids. ap (λ (b : Brief). reply_with b pairs ids) w.result-is) tt

@@ -1,4 +1,4 @@
-use Rattle.std.proofs.Common.{◌≡◌, refl, sym, ap, ◌∙◌, subst, arith, Option, Some, true, false, List, ℕ, ◌==◌, is_some}
+use Rattle.std.proofs.Common.{◌≡◌, refl, sym, ap, ◌∙◌, subst, arith, Option, Some, true, false, List, ℕ, ◌==◌, is_none}
 use Rattle.std.specs.Prelude.{find, IfSome}
 use Rattle.wf_frame.specs.declared.settings.Config.{Config}
 use Rattle.wf_frame.specs.declared.notes.Note.TheVariants.{Asked}
@@ -10,16 +10,37 @@ use Rattle.wf_send_exchanges.specs.declared.opened.Open.{Open}
 use Rattle.wf_send_half_refines.specs.Half.{TransmitValue}
 use Rattle.wf_send_half_refines.specs.Standing.{StandsFor}
 use Rattle.wf_law_driver.proofs.Ended.{may_end_lost, may_end_heard}
-use Rattle.wf_send_half.specs.Bits.{IsChargeSmall, GoesBy, count_shown_of}
+use Rattle.wf_send_half.specs.Bits.{IsChargeSmall, end_refusal, GoesBy, count_shown_of}
 use Rattle.wf_send_half.specs.Half.{HasWorld}
 use Rattle.wf_send_half.proofs.Calls.{view_of}
 use Rattle.wf_send_half.proofs.Worlds.{kept_world, met_by}
-use Rattle.wf_send_half.proofs.Dones.{IsKnown, known_of, refused_done, within_turns, within_members, charge_low, charge_small, closes, closed_now, unopened, where_none, from_none, where_some, within_config, goes_lost, goes_shown, goes_unshown, done_whole}
+use Rattle.wf_send_half.proofs.Dones.{IsKnown, known_of, refused_done, ends_unknown, ends_well, bad_of, fine_then, bad_meets_lost, bad_meets_heard, at_charge, within_turns, within_members, charge_low, charge_small, closes, closed_now, unopened, where_none, from_none, where_some, within_config, goes_lost, goes_shown, goes_unshown, done_whole}
 use Rattle.wf_send_half.proofs.half.Transmit.done.Goals as goal
+use Rattle.wf_def_world.specs.Refusals.{is_bad_air}
+
+pub returns-then-has_bad_air-clause-lost : goal.returns-then-has_bad_air-clause-lost
+returns-then-has_bad_air-clause-lost c =
+    where_none _ c.args.heard (λ none w bodies h.
+    bad_meets_lost c.args.self.now w bodies h c.args.exchange c.args.air
+    (bad_of c.args.self.now c.args.exchange c.args.air (sym c.has_bad_air.ensures ∙ c.if-has_bad_air.true)))
+
+pub returns-then-has_bad_air-clause-shown : goal.returns-then-has_bad_air-clause-shown
+returns-then-has_bad_air-clause-shown c =
+    where_some _ c.args.heard (λ score is w bodies x b h known kept shown.
+    bad_meets_heard c.args.self.now w bodies h c.args.exchange c.args.air
+    (bad_of c.args.self.now c.args.exchange c.args.air (sym c.has_bad_air.ensures ∙ c.if-has_bad_air.true))
+    x b known kept)
+
+pub returns-then-has_bad_air-clause-none_shown : goal.returns-then-has_bad_air-clause-none_shown
+returns-then-has_bad_air-clause-none_shown c w bodies x h known data_is none =
+    bad_meets_lost c.args.self.now w bodies h c.args.exchange c.args.air
+    (bad_of c.args.self.now c.args.exchange c.args.air (sym c.has_bad_air.ensures ∙ c.if-has_bad_air.true))
 
 pub returns-in_default-clause-refused : goal.returns-in_default-clause-refused
 returns-in_default-clause-refused c = (
-  refl,
+  ends_unknown c.args.self.now c.args.exchange c.args.air
+      (c.in_default.ensures.taken ∙ ap (λ (z : TransmitValue).
+      find (λ (k : Open). k.number == c.args.exchange) z.opened) c.self.view_is),
   ap
       (λ (l : List Open). let t : TransmitValue = record (view_of c.self.inside) { opened = l } in t)
       (c.in_default.ensures.rest ∙ unopened c.args.exchange c.self.inside.opened c.in_default.ensures.taken)
@@ -29,26 +50,26 @@ returns-in_default-clause-refused c = (
 pub returns-in_default-clause-lost : goal.returns-in_default-clause-lost
 returns-in_default-clause-lost c =
     where_none _ c.args.heard (λ none w bodies h.
-    met_by c.args.self.now _ w bodies (Asked (Done c.args.exchange false)) (Refused NoExchange)
+    met_by c.args.self.now _ w bodies (Asked (Done c.args.exchange false c.args.air)) (Refused NoExchange)
     ((returns-in_default-clause-refused c).1)
-    (refused_done c.args.self.now w bodies h c.args.exchange false
+    (refused_done c.args.self.now w bodies h c.args.exchange false c.args.air
     (c.in_default.ensures.taken ∙ ap (λ (z : TransmitValue).
     find (λ (k : Open). k.number == c.args.exchange) z.opened) c.self.view_is)))
 
 pub returns-in_default-clause-shown : goal.returns-in_default-clause-shown
 returns-in_default-clause-shown c =
     where_some _ c.args.heard (λ score is w bodies x b h known kept shown.
-    met_by c.args.self.now _ w bodies (Asked (Done c.args.exchange true)) (Refused NoExchange)
+    met_by c.args.self.now _ w bodies (Asked (Done c.args.exchange true c.args.air)) (Refused NoExchange)
     ((returns-in_default-clause-refused c).1)
-    (refused_done c.args.self.now w bodies h c.args.exchange true
+    (refused_done c.args.self.now w bodies h c.args.exchange true c.args.air
     (c.in_default.ensures.taken ∙ ap (λ (z : TransmitValue).
     find (λ (k : Open). k.number == c.args.exchange) z.opened) c.self.view_is)))
 
 pub returns-in_default-clause-none_shown : goal.returns-in_default-clause-none_shown
 returns-in_default-clause-none_shown c w bodies x h known data_is none =
-    met_by c.args.self.now _ w bodies (Asked (Done c.args.exchange false)) (Refused NoExchange)
+    met_by c.args.self.now _ w bodies (Asked (Done c.args.exchange false c.args.air)) (Refused NoExchange)
     ((returns-in_default-clause-refused c).1)
-    (refused_done c.args.self.now w bodies h c.args.exchange false
+    (refused_done c.args.self.now w bodies h c.args.exchange false c.args.air
     (c.in_default.ensures.taken ∙ ap (λ (z : TransmitValue).
     find (λ (k : Open). k.number == c.args.exchange) z.opened) c.self.view_is))
 
@@ -64,7 +85,10 @@ charge-requires-clause-known c = within_turns (view_of c.self.inside)
 pub charge-requires-clause-low : goal.charge-requires-clause-low
 charge-requires-clause-low c = charge_low (view_of c.self.inside)
     (subst HasWorld (sym c.self.view_is) c.requires.some) c.args.exchange c.in-Some.open
-    c.in-Some.ensures.taken
+    c.in-Some.ensures.taken c.args.air c.unwrap_or-charge.result
+    (fine_then c.args.self.now (view_of c.self.inside) c.args.exchange c.args.air c.in-Some.open
+    c.has_bad_air.result c.self.view_is c.has_bad_air.ensures c.if-has_bad_air.false c.in-Some.ensures.taken)
+    c.unwrap_or-charge.ensures
 
 pub charge-requires-2-clause-within : goal.charge-requires-2-clause-within
 charge-requires-2-clause-within c = within_members (view_of c.self.inside)
@@ -80,9 +104,11 @@ charge-requires-2-clause-small c =
 pub settle-ended-requires : goal.settle-ended-requires
 settle-ended-requires c = record {
   some = closed_now (view_of c.self.inside) (subst HasWorld (sym c.self.view_is) c.requires.some)
-      c.args.exchange c.in-Some.open c.in-Some.ensures.taken _
+      c.args.exchange c.in-Some.open c.in-Some.ensures.taken c.args.air _
       (closes (view_of c.self.inside) (subst HasWorld (sym c.self.view_is) c.requires.some) c.args.exchange
-      c.in-Some.open c.in-Some.ensures.taken c.take_out.new.self c.charge.new.self c.charge-2.new.self
+      c.in-Some.open c.in-Some.ensures.taken c.args.air c.unwrap_or-charge.result c.take_out.new.self
+      c.charge.new.self
+      c.charge-2.new.self c.unwrap_or-charge.ensures
       c.in-Some.ensures.rest c.charge.ensures c.charge-2.ensures);
 }
 
@@ -103,18 +129,28 @@ returns-clause-lost c = where_none _ c.args.heard (λ none w bodies h.
     (subst (λ (z : TransmitValue). StandsFor z w bodies) (sym c.self.view_is) h) in
     let k : IsKnown w c.args.exchange c.in-Some.open =
     known_of (view_of c.self.inside) w bodies at c.args.exchange c.in-Some.open c.in-Some.ensures.taken in
-    let closed = closes (view_of c.self.inside) (subst HasWorld (sym c.self.view_is) c.requires.some)
-    c.args.exchange c.in-Some.open c.in-Some.ensures.taken c.take_out.new.self c.charge.new.self
-    c.charge-2.new.self c.in-Some.ensures.rest c.charge.ensures c.charge-2.ensures in
+    let shut = closes (view_of c.self.inside) (subst HasWorld (sym c.self.view_is) c.requires.some)
+    c.args.exchange c.in-Some.open c.in-Some.ensures.taken c.args.air c.unwrap_or-charge.result
+    c.take_out.new.self
+    c.charge.new.self c.charge-2.new.self c.unwrap_or-charge.ensures c.in-Some.ensures.rest c.charge.ensures
+    c.charge-2.ensures in
     let y : Exchange = k.exchange_is in
+    let closed = at_charge (view_of c.self.inside) _ c.in-Some.open y c.args.air k.same shut in
+    let fine = ap (λ (z : Config). is_bad_air z c.args.air) (sym at.parts.others.config) ∙
+    (fine_then c.args.self.now (view_of c.self.inside) c.args.exchange c.args.air c.in-Some.open
+    c.has_bad_air.result c.self.view_is c.has_bad_air.ensures c.if-has_bad_air.false
+    c.in-Some.ensures.taken) in
     let goes : GoesBy w y c.args.heard false = subst (λ (o : Option (ℕ × List ℕ)). GoesBy w y o false)
     (sym none) (goes_lost w y) in
     done_whole (view_of c.self.inside) w bodies at c.args.exchange y k.known c.in-Some.open k.same false
-    (may_end_lost w c.args.exchange y k.known) c.settle-ended.new.self c.list.new.self
+    c.args.air
+    (may_end_lost w c.args.exchange y c.args.air k.known fine) c.settle-ended.new.self c.list.new.self
     c.settle-ended.result
-    (c.settle-ended.ensures.settled (view_of c.self.inside) w bodies c.args.exchange y false at k.known k.same
+    (c.settle-ended.ensures.settled
+    (view_of c.self.inside) w bodies c.args.exchange y false c.args.air at k.known
+    k.same
     closed goes) (c.settle-ended.ensures.reply
-    (view_of c.self.inside) w bodies c.args.exchange y false at k.known k.same closed goes)
+    (view_of c.self.inside) w bodies c.args.exchange y false c.args.air at k.known k.same closed goes)
     c.list.ensures)
 
 pub returns-clause-shown : goal.returns-clause-shown
@@ -123,19 +159,30 @@ returns-clause-shown c = where_some _ c.args.heard (λ score is w bodies x b h k
     (subst (λ (z : TransmitValue). StandsFor z w bodies) (sym c.self.view_is) h) in
     let k : IsKnown w c.args.exchange c.in-Some.open =
     known_of (view_of c.self.inside) w bodies at c.args.exchange c.in-Some.open c.in-Some.ensures.taken in
-    let closed = closes (view_of c.self.inside) (subst HasWorld (sym c.self.view_is) c.requires.some)
-    c.args.exchange c.in-Some.open c.in-Some.ensures.taken c.take_out.new.self c.charge.new.self
-    c.charge-2.new.self c.in-Some.ensures.rest c.charge.ensures c.charge-2.ensures in
+    let shut = closes (view_of c.self.inside) (subst HasWorld (sym c.self.view_is) c.requires.some)
+    c.args.exchange c.in-Some.open c.in-Some.ensures.taken c.args.air c.unwrap_or-charge.result
+    c.take_out.new.self
+    c.charge.new.self c.charge-2.new.self c.unwrap_or-charge.ensures c.in-Some.ensures.rest c.charge.ensures
+    c.charge-2.ensures in
     let y : Exchange = k.exchange_is in
+    let closed = at_charge (view_of c.self.inside) _ c.in-Some.open y c.args.air k.same shut in
     let it : x ≡ y = cc (known, k.known) in
+    let fine = ap (λ (z : Config). is_bad_air z c.args.air) (sym at.parts.others.config) ∙
+    (fine_then c.args.self.now (view_of c.self.inside) c.args.exchange c.args.air c.in-Some.open
+    c.has_bad_air.result c.self.view_is c.has_bad_air.ensures c.if-has_bad_air.false
+    c.in-Some.ensures.taken) in
     let goes : GoesBy w y c.args.heard true = subst (λ (o : Option (ℕ × List ℕ)). GoesBy w y o true) (sym is)
     (subst (λ (z : Exchange). GoesBy w z (Some score) true) it (goes_shown w x b score kept shown)) in
     done_whole (view_of c.self.inside) w bodies at c.args.exchange y k.known c.in-Some.open k.same true
-    (may_end_heard w c.args.exchange y b k.known (ap (λ (z : Exchange). z.answer) (sym it) ∙ kept))
+    c.args.air
+    (may_end_heard w c.args.exchange y b c.args.air k.known
+    (ap (λ (z : Exchange). z.answer) (sym it) ∙ kept) fine)
     c.settle-ended.new.self c.list.new.self c.settle-ended.result
-    (c.settle-ended.ensures.settled (view_of c.self.inside) w bodies c.args.exchange y true at k.known k.same
+    (c.settle-ended.ensures.settled
+    (view_of c.self.inside) w bodies c.args.exchange y true c.args.air at k.known k.same
     closed goes) (c.settle-ended.ensures.reply
-    (view_of c.self.inside) w bodies c.args.exchange y true at k.known k.same closed goes) c.list.ensures)
+    (view_of c.self.inside) w bodies c.args.exchange y true c.args.air at k.known k.same closed goes)
+    c.list.ensures)
 
 pub returns-clause-none_shown : goal.returns-clause-none_shown
 returns-clause-none_shown c w bodies x h known data_is none =
@@ -143,24 +190,39 @@ returns-clause-none_shown c w bodies x h known data_is none =
     (subst (λ (z : TransmitValue). StandsFor z w bodies) (sym c.self.view_is) h) in
     let k : IsKnown w c.args.exchange c.in-Some.open =
     known_of (view_of c.self.inside) w bodies at c.args.exchange c.in-Some.open c.in-Some.ensures.taken in
-    let closed = closes (view_of c.self.inside) (subst HasWorld (sym c.self.view_is) c.requires.some)
-    c.args.exchange c.in-Some.open c.in-Some.ensures.taken c.take_out.new.self c.charge.new.self
-    c.charge-2.new.self c.in-Some.ensures.rest c.charge.ensures c.charge-2.ensures in
+    let shut = closes (view_of c.self.inside) (subst HasWorld (sym c.self.view_is) c.requires.some)
+    c.args.exchange c.in-Some.open c.in-Some.ensures.taken c.args.air c.unwrap_or-charge.result
+    c.take_out.new.self
+    c.charge.new.self c.charge-2.new.self c.unwrap_or-charge.ensures c.in-Some.ensures.rest c.charge.ensures
+    c.charge-2.ensures in
     let y : Exchange = k.exchange_is in
+    let closed = at_charge (view_of c.self.inside) _ c.in-Some.open y c.args.air k.same shut in
     let it : x ≡ y = cc (known, k.known) in
+    let fine = ap (λ (z : Config). is_bad_air z c.args.air) (sym at.parts.others.config) ∙
+    (fine_then c.args.self.now (view_of c.self.inside) c.args.exchange c.args.air c.in-Some.open
+    c.has_bad_air.result c.self.view_is c.has_bad_air.ensures c.if-has_bad_air.false
+    c.in-Some.ensures.taken) in
     let goes : GoesBy w y c.args.heard false = subst (λ (z : Exchange). GoesBy w z c.args.heard false) it
     (goes_unshown w x c.args.heard data_is none) in
     done_whole (view_of c.self.inside) w bodies at c.args.exchange y k.known c.in-Some.open k.same false
-    (may_end_lost w c.args.exchange y k.known) c.settle-ended.new.self c.list.new.self
+    c.args.air
+    (may_end_lost w c.args.exchange y c.args.air k.known fine) c.settle-ended.new.self c.list.new.self
     c.settle-ended.result
-    (c.settle-ended.ensures.settled (view_of c.self.inside) w bodies c.args.exchange y false at k.known k.same
+    (c.settle-ended.ensures.settled
+    (view_of c.self.inside) w bodies c.args.exchange y false c.args.air at k.known
+    k.same
     closed goes) (c.settle-ended.ensures.reply
-    (view_of c.self.inside) w bodies c.args.exchange y false at k.known k.same closed goes) c.list.ensures
+    (view_of c.self.inside) w bodies c.args.exchange y false c.args.air at k.known k.same closed goes)
+    c.list.ensures
 
 pub returns-clause-found : goal.returns-clause-found
-returns-clause-found c = ap is_some c.in-Some.ensures.taken
-    ∙ ap (λ (z : TransmitValue). is_some (find (λ (k : Open). k.number == c.args.exchange) z.opened))
-    c.self.view_is
+returns-clause-found c = sym (ap (λ (z : TransmitValue). is_none (end_refusal z c.args.exchange c.args.air))
+    (sym c.self.view_is)
+    ∙ ap is_none (ends_well (view_of c.self.inside) c.args.exchange c.args.air c.in-Some.open
+    c.in-Some.ensures.taken
+    (fine_then c.args.self.now (view_of c.self.inside) c.args.exchange c.args.air c.in-Some.open
+    c.has_bad_air.result c.self.view_is c.has_bad_air.ensures c.if-has_bad_air.false
+    c.in-Some.ensures.taken)))
 
 pub returns-clause-acked : goal.returns-clause-acked
 returns-clause-acked c =
@@ -172,5 +234,5 @@ returns-clause-acked c =
 
 pub returns-clause-kept : goal.returns-clause-kept
 returns-clause-kept c = where_none _ c.args.heard (λ none.
-    kept_world c.args.self.now _ (Asked (Done c.args.exchange false)) _
+    kept_world c.args.self.now _ (Asked (Done c.args.exchange false c.args.air)) _
     (from_none _ c.args.heard none (returns-clause-lost c)) c.requires.some)

@@ -14,11 +14,11 @@ returns-in_err-rate-clause-meets c w bodies h =
 
 pub returns-clause-meets : goal.returns-clause-meets
 returns-clause-meets c w bodies h =
-    rate_done c.args.self.now (view_of c.self.inside) c.self.view_is w bodies h c.args.station c.args.mcs
-    c.args.mhz c.args.short c.set_rate.new.self c.in_ok-rate.rate c.in_ok-rate.ensures.rate
+    rate_done c.args.self.now (view_of c.self.inside) c.self.view_is w bodies h c.args.station c.args.asked
+    c.set_rate.new.self c.in_ok-rate.rate c.in_ok-rate.ensures.rate
     c.set_rate.ensures (c.in_ok-rate.ensures.refused w bodies h)
 
 pub returns-clause-kept : goal.returns-clause-kept
 returns-clause-kept c =
-    kept_world c.args.self.now _ (Asked (Rate c.args.station c.args.mcs c.args.mhz c.args.short)) _
+    kept_world c.args.self.now _ (Asked (Rate c.args.station c.args.asked)) _
     (returns-clause-meets c)

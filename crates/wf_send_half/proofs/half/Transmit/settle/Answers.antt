@@ -13,6 +13,7 @@ use Rattle.wf_send_half.proofs.half.Transmit.settle.Goals as goal
 pub at-requires-clause-tid : goal.at-requires-clause-tid
 at-requires-clause-tid c = data_tid c.requires.some.before c.requires.some.world c.requires.some.bodies
     c.requires.some.stands c.requires.some.number c.requires.some.exchange_is c.requires.some.known
+    c.requires.some.air
     c.args.self.now c.args.open.now c.requires.some.same c.requires.some.closed c.in-Data.numbers c.in-Data.is
 
 pub at-requires-clause-within : goal.at-requires-clause-within
@@ -20,46 +21,51 @@ at-requires-clause-within c = omega (
   arith,
   ap (λ (z : TransmitValue). length z.windows) c.self.view_is,
   data_within c.requires.some.before c.requires.some.world c.requires.some.bodies c.requires.some.stands
-      c.requires.some.number c.requires.some.exchange_is c.requires.some.known c.args.self.now c.args.open.now
+      c.requires.some.number c.requires.some.exchange_is c.requires.some.known c.requires.some.air
+      c.args.self.now
+      c.args.open.now
       c.requires.some.same c.requires.some.closed c.in-Data.numbers c.in-Data.is,
 )
 
 pub settle_all-requires-clause-some : goal.settle_all-requires-clause-some
 settle_all-requires-clause-some c = data_some c.requires.some.before c.requires.some.world
     c.requires.some.bodies c.requires.some.stands c.requires.some.number c.requires.some.exchange_is
-    c.requires.some.known c.args.self.now c.args.open.now c.requires.some.same c.requires.some.closed
+    c.requires.some.known c.requires.some.air c.args.self.now c.args.open.now c.requires.some.same
+    c.requires.some.closed
     c.in-Data.numbers (is_shown (nat_lt 64 c.size-wide.result) c.args.heard.now) c.in-Data.is
 
 pub settle_all-requires-clause-room : goal.settle_all-requires-clause-room
 settle_all-requires-clause-room c = data_place c.requires.some.before c.requires.some.world
     c.requires.some.bodies c.requires.some.stands c.requires.some.number c.requires.some.exchange_is
-    c.requires.some.known c.args.self.now c.args.open.now c.requires.some.same c.requires.some.closed
+    c.requires.some.known c.requires.some.air c.args.self.now c.args.open.now c.requires.some.same
+    c.requires.some.closed
     c.in-Data.numbers c.in-Data.is
 
 pub returns-in-Data-clause-settled : goal.returns-in-Data-clause-settled
-returns-in-Data-clause-settled c v w bodies e x answered h known same closed goes =
+returns-in-Data-clause-settled c v w bodies e x answered air h known same closed goes =
     let told = ap (nat_lt 64) (c.size-wide.ensures.shown
     ∙ ap (λ (z : WindowValue). z.size) (c.at.ensures
     ∙ ap (λ (z : TransmitValue). window_of z.windows c.args.open.now.station c.args.open.now.tid)
     c.self.view_is)) in
-    data_settled v w bodies h e x known c.args.self.now c.args.open.now same closed c.in-Data.numbers
+    data_settled v w bodies h e x known air c.args.self.now c.args.open.now same closed c.in-Data.numbers
     (nat_lt 64 c.size-wide.result) c.args.heard.now answered goes c.settle_all.new.self c.in-Data.is told
     c.settle_all.ensures.settled
 
 pub returns-in-Data-clause-reply : goal.returns-in-Data-clause-reply
-returns-in-Data-clause-reply c v w bodies e x answered h known same closed goes =
+returns-in-Data-clause-reply c v w bodies e x answered air h known same closed goes =
     let told = ap (nat_lt 64) (c.size-wide.ensures.shown
     ∙ ap (λ (z : WindowValue). z.size) (c.at.ensures
     ∙ ap (λ (z : TransmitValue). window_of z.windows c.args.open.now.station c.args.open.now.tid)
     c.self.view_is)) in
-    data_told v w bodies h e x known c.args.self.now c.args.open.now same closed c.in-Data.numbers
+    data_told v w bodies h e x known air c.args.self.now c.args.open.now same closed c.in-Data.numbers
     (nat_lt 64 c.size-wide.result) c.args.heard.now answered goes c.settle_all.result c.in-Data.is told
     c.settle_all.ensures.counted
 
 pub bar_heard-requires-clause-tid : goal.bar_heard-requires-clause-tid
 bar_heard-requires-clause-tid c = request_low c.requires.some.before c.requires.some.world
     c.requires.some.bodies c.requires.some.stands c.requires.some.number c.requires.some.exchange_is
-    c.requires.some.known c.args.self.now c.args.open.now c.requires.some.same c.requires.some.closed
+    c.requires.some.known c.requires.some.air c.args.self.now c.args.open.now c.requires.some.same
+    c.requires.some.closed
     c.in-Request.start c.in-Request.is
 
 pub bar_heard-requires-clause-within : goal.bar_heard-requires-clause-within
@@ -67,7 +73,9 @@ bar_heard-requires-clause-within c = omega (
   arith,
   ap (λ (z : TransmitValue). length z.windows) c.self-in-Request.view_is,
   request_within c.requires.some.before c.requires.some.world c.requires.some.bodies c.requires.some.stands
-      c.requires.some.number c.requires.some.exchange_is c.requires.some.known c.args.self.now c.args.open.now
+      c.requires.some.number c.requires.some.exchange_is c.requires.some.known c.requires.some.air
+      c.args.self.now
+      c.args.open.now
       c.requires.some.same c.requires.some.closed c.in-Request.start c.in-Request.is,
 )
 
@@ -79,29 +87,30 @@ bar_heard-requires-clause-near c =
     ≤ (window_of z.windows c.args.open.now.station c.args.open.now.tid).size)
     (sym c.self-in-Request.view_is)
     (request_near c.requires.some.before c.requires.some.world c.requires.some.bodies c.requires.some.stands
-    c.requires.some.number c.requires.some.exchange_is c.requires.some.known c.args.self.now
+    c.requires.some.number c.requires.some.exchange_is c.requires.some.known c.requires.some.air
+    c.args.self.now
     c.args.open.now c.requires.some.same c.requires.some.closed c.in-Request.start c.in-Request.is)
 
 pub returns-then-is_some-clause-settled : goal.returns-then-is_some-clause-settled
-returns-then-is_some-clause-settled c v w bodies e x answered h known same closed goes =
-    request_heard v w bodies h e x known (view_of c.self-in-Request.inside) c.args.open.now same
+returns-then-is_some-clause-settled c v w bodies e x answered air h known same closed goes =
+    request_heard v w bodies h e x known air (view_of c.self-in-Request.inside) c.args.open.now same
     (c.self-in-Request.view_is ∙ closed) c.in-Request.start c.args.heard.now answered goes
     (sym c.is_some.ensures ∙ c.if-is_some.true) c.bar_heard.new.self c.bar_heard.ensures.room
     c.in-Request.is c.bar_heard.ensures.others c.bar_heard.ensures.stands
 
 pub returns-then-is_some-clause-reply : goal.returns-then-is_some-clause-reply
-returns-then-is_some-clause-reply c v w bodies e x answered h known same closed goes =
-    request_told v w bodies h e x known c.args.self.now c.args.open.now same closed c.in-Request.start
+returns-then-is_some-clause-reply c v w bodies e x answered air h known same closed goes =
+    request_told v w bodies h e x known air c.args.self.now c.args.open.now same closed c.in-Request.start
     c.args.heard.now answered goes c.in-Request.is
 
 pub returns-else-is_some-clause-settled : goal.returns-else-is_some-clause-settled
-returns-else-is_some-clause-settled c v w bodies e x answered h known same closed goes =
-    request_lost v w bodies h e x known c.args.self.now c.args.open.now same closed c.in-Request.start
+returns-else-is_some-clause-settled c v w bodies e x answered air h known same closed goes =
+    request_lost v w bodies h e x known air c.args.self.now c.args.open.now same closed c.in-Request.start
     c.args.heard.now answered goes (sym c.is_some.ensures ∙ c.if-is_some.false) c.in-Request.is
 
 pub returns-else-is_some-clause-reply : goal.returns-else-is_some-clause-reply
-returns-else-is_some-clause-reply c v w bodies e x answered h known same closed goes =
-    request_told v w bodies h e x known c.args.self.now c.args.open.now same closed c.in-Request.start
+returns-else-is_some-clause-reply c v w bodies e x answered air h known same closed goes =
+    request_told v w bodies h e x known air c.args.self.now c.args.open.now same closed c.in-Request.start
     c.args.heard.now answered goes c.in-Request.is
 
 pub returns-in-Data-clause-acked : goal.returns-in-Data-clause-acked

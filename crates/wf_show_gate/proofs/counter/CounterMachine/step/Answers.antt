@@ -9,8 +9,8 @@ invariant_of-self c =
     let some_left : 0 < it.left = omega (arith, c.if-self-eq0.false) in
     let fits : c.args.call < 2 ^ 32 = c.ranges.call.fits in
     let inside : c.args.caller % 256 < length it.sums = omega (arith, c.self.told) in (
-      λ k l. are_more it.sums it.history.items it.left c.args.caller c.args.call c.self.invariant.0
-          c.self.invariant.1 some_left fits inside k l ∙ ap (octets_at k) (sym c.and-self-inside.ensures),
-      small_more it.sums it.history.items it.left c.args.caller c.args.call c.self.invariant.0
+      λ k l. are_more it.sums it.history it.left c.args.caller c.args.call c.self.invariant.0
+          c.self.invariant.1 some_left fits inside k l ∙ ap (octets_at k) (sym c.push.ensures),
+      small_more it.sums it.history it.left c.args.caller c.args.call c.self.invariant.0
           c.self.invariant.1 some_left fits inside,
     )

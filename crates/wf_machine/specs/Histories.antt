@@ -1,0 +1,8 @@
+-- The entries of a history that clauses alone see.
+use Rattle.std.specs.Prelude.{ℕ, List, [], ◌∷◌, ◌++◌}
+use Rattle.wf_machine.specs.declared.history.Chain.{Chain, Start, Then'}
+
+-- the entries of a chain, the first one in front: of each its caller and its note
+abbrev pub chain_entries : {N : Type 0} → Chain N → List (ℕ × N)
+chain_entries Start = []
+chain_entries (Then' marker before caller note) = chain_entries before ++ (caller, note.value) ∷ []
