@@ -5,6 +5,8 @@
 #[cfg(test)]
 mod captures;
 #[cfg(test)]
+mod commands;
+#[cfg(test)]
 mod exchanges;
 #[cfg(test)]
 mod frames;

@@ -1,8 +1,8 @@
 //! Reads and writes in pieces, sources and sinks that fail, and inputs that are cut off.
 
+use crate::commands::{Command, played};
 use std::test::Fail;
-use wf_io::{Given, Kept, Status};
-use wf_run_replay::replay;
+use wf_io::Status;
 
 /// A trace of one frame that is acknowledged.
 pub(crate) const ONE_FRAME: &[u8] = b"cell\n\
@@ -28,26 +28,10 @@ const ONE_FRAME_TEXT: &[u8] = b"joined\n\
       sta 0 be charged 1976 rx 0 deficit -1676\n\
       tim 050400010000\n";
 
-// How a replay ends and what it writes, where reads and writes come in pieces and fail at these calls.
-fn replayed(
-    rt: &HostRuntime,
-    input: &[u8],
-    piece: usize,
-    bad_reads: &[u64],
-    bad_writes: &[u64],
-) -> Result<(Status, Vec<u8>), Fail> {
-    let piece = piece.max(1);
-    let octets = input.to_vec(rt.alloc())?;
-    let mut source = Given::new(octets, piece, bad_reads.to_vec(rt.alloc())?);
-    let mut sink = Kept::new(rt.alloc(), 65_536, piece, bad_writes.to_vec(rt.alloc())?)?;
-    let status = replay(rt.alloc(), &mut source, &mut sink);
-    Ok((status, sink.octets().to_vec(rt.alloc())?))
-}
-
 #[test]
 fn reads_of_any_size_give_the_same_text(rt: HostRuntime) -> Result<(), Fail> {
     for piece in [1, 7, 4096] {
-        let (status, written) = replayed(&rt, ONE_FRAME, piece, &[], &[])?;
+        let (status, written) = played(&rt, Command::Replay, ONE_FRAME, piece, &[], &[])?;
         assert!(rt; status == Status::Done);
         assert_eq!(rt; written.as_slice(), ONE_FRAME_TEXT);
     }
@@ -58,7 +42,7 @@ fn reads_of_any_size_give_the_same_text(rt: HostRuntime) -> Result<(), Fail> {
 fn a_source_that_fails_at_each_call(rt: HostRuntime) -> Result<(), Fail> {
     let mut failed = 0;
     for call in 0..64 {
-        let (status, written) = replayed(&rt, ONE_FRAME, 16, &[call], &[])?;
+        let (status, written) = played(&rt, Command::Replay, ONE_FRAME, 16, &[call], &[])?;
         assert!(rt; ONE_FRAME_TEXT.starts_with(written.as_slice()));
         if status == Status::ReadFault {
             failed = call;
@@ -73,7 +57,7 @@ fn a_source_that_fails_at_each_call(rt: HostRuntime) -> Result<(), Fail> {
 #[test]
 fn a_sink_that_fails_at_each_call(rt: HostRuntime) -> Result<(), Fail> {
     for call in 0..64 {
-        let (status, written) = replayed(&rt, ONE_FRAME, 16, &[], &[call])?;
+        let (status, written) = played(&rt, Command::Replay, ONE_FRAME, 16, &[], &[call])?;
         assert!(rt; ONE_FRAME_TEXT.starts_with(written.as_slice()));
         if status == Status::Done {
             assert!(rt; written.len() == ONE_FRAME_TEXT.len());
@@ -86,7 +70,7 @@ fn a_sink_that_fails_at_each_call(rt: HostRuntime) -> Result<(), Fail> {
 
 #[test]
 fn the_answers_to_one_read_go_out_by_one_write(rt: HostRuntime) -> Result<(), Fail> {
-    let (status, written) = replayed(&rt, ONE_FRAME, 4096, &[], &[1])?;
+    let (status, written) = played(&rt, Command::Replay, ONE_FRAME, 4096, &[], &[1])?;
     assert!(rt; status == Status::WriteFault);
     assert!(rt; written.ends_with(b"done acked 1 waiting 0 failed 0\n"));
     Ok(())
@@ -105,12 +89,12 @@ fn an_input_that_is_cut_after_each_octet(rt: HostRuntime) -> Result<(), Fail> {
         (26, b"joined\nfault line 3 count\n"),
     ];
     for (len, want) in cuts {
-        let (status, written) = replayed(&rt, &ONE_FRAME[..len], 16, &[], &[])?;
+        let (status, written) = played(&rt, Command::Replay, &ONE_FRAME[..len], 16, &[], &[])?;
         assert!(rt; status == Status::BadTrace);
         assert_eq!(rt; written.as_slice(), want);
     }
     for len in 0..ONE_FRAME.len() {
-        let (status, written) = replayed(&rt, &ONE_FRAME[..len], 16, &[], &[])?;
+        let (status, written) = played(&rt, Command::Replay, &ONE_FRAME[..len], 16, &[], &[])?;
         let done = status == Status::Done && written.as_slice() == ONE_FRAME_TEXT;
         let faulty = status == Status::BadTrace && written.ends_with(b"\n");
         assert!(rt; done || faulty);

@@ -1,9 +1,10 @@
 //! Sources and sinks that fail, and lines that are no event. The worked scripts are rows of
 //! checks/worked.d.
 
+use crate::commands::{Command, played};
 use std::test::Fail;
-use wf_io::{Given, Kept, Status};
-use wf_run_uplink::{event_from, uplink};
+use wf_io::Status;
+use wf_run_uplink::event_from;
 use wf_trace::FaultKind;
 
 /// A hole that is given up.
@@ -23,29 +24,13 @@ const HOLE_TEXT: &[u8] = b"opened\n\
       up sta 0 tid 0 air 132 old\n\
       frames 2 up 1 old 1 held 0 missing 1\n";
 
-// How an uplink ends and what it writes, where reads and writes come in pieces and fail at these calls.
-fn played(
-    rt: &HostRuntime,
-    input: &[u8],
-    piece: usize,
-    bad_reads: &[u64],
-    bad_writes: &[u64],
-) -> Result<(Status, Vec<u8>), Fail> {
-    let piece = piece.max(1);
-    let octets = input.to_vec(rt.alloc())?;
-    let mut source = Given::new(octets, piece, bad_reads.to_vec(rt.alloc())?);
-    let mut sink = Kept::new(rt.alloc(), 65_536, piece, bad_writes.to_vec(rt.alloc())?)?;
-    let status = uplink(rt.alloc(), &mut source, &mut sink);
-    Ok((status, sink.octets().to_vec(rt.alloc())?))
-}
-
 #[test]
 fn a_source_and_a_sink_that_fail_at_each_call(rt: HostRuntime) -> Result<(), Fail> {
     for call in 0..9 {
-        let (status, written) = played(&rt, HOLE, 40, &[call], &[])?;
+        let (status, written) = played(&rt, Command::Uplink, HOLE, 40, &[call], &[])?;
         assert!(rt; HOLE_TEXT.starts_with(written.as_slice()));
         assert!(rt; status == Status::ReadFault || written.len() == HOLE_TEXT.len());
-        let (status, written) = played(&rt, HOLE, 40, &[], &[call])?;
+        let (status, written) = played(&rt, Command::Uplink, HOLE, 40, &[], &[call])?;
         assert!(rt; HOLE_TEXT.starts_with(written.as_slice()));
         assert!(rt; status == Status::WriteFault || written.len() == HOLE_TEXT.len());
     }
