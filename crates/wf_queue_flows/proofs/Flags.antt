@@ -1,6 +1,6 @@
 -- The flags of the queues that have frames, and the longest queue.
-use Rattle.std.proofs.Common.{◌≡◌, ℕ, ◌+◌, ◌<◌, Bool, true, false, not, eq-eqb, Option, Some, None, drop, take, List, [], ◌∷◌, ◌++◌, length, map, get_or, set, refl, sym, ap, ◌∙◌, inl, inr, arith, length-append}
-use Rattle.std.specs.Prelude.{◌==◌, OnSome, IfNone, IfSome}
+use Rattle.std.proofs.Common.{◌≡◌, ℕ, ◌+◌, ◌<◌, true, false, not, eq-eqb, Option, Some, None, drop, take, List, [], ◌∷◌, ◌++◌, length, map, get_or, set, refl, sym, ap, ◌∙◌, inl, inr, arith, length-append}
+use Rattle.std.specs.Prelude.{◌==◌, IfSome}
 use Rattle.std.proofs.Math.Path.{fun_ext}
 use Rattle.std.proofs.lemmas.List.{get_or-map, get_or_past, length-map, map-set, set-get_or, get_or-set_same, append-nil}
 use Rattle.std.proofs.lemmas.List.Sums.{sum_by-cons}
@@ -10,12 +10,9 @@ use Rattle.wf_frame.specs.declared.classes.Cause.TheVariants.{Overlimit}
 use Rattle.wf_frame.specs.declared.classes.Fate.TheVariants.{Dropped}
 use Rattle.wf_def_codel.specs.Codel.{octets}
 use Rattle.wf_sched_rotation.specs.Rotas.{is_ready}
-use Rattle.wf_queue_flows.specs.Queues.{queue_octets}
-use Rattle.wf_queue_flows.specs.Store.{IsLongest}
-use Rattle.wf_queue_flows.specs.Backlog.{BacklogValue, frames_at, first_id, item_of, frame_with_fate, after_head_drop, as_store}
+use Rattle.wf_queue_flows.specs.Backlog.{BacklogValue, frames_at, queue_octets, is_some_frame, flags, item_of, frame_with_fate, after_head_drop, IsLongest}
 use Rattle.wf_queue_flows.proofs.LongestLemmas.{longest_found}
 use Rattle.wf_queue_flows.specs.Flows.{backlog_has_frames, as_queue, longest_queue}
-use Rattle.wf_queue_flows.specs.Kept.{flags, is_some_frame}
 
 -- an empty queue has no head to drop
 pub nothing_dropped : (b : BacklogValue) (q : ℕ) → frames_at b q ≡ [] → after_head_drop b q ≡ b
@@ -43,27 +40,11 @@ pub flag_counted : (n : ℕ) (xs : List FrameValue) → n ≡ length xs → not 
 flag_counted n [] e = rw (eq-eqb n 0 e) refl
 flag_counted n (f ∷ fs) e = rw (ne_eqb n 0 (λ z. omega arith), lt-ltb 0 (length (f ∷ fs)) (omega arith)) refl
 
--- one queue has other frames, and its flag is written
-pub flags_after : (b after : BacklogValue) (ready : List Bool) (q : ℕ) (xs : List FrameValue) (flag : Bool) →
-    ready ≡ flags b → after.queues ≡ set b.queues q xs → flag ≡ is_some_frame xs →
-    set ready q flag ≡ flags after
-flags_after b after ready q xs flag was changed same =
-    ap (λ (rs : List Bool). set rs q flag) was ∙ ap (set (flags b) q) same
-    ∙ sym (ap (map is_some_frame) changed ∙ flags_set b.queues q xs)
-
 -- the frames of the queue that was changed
 pub changed_at : (b after : BacklogValue) (q : ℕ) (xs : List FrameValue) → q < length b.queues →
     after.queues ≡ set b.queues q xs → frames_at after q ≡ xs
 changed_at b after q xs low changed = ap (λ (all : List (List FrameValue)). get_or all q []) changed
     ∙ get_or-set_same b.queues q xs [] low
-
--- a queue's head is dropped, also where it has none
-pub head_gone : (b after : BacklogValue) (q : ℕ) (o : Option ℕ) (xs : List FrameValue) → frames_at b q ≡ xs →
-    o ≡ first_id xs → OnSome o (after ≡ after_head_drop b q) → IfNone o (after ≡ b) →
-    after ≡ after_head_drop b q
-head_gone b after q None [] frames is some none = none ∙ sym (nothing_dropped b q frames)
-head_gone b after q None (f ∷ fs) frames is some none = absurd cc
-head_gone b after q (Some id) xs frames is some none = some
 
 flag_at : (b : BacklogValue) (q : ℕ) → is_ready (flags b) q ≡ backlog_has_frames b q
 flag_at b q = elim (cases_lt q (length b.queues)) [
@@ -87,12 +68,12 @@ octets_each [] = refl
 octets_each (xs ∷ all) = ap (λ (n : ℕ). n ∷ map queue_octets all) (sym (octets_same xs))
     ∙ ap (λ (ns : List ℕ). octets (map item_of xs) ∷ ns) (octets_each all)
 
--- the longest queue of a store is the one that the pass over the queues finds
-pub longest_is : (b : BacklogValue) (q : ℕ) → IsLongest (as_store b) q → q ≡ longest_queue b
+-- the longest queue of a backlog is the one that the pass over the queues finds
+pub longest_is : (b : BacklogValue) (q : ℕ) → IsLongest b q → q ≡ longest_queue b
 unfolding longest_queue
 longest_is b q l = sym (longest_found b (map as_queue b.queues) q (octets_each b.queues) l)
 
-pub longest_some : (b : BacklogValue) (o : Option ℕ) → IfSome o (IsLongest (as_store b)) →
+pub longest_some : (b : BacklogValue) (o : Option ℕ) → IfSome o (IsLongest b) →
     IfSome o (λ q. q ≡ longest_queue b)
 longest_some b None l = l
 longest_some b (Some q) l = longest_is b q l

@@ -14,9 +14,9 @@ use Rattle.wf_def_lists.specs.Lists.{on}
 use Rattle.wf_sched_rotation.specs.Lists.{lists_at, on_at}
 use Rattle.wf_sched_rotation.specs.Rotas.{Rotas, deficit_at}
 use Rattle.wf_law_rules.proofs.Lemmas.Counts.{on-nil}
-use Rattle.wf_queue_flows.specs.Backlog.{BacklogValue, held_in_backlog}
+use Rattle.wf_queue_flows.specs.Backlog.{BacklogValue, held_in_backlog, is_some_frame}
 use Rattle.wf_queue_flows.specs.Flows.{empty_flows, frames_waiting}
-use Rattle.wf_queue_flows.specs.Kept.{is_some_frame, depth, AreListed, AreFlowsKept}
+use Rattle.wf_queue_flows.specs.Kept.{depth, AreListed, AreFlowsKept}
 
 pub no_flags : (n : ℕ) → replicate {A = Bool} n false ≡ map is_some_frame (replicate n [])
 no_flags zero = refl

@@ -1,5 +1,6 @@
 pub mod Flags
 mod Fresh
+mod Holding
 mod Keeps
 mod Leaves
 mod Listing
@@ -10,12 +11,9 @@ pub mod Owners
 mod Paid
 mod Picking
 pub mod Picks
-mod PoolLemmas
 mod Purges
 mod Puts
-mod Queues
 mod Settings
-mod Stores
-mod TakeLemmas
+mod Taking
 pub mod Waiting
 mod Whole

@@ -8,12 +8,10 @@ use Rattle.wf_def_codel.specs.Codel.{octets}
 use Rattle.wf_def_world.specs.World.{Queue, new_queue}
 use Rattle.wf_def_world.specs.FlowQueues.{longest_of}
 use Rattle.wf_def_world.proofs.Longest.{octets_at, longest_is}
-use Rattle.wf_queue_flows.specs.Queues.{queue_octets}
-use Rattle.wf_queue_flows.specs.Store.{IsLongest}
-use Rattle.wf_queue_flows.specs.Backlog.{BacklogValue, frames_at, octets_per_queue, as_store}
+use Rattle.wf_queue_flows.specs.Backlog.{BacklogValue, frames_at, queue_octets, octets_per_queue, IsLongest}
 
 -- no queue has more octets than the longest, also none past the last one
-most : (v : BacklogValue) (q k : ℕ) → IsLongest (as_store v) q →
+most : (v : BacklogValue) (q k : ℕ) → IsLongest v q →
     queue_octets (frames_at v k) ≤ queue_octets (frames_at v q)
 most v q k is =
     elim (cases_lt k (length v.queues)) [
@@ -24,7 +22,7 @@ most v q k is =
 -- the same octets by number
 pub longest_by_number : (v : BacklogValue) (queues : List Queue) (q : ℕ) →
     ((k : ℕ) → queue_octets (frames_at v k) ≡ octets (at new_queue queues k).items) →
-    IsLongest (as_store v) q → longest_of queues ≡ q
+    IsLongest v q → longest_of queues ≡ q
 unfolding octets_at
 longest_by_number v queues q same is =
     longest_is queues (λ k. queue_octets (frames_at v k)) q same
@@ -41,5 +39,5 @@ each (l ∷ ls) (x ∷ xs) (suc k) same = each ls xs k (cc)
 
 -- the same octets as lists
 pub longest_found : (v : BacklogValue) (queues : List Queue) (q : ℕ) →
-    octets_per_queue v ≡ map (λ x. octets x.items) queues → IsLongest (as_store v) q → longest_of queues ≡ q
+    octets_per_queue v ≡ map (λ x. octets x.items) queues → IsLongest v q → longest_of queues ≡ q
 longest_found v queues q same is = longest_by_number v queues q (λ k. each v.queues queues k same) is

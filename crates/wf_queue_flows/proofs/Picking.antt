@@ -9,9 +9,9 @@ use Rattle.wf_def_lists.specs.Lists.{on}
 use Rattle.wf_sched_rotation.specs.Lists.{lists_at, on_at}
 use Rattle.wf_sched_rotation.specs.Rotas.{Rotas, deficit_at, quantum_at, need_at, is_ready}
 use Rattle.wf_law_rules.proofs.Lemmas.Counts.{listed-some}
-use Rattle.wf_queue_flows.specs.Backlog.{frames_at}
+use Rattle.wf_queue_flows.specs.Backlog.{frames_at, flags}
 use Rattle.wf_queue_flows.specs.Flows.{FlowsValue, tids, is_listed, backlog_has_frames, pick_of_tid, with_quanta_paid, after_pick, frames_of_tid}
-use Rattle.wf_queue_flows.specs.Kept.{depth, flags, AreFlowsKept, IsPickOfOne}
+use Rattle.wf_queue_flows.specs.Kept.{depth, AreFlowsKept, IsPickOfOne}
 use Rattle.wf_queue_flows.proofs.Flags.{flags_tell}
 use Rattle.wf_queue_flows.proofs.Paid.{paid_is}
 use Rattle.wf_queue_flows.proofs.Picks.{on-picked_le, on-picked, none-picked, won_quanta, lifted_above}

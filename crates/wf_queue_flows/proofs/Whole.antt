@@ -5,8 +5,7 @@ use Rattle.std.proofs.lemmas.Bool.{both_ways, le-leb, lt-leb, cond-true, cond-fa
 use Rattle.wf_frame.specs.Frames.{FrameValue}
 use Rattle.wf_def_codel.specs.Codel.{Params}
 use Rattle.wf_sched_rotation.specs.Lists.{on_at}
-use Rattle.wf_queue_flows.specs.Store.{IsLongest}
-use Rattle.wf_queue_flows.specs.Backlog.{as_store, frames_at, in_queues, first_id, after_head_drop}
+use Rattle.wf_queue_flows.specs.Backlog.{frames_at, in_queues, first_id, after_head_drop, IsLongest}
 use Rattle.wf_queue_flows.specs.Flows.{FlowsValue, flows_at_limit, longest_queue, after_limit, dropped_for_limit, queue_for, with_listed_queue, with_appended, after_put_in, after_put, pick_of_tid, after_pick, TakenFromFlows, TakeGives, taken_from_picked, taken_for_tid, AreListedOnce}
 use Rattle.wf_queue_flows.specs.Kept.{AreFlowsKept}
 use Rattle.wf_queue_flows.proofs.Owners.{on-listed, listed-on}
@@ -52,11 +51,11 @@ module _ (v now : FlowsValue) (same : v ≡ now) where
       first_some (f ∷ fs) o some e = ap is_some e
 
   pub full_greatest : (q : ℕ) (o : Option ℕ) → q ≡ longest_queue v.backlog →
-      IsLongest (as_store v.backlog) q → OnSome o
-      (IsLongest (as_store now.backlog) (longest_queue now.backlog))
+      IsLongest v.backlog q → OnSome o
+      (IsLongest now.backlog (longest_queue now.backlog))
   full_greatest q o e most = on_some o (subst (λ (w : FlowsValue).
-      IsLongest (as_store w.backlog) (longest_queue w.backlog)) same
-      (subst (IsLongest (as_store v.backlog)) e most))
+      IsLongest w.backlog (longest_queue w.backlog)) same
+      (subst (IsLongest v.backlog) e most))
     where
       on_some : {P : Type 0} (o : Option ℕ) → P → OnSome o P
       on_some None p = tt

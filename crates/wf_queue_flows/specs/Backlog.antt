@@ -1,12 +1,11 @@
 -- Numbered queues of frames, each with its CoDel state, and the list of the frames that are finished.
-use Rattle.std.specs.Prelude.{ℕ, suc, ◌+◌, List, [], ◌∷◌, ◌++◌, Option, Some, None, length, map, take, drop, sum_by, slice_get, slice_index_or, slice_set}
+use Rattle.std.specs.Prelude.{◌≡◌, ◌<◌, ◌≤◌, ◌^◌, ℕ, suc, ◌+◌, ◌-◌, nat_lt, Bool, List, [], ◌∷◌, ◌++◌, Option, Some, None, All, length, map, take, drop, sum_by, slice_get, slice_index_or, slice_set}
 use Rattle.wf_frame.specs.Frames.{FrameValue}
 use Rattle.wf_frame.specs.declared.classes.Fate.{Fate}
 use Rattle.wf_frame.specs.declared.classes.Fate.TheVariants.{Dropped}
 use Rattle.wf_frame.specs.declared.classes.Cause.TheVariants.{Overlimit, Codel as By_codel, Left}
 use Rattle.wf_def_codel.specs.Codel.{Item, Params, Codel, new_codel, Dequeued, dequeue}
-use Rattle.wf_queue_flows.specs.Queues.{queue_octets}
-use Rattle.wf_queue_flows.specs.Store.{StoreValue}
+use Rattle.wf_def_lists.specs.Lengths.{greatest_body}
 
 -- the queues by number, the CoDel state of each, and the finished frames in the order in which they will be
 -- reaped
@@ -32,6 +31,10 @@ in_queues v = sum_by length v.queues
 abbrev pub held_in_backlog : BacklogValue → ℕ
 held_in_backlog v = in_queues v + length v.finished
 
+-- how many more frames there may be
+abbrev pub spare_of : BacklogValue → ℕ
+spare_of v = v.room - held_in_backlog v
+
 abbrev pub first_id : List FrameValue → Option ℕ
 first_id [] = None
 first_id (f ∷ rest) = Some f.id
@@ -40,13 +43,28 @@ first_id (f ∷ rest) = Some f.id
 abbrev pub item_of : FrameValue → Item
 item_of f = record { id = f.id; stamp = f.stamp; len = length f.body }
 
+-- the sum of the body lengths of a queue's frames
+abbrev pub queue_octets : List FrameValue → ℕ
+queue_octets = sum_by (λ f. length f.body)
+
 -- the octets of each queue
 abbrev pub octets_per_queue : BacklogValue → List ℕ
 octets_per_queue v = map queue_octets v.queues
 
--- the queues as a store, all of which count for the longest
-abbrev pub as_store : BacklogValue → StoreValue
-as_store v = record { room = v.room; counted = length v.queues; lists = v.queues }
+-- a queue has frames, and whether each has
+abbrev pub is_some_frame : List FrameValue → Bool
+is_some_frame frames = nat_lt 0 (length frames)
+
+abbrev pub flags : BacklogValue → List Bool
+flags v = map is_some_frame v.queues
+
+-- queue q has the most octets, which are not 0, and it is the least of the queues that have so many
+pub record IsLongest (v : BacklogValue) (q : ℕ) : Type 0 where
+  pub within : q < length v.queues
+  pub some : 0 < queue_octets (frames_at v q)
+  pub most : (other : ℕ) → other < length v.queues →
+      queue_octets (frames_at v other) ≤ queue_octets (frames_at v q)
+  pub least : (other : ℕ) → other < q → queue_octets (frames_at v other) < queue_octets (frames_at v q)
 
 -- ---- changing it
 
@@ -92,3 +110,22 @@ backlog_after_take p now v q = record v {
   finished = v.finished ++ map (frame_with_fate (Dropped By_codel))
       (take (drops_at p now v q) (frames_at v q));
 }
+
+-- ---- what it keeps
+
+-- the body of a frame has at least one octet, and at most those of the greatest
+abbrev pub IsBodySized : FrameValue → Type 0
+IsBodySized f = (0 < length f.body) × (length f.body ≤ greatest_body)
+
+-- the octets are those of the queues, as a list and as the leaves of the tree; the flags tell which queues
+-- have frames; the count is that of the queues' frames, and there is room for all
+pub record IsBacklogKept (v : BacklogValue) (octets leaves : List ℕ) (ready : List Bool)
+    (queued : ℕ) : Type 0 where
+  pub states : length v.codels ≡ length v.queues
+  pub octets_are : octets ≡ octets_per_queue v
+  pub leaves_are : leaves ≡ octets_per_queue v
+  pub ready_are : ready ≡ flags v
+  pub queued_is : queued ≡ in_queues v
+  pub fits : held_in_backlog v ≤ v.room
+  pub small : v.room < 2 ^ 32
+  pub sized : All (All IsBodySized) v.queues

@@ -1,20 +1,13 @@
 -- What the flow queues keep.
-use Rattle.std.specs.Prelude.{◌≡◌, ℕ, ◌+◌, ◌*◌, ◌<◌, ◌≤◌, pos, ◌-ℤ◌, ◌+ℤ◌, ◌≤ℤ◌, Option, IfSome, Bool, true, if◌then◌else◌, List, length, map, filter, nat_lt, nat_le, slice_index_or, slice_set, [], get_or}
+use Rattle.std.specs.Prelude.{◌≡◌, ℕ, ◌+◌, ◌*◌, ◌<◌, ◌≤◌, pos, ◌-ℤ◌, ◌+ℤ◌, ◌≤ℤ◌, Option, IfSome, Bool, true, if◌then◌else◌, List, length, map, filter, nat_le, slice_index_or, slice_set, [], get_or}
 use Rattle.wf_frame.specs.Frames.{FrameValue}
 use Rattle.wf_def_lists.specs.Lengths.{greatest_body}
 use Rattle.wf_def_lists.specs.Table.{upto}
 use Rattle.wf_def_rotation.specs.Rotation.{Rotation, has_key as lists_of, in_order, without_key}
 use Rattle.wf_sched_rotation.specs.Lists.{AreDisjoint, lists_at, on_at}
 use Rattle.wf_sched_rotation.specs.Rotas.{Rotas, deficit_at, quantum_at, picked_at, is_ready as is_ready_of}
-use Rattle.wf_queue_flows.specs.Backlog.{BacklogValue, after_flush}
+use Rattle.wf_queue_flows.specs.Backlog.{after_flush}
 use Rattle.wf_queue_flows.specs.Flows.{FlowsValue, tid_rotation, is_listed, frames_waiting, all_flushed}
-
-abbrev pub is_some_frame : List FrameValue → Bool
-is_some_frame frames = nat_lt 0 (length frames)
-
--- whether each queue has frames
-abbrev pub flags : BacklogValue → List Bool
-flags b = map is_some_frame b.queues
 
 -- how many frames wait in a queue
 abbrev pub depth : List (List FrameValue) → ℕ → ℕ

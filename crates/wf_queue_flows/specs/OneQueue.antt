@@ -1,14 +1,18 @@
--- One queue of a pool, as CoDel's lane.
-use Rattle.std.specs.Prelude.{◌≡◌}
+-- One queue of a backlog, as CoDel's lane.
+use Rattle.std.specs.Prelude.{◌≡◌, ℕ, []}
 use Rattle.std.proofs.Common.{refl, ◌∙◌}
-use Rattle.wf_queue_flows.specs.Pool.{elsewhere}
+use Rattle.wf_queue_flows.specs.Backlog.{BacklogValue, with_frames}
 use Rattle.wf_queue_flows.specs.declared.lane.OneQueue.{OneQueue}
 
--- It is the same queue of the same pool, and every other queue and the room are as before.
+-- all that a lane on queue q leaves as it was
+abbrev pub elsewhere : BacklogValue → ℕ → BacklogValue
+elsewhere v q = record (with_frames v q []) { finished = [] }
+
+-- It is the same queue of the same backlog, and every other queue, the states and the room are as before.
 pub record SameLane (a b : OneQueue) : Type 0 where
   pub queue : b.queue ≡ a.queue
-  pub name : b.pool.ghost_name ≡ a.pool.ghost_name
-  pub others : elsewhere b.pool.now b.queue ≡ elsewhere a.pool.now a.queue
+  pub name : b.backlog.ghost_name ≡ a.backlog.ghost_name
+  pub others : elsewhere b.backlog.now b.queue ≡ elsewhere a.backlog.now a.queue
 
 pub SameLane-refl : (a : OneQueue) → SameLane a a
 SameLane-refl a = record { queue = refl; name = refl; others = refl }

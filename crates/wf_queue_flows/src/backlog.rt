@@ -1,46 +1,81 @@
-//! The queues with their CoDel states, and the finished list.
+//! Numbered queues of parcels, each with a CoDel state, and the list of the finished parcels.
 
-ghost use Rattle.std.specs.Prelude.{◌≡◌, ◌+◌, ◌^◌, ◌<◌, ◌≤◌, ◌↔◌, [], ◌∷◌, ◌++◌, length, replicate, IfOk, IfNone, IfSome, OnSome, IsNone, MatchOption};
+ghost use Rattle.std.specs.Prelude.{◌≡◌, ◌+◌, ◌<◌, ◌≤◌, ◌↔◌, [], ◌∷◌, ◌++◌, length, replicate, is_some, if◌then◌else◌, IfOk, IfNone, IfSome, IsNone, MatchOption};
 ghost use Rattle.wf_def_codel.specs.Codel.{new_codel};
-ghost use Rattle.wf_queue_codel.specs.Params.{params_of};
-ghost use Rattle.wf_queue_flows.specs.Store.{IsLongest};
-ghost use Rattle.wf_queue_flows.specs.Backlog.{frames_at, in_queues, held_in_backlog, first_id, with_frames, after_head_drop, after_flush, given_at, backlog_after_take, as_store};
+ghost use Rattle.wf_queue_flows.specs.Backlog.{frames_at, in_queues, held_in_backlog, spare_of, first_id, frame_with_fate, with_frames, after_head_drop, after_flush, flags, queue_octets, IsLongest};
+ghost use Rattle.wf_queue_flows.specs.Flows.{longest_queue};
 
-use crate::pool::{Pool, settle};
 use std::alloc::{AllocError, Global};
 use std::marker::Model;
 use wf_frame::{Cause, Fate};
-use wf_queue_chain::Parcel;
-use wf_queue_codel::{Codel, Params};
+use wf_queue_chain::{Chain, Parcel};
+use wf_queue_codel::Codel;
+use wf_queue_counted::Peak;
 
 /// Numbered queues of parcels, each with a CoDel state, and the list of the finished parcels. Together they
-/// hold at most `room` parcels. No call but `new` takes memory.
+/// hold at most `room` parcels. Which queue is the longest, and which have frames, is known at each moment.
+/// No call but `new` takes memory.
 #[derive(Drop)]
 pub struct Backlog {
-    pool: Pool,
-    codels: Vec<Codel>,
+    queues: Vec<Chain>,
+    /// The sum of the body lengths of each queue's frames, in octets.
+    octets: Vec<u64>,
+    /// The same octets, of which the greatest is known.
+    longest: Peak,
+    /// Whether each queue has frames.
+    ready: Vec<bool>,
+    pub(crate) codels: Vec<Codel>,
+    finished: Chain,
+    /// How many parcels are in the queues.
+    queued: u32,
+    room: u32,
 }
 
 impl Model for Backlog {
-    ghost use Rattle.std.specs.Prelude.{◌≡◌, length};
-    ghost use Rattle.wf_queue_flows.specs.Backlog.{BacklogValue};
+    ghost use Rattle.wf_queue_flows.specs.Backlog.{BacklogValue, IsBacklogKept};
 
     ghost Value = { BacklogValue };
 
     ghost view = { λ b. record {
-      room = b.pool.room;
-      queues = b.pool.queues;
+      room = b.room;
+      queues = b.queues.items;
       codels = b.codels.items;
-      finished = b.pool.finished;
+      finished = b.finished;
     } };
 
-    ghost invariant = { λ b. length b.codels.items ≡ length b.pool.queues };
+    ghost invariant = { λ b. IsBacklogKept
+        (record {
+          room = b.room;
+          queues = b.queues.items;
+          codels = b.codels.items;
+          finished = b.finished;
+        }) b.octets.items b.longest b.ready.items b.queued };
+}
+
+// The parcel, once its frame has this fate.
+pub(crate) fn settle(mut parcel: Parcel, fate: Fate) -> Parcel
+    ensures { result ≡ frame_with_fate fate parcel }
+{
+    parcel.frame_mut().settle(fate);
+    parcel
+}
+
+// So many empty chains.
+fn empty_queues(alloc: Global, queues: u32) -> Result<Vec<Chain>, AllocError>
+    ensures { IfOk result (λ made. made.items ≡ replicate queues []) }
+{
+    let mut made = Vec::new(alloc);
+    for _ in 0..queues {
+        made.push(Chain::new())?;
+    }
+    Ok(made)
 }
 
 impl Backlog {
     /// Empty queues, numbered from 0, with new CoDel states, and no finished parcel.
     pub fn new(alloc: Global, queues: u32, room: u32) -> Result<Backlog, AllocError>
-        requires { (1 ≤ queues) × (queues ≤ 65536) }
+        requires some { 1 ≤ queues }
+        requires small { queues ≤ 65536 }
         ensures { IfOk result (λ b. b ≡ record {
           room = room;
           queues = replicate queues [];
@@ -48,9 +83,22 @@ impl Backlog {
           finished = [];
         }) }
     {
-        let pool = Pool::new(alloc, queues, room)?;
-        let codels = vec![in alloc; Codel::new(); queues as usize]?;
-        Ok(Backlog { pool, codels })
+        let count = queues as usize;
+        let octets = vec![in alloc; 0; count]?;
+        let longest = Peak::new(alloc, queues)?;
+        let ready = vec![in alloc; false; count]?;
+        let codels = vec![in alloc; Codel::new(); count]?;
+        let queues = empty_queues(alloc, queues)?;
+        Ok(Backlog {
+            queues,
+            octets,
+            longest,
+            ready,
+            codels,
+            finished: Chain::new(),
+            queued: 0,
+            room,
+        })
     }
 
     /// Puts a parcel last in a queue.
@@ -60,7 +108,34 @@ impl Backlog {
         ensures pushed { self.new ≡ with_frames self.old q (frames_at self.old q ++ parcel ∷ []) }
         ensures held { held_in_backlog self.new ≡ held_in_backlog self.old + 1 }
     {
-        self.pool.push(q, parcel);
+        let at = q as usize;
+        let octets = self.octets[at] + u64::from(parcel.frame().len());
+        self.queues[at].push_back(parcel);
+        self.octets[at] = octets;
+        self.longest.set_uncounted(q, octets);
+        self.ready[at] = true;
+        self.queued += 1;
+    }
+
+    /// Takes the first parcel of a queue; None exactly where the queue is empty.
+    pub(crate) fn pop(&mut self, q: u32) -> Option<Parcel>
+        requires { q < length self.old.queues }
+        ensures first { MatchOption result ((frames_at self.old q ≡ []) × (self.new ≡ self.old))
+            (λ p. frames_at self.old q ≡ p ∷ frames_at self.new q) }
+        ensures others { self.new ≡ with_frames self.old q (frames_at self.new q) }
+        ensures spare { spare_of self.new ≡
+            (if is_some result then spare_of self.old + 1 else spare_of self.old) }
+    {
+        let at = q as usize;
+        let queue = &mut self.queues[at];
+        let parcel = queue.pop_front()?;
+        let left = queue.len();
+        let octets = self.octets[at] - u64::from(parcel.frame().len());
+        self.octets[at] = octets;
+        self.longest.set_uncounted(q, octets);
+        self.ready[at] = left != 0;
+        self.queued -= 1;
+        Some(parcel)
     }
 
     /// Drops the first frame of a queue for the limit: it goes last on the finished list as
@@ -68,32 +143,14 @@ impl Backlog {
     pub fn drop_head(&mut self, q: u32) -> Option<u64>
         requires { q < length self.old.queues }
         ensures id { result ≡ first_id (frames_at self.old q) }
-        ensures dropped { OnSome result (self.new ≡ after_head_drop self.old q) }
+        ensures dropped { self.new ≡ after_head_drop self.old q }
         ensures unchanged { IfNone result (self.new ≡ self.old) }
         ensures held { held_in_backlog self.new ≡ held_in_backlog self.old }
     {
-        let parcel = self.pool.pop(q)?;
+        let parcel = self.pop(q)?;
         let id = parcel.frame().id();
-        let dropped = settle(parcel, Fate::Dropped(Cause::Overlimit));
-        self.pool.finish(dropped);
+        self.finish(settle(parcel, Fate::Dropped(Cause::Overlimit)));
         Some(id)
-    }
-
-    /// Takes a parcel from a queue by CoDel (RFC 8289). The frames that have waited too long go in order last
-    /// on the finished list as `Dropped(Codel)`, and the one behind them is given; None exactly where the
-    /// queue is empty. `now` is the clock in microseconds, below 2^62; a frame whose stamp is past it has
-    /// waited for 0.
-    pub fn take(&mut self, q: u32, now: u64, params: Params) -> Option<Parcel>
-        requires queue { q < length self.old.queues }
-        requires time { now < 2 ^ 62 }
-        ensures given { result ≡ given_at (params_of params) now self.old q }
-        ensures none { IsNone result ↔ (frames_at self.old q ≡ []) }
-        ensures taken { self.new ≡ backlog_after_take (params_of params) now self.old q }
-        ensures held { MatchOption result (held_in_backlog self.new ≡ held_in_backlog self.old)
-            (λ _. held_in_backlog self.new + 1 ≡ held_in_backlog self.old) }
-    {
-        let codel = &mut self.codels[q as usize];
-        self.pool.dequeue(q, codel, now, params)
     }
 
     /// Drops all frames of a queue since their station left: from its head on they go last on the finished
@@ -104,8 +161,12 @@ impl Backlog {
         ensures flushed { self.new ≡ after_flush self.old q }
         ensures held { held_in_backlog self.new ≡ held_in_backlog self.old }
     {
+        let count = self.count(q);
+        while let Some(parcel) = self.pop(q) {
+            self.finish(settle(parcel, Fate::Dropped(Cause::Left)));
+        }
         self.codels[q as usize] = Codel::new();
-        self.pool.flush(q)
+        count
     }
 
     /// Puts a parcel last on the finished list, as it is.
@@ -114,7 +175,7 @@ impl Backlog {
         ensures finished { self.new ≡ record self.old { finished = self.old.finished ++ parcel ∷ [] } }
         ensures held { held_in_backlog self.new ≡ held_in_backlog self.old + 1 }
     {
-        self.pool.finish(parcel);
+        self.finished.push_back(parcel);
     }
 
     /// Takes the first parcel of the finished list; None exactly where that is empty.
@@ -126,7 +187,15 @@ impl Backlog {
         ensures held { MatchOption result (held_in_backlog self.new ≡ held_in_backlog self.old)
             (λ _. held_in_backlog self.new + 1 ≡ held_in_backlog self.old) }
     {
-        self.pool.reap()
+        self.finished.pop_front()
+    }
+
+    /// The sum of the body lengths of a queue's frames, in octets.
+    pub(crate) fn octets(&self, q: u32) -> u64
+        requires { q < length self.now.queues }
+        ensures { result ≡ queue_octets (frames_at self.now q) }
+    {
+        self.octets[q as usize]
     }
 
     /// How many frames a queue has.
@@ -134,23 +203,32 @@ impl Backlog {
         requires { q < length self.now.queues }
         ensures { result ≡ length (frames_at self.now q) }
     {
-        self.pool.count(q)
+        self.queues[q as usize].len()
     }
 
-    /// How many frames all queues have.
+    /// How many frames there are in all queues.
     pub fn total(&self) -> u32
         ensures count { result ≡ in_queues self.now }
         ensures room { held_in_backlog self.now ≤ self.now.room }
     {
-        self.pool.queued()
+        self.queued
+    }
+
+    /// Which queues have frames.
+    pub(crate) fn ready(&self) -> &[bool]
+        ensures { result.now ≡ flags self.now }
+    {
+        self.ready.as_slice()
     }
 
     /// The queue with the most octets, the least number on a tie; None exactly where all queues are empty.
     pub fn longest(&self) -> Option<u32>
         ensures none { IsNone result ↔ (in_queues self.now ≡ 0) }
-        ensures some { IfSome result (λ q. IsLongest (as_store self.now) q) }
+        ensures some { IfSome result (λ q. q ≡ longest_queue self.now) }
+        ensures greatest { IfSome result (λ q. IsLongest self.now q) }
+        ensures within { IfSome result (λ q. q < length self.now.queues) }
         ensures has_frames { IfSome result (λ q. 0 < length (frames_at self.now q)) }
     {
-        self.pool.longest()
+        self.longest.best()
     }
 }

@@ -4,17 +4,16 @@ ghost use Rattle.std.specs.Prelude.{◌≡◌, ℕ, ◌+◌, ◌<◌, ◌≤◌,
 ghost use Rattle.wf_frame.specs.Settings.{first_out_of_range};
 ghost use Rattle.wf_queue_codel.specs.Params.{params_of};
 ghost use Rattle.wf_sched_rotation.specs.Rotas.{deficit_at};
-ghost use Rattle.wf_queue_flows.specs.Store.{IsLongest};
-ghost use Rattle.wf_queue_flows.specs.Backlog.{as_store, frames_at, in_queues, held_in_backlog, first_id, after_head_drop};
+ghost use Rattle.wf_queue_flows.specs.Backlog.{frames_at, in_queues, held_in_backlog, first_id, after_head_drop, IsLongest};
 ghost use Rattle.wf_frame.specs.Classes.{tid_number};
 ghost use Rattle.wf_queue_flows.specs.Flows.{settings, tids, queues, is_listed, frames_of_tid, longest_queue, loses_next, after_limit, dropped_for_limit, is_listed_by_another, queue_for, with_listed_queue, with_appended, after_put, pick_of_tid, after_pick, taken_from_picked, taken_for_tid, after_purge, empty_flows, AreListedOnce, TakeGives};
 ghost use Rattle.wf_queue_flows.specs.Kept.{CanList, without_queue};
 
-use crate::Parcel;
-use crate::flagged::Flagged;
+use crate::backlog::Backlog;
 use std::alloc::{AllocError, Global};
 use std::marker::Model;
 use wf_frame::{Config, tid_number};
+use wf_queue_chain::Parcel;
 use wf_queue_codel::Params;
 use wf_sched_rotation::Rota;
 
@@ -28,7 +27,7 @@ pub struct Flows {
     stations: u32,
     limit: u32,
     flow_quantum: u32,
-    waiting: Flagged,
+    waiting: Backlog,
     rota: Rota,
     queued: Vec<u32>,
 }
@@ -71,7 +70,7 @@ impl Flows {
         let queues = config.flows + tids;
         let queued = vec![in alloc; 0; tids as usize]?;
         let rota = Rota::new(alloc, queues, tids, config.flow_quantum)?;
-        let waiting = Flagged::new(alloc, queues, config.room)?;
+        let waiting = Backlog::new(alloc, queues, config.room)?;
         Ok(Flows {
             flows: config.flows,
             stations: config.stations,
@@ -132,7 +131,7 @@ impl Flows {
         ensures dropped { result ≡ dropped_for_limit self.old }
         ensures full { IsSome result ↔ (self.old.limit ≤ in_queues self.old.backlog) }
         ensures greatest { OnSome result
-            (IsLongest (as_store self.old.backlog) (longest_queue self.old.backlog)) }
+            (IsLongest self.old.backlog (longest_queue self.old.backlog)) }
         ensures held { held_in_backlog self.new.backlog ≡ held_in_backlog self.old.backlog + 1 }
         ensures settings { settings self.new ≡ settings self.old }
     {
@@ -218,7 +217,7 @@ impl Flows {
         ensures id { result ≡ dropped_for_limit self.old }
         ensures full { IsSome result ↔ (self.old.limit ≤ in_queues self.old.backlog) }
         ensures greatest { OnSome result
-            (IsLongest (as_store self.old.backlog) (longest_queue self.old.backlog)) }
+            (IsLongest self.old.backlog (longest_queue self.old.backlog)) }
         ensures held { held_in_backlog self.new.backlog ≡ held_in_backlog self.old.backlog }
         ensures room { self.new.backlog.room ≡ self.old.backlog.room }
         ensures stations { self.new.stations ≡ self.old.stations }

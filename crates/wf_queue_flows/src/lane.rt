@@ -1,22 +1,20 @@
-//! One queue of a pool, from which CoDel dequeues.
+//! One queue of a backlog, from which CoDel dequeues.
 
-ghost use Rattle.std.specs.Prelude.{◌≡◌, ◌+◌, ◌<◌, ◌^◌, ◌↔◌, [], length, map, slice_get, IsNone, MatchOption};
-ghost use Rattle.wf_def_codel.specs.Codel.{drops, state_after};
+ghost use Rattle.std.specs.Prelude.{◌≡◌, ◌+◌, ◌<◌, ◌^◌, ◌↔◌, [], length, IsNone, MatchOption};
 ghost use Rattle.wf_queue_codel.specs.Params.{params_of};
-ghost use Rattle.wf_queue_flows.specs.Backlog.{item_of};
-ghost use Rattle.wf_queue_flows.specs.Pool.{line_at, line_taken, used};
+ghost use Rattle.wf_queue_flows.specs.Backlog.{frames_at, held_in_backlog, item_of, given_at, backlog_after_take};
 
-use crate::pool::{Pool, settle};
+use crate::backlog::{Backlog, settle};
 use wf_frame::{Cause, Fate};
 use wf_queue_chain::Parcel;
-use wf_queue_codel::{Codel, Lane, Params};
+use wf_queue_codel::{Lane, Params};
 
-/// One queue of a pool. What it discards goes last on the pool's finished list, as dropped by CoDel.
+/// One queue of a backlog. What it discards goes last on the finished list, as dropped by CoDel.
 #[derive(Drop)]
 struct OneQueue<'a> {
-    pool: &'a mut Pool,
+    backlog: &'a mut Backlog,
     queue: u32,
-    ghost within: { queue < length pool.now.queues },
+    ghost within: { queue < length backlog.now.queues },
 }
 
 impl<'a> Lane for OneQueue<'a> {
@@ -24,8 +22,7 @@ impl<'a> Lane for OneQueue<'a> {
     ghost use Rattle.std.proofs.Common.{refl};
     ghost use Rattle.wf_frame.specs.declared.classes.Fate.TheVariants.{Dropped};
     ghost use Rattle.wf_frame.specs.declared.classes.Cause.TheVariants.{Codel as By_codel};
-    ghost use Rattle.wf_queue_flows.specs.Backlog.{item_of, frame_with_fate};
-    ghost use Rattle.wf_queue_flows.specs.Pool.{line_at, spare_of};
+    ghost use Rattle.wf_queue_flows.specs.Backlog.{item_of, frame_with_fate, frames_at, spare_of};
     ghost use Rattle.wf_queue_flows.specs.OneQueue.{SameLane, SameLane-refl, SameLane-trans};
 
     type Item = Parcel;
@@ -34,13 +31,13 @@ impl<'a> Lane for OneQueue<'a> {
 
     ghost tossed = { frame_with_fate (Dropped By_codel) };
 
-    ghost rest = { λ l. line_at l.pool.now l.queue };
+    ghost rest = { λ l. frames_at l.backlog.now l.queue };
 
-    ghost thrown = { λ l. l.pool.now.finished };
+    ghost thrown = { λ l. l.backlog.now.finished };
 
     ghost same = { SameLane };
 
-    ghost spare = { λ l. spare_of l.pool.now };
+    ghost spare = { λ l. spare_of l.backlog.now };
 
     ghost same_refl = { SameLane-refl };
 
@@ -49,7 +46,7 @@ impl<'a> Lane for OneQueue<'a> {
     ghost tossed_look = { λ x. refl };
 
     fn pop(&mut self) -> Option<Parcel> {
-        self.pool.pop(self.queue)
+        self.backlog.pop(self.queue)
     }
 
     fn stamp(item: &Parcel) -> u64
@@ -59,39 +56,36 @@ impl<'a> Lane for OneQueue<'a> {
     }
 
     fn left(&self) -> u64 {
-        self.pool.octets(self.queue)
+        self.backlog.octets(self.queue)
     }
 
     fn discard(&mut self, item: Parcel) {
-        self.pool.finish(settle(item, Fate::Dropped(Cause::Codel)));
+        self.backlog
+            .finish(settle(item, Fate::Dropped(Cause::Codel)));
     }
 }
 
-impl Pool {
-    /// Takes a parcel from a queue by CoDel, whose state for this queue is `codel`.
-    pub(crate) fn dequeue(
-        &mut self,
-        q: u32,
-        codel: &mut Codel,
-        now: u64,
-        params: Params,
-    ) -> Option<Parcel>
+impl Backlog {
+    /// Takes a parcel from a queue by CoDel (RFC 8289). The frames that have waited too long go in order last
+    /// on the finished list as `Dropped(Codel)`, and the one behind them is given; None exactly where the
+    /// queue is empty. `now` is the clock in microseconds, below 2^62; a frame whose stamp is past it has
+    /// waited for 0.
+    pub fn take(&mut self, q: u32, now: u64, params: Params) -> Option<Parcel>
         requires queue { q < length self.old.queues }
         requires time { now < 2 ^ 62 }
-        ensures given { let n = drops (params_of params) now codel.old (map item_of (line_at self.old q)) in
-            result ≡ slice_get (line_at self.old q) n }
-        ensures none { IsNone result ↔ (line_at self.old q ≡ []) }
-        ensures taken { let n = drops (params_of params) now codel.old (map item_of (line_at self.old q)) in
-            self.new ≡ line_taken self.old q n }
-        ensures used { MatchOption result (used self.new ≡ used self.old)
-            (λ _. used self.new + 1 ≡ used self.old) }
-        ensures state { codel.new ≡
-            state_after (params_of params) now codel.old (map item_of (line_at self.old q)) }
+        ensures given { result ≡ given_at (params_of params) now self.old q }
+        ensures none { IsNone result ↔ (frames_at self.old q ≡ []) }
+        ensures taken { self.new ≡ backlog_after_take (params_of params) now self.old q }
+        ensures held { MatchOption result (held_in_backlog self.new ≡ held_in_backlog self.old)
+            (λ _. held_in_backlog self.new + 1 ≡ held_in_backlog self.old) }
     {
+        let mut codel = self.codels[q as usize];
         let mut lane = OneQueue {
-            pool: self,
+            backlog: self,
             queue: q,
         };
-        codel.dequeue(now, params, &mut lane)
+        let parcel = codel.dequeue(now, params, &mut lane);
+        self.codels[q as usize] = codel;
+        parcel
     }
 }

@@ -1,5 +1,5 @@
 use Rattle.std.proofs.Common.{refl}
-use Rattle.wf_queue_flows.proofs.PoolLemmas.{same_elsewhere}
+use Rattle.wf_queue_flows.proofs.Taking.{same_elsewhere}
 use Rattle.wf_queue_flows.proofs.lane.OneQueueLane.pop.Goals as goal
 
 pub returns-clause-same : goal.returns-clause-same
