@@ -1,6 +1,6 @@
 //! The calls of a path, but for the end of an exchange.
 
-ghost use Rattle.std.specs.Prelude.{◌≡◌, ℕ, true, List, Option, IfSome, IfNone, IfOk, IfErr};
+ghost use Rattle.std.specs.Prelude.{◌≡◌, ℕ, true, List, Option, option_map, IfSome, IfNone, IfOk, IfErr};
 ghost use Rattle.wf_frame.specs.Frames.{FrameValue};
 ghost use Rattle.wf_frame.specs.Answers.{reply_of, reply_with};
 ghost use Rattle.wf_frame.specs.declared.notes.Ask.TheVariants.{Join, Leave, Rate, Tick, Pull, Sleep, Wake, Poll, Rx, Reap};
@@ -19,6 +19,7 @@ ghost use Rattle.wf_path.specs.Paths.{IsPath, IsSmall, RiseLittle, IsAnswered, I
 use crate::{Job, Path};
 use wf_frame::{Answer, Ask, AskedRate, Brief, Class, Pairs, Refusal};
 use wf_queue_chain::Parcel;
+use wf_queue_flows::Lost;
 
 impl Path {
     /// Makes a call, which is none of Arrive, Answer and Done, and answers it. A frame comes back exactly
@@ -92,13 +93,15 @@ impl Path {
     {
         let frame = parcel.frame();
         let (station, tid, _octets) = (frame.station(), frame.tid(), frame.len());
-        let loser = self.half.next_drop();
         let accepted = self.half.enqueue(parcel)?;
+        let (id, loser) = accepted;
+        let dropped = id_of(loser);
         self.ready.set(&self.half, station, Class::of_tid(tid));
-        if let Some((station, tid)) = loser {
-            self.ready.set(&self.half, station, Class::of_tid(tid));
+        if let Some(lost) = loser {
+            self.ready
+                .set(&self.half, lost.station, Class::of_tid(lost.tid));
         }
-        Ok(accepted)
+        Ok((id, dropped))
     }
 
     // Takes the first finished frame.
@@ -244,6 +247,16 @@ impl Path {
             }
             Err(reason) => Brief::Refused(reason),
         }
+    }
+}
+
+// The id of the frame that was dropped for the limit, if any.
+fn id_of(loser: Option<Lost>) -> Option<u64>
+    ensures { result ≡ option_map (λ lost. lost.id) loser }
+{
+    match loser {
+        None => None,
+        Some(lost) => Some(lost.id),
     }
 }
 

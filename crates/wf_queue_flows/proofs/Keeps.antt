@@ -8,7 +8,7 @@ use Rattle.wf_def_rotation.specs.Rotation.{in_order, with_new_key}
 use Rattle.wf_sched_rotation.specs.Lists.{lists_at, on_at}
 use Rattle.wf_sched_rotation.specs.Rotas.{Rotas, deficit_at, quantum_at}
 use Rattle.wf_queue_flows.specs.Backlog.{BacklogValue}
-use Rattle.wf_queue_flows.specs.Flows.{FlowsValue}
+use Rattle.wf_queue_flows.specs.Flows.{FlowsValue, tids, frames_of_tid}
 use Rattle.wf_queue_flows.specs.Kept.{depth, AreListed, AreFlowsKept}
 use Rattle.wf_queue_flows.proofs.Waiting.{depth_within, waiting_few}
 use Rattle.wf_queue_flows.proofs.Listing.{still_listed, frames_changed, newly_listed}
@@ -152,3 +152,10 @@ module _ (v : FlowsValue) (counts : List ℕ) (ok : AreFlowsKept v counts) where
     ok.listed.counted i (omega (arith, ok.sized.tids)),
     waiting_few v.backlog.queues (in_order (lists_at v.rotas.lists i)) (ok.listed.apart.once i),
   )
+
+-- the count of a TID is that of the frames in its queues
+pub frames_counted : (v now : FlowsValue) (counts : List ℕ) (i : ℕ) → v ≡ now → AreFlowsKept v counts →
+    i < tids now → get_or counts i 0 ≡ frames_of_tid now i
+frames_counted v now counts i same ok low =
+    ok.listed.counted i (omega (arith, low, ok.sized.tids, ap (λ (w : FlowsValue). w.stations) same))
+    ∙ ap (λ (w : FlowsValue). frames_of_tid w i) same

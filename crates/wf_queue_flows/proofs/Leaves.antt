@@ -1,6 +1,6 @@
 -- What dropping a head and purging a queue keep and leave, and which queue a frame goes to.
-use Rattle.std.proofs.Common.{◌≡◌, ℕ, ◌+◌, ◌*◌, ◌-◌, ◌<◌, ◌≤◌, true, false, not, List, [], ◌∷◌, Option, None, length, get_or, set, drop, map, refl, sym, ap, ◌∙◌, subst, inl, inr, arith, length-drop, eq-eqb}
-use Rattle.std.specs.Prelude.{◌==◌, ◌%◌, is_some}
+use Rattle.std.proofs.Common.{◌≡◌, ℕ, ◌+◌, ◌*◌, ◌-◌, ◌<◌, ◌≤◌, true, false, not, List, [], ◌∷◌, Some, None, length, get_or, set, drop, map, refl, sym, ap, ◌∙◌, subst, inl, inr, arith, length-drop, eq-eqb}
+use Rattle.std.specs.Prelude.{◌==◌, ◌%◌}
 use Rattle.std.proofs.lemmas.List.{get_or-map, get_or_past, length-map, get_or_read, nil_from_length}
 use Rattle.std.proofs.lemmas.Bool.{cases_eq, cases_lt, cases_Bool, both_ways, ne_eqb, cond-true, cond-false}
 use Rattle.wf_frame.specs.Frames.{FrameValue}
@@ -20,9 +20,9 @@ use Rattle.wf_queue_flows.proofs.Owners.{listed_elsewhere, on-listed}
 use Rattle.wf_queue_flows.proofs.Keeps.{kept_frames, kept_lists, unlisted_empty, depth_counted}
 use Rattle.wf_queue_flows.proofs.Moves.{has_lists}
 
-first_some : (xs : List FrameValue) (o : Option ℕ) → o ≡ first_id xs → is_some o ≡ true → 0 < length xs
-first_some [] o e is = absurd (cc (e, is))
-first_some (f ∷ fs) o e is = omega arith
+first_some : (xs : List FrameValue) (id : ℕ) → Some id ≡ first_id xs → 0 < length xs
+first_some [] id e = absurd (cc e)
+first_some (f ∷ fs) id e = omega arith
 
 none-others : (k y : ℕ) → (y ≡ k → ⊥) → not (y == k) ≡ true
 none-others k y other = rw (ne_eqb y k other) refl
@@ -88,14 +88,13 @@ module _ (v now : FlowsValue) (counts : List ℕ) (same : v ≡ now) (ok : AreFl
 
   -- ---- drop_head
 
-  module _ (q x place : ℕ) (side : Side) (o : Option ℕ) (low_q : q < queues now)
+  module _ (q x place : ℕ) (side : Side) (lost : ℕ) (low_q : q < queues now)
       (low : place < length v.rotas.lists) (is : has_on v.rotas.lists place side q ≡ true)
-      (read_x : x ≡ get_or counts place x) (has : is_some o ≡ true)
-      (id : o ≡ first_id (frames_at v.backlog q)) where
+      (read_x : x ≡ get_or counts place x) (id : Some lost ≡ first_id (frames_at v.backlog q)) where
     pub drop_fits : 1 ≤ x
     drop_fits = omega (
       arith,
-      first_some (frames_at v.backlog q) o id has,
+      first_some (frames_at v.backlog q) lost id,
       read place x low read_x,
       depth_counted v counts ok place q (low_place place low) (low_queue q low_q) (stands q place side is),
     )
@@ -109,7 +108,7 @@ module _ (v now : FlowsValue) (counts : List ℕ) (same : v ≡ now) (ok : AreFl
         (omega (
           arith,
           drop_fits,
-          first_some (frames_at v.backlog q) o id has,
+          first_some (frames_at v.backlog q) lost id,
           read place x low read_x,
           length-drop 1 (frames_at v.backlog q),
         ))

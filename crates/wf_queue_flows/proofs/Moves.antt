@@ -1,24 +1,26 @@
 -- What the private calls keep and leave.
-use Rattle.std.proofs.Common.{◌≡◌, ℕ, suc, ◌+◌, ◌*◌, ◌-◌, ◌^◌, ◌<◌, ◌≤◌, true, false, not, List, [], ◌∷◌, ◌++◌, length, get_or, set, drop, refl, sym, ap, ◌∙◌, subst, inl, inr, arith, length-append, length-drop, eq-eqb}
+use Rattle.std.proofs.Common.{◌≡◌, ℕ, suc, ◌+◌, ◌*◌, ◌-◌, ◌^◌, ◌<◌, ◌≤◌, true, false, not, Some, List, [], ◌∷◌, ◌++◌, length, get_or, set, drop, refl, sym, ap, ap₂, ◌∙◌, subst, inl, inr, arith, length-append, length-drop, eq-eqb}
 use Rattle.std.specs.Prelude.{ℤ, pos, negsuc, ◌-ℤ◌, ◌≤ℤ◌, ◌<ℤ◌, ◌==◌}
 use Rattle.std.proofs.lemmas.Int.{ints}
 use Rattle.std.proofs.lemmas.List.{get_or-set_same, get_or_read}
+use Rattle.std.proofs.lemmas.Option.{slice_get_within}
 use Rattle.std.proofs.lemmas.Bool.{cases_eq, both_ways, ne_eqb, or_left, or_right, cond-true, cond-false}
 use Rattle.wf_frame.specs.Frames.{FrameValue}
 use Rattle.wf_def_lists.specs.Table.{has}
-use Rattle.wf_def_rotation.specs.Rotation.{Rotation, no_keys, has_key, with_new_key}
+use Rattle.wf_def_lists.specs.Lists.{on}
+use Rattle.wf_def_rotation.specs.Rotation.{Rotation, no_keys, has_key, in_order, with_new_key}
 use Rattle.wf_def_codel.specs.Codel.{Params}
 use Rattle.wf_sched_rotation.specs.declared.Side.{Side}
 use Rattle.wf_sched_rotation.specs.declared.Side.TheVariants.{New, Old}
 use Rattle.wf_sched_rotation.specs.Lists.{lists_at, on_at, has_on, side_of}
 use Rattle.wf_sched_rotation.specs.Rotas.{Rotas, deficit_at, quantum_at, IsUnlisted}
 use Rattle.wf_law_rules.proofs.Lemmas.Counts.{on_order-none}
-use Rattle.wf_queue_flows.specs.Backlog.{BacklogValue, frames_at, held_in_backlog, with_frames, drops_at, backlog_after_take}
-use Rattle.wf_queue_flows.specs.Flows.{FlowsValue, tids, queues, is_listed, is_listed_by_another, with_listed_queue}
-use Rattle.wf_queue_flows.specs.Kept.{depth, AreFlowsKept, CanList}
-use Rattle.wf_queue_flows.proofs.Flags.{changed_at}
+use Rattle.wf_queue_flows.specs.Backlog.{BacklogValue, frames_at, held_in_backlog, with_frames, drops_at, given_at, backlog_after_take}
+use Rattle.wf_queue_flows.specs.Flows.{FlowsValue, tids, queues, is_listed, is_listed_by_another, with_listed_queue, frames_of_tid, frames_waiting}
+use Rattle.wf_queue_flows.specs.Kept.{AreFlowsKept, CanList}
 use Rattle.wf_queue_flows.proofs.Owners.{listed_elsewhere, listed_nowhere_else, on-listed}
 use Rattle.wf_queue_flows.proofs.Keeps.{kept_frames, kept_deficit, kept_fresh, depth_counted, count_few}
+use Rattle.wf_queue_flows.proofs.Waiting.{waiting-set}
 
 -- a key of one of the two lists is listed
 pub has_lists : (r : Rotation) (side : Side) (k : ℕ) → has (side_of r side) k ≡ true → has_key r k ≡ true
@@ -62,26 +64,55 @@ module _ (v now : FlowsValue) (counts : List ℕ) (same : v ≡ now) (ok : AreFl
   below_key : (i q : ℕ) → is_listed now i q ≡ true → q < v.flows + 8 * v.stations
   below_key i q is = ok.listed.apart.below i q (stands i q is)
 
-  pub take_fits : (i q x before : ℕ) → i < tids now → is_listed now i q ≡ true → x ≡ get_or counts i x →
-      before ≡ depth v.backlog.queues q → before ≤ x
-  take_fits i q x before low is read_x count = omega (
+  pub take_fits : (i q x n clock : ℕ) (p : Params) (f : FrameValue) → i < tids now →
+      is_listed now i q ≡ true → x ≡ get_or counts i x → n ≡ drops_at p clock v.backlog q →
+      Some f ≡ given_at p clock v.backlog q → n + 1 ≤ x
+  take_fits i q x n clock p f low is read_x dropped given = omega (
     arith,
     read i x low read_x,
+    dropped,
+    slice_get_within (frames_at v.backlog q) (drops_at p clock v.backlog q) f (sym given),
     depth_counted v counts ok i q (low_tid i low) (below_key i q is)
         (stands i q is),
   )
 
-  pub take_keeps : (i q x before left len clock : ℕ) (p : Params) (after : BacklogValue) (paid : Rotas) →
-      i < tids now → is_listed now i q ≡ true → x ≡ get_or counts i x → before ≡ depth v.backlog.queues q →
-      left ≡ depth after.queues q → after ≡ backlog_after_take p clock v.backlog q
+  -- the TID has fewer frames by the one that is given and those that are dropped
+  pub take_counts : (i q n clock : ℕ) (p : Params) (f : FrameValue) (after : BacklogValue) (paid : Rotas) →
+      i < tids now → is_listed now i q ≡ true → n ≡ drops_at p clock v.backlog q →
+      Some f ≡ given_at p clock v.backlog q → after ≡ backlog_after_take p clock v.backlog q →
+      paid.lists ≡ v.rotas.lists
+      → frames_of_tid (record v { backlog = after; rotas = paid }) i + n + 1 ≡ frames_of_tid now i
+  take_counts i q n clock p f after paid low is dropped given took lists =
+      let xs : List FrameValue = drop (suc (drops_at p clock v.backlog q)) (frames_at v.backlog q) in
+      let ks : List ℕ = in_order (lists_at v.rotas.lists i) in
+      let one : on ks q ≡ 1 = omega (arith, ok.listed.apart.once i q, stands i q is) in
+      let left : frames_of_tid (record v { backlog = after; rotas = paid }) i
+      ≡ frames_waiting (set v.backlog.queues q xs) ks =
+      ap₂ (λ (all : List (List FrameValue)) (ls : List Rotation).
+      frames_waiting all (in_order (lists_at ls i)))
+      (ap (λ (b : BacklogValue). b.queues) took) lists in
+      omega (
+        arith,
+        left,
+        dropped,
+        rw one at (waiting-set v.backlog.queues q xs ks (omega (arith, below_key i q is, ok.sized.queues))),
+        length-drop (suc (drops_at p clock v.backlog q)) (frames_at v.backlog q),
+        slice_get_within (frames_at v.backlog q) (drops_at p clock v.backlog q) f (sym given),
+        ap (λ (w : FlowsValue). frames_of_tid w i) same,
+      )
+
+  pub take_keeps : (i q x n len clock : ℕ) (p : Params) (f : FrameValue) (after : BacklogValue)
+      (paid : Rotas) → i < tids now → is_listed now i q ≡ true → x ≡ get_or counts i x →
+      n ≡ drops_at p clock v.backlog q → Some f ≡ given_at p clock v.backlog q →
+      after ≡ backlog_after_take p clock v.backlog q
       → pos 0 <ℤ deficit_at now.rotas.deficits q → len ≤ 2304 →
       paid ≡ record v.rotas {
         deficits = set v.rotas.deficits q
             (deficit_at v.rotas.deficits q -ℤ pos len);
       } →
-      AreFlowsKept (record v { backlog = after; rotas = paid }) (set counts i (x - (before - left)))
-  take_keeps i q x before left len clock p after paid low is read_x was now_left took positive few charged =
-      kept_deficit (record v { backlog = after }) (set counts i (x - (before - left))) kept paid q
+      AreFlowsKept (record v { backlog = after; rotas = paid }) (set counts i (x - n - 1))
+  take_keeps i q x n len clock p f after paid low is read_x dropped given took positive few charged =
+      kept_deficit (record v { backlog = after }) (set counts i (x - n - 1)) kept paid q
       (deficit_at v.rotas.deficits q -ℤ pos len) charged enough
     where
       xs : List FrameValue
@@ -93,17 +124,20 @@ module _ (v now : FlowsValue) (counts : List ℕ) (same : v ≡ now) (ok : AreFl
       low_q : q < v.flows + 8 * v.stations
       low_q = below_key i q is
 
-      rest : left ≡ length xs
-      rest = now_left ∙ ap length (changed_at v.backlog after q xs
-          (omega (arith, low_q, ok.sized.queues)) changed)
+      within : drops_at p clock v.backlog q < length (frames_at v.backlog q)
+      within = slice_get_within (frames_at v.backlog q) (drops_at p clock v.backlog q) f (sym given)
 
-      fewer : length xs ≤ depth v.backlog.queues q
-      fewer = omega (arith, length-drop (suc (drops_at p clock v.backlog q)) (frames_at v.backlog q))
-
-      kept : AreFlowsKept (record v { backlog = after }) (set counts i (x - (before - left)))
-      kept = kept_frames v counts ok after i q (x - (before - left)) xs changed
+      kept : AreFlowsKept (record v { backlog = after }) (set counts i (x - n - 1))
+      kept = kept_frames v counts ok after i q (x - n - 1) xs changed
           (ap (λ (b : BacklogValue). b.room) took) (low_tid i low) low_q (stands i q is)
-          (omega (arith, rest, fewer, was, take_fits i q x before low is read_x was, read i x low read_x))
+          (omega (
+            arith,
+            within,
+            dropped,
+            length-drop (suc (drops_at p clock v.backlog q)) (frames_at v.backlog q),
+            take_fits i q x n clock p f low is read_x dropped given,
+            read i x low read_x,
+          ))
 
       above : pos 0 <ℤ deficit_at v.rotas.deficits q
       above = subst (λ (w : FlowsValue). pos 0 <ℤ deficit_at w.rotas.deficits q) (sym same) positive

@@ -8,7 +8,7 @@ use Rattle.wf_frame.specs.Frames.{FrameValue}
 use Rattle.wf_frame.specs.declared.classes.Fate.TheVariants.{Dropped}
 use Rattle.wf_frame.specs.declared.classes.Cause.TheVariants.{Codel as By_codel}
 use Rattle.wf_def_codel.specs.Codel.{Item, Params, Codel, least, look_at, drops, drops_dropping, drops_plain, state_after, dequeue, ends_drops}
-use Rattle.wf_queue_flows.specs.Backlog.{BacklogValue, frames_at, codel_at, held_in_backlog, item_of, frame_with_fate, with_frames, dequeue_at, drops_at, given_at, backlog_after_take}
+use Rattle.wf_queue_flows.specs.Backlog.{BacklogValue, frames_at, codel_at, in_queues, held_in_backlog, item_of, frame_with_fate, with_frames, dequeue_at, drops_at, given_at, backlog_after_take}
 use Rattle.wf_queue_flows.specs.OneQueue.{elsewhere}
 
 least-le : (test : ℕ → Bool) (n : ℕ) → least test n ≤ n
@@ -130,4 +130,18 @@ held_taken p now v v2 q (Some f) here taken given none =
       ap held_in_backlog taken,
       held_after p now v q here,
       slice_get_within (frames_at v q) (drops_at p now v q) f (sym given),
+    )
+
+-- how many frames are left in the queues
+pub fewer_queued : (p : Params) (now : ℕ) (v : BacklogValue) (q : ℕ) (f : FrameValue) →
+    q < length v.queues → Some f ≡ given_at p now v q →
+    in_queues (backlog_after_take p now v q) + drops_at p now v q + 1 ≡ in_queues v
+fewer_queued p now v q f here given =
+    let n : ℕ = drops_at p now v q in
+    let frames : List FrameValue = frames_at v q in
+    omega (
+      arith,
+      sum_by-set length v.queues q (drop (suc n) frames) [] here,
+      length-drop (suc n) frames,
+      slice_get_within frames n f (sym given),
     )

@@ -1,11 +1,13 @@
 -- The parts of each call make the whole of its definition.
 use Rattle.std.proofs.Common.{◌≡◌, ℕ, ◌<◌, ◌≤◌, true, false, List, [], ◌∷◌, Option, Some, None, length, refl, sym, ap, ◌∙◌, subst, arith}
-use Rattle.std.specs.Prelude.{◌↔◌, IfSome, OnSome, IsSome, is_some}
+use Rattle.std.specs.Prelude.{◌↔◌, IfSome, OnSome, IsSome, option_map}
 use Rattle.std.proofs.lemmas.Bool.{both_ways, le-leb, lt-leb, cond-true, cond-false}
 use Rattle.wf_frame.specs.Frames.{FrameValue}
 use Rattle.wf_def_codel.specs.Codel.{Params}
 use Rattle.wf_sched_rotation.specs.Lists.{on_at}
 use Rattle.wf_queue_flows.specs.Backlog.{frames_at, in_queues, first_id, after_head_drop, IsLongest}
+use Rattle.wf_queue_flows.specs.declared.backlog.Taken.{Taken}
+use Rattle.wf_queue_flows.specs.declared.flows.Lost.{Lost}
 use Rattle.wf_queue_flows.specs.Flows.{FlowsValue, flows_at_limit, longest_queue, after_limit, dropped_for_limit, queue_for, with_listed_queue, with_appended, after_put_in, after_put, pick_of_tid, after_pick, TakenFromFlows, TakeGives, taken_from_picked, taken_for_tid, AreListedOnce}
 use Rattle.wf_queue_flows.specs.Kept.{AreFlowsKept}
 use Rattle.wf_queue_flows.proofs.Owners.{on-listed, listed-on}
@@ -28,15 +30,16 @@ module _ (v now : FlowsValue) (same : v ≡ now) where
   limit_at : now.limit ≤ in_queues now.backlog → v.limit ≤ in_queues v.backlog
   limit_at e = subst (λ (w : FlowsValue). w.limit ≤ in_queues w.backlog) (sym same) e
 
-  pub roomy_full : (n : ℕ) → n ≡ in_queues v.backlog → n < v.limit → IsSome {T = ℕ} None ↔
+  pub roomy_full : (n : ℕ) → n ≡ in_queues v.backlog → n < v.limit → IsSome {T = Lost} None ↔
       (now.limit ≤ in_queues now.backlog)
   roomy_full n is other = (
     λ some. absurd (both_ways false refl some),
     λ e. absurd (omega (arith, other, is, limit_at e)),
   )
 
-  pub full_full : (n q : ℕ) (o : Option ℕ) → n ≡ in_queues v.backlog → v.limit ≤ n →
-      0 < length (frames_at v.backlog q) → o ≡ first_id (frames_at now.backlog q) → IsSome o ↔
+  pub full_full : (n q : ℕ) (o : Option Lost) → n ≡ in_queues v.backlog → v.limit ≤ n →
+      0 < length (frames_at v.backlog q) → option_map (λ l. l.id) o ≡ first_id (frames_at now.backlog q) →
+      IsSome o ↔
       (now.limit ≤ in_queues now.backlog)
   full_full n q o is full some id = (λ _. full_now, λ _. first_some (frames_at now.backlog q) o some_now id)
     where
@@ -46,18 +49,20 @@ module _ (v now : FlowsValue) (same : v ≡ now) where
       some_now : 0 < length (frames_at now.backlog q)
       some_now = subst (λ (w : FlowsValue). 0 < length (frames_at w.backlog q)) same some
 
-      first_some : (xs : List FrameValue) (o : Option ℕ) → 0 < length xs → o ≡ first_id xs → IsSome o
+      first_some : (xs : List FrameValue) (o : Option Lost) → 0 < length xs →
+          option_map (λ l. l.id) o ≡ first_id xs → IsSome o
       first_some [] o some e = absurd (omega arith)
-      first_some (f ∷ fs) o some e = ap is_some e
+      first_some (f ∷ fs) None some e = absurd (cc e)
+      first_some (f ∷ fs) (Some l) some e = refl
 
-  pub full_greatest : (q : ℕ) (o : Option ℕ) → q ≡ longest_queue v.backlog →
+  pub full_greatest : (q : ℕ) (o : Option Lost) → q ≡ longest_queue v.backlog →
       IsLongest v.backlog q → OnSome o
       (IsLongest now.backlog (longest_queue now.backlog))
   full_greatest q o e most = on_some o (subst (λ (w : FlowsValue).
       IsLongest w.backlog (longest_queue w.backlog)) same
       (subst (IsLongest v.backlog) e most))
     where
-      on_some : {P : Type 0} (o : Option ℕ) → P → OnSome o P
+      on_some : {P : Type 0} (o : Option Lost) → P → OnSome o P
       on_some None p = tt
       on_some (Some x) p = p
 
@@ -80,7 +85,8 @@ module _ (v now : FlowsValue) (same : v ≡ now) where
         ∙ sym (cond-true (flows_at_limit now) (record
         now { backlog = after_head_drop now.backlog (longest_queue now.backlog) }) now test)
 
-    pub full_id : (o : Option ℕ) → o ≡ first_id (frames_at now.backlog q) → o ≡ dropped_for_limit now
+    pub full_id : (o : Option Lost) → option_map (λ l. l.id) o ≡ first_id (frames_at now.backlog q) →
+        option_map (λ l. l.id) o ≡ dropped_for_limit now
     unfolding dropped_for_limit
     full_id o id =
         id ∙ ap (λ (k : ℕ). first_id (frames_at now.backlog k)) longest_now
@@ -113,12 +119,12 @@ take_parts now a i q clock p after winner =
     ap (λ (w : FlowsValue). taken_from_picked w (Some q) clock p) after
     ∙ ap (λ (o : Option ℕ). taken_from_picked (after_pick now i) o clock p) winner
 
-pub gives_as : (o : Option FrameValue) (after : FlowsValue) (t u : TakenFromFlows) → t ≡ u →
-    IfSome o (λ f. TakeGives after f t) → IfSome o (λ f. TakeGives after f u)
-gives_as o after t u e = λ h. subst (λ (x : TakenFromFlows). IfSome o (λ f. TakeGives after f x)) e h
+pub gives_as : (o : Option Taken) (after : FlowsValue) (t u : TakenFromFlows) → t ≡ u →
+    IfSome o (λ g. TakeGives after g.parcel t) → IfSome o (λ g. TakeGives after g.parcel u)
+gives_as o after t u e = λ h. subst (λ (x : TakenFromFlows). IfSome o (λ g. TakeGives after g.parcel x)) e h
 
 -- a take that gives a frame leaves what its definition says
-pub gives_flows : (o : Option FrameValue) (after : FlowsValue) (t : TakenFromFlows) → IsSome o →
-    IfSome o (λ f. TakeGives after f t) → after ≡ t.flows
+pub gives_flows : (o : Option Taken) (after : FlowsValue) (t : TakenFromFlows) → IsSome o →
+    IfSome o (λ g. TakeGives after g.parcel t) → after ≡ t.flows
 gives_flows None after t is h = absurd (both_ways false refl is)
-gives_flows (Some f) after t is h = h.0
+gives_flows (Some g) after t is h = h.0

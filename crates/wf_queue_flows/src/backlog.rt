@@ -27,8 +27,16 @@ pub struct Backlog {
     pub(crate) codels: Vec<Codel>,
     finished: Chain,
     /// How many parcels are in the queues.
-    queued: u32,
+    pub(crate) queued: u32,
     room: u32,
+}
+
+/// A parcel that was taken out of a queue.
+#[derive(Drop)]
+pub struct Taken {
+    pub parcel: Parcel,
+    /// How many that stood before it CoDel dropped.
+    pub dropped: u32,
 }
 
 impl Model for Backlog {

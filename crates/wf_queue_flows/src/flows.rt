@@ -1,6 +1,6 @@
 //! Putting frames into the flow queues, and taking them out.
 
-ghost use Rattle.std.specs.Prelude.{◌≡◌, ℕ, ◌+◌, ◌<◌, ◌≤◌, ◌^◌, ◌↔◌, true, [], ◌∷◌, ◌++◌, length, pos, ◌<ℤ◌, IfOk, IfSome, IfNone, OnSome, IsSome, IsNone, MatchOption, Some, None};
+ghost use Rattle.std.specs.Prelude.{◌≡◌, ℕ, ◌+◌, ◌<◌, ◌≤◌, ◌^◌, ◌↔◌, true, [], ◌∷◌, ◌++◌, length, pos, ◌<ℤ◌, IfOk, IfSome, IfNone, OnSome, IsSome, MatchOption, Some, None, option_map};
 ghost use Rattle.wf_frame.specs.Settings.{first_out_of_range};
 ghost use Rattle.wf_queue_codel.specs.Params.{params_of};
 ghost use Rattle.wf_sched_rotation.specs.Rotas.{deficit_at};
@@ -9,13 +9,21 @@ ghost use Rattle.wf_frame.specs.Classes.{tid_number};
 ghost use Rattle.wf_queue_flows.specs.Flows.{settings, tids, queues, is_listed, frames_of_tid, longest_queue, loses_next, after_limit, dropped_for_limit, is_listed_by_another, queue_for, with_listed_queue, with_appended, after_put, pick_of_tid, after_pick, taken_from_picked, taken_for_tid, after_purge, empty_flows, AreListedOnce, TakeGives};
 ghost use Rattle.wf_queue_flows.specs.Kept.{CanList, without_queue};
 
-use crate::backlog::Backlog;
+use crate::backlog::{Backlog, Taken};
 use std::alloc::{AllocError, Global};
 use std::marker::Model;
 use wf_frame::{Config, tid_number};
 use wf_queue_chain::Parcel;
 use wf_queue_codel::Params;
 use wf_sched_rotation::Rota;
+
+/// A frame that was dropped for the limit, and whose it was.
+#[derive(Clone, Copy, Debug, PartialEq, Eq)]
+pub struct Lost {
+    pub id: u64,
+    pub station: u16,
+    pub tid: u8,
+}
 
 /// The flow queues of all stations, and the list of the frames that are finished.
 ///
@@ -101,34 +109,21 @@ impl Flows {
         self.waiting.total()
     }
 
-    /// The station and the TID whose frame the next `put` drops for the limit: those that list the longest
-    /// queue, where the queues hold `limit` frames or more; else None.
-    pub fn next_drop(&self) -> Option<(u16, u8)>
-        ensures none { IsNone result ↔ (in_queues self.now.backlog < self.now.limit) }
-        ensures station { IfSome result (λ x. x.0 < self.now.stations) }
-        ensures tid { IfSome result (λ x. x.1 < 8) }
-        ensures loses { IfSome result (λ x. loses_next self.now x.0 x.1 ≡ true) }
-        ensures only { (s t : ℕ) → t < 8 → loses_next self.now s t ≡ true → result ≡ Some (s, t) }
-    {
-        if self.waiting.total() < self.limit {
-            return None;
-        }
-        let longest = self.waiting.longest()?;
-        let (list, _) = self.rota.where_is(longest)?;
-        Some(((list / 8) as u16, (list % 8) as u8))
-    }
-
-    /// Puts a frame into a queue of its station and TID, and gives the id of the frame that is dropped for
-    /// the limit, if any: where the queues hold `limit` frames or more, this is the head of the longest. The
-    /// queue is the flow's number modulo `flows`, or the TID's overflow queue where another TID lists that
-    /// queue.
-    pub fn put(&mut self, parcel: Parcel, now: u64) -> Option<u64>
+    /// Puts a frame into a queue of its station and TID, and tells which frame is dropped for the limit, and
+    /// whose: where the queues hold `limit` frames or more, the head of the longest; else None. The queue is
+    /// the flow's number modulo `flows`, or the TID's overflow queue where another TID lists that queue.
+    pub fn put(&mut self, parcel: Parcel, now: u64) -> Option<Lost>
         requires station { parcel.station < self.old.stations }
         requires tid { parcel.tid < 8 }
         requires stamp { parcel.stamp ≡ now }
         requires room { held_in_backlog self.old.backlog < self.old.backlog.room }
         ensures put { self.new ≡ after_put self.old (tid_number parcel.station parcel.tid) parcel }
-        ensures dropped { result ≡ dropped_for_limit self.old }
+        ensures dropped { option_map (λ lost. lost.id) result ≡ dropped_for_limit self.old }
+        ensures station { IfSome result (λ lost. lost.station < self.old.stations) }
+        ensures tid { IfSome result (λ lost. lost.tid < 8) }
+        ensures loses { IfSome result (λ lost. loses_next self.old lost.station lost.tid ≡ true) }
+        ensures only { (s t : ℕ) → t < 8 → loses_next self.old s t ≡ true →
+            option_map {U = ℕ × ℕ} (λ lost. (lost.station, lost.tid)) result ≡ Some (s, t) }
         ensures full { IsSome result ↔ (self.old.limit ≤ in_queues self.old.backlog) }
         ensures greatest { OnSome result
             (IsLongest self.old.backlog (longest_queue self.old.backlog)) }
@@ -144,18 +139,21 @@ impl Flows {
         dropped
     }
 
-    /// Takes a frame of a TID out, by deficit rounds among its queues and CoDel on the queue that is picked;
-    /// `now` is the clock in microseconds. None exactly where no frame of the TID is in a queue, and then
-    /// nothing changes: an emptied queue stays listed until a later take passes over it.
-    pub fn take(&mut self, station: u16, tid: u8, now: u64, params: Params) -> Option<Parcel>
+    /// Takes a frame of a TID out, by deficit rounds among its queues and CoDel on the queue that is picked,
+    /// and tells how many frames CoDel dropped; `now` is the clock in microseconds. None exactly where no
+    /// frame of the TID is in a queue, and then nothing changes: an emptied queue stays listed until a later
+    /// take passes over it.
+    pub fn take(&mut self, station: u16, tid: u8, now: u64, params: Params) -> Option<Taken>
         requires station { station < self.old.stations }
         requires tid { tid < 8 }
         requires time { now < 2 ^ 62 }
         ensures none { IfNone result (frames_of_tid self.old (tid_number station tid) ≡ 0) }
         ensures unchanged { IfNone result (self.new ≡ self.old) }
         ensures some { IfSome result (λ _. 0 < frames_of_tid self.old (tid_number station tid)) }
-        ensures taken { IfSome result (λ p.
-            TakeGives self.new p (taken_for_tid self.old (tid_number station tid) now (params_of params))) }
+        ensures taken { IfSome result (λ t. TakeGives self.new t.parcel
+            (taken_for_tid self.old (tid_number station tid) now (params_of params))) }
+        ensures dropped { IfSome result (λ t. frames_of_tid self.new (tid_number station tid) + t.dropped + 1
+            ≡ frames_of_tid self.old (tid_number station tid)) }
         ensures held { IfSome result
             (λ _. held_in_backlog self.new.backlog + 1 ≡ held_in_backlog self.old.backlog) }
         ensures settings { settings self.new ≡ settings self.old }
@@ -212,9 +210,14 @@ impl Flows {
     }
 
     // Drops the head of the longest queue where the queues hold `limit` frames or more.
-    fn make_room(&mut self) -> Option<u64>
+    fn make_room(&mut self) -> Option<Lost>
         ensures within { self.new ≡ after_limit self.old }
-        ensures id { result ≡ dropped_for_limit self.old }
+        ensures id { option_map (λ lost. lost.id) result ≡ dropped_for_limit self.old }
+        ensures station { IfSome result (λ lost. lost.station < self.old.stations) }
+        ensures tid { IfSome result (λ lost. lost.tid < 8) }
+        ensures loses { IfSome result (λ lost. loses_next self.old lost.station lost.tid ≡ true) }
+        ensures only { (s t : ℕ) → t < 8 → loses_next self.old s t ≡ true →
+            option_map {U = ℕ × ℕ} (λ lost. (lost.station, lost.tid)) result ≡ Some (s, t) }
         ensures full { IsSome result ↔ (self.old.limit ≤ in_queues self.old.backlog) }
         ensures greatest { OnSome result
             (IsLongest self.old.backlog (longest_queue self.old.backlog)) }
@@ -231,23 +234,27 @@ impl Flows {
         }
     }
 
-    // Drops the head of a queue for the limit, and gives its id.
-    fn drop_head(&mut self, q: u32) -> Option<u64>
+    // Drops the head of a queue for the limit, and tells which frame it was and whose.
+    fn drop_head(&mut self, q: u32) -> Option<Lost>
         requires { q < queues self.old }
         ensures dropped { self.new ≡ record self.old { backlog = after_head_drop self.old.backlog q } }
-        ensures id { result ≡ first_id (frames_at self.old.backlog q) }
+        ensures id { option_map (λ lost. lost.id) result ≡ first_id (frames_at self.old.backlog q) }
+        ensures station { IfSome result (λ lost. lost.station < self.old.stations) }
+        ensures tid { IfSome result (λ lost. lost.tid < 8) }
+        ensures lists { IfSome result (λ lost.
+            is_listed self.old (tid_number lost.station lost.tid) q ≡ true) }
+        ensures only { IfSome result (λ lost. (i : ℕ) → is_listed self.old i q ≡ true →
+            i ≡ tid_number lost.station lost.tid) }
         ensures held { held_in_backlog self.new.backlog ≡ held_in_backlog self.old.backlog }
     {
-        match self.rota.where_is(q) {
-            None => None,
-            Some(place) => {
-                let id = self.waiting.drop_head(q);
-                if id.is_some() {
-                    self.queued[place.0 as usize] -= 1;
-                }
-                id
-            }
-        }
+        let (list, _) = self.rota.where_is(q)?;
+        let id = self.waiting.drop_head(q)?;
+        self.queued[list as usize] -= 1;
+        Some(Lost {
+            id,
+            station: (list / 8) as u16,
+            tid: (list % 8) as u8,
+        })
     }
 
     // Whether another TID lists a queue.
@@ -312,6 +319,7 @@ impl Flows {
     fn pick(&mut self, list: u32) -> Option<u32>
         requires { list < tids self.old }
         ensures picked { self.new ≡ after_pick self.old list }
+        ensures waiting { frames_of_tid self.new list ≡ frames_of_tid self.old list }
         ensures stations { self.new.stations ≡ self.old.stations }
         ensures backlog { self.new.backlog ≡ self.old.backlog }
         ensures winner { result ≡ (pick_of_tid self.old list).winner }
@@ -324,7 +332,7 @@ impl Flows {
     }
 
     // Takes a frame out of a queue that was picked, and subtracts its length from the queue's deficit.
-    fn take_from(&mut self, list: u32, q: u32, now: u64, params: Params) -> Option<Parcel>
+    fn take_from(&mut self, list: u32, q: u32, now: u64, params: Params) -> Option<Taken>
         requires list { list < tids self.old }
         requires listed { is_listed self.old list q ≡ true }
         requires positive { pos 0 <ℤ deficit_at self.old.rotas.deficits q }
@@ -332,14 +340,16 @@ impl Flows {
         requires time { now < 2 ^ 62 }
         ensures some { IsSome result }
         ensures held { held_in_backlog self.new.backlog + 1 ≡ held_in_backlog self.old.backlog }
-        ensures taken { IfSome result (λ p.
-            TakeGives self.new p (taken_from_picked self.old (Some q) now (params_of params))) }
+        ensures taken { IfSome result (λ t. TakeGives self.new t.parcel
+            (taken_from_picked self.old (Some q) now (params_of params))) }
+        ensures dropped { IfSome result (λ t. frames_of_tid self.new list + t.dropped + 1
+            ≡ frames_of_tid self.old list) }
     {
-        let before = self.waiting.count(q);
-        let parcel = self.waiting.take(q, now, params)?;
-        self.queued[list as usize] -= before - self.waiting.count(q);
-        self.rota.charge(q, u32::from(parcel.frame().len()));
-        Some(parcel)
+        let taken = self.waiting.take(q, now, params)?;
+        let left = self.queued[list as usize] - taken.dropped - 1;
+        self.queued[list as usize] = left;
+        self.rota.charge(q, u32::from(taken.parcel.frame().len()));
+        Some(taken)
     }
 
     // Drops the frames of a queue that a TID lists, and takes the queue off its rotation; else nothing.

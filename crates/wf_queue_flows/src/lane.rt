@@ -1,10 +1,10 @@
 //! One queue of a backlog, from which CoDel dequeues.
 
-ghost use Rattle.std.specs.Prelude.{◌≡◌, ◌+◌, ◌<◌, ◌^◌, ◌↔◌, [], length, IsNone, MatchOption};
+ghost use Rattle.std.specs.Prelude.{◌≡◌, ◌+◌, ◌<◌, ◌^◌, ◌↔◌, [], length, option_map, IfSome, IsNone, MatchOption};
 ghost use Rattle.wf_queue_codel.specs.Params.{params_of};
-ghost use Rattle.wf_queue_flows.specs.Backlog.{frames_at, held_in_backlog, item_of, given_at, backlog_after_take};
+ghost use Rattle.wf_queue_flows.specs.Backlog.{frames_at, held_in_backlog, item_of, drops_at, given_at, backlog_after_take};
 
-use crate::backlog::{Backlog, settle};
+use crate::backlog::{Backlog, Taken, settle};
 use wf_frame::{Cause, Fate};
 use wf_queue_chain::Parcel;
 use wf_queue_codel::{Lane, Params};
@@ -70,22 +70,26 @@ impl Backlog {
     /// on the finished list as `Dropped(Codel)`, and the one behind them is given; None exactly where the
     /// queue is empty. `now` is the clock in microseconds, below 2^62; a frame whose stamp is past it has
     /// waited for 0.
-    pub fn take(&mut self, q: u32, now: u64, params: Params) -> Option<Parcel>
+    pub fn take(&mut self, q: u32, now: u64, params: Params) -> Option<Taken>
         requires queue { q < length self.old.queues }
         requires time { now < 2 ^ 62 }
-        ensures given { result ≡ given_at (params_of params) now self.old q }
+        ensures given { option_map (λ t. t.parcel) result ≡ given_at (params_of params) now self.old q }
+        ensures dropped { IfSome result (λ t. t.dropped ≡ drops_at (params_of params) now self.old q) }
         ensures none { IsNone result ↔ (frames_at self.old q ≡ []) }
         ensures taken { self.new ≡ backlog_after_take (params_of params) now self.old q }
         ensures held { MatchOption result (held_in_backlog self.new ≡ held_in_backlog self.old)
             (λ _. held_in_backlog self.new + 1 ≡ held_in_backlog self.old) }
     {
+        let before = self.queued;
         let mut codel = self.codels[q as usize];
         let mut lane = OneQueue {
             backlog: self,
             queue: q,
         };
-        let parcel = codel.dequeue(now, params, &mut lane);
+        let given = codel.dequeue(now, params, &mut lane);
         self.codels[q as usize] = codel;
-        parcel
+        let parcel = given?;
+        let dropped = before - 1 - self.queued;
+        Some(Taken { parcel, dropped })
     }
 }

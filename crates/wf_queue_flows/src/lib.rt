@@ -18,8 +18,8 @@ mod backlog;
 mod flows;
 mod lane;
 
-pub use backlog::Backlog;
-pub use flows::Flows;
+pub use backlog::{Backlog, Taken};
+pub use flows::{Flows, Lost};
 
 /// The longest queue is that of a world in which each queue has as many octets.
 pub fn longest_is_the_worlds()

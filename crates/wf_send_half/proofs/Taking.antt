@@ -110,9 +110,6 @@ module _ (v : TransmitValue) (w : World) (bodies : ℕ → FrameValue) (s t : �
     left_is : frames_of_tid u (tid_number s t) ≡ frames_of_tid after.flows (tid_number s t)
     left_is = ap (λ (z : FlowsValue). frames_of_tid z (tid_number s t)) gives.0
 
-    pub fewer_left : frames_of_tid u (tid_number s t) ≤ frames_of_tid v.flows (tid_number s t) - 1
-    fewer_left = omega (arith, balance, left_is, drops_are_held.1)
-
     pub counted_drops : frames_of_tid v.flows (tid_number s t) - 1 - frames_of_tid u (tid_number s t)
         ≡ dropped
     counted_drops = omega (arith, balance, left_is, drops_are_held.1)

@@ -1,6 +1,6 @@
 //! Frames that come in.
 
-ghost use Rattle.std.specs.Prelude.{◌≡◌, ◌<◌, ◌≤◌, ◌^◌, ◌&&◌, nat_le, ℕ, length, IfOk, IfErr};
+ghost use Rattle.std.specs.Prelude.{◌≡◌, ◌<◌, ◌≤◌, ◌^◌, ◌&&◌, nat_le, ℕ, true, length, option_map, Some, IfSome, IfOk, IfErr};
 ghost use Rattle.wf_frame.specs.Frames.{FrameValue};
 ghost use Rattle.wf_frame.specs.declared.classes.Fate.TheVariants.{Held};
 ghost use Rattle.wf_frame.specs.declared.notes.Note.TheVariants.{Enqueue};
@@ -9,7 +9,7 @@ ghost use Rattle.wf_def_lists.specs.Lengths.{greatest_body};
 ghost use Rattle.wf_def_world.specs.World.{World};
 ghost use Rattle.wf_def_world.specs.Refusals.{refusal};
 ghost use Rattle.wf_send_stations.specs.Tally.{counts_of, one_accepted};
-ghost use Rattle.wf_queue_flows.specs.Flows.{dropped_for_limit};
+ghost use Rattle.wf_queue_flows.specs.Flows.{dropped_for_limit, loses_next};
 ghost use Rattle.wf_queue_flows_refines.specs.Frames.{with_body};
 ghost use Rattle.wf_octets_tim.specs.Sleepers.{sleeper};
 ghost use Rattle.wf_send_half_refines.specs.Changes.{after_enqueue, after_listing};
@@ -23,6 +23,7 @@ use crate::Transmit;
 use crate::refuse::refuse_where;
 use wf_frame::{Cause, Class, Fate, Refusal};
 use wf_queue_chain::Parcel;
+use wf_queue_flows::Lost;
 use wf_send_stations::Tally;
 
 /// The greatest traffic identifier that has queues (IEEE 802.11-2012, 8.2.4.5.2).
@@ -42,9 +43,10 @@ fn marked(mut parcel: Parcel, id: u64, stamp: u64) -> Parcel
 }
 
 // Counts a frame that is accepted, and the one that is dropped for the limit, if any.
-fn count_accepted(tally: &mut Tally, dropped: Option<u64>)
+fn count_accepted(tally: &mut Tally, dropped: Option<Lost>)
     requires { tally.old.accepted < 2 ^ 62 }
-    ensures { counts_of tally.new ≡ with_overlimit dropped (one_accepted (counts_of tally.old)) }
+    ensures { counts_of tally.new ≡
+        with_overlimit (option_map (λ lost. lost.id) dropped) (one_accepted (counts_of tally.old)) }
 {
     tally.add();
     if dropped.is_some() {
@@ -53,17 +55,24 @@ fn count_accepted(tally: &mut Tally, dropped: Option<u64>)
 }
 
 impl Transmit {
-    /// Accepts a frame, and gives its id and the id of the frame that is dropped for the limit, if any: where
-    /// the queues hold `limit` frames, the head of the longest. Refused as BadStation, BadTid, NoStation,
-    /// Room where `room` frames are inside, or Sleeping where `sleeping` frames of its class are queued for a
-    /// station that sleeps; then the frame is handed back.
-    pub fn enqueue(&mut self, parcel: Parcel) -> Result<(u64, Option<u64>), (Refusal, Parcel)>
+    /// Accepts a frame, and gives its id and the frame that is dropped for the limit, if any, with its
+    /// station and its TID: where the queues hold `limit` frames, the head of the longest. Refused as
+    /// BadStation, BadTid, NoStation, Room where `room` frames are inside, or Sleeping where `sleeping`
+    /// frames of its class are queued for a station that sleeps; then the frame is handed back.
+    pub fn enqueue(&mut self, parcel: Parcel) -> Result<(u64, Option<Lost>), (Refusal, Parcel)>
         requires some { HasWorld self.old }
         requires small { self.old.tally.accepted < 2 ^ 62 }
         ensures meets { IfOk result (λ given. (w : World) (bodies : ℕ → FrameValue) →
             StandsFor self.old w bodies →
             Meets w (with_body bodies (as_accepted self.old parcel)) (enqueue_of parcel) self.new
-            (Accepted given.0 given.1)) }
+            (Accepted given.0 (option_map (λ lost. lost.id) given.1))) }
+        ensures station { IfOk result (λ given.
+            IfSome given.1 (λ lost. lost.station < self.old.flows.stations)) }
+        ensures tid { IfOk result (λ given. IfSome given.1 (λ lost. lost.tid < 8)) }
+        ensures loses { IfOk result (λ given.
+            IfSome given.1 (λ lost. loses_next self.old.flows lost.station lost.tid ≡ true)) }
+        ensures only { IfOk result (λ given. (s t : ℕ) → t < 8 → loses_next self.old.flows s t ≡ true →
+            option_map {U = ℕ × ℕ} (λ lost. (lost.station, lost.tid)) given.1 ≡ Some (s, t)) }
         ensures refuses { IfErr result (λ given. (w : World) (bodies : ℕ → FrameValue) →
             StandsFor self.old w bodies →
             Meets w bodies (enqueue_of parcel) self.new (Refused given.0)) }
@@ -79,7 +88,7 @@ impl Transmit {
     }
 
     // Accepts a frame that is not refused.
-    fn accept(&mut self, parcel: Parcel) -> (u64, Option<u64>)
+    fn accept(&mut self, parcel: Parcel) -> (u64, Option<Lost>)
         requires within { parcel.station < self.old.config.stations }
         requires tid { parcel.tid < 8 }
         requires room { self.old.inside < self.old.config.room }
@@ -89,7 +98,13 @@ impl Transmit {
             (after_enqueue self.old (as_accepted self.old parcel)) parcel.station }
         ensures length { (1 ≤ length parcel.body) × (length parcel.body ≤ greatest_body) }
         ensures id { result.0 ≡ self.old.tally.accepted }
-        ensures dropped { result.1 ≡ dropped_for_limit self.old.flows }
+        ensures dropped { option_map (λ lost. lost.id) result.1 ≡ dropped_for_limit self.old.flows }
+        ensures station { IfSome result.1 (λ lost. lost.station < self.old.flows.stations) }
+        ensures tid { IfSome result.1 (λ lost. lost.tid < 8) }
+        ensures loses { IfSome result.1 (λ lost.
+            loses_next self.old.flows lost.station lost.tid ≡ true) }
+        ensures only { (s t : ℕ) → t < 8 → loses_next self.old.flows s t ≡ true →
+            option_map {U = ℕ × ℕ} (λ lost. (lost.station, lost.tid)) result.1 ≡ Some (s, t) }
     {
         let station = parcel.frame().station();
         let id = self.tally.accepted;

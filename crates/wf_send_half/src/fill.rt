@@ -23,6 +23,7 @@ use wf_frame::{Cause, Fate};
 use wf_octets_seq12::Seq12;
 use wf_queue_chain::Parcel;
 use wf_queue_codel::Params;
+use wf_queue_flows::Taken;
 use wf_send_exchanges::Numbers;
 
 /// An aggregate under way: the numbers that it sends and the room that is left.
@@ -80,11 +81,10 @@ impl Transmit {
         ensures { IsTaken self.old self.new station tid result }
     {
         let params = Params::of(self.members.rate(station));
-        let before = self.flows.queued(station, tid);
-        let Some(parcel) = self.flows.take(station, tid, self.clock, params) else {
+        let Some(taken) = self.flows.take(station, tid, self.clock, params) else {
             unreachable!()
         };
-        let dropped = before - 1 - self.flows.queued(station, tid);
+        let Taken { parcel, dropped } = taken;
         self.tally.settle_all(Fate::Dropped(Cause::Codel), dropped);
         parcel
     }

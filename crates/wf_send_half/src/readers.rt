@@ -1,8 +1,6 @@
 //! What a path reads of the half beside its calls.
 
-ghost use Rattle.std.specs.Prelude.{◌≡◌, ◌<◌, ◌==◌, ◌↔◌, ◌&&◌, ℕ, true, Some, is_some, find, option_map, IfSome, IsNone};
-ghost use Rattle.wf_queue_flows.specs.Backlog.{in_queues};
-ghost use Rattle.wf_queue_flows.specs.Flows.{loses_next};
+ghost use Rattle.std.specs.Prelude.{◌≡◌, ◌<◌, ◌==◌, ◌&&◌, is_some, find, option_map};
 ghost use Rattle.wf_send_stations.specs.Members.{member};
 ghost use Rattle.wf_octets_tim.specs.Sleepers.{sleeper};
 ghost use Rattle.wf_send_window.specs.Windows.{window_of};
@@ -27,18 +25,6 @@ impl Transmit {
         ensures { result.now ≡ window_of self.now.windows station tid }
     {
         self.windows.at(station, tid)
-    }
-
-    /// The station and the TID whose frame the next enqueue drops for the limit: those that list the longest
-    /// queue, where the queues hold `limit` frames or more; else None.
-    pub fn next_drop(&self) -> Option<(u16, u8)>
-        ensures none { IsNone result ↔ (in_queues self.now.flows.backlog < self.now.flows.limit) }
-        ensures station { IfSome result (λ x. x.0 < self.now.flows.stations) }
-        ensures tid { IfSome result (λ x. x.1 < 8) }
-        ensures loses { IfSome result (λ x. loses_next self.now.flows x.0 x.1 ≡ true) }
-        ensures only { (s t : ℕ) → t < 8 → loses_next self.now.flows s t ≡ true → result ≡ Some (s, t) }
-    {
-        self.flows.next_drop()
     }
 
     /// Whether a station is live and sleeps, and a number waits or a frame is queued for it on some TID: what

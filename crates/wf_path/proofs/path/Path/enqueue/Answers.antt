@@ -1,4 +1,8 @@
-use Rattle.std.proofs.Common.{sym, ◌∙◌, ap, subst, ℕ, ◌<◌}
+use Rattle.std.proofs.Common.{sym, ◌∙◌, ap, subst, ℕ, ◌<◌, Option}
+use Rattle.std.specs.Prelude.{option_map, IfSome}
+use Rattle.wf_queue_flows.specs.declared.flows.Lost.{Lost}
+use Rattle.wf_def_world.specs.World.{World}
+use Rattle.wf_send_half_refines.specs.Standing.{StandsFor, Meets}
 use Rattle.wf_frame.specs.Frames.{FrameValue}
 use Rattle.wf_frame.specs.declared.notes.ReplyNote.TheVariants.{Accepted}
 use Rattle.wf_queue_flows_refines.specs.Frames.{with_body}
@@ -14,42 +18,49 @@ pub of_tid-requires : goal.of_tid-requires
 of_tid-requires c =
     subst (λ (t : ℕ). t < 8) (sym (c.tid-tid.ensures ∙ ap (λ (f : FrameValue). f.tid) c.frame-frame.ensures))
     (accepted_tid c.self.inside.half c.self.inside.ready c.self.invariant c.args.parcel
-    (Accepted c.in_ok-accepted.accepted.0 c.in_ok-accepted.accepted.1)
+    (Accepted c.in_ok-accepted.accepted.0 (option_map (λ l. l.id) c.in_ok-accepted.accepted.1))
     (λ bodies. with_body bodies (as_accepted c.self.inside.half c.args.parcel)) c.enqueue.new.self
     c.in_ok-accepted.ensures.meets (λ why e. cc e))
 
 pub set-requires-clause-within : goal.set-requires-clause-within
 set-requires-clause-within c = accepted_within c.self.inside.half c.self.inside.ready c.self.invariant
-    c.args.parcel (Accepted c.in_ok-accepted.accepted.0 c.in_ok-accepted.accepted.1)
+    c.args.parcel
+    (Accepted c.in_ok-accepted.accepted.0 (option_map (λ l. l.id) c.in_ok-accepted.accepted.1))
     (λ bodies. with_body bodies (as_accepted c.self.inside.half c.args.parcel)) c.enqueue.new.self
     c.in_ok-accepted.ensures.meets (λ why e. cc e) c.station-station.result
     (c.station-station.ensures ∙ ap (λ (f : FrameValue). f.station) c.frame-frame.ensures)
 
 pub set-requires-clause-room : goal.set-requires-clause-room
 set-requires-clause-room c = accepted_room c.self.inside.half c.self.inside.ready c.self.invariant
-    c.args.parcel (Accepted c.in_ok-accepted.accepted.0 c.in_ok-accepted.accepted.1)
+    c.args.parcel
+    (Accepted c.in_ok-accepted.accepted.0 (option_map (λ l. l.id) c.in_ok-accepted.accepted.1))
     (λ bodies. with_body bodies (as_accepted c.self.inside.half c.args.parcel)) c.enqueue.new.self
     c.in_ok-accepted.ensures.meets (λ why e. cc e) c.station-station.result c.of_tid.result
     (c.station-station.ensures ∙ ap (λ (f : FrameValue). f.station) c.frame-frame.ensures)
 
 pub set-requires-in-Some-clause-within : goal.set-requires-in-Some-clause-within
 set-requires-in-Some-clause-within c = loser_within c.self.inside.half c.self.inside.ready c.self.invariant
-    c.args.parcel (Accepted c.in_ok-accepted.accepted.0 c.in_ok-accepted.accepted.1)
+    c.args.parcel
+    (Accepted c.in_ok-accepted.accepted.0 (option_map (λ l. l.id) c.in_ok-accepted.accepted.1))
     (λ bodies. with_body bodies (as_accepted c.self.inside.half c.args.parcel)) c.enqueue.new.self
-    c.in_ok-accepted.ensures.meets (λ why e. cc e) c.in-Some.station c.in-Some.ensures.station
+    c.in_ok-accepted.ensures.meets (λ why e. cc e) c.in-Some.lost.station
+    (subst (λ (o : Option Lost). IfSome o (λ l. l.station < c.self.inside.half.flows.stations)) c.in-Some.is
+    c.in_ok-accepted.ensures.station)
 
 pub set-requires-in-Some-clause-room : goal.set-requires-in-Some-clause-room
 set-requires-in-Some-clause-room c =
     loser_room c.self.inside.half c.self.inside.ready c.self.invariant c.args.parcel
-    (Accepted c.in_ok-accepted.accepted.0 c.in_ok-accepted.accepted.1)
+    (Accepted c.in_ok-accepted.accepted.0 (option_map (λ l. l.id) c.in_ok-accepted.accepted.1))
     (λ bodies. with_body bodies (as_accepted c.self.inside.half c.args.parcel)) c.enqueue.new.self
     c.in_ok-accepted.ensures.meets (λ why e. cc e) c.set.new.self c.of_tid.result c.station-station.result
-    _ c.set.ensures c.of_tid-in-Some.result c.in-Some.station c.in-Some.ensures.station
+    _ c.set.ensures c.of_tid-in-Some.result c.in-Some.lost.station
+    (subst (λ (o : Option Lost). IfSome o (λ l. l.station < c.self.inside.half.flows.stations)) c.in-Some.is
+    c.in_ok-accepted.ensures.station)
 
 pub invariant_of-self-in-Some : goal.invariant_of-self-in-Some
 invariant_of-self-in-Some c =
     tracked_both c.self.inside.half c.self.inside.ready c.self.invariant c.args.parcel
-    (Accepted c.in_ok-accepted.accepted.0 c.in_ok-accepted.accepted.1)
+    (Accepted c.in_ok-accepted.accepted.0 (option_map (λ l. l.id) c.in_ok-accepted.accepted.1))
     (λ bodies. with_body bodies (as_accepted c.self.inside.half c.args.parcel)) c.enqueue.new.self
     c.in_ok-accepted.ensures.meets (λ why e. cc e) c.of_tid.result c.tid-tid.result
     c.station-station.result c.of_tid.ensures
@@ -58,15 +69,18 @@ invariant_of-self-in-Some c =
     (some_octets c.frame-frame.result.now c.args.parcel c.len-octets.result c.frame-frame.ensures
     c.len-octets.ensures.exact c.len-octets.ensures.some)
     (few_octets c.frame-frame.result.now c.args.parcel c.len-octets.result c.frame-frame.ensures
-    c.len-octets.ensures.exact c.len-octets.ensures.most) c.next_drop-loser.result
-    c.next_drop-loser.ensures.only
-    c.in-Some.station c.in-Some.tid c.in-Some.is c.in-Some.ensures.station c.of_tid-in-Some.result
+    c.len-octets.ensures.exact c.len-octets.ensures.most)
+    (option_map {U = ℕ × ℕ} (λ l. (l.station, l.tid)) c.in_ok-accepted.accepted.1)
+    c.in_ok-accepted.ensures.only c.in-Some.lost.station c.in-Some.lost.tid
+    (ap (λ (o : Option Lost). option_map {U = ℕ × ℕ} (λ l. (l.station, l.tid)) o) c.in-Some.is)
+    (subst (λ (o : Option Lost). IfSome o (λ l. l.station < c.self.inside.half.flows.stations)) c.in-Some.is
+    c.in_ok-accepted.ensures.station) c.of_tid-in-Some.result
     c.of_tid-in-Some.ensures c.set.new.self c.set-in-Some.new.self c.set.ensures c.set-in-Some.ensures
 
 pub invariant_of-self-in_default : goal.invariant_of-self-in_default
 invariant_of-self-in_default c =
     tracked_alone c.self.inside.half c.self.inside.ready c.self.invariant c.args.parcel
-    (Accepted c.in_ok-accepted.accepted.0 c.in_ok-accepted.accepted.1)
+    (Accepted c.in_ok-accepted.accepted.0 (option_map (λ l. l.id) c.in_ok-accepted.accepted.1))
     (λ bodies. with_body bodies (as_accepted c.self.inside.half c.args.parcel)) c.enqueue.new.self
     c.in_ok-accepted.ensures.meets (λ why e. cc e) c.of_tid.result c.tid-tid.result
     c.station-station.result c.of_tid.ensures
@@ -75,18 +89,22 @@ invariant_of-self-in_default c =
     (some_octets c.frame-frame.result.now c.args.parcel c.len-octets.result c.frame-frame.ensures
     c.len-octets.ensures.exact c.len-octets.ensures.some)
     (few_octets c.frame-frame.result.now c.args.parcel c.len-octets.result c.frame-frame.ensures
-    c.len-octets.ensures.exact c.len-octets.ensures.most) c.next_drop-loser.result
-    c.next_drop-loser.ensures.only c.in_default.is c.set.new.self c.set.ensures
+    c.len-octets.ensures.exact c.len-octets.ensures.most)
+    (option_map {U = ℕ × ℕ} (λ l. (l.station, l.tid)) c.in_ok-accepted.accepted.1)
+    c.in_ok-accepted.ensures.only
+    (ap (λ (o : Option Lost). option_map {U = ℕ × ℕ} (λ l. (l.station, l.tid)) o) c.in_default.is)
+    c.set.new.self c.set.ensures
 
 pub returns-clause-path : goal.returns-clause-path
 returns-clause-path c = elim c.match-loser.branch [
   | in-Some w ↦ subst IsPath (sym w.self-is) (accepted_path c.self.inside.half c.self.inside.ready
-      c.self.invariant c.args.parcel (Accepted c.in_ok-accepted.accepted.0 c.in_ok-accepted.accepted.1)
+      c.self.invariant c.args.parcel
+      (Accepted c.in_ok-accepted.accepted.0 (option_map (λ l. l.id) c.in_ok-accepted.accepted.1))
       (λ bodies. with_body bodies (as_accepted c.self.inside.half c.args.parcel)) c.enqueue.new.self
       c.in_ok-accepted.ensures.meets (λ why e. cc e))
   | in_default w ↦ subst IsPath (sym w.self-is)
       (accepted_path c.self.inside.half c.self.inside.ready c.self.invariant c.args.parcel
-      (Accepted c.in_ok-accepted.accepted.0 c.in_ok-accepted.accepted.1)
+      (Accepted c.in_ok-accepted.accepted.0 (option_map (λ l. l.id) c.in_ok-accepted.accepted.1))
       (λ bodies. with_body bodies (as_accepted c.self.inside.half c.args.parcel)) c.enqueue.new.self
       c.in_ok-accepted.ensures.meets (λ why e. cc e))
 ]
@@ -97,7 +115,8 @@ returns-clause-rises c =
     subst (λ (z : TransmitValue). RiseLittle z c.enqueue.new.self) c.self.view_is
     (rises_by c.self.inside.half c.enqueue.new.self c.self.invariant.path
     (with_body c.self.invariant.path.bodies (as_accepted c.self.inside.half c.args.parcel))
-    (enqueue_of c.args.parcel) (Accepted c.in_ok-accepted.accepted.0 c.in_ok-accepted.accepted.1)
+    (enqueue_of c.args.parcel)
+    (Accepted c.in_ok-accepted.accepted.0 (option_map (λ l. l.id) c.in_ok-accepted.accepted.1))
     (c.in_ok-accepted.ensures.meets c.self.invariant.path.world c.self.invariant.path.bodies
     c.self.invariant.path.stands)) in
     elim c.match-loser.branch [
@@ -108,3 +127,19 @@ returns-clause-rises c =
 pub returns-in_err-accepted-clause-rises : goal.returns-in_err-accepted-clause-rises
 returns-in_err-accepted-clause-rises c = subst (RiseLittle c.args.self.now)
     (sym (c.in_err-accepted.ensures.refused ∙ c.self.view_is)) (no_rise c.args.self.now)
+
+pub returns-clause-meets : goal.returns-clause-meets
+returns-clause-meets c =
+    let P : TransmitValue → TransmitValue → Type 0 = λ x y. (w : World) (bodies : ℕ → FrameValue) →
+    StandsFor x w bodies → Meets w (with_body bodies (as_accepted x c.args.parcel))
+    (enqueue_of c.args.parcel) y (Accepted c.in_ok-accepted.accepted.0 c.id_of-dropped.result) in
+    let met : P c.args.self.now c.enqueue.new.self =
+    subst (λ (x : TransmitValue). P x c.enqueue.new.self) c.self.view_is
+    (λ w bodies h. subst (λ (o : Option ℕ). Meets w
+    (with_body bodies (as_accepted c.self.inside.half c.args.parcel)) (enqueue_of c.args.parcel)
+    c.enqueue.new.self (Accepted c.in_ok-accepted.accepted.0 o)) (sym c.id_of-dropped.ensures)
+    (c.in_ok-accepted.ensures.meets w bodies h)) in
+    elim c.match-loser.branch [
+      | in-Some w ↦ subst (P c.args.self.now) (sym w.self-is) met
+      | in_default w ↦ subst (P c.args.self.now) (sym w.self-is) met
+    ]

@@ -1,6 +1,7 @@
-use Rattle.std.proofs.Common.{◌≡◌, ◌∙◌, ap, subst}
+use Rattle.std.proofs.Common.{◌≡◌, ◌<◌, ◌∙◌, ap, sym, refl, subst}
 use Rattle.std.specs.Prelude.{IfNone}
-use Rattle.wf_queue_flows.specs.Flows.{FlowsValue, after_pick, pick_of_tid, frames_of_tid}
+use Rattle.wf_queue_flows.specs.Flows.{FlowsValue, tids, after_pick, pick_of_tid, frames_of_tid}
+use Rattle.wf_queue_flows.proofs.Keeps.{frames_counted}
 use Rattle.wf_queue_flows.proofs.Picking.{pick_low, pick_keeps, pick_is, pick_winner, pick_none, pick_listed, pick_positive}
 use Rattle.wf_queue_flows.specs.Kept.{IsPickOfOne}
 use Rattle.wf_queue_flows.proofs.flows.Flows.pick.Goals as goal
@@ -52,3 +53,12 @@ pub returns-clause-positive : goal.returns-clause-positive
 returns-clause-positive c = pick_positive _ _ c.self.invariant c.ready.result.now c.ready.ensures c.args.list
     (pick_low _ _ c.args.list c.self.view_is c.requires) c.pick_uncounted.new.self c.pick_uncounted.result
     (as_pick (goal.at.returns-clause-positive c).After-pick_uncounted)
+
+pub returns-clause-waiting : goal.returns-clause-waiting
+returns-clause-waiting c =
+    let low = subst (λ (w : FlowsValue). c.args.list < tids w) (sym c.self.view_is) c.requires in
+    sym (frames_counted _ _ _ c.args.list refl
+    (pick_keeps _ _ c.self.invariant c.ready.result.now c.ready.ensures c.args.list
+    (pick_low _ _ c.args.list c.self.view_is c.requires) c.pick_uncounted.new.self c.pick_uncounted.result
+    (as_pick (goal.at.returns-clause-waiting c).After-pick_uncounted)) low)
+    ∙ frames_counted _ _ _ c.args.list c.self.view_is c.self.invariant c.requires

@@ -1,7 +1,8 @@
-use Rattle.std.proofs.Common.{◌∙◌, sym, ap}
+use Rattle.std.proofs.Common.{◌≡◌, ℕ, ◌+◌, ◌∙◌, sym, ap, subst}
+use Rattle.std.specs.Prelude.{IfSome}
 use Rattle.wf_queue_codel.specs.Params.{params_of}
 use Rattle.wf_frame.specs.Classes.{tid_number}
-use Rattle.wf_queue_flows.specs.Flows.{settings, taken_for_tid}
+use Rattle.wf_queue_flows.specs.Flows.{settings, frames_of_tid, taken_for_tid}
 use Rattle.wf_queue_flows.proofs.Whole.{take_parts, gives_as, gives_flows}
 use Rattle.wf_queue_flows.proofs.Settings.{settings_take}
 use Rattle.wf_queue_flows.proofs.flows.Flows.take.Goals as goal
@@ -19,3 +20,10 @@ returns-clause-settings c =
     ap settings (gives_flows c.take_from.result c.take_from.new.self _ c.take_from.ensures.some
     (returns-clause-taken c)) ∙ settings_take c.args.self.now
     (tid_number c.args.station c.args.tid) c.args.now (params_of c.args.params)
+
+pub returns-clause-dropped : goal.returns-clause-dropped
+returns-clause-dropped c =
+    subst (λ (i : ℕ). IfSome c.take_from.result (λ t. frames_of_tid c.take_from.new.self i + t.dropped + 1
+    ≡ frames_of_tid c.args.self.now i)) c.tid_number-list.ensures
+    (subst (λ (n : ℕ). IfSome c.take_from.result (λ t. frames_of_tid c.take_from.new.self
+    c.tid_number-list.result + t.dropped + 1 ≡ n)) c.pick.ensures.waiting c.take_from.ensures.dropped)

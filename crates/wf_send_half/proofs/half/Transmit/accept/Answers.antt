@@ -1,4 +1,6 @@
-use Rattle.std.proofs.Common.{◌<◌, ◌∙◌, sym, ap, subst}
+use Rattle.std.proofs.Common.{◌≡◌, ◌<◌, ◌∙◌, ℕ, true, Some, sym, ap, subst}
+use Rattle.std.specs.Prelude.{IfSome, option_map}
+use Rattle.wf_queue_flows.specs.Flows.{loses_next}
 use Rattle.wf_frame.specs.Frames.{FrameValue}
 use Rattle.wf_send_half_refines.specs.Half.{TransmitValue}
 use Rattle.wf_send_half.specs.Half.{HasWorld}
@@ -14,6 +16,22 @@ put-dropped-requires-clause-room c =
 pub returns-clause-accepted : goal.returns-clause-accepted
 returns-clause-accepted c =
     accepted_is c.args.self.now (view_of c.self.inside) c.self.view_is c.args.parcel c.marked.result
-    c.station-station.result c.put-dropped.new.self c.put-dropped.result _ c.list.new.self
+    c.station-station.result c.put-dropped.new.self (option_map (λ l. l.id) c.put-dropped.result) _
+    c.list.new.self
     c.marked.ensures.marked (c.station-station.ensures ∙ ap (λ (f : FrameValue). f.station) c.frame.ensures)
     c.put-dropped.ensures.put c.put-dropped.ensures.dropped c.count_accepted.ensures c.list.ensures
+
+pub returns-clause-station : goal.returns-clause-station
+returns-clause-station c = subst (λ (z : TransmitValue).
+    IfSome c.put-dropped.result (λ l. l.station < z.flows.stations)) c.self.view_is
+    c.put-dropped.ensures.station
+
+pub returns-clause-loses : goal.returns-clause-loses
+returns-clause-loses c = subst (λ (z : TransmitValue).
+    IfSome c.put-dropped.result (λ l. loses_next z.flows l.station l.tid ≡ true)) c.self.view_is
+    c.put-dropped.ensures.loses
+
+pub returns-clause-only : goal.returns-clause-only
+returns-clause-only c = subst (λ (z : TransmitValue). (s t : ℕ) → t < 8 → loses_next z.flows s t ≡ true →
+    option_map {U = ℕ × ℕ} (λ l. (l.station, l.tid)) c.put-dropped.result ≡ Some (s, t)) c.self.view_is
+    c.put-dropped.ensures.only

@@ -1,28 +1,11 @@
-use Rattle.std.proofs.Common.{ap₂, sym, ◌∙◌, subst, arith, ℕ, ◌-◌}
+use Rattle.std.proofs.Common.{sym, ◌∙◌, subst, arith}
 use Rattle.wf_send_half_refines.specs.Half.{TransmitValue}
 use Rattle.wf_send_half_refines.specs.Filling.{IsTurned}
 use Rattle.wf_send_half_refines.proofs.Asked.{params_read}
 use Rattle.wf_send_half.specs.Pulls.{IsTaken}
 use Rattle.wf_send_half.proofs.Calls.{view_of}
-use Rattle.wf_send_half.proofs.Taking.{drops_are_held, fewer_left, counted_drops, took}
+use Rattle.wf_send_half.proofs.Taking.{drops_are_held, counted_drops, took}
 use Rattle.wf_send_half.proofs.half.Transmit.take.Goals as goal
-
-pub overflow_sub-dropped-2 : goal.overflow_sub-dropped-2
-overflow_sub-dropped-2 c =
-    let h = c.requires.turned in
-    let x : TransmitValue = view_of c.self.inside in
-    let at : IsTurned x h.world h.bodies c.args.station c.args.tid =
-    subst (λ (z : TransmitValue). IsTurned z h.world h.bodies c.args.station c.args.tid)
-    (sym c.self.view_is) h.turned in
-    let right = c.of-params.ensures ∙ params_read x h.world h.bodies c.args.station at.parts at.live
-    c.rate.result c.rate.ensures in
-    omega (
-      arith,
-      c.queued.ensures,
-      c.queued-before.ensures,
-      fewer_left x h.world h.bodies c.args.station c.args.tid at _ right c.take.new.self c.in-Some.parcel
-          c.in-Some.ensures.taken,
-    )
 
 pub settle_all-requires-clause-held : goal.settle_all-requires-clause-held
 settle_all-requires-clause-held c =
@@ -35,10 +18,9 @@ settle_all-requires-clause-held c =
     c.rate.result c.rate.ensures in
     omega (
       arith,
-      c.queued.ensures,
-      c.queued-before.ensures,
-      counted_drops x h.world h.bodies c.args.station c.args.tid at _ right c.take.new.self c.in-Some.parcel
-          c.in-Some.ensures.taken,
+      c.in-Some.ensures.dropped,
+      counted_drops x h.world h.bodies c.args.station c.args.tid at _ right c.take.new.self
+          c.in-Some.taken.parcel c.in-Some.ensures.taken,
       (drops_are_held x h.world h.bodies c.args.station c.args.tid at _ right).0,
     )
 
@@ -51,16 +33,16 @@ returns c =
     (sym c.self.view_is) h.turned in
     let right = c.of-params.ensures ∙ params_read x h.world h.bodies c.args.station at.parts at.live
     c.rate.result c.rate.ensures in
-    let count = ap₂ (λ (n m : ℕ). n - 1 - m) c.queued-before.ensures c.queued.ensures
-    ∙ counted_drops x h.world h.bodies c.args.station c.args.tid at _ right c.take.new.self
-    c.in-Some.parcel c.in-Some.ensures.taken in
+    let counted = counted_drops x h.world h.bodies c.args.station c.args.tid at _ right c.take.new.self
+    c.in-Some.taken.parcel c.in-Some.ensures.taken in
     subst (λ (z : TransmitValue). IsTaken z (view_of
     (record c.self.inside { flows = c.take.new.self; tally = c.settle_all.new.self })) c.args.station
-    c.args.tid c.in-Some.parcel) c.self.view_is
+    c.args.tid c.in-Some.taken.parcel) c.self.view_is
     (took x c.args.station c.args.tid _ (record {
       rate = c.rate.result;
       is_rate = c.rate.ensures;
       is =
           c.of-params.ensures;
-    }) c.take.new.self c.in-Some.parcel c.in-Some.ensures.taken _ count _
+    }) c.take.new.self c.in-Some.taken.parcel c.in-Some.ensures.taken _
+    (omega (arith, c.in-Some.ensures.dropped, counted)) _
     c.settle_all.ensures.counted)
