@@ -1,5 +1,7 @@
 pub mod Answers
+pub mod Calls
 pub mod Classes
 pub mod Frames
+pub mod Refusals
 pub mod Settings
 pub mod Words

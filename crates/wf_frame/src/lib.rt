@@ -2,13 +2,17 @@
 #![tactic(auto)]
 
 mod answers;
+mod calls;
 mod classes;
 mod frames;
 mod lists;
 mod notes;
+mod refusals;
 mod settings;
+mod values;
 
 pub use answers::{Answer, Brief};
+pub use calls::{Arg, Argument, CallForm, RateFormat, Value};
 pub use classes::{Cause, Class, Fate, tid_number};
 pub use frames::{Frame, GREATEST_BODY};
 pub use lists::{FixedList, Ids, Pairs};

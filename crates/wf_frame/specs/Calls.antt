@@ -1,0 +1,287 @@
+-- The table of calls: for each form of a call's line its number, its word and its arguments; and the values
+-- of these for each call.
+use Rattle.std.specs.Prelude.{ℕ, ◌<◌, ◌≤◌, ◌^◌, List, [], ◌∷◌, map, codes, Option, Some, None, find, option_map}
+use Rattle.std.specs.Str.{bytes_eq}
+use Rattle.wf_frame.specs.declared.calls.CallForm.{CallForm}
+use Rattle.wf_frame.specs.declared.calls.CallForm.TheVariants as form
+use Rattle.wf_frame.specs.declared.calls.RateFormat.{RateFormat}
+use Rattle.wf_frame.specs.declared.calls.RateFormat.TheVariants as format
+use Rattle.wf_frame.specs.declared.calls.Argument.{Argument}
+use Rattle.wf_frame.specs.declared.calls.Argument.TheVariants as argument
+use Rattle.wf_frame.specs.declared.calls.Arg.{Arg}
+use Rattle.wf_frame.specs.declared.calls.Arg.TheVariants as kind
+use Rattle.wf_frame.specs.declared.calls.Value.{Value}
+use Rattle.wf_frame.specs.declared.calls.Value.TheVariants as value
+use Rattle.wf_frame.specs.declared.notes.Note.{Note}
+use Rattle.wf_frame.specs.declared.notes.Note.TheVariants.{Enqueue, Asked}
+use Rattle.wf_frame.specs.declared.notes.Ask.{Ask}
+use Rattle.wf_frame.specs.declared.notes.Ask.TheVariants.{Join, Leave, Rate, Tick, Pull, Arrive, Answer, Done, Sleep, Wake, Poll, Rx, Reap}
+use Rattle.wf_frame.specs.declared.notes.AskedRate.{AskedRate}
+use Rattle.wf_frame.specs.declared.notes.AskedRate.TheVariants.{Ht, Vht, He}
+use Rattle.wf_def_lists.specs.Lengths.{greatest_body}
+
+-- ---- the table
+
+-- the number of a form's call
+abbrev pub form_number : CallForm → ℕ
+form_number form.Join = 0
+form_number form.Leave = 1
+form_number form.Rate = 2
+form_number form.RateVht = 2
+form_number form.RateHe = 2
+form_number form.Tick = 3
+form_number form.Enqueue = 4
+form_number form.Pull = 5
+form_number form.Arrive = 6
+form_number form.Answer = 7
+form_number form.Done = 8
+form_number form.DoneAir = 8
+form_number form.Sleep = 9
+form_number form.Wake = 10
+form_number form.Poll = 11
+form_number form.Rx = 12
+form_number form.Reap = 13
+
+-- the word that a line of this form begins with
+abbrev pub call_word : CallForm → List ℕ
+call_word form.Join = codes "join"
+call_word form.Leave = codes "leave"
+call_word form.Rate = codes "rate"
+call_word form.RateVht = codes "rate"
+call_word form.RateHe = codes "rate"
+call_word form.Tick = codes "tick"
+call_word form.Enqueue = codes "enq"
+call_word form.Pull = codes "pull"
+call_word form.Arrive = codes "arrive"
+call_word form.Answer = codes "answer"
+call_word form.Done = codes "done"
+call_word form.DoneAir = codes "done"
+call_word form.Sleep = codes "sleep"
+call_word form.Wake = codes "wake"
+call_word form.Poll = codes "poll"
+call_word form.Rx = codes "rx"
+call_word form.Reap = codes "reap"
+
+-- its arguments, in order
+abbrev pub arguments_of : CallForm → List Argument
+arguments_of form.Join =
+    argument.Station ∷ argument.Window ∷ argument.Start ∷ argument.Exponent ∷ argument.Weight ∷ []
+arguments_of form.Leave = argument.Station ∷ []
+arguments_of form.Rate = argument.Station ∷ argument.Mcs ∷ argument.Mhz ∷ argument.Guard ∷ []
+arguments_of form.RateVht =
+    argument.Station ∷ argument.Format ∷ argument.Mcs ∷ argument.Mhz ∷ argument.Guard ∷ argument.Streams ∷ []
+arguments_of form.RateHe =
+    argument.Station ∷ argument.Format ∷ argument.Mcs ∷ argument.Mhz ∷ argument.Nanoseconds ∷ argument.Streams
+    ∷ []
+arguments_of form.Tick = argument.By ∷ []
+arguments_of form.Enqueue = argument.Station ∷ argument.Tid ∷ argument.Flow ∷ argument.Length ∷ []
+arguments_of form.Pull = argument.Class ∷ []
+arguments_of form.Arrive = argument.Exchange ∷ argument.Index ∷ []
+arguments_of form.Answer = argument.Exchange ∷ []
+arguments_of form.Done = argument.Exchange ∷ argument.Heard ∷ []
+arguments_of form.DoneAir = argument.Exchange ∷ argument.Heard ∷ argument.Measured ∷ argument.Air ∷ []
+arguments_of form.Sleep = argument.Station ∷ []
+arguments_of form.Wake = argument.Station ∷ []
+arguments_of form.Poll = argument.Station ∷ []
+arguments_of form.Rx = argument.Station ∷ argument.Class ∷ argument.Air ∷ []
+arguments_of form.Reap = []
+
+-- what an argument may be
+abbrev pub argument_kind : Argument → Arg
+argument_kind argument.Station = kind.Short
+argument_kind argument.Window = kind.Short
+argument_kind argument.Start = kind.Short
+argument_kind argument.Exponent = kind.Octet
+argument_kind argument.Weight = kind.Weight
+argument_kind argument.Format = kind.Format
+argument_kind argument.Mcs = kind.Octet
+argument_kind argument.Mhz = kind.Octet
+argument_kind argument.Guard = kind.Guard
+argument_kind argument.Nanoseconds = kind.Short
+argument_kind argument.Streams = kind.Octet
+argument_kind argument.By = kind.Long
+argument_kind argument.Tid = kind.Octet
+argument_kind argument.Flow = kind.Long
+argument_kind argument.Length = kind.Length
+argument_kind argument.Class = kind.Class
+argument_kind argument.Exchange = kind.Long
+argument_kind argument.Index = kind.Short
+argument_kind argument.Heard = kind.Heard
+argument_kind argument.Measured = kind.Air
+argument_kind argument.Air = kind.Long
+
+-- what the arguments of a form may be, in order
+abbrev pub args_of : CallForm → List Arg
+args_of form = map argument_kind (arguments_of form)
+
+-- the weight of a station whose `join` names none
+abbrev pub weight_default : ℕ
+weight_default = 1
+
+-- the value of an argument that is left out, where it may be
+abbrev pub default_of : Arg → Option Value
+default_of kind.Weight = Some (value.Octet weight_default)
+default_of _ = None
+
+-- all calls, in their first forms
+abbrev pub calls : List CallForm
+calls =
+    form.Join ∷ form.Leave ∷ form.Rate ∷ form.Tick ∷ form.Enqueue ∷ form.Pull ∷ form.Arrive ∷ form.Answer
+    ∷ form.Done ∷ form.Sleep ∷ form.Wake ∷ form.Poll ∷ form.Rx ∷ form.Reap ∷ []
+
+-- the call that a word names
+abbrev pub call_named : List ℕ → Option CallForm
+call_named word = find (λ call. bytes_eq (call_word call) word) calls
+
+-- the word of a format
+abbrev pub format_word : RateFormat → List ℕ
+format_word format.Vht = codes "vht"
+format_word format.He = codes "he"
+
+-- the format that a word names
+abbrev pub format_named : List ℕ → Option RateFormat
+format_named word = find (λ f. bytes_eq (format_word f) word) (format.Vht ∷ format.He ∷ [])
+
+-- ---- the values of a call
+
+-- the form of a rate's line
+abbrev pub form_of_rate : AskedRate → CallForm
+form_of_rate (Ht mcs mhz short) = form.Rate
+form_of_rate (Vht mcs mhz short streams) = form.RateVht
+form_of_rate (He mcs mhz guard streams) = form.RateHe
+
+-- the form of the line of an exchange's end
+abbrev pub form_of_end : Option ℕ → CallForm
+form_of_end None = form.Done
+form_of_end (Some air) = form.DoneAir
+
+-- the form of a call's line
+abbrev pub note_form : Note → CallForm
+note_form (Enqueue station tid flow len) = form.Enqueue
+note_form (Asked (Join station window start exponent weight)) = form.Join
+note_form (Asked (Leave station)) = form.Leave
+note_form (Asked (Rate station rate)) = form_of_rate rate
+note_form (Asked (Tick by)) = form.Tick
+note_form (Asked (Pull class)) = form.Pull
+note_form (Asked (Arrive exchange index)) = form.Arrive
+note_form (Asked (Answer exchange)) = form.Answer
+note_form (Asked (Done exchange heard air)) = form_of_end air
+note_form (Asked (Sleep station)) = form.Sleep
+note_form (Asked (Wake station)) = form.Wake
+note_form (Asked (Poll station)) = form.Poll
+note_form (Asked (Rx station class air)) = form.Rx
+note_form (Asked Reap) = form.Reap
+
+-- the values of a rate's arguments behind the station
+abbrev pub values_of_rate : AskedRate → List Value
+values_of_rate (Ht mcs mhz short) = value.Octet mcs ∷ value.Octet mhz ∷ value.Guard short ∷ []
+values_of_rate (Vht mcs mhz short streams) =
+    value.Format format.Vht ∷ value.Octet mcs ∷ value.Octet mhz ∷ value.Guard short ∷ value.Octet streams ∷ []
+values_of_rate (He mcs mhz guard streams) =
+    value.Format format.He ∷ value.Octet mcs ∷ value.Octet mhz ∷ value.Short guard ∷ value.Octet streams ∷ []
+
+-- the values of an airtime that may be named
+abbrev pub values_of_air : Option ℕ → List Value
+values_of_air None = []
+values_of_air (Some air) = value.Air ∷ value.Long air ∷ []
+
+-- the values of a call's arguments, in order
+abbrev pub note_values : Note → List Value
+note_values (Enqueue station tid flow len) =
+    value.Short station ∷ value.Octet tid ∷ value.Long flow ∷ value.Short len ∷ []
+note_values (Asked (Join station window start exponent weight)) =
+    value.Short station ∷ value.Short window ∷ value.Short start ∷ value.Octet exponent ∷ value.Octet weight
+    ∷ []
+note_values (Asked (Leave station)) = value.Short station ∷ []
+note_values (Asked (Rate station rate)) = value.Short station ∷ values_of_rate rate
+note_values (Asked (Tick by)) = value.Long by ∷ []
+note_values (Asked (Pull class)) = value.Class class ∷ []
+note_values (Asked (Arrive exchange index)) = value.Long exchange ∷ value.Short index ∷ []
+note_values (Asked (Answer exchange)) = value.Long exchange ∷ []
+note_values (Asked (Done exchange heard air)) = value.Long exchange ∷ value.Heard heard ∷ values_of_air air
+note_values (Asked (Sleep station)) = value.Short station ∷ []
+note_values (Asked (Wake station)) = value.Short station ∷ []
+note_values (Asked (Poll station)) = value.Short station ∷ []
+note_values (Asked (Rx station class air)) = value.Short station ∷ value.Class class ∷ value.Long air ∷ []
+note_values (Asked Reap) = []
+
+-- the frame with these values; None where they are not those of its arguments
+abbrev pub enqueued : List Value → Option Note
+enqueued (value.Short station ∷ value.Octet tid ∷ value.Long flow ∷ value.Short len ∷ []) =
+    Some (Enqueue station tid flow len)
+enqueued _ = None
+
+-- the call that carries no frame, of a form with these values
+abbrev pub ask_of : CallForm → List Value → Option Ask
+ask_of form.Join (value.Short station ∷ value.Short window ∷ value.Short start ∷ value.Octet exponent
+    ∷ value.Octet weight ∷ []) = Some (Join station window start exponent weight)
+ask_of form.Leave (value.Short station ∷ []) = Some (Leave station)
+ask_of form.Rate (value.Short station ∷ value.Octet mcs ∷ value.Octet mhz ∷ value.Guard short ∷ []) =
+    Some (Rate station (Ht mcs mhz short))
+ask_of form.RateVht (value.Short station ∷ value.Format format.Vht ∷ value.Octet mcs ∷ value.Octet mhz
+    ∷ value.Guard short ∷ value.Octet streams ∷ []) = Some (Rate station (Vht mcs mhz short streams))
+ask_of form.RateHe (value.Short station ∷ value.Format format.He ∷ value.Octet mcs ∷ value.Octet mhz
+    ∷ value.Short guard ∷ value.Octet streams ∷ []) = Some (Rate station (He mcs mhz guard streams))
+ask_of form.Tick (value.Long by ∷ []) = Some (Tick by)
+ask_of form.Pull (value.Class class ∷ []) = Some (Pull class)
+ask_of form.Arrive (value.Long exchange ∷ value.Short index ∷ []) = Some (Arrive exchange index)
+ask_of form.Answer (value.Long exchange ∷ []) = Some (Answer exchange)
+ask_of form.Done (value.Long exchange ∷ value.Heard heard ∷ []) = Some (Done exchange heard None)
+ask_of form.DoneAir (value.Long exchange ∷ value.Heard heard ∷ value.Air ∷ value.Long air ∷ []) =
+    Some (Done exchange heard (Some air))
+ask_of form.Sleep (value.Short station ∷ []) = Some (Sleep station)
+ask_of form.Wake (value.Short station ∷ []) = Some (Wake station)
+ask_of form.Poll (value.Short station ∷ []) = Some (Poll station)
+ask_of form.Rx (value.Short station ∷ value.Class class ∷ value.Long air ∷ []) = Some (Rx station class air)
+ask_of form.Reap [] = Some Reap
+ask_of _ _ = None
+
+-- the call of a form with these values; None where they are not those of its arguments
+abbrev pub note_made : CallForm → List Value → Option Note
+note_made form.Enqueue values = enqueued values
+note_made form values = option_map Asked (ask_of form values)
+
+-- ---- their ranges
+
+-- a value is one that an argument of this kind may have
+abbrev pub IsOfKind : Arg → Value → Type 0
+IsOfKind kind.Short (value.Short n) = n < 2 ^ 16
+IsOfKind kind.Octet (value.Octet n) = n < 2 ^ 8
+IsOfKind kind.Long (value.Long n) = n < 2 ^ 32
+IsOfKind kind.Length (value.Short n) = (1 ≤ n) × (n ≤ greatest_body)
+IsOfKind kind.Weight (value.Octet n) = n < 2 ^ 8
+IsOfKind kind.Class (value.Class c) = Unit {0}
+IsOfKind kind.Format (value.Format f) = Unit {0}
+IsOfKind kind.Guard (value.Guard short) = Unit {0}
+IsOfKind kind.Heard (value.Heard heard) = Unit {0}
+IsOfKind kind.Air value.Air = Unit {0}
+IsOfKind kind.End (value.End recipient) = Unit {0}
+IsOfKind (kind.Number low high) (value.Long n) = (low ≤ n) × (n ≤ high)
+IsOfKind _ _ = ⊥
+
+-- values are ones that arguments of these kinds may have, one by one
+abbrev pub AreOfKinds : List Arg → List Value → Type 0
+AreOfKinds [] [] = Unit {0}
+AreOfKinds (arg ∷ args) (v ∷ values) = IsOfKind arg v × AreOfKinds args values
+AreOfKinds _ _ = ⊥
+
+-- a line has room for the value of an argument: an exchange number has at most 32 bits, and a
+-- length is 1 to 2304
+-- octets; the types of Rust bound all other values
+abbrev pub FitsLine : Argument → Value → Type 0
+FitsLine argument.Exchange (value.Long n) = n < 2 ^ 32
+FitsLine argument.Length (value.Short n) = (1 ≤ n) × (n ≤ greatest_body)
+FitsLine _ _ = Unit {0}
+
+-- the same of each argument
+abbrev pub AllFitLine : List Argument → List Value → Type 0
+AllFitLine (a ∷ arguments) (v ∷ values) = FitsLine a v × AllFitLine arguments values
+AllFitLine _ _ = Unit {0}
+
+-- each number of a call is in the range of its argument
+abbrev pub NumbersAreInRange : Note → Type 0
+NumbersAreInRange note = AreOfKinds (args_of (note_form note)) (note_values note)
+
+-- a line has room for the numbers of a call
+abbrev pub IsPrintable : Note → Type 0
+IsPrintable note = AllFitLine (arguments_of (note_form note)) (note_values note)

@@ -1,0 +1,422 @@
+//! The values of a call's arguments, and the call that they make.
+
+ghost use Rattle.std.specs.Prelude.{◌≡◌, ◌≤◌, length, Some};
+ghost use Rattle.wf_frame.specs.declared.notes.Note.TheVariants.{Asked};
+ghost use Rattle.wf_frame.specs.declared.notes.Ask.TheVariants.{Rate, Done};
+ghost use Rattle.wf_frame.specs.Calls.{note_form, form_of_rate, note_values, note_made, IsPrintable, NumbersAreInRange};
+
+use crate::calls::{CallForm, RateFormat, Value};
+use crate::notes::{Ask, AskedRate, Note};
+use arrayvec::ArrayVec;
+
+impl Note {
+    /// The form of its line.
+    pub fn form(&self) -> CallForm
+        ensures { result ≡ note_form self.now }
+    {
+        match self {
+            Note::Enqueue { .. } => CallForm::Enqueue,
+            Note::Asked(ask) => ask.form(),
+        }
+    }
+
+    /// The values of its arguments, in order. An exchange number must be below 2^32, and a length 1 to 2304
+    /// octets: a line names no other.
+    pub fn values(&self) -> ArrayVec<Value, 6>
+        requires { IsPrintable self.now }
+        ensures values { result.items ≡ note_values self.now }
+        ensures range { NumbersAreInRange self.now }
+        ensures back { note_made (note_form self.now) (note_values self.now) ≡ Some self.now }
+    {
+        match self {
+            Note::Enqueue {
+                station,
+                tid,
+                flow,
+                len,
+            } => listed(&[
+                Value::Short(*station),
+                Value::Octet(*tid),
+                Value::Long(*flow),
+                Value::Short(*len),
+            ]),
+            Note::Asked(ask) => ask.values(),
+        }
+    }
+
+    /// The call of a form with these values. None where they are not those of its arguments.
+    pub fn of_values(form: CallForm, values: &[Value]) -> Option<Note>
+        ensures { result ≡ note_made form values.now }
+    {
+        match (form, values) {
+            (CallForm::Enqueue, _) => enqueue(values),
+            (CallForm::Join, _) => join(values),
+            (CallForm::Leave, [Value::Short(station)]) => asked(Ask::Leave { station: *station }),
+            (CallForm::Rate, _) => ht(values),
+            (CallForm::RateVht, _) => vht(values),
+            (CallForm::RateHe, _) => he(values),
+            (CallForm::Tick, [Value::Long(by)]) => asked(Ask::Tick { by: *by }),
+            (CallForm::Pull, [Value::Class(class)]) => asked(Ask::Pull { class: *class }),
+            (CallForm::Arrive, _) => arrive(values),
+            (CallForm::Answer, [Value::Long(exchange)]) => asked(Ask::Answer {
+                exchange: u64::from(*exchange),
+            }),
+            (CallForm::Done, _) => done(values),
+            (CallForm::DoneAir, _) => done_air(values),
+            (CallForm::Sleep, [Value::Short(station)]) => asked(Ask::Sleep { station: *station }),
+            (CallForm::Wake, [Value::Short(station)]) => asked(Ask::Wake { station: *station }),
+            (CallForm::Poll, [Value::Short(station)]) => asked(Ask::Poll { station: *station }),
+            (CallForm::Rx, _) => rx(values),
+            (CallForm::Reap, []) => asked(Ask::Reap),
+            _ => None,
+        }
+    }
+}
+
+impl Ask {
+    // The form of its line.
+    fn form(self) -> CallForm
+        ensures { result ≡ note_form (Asked self) }
+    {
+        match self {
+            Ask::Join { .. } => CallForm::Join,
+            Ask::Leave { .. } => CallForm::Leave,
+            Ask::Rate { rate, .. } => rate.form(),
+            Ask::Tick { .. } => CallForm::Tick,
+            Ask::Pull { .. } => CallForm::Pull,
+            Ask::Arrive { .. } => CallForm::Arrive,
+            Ask::Answer { .. } => CallForm::Answer,
+            Ask::Done { air: None, .. } => CallForm::Done,
+            Ask::Done { air: Some(_), .. } => CallForm::DoneAir,
+            Ask::Sleep { .. } => CallForm::Sleep,
+            Ask::Wake { .. } => CallForm::Wake,
+            Ask::Poll { .. } => CallForm::Poll,
+            Ask::Rx { .. } => CallForm::Rx,
+            Ask::Reap => CallForm::Reap,
+        }
+    }
+
+    // The values of its arguments, in order.
+    fn values(self) -> ArrayVec<Value, 6>
+        requires { IsPrintable (Asked self) }
+        ensures values { result.items ≡ note_values (Asked self) }
+        ensures range { NumbersAreInRange (Asked self) }
+    {
+        match self {
+            Ask::Join {
+                station,
+                window,
+                start,
+                exponent,
+                weight,
+            } => listed(&[
+                Value::Short(station),
+                Value::Short(window),
+                Value::Short(start),
+                Value::Octet(exponent),
+                Value::Octet(weight),
+            ]),
+            Ask::Leave { station }
+            | Ask::Sleep { station }
+            | Ask::Wake { station }
+            | Ask::Poll { station } => listed(&[Value::Short(station)]),
+            Ask::Rate { station, rate } => rate.values(station),
+            Ask::Tick { by } => listed(&[Value::Long(by)]),
+            Ask::Pull { class } => listed(&[Value::Class(class)]),
+            Ask::Arrive { exchange, index } => {
+                listed(&[Value::Long(exchange as u32), Value::Short(index)])
+            }
+            Ask::Answer { exchange } => listed(&[Value::Long(exchange as u32)]),
+            Ask::Done {
+                exchange,
+                heard,
+                air,
+            } => end_values(exchange, heard, air),
+            Ask::Rx {
+                station,
+                class,
+                air,
+            } => listed(&[Value::Short(station), Value::Class(class), Value::Long(air)]),
+            Ask::Reap => listed(&[]),
+        }
+    }
+}
+
+impl AskedRate {
+    // The form of its line.
+    fn form(self) -> CallForm
+        ensures { result ≡ form_of_rate self }
+    {
+        match self {
+            AskedRate::Ht { .. } => CallForm::Rate,
+            AskedRate::Vht { .. } => CallForm::RateVht,
+            AskedRate::He { .. } => CallForm::RateHe,
+        }
+    }
+
+    // The values of its arguments, the station in front.
+    fn values(self, station: u16) -> ArrayVec<Value, 6>
+        ensures values { result.items ≡ note_values (Asked (Rate station self)) }
+        ensures range { NumbersAreInRange (Asked (Rate station self)) }
+    {
+        let station = Value::Short(station);
+        match self {
+            AskedRate::Ht { mcs, mhz, short } => listed(&[
+                station,
+                Value::Octet(mcs),
+                Value::Octet(mhz),
+                Value::Guard(short),
+            ]),
+            AskedRate::Vht {
+                mcs,
+                mhz,
+                short,
+                streams,
+            } => listed(&[
+                station,
+                Value::Format(RateFormat::Vht),
+                Value::Octet(mcs),
+                Value::Octet(mhz),
+                Value::Guard(short),
+                Value::Octet(streams),
+            ]),
+            AskedRate::He {
+                mcs,
+                mhz,
+                guard,
+                streams,
+            } => listed(&[
+                station,
+                Value::Format(RateFormat::He),
+                Value::Octet(mcs),
+                Value::Octet(mhz),
+                Value::Short(guard),
+                Value::Octet(streams),
+            ]),
+        }
+    }
+}
+
+// A list of these values.
+fn listed(values: &[Value]) -> ArrayVec<Value, 6>
+    requires { length values.now ≤ 6 }
+    ensures { result.items ≡ values.now }
+{
+    let mut list = ArrayVec::new();
+    let _all_fit = list.try_extend_from_slice(values);
+    list
+}
+
+// The values of an end of an exchange, whose airtime stands where it is named.
+fn end_values(exchange: u64, heard: bool, air: Option<u32>) -> ArrayVec<Value, 6>
+    requires { IsPrintable (Asked (Done exchange heard air)) }
+    ensures values { result.items ≡ note_values (Asked (Done exchange heard air)) }
+    ensures range { NumbersAreInRange (Asked (Done exchange heard air)) }
+{
+    match air {
+        None => listed(&[Value::Long(exchange as u32), Value::Heard(heard)]),
+        Some(air) => listed(&[
+            Value::Long(exchange as u32),
+            Value::Heard(heard),
+            Value::Air,
+            Value::Long(air),
+        ]),
+    }
+}
+
+// A call that carries no frame.
+fn asked(ask: Ask) -> Option<Note>
+    ensures { result ≡ Some (Asked ask) }
+{
+    Some(Note::Asked(ask))
+}
+
+// A rate of a station.
+fn rated(station: u16, rate: AskedRate) -> Note
+    ensures { result ≡ Asked (Rate station rate) }
+{
+    Note::Asked(Ask::Rate { station, rate })
+}
+
+// An end of an exchange.
+fn ended(exchange: u32, heard: bool, air: Option<u32>) -> Note
+    ensures { result ≡ Asked (Done exchange heard air) }
+{
+    Note::Asked(Ask::Done {
+        exchange: u64::from(exchange),
+        heard,
+        air,
+    })
+}
+
+// A frame for a station.
+fn enqueue(values: &[Value]) -> Option<Note>
+    ensures { result ≡ note_made CallForm.Enqueue values.now }
+{
+    let [
+        Value::Short(station),
+        Value::Octet(tid),
+        Value::Long(flow),
+        Value::Short(len),
+    ] = values
+    else {
+        return None;
+    };
+    Some(Note::Enqueue {
+        station: *station,
+        tid: *tid,
+        flow: *flow,
+        len: *len,
+    })
+}
+
+// A station joins.
+fn join(values: &[Value]) -> Option<Note>
+    ensures { result ≡ note_made CallForm.Join values.now }
+{
+    let [
+        Value::Short(station),
+        Value::Short(window),
+        Value::Short(start),
+        Value::Octet(exponent),
+        Value::Octet(weight),
+    ] = values
+    else {
+        return None;
+    };
+    Some(Note::Asked(Ask::Join {
+        station: *station,
+        window: *window,
+        start: *start,
+        exponent: *exponent,
+        weight: *weight,
+    }))
+}
+
+// A rate of HT.
+fn ht(values: &[Value]) -> Option<Note>
+    ensures { result ≡ note_made CallForm.Rate values.now }
+{
+    let [
+        Value::Short(station),
+        Value::Octet(mcs),
+        Value::Octet(mhz),
+        Value::Guard(short),
+    ] = values
+    else {
+        return None;
+    };
+    Some(rated(
+        *station,
+        AskedRate::Ht {
+            mcs: *mcs,
+            mhz: *mhz,
+            short: *short,
+        },
+    ))
+}
+
+// A rate of VHT.
+fn vht(values: &[Value]) -> Option<Note>
+    ensures { result ≡ note_made CallForm.RateVht values.now }
+{
+    let [
+        Value::Short(station),
+        Value::Format(RateFormat::Vht),
+        Value::Octet(mcs),
+        Value::Octet(mhz),
+        Value::Guard(short),
+        Value::Octet(streams),
+    ] = values
+    else {
+        return None;
+    };
+    Some(rated(
+        *station,
+        AskedRate::Vht {
+            mcs: *mcs,
+            mhz: *mhz,
+            short: *short,
+            streams: *streams,
+        },
+    ))
+}
+
+// A rate of HE.
+fn he(values: &[Value]) -> Option<Note>
+    ensures { result ≡ note_made CallForm.RateHe values.now }
+{
+    let [
+        Value::Short(station),
+        Value::Format(RateFormat::He),
+        Value::Octet(mcs),
+        Value::Octet(mhz),
+        Value::Short(guard),
+        Value::Octet(streams),
+    ] = values
+    else {
+        return None;
+    };
+    Some(rated(
+        *station,
+        AskedRate::He {
+            mcs: *mcs,
+            mhz: *mhz,
+            guard: *guard,
+            streams: *streams,
+        },
+    ))
+}
+
+// A transmission reached its station.
+fn arrive(values: &[Value]) -> Option<Note>
+    ensures { result ≡ note_made CallForm.Arrive values.now }
+{
+    let [Value::Long(exchange), Value::Short(index)] = values else {
+        return None;
+    };
+    Some(Note::Asked(Ask::Arrive {
+        exchange: u64::from(*exchange),
+        index: *index,
+    }))
+}
+
+// An exchange ends.
+fn done(values: &[Value]) -> Option<Note>
+    ensures { result ≡ note_made CallForm.Done values.now }
+{
+    let [Value::Long(exchange), Value::Heard(heard)] = values else {
+        return None;
+    };
+    Some(ended(*exchange, *heard, None))
+}
+
+// An exchange ends, with its airtime.
+fn done_air(values: &[Value]) -> Option<Note>
+    ensures { result ≡ note_made CallForm.DoneAir values.now }
+{
+    let [
+        Value::Long(exchange),
+        Value::Heard(heard),
+        Value::Air,
+        Value::Long(air),
+    ] = values
+    else {
+        return None;
+    };
+    Some(ended(*exchange, *heard, Some(*air)))
+}
+
+// A station used airtime to send.
+fn rx(values: &[Value]) -> Option<Note>
+    ensures { result ≡ note_made CallForm.Rx values.now }
+{
+    let [Value::Short(station), Value::Class(class), Value::Long(air)] = values else {
+        return None;
+    };
+    Some(Note::Asked(Ask::Rx {
+        station: *station,
+        class: *class,
+        air: *air,
+    }))
+}
