@@ -6,41 +6,12 @@ use Rattle.wf_frame.specs.declared.answers.Brief.TheVariants.{Joined, Gone, Rate
 use Rattle.wf_frame.specs.declared.classes.Cause.TheVariants.{Overlimit, Codel, Retries, Left}
 use Rattle.wf_frame.specs.declared.classes.Fate.{Fate}
 use Rattle.wf_frame.specs.declared.classes.Fate.TheVariants.{Held, Acked, Dropped}
+pub use Rattle.wf_frame.specs.Refusals.{refusal_number}
 use Rattle.wf_frame.specs.declared.notes.Refusal.{Refusal}
 use Rattle.wf_frame.specs.declared.notes.Refusal.TheVariants as refusal
 use Rattle.wf_c.specs.declared.reply.Reply.{Reply}
 
 -- ---- numbers
-
--- a refusal by its place
-abbrev pub refusal_number : Refusal → ℕ
-refusal_number refusal.BadStation = 1
-refusal_number refusal.BadWindow = 2
-refusal_number refusal.BadStart = 3
-refusal_number refusal.BadExponent = 4
-refusal_number refusal.BadRate = 5
-refusal_number refusal.BadTick = 6
-refusal_number refusal.BadTid = 7
-refusal_number refusal.BadAir = 8
-refusal_number refusal.BadIndex = 9
-refusal_number refusal.Live = 10
-refusal_number refusal.NoStation = 11
-refusal_number refusal.NoExchange = 12
-refusal_number refusal.NoAnswer = 13
-refusal_number (refusal.StillOpen count) = 14
-refusal_number (refusal.Room inside) = 15
-refusal_number (refusal.Sleeping queued) = 16
-refusal_number (refusal.Full count) = 17
-refusal_number refusal.Idle = 18
-refusal_number refusal.Answered = 19
-refusal_number refusal.Arrived = 20
-refusal_number refusal.Nothing = 21
-refusal_number refusal.Asleep = 22
-refusal_number refusal.Awake = 23
-refusal_number refusal.Polled = 24
-refusal_number (refusal.Debt deficit) = 25
-refusal_number refusal.HistoryFull = 26
-refusal_number refusal.BadWeight = 27
 
 -- a fate, and of a dropped frame its cause
 abbrev pub fate_number : Fate → ℕ

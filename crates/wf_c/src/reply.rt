@@ -207,7 +207,7 @@ fn refused(refusal: Refusal) -> Reply
     ensures { result ≡ with_refusal refusal (record blank { kind = 14; refusal = refusal_number refusal }) }
 {
     let reply = Reply {
-        refusal: number_of_refusal(refusal),
+        refusal: refusal.number(),
         ..of_kind(14)
     };
     match refusal {
@@ -223,41 +223,6 @@ fn refused(refusal: Refusal) -> Reply
         Refusal::Full { count } => Reply { count, ..reply },
         Refusal::Debt { deficit } => Reply { deficit, ..reply },
         _ => reply,
-    }
-}
-
-/// The number of a refusal, 1 to 27.
-pub(crate) fn number_of_refusal(refusal: Refusal) -> u8
-    ensures { result ≡ refusal_number refusal }
-{
-    match refusal {
-        Refusal::BadStation => 1,
-        Refusal::BadWindow => 2,
-        Refusal::BadStart => 3,
-        Refusal::BadExponent => 4,
-        Refusal::BadRate => 5,
-        Refusal::BadTick => 6,
-        Refusal::BadTid => 7,
-        Refusal::BadAir => 8,
-        Refusal::BadIndex => 9,
-        Refusal::Live => 10,
-        Refusal::NoStation => 11,
-        Refusal::NoExchange => 12,
-        Refusal::NoAnswer => 13,
-        Refusal::StillOpen { .. } => 14,
-        Refusal::Room { .. } => 15,
-        Refusal::Sleeping { .. } => 16,
-        Refusal::Full { .. } => 17,
-        Refusal::Idle => 18,
-        Refusal::Answered => 19,
-        Refusal::Arrived => 20,
-        Refusal::Nothing => 21,
-        Refusal::Asleep => 22,
-        Refusal::Awake => 23,
-        Refusal::Polled => 24,
-        Refusal::Debt { .. } => 25,
-        Refusal::HistoryFull => 26,
-        Refusal::BadWeight => 27,
     }
 }
 

@@ -1,5 +1,5 @@
 -- What is written of a run: answer lines, and the summary with the TIM element (IEEE 802.11-2012, 8.4.2.7).
-use Rattle.std.specs.Prelude.{ℕ, zero, suc, ◌+◌, ◌/◌, ◌%◌, ◌==◌, nat_lt, Bool, true, false, ◌&&◌, List, [], ◌∷◌, ◌++◌, Option, Some, None, if◌then◌else◌, length, map, filter, count_by, codes, decimal}
+use Rattle.std.specs.Prelude.{ℕ, ℤ, zero, suc, ◌+◌, ◌/◌, ◌%◌, ◌==◌, nat_lt, Bool, true, false, ◌&&◌, List, [], ◌∷◌, ◌++◌, Option, Some, None, if◌then◌else◌, length, map, filter, count_by, codes, decimal}
 use Rattle.std.specs.Fmt.{signed_decimal}
 use Rattle.std.specs.List.{concat}
 use Rattle.wf_frame.specs.declared.classes.Class.{Class}
@@ -10,13 +10,13 @@ use Rattle.wf_frame.specs.declared.classes.Fate.TheVariants.{Held, Acked, Droppe
 use Rattle.wf_frame.specs.declared.notes.Part.{Part}
 use Rattle.wf_frame.specs.declared.notes.Part.TheVariants.{Mpdus, Request}
 use Rattle.wf_frame.specs.declared.notes.Refusal.{Refusal}
-use Rattle.wf_frame.specs.declared.notes.Refusal.TheVariants.{BadStation, BadWindow, BadStart, BadExponent, BadRate, BadTick, BadTid, BadAir, BadIndex, Live, NoStation, NoExchange, NoAnswer, StillOpen, Room, Sleeping, Full, Idle, Answered, Arrived, Nothing, Asleep, Awake, Polled, Debt, HistoryFull, BadWeight}
 use Rattle.wf_frame.specs.declared.notes.ReplyNote.{ReplyNote}
 use Rattle.wf_frame.specs.declared.notes.ReplyNote.TheVariants.{Joined, Gone, RateSet, Ticked, Accepted, Send, Released, Ba, Ended, Slept, Woken, Credited, Charged, Reaped, Refused}
 use Rattle.wf_frame.specs.declared.settings.Config.{Config}
 use Rattle.wf_def_tim.specs.Tim.{tim_element}
 use Rattle.wf_def_world.specs.World.{World, Share, share, station, live_stations, accepted_count, opening}
 use Rattle.wf_frame.specs.Classes.{all_classes, class_word}
+use Rattle.wf_frame.specs.Refusals.{refusal_word, number_told}
 use Rattle.wf_frame.specs.Words.{line}
 use Rattle.wf_def_world.specs.Exchanges.{has_more}
 use Rattle.wf_def_world.specs.Run.{Entry, world_after, replies}
@@ -39,35 +39,14 @@ fate_name (Dropped Codel) = codes "codel"
 fate_name (Dropped Retries) = codes "retries"
 fate_name (Dropped Left) = codes "left"
 
+-- the number that a refusal tells, where it tells one
+abbrev pub told_words : Option ℤ → List (List ℕ)
+told_words None = []
+told_words (Some number) = signed_decimal number ∷ []
+
 -- the words of a refusal, with its number where it has one
 abbrev pub refusal_words : Refusal → List (List ℕ)
-refusal_words BadStation = codes "bad-station" ∷ []
-refusal_words BadWindow = codes "bad-window" ∷ []
-refusal_words BadStart = codes "bad-start" ∷ []
-refusal_words BadExponent = codes "bad-exponent" ∷ []
-refusal_words BadRate = codes "bad-rate" ∷ []
-refusal_words BadTick = codes "bad-tick" ∷ []
-refusal_words BadTid = codes "bad-tid" ∷ []
-refusal_words BadAir = codes "bad-air" ∷ []
-refusal_words BadIndex = codes "bad-index" ∷ []
-refusal_words Live = codes "live" ∷ []
-refusal_words NoStation = codes "no-station" ∷ []
-refusal_words NoExchange = codes "no-exchange" ∷ []
-refusal_words NoAnswer = codes "no-answer" ∷ []
-refusal_words (StillOpen count) = codes "open" ∷ decimal count ∷ []
-refusal_words (Room inside) = codes "room" ∷ decimal inside ∷ []
-refusal_words (Sleeping queued) = codes "sleeping" ∷ decimal queued ∷ []
-refusal_words (Full count) = codes "full" ∷ decimal count ∷ []
-refusal_words Idle = codes "idle" ∷ []
-refusal_words Answered = codes "answered" ∷ []
-refusal_words Arrived = codes "arrived" ∷ []
-refusal_words Nothing = codes "nothing" ∷ []
-refusal_words Asleep = codes "asleep" ∷ []
-refusal_words Awake = codes "awake" ∷ []
-refusal_words Polled = codes "polled" ∷ []
-refusal_words (Debt deficit) = codes "debt" ∷ signed_decimal deficit ∷ []
-refusal_words HistoryFull = codes "history-full" ∷ []
-refusal_words BadWeight = codes "bad-weight" ∷ []
+refusal_words refusal = refusal_word refusal ∷ told_words (number_told refusal)
 
 -- what an exchange sends: each frame with its sequence number, or the start of a request
 abbrev pub part_words : Part → List (List ℕ)

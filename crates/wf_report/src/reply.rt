@@ -3,13 +3,14 @@
 ghost use Rattle.std.specs.Prelude.{◌≡◌, ◌+◌, ◌≤◌, ◌++◌, ◌∷◌, [], length, map, decimal, sum_by, codes, slice_index, ◌*◌, if◌then◌else◌, true};
 ghost use Rattle.std.specs.List.{join_with_byte};
 ghost use Rattle.wf_io.specs.Words.{words_text, width_of, spaced};
-ghost use Rattle.wf_def_world.specs.Text.{answer_line, reply_words, refusal_words, part_words, score_digits};
+ghost use Rattle.wf_def_world.specs.Text.{answer_line, reply_words, refusal_words, told_words, part_words, score_digits};
 ghost use Rattle.wf_frame.specs.Answers.{part_sent, reply_of};
-ghost use Rattle.wf_frame.specs.declared.notes.ReplyNote.TheVariants.{Accepted};
-ghost use Rattle.wf_report.specs.Replies.{refusal_name, refusal_numbers, pair_text};
+ghost use Rattle.wf_frame.specs.declared.notes.ReplyNote.TheVariants.{Accepted, Reaped};
+ghost use Rattle.wf_frame.specs.Refusals.{number_told};
+ghost use Rattle.wf_report.specs.Replies.{pair_text};
 
 use crate::parts::{fate_name, push_hex};
-use wf_frame::{Answer, Brief, Ids, Pairs, Refusal};
+use wf_frame::{Answer, Brief, Fate, Ids, Pairs, Refusal};
 use wf_io::{Line, Word};
 
 // A word, and words behind it.
@@ -22,56 +23,14 @@ fn start(out: &mut Line, word: &'static [u8], words: &[Word])
     out.push_words(words);
 }
 
-// The word of a refusal.
-fn name_of(refusal: Refusal) -> &'static [u8]
-    ensures name { result.now ≡ refusal_name refusal }
-    ensures short { length result.now ≤ 12 }
-{
-    match refusal {
-        Refusal::BadStation => b"bad-station",
-        Refusal::BadWindow => b"bad-window",
-        Refusal::BadStart => b"bad-start",
-        Refusal::BadExponent => b"bad-exponent",
-        Refusal::BadRate => b"bad-rate",
-        Refusal::BadTick => b"bad-tick",
-        Refusal::BadTid => b"bad-tid",
-        Refusal::BadAir => b"bad-air",
-        Refusal::BadIndex => b"bad-index",
-        Refusal::Live => b"live",
-        Refusal::NoStation => b"no-station",
-        Refusal::NoExchange => b"no-exchange",
-        Refusal::NoAnswer => b"no-answer",
-        Refusal::StillOpen { .. } => b"open",
-        Refusal::Room { .. } => b"room",
-        Refusal::Sleeping { .. } => b"sleeping",
-        Refusal::Full { .. } => b"full",
-        Refusal::Idle => b"idle",
-        Refusal::Answered => b"answered",
-        Refusal::Arrived => b"arrived",
-        Refusal::Nothing => b"nothing",
-        Refusal::Asleep => b"asleep",
-        Refusal::Awake => b"awake",
-        Refusal::Polled => b"polled",
-        Refusal::Debt { .. } => b"debt",
-        Refusal::HistoryFull => b"history-full",
-        Refusal::BadWeight => b"bad-weight",
-    }
-}
-
-// The number of a refusal, where it has one.
-fn push_refusal_number(out: &mut Line, refusal: Refusal)
+// The number that a refusal tells, where it tells one.
+fn push_number_told(out: &mut Line, refusal: Refusal)
     requires { length out.old + 22 ≤ 8192 }
-    ensures text { out.new ≡ out.old ++ spaced (refusal_numbers refusal) }
+    ensures text { out.new ≡ out.old ++ spaced (told_words (number_told refusal)) }
     ensures len { length out.new ≤ length out.old + 22 }
 {
-    match refusal {
-        Refusal::StillOpen { count } | Refusal::Full { count } => out.push_words(&[Word::Number(
-            u64::from(count),
-        )]),
-        Refusal::Room { inside } => out.push_words(&[Word::Number(u64::from(inside))]),
-        Refusal::Sleeping { queued } => out.push_words(&[Word::Number(u64::from(queued))]),
-        Refusal::Debt { deficit } => out.push_words(&[Word::Signed(deficit)]),
-        _ => {}
+    if let Some(number) = refusal.number_told() {
+        out.push_words(&[Word::Signed(number)]);
     }
 }
 
@@ -81,8 +40,8 @@ fn push_refusal(out: &mut Line, refusal: Refusal)
     ensures text { out.new ≡ out.old ++ join_with_byte 32 (codes "refused" ∷ refusal_words refusal) }
     ensures len { length out.new ≤ length out.old + 60 }
 {
-    start(out, b"refused", &[Word::Text(name_of(refusal))]);
-    push_refusal_number(out, refusal);
+    start(out, b"refused", &[Word::Text(refusal.word())]);
+    push_number_told(out, refusal);
 }
 
 // The frames of an aggregate, each with its sequence number.
@@ -260,6 +219,26 @@ fn push_exchange(out: &mut Line, exchange: u64, station: u16, tid: u8, air: u32)
     start(out, b"send", &words);
 }
 
+// The frames that a receiver passed up.
+fn push_released(out: &mut Line, ids: &Ids)
+    requires { out.old ≡ [] }
+    ensures text { out.new ≡ join_with_byte 32 (codes "released" ∷ map decimal ids.now) }
+    ensures len { length out.new ≤ 5400 }
+{
+    start(out, b"released", &[]);
+    push_ids(out, ids);
+}
+
+// A frame that was reaped, and its fate.
+fn push_reaped(out: &mut Line, id: u64, fate: Fate)
+    requires { out.old ≡ [] }
+    ensures text { out.new ≡ join_with_byte 32 (reply_words (Reaped id fate)) }
+    ensures len { length out.new ≤ 100 }
+{
+    let words = [Word::Number(id), Word::Text(fate_name(fate))];
+    start(out, b"reaped", &words);
+}
+
 // The words of an answer.
 fn push_reply(answer: &Answer, out: &mut Line)
     requires { out.old ≡ [] }
@@ -284,10 +263,7 @@ fn push_reply(answer: &Answer, out: &mut Line)
             push_part(out, request, &answer.pairs);
             push_more(out, more);
         }
-        Brief::Released => {
-            start(out, b"released", &[]);
-            push_ids(out, &answer.ids);
-        }
+        Brief::Released => push_released(out, &answer.ids),
         Brief::Ba {
             start: first,
             b0,
@@ -303,14 +279,9 @@ fn push_reply(answer: &Answer, out: &mut Line)
         } => push_ended(out, acked, waiting, failed),
         Brief::Slept => start(out, b"slept", &[]),
         Brief::Woken => start(out, b"woken", &[]),
-        Brief::Credited { class } => {
-            start(out, b"polled", &[Word::Text(class.word())]);
-        }
+        Brief::Credited { class } => start(out, b"polled", &[Word::Text(class.word())]),
         Brief::Charged { deficit } => start(out, b"charged", &[Word::Signed(deficit)]),
-        Brief::Reaped { id, fate } => {
-            let words = [Word::Number(id), Word::Text(fate_name(fate))];
-            start(out, b"reaped", &words);
-        }
+        Brief::Reaped { id, fate } => push_reaped(out, id, fate),
         Brief::Refused(refusal) => push_refusal(out, refusal),
     }
 }
