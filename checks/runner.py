@@ -32,6 +32,7 @@ ALL = [
     Check("diagram", ("--check",), ("--check",), quick=True),
     Check("modules", ("--check",), ("--check",), quick=True),
     Check("claims", quick=True),
+    Check("table", quick=True),
     Check("links", quick=True),
     Check("help", quick=True),
     Check("worked", quick=True),
