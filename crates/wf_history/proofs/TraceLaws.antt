@@ -1,19 +1,15 @@
 -- The trace of a history is read as this history.
-use Rattle.std.proofs.Common.{◌≡◌, ℕ, zero, suc, ◌+◌, ◌*◌, ◌^◌, ◌<◌, ◌≤◌, List, [], ◌∷◌, ◌++◌, length, Bool, true, false, nat_eq, nat_le, refl, sym, ◌∙◌, ap, append_assoc, length-append, arith}
+use Rattle.std.proofs.Common.{◌≡◌, ℕ, zero, suc, ◌+◌, ◌*◌, ◌^◌, ◌<◌, ◌≤◌, List, [], ◌∷◌, ◌++◌, length, Bool, true, false, nat_eq, nat_le, refl, sym, ◌∙◌, ap, append_assoc, arith}
 use Rattle.std.specs.Prelude.{Option, Some, None, codes, ◌&&◌, nat_lt}
 use Rattle.std.specs.List.{list_all, join_with_byte}
 use Rattle.std.specs.Fmt.{decimal}
 use Rattle.std.proofs.lemmas.Bool.Decides.{nat_tests}
-use Rattle.std.proofs.lemmas.Fmt.{length-decimal-le}
-use Rattle.wf_frame.specs.declared.classes.Class.{Class}
-use Rattle.wf_frame.specs.declared.classes.Class.TheVariants.{Bk, Be, Vi, Vo}
+use Rattle.wf_frame.specs.declared.calls.CallForm.{CallForm}
+use Rattle.wf_frame.specs.declared.calls.CallForm.TheVariants as call
 use Rattle.wf_frame.specs.declared.notes.Note.{Note}
-use Rattle.wf_frame.specs.declared.notes.Note.TheVariants.{Enqueue, Asked}
-use Rattle.wf_frame.specs.declared.notes.Ask.{Ask}
-use Rattle.wf_frame.specs.declared.notes.Ask.TheVariants.{Join, Leave, Rate, Tick, Pull, Arrive, Answer, Done, Sleep, Wake, Poll, Rx, Reap}
-use Rattle.wf_frame.specs.declared.notes.AskedRate.{AskedRate}
-use Rattle.wf_frame.specs.declared.notes.AskedRate.TheVariants.{Ht, Vht, He}
-use Rattle.wf_frame.specs.Classes.{class_word}
+use Rattle.wf_frame.specs.Calls.{args_of, call_word, note_form, note_values}
+use Rattle.wf_io.specs.Words.{spaced}
+use Rattle.wf_io.proofs.Spaces.{join-spaced}
 use Rattle.wf_frame.specs.Settings.{standard}
 use Rattle.wf_trace.specs.declared.meaning.Place.{Place}
 use Rattle.wf_trace.specs.declared.reader.Item.TheVariants as item
@@ -22,12 +18,11 @@ use Rattle.wf_trace.specs.Pieces.{Pieces, pieces_from}
 use Rattle.wf_trace.specs.Words.{words, skipped}
 use Rattle.wf_trace.specs.Scanning.{begins_word}
 use Rattle.wf_trace.specs.Meanings.{meant}
-use Rattle.wf_trace.specs.Grammar.{guard_word, heard_word}
-use Rattle.wf_trace.specs.Printing.{weight_words, rate_words, ask_words, note_words, caller_words, note_text, IsRateInRange, IsAskInRange, NumbersAreInRange, measured_words, IsAirInRange}
+use Rattle.wf_trace.specs.Printing.{words_of_values, note_words, note_text, NumbersAreInRange}
 use Rattle.wf_trace.specs.Reading.{Reading, reading, with_item}
 use Rattle.wf_trace.specs.Reader.{said, read_lines}
 use Rattle.wf_trace.proofs.PlaceLaws.{reading_placed}
-use Rattle.wf_trace.proofs.PrintLaws.{text_read, text_printable}
+use Rattle.wf_trace.proofs.PrintLaws.{text_read, text_printable, short_text}
 use Rattle.wf_trace.proofs.WordLaws.{says_something}
 use Rattle.wf_def_world.specs.Run.{Entry}
 use Rattle.wf_history.specs.Traces.{end_line, entry_lines, trace_of, entry_items, trace_items, CanBeNamed}
@@ -87,184 +82,33 @@ read_line closed at end line place text behind plain short is inside kept =
 
 -- ---- the line of an entry
 
-abbrev AreShort : List (List ℕ) → Type 0
-AreShort [] = Unit {0}
-AreShort (word ∷ words) = (length word ≤ 10) × AreShort words
-
-short-joined : (ws : List (List ℕ)) → AreShort ws → length (join_with_byte 32 ws) ≤ 11 * length ws
-short-joined [] are = omega arith
-short-joined (word ∷ []) are = let one = are.0 in omega arith
-short-joined (word ∷ next ∷ others) are =
-    let one = are.0 in
-    let more = short-joined (next ∷ others) are.1 in
-    let all = length-append word (32 ∷ join_with_byte 32 (next ∷ others)) in omega arith
-
-short_number : (n : ℕ) → n < 2 ^ 32 → length (decimal n) ≤ 10
-short_number n small = length-decimal-le 10 n (omega arith) (omega arith) (omega arith)
-
-short_class : (c : Class) → length (class_word c) ≤ 10
-short_class Bk = omega arith
-short_class Be = omega arith
-short_class Vi = omega arith
-short_class Vo = omega arith
-
-short_guard : (short : Bool) → length (guard_word short) ≤ 10
-short_guard true = omega arith
-short_guard false = omega arith
-
-short_heard : (heard : Bool) → length (heard_word heard) ≤ 10
-short_heard true = omega arith
-short_heard false = omega arith
-
-not_one : (n : ℕ) → nat_eq (suc (suc n)) 1 ≡ false
-not_one n = grind (arith, nat_tests)
-
 not_zero : (n : ℕ) → nat_eq (suc n) 0 ≡ false
 not_zero n = grind (arith, nat_tests)
 
-short_weight : (weight : ℕ) → weight < 2 ^ 8 → AreShort (weight_words weight)
-short_weight zero small = (short_number 0 (omega arith), tt)
-short_weight (suc zero) small = tt
-short_weight (suc (suc n)) small = rw (not_one n) ((short_number (suc (suc n)) (omega arith), tt))
-
-few_weights : (weight : ℕ) → length (weight_words weight) ≤ 1
-few_weights zero = omega arith
-few_weights (suc zero) = omega arith
-few_weights (suc (suc n)) = rw (not_one n) (omega arith)
-
-of_short : (n : ℕ) → n < 2 ^ 16 → length (decimal n) ≤ 10
-of_short n small = short_number n (omega arith)
-
-of_octet : (n : ℕ) → n < 2 ^ 8 → length (decimal n) ≤ 10
-of_octet n small = short_number n (omega arith)
-
-short_rate : (rate : AskedRate) → IsRateInRange rate → AreShort (rate_words rate)
-short_rate (Ht mcs mhz short) r = (of_octet mcs r.0, (of_octet mhz r.1, (short_guard short, tt)))
-short_rate (Vht mcs mhz short streams) r = (
-  omega arith,
-  (of_octet mcs r.0, (of_octet mhz r.1, (short_guard short, (of_octet streams r.2, tt)))),
-)
-short_rate (He mcs mhz guard streams) r = (
-  omega arith,
-  (of_octet mcs r.0, (of_octet mhz r.1, (of_short guard r.2, (of_octet streams r.3, tt)))),
-)
-
-short_air : (air : Option ℕ) → IsAirInRange air → AreShort (measured_words air)
-short_air None r = tt
-short_air (Some air) r = (omega arith, (short_number air r, tt))
-
-short_ask : (ask : Ask) → IsAskInRange ask → AreShort (ask_words ask)
-short_ask (Join station window start exponent weight) r = (
-  omega arith,
-  (
-    of_short station r.0,
-    (
-      of_short window r.1,
-      (of_short start r.2, (of_octet exponent r.3, short_weight weight r.4)),
-    ),
-  ),
-)
-short_ask (Leave station) r = (omega arith, (of_short station r, tt))
-short_ask (Rate station rate) r = (omega arith, (of_short station r.0, short_rate rate r.1))
-short_ask (Tick by) r = (omega arith, (short_number by r, tt))
-short_ask (Pull class) r = (omega arith, (short_class class, tt))
-short_ask (Arrive exchange index) r = (omega arith, (short_number exchange r.0, (of_short index r.1, tt)))
-short_ask (Answer exchange) r = (omega arith, (short_number exchange r, tt))
-short_ask (Done exchange heard air) r = (
-  omega arith,
-  (
-    short_number exchange r.0,
-    (
-      short_heard heard,
-      short_air air
-          r.1,
-    ),
-  ),
-)
-short_ask (Sleep station) r = (omega arith, (of_short station r, tt))
-short_ask (Wake station) r = (omega arith, (of_short station r, tt))
-short_ask (Poll station) r = (omega arith, (of_short station r, tt))
-short_ask (Rx station class air) r = (
-  omega arith,
-  (of_short station r.0, (short_class class, (short_number air r.1, tt))),
-)
-short_ask Reap r = (omega arith, tt)
-
-short_note : (note : Note) → NumbersAreInRange note → AreShort (note_words note)
-short_note (Enqueue station tid flow len) r = (
-  omega arith,
-  (
-    of_short station r.0,
-    (
-      of_octet tid r.1,
-      (short_number flow r.2, (short_number len (let most = r.4 in omega arith), tt)),
-    ),
-  ),
-)
-short_note (Asked ask) r = short_ask ask r
-
-few_rate : (rate : AskedRate) → length (rate_words rate) ≤ 5
-few_rate (Ht mcs mhz short) = omega arith
-few_rate (Vht mcs mhz short streams) = omega arith
-few_rate (He mcs mhz guard streams) = omega arith
-
-few_air : (air : Option ℕ) → length (measured_words air) ≤ 2
-few_air None = omega arith
-few_air (Some air) = omega arith
-
-few_ask : (ask : Ask) → length (ask_words ask) ≤ 7
-few_ask (Join station window start exponent weight) = let few = few_weights weight in omega arith
-few_ask (Leave station) = omega arith
-few_ask (Rate station rate) = let few = few_rate rate in omega arith
-few_ask (Tick by) = omega arith
-few_ask (Pull class) = omega arith
-few_ask (Arrive exchange index) = omega arith
-few_ask (Answer exchange) = omega arith
-few_ask (Done exchange heard air) = let few = few_air air in omega arith
-few_ask (Sleep station) = omega arith
-few_ask (Wake station) = omega arith
-few_ask (Poll station) = omega arith
-few_ask (Rx station class air) = omega arith
-few_ask Reap = omega arith
-
-few_note : (note : Note) → length (note_words note) ≤ 7
-few_note (Enqueue station tid flow len) = omega arith
-few_note (Asked ask) = few_ask ask
-
-short_caller : (caller : ℕ) (others : List (List ℕ)) → caller < 2 ^ 16 → AreShort others → length others ≤ 7 →
-    AreShort (caller_words caller ++ others) × (length (caller_words caller ++ others) ≤ 8)
-short_caller zero others small are few = (are, omega arith)
-short_caller (suc n) others small are few =
-    let digits : length (decimal (suc n)) ≤ 5 = length-decimal-le 5 (suc n) (omega arith) (omega arith)
-    (omega arith) in
-    rw (not_zero n) ((omega arith, are), omega arith)
-
-pub short_text : (caller : ℕ) (note : Note) → caller < 2 ^ 16 → NumbersAreInRange note →
-    length (note_text caller note) ≤ 88
-short_text caller note small r =
-    let both = short_caller caller (note_words note) small (short_note note r) (few_note note) in
-    let few = both.1 in
-    let all = short-joined (caller_words caller ++ note_words note) both.0 in omega arith
-
 -- its first octet is no space and no #
-begins_ask : (ask : Ask) → begins_word (join_with_byte 32 (ask_words ask)) ≡ true
-begins_ask (Join station window start exponent weight) = refl
-begins_ask (Leave station) = refl
-begins_ask (Rate station rate) = refl
-begins_ask (Tick by) = refl
-begins_ask (Pull class) = refl
-begins_ask (Arrive exchange index) = refl
-begins_ask (Answer exchange) = refl
-begins_ask (Done exchange heard air) = refl
-begins_ask (Sleep station) = refl
-begins_ask (Wake station) = refl
-begins_ask (Poll station) = refl
-begins_ask (Rx station class air) = refl
-begins_ask Reap = refl
+begins_form : (form : CallForm) (others : List ℕ) → begins_word (call_word form ++ others) ≡ true
+begins_form call.Join others = refl
+begins_form call.Leave others = refl
+begins_form call.Rate others = refl
+begins_form call.RateVht others = refl
+begins_form call.RateHe others = refl
+begins_form call.Tick others = refl
+begins_form call.Enqueue others = refl
+begins_form call.Pull others = refl
+begins_form call.Arrive others = refl
+begins_form call.Answer others = refl
+begins_form call.Done others = refl
+begins_form call.DoneAir others = refl
+begins_form call.Sleep others = refl
+begins_form call.Wake others = refl
+begins_form call.Poll others = refl
+begins_form call.Rx others = refl
+begins_form call.Reap others = refl
 
 begins_note : (note : Note) → begins_word (join_with_byte 32 (note_words note)) ≡ true
-begins_note (Enqueue station tid flow len) = refl
-begins_note (Asked ask) = begins_ask ask
+begins_note note =
+    let texts = words_of_values (args_of (note_form note)) (note_values note) in
+    rw (join-spaced (call_word (note_form note)) texts) (begins_form (note_form note) (spaced texts))
 
 begins_at : (digits : List ℕ) (others : List (List ℕ)) →
     begins_word (join_with_byte 32 ((64 ∷ digits) ∷ others)) ≡ true

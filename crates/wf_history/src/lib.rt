@@ -4,7 +4,6 @@
 
 mod history;
 mod law;
-mod ranges;
 mod writing;
 
 pub use history::Entries;

@@ -7,7 +7,6 @@ ghost use Rattle.wf_io.specs.Fronts.{HoldsFront};
 ghost use Rattle.wf_history.specs.Traces.{ArePrintable, CanBeNamed, entry_lines, trace_of};
 
 use crate::history::Entries;
-use crate::ranges::show_range;
 use wf_io::{Failed, Line, Sink, write_all, write_line};
 use wf_trace::print_note;
 
@@ -29,7 +28,6 @@ fn push_entries<H: Entries>(history: &H, from: u64, to: u64, out: &mut Line)
         let (caller, note) = history.entry(i);
         line.clear();
         print_note(caller, &note, &mut line);
-        show_range(&note);
         out.push_all(line.octets());
     }
 }

@@ -27,14 +27,30 @@ printed_frames : (s n : ℕ) (words : Lcg) → All IsPrintable (frames_from s n 
 unfolding frames_from
 printed_frames s zero words = All-nil IsPrintable
 printed_frames s (suc n) words =
-    let one : IsPrintable (frame_from s (word_in words)) = (omega arith, omega arith) in
+    let one : IsPrintable (frame_from s (word_in words)) = (
+      tt,
+      (
+        tt,
+        (
+          tt,
+          (
+            (
+              omega arith,
+              omega
+                  arith,
+            ),
+            tt,
+          ),
+        ),
+      ),
+    ) in
     All-cons IsPrintable _ _ one (printed_frames s n (words_after words))
 
 pub sender_law : (seed s frames : ℕ) → SenderLaw seed s frames
 sender_law seed s frames =
     All-append IsPrintable (frames_from s frames (words_of seed s)) (Asked (Tick 1) ∷ [])
     (printed_frames s frames (words_of seed s))
-    (All-cons IsPrintable (Asked (Tick 1)) [] tt (All-nil IsPrintable))
+    (All-cons IsPrintable (Asked (Tick 1)) [] (tt, tt) (All-nil IsPrintable))
 
 -- ---- drivers
 
@@ -50,13 +66,15 @@ Fits _ = Unit {0}
 printed_arrivals : (e : ℕ) (indices : List ℕ) → e < room →
     All IsPrintable (map (λ i. Asked (Arrive e i)) indices)
 printed_arrivals e [] below = All-nil IsPrintable
-printed_arrivals e (i ∷ is) below = All-cons IsPrintable (Asked (Arrive e i)) _ below
+printed_arrivals e (i ∷ is) below = All-cons IsPrintable (Asked (Arrive e i)) _ (below, (tt, tt))
     (printed_arrivals e is below)
 
 printed_last : (e : ℕ) (some : Bool) → e < room → All IsPrintable (last_calls e some)
-printed_last e true below = All-cons IsPrintable (Asked (Answer e)) (Asked (Done e true None) ∷ []) below
-    (All-cons IsPrintable (Asked (Done e true None)) [] below (All-nil IsPrintable))
-printed_last e false below = All-cons IsPrintable (Asked (Done e false None)) [] below (All-nil IsPrintable)
+printed_last e true below = All-cons IsPrintable (Asked (Answer e)) (Asked (Done e true None) ∷ [])
+    (below, tt)
+    (All-cons IsPrintable (Asked (Done e true None)) [] (below, (tt, tt)) (All-nil IsPrintable))
+printed_last e false below = All-cons IsPrintable (Asked (Done e false None)) [] (below, (tt, tt))
+    (All-nil IsPrintable)
 
 printed_left : (e : ℕ) (some : Bool) (indices : List ℕ) → e < room →
     All IsPrintable (calls_left e some indices)
@@ -95,8 +113,9 @@ some_is a b is = cc
 
 printed_next : (class : Class) (phase : Phase) (note : Note) → Fits phase → call_in class phase ≡ Some note →
     IsPrintable note
-printed_next class Ticks note fits is = subst IsPrintable (some_is (Asked (Tick 0)) note is) tt
-printed_next class (Pulls shown) note fits is = subst IsPrintable (some_is (Asked (Pull class)) note is) tt
+printed_next class Ticks note fits is = subst IsPrintable (some_is (Asked (Tick 0)) note is) (tt, tt)
+printed_next class (Pulls shown) note fits is = subst IsPrintable (some_is (Asked (Pull class))
+    note is) (tt, tt)
 printed_next class (Owes []) note fits is = subst IsPrintable (some_is (Asked Reap) note is) tt
 printed_next class (Owes (call ∷ calls)) note fits is =
     subst IsPrintable (some_is call note is) (All-head IsPrintable call calls fits)

@@ -33,7 +33,7 @@ live_laws seed senders frames history live = laws standard history standard_in
 
 -- what can be printed has at least one octet, and at most those of the greatest body
 sized : (note : Note) → IsPrintable note → HasLength note × IsAtMost greatest_body note
-sized (Enqueue station tid flow len) is = is
+sized (Enqueue station tid flow len) is = is.1.1.1.0
 sized (Asked ask) is = (tt, tt)
 
 lengths_of : (history : List Entry) → ArePrintable history → HasLengths history

@@ -25,7 +25,7 @@ openings : (n : ℕ) → ArePrintable (opening_calls n)
 unfolding opening_calls
 openings zero = tt
 openings (suc n) = both (opening_calls n) (station_calls n) (openings n)
-    ((omega arith, tt), ((omega arith, tt), tt))
+    ((omega arith, (tt, (tt, (tt, (tt, (tt, tt)))))), ((omega arith, (tt, (tt, (tt, (tt, tt))))), tt))
 
 -- the notes of calls that can be printed
 of_notes : (made : List Made) → All IsPrintable (map (λ (m : Made). m.0) made) → CanBePrinted made

@@ -5,8 +5,8 @@ use Rattle.std.specs.Str.{bytes_eq}
 use Rattle.std.proofs.lemmas.List.{length-take-le, length-replicate}
 use Rattle.std.proofs.lemmas.Slice.Eq.{bytes_eq-Decides}
 use Rattle.wf_def_lists.specs.Bounds.{greatest_mcs}
-use Rattle.wf_trace.specs.declared.call.Arg.TheVariants.{Number}
-use Rattle.wf_trace.specs.declared.call.Value.{Value}
+use Rattle.wf_frame.specs.declared.calls.Arg.TheVariants.{Number}
+use Rattle.wf_frame.specs.declared.calls.Value.{Value}
 use Rattle.wf_trace.specs.Grammar.{read_arg, read_args, short_most}
 use Rattle.wf_trace.specs.Notes.{long_in}
 use Rattle.wf_trace.specs.Words.{number_of}

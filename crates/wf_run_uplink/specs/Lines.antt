@@ -1,9 +1,9 @@
 -- The lines of a script of `uplink`: a word and arguments for each event.
 use Rattle.std.specs.Prelude.{◌≡◌, ◌⊎◌, ℕ, ◌≤◌, List, [], ◌∷◌, codes, find, slice_get, not, ◌||◌, Bool, false, if◌then◌else◌, Option, Some, None, Result, Ok, Err}
 use Rattle.std.specs.Str.{bytes_eq}
-use Rattle.wf_trace.specs.declared.call.Arg.{Arg}
-use Rattle.wf_trace.specs.declared.call.Arg.TheVariants.{Number, Guard}
-use Rattle.wf_trace.specs.declared.call.Value.{Value}
+use Rattle.wf_frame.specs.declared.calls.Arg.{Arg}
+use Rattle.wf_frame.specs.declared.calls.Arg.TheVariants.{Number, Guard}
+use Rattle.wf_frame.specs.declared.calls.Value.{Value}
 use Rattle.wf_trace.specs.declared.fault.FaultKind.{FaultKind}
 use Rattle.wf_trace.specs.declared.fault.FaultKind.TheVariants as kind
 use Rattle.wf_trace.specs.Grammar.{read_args, result_seen, short_most}

@@ -1,26 +1,20 @@
 -- Laws of the arguments of a line.
-use Rattle.std.proofs.Common.{◌≡◌, ℕ, ◌+◌, ◌<◌, ◌≤◌, List, [], ◌∷◌, ◌++◌, length, drop, get_or, refl, sym, ◌∙◌, ap, append_assoc, arith}
-use Rattle.std.specs.Prelude.{Option, Some, None, Result, Ok, Err}
+use Rattle.std.proofs.Common.{◌≡◌, ℕ, ◌<◌, ◌≤◌, ◌^◌, List, [], ◌∷◌, ◌++◌, Bool, true, false, refl, sym, subst, ap, append_assoc, arith}
+use Rattle.std.specs.Prelude.{Option, Some, None, Result, Ok, Err, option_map, if◌then◌else◌}
+use Rattle.std.specs.Str.{bytes_eq}
 use Rattle.std.proofs.lemmas.Bool.Decides.{nat_tests}
-use Rattle.std.proofs.lemmas.List.{drop_more}
 use Rattle.wf_trace.specs.declared.fault.FaultKind.{FaultKind}
-use Rattle.wf_trace.specs.declared.call.Arg.{Arg}
-use Rattle.wf_trace.specs.declared.call.Value.{Value}
-use Rattle.wf_trace.specs.declared.call.Value.TheVariants as value
-use Rattle.wf_trace.specs.declared.call.Call.TheVariants.{Enq}
+use Rattle.wf_frame.specs.declared.calls.Arg.{Arg}
+use Rattle.wf_frame.specs.declared.calls.Arg.TheVariants as kind
+use Rattle.wf_frame.specs.declared.calls.Value.{Value}
+use Rattle.wf_frame.specs.declared.calls.Value.TheVariants as value
+use Rattle.wf_frame.specs.Calls.{format_named, IsOfKind, AreOfKinds}
+use Rattle.wf_frame.specs.Classes.{class_named}
 use Rattle.wf_def_lists.specs.Lengths.{greatest_body}
 use Rattle.wf_trace.specs.Faults.{earlier_fault, first_fault}
 use Rattle.wf_trace.specs.Words.{number_of, in_range}
-use Rattle.wf_trace.specs.Grammar.{both, result_seen, read_args, args_of}
-use Rattle.wf_trace.specs.Notes.{short_in, short_at, long_in}
-
--- what is read, behind values and faults
-abbrev pub behind : Option FaultKind → List Value → Result (List Value) FaultKind →
-    Result (List Value) FaultKind
-behind None front (Ok values) = Ok (front ++ values)
-behind None front (Err fault) = Err fault
-behind (Some fault) front (Ok values) = Err fault
-behind (Some fault) front (Err other) = Err (earlier_fault fault other)
+use Rattle.wf_trace.specs.Grammar.{air_word, among, absent_arg, behind, both, read_arg, result_seen, read_args}
+use Rattle.wf_trace.specs.Notes.{long_in}
 
 pub earlier_assoc : (a b c : FaultKind) → earlier_fault a (earlier_fault b c)
     ≡ earlier_fault (earlier_fault a b) c
@@ -44,36 +38,11 @@ pub behind_faults : (one two : FaultKind) (front : List Value) (read : Result (L
 behind_faults one two front (Ok values) = refl
 behind_faults one two front (Err other) = ap Err (earlier_assoc one two other)
 
--- one argument more, of which the others follow
-pub more_value : (args : List Arg) (i : ℕ) (arg : Arg) (line rest words : List (List ℕ))
-    (fault : Option FaultKind) (front : List Value) (read : Result Value FaultKind) (value : Value) →
-    i < length args → read_args args line ≡ behind fault front (read_args (drop i args) rest) →
-    ((others : List Arg) → read_args (get_or args i arg ∷ others) rest ≡ both read (read_args others words)) →
-    read ≡ Ok value →
-    read_args args line ≡ behind fault (front ++ value ∷ []) (read_args (drop (i + 1) args) words)
-more_value args i arg line rest words fault front read value inside so_far next is =
-    so_far ∙ ap (λ (a : List Arg). behind fault front (read_args a rest)) (drop_more args i arg inside)
-    ∙ ap (behind fault front) (next (drop (i + 1) args))
-    ∙ ap (λ r. behind fault front (both r (read_args (drop (i + 1) args) words))) is
-    ∙ behind_value fault front value (read_args (drop (i + 1) args) words)
-
-behind_other : (fault : Option FaultKind) (other : FaultKind) (front : List Value)
+pub behind_other : (fault : Option FaultKind) (other : FaultKind) (front : List Value)
     (read : Result (List Value) FaultKind) →
     behind fault front (both (Err other) read) ≡ behind (Some (first_fault fault other)) front read
 behind_other None other front read = behind_fault other front read
 behind_other (Some fault) other front read = behind_faults fault other front read
-
-pub more_fault : (args : List Arg) (i : ℕ) (arg : Arg) (line rest words : List (List ℕ))
-    (fault : Option FaultKind) (front : List Value) (read : Result Value FaultKind) (other : FaultKind) →
-    i < length args → read_args args line ≡ behind fault front (read_args (drop i args) rest) →
-    ((others : List Arg) → read_args (get_or args i arg ∷ others) rest ≡ both read (read_args others words)) →
-    read ≡ Err other →
-    read_args args line ≡ behind (Some (first_fault fault other)) front (read_args (drop (i + 1) args) words)
-more_fault args i arg line rest words fault front read other inside so_far next is =
-    so_far ∙ ap (λ (a : List Arg). behind fault front (read_args a rest)) (drop_more args i arg inside)
-    ∙ ap (behind fault front) (next (drop (i + 1) args))
-    ∙ ap (λ r. behind fault front (both r (read_args (drop (i + 1) args) words))) is
-    ∙ behind_other fault other front (read_args (drop (i + 1) args) words)
 
 -- a number that was read lies in its range
 pub in_range_ok : (low high : ℕ) (read : Option ℕ) (value : ℕ) → in_range low high read ≡ Ok value →
@@ -90,21 +59,6 @@ both_ok (Ok value) (Err fault) values is = absurd (cc)
 both_ok (Err fault) (Ok more) values is = absurd (cc)
 both_ok (Err one) (Err two) values is = absurd (cc)
 
--- the length of a frame
-abbrev IsFrameLen : ℕ → Type 0
-IsFrameLen len = (1 ≤ len) × (len ≤ greatest_body)
-
-length_ok : (read : Option ℕ) (v : Value) → result_seen value.Short (in_range 1 greatest_body read) ≡ Ok v →
-    IsFrameLen (short_in (Some v))
-length_ok read v is = by_read (in_range 1 greatest_body read) refl is
-  where
-    by_read : (r : Result ℕ FaultKind) → in_range 1 greatest_body read ≡ r →
-        result_seen value.Short r ≡ Ok v → IsFrameLen (short_in (Some v))
-    by_read (Ok n) was is =
-        let same : v ≡ value.Short n = cc in
-        rw same (in_range_ok 1 greatest_body read n was)
-    by_read (Err fault) was is = absurd (cc)
-
 -- a number that was read as an argument lies in its range
 pub number_ok : (low high : ℕ) (read : Option ℕ) (v : Value) →
     result_seen value.Long (in_range low high read) ≡ Ok v →
@@ -118,23 +72,75 @@ number_ok low high read v is = by_read (in_range low high read) refl is
         rw same (in_range_ok low high read n was)
     by_read (Err fault) was is = absurd (cc)
 
-fourth_ok : (a b c d : Value) (values more_a bs cs ds : List Value) → values ≡ a ∷ more_a → more_a ≡ b ∷ bs →
-    bs ≡ c ∷ cs → cs ≡ d ∷ ds →
-    IsFrameLen (short_in (Some d)) → IsFrameLen (short_at values 3)
-fourth_ok a b c d values more_a bs cs ds one two three four is = rw (one, two, three, four) is
+-- ---- what was read is of its kind
 
--- a frame's length that was read lies in its range
-pub frame_len_ok : (words : List (List ℕ)) (values : List Value) → read_args (args_of Enq) words ≡ Ok values →
-    (1 ≤ short_at values 3) × (short_at values 3 ≤ greatest_body)
-frame_len_ok [] values is = absurd (cc)
-frame_len_ok (s ∷ []) values is = let a = both_ok _ _ values is in absurd (cc)
-frame_len_ok (s ∷ t ∷ []) values is = let a = both_ok _ _ values is in let b = both_ok _ _ a.1 a.3 in
-    absurd (cc)
-frame_len_ok (s ∷ t ∷ f ∷ []) values is =
-    let a = both_ok _ _ values is in let b = both_ok _ _ a.1 a.3 in let c = both_ok _ _ b.1 b.3 in absurd (cc)
-frame_len_ok (s ∷ t ∷ f ∷ len ∷ more) values is =
-    let a = both_ok _ _ values is in
-    let b = both_ok _ _ a.1 a.3 in
-    let c = both_ok _ _ b.1 b.3 in
-    let d = both_ok _ _ c.1 c.3 in
-    fourth_ok a.0 b.0 c.0 d.0 values a.1 b.1 c.1 d.1 a.4 b.4 c.4 d.4 (length_ok (number_of len) d.0 d.2)
+number_kind : (low high : ℕ) (make : ℕ → Value) (Is : Value → Type 0) (read : Option ℕ) (v : Value) →
+    ((n : ℕ) → low ≤ n → n ≤ high → Is (make n)) → result_seen make (in_range low high read) ≡ Ok v → Is v
+number_kind low high make Is read v keeps is = by_read (in_range low high read) refl is
+  where
+    by_read : (r : Result ℕ FaultKind) → in_range low high read ≡ r → result_seen make r ≡ Ok v → Is v
+    by_read (Ok n) was is =
+        let same : make n ≡ v = cc in
+        let within = in_range_ok low high read n was in
+        subst Is same (keeps n within.0 within.1)
+    by_read (Err fault) was is = absurd (cc)
+
+word_kind : {X : Type 0} (make : X → Value) (Is : Value → Type 0) (read : Option X) (v : Value) →
+    ((x : X) → Is (make x)) → among (option_map make read) ≡ Ok v → Is v
+word_kind make Is (Some x) v keeps is = let same : make x ≡ v = cc in subst Is same (keeps x)
+word_kind make Is None v keeps is = absurd (cc)
+
+air_kind : (b : Bool) (v : Value) → among (if b then Some value.Air else None) ≡ Ok v → IsOfKind kind.Air v
+air_kind true v is = let same : value.Air ≡ v = cc in subst (IsOfKind kind.Air) same tt
+air_kind false v is = absurd (cc)
+
+pub kind_read : (arg : Arg) (word : List ℕ) (v : Value) → read_arg arg word ≡ Ok v → IsOfKind arg v
+kind_read kind.Short word v is =
+    number_kind 0 65535 value.Short (IsOfKind kind.Short) (number_of word) v (λ n low high. omega arith) is
+kind_read kind.Octet word v is =
+    number_kind 0 255 value.Octet (IsOfKind kind.Octet) (number_of word) v (λ n low high. omega arith) is
+kind_read kind.Long word v is =
+    number_kind 0 4294967295 value.Long (IsOfKind kind.Long) (number_of word) v (λ n low high. omega arith) is
+kind_read kind.Length word v is =
+    number_kind 1 greatest_body value.Short (IsOfKind kind.Length) (number_of word) v
+    (λ n low high. (low, high)) is
+kind_read kind.Weight word v is =
+    number_kind 0 255 value.Octet (IsOfKind kind.Weight) (number_of word) v (λ n low high. omega arith) is
+kind_read (kind.Number low high) word v is =
+    number_kind low high value.Long (IsOfKind (kind.Number low high)) (number_of word) v
+    (λ n below above. (below, above)) is
+kind_read kind.Class word v is = word_kind value.Class (IsOfKind kind.Class) (class_named word) v (λ x. tt) is
+kind_read kind.Format word v is = word_kind value.Format (IsOfKind kind.Format) (format_named word)
+    v (λ x. tt) is
+kind_read kind.Guard word v is = word_kind value.Guard (IsOfKind kind.Guard) _ v (λ x. tt) is
+kind_read kind.Heard word v is = word_kind value.Heard (IsOfKind kind.Heard) _ v (λ x. tt) is
+kind_read kind.End word v is = word_kind value.End (IsOfKind kind.End) _ v (λ x. tt) is
+kind_read kind.Air word v is = air_kind (bytes_eq air_word word) v is
+
+kind_absent : (arg : Arg) (v : Value) → absent_arg arg ≡ Ok v → IsOfKind arg v
+kind_absent kind.Weight v is =
+    let same : value.Octet 1 ≡ v = cc in
+    let small : 1 < 2 ^ 8 = omega arith in subst (IsOfKind kind.Weight) same small
+kind_absent kind.Short v is = absurd (cc)
+kind_absent kind.Octet v is = absurd (cc)
+kind_absent kind.Long v is = absurd (cc)
+kind_absent kind.Length v is = absurd (cc)
+kind_absent kind.Class v is = absurd (cc)
+kind_absent kind.Format v is = absurd (cc)
+kind_absent kind.Guard v is = absurd (cc)
+kind_absent kind.Heard v is = absurd (cc)
+kind_absent kind.Air v is = absurd (cc)
+kind_absent kind.End v is = absurd (cc)
+kind_absent (kind.Number low high) v is = absurd (cc)
+
+-- the values of a line that was read are of the kinds of its arguments
+pub kinds_read : (args : List Arg) (words : List (List ℕ)) (values : List Value) →
+    read_args args words ≡ Ok values → AreOfKinds args values
+kinds_read [] [] values is = let same : [] ≡ values = cc in subst (AreOfKinds []) same tt
+kinds_read [] (word ∷ words) values is = absurd (cc)
+kinds_read (arg ∷ args) [] values is =
+    let a = both_ok (absent_arg arg) (read_args args []) values is in
+    rw a.4 (kind_absent arg a.0 a.2, kinds_read args [] a.1 a.3)
+kinds_read (arg ∷ args) (word ∷ words) values is =
+    let a = both_ok (read_arg arg word) (read_args args words) values is in
+    rw a.4 (kind_read arg word a.0 a.2, kinds_read args words a.1 a.3)

@@ -1,6 +1,7 @@
 -- What is printed is read again.
-use Rattle.std.proofs.Common.{◌≡◌, ◌≢◌, ℕ, zero, suc, ◌^◌, ◌<◌, ◌≤◌, List, [], ◌∷◌, ◌++◌, length, get_or, Bool, true, false, not, nat_eq, nat_le, ◌&&◌, ◌||◌, refl, ◌∙◌, ap, append_assoc, arith, rules}
-use Rattle.std.specs.Prelude.{Option, Some, None, Ok, filter}
+use Rattle.std.proofs.Common.{◌≡◌, ℕ, zero, suc, ◌+◌, ◌*◌, ◌^◌, ◌<◌, ◌≤◌, List, [], ◌∷◌, ◌++◌, length, length-append, drop, get_or, Bool, true, false, not, nat_eq, nat_le, ◌&&◌, ◌||◌, refl, sym, ◌∙◌, ap, append_assoc, arith, rules}
+use Rattle.std.specs.Prelude.{Option, Some, None, Ok, filter, map, if◌then◌else◌}
+use Rattle.std.proofs.lemmas.List.{drop_more}
 use Rattle.std.specs.List.{list_all, join_with_byte}
 use Rattle.std.specs.Fmt.{decimal}
 use Rattle.std.proofs.lemmas.Bool.Decides.{nat_tests}
@@ -10,7 +11,6 @@ use Rattle.wf_frame.specs.declared.classes.Class.{Class}
 use Rattle.wf_frame.specs.declared.classes.Class.TheVariants.{Bk, Be, Vi, Vo}
 use Rattle.wf_frame.specs.declared.notes.Note.{Note}
 use Rattle.wf_frame.specs.declared.notes.Note.TheVariants.{Enqueue, Asked}
-use Rattle.wf_frame.specs.declared.notes.Ask.{Ask}
 use Rattle.wf_frame.specs.declared.notes.Ask.TheVariants.{Join, Leave, Rate, Tick, Pull, Arrive, Answer, Done, Sleep, Wake, Poll, Rx, Reap}
 use Rattle.wf_frame.specs.declared.notes.AskedRate.{AskedRate}
 use Rattle.wf_frame.specs.declared.notes.AskedRate.TheVariants.{Ht, Vht, He}
@@ -18,22 +18,26 @@ use Rattle.wf_frame.specs.Classes.{class_word}
 use Rattle.wf_def_lists.specs.Lengths.{greatest_body}
 use Rattle.wf_io.specs.Digits.{is_digit, value_from}
 use Rattle.wf_io.specs.Words.{spaced}
-use Rattle.wf_io.proofs.Spaces.{join-spaced, spaced-append}
-use Rattle.wf_trace.specs.declared.call.Call.{Call}
-use Rattle.wf_trace.specs.declared.call.Call.TheVariants as call
-use Rattle.wf_trace.specs.declared.call.RateFormat.{RateFormat}
-use Rattle.wf_trace.specs.declared.call.RateFormat.TheVariants as format
-use Rattle.wf_trace.specs.declared.call.Arg.TheVariants as arg
-use Rattle.wf_trace.specs.declared.call.Value.{Value}
-use Rattle.wf_trace.specs.declared.call.Value.TheVariants.{Short, Octet, Long, Class as TheClass, Format, Guard, Heard, Air}
+use Rattle.wf_io.proofs.Spaces.{spaced-append}
+use Rattle.wf_frame.specs.declared.calls.CallForm.{CallForm}
+use Rattle.wf_frame.specs.declared.calls.CallForm.TheVariants as call
+use Rattle.wf_frame.specs.declared.calls.RateFormat.{RateFormat}
+use Rattle.wf_frame.specs.declared.calls.RateFormat.TheVariants as format
+use Rattle.wf_frame.specs.declared.calls.Arg.{Arg}
+use Rattle.wf_frame.specs.declared.calls.Arg.TheVariants as arg
+use Rattle.wf_frame.specs.declared.calls.Value.{Value}
+use Rattle.wf_frame.specs.declared.calls.Value.TheVariants.{Short, Octet, Long, Class as TheClass, Format, Guard, Heard, Air}
 use Rattle.wf_trace.specs.declared.meaning.Place.{Place}
 use Rattle.wf_trace.specs.declared.meaning.Meaning.TheVariants.{Entry}
 use Rattle.wf_trace.specs.Lines.{is_printable}
 use Rattle.wf_trace.specs.Words.{words, parts, in_front, is_word, is_number, number_of, in_range}
-use Rattle.wf_trace.specs.Grammar.{call_word, format_word, format_named, args_of, read_arg, read_args, guard_word, heard_word, air_word}
-use Rattle.wf_trace.specs.Notes.{note_of_values, in_form, read_call}
+use Rattle.wf_frame.specs.declared.calls.Argument.{Argument}
+use Rattle.wf_frame.specs.Calls.{args_of, call_word, default_of, format_word, format_named, note_form, argument_kind, note_values}
+use Rattle.wf_frame.proofs.TableLaws.{made_again}
+use Rattle.wf_trace.specs.Grammar.{read_arg, read_args, guard_word, heard_word}
+use Rattle.wf_trace.specs.Notes.{in_form, read_call}
 use Rattle.wf_trace.specs.Meanings.{meant, entry_of}
-use Rattle.wf_trace.specs.Printing.{weight_words, rate_words, measured_words, ask_words, note_words, caller_words, note_text, IsRateInRange, IsAirInRange, IsAskInRange, NumbersAreInRange}
+use Rattle.wf_trace.specs.Printing.{is_left_out, value_word, words_of_value, words_of_values, note_words, caller_words, note_text, NumbersAreInRange}
 
 own : IsNumeralModel (λ ds. list_all is_digit ds ≡ true) (value_from 0)
 own = numerals_by_fold _ (search rules) value_from (search rules)
@@ -105,106 +109,11 @@ digits_format (octet ∷ digits) all =
 number_format : (n : ℕ) → n < 2 ^ 8 → format_named (decimal n) ≡ None
 number_format n small = digits_format (decimal n) (digits_decimal own n (omega arith))
 
--- a line in whose form the arguments are read
-named_read : (c : Call) (texts : List (List ℕ)) (values : List Value) →
-    read_call (call_word c ∷ texts) ≡ in_form c texts → read_args (args_of c) texts ≡ Ok values →
-    read_call (call_word c ∷ texts) ≡ Ok (note_of_values c values)
-named_read c texts values named read = named ∙ rw read refl
-
 not_one : (n : ℕ) → nat_eq (suc (suc n)) 1 ≡ false
 not_one n = grind (arith, nat_tests)
 
-weight_read : (weight : ℕ) → weight < 2 ^ 8 →
-    read_args (arg.Weight ∷ []) (weight_words weight) ≡ Ok (Octet weight ∷ [])
-weight_read zero small = let one = decimal_digit 0 (omega arith) in rw one refl
-weight_read (suc zero) small = refl
-weight_read (suc (suc n)) small = rw (not_one n, octet_read (suc (suc n)) small) refl
-
--- the words of a rate name it
-rate_read : (station : ℕ) (rate : AskedRate) → station < 2 ^ 16 → IsRateInRange rate →
-    read_call (ask_words (Rate station rate)) ≡ Ok (Asked (Rate station rate))
-rate_read station (Ht mcs mhz short) small r =
-    named_read call.Rate (decimal station ∷ rate_words (Ht mcs mhz short))
-    (Short station ∷ Octet mcs ∷ Octet mhz ∷ Guard short ∷ []) (rw (number_format mcs r.0) refl)
-    (rw (short_read station small, octet_read mcs r.0, octet_read mhz r.1, guard_read short) refl)
-rate_read station (Vht mcs mhz short streams) small r =
-    named_read call.RateVht (decimal station ∷ rate_words (Vht mcs mhz short streams))
-    (Short station ∷ Format format.Vht ∷ Octet mcs ∷ Octet mhz ∷ Guard short ∷ Octet streams ∷ []) refl
-    (rw (
-      short_read station small,
-      octet_read mcs r.0,
-      octet_read mhz r.1,
-      guard_read short,
-      octet_read streams r.2,
-    ) refl)
-rate_read station (He mcs mhz guard streams) small r =
-    named_read call.RateHe (decimal station ∷ rate_words (He mcs mhz guard streams))
-    (Short station ∷ Format format.He ∷ Octet mcs ∷ Octet mhz ∷ Short guard ∷ Octet streams ∷ []) refl
-    (rw (
-      short_read station small,
-      octet_read mcs r.0,
-      octet_read mhz r.1,
-      short_read guard r.2,
-      octet_read streams r.3,
-    ) refl)
-
--- the words of a `done` name it
-done_read : (exchange : ℕ) (heard : Bool) (air : Option ℕ) → exchange < 2 ^ 32 → IsAirInRange air →
-    read_call (ask_words (Done exchange heard air)) ≡ Ok (Asked (Done exchange heard air))
-done_read exchange heard None small r =
-    named_read call.Done (decimal exchange ∷ heard_word heard ∷ []) (Long exchange ∷ Heard heard ∷ [])
-    refl (rw (long_read exchange small, heard_read heard) refl)
-done_read exchange heard (Some air) small r =
-    named_read call.DoneAir (decimal exchange ∷ heard_word heard ∷ air_word ∷ decimal air ∷ [])
-    (Long exchange ∷ Heard heard ∷ Air ∷ Long air ∷ [])
-    refl (rw (long_read exchange small, heard_read heard, long_read air r) refl)
-
--- the words of a call name it
-ask_read : (ask : Ask) → IsAskInRange ask → read_call (ask_words ask) ≡ Ok (Asked ask)
-ask_read (Join station window start exponent weight) r =
-    named_read call.Join (decimal station ∷ decimal window ∷ decimal start ∷ decimal exponent
-    ∷ weight_words weight)
-    (Short station ∷ Short window ∷ Short start ∷ Octet exponent ∷ Octet weight ∷ [])
-    refl (rw (
-      short_read station r.0,
-      short_read window r.1,
-      short_read start r.2,
-      octet_read exponent r.3,
-      weight_read weight r.4,
-    ) refl)
-ask_read (Leave station) r = named_read call.Leave (decimal station ∷ []) (Short station ∷ [])
-    refl (rw (short_read station r) refl)
-ask_read (Rate station rate) r = rate_read station rate r.0 r.1
-ask_read (Tick by) r = named_read call.Tick (decimal by ∷ []) (Long by ∷ []) refl (rw (long_read by r) refl)
-ask_read (Pull class) r = named_read call.Pull (class_word class ∷ []) (TheClass class ∷ [])
-    refl (rw (class_read class) refl)
-ask_read (Arrive exchange index) r =
-    named_read call.Arrive (decimal exchange ∷ decimal index ∷ []) (Long exchange ∷ Short index ∷ [])
-    refl (rw (long_read exchange r.0, short_read index r.1) refl)
-ask_read (Answer exchange) r = named_read call.Answer (decimal exchange ∷ []) (Long exchange ∷ [])
-    refl (rw (long_read exchange r) refl)
-ask_read (Done exchange heard air) r = done_read exchange heard air r.0 r.1
-ask_read (Sleep station) r = named_read call.Sleep (decimal station ∷ []) (Short station ∷ [])
-    refl (rw (short_read station r) refl)
-ask_read (Wake station) r = named_read call.Wake (decimal station ∷ []) (Short station ∷ [])
-    refl (rw (short_read station r) refl)
-ask_read (Poll station) r = named_read call.Poll (decimal station ∷ []) (Short station ∷ [])
-    refl (rw (short_read station r) refl)
-ask_read (Rx station class air) r =
-    named_read call.Rx (decimal station ∷ class_word class ∷ decimal air ∷ [])
-    (Short station ∷ TheClass class ∷ Long air ∷ [])
-    refl (rw (short_read station r.0, class_read class, long_read air r.1) refl)
-ask_read Reap r = refl
-
 len_read : (len : ℕ) → 1 ≤ len → len ≤ greatest_body → read_arg arg.Length (decimal len) ≡ Ok (Short len)
 len_read len some most = rw (number_read 1 greatest_body len some most (omega arith)) refl
-
-note_read : (note : Note) → NumbersAreInRange note → read_call (note_words note) ≡ Ok note
-note_read (Enqueue station tid flow len) r =
-    named_read call.Enq (decimal station ∷ decimal tid ∷ decimal flow ∷ decimal len ∷ [])
-    (Short station ∷ Octet tid ∷ Long flow ∷ Short len ∷ [])
-    refl (rw (short_read station r.0, octet_read tid r.1, long_read flow r.2, len_read len r.3 r.4) refl)
-note_read (Asked ask) r = ask_read ask r
 
 -- words that are not empty, of octets that are printable and not spaces
 abbrev is_mark : ℕ → Bool
@@ -261,32 +170,14 @@ number_plain n small =
       all_weaker is_digit is_mark digit_mark (decimal n) (digits_decimal own n fits),
     )
 
-class_plain : (c : Class) → IsPlain (class_word c)
-class_plain Bk = (refl, refl)
-class_plain Be = (refl, refl)
-class_plain Vi = (refl, refl)
-class_plain Vo = (refl, refl)
-
-format_plain : (f : RateFormat) → IsPlain (format_word f)
-format_plain format.Vht = (refl, refl)
-format_plain format.He = (refl, refl)
-
-guard_plain : (short : Bool) → IsPlain (guard_word short)
-guard_plain true = (refl, refl)
-guard_plain false = (refl, refl)
-
-heard_plain : (heard : Bool) → IsPlain (heard_word heard)
-heard_plain true = (refl, refl)
-heard_plain false = (refl, refl)
-
-name_plain : (c : Call) → IsPlain (call_word c)
+name_plain : (c : CallForm) → IsPlain (call_word c)
 name_plain call.Join = (refl, refl)
 name_plain call.Leave = (refl, refl)
 name_plain call.Rate = (refl, refl)
 name_plain call.RateVht = (refl, refl)
 name_plain call.RateHe = (refl, refl)
 name_plain call.Tick = (refl, refl)
-name_plain call.Enq = (refl, refl)
+name_plain call.Enqueue = (refl, refl)
 name_plain call.Pull = (refl, refl)
 name_plain call.Arrive = (refl, refl)
 name_plain call.Answer = (refl, refl)
@@ -298,84 +189,245 @@ name_plain call.Poll = (refl, refl)
 name_plain call.Rx = (refl, refl)
 name_plain call.Reap = (refl, refl)
 
-weight_plain : (weight : ℕ) → weight < 2 ^ 8 → ArePlain (weight_words weight)
-weight_plain zero small = (number_plain 0 (omega arith), tt)
-weight_plain (suc zero) small = tt
-weight_plain (suc (suc n)) small = let number = number_plain (suc (suc n)) (omega arith) in
-    rw (not_one n) (number, tt)
+-- ---- each value of a call is read again from its word
 
-short_plain : (n : ℕ) → n < 2 ^ 16 → IsPlain (decimal n)
-short_plain n small = number_plain n (omega arith)
+-- a value that its argument reads from its word, which is plain and short
+pub record IsTold (a : Arg) (v : Value) : Type 0 where
+  pub read : read_arg a (value_word v) ≡ Ok v
+  pub plain : IsPlain (value_word v)
+  pub short : length (value_word v) ≤ 10
 
-octet_plain : (n : ℕ) → n < 2 ^ 8 → IsPlain (decimal n)
-octet_plain n small = number_plain n (omega arith)
+-- the same of each argument
+abbrev pub AreTold : List Arg → List Value → Type 0
+AreTold [] [] = Unit {0}
+AreTold (a ∷ args) (v ∷ values) = IsTold a v × AreTold args values
+AreTold _ _ = ⊥
 
-rate_plain : (rate : AskedRate) → IsRateInRange rate → ArePlain (rate_words rate)
-rate_plain (Ht mcs mhz short) r = (octet_plain mcs r.0, (octet_plain mhz r.1, (guard_plain short, tt)))
-rate_plain (Vht mcs mhz short streams) r = (
-  format_plain format.Vht,
+number_short : (n : ℕ) → n < 2 ^ 32 → length (decimal n) ≤ 10
+number_short n small = length-decimal-le 10 n (omega arith) (omega arith) (omega arith)
+
+short_told : (n : ℕ) → n < 2 ^ 16 → IsTold arg.Short (Short n)
+short_told n small = let fits : n < 2 ^ 32 = omega arith in
+    record { read = short_read n small; plain = number_plain n fits; short = number_short n fits }
+
+octet_told : (n : ℕ) → n < 2 ^ 8 → IsTold arg.Octet (Octet n)
+octet_told n small = let fits : n < 2 ^ 32 = omega arith in
+    record { read = octet_read n small; plain = number_plain n fits; short = number_short n fits }
+
+weight_told : (n : ℕ) → n < 2 ^ 8 → IsTold arg.Weight (Octet n)
+weight_told n small = let fits : n < 2 ^ 32 = omega arith in
+    record { read = octet_read n small; plain = number_plain n fits; short = number_short n fits }
+
+long_told : (n : ℕ) → n < 2 ^ 32 → IsTold arg.Long (Long n)
+long_told n small =
+    record { read = long_read n small; plain = number_plain n small; short = number_short n small }
+
+length_told : (n : ℕ) → (1 ≤ n) × (n ≤ greatest_body) → IsTold arg.Length (Short n)
+length_told n within =
+    let most : n ≤ greatest_body = within.1 in
+    let fits : n < 2 ^ 32 = omega arith in
+    record { read = len_read n within.0 within.1; plain = number_plain n fits; short = number_short n fits }
+
+class_told : (c : Class) → IsTold arg.Class (TheClass c)
+class_told Bk = record { read = refl; plain = (refl, refl); short = omega arith }
+class_told Be = record { read = refl; plain = (refl, refl); short = omega arith }
+class_told Vi = record { read = refl; plain = (refl, refl); short = omega arith }
+class_told Vo = record { read = refl; plain = (refl, refl); short = omega arith }
+
+format_told : (f : RateFormat) → IsTold arg.Format (Format f)
+format_told format.Vht = record { read = refl; plain = (refl, refl); short = omega arith }
+format_told format.He = record { read = refl; plain = (refl, refl); short = omega arith }
+
+guard_told : (b : Bool) → IsTold arg.Guard (Guard b)
+guard_told true = record { read = refl; plain = (refl, refl); short = omega arith }
+guard_told false = record { read = refl; plain = (refl, refl); short = omega arith }
+
+heard_told : (b : Bool) → IsTold arg.Heard (Heard b)
+heard_told true = record { read = refl; plain = (refl, refl); short = omega arith }
+heard_told false = record { read = refl; plain = (refl, refl); short = omega arith }
+
+air_told : IsTold arg.Air Air
+air_told = record { read = refl; plain = (refl, refl); short = omega arith }
+
+rate_told : (station : ℕ) (rate : AskedRate) → NumbersAreInRange (Asked (Rate station rate)) →
+    AreTold (args_of (note_form (Asked (Rate station rate)))) (note_values (Asked (Rate station rate)))
+rate_told station (Ht mcs mhz short) r =
+    (short_told station r.0, (octet_told mcs r.1.0, (octet_told mhz r.1.1.0, (guard_told short, tt))))
+rate_told station (Vht mcs mhz short streams) r = (
+  short_told station r.0,
   (
-    octet_plain mcs r.0,
-    (octet_plain mhz r.1, (guard_plain short, (octet_plain streams r.2, tt))),
-  ),
-)
-rate_plain (He mcs mhz guard streams) r = (
-  format_plain format.He,
-  (
-    octet_plain mcs r.0,
-    (octet_plain mhz r.1, (short_plain guard r.2, (octet_plain streams r.3, tt))),
-  ),
-)
-
-air_plain : (air : Option ℕ) → IsAirInRange air → ArePlain (measured_words air)
-air_plain None r = tt
-air_plain (Some air) r = ((refl, refl), (number_plain air r, tt))
-
-ask_plain : (ask : Ask) → IsAskInRange ask → ArePlain (ask_words ask)
-ask_plain (Join station window start exponent weight) r = (
-  name_plain call.Join,
-  (
-    short_plain station r.0,
+    format_told format.Vht,
     (
-      short_plain window r.1,
-      (
-        short_plain start r.2,
-        (octet_plain exponent r.3, weight_plain weight r.4),
-      ),
+      octet_told mcs r.1.1.0,
+      (octet_told mhz r.1.1.1.0, (guard_told short, (octet_told streams r.1.1.1.1.1.0, tt))),
     ),
   ),
 )
-ask_plain (Leave station) r = (name_plain call.Leave, (short_plain station r, tt))
-ask_plain (Rate station rate) r = (name_plain call.Rate, (short_plain station r.0, rate_plain rate r.1))
-ask_plain (Tick by) r = (name_plain call.Tick, (number_plain by r, tt))
-ask_plain (Pull class) r = (name_plain call.Pull, (class_plain class, tt))
-ask_plain (Arrive exchange index) r = (
-  name_plain call.Arrive,
-  (number_plain exchange r.0, (short_plain index r.1, tt)),
-)
-ask_plain (Answer exchange) r = (name_plain call.Answer, (number_plain exchange r, tt))
-ask_plain (Done exchange heard air) r = (
-  name_plain call.Done,
-  (number_plain exchange r.0, (heard_plain heard, air_plain air r.1)),
-)
-ask_plain (Sleep station) r = (name_plain call.Sleep, (short_plain station r, tt))
-ask_plain (Wake station) r = (name_plain call.Wake, (short_plain station r, tt))
-ask_plain (Poll station) r = (name_plain call.Poll, (short_plain station r, tt))
-ask_plain (Rx station class air) r = (
-  name_plain call.Rx,
-  (short_plain station r.0, (class_plain class, (number_plain air r.1, tt))),
-)
-ask_plain Reap r = (name_plain call.Reap, tt)
-
-note_plain : (note : Note) → NumbersAreInRange note → ArePlain (note_words note)
-note_plain (Enqueue station tid flow len) r = (
-  name_plain call.Enq,
+rate_told station (He mcs mhz guard streams) r = (
+  short_told station r.0,
   (
-    short_plain station r.0,
-    (octet_plain tid r.1, (number_plain flow r.2, (number_plain len (omega (arith, r.4)), tt))),
+    format_told format.He,
+    (
+      octet_told mcs r.1.1.0,
+      (octet_told mhz r.1.1.1.0, (short_told guard r.1.1.1.1.0, (octet_told streams r.1.1.1.1.1.0, tt))),
+    ),
   ),
 )
-note_plain (Asked ask) r = ask_plain ask r
+
+end_told : (exchange : ℕ) (heard : Bool) (air : Option ℕ) → NumbersAreInRange (Asked (Done exchange
+    heard air)) →
+    AreTold (args_of (note_form (Asked (Done exchange heard air)))) (note_values (Asked (Done
+    exchange heard air)))
+end_told exchange heard None r = (long_told exchange r.0, (heard_told heard, tt))
+end_told exchange heard (Some air) r =
+    (long_told exchange r.0, (heard_told heard, (air_told, (long_told air r.1.1.1.0, tt))))
+
+-- each value of a call is told
+pub note_told : (note : Note) → NumbersAreInRange note → AreTold (args_of (note_form note)) (note_values note)
+note_told (Enqueue station tid flow len) r = (
+  short_told station r.0,
+  (octet_told tid r.1.0, (long_told flow r.1.1.0, (length_told len r.1.1.1.0, tt))),
+)
+note_told (Asked (Join station window start exponent weight)) r = (
+  short_told station r.0,
+  (
+    short_told window r.1.0,
+    (short_told start r.1.1.0, (octet_told exponent r.1.1.1.0, (weight_told weight r.1.1.1.1.0, tt))),
+  ),
+)
+note_told (Asked (Leave station)) r = (short_told station r.0, tt)
+note_told (Asked (Rate station rate)) r = rate_told station rate r
+note_told (Asked (Tick by)) r = (long_told by r.0, tt)
+note_told (Asked (Pull class)) r = (class_told class, tt)
+note_told (Asked (Arrive exchange index)) r = (long_told exchange r.0, (short_told index r.1.0, tt))
+note_told (Asked (Answer exchange)) r = (long_told exchange r.0, tt)
+note_told (Asked (Done exchange heard air)) r = end_told exchange heard air r
+note_told (Asked (Sleep station)) r = (short_told station r.0, tt)
+note_told (Asked (Wake station)) r = (short_told station r.0, tt)
+note_told (Asked (Poll station)) r = (short_told station r.0, tt)
+note_told (Asked (Rx station class air)) r =
+    (short_told station r.0, (class_told class, (long_told air r.1.1.0, tt)))
+note_told (Asked Reap) r = tt
+
+-- ---- the values of all arguments are read from their words
+
+read_cons : (a : Arg) (args : List Arg) (word : List ℕ) (texts : List (List ℕ)) (v : Value) (values
+    : List Value) →
+    read_arg a word ≡ Ok v → read_args args texts ≡ Ok values →
+    read_args (a ∷ args) (word ∷ texts) ≡ Ok (v ∷ values)
+read_cons a args word texts v values one others = rw (one, others) refl
+
+-- an argument that has no default, in front of others
+told_plainly : (a : Arg) (args : List Arg) (texts : List (List ℕ)) (v : Value) (values : List Value) →
+    default_of a ≡ None → IsTold a v → read_args args texts ≡ Ok values →
+    read_args (a ∷ args) (words_of_value a v ++ texts) ≡ Ok (v ∷ values)
+told_plainly a args texts v values none told others = rw none (read_cons a args (value_word v)
+    texts v values told.read others)
+
+-- a weight behind the others
+weight_last : (n : ℕ) → n < 2 ^ 8 →
+    read_args (arg.Weight ∷ []) (words_of_values (arg.Weight ∷ []) (Octet n ∷ [])) ≡ Ok (Octet n ∷ [])
+weight_last zero small = let one = decimal_digit 0 (omega arith) in rw one refl
+weight_last (suc zero) small = refl
+weight_last (suc (suc n)) small = rw (not_one n, octet_read (suc (suc n)) small) refl
+
+-- no argument has a default
+abbrev HaveNoDefault : List Arg → Type 0
+HaveNoDefault [] = Unit {0}
+HaveNoDefault (a ∷ args) = (default_of a ≡ None) × HaveNoDefault args
+
+-- the words of the values that are told are plain, and at most as many as there are arguments
+plain_or_out : (b : Bool) (word : List ℕ) (texts : List (List ℕ)) → IsPlain word → ArePlain texts →
+    ArePlain ((if b then [] else word ∷ []) ++ texts)
+plain_or_out true word texts plain others = others
+plain_or_out false word texts plain others = (plain, others)
+
+values_plain : (args : List Arg) (values : List Value) → AreTold args values →
+    ArePlain (words_of_values args values)
+values_plain [] [] told = tt
+values_plain [] (v ∷ values) told = absurd told
+values_plain (a ∷ args) [] told = absurd told
+values_plain (a ∷ args) (v ∷ values) told =
+    plain_or_out (is_left_out (default_of a) v) (value_word v) (words_of_values args values) told.0.plain
+    (values_plain args values told.1)
+
+note_plain : (note : Note) → NumbersAreInRange note → ArePlain (note_words note)
+note_plain note r = (
+  name_plain (note_form note),
+  values_plain (args_of (note_form note)) (note_values note) (note_told note r),
+)
+
+-- ---- the words of a call name it
+
+texts_read : (args : List Arg) (values : List Value) → HaveNoDefault args → AreTold args values →
+    read_args args (words_of_values args values) ≡ Ok values
+texts_read [] [] none told = refl
+texts_read [] (v ∷ values) none told = absurd told
+texts_read (a ∷ args) [] none told = absurd told
+texts_read (a ∷ args) (v ∷ values) none told =
+    told_plainly a args (words_of_values args values) v values none.0 told.0 (texts_read args
+    values none.1 told.1)
+
+named_read : (note : Note) → read_call (note_words note)
+    ≡ in_form (note_form note) (words_of_values (args_of (note_form note)) (note_values note)) →
+    read_args (args_of (note_form note)) (words_of_values (args_of (note_form note)) (note_values note))
+    ≡ Ok (note_values note) → read_call (note_words note) ≡ Ok note
+named_read note named read = named ∙ rw (read, made_again note) refl
+
+join_read : (station window start exponent weight : ℕ) →
+    NumbersAreInRange (Asked (Join station window start exponent weight)) →
+    read_args (args_of call.Join) (words_of_values (args_of call.Join)
+    (note_values (Asked (Join station window start exponent weight))))
+    ≡ Ok (note_values (Asked (Join station window start exponent weight)))
+join_read station window start exponent weight r = rw (
+  short_read station r.0,
+  short_read window r.1.0,
+  short_read start r.1.1.0,
+  octet_read exponent r.1.1.1.0,
+  weight_last weight r.1.1.1.1.0,
+) refl
+
+plain_read : (note : Note) → HaveNoDefault (args_of (note_form note)) → NumbersAreInRange note →
+    read_call (note_words note)
+    ≡ in_form (note_form note) (words_of_values (args_of (note_form note)) (note_values note)) →
+    read_call (note_words note) ≡ Ok note
+plain_read note none r named = named_read note named
+    (texts_read (args_of (note_form note)) (note_values note) none (note_told note r))
+
+note_read : (note : Note) → NumbersAreInRange note → read_call (note_words note) ≡ Ok note
+note_read (Enqueue station tid flow len) r = plain_read (Enqueue station tid flow len) (
+  refl,
+  (refl, (refl, (refl, tt))),
+) r refl
+note_read (Asked (Join station window start exponent weight)) r =
+    named_read (Asked (Join station window start exponent weight)) refl
+    (join_read station window start exponent weight r)
+note_read (Asked (Leave station)) r = plain_read (Asked (Leave station)) (refl, tt) r refl
+note_read (Asked (Rate station (Ht mcs mhz short))) r = plain_read (Asked (Rate station (Ht mcs mhz
+    short))) (refl, (refl, (refl, (refl, tt)))) r (rw (number_format mcs r.1.0) refl)
+note_read (Asked (Rate station (Vht mcs mhz short streams))) r = plain_read (Asked (Rate station
+    (Vht mcs mhz short streams))) (refl, (refl, (refl, (refl, (refl, (refl, tt)))))) r refl
+note_read (Asked (Rate station (He mcs mhz guard streams))) r = plain_read (Asked (Rate station (He
+    mcs mhz guard streams))) (refl, (refl, (refl, (refl, (refl, (refl, tt)))))) r refl
+note_read (Asked (Tick by)) r = plain_read (Asked (Tick by)) (refl, tt) r refl
+note_read (Asked (Pull class)) r = plain_read (Asked (Pull class)) (refl, tt) r refl
+note_read (Asked (Arrive exchange index)) r = plain_read (Asked (Arrive exchange index)) (
+  refl,
+  (refl, tt),
+) r refl
+note_read (Asked (Answer exchange)) r = plain_read (Asked (Answer exchange)) (refl, tt) r refl
+note_read (Asked (Done exchange heard None)) r = plain_read (Asked (Done exchange heard None))
+    (refl, (refl, tt)) r refl
+note_read (Asked (Done exchange heard (Some air))) r = plain_read (Asked (Done exchange heard (Some
+    air))) (refl, (refl, (refl, (refl, tt)))) r refl
+note_read (Asked (Sleep station)) r = plain_read (Asked (Sleep station)) (refl, tt) r refl
+note_read (Asked (Wake station)) r = plain_read (Asked (Wake station)) (refl, tt) r refl
+note_read (Asked (Poll station)) r = plain_read (Asked (Poll station)) (refl, tt) r refl
+note_read (Asked (Rx station class air)) r = plain_read (Asked (Rx station class air)) (
+  refl,
+  (refl, (refl, tt)),
+) r refl
+note_read (Asked Reap) r = refl
 
 not_zero : (n : ℕ) → nat_eq (suc n) 0 ≡ false
 not_zero n = grind (arith, nat_tests)
@@ -427,27 +479,27 @@ printable-joined (word ∷ next ∷ others) are =
     all_append is_printable word (32 ∷ join_with_byte 32 (next ∷ others))
     (all_weaker is_mark is_printable mark_printable word are.0.1) (printable-joined (next ∷ others) are.1)
 
--- the line of a call names it where one may stand
-ask_line : (ask : Ask) (place : Place) → meant (Some place) (ask_words ask)
-    ≡ entry_of 0 (Some place) (ask_words ask)
-ask_line (Join station window start exponent weight) place = refl
-ask_line (Leave station) place = refl
-ask_line (Rate station rate) place = refl
-ask_line (Tick by) place = refl
-ask_line (Pull class) place = refl
-ask_line (Arrive exchange index) place = refl
-ask_line (Answer exchange) place = refl
-ask_line (Done exchange heard air) place = refl
-ask_line (Sleep station) place = refl
-ask_line (Wake station) place = refl
-ask_line (Poll station) place = refl
-ask_line (Rx station class air) place = refl
-ask_line Reap place = refl
-
-note_line : (note : Note) (place : Place) → meant (Some place) (note_words note)
-    ≡ entry_of 0 (Some place) (note_words note)
-note_line (Enqueue station tid flow len) place = refl
-note_line (Asked ask) place = ask_line ask place
+-- a line that begins with the word of a call is an entry
+form_line : (form : CallForm) (texts : List (List ℕ)) (place : Place) →
+    meant (Some place) (call_word form ∷ texts)
+    ≡ entry_of 0 (Some place) (call_word form ∷ texts)
+form_line call.Join texts place = refl
+form_line call.Leave texts place = refl
+form_line call.Rate texts place = refl
+form_line call.RateVht texts place = refl
+form_line call.RateHe texts place = refl
+form_line call.Tick texts place = refl
+form_line call.Enqueue texts place = refl
+form_line call.Pull texts place = refl
+form_line call.Arrive texts place = refl
+form_line call.Answer texts place = refl
+form_line call.Done texts place = refl
+form_line call.DoneAir texts place = refl
+form_line call.Sleep texts place = refl
+form_line call.Wake texts place = refl
+form_line call.Poll texts place = refl
+form_line call.Rx texts place = refl
+form_line call.Reap texts place = refl
 
 entry_read : (caller : ℕ) (note : Note) (place : Place) → NumbersAreInRange note → place.count < place.limit →
     entry_of caller (Some place) (note_words note) ≡ Ok (Entry caller note)
@@ -458,7 +510,9 @@ entry_read caller note place r room =
 with_caller : (caller : ℕ) (note : Note) (place : Place) → caller < 2 ^ 16 → NumbersAreInRange note →
     place.count < place.limit →
     meant (Some place) (caller_words caller ++ note_words note) ≡ Ok (Entry caller note)
-with_caller zero note place small r room = note_line note place ∙ entry_read 0 note place r room
+with_caller zero note place small r room =
+    form_line (note_form note) (words_of_values (args_of (note_form note)) (note_values note)) place
+    ∙ entry_read 0 note place r room
 with_caller (suc n) note place small r room =
     rw (not_zero n, number_read 0 65535 (suc n) (omega arith) (omega arith) (omega arith))
     (entry_read (suc n) note place r room)
@@ -476,15 +530,84 @@ pub text_printable : (caller : ℕ) (note : Note) → caller < 2 ^ 16 → Number
 text_printable caller note small r = printable-joined (caller_words caller ++ note_words note)
     (caller_plain caller (note_words note) small (note_plain note r))
 
--- a weight behind the other words
-pub weight_behind : (out word : List ℕ) (head : List (List ℕ)) (weight : ℕ) → weight ≢ 1 →
-    (out ++ join_with_byte 32 (word ∷ head)) ++ spaced (decimal weight ∷ []) ≡ out
-    ++ join_with_byte 32 (word ∷ (head ++ weight_words weight))
-weight_behind out word head weight other =
-    let test : nat_eq weight 1 ≡ false = grind (arith, nat_tests) in
-    rw (
-      test,
-      join-spaced word head,
-      join-spaced word (head ++ decimal weight ∷ []),
-      spaced-append head (decimal weight ∷ []),
-    ) (simp append_assoc)
+-- one value more behind a line
+pub more_values : (out : List ℕ) (args : List Argument) (values : List Value) (i : ℕ) (a :
+    Argument) (v : Value) →
+    i < length args → i < length values →
+    out ++ spaced (words_of_values (map argument_kind (drop i args)) (drop i values))
+    ≡ (out ++ spaced (words_of_value (argument_kind (get_or args i a)) (get_or values i v)))
+    ++ spaced (words_of_values (map argument_kind (drop (i + 1) args)) (drop (i + 1) values))
+more_values out args values i a v inside within =
+    let more = words_of_values (map argument_kind (drop (i + 1) args)) (drop (i + 1) values) in
+    let one = words_of_value (argument_kind (get_or args i a)) (get_or values i v) in
+    rw (drop_more args i a inside, drop_more values i v within, spaced-append one more)
+    (sym (append_assoc out (spaced one) (spaced more)))
+
+-- ---- how long a line is
+
+abbrev AreShort : List (List ℕ) → Type 0
+AreShort [] = Unit {0}
+AreShort (word ∷ texts) = (length word ≤ 10) × AreShort texts
+
+short-joined : (ws : List (List ℕ)) → AreShort ws → length (join_with_byte 32 ws) ≤ 11 * length ws
+short-joined [] are = omega arith
+short-joined (word ∷ []) are = let one = are.0 in omega arith
+short-joined (word ∷ next ∷ others) are =
+    let one = are.0 in
+    let more = short-joined (next ∷ others) are.1 in
+    let all = length-append word (32 ∷ join_with_byte 32 (next ∷ others)) in omega arith
+
+short_or_out : (b : Bool) (word : List ℕ) (texts : List (List ℕ)) (n : ℕ) → length word ≤ 10 →
+    AreShort texts × (length texts ≤ n) →
+    AreShort ((if b then [] else word ∷ []) ++ texts) × (length ((if b then [] else word ∷ []) ++
+    texts) ≤ n + 1)
+short_or_out true word texts n short others = let few = others.1 in (others.0, omega arith)
+short_or_out false word texts n short others = let few = others.1 in ((short, others.0), omega arith)
+
+values_short : (args : List Arg) (values : List Value) → AreTold args values →
+    AreShort (words_of_values args values) × (length (words_of_values args values) ≤ length args)
+values_short [] [] told = (tt, omega arith)
+values_short [] (v ∷ values) told = absurd told
+values_short (a ∷ args) [] told = absurd told
+values_short (a ∷ args) (v ∷ values) told =
+    let both = short_or_out (is_left_out (default_of a) v) (value_word v) (words_of_values args values)
+    (length args) told.0.short (values_short args values told.1) in
+    let few = both.1 in (both.0, omega arith)
+
+short_name : (form : CallForm) → (length (call_word form) ≤ 10) × (length (args_of form) ≤ 6)
+short_name call.Join = (omega arith, omega arith)
+short_name call.Leave = (omega arith, omega arith)
+short_name call.Rate = (omega arith, omega arith)
+short_name call.RateVht = (omega arith, omega arith)
+short_name call.RateHe = (omega arith, omega arith)
+short_name call.Tick = (omega arith, omega arith)
+short_name call.Enqueue = (omega arith, omega arith)
+short_name call.Pull = (omega arith, omega arith)
+short_name call.Arrive = (omega arith, omega arith)
+short_name call.Answer = (omega arith, omega arith)
+short_name call.Done = (omega arith, omega arith)
+short_name call.DoneAir = (omega arith, omega arith)
+short_name call.Sleep = (omega arith, omega arith)
+short_name call.Wake = (omega arith, omega arith)
+short_name call.Poll = (omega arith, omega arith)
+short_name call.Rx = (omega arith, omega arith)
+short_name call.Reap = (omega arith, omega arith)
+
+short_caller : (caller : ℕ) (others : List (List ℕ)) → caller < 2 ^ 16 → AreShort others → length others ≤ 7 →
+    AreShort (caller_words caller ++ others) × (length (caller_words caller ++ others) ≤ 8)
+short_caller zero others small are few = (are, omega arith)
+short_caller (suc n) others small are few =
+    let digits : length (decimal (suc n)) ≤ 5 = length-decimal-le 5 (suc n) (omega arith) (omega arith)
+    (omega arith) in
+    rw (not_zero n) ((omega arith, are), omega arith)
+
+-- the canonical line of an entry has at most 88 octets
+pub short_text : (caller : ℕ) (note : Note) → caller < 2 ^ 16 → NumbersAreInRange note →
+    length (note_text caller note) ≤ 88
+short_text caller note small r =
+    let name = short_name (note_form note) in
+    let values = values_short (args_of (note_form note)) (note_values note) (note_told note r) in
+    let few : length (note_words note) ≤ 7 = let most = values.1 in let least = name.1 in omega arith in
+    let both = short_caller caller (note_words note) small (name.0, values.0) few in
+    let all = short-joined (caller_words caller ++ note_words note) both.0 in
+    let words = both.1 in omega arith

@@ -68,3 +68,12 @@ says_something (octet ∷ octets) is = first (nat_eq octet 10) (nat_eq octet 32)
     first false false true space hash others is = absurd (cc)
     first false false false space hash [] is = hash
     first false false false space hash (part ∷ others) is = hash
+
+-- whether a line is skipped is told by its first octet, where that is no space
+pub skipped_first : (octet : ℕ) (octets : List ℕ) → nat_eq octet 32 ≡ false →
+    skipped (words (octet ∷ octets)) ≡ nat_eq octet 35
+skipped_first octet octets other = rw other (by_parts (parts octets))
+  where
+    by_parts : (others : List (List ℕ)) → skipped (filter is_word (in_front octet others)) ≡ nat_eq octet 35
+    by_parts [] = refl
+    by_parts (part ∷ others) = refl

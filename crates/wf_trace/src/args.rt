@@ -1,15 +1,15 @@
 //! The arguments of a line.
 
-ghost use Rattle.std.specs.Prelude.{◌≡◌, ◌≤◌, ◌∷◌, List, length, IfOk};
+ghost use Rattle.std.specs.Prelude.{◌≡◌, ◌+◌, ◌<◌, ◌≤◌, ◌∷◌, [], List, length, IfOk};
 ghost use Rattle.wf_trace.specs.Words.{words, number_of, in_range};
-ghost use Rattle.wf_trace.specs.declared.call.Arg.{Arg as Kind};
-ghost use Rattle.wf_trace.specs.Grammar.{octet_most, known_value, read_arg, absent_arg, result_seen, both, read_args};
+ghost use Rattle.wf_frame.specs.declared.calls.Arg.{Arg as Kind};
+ghost use Rattle.wf_frame.specs.Calls.{args_of};
+ghost use Rattle.wf_trace.specs.Grammar.{octet_most, known_value, read_arg, absent_arg, result_seen, both, behind as behind_fault, read_args};
 
-use crate::call::{Arg, RateFormat, Value};
 use crate::fault::{FaultKind, first_of};
 use crate::words::{in_range, next_word};
 use arrayvec::ArrayVec;
-use wf_frame::{Class, GREATEST_BODY};
+use wf_frame::{Arg, CallForm, Class, GREATEST_BODY, RateFormat, Value};
 
 // A number from low to high.
 fn number_in(low: u32, high: u32, word: &[u8]) -> Result<u32, FaultKind>
@@ -93,10 +93,7 @@ fn read_one(arg: Arg, word: &[u8]) -> Result<Value, FaultKind>
 fn absent(arg: Arg) -> Result<Value, FaultKind>
     ensures { result ≡ absent_arg arg }
 {
-    match arg {
-        Arg::Weight => Ok(Value::Octet(1)),
-        _ => Err(FaultKind::Count),
-    }
+    arg.default_value().ok_or(FaultKind::Count)
 }
 
 // The value of the next argument of a line, and what is behind it.
@@ -110,6 +107,45 @@ fn next_arg(arg: Arg, line: &[u8]) -> (Result<Value, FaultKind>, &[u8])
     }
 }
 
+// Takes the next argument of a line: its value, or its fault. What is behind it is answered.
+fn take<'a>(
+    arg: Arg,
+    line: &'a [u8],
+    values: &mut ArrayVec<Value, 6>,
+    fault: &mut Option<FaultKind>,
+) -> &'a [u8]
+    requires { length values.old.items < 6 }
+    ensures reads { (args : List Kind) →
+        behind_fault fault.old values.old.items (read_args (arg ∷ args) (words line.now))
+        ≡ behind_fault fault.new values.new.items (read_args args (words result.now)) }
+    ensures len { length values.new.items ≤ length values.old.items + 1 }
+{
+    let (value, behind) = next_arg(arg, line);
+    match value {
+        Ok(value) => values.push(value),
+        Err(other) => *fault = Some(first_of(*fault, other)),
+    }
+    behind
+}
+
+// What was read of a line whose arguments were all taken: no word may be left.
+fn finish(
+    values: ArrayVec<Value, 6>,
+    fault: Option<FaultKind>,
+    rest: &[u8],
+) -> Result<ArrayVec<Value, 6>, FaultKind>
+    ensures { result_seen (λ read. read.items) result
+        ≡ behind_fault fault values.items (read_args [] (words rest.now)) }
+{
+    if next_word(rest).is_some() {
+        return Err(first_of(fault, FaultKind::Count));
+    }
+    match fault {
+        None => Ok(values),
+        Some(fault) => Err(fault),
+    }
+}
+
 /// The values of a line's arguments, or the fault that it is judged by.
 pub fn read_all(args: &[Arg], line: &[u8]) -> Result<ArrayVec<Value, 6>, FaultKind>
     requires { length args.now ≤ 6 }
@@ -119,18 +155,20 @@ pub fn read_all(args: &[Arg], line: &[u8]) -> Result<ArrayVec<Value, 6>, FaultKi
     let mut fault = None;
     let mut rest = line;
     for arg in args {
-        let (value, behind) = next_arg(*arg, rest);
-        match value {
-            Ok(value) => values.push(value),
-            Err(other) => fault = Some(first_of(fault, other)),
-        }
-        rest = behind;
+        rest = take(*arg, rest, &mut values, &mut fault);
     }
-    if next_word(rest).is_some() {
-        return Err(first_of(fault, FaultKind::Count));
+    finish(values, fault, rest)
+}
+
+/// The values of the arguments of a call's line in this form, or the fault that it is judged by.
+pub fn read_form(form: CallForm, line: &[u8]) -> Result<ArrayVec<Value, 6>, FaultKind>
+    ensures { result_seen (λ values. values.items) result ≡ read_args (args_of form) (words line.now) }
+{
+    let mut values = ArrayVec::new();
+    let mut fault = None;
+    let mut rest = line;
+    for argument in form.arguments() {
+        rest = take(argument.kind(), rest, &mut values, &mut fault);
     }
-    match fault {
-        None => Ok(values),
-        Some(fault) => Err(fault),
-    }
+    finish(values, fault, rest)
 }

@@ -4,12 +4,10 @@
 #![tactic(auto)]
 
 mod args;
-mod call;
 mod cut;
 mod cutter;
 mod fault;
 mod meaning;
-mod note;
 mod print;
 mod reader;
 mod scanner;
@@ -18,10 +16,10 @@ mod values;
 mod words;
 
 pub use args::read_all;
-pub use call::{Arg, Value};
 pub use cut::{Cut, Piece};
 pub use fault::{Fault, FaultKind, first_of, print_fault};
 pub use print::print_note;
 pub use reader::{Item, TraceReader};
 pub use values::{end_at, long_at};
+pub use wf_frame::{Arg, Value};
 pub use words::{in_range, is_plain_number, next_word, number};

@@ -1,18 +1,17 @@
 //! What a line says in its place.
 
-ghost use Rattle.std.specs.Prelude.{◌≡◌, ◌∷◌};
+ghost use Rattle.std.specs.Prelude.{◌≡◌};
 ghost use Rattle.wf_trace.specs.Words.{words};
 ghost use Rattle.wf_trace.specs.Grammar.{call_form};
-ghost use Rattle.wf_trace.specs.Notes.{read_call};
-ghost use Rattle.wf_trace.specs.Meanings.{entry_of, caller_of, caller_first, meant, named as named_line, HasRoomForLine};
+ghost use Rattle.wf_frame.specs.Calls.{call_named};
+ghost use Rattle.wf_trace.specs.Notes.{called as called_by, read_call};
+ghost use Rattle.wf_trace.specs.Meanings.{allowed as allowed_call, caller_of, caller_first, meant, named as named_line, HasRoomForLine};
 
-use crate::args::read_all;
-use crate::call::{Call, RateFormat};
+use crate::args::read_form;
 use crate::fault::FaultKind;
-use crate::note::note_from;
 use crate::settings::read_head;
 use crate::words::{in_range, next_word};
-use wf_frame::{Config, Note};
+use wf_frame::{CallForm, Config, Note, RateFormat};
 
 /// What a line says: it is the head, a call of a caller, or the end.
 #[derive(Clone, Copy, Debug, PartialEq, Eq)]
@@ -34,76 +33,77 @@ pub const GREATEST_CALLER: u32 = 65_535;
 
 // The form of a rate's line with these words behind its name: it names its format behind the station, or
 // none.
-fn rate_form(line: &[u8]) -> Call
-    ensures { result ≡ call_form Call.Rate (words line.now) }
+fn rate_form(line: &[u8]) -> CallForm
+    ensures { result ≡ call_form CallForm.Rate (words line.now) }
 {
     let Some((_, rest)) = next_word(line) else {
-        return Call::Rate;
+        return CallForm::Rate;
     };
     let Some((format, _)) = next_word(rest) else {
-        return Call::Rate;
+        return CallForm::Rate;
     };
     match RateFormat::named(format) {
-        None => Call::Rate,
-        Some(RateFormat::Vht) => Call::RateVht,
-        Some(RateFormat::He) => Call::RateHe,
+        None => CallForm::Rate,
+        Some(RateFormat::Vht) => CallForm::RateVht,
+        Some(RateFormat::He) => CallForm::RateHe,
     }
 }
 
 // The form of the line of a `done` with these words behind its name: it names an airtime behind the others,
 // or none.
-fn done_form(line: &[u8]) -> Call
-    ensures { result ≡ call_form Call.Done (words line.now) }
+fn done_form(line: &[u8]) -> CallForm
+    ensures { result ≡ call_form CallForm.Done (words line.now) }
 {
     let Some((_, rest)) = next_word(line) else {
-        return Call::Done;
+        return CallForm::Done;
     };
     let Some((_, rest)) = next_word(rest) else {
-        return Call::Done;
+        return CallForm::Done;
     };
     let Some((word, _)) = next_word(rest) else {
-        return Call::Done;
+        return CallForm::Done;
     };
     match word {
-        b"air" => Call::DoneAir,
-        _ => Call::Done,
+        b"air" => CallForm::DoneAir,
+        _ => CallForm::Done,
     }
 }
 
 // The form of a call's line with these words behind its name.
-fn form(call: Call, line: &[u8]) -> Call
+fn form(call: CallForm, line: &[u8]) -> CallForm
     ensures { result ≡ call_form call (words line.now) }
 {
     match call {
-        Call::Rate => rate_form(line),
-        Call::Done => done_form(line),
+        CallForm::Rate => rate_form(line),
+        CallForm::Done => done_form(line),
         _ => call,
     }
 }
 
-// The call that a line names.
-fn call(line: &[u8]) -> Result<Note, FaultKind>
-    ensures { result ≡ read_call (words line.now) }
+// The call that a name and the words behind it name.
+fn call(name: &[u8], line: &[u8]) -> Result<Note, FaultKind>
+    ensures { result ≡ called_by (call_named name.now) (words line.now) }
 {
-    let Some((name, rest)) = next_word(line) else {
+    let Some(call) = CallForm::named(name) else {
         return Err(FaultKind::Word);
     };
-    let Some(call) = Call::named(name) else {
-        return Err(FaultKind::Word);
-    };
-    let form = form(call, rest);
-    match read_all(form.args(), rest) {
-        Ok(values) => Ok(note_from(form, values.as_slice())),
+    let form = form(call, line);
+    match read_form(form, line) {
+        Ok(values) => Note::of_values(form, values.as_slice()).ok_or(FaultKind::Word),
         Err(fault) => Err(fault),
     }
 }
 
 // A call of this caller, where one may stand.
-fn entry(caller: u32, place: Option<Place>, line: &[u8]) -> Result<Meaning, FaultKind>
-    ensures says { result ≡ entry_of caller place (words line.now) }
+fn allowed(
+    caller: u32,
+    place: Option<Place>,
+    read: Result<Note, FaultKind>,
+) -> Result<Meaning, FaultKind>
+    ensures says { result ≡ allowed_call caller place read }
     ensures room { HasRoomForLine result place }
 {
-    match (call(line), place) {
+    match (read, place) {
         (Err(fault), _) => Err(fault),
         (Ok(_), None) => Err(FaultKind::NoHead),
         (Ok(note), Some(place)) => {
@@ -116,14 +116,25 @@ fn entry(caller: u32, place: Option<Place>, line: &[u8]) -> Result<Meaning, Faul
     }
 }
 
-// A call behind the word of its caller.
+// The call behind the word of its caller.
+fn behind_caller(line: &[u8]) -> Result<Note, FaultKind>
+    ensures { result ≡ read_call (words line.now) }
+{
+    match next_word(line) {
+        Some((name, rest)) => call(name, rest),
+        None => Err(FaultKind::Word),
+    }
+}
+
+// A call behind the word of its caller, where one may stand.
 fn called(caller: &[u8], place: Option<Place>, line: &[u8]) -> Result<Meaning, FaultKind>
     ensures says { result ≡ caller_first (caller_of caller.now) place (words line.now) }
     ensures room { HasRoomForLine result place }
 {
+    let read = behind_caller(line);
     match in_range(0, GREATEST_CALLER, caller) {
-        Ok(caller) => entry(caller, place, line),
-        Err(fault) => match entry(0, place, line) {
+        Ok(caller) => allowed(caller, place, read),
+        Err(fault) => match allowed(0, place, read) {
             Ok(_) => Err(fault),
             Err(other) => Err(fault.earlier(other)),
         },
@@ -131,8 +142,7 @@ fn called(caller: &[u8], place: Option<Place>, line: &[u8]) -> Result<Meaning, F
 }
 
 // What a line says whose first word names no caller.
-fn named(place: Option<Place>, word: &[u8], rest: &[u8], line: &[u8]) -> Result<Meaning, FaultKind>
-    requires { words line.now ≡ word.now ∷ words rest.now }
+fn named(place: Option<Place>, word: &[u8], rest: &[u8]) -> Result<Meaning, FaultKind>
     ensures says { result ≡ named_line place word.now (words rest.now) }
     ensures room { HasRoomForLine result place }
 {
@@ -152,7 +162,7 @@ fn named(place: Option<Place>, word: &[u8], rest: &[u8], line: &[u8]) -> Result<
             Ok(Meaning::Finish)
         };
     }
-    entry(0, place, line)
+    allowed(0, place, call(word, rest))
 }
 
 /// What a line says in its place, or the fault that it is judged by.
@@ -169,6 +179,6 @@ pub fn meaning_of(place: Option<Place>, line: &[u8]) -> Result<Meaning, FaultKin
     if *first == b'@' {
         called(caller, place, rest)
     } else {
-        named(place, word, rest, line)
+        named(place, word, rest)
     }
 }

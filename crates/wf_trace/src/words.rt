@@ -52,13 +52,15 @@ pub fn next_word(line: &[u8]) -> Option<(&[u8], &[u8])>
     Some((word, rest))
 }
 
-/// Whether a line says nothing: it has no words, or is a comment.
+/// Whether a line says nothing: it has no words, or is a comment. Only its first octet that is no space is
+/// looked at.
+#[tactic(auto, using(crate::proofs::WordLaws::skipped_first))]
 pub fn is_skipped(line: &[u8]) -> bool
     ensures { result ≡ skipped (words line.now) }
 {
-    match next_word(line) {
-        Some(([b'#', ..], _)) | None => true,
-        Some(_) => false,
+    match trimmed(line) {
+        [] | [b'#', ..] => true,
+        _ => false,
     }
 }
 

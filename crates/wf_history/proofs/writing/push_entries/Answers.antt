@@ -12,10 +12,6 @@ print_note-requires-clause-printable g c = (printable-at
     (g.H.Entries.entries c.args.history.now) c.loop-i.i c.entry-caller.result c.entry-caller.ensures
     c.requires.printable).1
 
-pub show_range-requires : goal.show_range-requires
-show_range-requires g c = (printable-at (g.H.Entries.entries c.args.history.now) c.loop-i.i
-    c.entry-caller.result c.entry-caller.ensures c.requires.printable).1
-
 pub loop-i-preserved : goal.loop-i-preserved
 loop-i-preserved g c =
     let i = c.loop-i.invariant in
@@ -28,6 +24,6 @@ loop-i-preserved g c =
           (lines-more es c.loop-i.i e _ c.loop-i.out c.entry-caller.ensures i.lines);
       short = rw (c.push_all.ensures.len, c.octets.ensures, c.print_note.ensures.line)
           (omega (arith, short, i.short));
-      range = λ are. range-more es c.loop-i.i e c.entry-caller.ensures printable.0 c.show_range.ensures
+      range = λ are. range-more es c.loop-i.i e c.entry-caller.ensures printable.0 c.print_note.ensures.range
           (i.range are);
     }

@@ -1,8 +1,8 @@
 use Rattle.std.proofs.Common.{◌≡◌, ◌≤◌, ◌∙◌, ℕ, List, [], ◌∷◌, sym, ap}
 use Rattle.std.specs.Prelude.{Ok, Some}
 use Rattle.wf_def_lists.specs.Bounds.{greatest_window, greatest_start}
-use Rattle.wf_trace.specs.declared.call.Arg.{Arg}
-use Rattle.wf_trace.specs.declared.call.Value.{Value}
+use Rattle.wf_frame.specs.declared.calls.Arg.{Arg}
+use Rattle.wf_frame.specs.declared.calls.Value.{Value}
 use Rattle.wf_trace.specs.Grammar.{read_args}
 use Rattle.wf_trace.specs.Notes.{long_in}
 use Rattle.wf_trace.specs.Words.{words, number_of}

@@ -1,24 +1,17 @@
-use Rattle.std.proofs.Common.{arith}
-use Rattle.wf_trace.specs.declared.call.Arg.TheVariants.{Short}
-use Rattle.wf_trace.proofs.ArgLaws.{more_value, more_fault}
+use Rattle.std.proofs.Common.{List, ◌+◌, ◌∙◌, ap, drop, arith}
+use Rattle.std.proofs.lemmas.List.{drop_more}
+use Rattle.wf_frame.specs.declared.calls.Arg.{Arg}
+use Rattle.wf_frame.specs.declared.calls.Arg.TheVariants.{Short}
+use Rattle.wf_trace.specs.Words.{words}
+use Rattle.wf_trace.specs.Grammar.{behind, read_args}
 use Rattle.wf_trace.proofs.args.read_all.Goals as goal
-use Rattle.wf_trace.proofs.args.read_all.Goals.{in-Ok, in-Err}
 
 pub loop-arg-preserved : goal.loop-arg-preserved
-loop-arg-preserved c =
-    elim c.match-value.branch [
-      | in-Ok w ↦ (
-        rw (w.values-is, w.fault-is, w.rest-is, w.push.ensures.items)
-            (more_value c.args.args.now c.loop-arg.arg-index Short _ _ _ c.loop-arg.fault
-            c.loop-arg.values.items _ w.in-Ok.value c.loop-arg-test.true c.loop-arg.invariant.0
-            c.next_arg-value.ensures w.in-Ok.is),
-        rw (w.values-is) (omega (arith, w.push.ensures.len, c.loop-arg.invariant.1)),
-      )
-      | in-Err w ↦ (
-        rw (w.values-is, w.fault-is, w.rest-is, w.first_of.ensures)
-            (more_fault c.args.args.now c.loop-arg.arg-index Short _ _ _ c.loop-arg.fault
-            c.loop-arg.values.items _ w.in-Err.other c.loop-arg-test.true c.loop-arg.invariant.0
-            c.next_arg-value.ensures w.in-Err.is),
-        rw (w.values-is) (omega (arith, c.loop-arg.invariant.1)),
-      )
-    ]
+loop-arg-preserved c = (
+  c.loop-arg.invariant.0
+      ∙ ap (λ (a : List Arg). behind c.loop-arg.fault c.loop-arg.values.items (read_args a (words
+      c.loop-arg.rest.now)))
+      (drop_more c.args.args.now c.loop-arg.arg-index Short c.loop-arg-test.true)
+      ∙ c.take-rest.ensures.reads (drop (c.loop-arg.arg-index + 1) c.args.args.now),
+  omega (arith, c.take-rest.ensures.len, c.loop-arg.invariant.1),
+)

@@ -1,7 +1,6 @@
 use Rattle.std.proofs.Common.{◌≡◌, ◌≤◌, length, drop}
 use Rattle.wf_trace.specs.Words.{words}
-use Rattle.wf_trace.specs.Grammar.{read_args}
-use Rattle.wf_trace.proofs.ArgLaws.{behind}
+use Rattle.wf_trace.specs.Grammar.{behind, read_args}
 use Rattle.wf_trace.proofs.args.read_all.Given as goal
 
 abbrev pub invariant-loop-arg : goal.invariant-loop-arg
