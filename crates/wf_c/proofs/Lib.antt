@@ -1,3 +1,4 @@
+mod CallKinds
 mod CellSlots
 mod Ended
 mod Ids

@@ -3,6 +3,7 @@
 ghost use Rattle.std.specs.Prelude.{◌≡◌, option_map};
 ghost use Rattle.wf_frame.specs.declared.notes.Ask.TheVariants.{Done, Join, Rate, Rx};
 ghost use Rattle.wf_frame.specs.declared.notes.Note.TheVariants.{Asked};
+ghost use Rattle.wf_frame.specs.Calls.{form_number, note_form};
 ghost use Rattle.wf_c.specs.CallNumbers.{asked, blank_call, numbers_of_call, numbers_of_rate, rate_shown};
 
 use crate::asks::class_of_number;
@@ -186,9 +187,11 @@ impl CallNumbers {
         }
     }
 
-    // The numbers of a call.
+    // The numbers of a call: its kind is its number in the table of calls.
+    #[tactic(auto, using(crate::proofs::CallKinds::kind_of_call))]
     pub(crate) fn of(note: Note) -> CallNumbers
-        ensures { result ≡ numbers_of_call note }
+        ensures fields { result ≡ numbers_of_call note }
+        ensures kind { result.kind ≡ form_number (note_form note) }
     {
         match note {
             Note::Enqueue {
