@@ -10,7 +10,17 @@ pub record FrameValue : Type 0 where
   pub station : ℕ
   pub tid : ℕ
   pub flow : ℕ
+  pub source : List ℕ
+  pub tag : ℕ
   pub fate : Fate
+
+-- the octets of a source
+abbrev pub source_octets : ℕ
+source_octets = 6
+
+-- the source of a frame as it is made
+abbrev pub made_up_source : List ℕ
+made_up_source = 0x02 ∷ 0x00 ∷ 0x00 ∷ 0x02 ∷ 0x00 ∷ 0x00 ∷ []
 
 -- a frame that is not accepted yet
 abbrev pub new_frame : ℕ → ℕ → ℕ → List ℕ → FrameValue
@@ -21,6 +31,8 @@ new_frame station tid flow body = record {
   station = station;
   tid = tid;
   flow = flow;
+  source = made_up_source;
+  tag = 0;
   fate = Held;
 }
 

@@ -2,7 +2,7 @@
 
 ghost use Rattle.std.specs.Prelude.{◌≡◌, ◌<◌, ◌≤◌, ◌⊎◌, length, IfOk, IfErr};
 ghost use Rattle.wf_def_lists.specs.Lengths.{greatest_body};
-ghost use Rattle.wf_frame.specs.Frames.{new_frame, sample_body};
+ghost use Rattle.wf_frame.specs.Frames.{made_up_source, source_octets, new_frame, sample_body};
 ghost use Rattle.wf_frame.specs.declared.classes.Fate.TheVariants.{Held};
 
 use crate::Fate;
@@ -12,7 +12,15 @@ use std::marker::Model;
 /// The greatest body in octets: the greatest MSDU (IEEE 802.11-2012, 8.2.3).
 pub const GREATEST_BODY: u16 = 2304;
 
-/// A frame: its body of 1 to 2304 octets, where it goes, and what becomes of it.
+/// The source that a frame has as it is made, `02 00 00 02 00 00`.
+pub fn source_address() -> [u8; 6]
+    ensures { result ≡ made_up_source }
+{
+    [0x02, 0, 0, 0x02, 0, 0]
+}
+
+/// A frame: its body of 1 to 2304 octets, where it comes from and goes, what its owner finds it again by, and
+/// what becomes of it.
 #[derive(Drop)]
 pub struct Frame {
     body: Vec<u8>,
@@ -21,13 +29,15 @@ pub struct Frame {
     station: u16,
     tid: u8,
     flow: u32,
+    source: [u8; 6],
+    tag: u64,
     fate: Fate,
 }
 
 impl Model for Frame {
-    ghost use Rattle.std.specs.Prelude.{◌<◌, ◌≤◌, length};
+    ghost use Rattle.std.specs.Prelude.{◌≡◌, ◌<◌, ◌≤◌, length};
     ghost use Rattle.wf_def_lists.specs.Lengths.{greatest_body};
-    ghost use Rattle.wf_frame.specs.Frames.{FrameValue};
+    ghost use Rattle.wf_frame.specs.Frames.{FrameValue, source_octets};
 
     ghost Value = { FrameValue };
 
@@ -38,14 +48,17 @@ impl Model for Frame {
       station = f.station;
       tid = f.tid;
       flow = f.flow;
+      source = f.source;
+      tag = f.tag;
       fate = f.fate;
     } };
 
-    ghost invariant = { λ f. (0 < length f.body.items) × (length f.body.items ≤ greatest_body) };
+    ghost invariant = { λ f. (0 < length f.body.items) × (length f.body.items ≤ greatest_body) ×
+        (length f.source ≡ source_octets) };
 }
 
 impl Frame {
-    /// A frame that is not accepted yet: id 0, stamp 0 and fate Held. Refused, with the body handed back,
+    /// A frame that is not accepted yet: id 0, stamp 0, the made-up source, tag 0 and fate Held. Refused, with the body handed back,
     /// exactly where the body has no octet or more than 2304 (the greatest MSDU, IEEE 802.11-2012, 8.2.3).
     pub fn new(station: u16, tid: u8, flow: u32, body: Vec<u8>) -> Result<Frame, Vec<u8>>
         ensures made { IfOk result (λ f. f ≡ new_frame station tid flow body.items) }
@@ -63,6 +76,8 @@ impl Frame {
             station,
             tid,
             flow,
+            source: source_address(),
+            tag: 0,
             fate: Fate::Held,
         })
     }
@@ -91,6 +106,8 @@ impl Frame {
             station,
             tid,
             flow,
+            source: source_address(),
+            tag: 0,
             fate: Fate::Held,
         })
     }
@@ -130,6 +147,22 @@ impl Frame {
         self.flow
     }
 
+    /// The address that it comes from: the third of its header (IEEE 802.11-2012, 8.3.2.1). It is
+    /// `source_address` until it is set.
+    pub fn source(&self) -> [u8; 6]
+        ensures exact { result ≡ self.now.source }
+        ensures six { length self.now.source ≡ source_octets }
+    {
+        self.source
+    }
+
+    /// What its owner finds it again by, as an index or a pointer: 0 until it is set. Nothing here reads it.
+    pub fn tag(&self) -> u64
+        ensures { result ≡ self.now.tag }
+    {
+        self.tag
+    }
+
     /// The length of its body in octets, 1 to 2304.
     pub fn len(&self) -> u16
         ensures exact { result ≡ length self.now.body }
@@ -151,6 +184,20 @@ impl Frame {
         ensures { result ≡ self.now.fate }
     {
         self.fate
+    }
+
+    /// Gives the frame another source.
+    pub fn set_source(&mut self, source: [u8; 6])
+        ensures { self.new ≡ record self.old { source = source } }
+    {
+        self.source = source;
+    }
+
+    /// Gives the frame another tag.
+    pub fn set_tag(&mut self, tag: u64)
+        ensures { self.new ≡ record self.old { tag = tag } }
+    {
+        self.tag = tag;
     }
 
     /// Gives the frame its number and its stamp.

@@ -14,7 +14,7 @@ mod values;
 pub use answers::{Answer, Brief};
 pub use calls::{Arg, Argument, CallForm, RateFormat, Value};
 pub use classes::{Cause, Class, Fate, tid_number};
-pub use frames::{Frame, GREATEST_BODY};
+pub use frames::{Frame, GREATEST_BODY, source_address};
 pub use lists::{FixedList, Ids, Pairs};
 pub use notes::{Ask, AskedRate, Note, Part, Refusal, ReplyNote};
 pub use settings::{Config, Field};

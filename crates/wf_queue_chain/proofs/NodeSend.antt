@@ -6,7 +6,7 @@ use Rattle.wf_frame.specs.contracts.frames.Frame.TheInside.{the_row as Inside}
 use Rattle.wf_queue_chain.specs.contracts.node.Node.{the_row}
 
 inside_send : IsSend Inside
-inside_send = search (sendable, crosses) depth 20
+inside_send = search (sendable, crosses) depth 40
 
 frame_send : IsSend Frame
 frame_send = view_send _ _ _ _ _ inside_send

@@ -2,8 +2,7 @@
 use Rattle.std.proofs.Common.{◌≡◌, refl, ap, sym, ◌∙◌, subst, ℕ, ◌*◌, List, [], Option, None, replicate}
 use Rattle.std.proofs.lemmas.List.{length-replicate}
 use Rattle.wf_frame.specs.declared.settings.Config.{Config}
-use Rattle.wf_frame.specs.declared.classes.Fate.TheVariants.{Held}
-use Rattle.wf_frame.specs.Frames.{FrameValue}
+use Rattle.wf_frame.specs.Frames.{FrameValue, new_frame}
 use Rattle.wf_frame.specs.Settings.{IsInRange}
 use Rattle.wf_def_world.specs.World.{opening}
 use Rattle.wf_send_stations.specs.Tally.{Counts, no_counts}
@@ -22,7 +21,7 @@ use Rattle.wf_send_half.specs.Half.{HasSizes}
 
 -- some frame, for the ids that are not accepted yet
 abbrev pub a_frame : FrameValue
-a_frame = record { body = []; id = 0; stamp = 0; station = 0; tid = 0; flow = 0; fate = Held }
+a_frame = new_frame 0 0 0 []
 
 opening_sizes : (c : Config) → IsInRange c → HasSizes (opening_half c)
 opening_sizes c range = record {

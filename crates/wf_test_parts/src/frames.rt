@@ -20,6 +20,16 @@ fn a_sample_frame_has_its_numbers_and_its_body(rt: HostRuntime) -> Result<(), Al
 }
 
 #[test]
+fn a_frame_has_a_source_and_a_tag(rt: HostRuntime) -> Result<(), AllocError> {
+    let mut frame = Frame::sample(rt.alloc(), 3, 5, 254, 4)?;
+    assert!(rt; frame.source() == [2, 0, 0, 2, 0, 0] && frame.tag() == 0);
+    frame.set_source([0x0a, 1, 2, 3, 4, 5]);
+    frame.set_tag(u64::MAX);
+    assert!(rt; frame.source() == [0x0a, 1, 2, 3, 4, 5] && frame.tag() == u64::MAX);
+    Ok(())
+}
+
+#[test]
 fn settings_are_checked_in_order(rt: HostRuntime) {
     let standard = Config::standard();
     assert!(rt; standard.check() == None);

@@ -1,6 +1,7 @@
-use Rattle.std.proofs.Common.{◌≡◌, ◌∙◌, ap, sym, refl, ℕ, List, arith}
+use Rattle.std.proofs.Common.{◌≡◌, ◌∙◌, ap, sym, refl, ℕ, arith}
 use Rattle.std.proofs.lemmas.List.{take_all, with_items_is}
-use Rattle.wf_frame.specs.Frames.{new_frame, sample_body}
+use Rattle.std.specs.Vec.{with_items}
+use Rattle.wf_frame.specs.Frames.{sample_body}
 use Rattle.wf_frame.proofs.Sampling.{next_octet, one_more}
 use Rattle.wf_frame.proofs.frames.Frame.sample.Goals as goal
 
@@ -25,10 +26,11 @@ returns c =
       c.deref_mut-octet-items.ensures.len,
       c.in_ok-body.ensures.len,
     ) in
-    ap (λ (octets : List ℕ). new_frame c.args.station c.args.tid c.args.flow octets) (
+    let filled : (with_items c.in_ok-body.body c.loop-octet.octet-items).items ≡ sample_body c.args.flow c.args.len =
     with_items_is c.in_ok-body.body c.loop-octet.octet-items
     (c.loop-octet.auto.octet-items ∙ c.deref_mut-octet-items.ensures.len)
     ∙ sym (take_all c.loop-octet.octet-index c.loop-octet.octet-items
     (omega (arith, c.loop-octet-test.false, c.loop-octet.auto.octet-items)))
     ∙ c.loop-octet.invariant.1
-    ∙ ap (λ (k : ℕ). sample_body c.args.flow k) ended)
+    ∙ ap (λ (k : ℕ). sample_body c.args.flow k) ended in
+    rw (c.source_address.ensures, filled) refl
