@@ -1,5 +1,5 @@
 -- How many places wait, and what the places say of a session's numbers.
-use Rattle.std.proofs.Common.{◌≡◌, ℕ, suc, ◌+◌, ◌<◌, nat_lt, Bool, true, false, ◌||◌, cond, if◌then◌else◌, Option, None, List, [], ◌∷◌, length, set, map, refl, ap, sym, ◌∙◌, arith}
+use Rattle.std.proofs.Common.{◌≡◌, ℕ, suc, ◌+◌, ◌<◌, nat_lt, Bool, true, false, ◌||◌, cond, if◌then◌else◌, Option, None, List, [], ◌∷◌, length, set, map, refl, ap, ap₂, sym, ◌∙◌, arith}
 use Rattle.std.specs.Prelude.{count_by}
 use Rattle.std.specs.List.{list_any}
 use Rattle.std.proofs.lemmas.List.Sums.{sum_by-cons}
@@ -82,6 +82,55 @@ some_number n (x ∷ xs) =
       | true ↦ sym more
       | false ↦ some_number (suc n) xs
     ]
+
+-- ---- how many
+
+count_cons : {X : Type 0} (p : X → Bool) (x : X) (xs : List X) →
+    count_by p (x ∷ xs) ≡ cond (p x) 1 0 + count_by p xs
+count_cons p x xs = sum_by-cons (λ y. cond (p y) 1 0) x xs
+
+-- as many pass as from the first open one on
+counted_rest : {X : Type 0} (state : X → State) (xs : List X) →
+    count_by (λ x. is_waiting (state x)) (rest state xs) ≡ count_by (λ x. is_waiting (state x)) xs
+counted_rest state [] = refl
+counted_rest {X = X} state (x ∷ xs) = elim (is_settled (state x)) as
+    (λ b. is_settled (state x) ≡ b → count_by (λ y. is_waiting (state y)) (if b then rest state xs else x ∷ xs)
+    ≡ count_by (λ y. is_waiting (state y)) (x ∷ xs)) [
+      | true ↦ λ e.
+          let none : ◌≡◌ {A = ℕ} (cond (is_waiting (state x)) 1 0) 0 =
+          ap (λ (b : Bool). cond {A = ℕ} b 1 0) (settled_waits (state x) e) in
+          omega (arith, counted_rest state xs, none, count_cons (λ y. is_waiting (state y)) x xs)
+      | false ↦ λ _. refl
+    ] refl
+
+counted_map : (bodies : ℕ → FrameValue) (xs : List Slot) →
+    count_by waits (map (slot_place bodies) xs) ≡ count_by (λ x. is_waiting x.state) xs
+counted_map bodies [] = refl
+counted_map bodies (x ∷ xs) =
+    count_cons waits (slot_place bodies x) (map (slot_place bodies) xs)
+    ∙ ap₂ (λ (st : State) (n : ℕ). cond (is_waiting st) 1 0 + n) (state_place bodies x) (counted_map bodies xs)
+    ∙ sym (count_cons (λ (y : Slot). is_waiting y.state) x xs)
+
+counted_number : (n : ℕ) (xs : List Slot) → count_by (λ x. is_waiting x.state) xs
+    ≡ length (numbers_where is_waiting n xs)
+counted_number n [] = refl
+counted_number n (x ∷ xs) =
+    count_cons (λ (y : Slot). is_waiting y.state) x xs
+    ∙ elim (is_waiting x.state) as (λ b. cond b 1 0 + count_by (λ x. is_waiting x.state) xs
+    ≡ length (if b then n ∷ numbers_where is_waiting (suc n) xs
+    else numbers_where is_waiting (suc n) xs)) [
+      | true ↦ omega (arith, counted_number (suc n) xs)
+      | false ↦ omega (arith, counted_number (suc n) xs)
+    ]
+
+-- as many places wait as numbers do
+pub all_waits : (w : WindowValue) (s : Session) (bodies : ℕ → FrameValue) → WindowStandsFor w s bodies →
+    count_by waits w.places ≡ length (waiting_numbers s)
+all_waits w s bodies stands =
+    ap (λ (ps : List (Option Place)). count_by waits ps) stands.places
+    ∙ counted_map bodies (slots_from_start s)
+    ∙ counted_rest slot_state s.slots
+    ∙ counted_number s.first s.slots
 
 -- some place waits exactly where some number does, and some place flies exactly where some number does
 

@@ -1,6 +1,6 @@
 //! The slots of the numbers that are not settled.
 
-ghost use Rattle.std.specs.Prelude.{◌≡◌, ◌+◌, ◌<◌, ◌≤◌, [], ◌∷◌, ◌++◌, length, drop, IfOk, slice_set, slice_index_or};
+ghost use Rattle.std.specs.Prelude.{◌≡◌, ◌+◌, ◌<◌, ◌≤◌, [], ◌∷◌, ◌++◌, count_by, length, drop, IfOk, slice_set, slice_index_or};
 ghost use Rattle.std.specs.List.{list_any};
 ghost use Rattle.wf_send_window.specs.Window.{waits};
 
@@ -50,6 +50,13 @@ impl Ring {
         ensures { result ≡ list_any waits self.now.items }
     {
         self.waiting > 0
+    }
+
+    // How many items wait.
+    pub(crate) fn waiting(&self) -> usize
+        ensures { result ≡ count_by waits self.now.items }
+    {
+        self.waiting
     }
 
     pub(crate) fn at(&self, i: usize) -> &Option<Place>

@@ -3,7 +3,7 @@
 //! In the clauses F is the first number that is not settled, N the next fresh number, w the size and R the
 //! greatest start of a request that ended as heard: those of each session that the window stands for.
 
-ghost use Rattle.std.specs.Prelude.{◌≡◌, ℕ, ◌+◌, ◌%◌, ◌<◌, ◌≤◌, true, false, [], length, max, is_ok, is_some, unwrap_or, option_map, slice_index_or, slice_set, nat_lt, IfOk, IfErr, IfSome, IfNone};
+ghost use Rattle.std.specs.Prelude.{count_by, ◌≡◌, ℕ, ◌+◌, ◌%◌, ◌<◌, ◌≤◌, true, false, [], length, max, is_ok, is_some, unwrap_or, option_map, slice_index_or, slice_set, nat_lt, IfOk, IfErr, IfSome, IfNone};
 ghost use Rattle.std.specs.List.{list_any};
 ghost use Rattle.wf_frame.specs.Frames.{FrameValue};
 ghost use Rattle.wf_frame.specs.declared.classes.Fate.TheVariants.{Dropped};
@@ -350,6 +350,15 @@ impl Window {
             result ≡ nat_lt 0 (length (waiting_numbers s)) }
     {
         self.ring.has_waiting()
+    }
+
+    /// How many numbers wait.
+    pub fn waiting_count(&self) -> u32
+        ensures shown { result ≡ count_by waits self.now.places }
+        ensures waiting { (s : Session) (bodies : ℕ → FrameValue) → WindowStandsFor self.now s bodies →
+            result ≡ length (waiting_numbers s) }
+    {
+        self.ring.waiting() as u32
     }
 
     /// The first waiting number at or past `from`, which lies in F to N; None exactly where there is none.
