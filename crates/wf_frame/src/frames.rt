@@ -58,8 +58,9 @@ impl Model for Frame {
 }
 
 impl Frame {
-    /// A frame that is not accepted yet: id 0, stamp 0, the made-up source, tag 0 and fate Held. Refused, with the body handed back,
-    /// exactly where the body has no octet or more than 2304 (the greatest MSDU, IEEE 802.11-2012, 8.2.3).
+    /// A frame that is not accepted yet: id 0, stamp 0, the made-up source, tag 0 and fate Held. Refused,
+    /// with the body handed back, exactly where the body has no octet or more than 2304 (the greatest MSDU,
+    /// IEEE 802.11-2012, 8.2.3).
     pub fn new(station: u16, tid: u8, flow: u32, body: Vec<u8>) -> Result<Frame, Vec<u8>>
         ensures made { IfOk result (λ f. f ≡ new_frame station tid flow body.items) }
         ensures within { IfOk result (λ f. (0 < length body.items) × (length body.items ≤ greatest_body)) }

@@ -5,7 +5,7 @@ use Rattle.wf_frame.specs.declared.classes.Fate.{Fate}
 use Rattle.wf_frame.specs.declared.classes.Fate.TheVariants.{Held}
 use Rattle.wf_frame.specs.declared.notes.Note.{Note}
 use Rattle.wf_frame.specs.declared.notes.Note.TheVariants.{Enqueue}
-use Rattle.wf_frame.specs.Frames.{FrameValue}
+use Rattle.wf_frame.specs.Frames.{FrameValue, source_octets}
 use Rattle.wf_def_rotation.specs.Rotation.{Rotation}
 use Rattle.wf_def_world.specs.World.{World, Queue, Frame, no_frame, accepted_count, on_queue, with_queues, with_station, on_station, on_tid, with_fate, with_frame_finished, with_frames_finished}
 use Rattle.wf_def_world.specs.FlowQueues.{after_limit, queue_for, after_put_in, taken_for_tid}
@@ -94,9 +94,10 @@ accepted_same w x bodies as_many same ok id low =
 
 -- one more
 pub accepted_more : (v : FlowsValue) (w : World) (bodies : ℕ → FrameValue) (f : FrameValue) →
-    FlowsStandFor v w → f.id ≡ accepted_count w → f.fate ≡ Held → AreAccepted w bodies
-    → AreAccepted (enqueue_outcome w f.station f.tid f.flow (length f.body)).world (with_body bodies f)
-accepted_more v w bodies f st next fate ok id low =
+    FlowsStandFor v w → f.id ≡ accepted_count w → length f.source ≡ source_octets → f.fate ≡ Held →
+    AreAccepted w bodies →
+    AreAccepted (enqueue_outcome w f.station f.tid f.flow (length f.body)).world (with_body bodies f)
+accepted_more v w bodies f st next source fate ok id low =
     let x : World = (enqueue_outcome w f.station f.tid f.flow (length f.body)).world in
     let count : accepted_count x ≡ accepted_count w + 1 =
     accepted_enqueued v w f.station f.tid f.flow (length f.body) st in
@@ -106,7 +107,7 @@ accepted_more v w bodies f st next fate ok id low =
           ap (notes x) next ∙ note_put v w f.station f.tid f.flow (length f.body) st in
           subst (λ (k : ℕ). IsAccepted k (notes x k) (with_body bodies f k)) (sym e)
           (subst (λ (g : FrameValue). IsAccepted f.id (notes x f.id) g) (sym (body_own bodies f))
-          (record { id = refl; fate = fate; note = note }))
+          (record { id = refl; source = source; fate = fate; note = note }))
       | inr other ↦
           let below : id < accepted_count w = omega (arith, low, count, next, other) in
           subst (λ (g : FrameValue). IsAccepted id (notes x id) g) (sym (body_other bodies f id other))

@@ -1,6 +1,6 @@
 -- The frames that the flow queues hold, beside the accepted ones, and whose frame the limit drops.
 use Rattle.std.specs.Prelude.{◌≡◌, ◌<◌, ◌≤◌, ℕ, ◌+◌, ◌*◌, ◌==◌, Bool, true, false, ◌&&◌, List, All, length, if◌then◌else◌}
-use Rattle.wf_frame.specs.Frames.{FrameValue}
+use Rattle.wf_frame.specs.Frames.{FrameValue, source_octets}
 use Rattle.wf_frame.specs.declared.classes.Cause.{Cause}
 use Rattle.wf_frame.specs.declared.classes.Fate.{Fate}
 use Rattle.wf_frame.specs.declared.classes.Fate.TheVariants.{Held, Dropped}
@@ -32,9 +32,11 @@ DropsTo P R = (f : FrameValue) (cause : Cause) → P f → R (frame_with_fate (D
 abbrev pub notes : World → ℕ → Note
 notes w id = (frame w id).note
 
--- f is the frame that a call brought, as it was accepted: with this id, and still held
+-- f is the frame that a call brought, as it was accepted: with this id, a source of six octets, and still
+-- held
 pub record IsAccepted (given : ℕ) (brought : Note) (f : FrameValue) : Type 0 where
   pub id : f.id ≡ given
+  pub source : length f.source ≡ source_octets
   pub fate : f.fate ≡ Held
   pub note : brought ≡ Enqueue f.station f.tid f.flow (length f.body)
 

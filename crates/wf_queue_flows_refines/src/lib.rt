@@ -10,7 +10,7 @@
 ghost use Rattle.std.specs.Prelude.{◌≡◌, ℕ, ◌+◌, ◌<◌, ◌≤◌, Bool, true, false, List, [], ◌∷◌, ◌++◌, Option, None, IfSome, length, option_map};
 ghost use Rattle.wf_frame.specs.Settings.{IsInRange};
 ghost use Rattle.wf_frame.specs.Classes.{all_classes, tid_number};
-ghost use Rattle.wf_frame.specs.Frames.{FrameValue};
+ghost use Rattle.wf_frame.specs.Frames.{FrameValue, source_octets};
 ghost use Rattle.wf_frame.specs.declared.settings.Config.{Config};
 ghost use Rattle.wf_frame.specs.declared.classes.Class.{Class};
 ghost use Rattle.wf_frame.specs.declared.classes.Cause.TheVariants.{Overlimit, Codel as By_codel, Left};
@@ -282,7 +282,8 @@ pub fn the_accepted_frames_are_kept()
     ensures same { (w x : World) (bodies : ℕ → FrameValue) → accepted_count x ≡ accepted_count w →
         notes x ≡ notes w → AreAccepted w bodies → AreAccepted x bodies }
     ensures put { (v : FlowsValue) (w : World) (bodies : ℕ → FrameValue) (f : FrameValue) →
-        FlowsStandFor v w → f.id ≡ accepted_count w → f.fate ≡ Held → AreAccepted w bodies →
+        FlowsStandFor v w → f.id ≡ accepted_count w → length f.source ≡ source_octets → f.fate ≡ Held →
+        AreAccepted w bodies →
         AreAccepted (enqueue_outcome w f.station f.tid f.flow (length f.body)).world (with_body bodies f) }
     ensures take { (w : World) (s t : ℕ) → notes (world_take w s t).world ≡ notes w }
     ensures finish { (w : World) (fate : Fate) (id : ℕ) → notes (with_frame_finished w fate id) ≡ notes w }

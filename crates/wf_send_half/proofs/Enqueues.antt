@@ -2,7 +2,7 @@
 use Rattle.std.proofs.Common.{◌≡◌, refl, ap, ap₂, sym, ◌∙◌, subst, arith, ℕ, ◌+◌, ◌<◌, ◌≤◌, Bool, true, ◌&&◌, List, [], ◌∷◌, length, Option, Some, None, if◌then◌else◌}
 use Rattle.std.specs.Prelude.{nat_le}
 use Rattle.wf_frame.specs.Classes.{class_of, tid_number}
-use Rattle.wf_frame.specs.Frames.{FrameValue}
+use Rattle.wf_frame.specs.Frames.{FrameValue, source_octets}
 use Rattle.wf_frame.specs.declared.classes.Class.{Class}
 use Rattle.wf_frame.specs.declared.settings.Config.{Config}
 use Rattle.wf_frame.specs.declared.notes.Note.TheVariants.{Enqueue}
@@ -151,16 +151,17 @@ accepted_is v x same f p s flows dropped counts y marked to put loses counted li
 pub enqueue_done : (v : TransmitValue) (w : World) (bodies : ℕ → FrameValue) → StandsFor v w bodies →
     (f : FrameValue) (y : TransmitValue) (id : ℕ) (dropped : Option ℕ) →
     y ≡ after_listing (after_enqueue v (as_accepted v f)) f.station → id ≡ v.tally.accepted →
-    dropped ≡ dropped_for_limit v.flows → (1 ≤ length f.body) × (length f.body ≤ greatest_body) →
+    dropped ≡ dropped_for_limit v.flows → length f.source ≡ source_octets →
+    (1 ≤ length f.body) × (length f.body ≤ greatest_body) →
     None ≡ refusal w (enqueue_of f) →
     Meets w (with_body bodies (as_accepted v f)) (enqueue_of f) y (Accepted id dropped)
-enqueue_done v w bodies h f y id dropped is next loses len done =
+enqueue_done v w bodies h f y id dropped is next loses source len done =
     met_by (after_listing (after_enqueue v (as_accepted v f)) f.station) y w
     (with_body bodies (as_accepted v f)) (enqueue_of f) (Accepted id dropped) is
     (subst (λ (x : ReplyNote). Meets w (with_body bodies (as_accepted v f)) (enqueue_of f)
     (after_listing (after_enqueue v (as_accepted v f)) f.station) x)
     (sym (ap₂ (λ (k : ℕ) (o : Option ℕ). Accepted k o) next loses))
-    (enqueue_meets v w bodies h (as_accepted v f) (sym done) refl refl refl len.0 len.1))
+    (enqueue_meets v w bodies h (as_accepted v f) (sym done) refl refl source refl len.0 len.1))
 
 pub enqueue_kept : (v : TransmitValue) (f : FrameValue) (y : TransmitValue) (reply : ReplyNote) →
     ((w : World) (bodies : ℕ → FrameValue) → StandsFor v w bodies →

@@ -1,7 +1,7 @@
 //! Frames that come in.
 
 ghost use Rattle.std.specs.Prelude.{◌≡◌, ◌<◌, ◌≤◌, ◌^◌, ◌&&◌, nat_le, ℕ, true, length, option_map, Some, IfSome, IfOk, IfErr};
-ghost use Rattle.wf_frame.specs.Frames.{FrameValue};
+ghost use Rattle.wf_frame.specs.Frames.{FrameValue, source_octets};
 ghost use Rattle.wf_frame.specs.declared.classes.Fate.TheVariants.{Held};
 ghost use Rattle.wf_frame.specs.declared.notes.Note.TheVariants.{Enqueue};
 ghost use Rattle.wf_frame.specs.declared.notes.ReplyNote.TheVariants.{Accepted, Refused};
@@ -29,14 +29,15 @@ use wf_send_stations::Tally;
 /// The greatest traffic identifier that has queues (IEEE 802.11-2012, 8.2.4.5.2).
 const GREATEST_TID: u8 = 7;
 
-// The parcel, once its frame is marked with this id and stamp, and held. Like every frame, it has 1 to 2304
-// octets.
+// The parcel, once its frame is marked with this id and stamp, and held. Like every frame, it has a source of
+// six octets and a body of 1 to 2304.
 fn marked(mut parcel: Parcel, id: u64, stamp: u64) -> Parcel
+    ensures source { length parcel.source ≡ source_octets }
     ensures length { (1 ≤ length parcel.body) × (length parcel.body ≤ greatest_body) }
     ensures marked { result ≡ record parcel { id = id; stamp = stamp; fate = Held } }
 {
     let frame = parcel.frame_mut();
-    let _octets = frame.len();
+    let (_source, _octets) = (frame.source(), frame.len());
     frame.mark(id, stamp);
     frame.settle(Fate::Held);
     parcel
@@ -96,6 +97,7 @@ impl Transmit {
         requires some { HasWorld self.old }
         ensures accepted { self.new ≡ after_listing
             (after_enqueue self.old (as_accepted self.old parcel)) parcel.station }
+        ensures source { length parcel.source ≡ source_octets }
         ensures length { (1 ≤ length parcel.body) × (length parcel.body ≤ greatest_body) }
         ensures id { result.0 ≡ self.old.tally.accepted }
         ensures dropped { option_map (λ lost. lost.id) result.1 ≡ dropped_for_limit self.old.flows }

@@ -11,7 +11,7 @@ use Rattle.wf_frame.specs.declared.notes.Note.{Note}
 use Rattle.wf_frame.specs.declared.notes.Note.TheVariants.{Enqueue}
 use Rattle.wf_frame.specs.declared.notes.ReplyNote.{ReplyNote}
 use Rattle.wf_frame.specs.declared.notes.ReplyNote.TheVariants.{Accepted}
-use Rattle.wf_frame.specs.Frames.{FrameValue}
+use Rattle.wf_frame.specs.Frames.{FrameValue, source_octets}
 use Rattle.wf_def_codel.specs.Codel.{Item}
 use Rattle.wf_def_lists.specs.Lengths.{greatest_body}
 use Rattle.wf_def_rotation.specs.Rotation.{has_key}
@@ -116,10 +116,11 @@ module _ (w : World) (s t flow len : ℕ) (places : KeepsPlaces w) where
 
 pub enqueue_parts : (v : TransmitValue) (w : World) (bodies : ℕ → FrameValue) (f : FrameValue) →
     KeepsPlaces w → is_live w f.station ≡ true → f.station < w.config.stations → f.tid < 8 →
-    f.id ≡ v.tally.accepted → f.stamp ≡ v.clock → f.fate ≡ Held → Parts v w bodies →
+    f.id ≡ v.tally.accepted → f.stamp ≡ v.clock → length f.source ≡ source_octets → f.fate ≡ Held →
+    Parts v w bodies →
     Parts (after_enqueue v f) (enqueue_outcome w f.station f.tid f.flow (length f.body)).world
     (with_body bodies f)
-enqueue_parts v w bodies f places live low_s low_t next stamp fate h =
+enqueue_parts v w bodies f places live low_s low_t next stamp source fate h =
     let p : Pieces v w bodies = to_pieces v w bodies h in
     let u : World = (enqueue_outcome w f.station f.tid f.flow (length f.body)).world in
     let same : roster w ≡ roster u = sym (roster_rest w u
@@ -146,7 +147,7 @@ enqueue_parts v w bodies f places live low_s low_t next stamp fate h =
         fates = ap₂ (λ (o : Option ℕ) (c : Counts). with_overlimit o (one_accepted c))
             (same_dropped v.flows w p.flows) p.ledger.fates
             ∙ sym (enqueued_counts w f.station f.tid f.flow (length f.body) places);
-        notes = accepted_more v.flows w bodies f p.flows id fate h.others.notes;
+        notes = accepted_more v.flows w bodies f p.flows id source fate h.others.notes;
       };
       frames = frames_put v.flows w bodies (tid_number f.station f.tid) f p.flows h.others.notes p.frames id
           fate;
@@ -162,12 +163,12 @@ places_kept w r = by_law KeepsPlaces w r (place_law w.config r.history r.in_rang
 
 pub enqueue_meets : (v : TransmitValue) (w : World) (bodies : ℕ → FrameValue) → StandsFor v w bodies →
     (f : FrameValue) → refusal w (Enqueue f.station f.tid f.flow (length f.body)) ≡ None →
-    f.id ≡ v.tally.accepted → f.stamp ≡ v.clock → f.fate ≡ Held → 1 ≤ length f.body →
-    length f.body ≤ greatest_body →
+    f.id ≡ v.tally.accepted → f.stamp ≡ v.clock → length f.source ≡ source_octets → f.fate ≡ Held →
+    1 ≤ length f.body → length f.body ≤ greatest_body →
     Meets w (with_body bodies f) (Enqueue f.station f.tid f.flow (length f.body))
     (after_listing (after_enqueue v f) f.station) (Accepted f.id (dropped_for_limit v.flows))
 unfolding outcome_of
-enqueue_meets v w bodies h f done next stamp fate some most =
+enqueue_meets v w bodies h f done next stamp source fate some most =
     let rows : NoRow (refusals w (Enqueue f.station f.tid f.flow (length f.body))) =
     no_row (refusals w (Enqueue f.station f.tid f.flow (length f.body))) done in
     let low_s : f.station < w.config.stations = leb-false _ _ rows.0 in
@@ -180,4 +181,4 @@ enqueue_meets v w bodies h f done next stamp fate some most =
     (listed_meets (after_enqueue v f) w (with_body bodies f)
     (Enqueue f.station f.tid f.flow (length f.body)) h.reached some most done
     (enqueue_parts v w bodies f (places_kept w h.reached)
-    (live_of (is_live w f.station) rows.1.1.0) low_s low_t next stamp fate h.parts) f.station refl)
+    (live_of (is_live w f.station) rows.1.1.0) low_s low_t next stamp source fate h.parts) f.station refl)

@@ -11,7 +11,7 @@
 ghost use Rattle.std.specs.Prelude.{◌≡◌, ◌<◌, ◌≤◌, ℕ, suc, ◌+◌, ◌-◌, ◌*◌, ◌==◌, ◌||◌, ◌++◌, pos, ◌-ℤ◌, Bool, true, false, List, [], ◌∷◌, Some, None, is_some, option_map, map, find, count_by, set, length, max, unwrap_or, ◌%◌, ◌&&◌, nat_lt, nat_le, if◌then◌else◌, All, Option};
 ghost use Rattle.std.specs.List.{list_any};
 ghost use Rattle.wf_frame.specs.Classes.{lower_tid, upper_tid, same_class, class_of, tid_number};
-ghost use Rattle.wf_frame.specs.Frames.{FrameValue};
+ghost use Rattle.wf_frame.specs.Frames.{FrameValue, source_octets};
 ghost use Rattle.wf_frame.specs.Settings.{IsInRange};
 ghost use Rattle.wf_frame.specs.declared.classes.Class.{Class};
 ghost use Rattle.wf_frame.specs.declared.classes.Class.TheVariants.{Bk, Be, Vi, Vo};
@@ -288,13 +288,14 @@ pub fn a_call_that_it_does_not_hear()
         StandsFor v (step w (Asked (Answer e))).world bodies }
 {}
 
-/// A frame is accepted. It is marked with the next id and the clock; its body has 1 to 2304 octets. Where the
-/// queues are at their limit, the head of the longest is dropped, and the answer names it.
+/// A frame is accepted. It is marked with the next id and the clock; its source has six octets, and its body
+/// 1 to 2304. Where the queues are at their limit, the head of the longest is dropped, and the answer names
+/// it.
 pub fn an_enqueue()
     ensures { (v : TransmitValue) (w : World) (bodies : ℕ → FrameValue) → StandsFor v w bodies →
         (f : FrameValue) → refusal w (Enqueue f.station f.tid f.flow (length f.body)) ≡ None →
-        f.id ≡ v.tally.accepted → f.stamp ≡ v.clock → f.fate ≡ Held → 1 ≤ length f.body →
-        length f.body ≤ greatest_body →
+        f.id ≡ v.tally.accepted → f.stamp ≡ v.clock → length f.source ≡ source_octets → f.fate ≡ Held →
+        1 ≤ length f.body → length f.body ≤ greatest_body →
         Meets w (with_body bodies f) (Enqueue f.station f.tid f.flow (length f.body))
         (after_listing (after_enqueue v f) f.station) (Accepted f.id (dropped_for_limit v.flows)) }
 {}

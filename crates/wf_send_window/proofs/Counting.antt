@@ -94,7 +94,8 @@ counted_rest : {X : Type 0} (state : X → State) (xs : List X) →
     count_by (λ x. is_waiting (state x)) (rest state xs) ≡ count_by (λ x. is_waiting (state x)) xs
 counted_rest state [] = refl
 counted_rest {X = X} state (x ∷ xs) = elim (is_settled (state x)) as
-    (λ b. is_settled (state x) ≡ b → count_by (λ y. is_waiting (state y)) (if b then rest state xs else x ∷ xs)
+    (λ b. is_settled (state x) ≡ b →
+    count_by (λ y. is_waiting (state y)) (if b then rest state xs else x ∷ xs)
     ≡ count_by (λ y. is_waiting (state y)) (x ∷ xs)) [
       | true ↦ λ e.
           let none : ◌≡◌ {A = ℕ} (cond (is_waiting (state x)) 1 0) 0 =
@@ -108,7 +109,8 @@ counted_map : (bodies : ℕ → FrameValue) (xs : List Slot) →
 counted_map bodies [] = refl
 counted_map bodies (x ∷ xs) =
     count_cons waits (slot_place bodies x) (map (slot_place bodies) xs)
-    ∙ ap₂ (λ (st : State) (n : ℕ). cond (is_waiting st) 1 0 + n) (state_place bodies x) (counted_map bodies xs)
+    ∙ ap₂ (λ (st : State) (n : ℕ). cond (is_waiting st) 1 0 + n) (state_place bodies x)
+    (counted_map bodies xs)
     ∙ sym (count_cons (λ (y : Slot). is_waiting y.state) x xs)
 
 counted_number : (n : ℕ) (xs : List Slot) → count_by (λ x. is_waiting x.state) xs

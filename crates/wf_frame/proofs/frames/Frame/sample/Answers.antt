@@ -26,7 +26,8 @@ returns c =
       c.deref_mut-octet-items.ensures.len,
       c.in_ok-body.ensures.len,
     ) in
-    let filled : (with_items c.in_ok-body.body c.loop-octet.octet-items).items ≡ sample_body c.args.flow c.args.len =
+    let filled : (with_items c.in_ok-body.body c.loop-octet.octet-items).items
+    ≡ sample_body c.args.flow c.args.len =
     with_items_is c.in_ok-body.body c.loop-octet.octet-items
     (c.loop-octet.auto.octet-items ∙ c.deref_mut-octet-items.ensures.len)
     ∙ sym (take_all c.loop-octet.octet-index c.loop-octet.octet-items

@@ -6,7 +6,7 @@ use Rattle.wf_send_half.proofs.half.Transmit.enqueue.Goals as goal
 pub returns-in-Ok-clause-meets : goal.returns-in-Ok-clause-meets
 returns-in-Ok-clause-meets c w bodies h =
     enqueue_done c.args.self.now w bodies h c.args.parcel c.accept.new.self _ _ c.accept.ensures.accepted
-    c.accept.ensures.id c.accept.ensures.dropped c.accept.ensures.length
+    c.accept.ensures.id c.accept.ensures.dropped c.accept.ensures.source c.accept.ensures.length
     (of_frame w c.args.parcel c.station.result c.tid.result _
     (c.station.ensures ∙ ap (λ (f : FrameValue). f.station) c.frame-frame.ensures)
     (c.tid.ensures ∙ ap (λ (f : FrameValue). f.tid) c.frame-frame.ensures)
