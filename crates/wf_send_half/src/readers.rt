@@ -1,12 +1,15 @@
 //! What a path reads of the half beside its calls.
 
-ghost use Rattle.std.specs.Prelude.{◌≡◌, ◌<◌, ◌==◌, ◌&&◌, is_some, find, option_map};
+ghost use Rattle.std.specs.Prelude.{◌≡◌, ◌<◌, ◌==◌, ◌&&◌, not, nat_le, count_by, is_some, find, option_map};
+ghost use Rattle.wf_queue_flows.specs.Flows.{frames_of_tid};
+ghost use Rattle.wf_frame.specs.Classes.{same_class, tid_number};
 ghost use Rattle.wf_send_stations.specs.Members.{member};
 ghost use Rattle.wf_octets_tim.specs.Sleepers.{sleeper};
 ghost use Rattle.wf_send_window.specs.Windows.{window_of};
 ghost use Rattle.wf_send_half_refines.specs.Pulling.{has_more_of};
 
 use crate::Transmit;
+use wf_frame::Class;
 use wf_send_exchanges::Open;
 use wf_send_window::Window;
 
@@ -25,6 +28,23 @@ impl Transmit {
         ensures { result.now ≡ window_of self.now.windows station tid }
     {
         self.windows.at(station, tid)
+    }
+
+    /// Whether fewer exchanges of a class are open than the setting `inflight` allows.
+    pub fn may_open(&self, class: Class) -> bool
+        ensures { result ≡ not (nat_le self.now.config.inflight
+            (count_by (λ x. same_class x.class class) self.now.opened)) }
+    {
+        self.opened.of_class(class) < self.config.inflight
+    }
+
+    /// How many frames of a TID are in flow queues. The station's number is below the setting `stations`.
+    pub fn queued(&self, station: u16, tid: u8) -> u32
+        requires within { station < self.now.config.stations }
+        requires tid { tid < 8 }
+        ensures { result ≡ frames_of_tid self.now.flows (tid_number station tid) }
+    {
+        self.flows.queued(station, tid)
     }
 
     /// Whether a station is live and sleeps, and a number waits or a frame is queued for it on some TID: what
