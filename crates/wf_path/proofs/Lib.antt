@@ -12,4 +12,5 @@ mod Openings
 mod Pulls
 mod Rises
 mod SmallSums
+mod ToSend
 mod Written

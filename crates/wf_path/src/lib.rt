@@ -18,6 +18,7 @@ mod path;
 mod reading;
 mod ready;
 mod small;
+mod standing;
 mod traffic;
 mod writing;
 

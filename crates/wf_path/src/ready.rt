@@ -1,6 +1,7 @@
 //! Who is ready.
 
 ghost use Rattle.std.specs.Prelude.{◌≡◌, ◌<◌, length, IfOk};
+ghost use Rattle.std.specs.List.{list_any};
 ghost use Rattle.wf_send_half_refines.specs.Half.{is_ready_of};
 ghost use Rattle.wf_path.specs.Flags.{all_down, flags_in, with_flag, with_flags, FlagsHaveRoom};
 
@@ -50,6 +51,13 @@ impl Ready {
         ensures { result.now ≡ flags_in self.now class }
     {
         self.flags[class.number()].as_slice()
+    }
+
+    // Whether some station is ready in a class.
+    pub(crate) fn has_any(&self, class: Class) -> bool
+        ensures { result ≡ list_any (λ up. up) (flags_in self.now class) }
+    {
+        self.of(class).iter().any(|up| *up)
     }
 
     // Sets the flag of a station in a class as the half has it.

@@ -124,3 +124,32 @@ fn an_answer_ends_its_exchange(rt: HostRuntime) -> Result<(), Fail> {
     assert_eq!(rt; path.tally().acked, 1);
     Ok(())
 }
+
+/// Whether there is something to send of the classes best effort and voice, what is queued for the station on
+/// TID 0, and what waits.
+fn standing(path: &Path) -> (bool, bool, u32, u32) {
+    let (queued, waiting) = if path.live(0) {
+        (path.queued(0, 0), path.waiting(0, 0))
+    } else {
+        (0, 0)
+    };
+    (
+        path.can_pull(Class::Be),
+        path.can_pull(Class::Vo),
+        queued,
+        waiting,
+    )
+}
+
+#[test]
+fn a_path_tells_what_it_has_to_send(rt: HostRuntime) -> Result<(), Fail> {
+    let mut path = with_frame(rt.alloc())?;
+    assert_eq!(rt; standing(&path), (true, false, 1, 0));
+    call(&mut path, Job::Call(Ask::Pull { class: Class::Be }));
+    assert_eq!(rt; standing(&path), (false, false, 0, 0));
+    if path.has_small_counts() {
+        let _ = path.done_bits(0, None, None);
+    }
+    assert_eq!(rt; standing(&path), (true, false, 0, 1));
+    Ok(())
+}
