@@ -334,6 +334,3 @@ impl Codel {
         self.dropping = true;
     }
 }
-
-#[cfg(test)]
-mod tests;
