@@ -243,6 +243,3 @@ impl Parley {
         self.recipient = Accept::new(self.tid, self.limit, self.recipient.last());
     }
 }
-
-#[cfg(test)]
-mod made_run;

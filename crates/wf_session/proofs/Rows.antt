@@ -1,10 +1,12 @@
--- A worked list of events, computed: a restart forgets what was agreed, and a message that comes again makes
--- nothing.
-use Rattle.std.proofs.Common.{◌≡◌, ℕ, List, [], ◌∷◌, length, Option, Some, None, refl}
+-- Worked lists of events, computed: a restart forgets what was agreed, and a message that comes again makes
+-- nothing; and the octets of the message that each event sends.
+use Rattle.std.proofs.Common.{◌≡◌, ℕ, List, [], ◌∷◌, ◌++◌, length, map, drop, Option, Some, None, refl}
+use Rattle.std.specs.List.{concat}
 use Rattle.wf_session.specs.declared.agreement.Agreement.{Agreement}
+use Rattle.wf_session.specs.Layout.{action_octets}
 use Rattle.wf_session.specs.Laws.{originators, recipients}
 use Rattle.wf_session.specs.declared.event.Event.{Event}
-use Rattle.wf_session.specs.declared.event.Event.TheVariants.{Ask, ToOriginator, ToRecipient, CloseOriginator, RestartRecipient}
+use Rattle.wf_session.specs.declared.event.Event.TheVariants.{Ask, Again, ToOriginator, ToRecipient, CloseOriginator, CloseRecipient, RestartRecipient}
 use Rattle.wf_session.specs.World.{Parley, new_parley, after_event, after_events}
 
 -- what is open at the originator and at the recipient after each event
@@ -59,3 +61,53 @@ requests_sent = refl
 pub responses_sent : length (after_events (new_parley 0 64) restart_and_replay_events).answers ≡ 3
 unfolding after_events after_event
 responses_sent = refl
+
+-- the octets of the messages that an event sends, with which w becomes the other
+abbrev pub octets_between : Parley → Parley → List ℕ
+octets_between w next = concat (map action_octets (drop (length w.asks) next.asks)
+    ++ map action_octets (drop (length w.answers) next.answers))
+
+-- the octets that each event sends: those of one message, or none
+pub octets_sent : Parley → List Event → List (List ℕ)
+octets_sent w [] = []
+octets_sent w (event ∷ later) = let next : Parley = after_event event w in
+    octets_between w next ∷ octets_sent next later
+
+-- a first response is lost, the recipient starts anew, the originator closes and asks again, and the
+-- recipient closes
+abbrev response_lost_and_closed_events : List Event
+response_lost_and_closed_events =
+    Ask 128 500 ∷
+    ToRecipient 0 ∷
+    Again ∷
+    ToRecipient 1 ∷
+    ToOriginator 1 ∷
+    RestartRecipient ∷
+    CloseOriginator ∷
+    ToRecipient 2 ∷
+    Ask 10 4095 ∷
+    ToRecipient 3 ∷
+    ToOriginator 2 ∷
+    CloseRecipient ∷
+    ToOriginator 3 ∷
+    Ask 256 0 ∷
+    []
+
+-- The script checks/agreement-frames takes these octets to another program.
+pub response_lost_and_closed : octets_sent (new_parley 0 64) response_lost_and_closed_events ≡
+    (3 ∷ 0 ∷ 1 ∷ 2 ∷ 32 ∷ 0 ∷ 0 ∷ 64 ∷ 31 ∷ []) ∷
+    (3 ∷ 1 ∷ 1 ∷ 0 ∷ 0 ∷ 2 ∷ 16 ∷ 0 ∷ 0 ∷ []) ∷
+    (3 ∷ 0 ∷ 1 ∷ 2 ∷ 32 ∷ 0 ∷ 0 ∷ 64 ∷ 31 ∷ []) ∷
+    (3 ∷ 1 ∷ 1 ∷ 0 ∷ 0 ∷ 2 ∷ 16 ∷ 0 ∷ 0 ∷ []) ∷
+    [] ∷
+    [] ∷
+    (3 ∷ 2 ∷ 0 ∷ 8 ∷ 1 ∷ 0 ∷ []) ∷
+    [] ∷
+    (3 ∷ 0 ∷ 2 ∷ 130 ∷ 2 ∷ 0 ∷ 0 ∷ 240 ∷ 255 ∷ []) ∷
+    (3 ∷ 1 ∷ 2 ∷ 0 ∷ 0 ∷ 130 ∷ 2 ∷ 0 ∷ 0 ∷ []) ∷
+    [] ∷
+    (3 ∷ 2 ∷ 0 ∷ 0 ∷ 1 ∷ 0 ∷ []) ∷
+    [] ∷
+    (3 ∷ 0 ∷ 3 ∷ 2 ∷ 64 ∷ 0 ∷ 0 ∷ 0 ∷ 0 ∷ []) ∷ []
+unfolding octets_sent after_event
+response_lost_and_closed = refl
