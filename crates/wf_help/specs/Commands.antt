@@ -11,17 +11,17 @@ use Rattle.wf_help.specs.declared.words.Command.{Command}
 use Rattle.wf_help.specs.declared.words.Command.TheVariants.{Replay, Soak, Live, Session, Uplink, Frames, Capture, Help, Version}
 
 -- the number that a word is, where it lies between two
-abbrev pub number_within : ℕ → ℕ → List ℕ → Option ℕ
+unfoldable pub number_within : ℕ → ℕ → List ℕ → Option ℕ
 number_within low high word =
     if is_plain_number word && nat_le low (value_from 0 word) && nat_le (value_from 0 word) high
     then Some (value_from 0 word) else None
 
-abbrev pub soak_of : Option ℕ → Option ℕ → Option Command
+unfoldable pub soak_of : Option ℕ → Option ℕ → Option Command
 soak_of (Some seed) (Some calls) = Some (Soak seed calls)
 soak_of (Some seed) None = None
 soak_of None calls = None
 
-abbrev pub live_of : Option ℕ → Option ℕ → Option ℕ → Option Command
+unfoldable pub live_of : Option ℕ → Option ℕ → Option ℕ → Option Command
 live_of (Some seed) (Some senders) (Some frames) = Some (Live seed senders frames)
 live_of (Some seed) (Some senders) None = None
 live_of (Some seed) None frames = None
@@ -35,7 +35,7 @@ HasCallsInRange (Live seed senders frames) = ((1 ≤ senders) × (senders ≤ 8)
 HasCallsInRange command = Unit {0}
 
 -- a command of one word
-abbrev pub word_command : List ℕ → Option Command
+unfoldable pub word_command : List ℕ → Option Command
 word_command word =
     if bytes_eq word (codes "replay") then Some Replay
     else (if bytes_eq word (codes "session") then Some Session
@@ -45,14 +45,29 @@ word_command word =
     else (if bytes_eq word (codes "--version") then Some Version else None)))))
 
 -- the help on the command that a word names
-abbrev pub help_on : List ℕ → Option Command
+unfoldable pub help_on : List ℕ → Option Command
 help_on word = option_map Help (topic_named word)
 
 -- a command of two words
-abbrev pub two_words_command : List ℕ → List ℕ → Option Command
+unfoldable pub two_words_command : List ℕ → List ℕ → Option Command
 two_words_command word option =
     if bytes_eq word (codes "replay") && bytes_eq option (codes "--pcap") then Some Capture
     else (if bytes_eq word (codes "help") then help_on option else None)
+
+-- a command of three words
+unfoldable pub soak_command : List ℕ → List ℕ → List ℕ → Option Command
+soak_command word seed calls =
+    if bytes_eq word (codes "soak")
+    then soak_of (number_within 0 (2 ^ 64 - 1) seed) (number_within 1 1000000 calls)
+    else None
+
+-- a command of four words
+unfoldable pub live_command : List ℕ → List ℕ → List ℕ → List ℕ → Option Command
+live_command word seed senders frames =
+    if bytes_eq word (codes "live")
+    then live_of (number_within 0 (2 ^ 64 - 1) seed) (number_within 1 8 senders)
+    (number_within 1 10000 frames)
+    else None
 
 -- `replay`, `session`, `uplink`, `frames`, `help`, `--version`, `replay --pcap`, `help COMMAND`,
 -- `soak SEED CALLS`, and `live SEED SENDERS FRAMES`
@@ -60,15 +75,8 @@ abbrev pub played_command_of : List (List ℕ) → Option Command
 played_command_of [] = None
 played_command_of (word ∷ []) = word_command word
 played_command_of (word ∷ option ∷ []) = two_words_command word option
-played_command_of (word ∷ seed ∷ calls ∷ []) =
-    if bytes_eq word (codes "soak")
-    then soak_of (number_within 0 (2 ^ 64 - 1) seed) (number_within 1 1000000 calls)
-    else None
-played_command_of (word ∷ seed ∷ senders ∷ frames ∷ []) =
-    if bytes_eq word (codes "live")
-    then live_of (number_within 0 (2 ^ 64 - 1) seed) (number_within 1 8 senders)
-    (number_within 1 10000 frames)
-    else None
+played_command_of (word ∷ seed ∷ calls ∷ []) = soak_command word seed calls
+played_command_of (word ∷ seed ∷ senders ∷ frames ∷ []) = live_command word seed senders frames
 played_command_of (word ∷ seed ∷ senders ∷ frames ∷ other ∷ words) = None
 
 -- a word that asks for help wherever it stands

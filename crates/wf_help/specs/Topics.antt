@@ -21,7 +21,7 @@ abbrev pub named_topics : List Topic
 named_topics = Replay ∷ Soak ∷ Live ∷ Session ∷ Uplink ∷ Frames ∷ Faults ∷ []
 
 -- the one that a word names
-abbrev pub topic_named : List ℕ → Option Topic
+unfoldable pub topic_named : List ℕ → Option Topic
 topic_named word = find (λ topic. bytes_eq (topic_word topic) word) named_topics
 
 -- the help on it, by the texts of src/texts.rt

@@ -103,8 +103,10 @@ fn say_unknown(command: Command, word: &[u8], out: &mut Line) {
 // Appends what an argument of an event of an uplink is to be: two of them are judged by the command itself,
 // the octets of a frame and the width of a channel.
 fn say_uplink_arg(kind: FaultKind, form: &'static [u8], args: &[Arg], line: &[u8], out: &mut Line) {
-    match (kind, form, next_word(line), third_word(line)) {
-        (FaultKind::Number, b"frame HEX", Some((word, _)), _) => say(
+    let is_hex = kind == FaultKind::Number && form == b"frame HEX".as_slice();
+    let is_width = kind == FaultKind::Word && form == b"rate S MCS MHZ GUARD".as_slice();
+    match (next_word(line), third_word(line)) {
+        (Some((word, _)), _) if is_hex => say(
             &[
                 b"\"",
                 word,
@@ -112,8 +114,7 @@ fn say_uplink_arg(kind: FaultKind, form: &'static [u8], args: &[Arg], line: &[u8
             ],
             out,
         ),
-        (FaultKind::Word, b"rate S MCS MHZ GUARD", _, Some(word))
-            if word != b"20".as_slice() && word != b"40".as_slice() => {
+        (_, Some(word)) if is_width && word != b"20".as_slice() && word != b"40".as_slice() => {
             say(&[b"\"", word, b"\": MHZ is 20 or 40"], out)
         }
         _ => say_arg(kind, form, args, line, out),

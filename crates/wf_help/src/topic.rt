@@ -6,7 +6,7 @@ ghost use Rattle.wf_help.specs.Topics.{help_text, topic_word, topic_named};
 use crate::texts;
 
 /// What help is asked for: all commands, one, or the faults of inputs.
-#[derive(Clone, Copy, Debug, PartialEq, Eq)]
+#[derive(Clone, Copy)]
 pub enum Topic {
     Overview,
     Replay,
@@ -47,6 +47,7 @@ impl Topic {
     }
 
     /// The one that a word names; none names all commands.
+    #[tactic(auto, unfolding(crate::specs::Topics::topic_named))]
     pub fn named(word: &[u8]) -> Option<Topic>
         ensures { result ≡ topic_named word.now }
     {

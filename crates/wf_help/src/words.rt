@@ -2,14 +2,14 @@
 
 ghost use Rattle.std.specs.Prelude.{◌≡◌, ◌≤◌, IfSome, map, string_bytes};
 ghost use Rattle.std.specs.List.{list_any};
-ghost use Rattle.wf_help.specs.Commands.{number_within, soak_of, live_of, asks_help, topic_among, help_on, played_command_of, command_of, HasCallsInRange};
+ghost use Rattle.wf_help.specs.Commands.{number_within, soak_of, live_of, asks_help, topic_among, help_on, word_command, two_words_command, soak_command, live_command, played_command_of, command_of, HasCallsInRange};
 
 use crate::Topic;
 use wf_io::value_of;
 use wf_trace::is_plain_number;
 
 /// What the words of the command line ask for.
-#[derive(Clone, Copy, Debug, PartialEq, Eq)]
+#[derive(Clone, Copy)]
 pub enum Command {
     /// Replay the trace on standard input.
     Replay,
@@ -39,6 +39,7 @@ pub enum Command {
 }
 
 /// The number that a word is, where it lies between two.
+#[tactic(auto, unfolding(crate::specs::Commands::number_within))]
 fn number_within(low: u64, high: u64, word: &[u8]) -> Option<u64>
     ensures value { result ≡ number_within low high word.now }
     ensures within { IfSome result (λ n. (low ≤ n) × (n ≤ high)) }
@@ -58,6 +59,7 @@ fn number_within(low: u64, high: u64, word: &[u8]) -> Option<u64>
     }
 }
 
+#[tactic(auto, unfolding(crate::specs::Commands::soak_of))]
 fn soak_of(seed: Option<u64>, calls: Option<u64>) -> Option<Command>
     requires { IfSome calls (λ n. (1 ≤ n) × (n ≤ 1000000)) }
     ensures command { result ≡ soak_of seed calls }
@@ -72,6 +74,7 @@ fn soak_of(seed: Option<u64>, calls: Option<u64>) -> Option<Command>
     }
 }
 
+#[tactic(auto, unfolding(crate::specs::Commands::live_of))]
 fn live_of(seed: Option<u64>, senders: Option<u64>, frames: Option<u64>) -> Option<Command>
     requires senders { IfSome senders (λ n. (1 ≤ n) × (n ≤ 8)) }
     requires frames { IfSome frames (λ n. (1 ≤ n) × (n ≤ 10000)) }
@@ -119,8 +122,10 @@ fn topic_among(words: &[String]) -> Topic
 }
 
 // The help on the command that a word names.
+#[tactic(auto, unfolding(crate::specs::Commands::help_on))]
 fn help_on(word: &[u8]) -> Option<Command>
-    ensures { result ≡ help_on word.now }
+    ensures command { result ≡ help_on word.now }
+    ensures calls { IfSome result HasCallsInRange }
 {
     match Topic::named(word) {
         Some(topic) => Some(Command::Help(topic)),
@@ -146,25 +151,86 @@ fn played_command_from(words: &[String]) -> Option<Command>
     ensures calls { IfSome result HasCallsInRange }
 {
     match words {
-        [word] if word.as_str() == "help" => Some(Command::Help(Topic::Overview)),
-        [word] if word.as_str() == "--version" => Some(Command::Version),
-        [word] if word.as_str() == "replay" => Some(Command::Replay),
-        [word] if word.as_str() == "session" => Some(Command::Session),
-        [word] if word.as_str() == "uplink" => Some(Command::Uplink),
-        [word] if word.as_str() == "frames" => Some(Command::Frames),
-        [word, option] if word.as_str() == "replay" && option.as_str() == "--pcap" => {
-            Some(Command::Capture)
-        }
-        [word, topic] if word.as_str() == "help" => help_on(topic.as_bytes()),
-        [word, seed, calls] if word.as_str() == "soak" => soak_of(
-            number_within(0, u64::MAX, seed.as_bytes()),
-            number_within(1, 1_000_000, calls.as_bytes()),
-        ),
-        [word, seed, senders, frames] if word.as_str() == "live" => live_of(
-            number_within(0, u64::MAX, seed.as_bytes()),
-            number_within(1, 8, senders.as_bytes()),
-            number_within(1, 10_000, frames.as_bytes()),
+        [word] => word_command(word.as_bytes()),
+        [word, option] => two_words_command(word.as_bytes(), option.as_bytes()),
+        [word, seed, calls] => soak_command(word.as_bytes(), seed.as_bytes(), calls.as_bytes()),
+        [word, seed, senders, frames] => live_command(
+            word.as_bytes(),
+            seed.as_bytes(),
+            senders.as_bytes(),
+            frames.as_bytes(),
         ),
         _ => None,
+    }
+}
+
+// A command of one word.
+#[tactic(auto, unfolding(crate::specs::Commands::word_command))]
+fn word_command(word: &[u8]) -> Option<Command>
+    ensures command { result ≡ word_command word.now }
+    ensures calls { IfSome result HasCallsInRange }
+{
+    if word == b"replay".as_slice() {
+        Some(Command::Replay)
+    } else if word == b"session".as_slice() {
+        Some(Command::Session)
+    } else if word == b"uplink".as_slice() {
+        Some(Command::Uplink)
+    } else if word == b"frames".as_slice() {
+        Some(Command::Frames)
+    } else if word == b"help".as_slice() {
+        Some(Command::Help(Topic::Overview))
+    } else if word == b"--version".as_slice() {
+        Some(Command::Version)
+    } else {
+        None
+    }
+}
+
+// A command of two words.
+#[tactic(auto, unfolding(crate::specs::Commands::two_words_command))]
+fn two_words_command(word: &[u8], option: &[u8]) -> Option<Command>
+    ensures command { result ≡ two_words_command word.now option.now }
+    ensures calls { IfSome result HasCallsInRange }
+{
+    if word == b"replay".as_slice() && option == b"--pcap".as_slice() {
+        Some(Command::Capture)
+    } else if word == b"help".as_slice() {
+        help_on(option)
+    } else {
+        None
+    }
+}
+
+// A command of three words.
+#[tactic(auto, unfolding(crate::specs::Commands::soak_command))]
+fn soak_command(word: &[u8], seed: &[u8], calls: &[u8]) -> Option<Command>
+    ensures command { result ≡ soak_command word.now seed.now calls.now }
+    ensures calls { IfSome result HasCallsInRange }
+{
+    if word == b"soak".as_slice() {
+        soak_of(
+            number_within(0, u64::MAX, seed),
+            number_within(1, 1_000_000, calls),
+        )
+    } else {
+        None
+    }
+}
+
+// A command of four words.
+#[tactic(auto, unfolding(crate::specs::Commands::live_command))]
+fn live_command(word: &[u8], seed: &[u8], senders: &[u8], frames: &[u8]) -> Option<Command>
+    ensures command { result ≡ live_command word.now seed.now senders.now frames.now }
+    ensures calls { IfSome result HasCallsInRange }
+{
+    if word == b"live".as_slice() {
+        live_of(
+            number_within(0, u64::MAX, seed),
+            number_within(1, 8, senders),
+            number_within(1, 10_000, frames),
+        )
+    } else {
+        None
     }
 }
