@@ -8,6 +8,3 @@ mod steps;
 
 pub use peak::Peak;
 pub use steps::Steps;
-
-#[cfg(test)]
-mod tests;

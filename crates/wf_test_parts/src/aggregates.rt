@@ -1,5 +1,6 @@
 //! Aggregates that are full, at their edges.
 
+use crate::alike::same;
 use wf_air_fit::Room;
 use wf_air_time::Rate;
 
@@ -38,7 +39,11 @@ fn full_at_its_edges(rt: HostRuntime) {
         assert!(rt; !room.add(*last + 1), "at {place}");
         assert!(rt; room.add(*last), "at {place}");
         assert!(rt; room.count() >= 1);
-        assert_eq!(rt; (room.count(), room.air()), (*long + 2, *air), "at {place}");
+        same(
+            &rt,
+            (place, room.count(), room.air()),
+            (place, *long + 2, *air),
+        );
     }
 }
 
@@ -48,11 +53,11 @@ fn count_is_limited(rt: HostRuntime) {
     // 56
     let rate = Rate::ht(7, 20, false).expect(&rt, "a rate");
     let mut room = Room::new(rate, 3, 70, 4000, true);
-    assert_eq!(rt; room.count(), 0);
+    same(&rt, room.count(), 0);
     for _ in 0..70 {
         assert!(rt; room.add(64));
     }
     assert!(rt; !room.add(64));
     assert!(rt; room.count() >= 1);
-    assert_eq!(rt; (room.count(), room.air()), (70, 956));
+    same(&rt, (room.count(), room.air()), (70, 956));
 }

@@ -1,5 +1,6 @@
 //! Bitmaps of block acknowledgements, octet by octet.
 
+use crate::alike::same;
 use wf_octets_bits::{Bits64, Bits256};
 
 /// Bitmaps of eight octets, each with its word and two of its offsets.
@@ -19,17 +20,17 @@ const BITMAPS: [([u8; 8], u64, u8, u8); 4] = [
 fn octets_show_the_least_significant_bit_first(rt: HostRuntime) {
     for (octets, word, first, last) in BITMAPS {
         let narrow = Bits64::of_octets(octets);
-        assert_eq!(rt; narrow.word(), word);
-        assert!(rt; narrow.has(first) && narrow.has(last));
-        assert_eq!(rt; narrow.count(), if first == last { 1 } else { 2 });
-        assert_eq!(rt; narrow.to_octets(), octets);
+        same(&rt, narrow.word(), word);
+        same(&rt, (narrow.has(first), narrow.has(last)), (true, true));
+        same(&rt, narrow.count(), if first == last { 1 } else { 2 });
+        same(&rt, narrow.to_octets(), octets);
 
         let mut wide = Bits256::empty();
         wide.set(192 + u16::from(first));
         wide.set(192 + u16::from(last));
-        assert_eq!(rt; wide.word(3), word);
-        assert_eq!(rt; &wide.to_octets()[24..], octets.as_slice());
-        assert_eq!(rt; Bits256::of_octets(wide.to_octets()), wide);
+        same(&rt, wide.word(3), word);
+        same(&rt, &wide.to_octets()[24..], octets.as_slice());
+        same(&rt, Bits256::of_octets(wide.to_octets()), wide);
     }
 }
 
@@ -40,16 +41,17 @@ fn offsets_move_down_across_words(rt: HostRuntime) {
         wide.set(i);
     }
     wide.shift(63);
-    assert_eq!(rt; wide.count(), 4);
-    assert!(rt; wide.has(0) && wide.has(1) && wide.has(67) && wide.has(192));
+    same(&rt, wide.count(), 4);
+    let set = [wide.has(0), wide.has(1), wide.has(67), wide.has(192)];
+    same(&rt, set, [true; 4]);
     wide.shift(256);
-    assert_eq!(rt; wide, Bits256::empty());
+    same(&rt, wide, Bits256::empty());
 
     let mut narrow = Bits64::empty();
     narrow.set(5);
     narrow.set(63);
     narrow.shift(6);
-    assert_eq!(rt; narrow.word(), 1 << 57);
+    same(&rt, narrow.word(), 1 << 57);
     narrow.shift(64);
-    assert_eq!(rt; narrow, Bits64::empty());
+    same(&rt, narrow, Bits64::empty());
 }

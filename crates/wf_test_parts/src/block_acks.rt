@@ -1,5 +1,6 @@
 //! Octets of block acknowledgements and of requests for them.
 
+use crate::alike::same;
 use wf_octets_bits::{Bits64, Bits256};
 use wf_octets_block::{
     Ba, Bar, BlockFault, WideBa, decode_ba, decode_bar, decode_wide, encode_ba, encode_bar,
@@ -32,8 +33,8 @@ fn a_request_has_its_octets(rt: HostRuntime) {
     };
     let mut out = [0xff; 20];
     encode_bar(&bar, &mut out);
-    assert_eq!(rt; out, REQUEST);
-    assert_eq!(rt; decode_bar(&REQUEST), Ok(bar));
+    same(&rt, out, REQUEST);
+    same(&rt, decode_bar(&REQUEST), Ok(bar));
 }
 
 #[test]
@@ -50,8 +51,8 @@ fn an_answer_has_its_octets(rt: HostRuntime) {
     };
     let mut out = [0xff; 28];
     encode_ba(&ba, &mut out);
-    assert_eq!(rt; out, ANSWER);
-    assert_eq!(rt; decode_ba(&ANSWER), Ok(ba));
+    same(&rt, out, ANSWER);
+    same(&rt, decode_ba(&ANSWER), Ok(ba));
 }
 
 #[test]
@@ -70,15 +71,15 @@ fn a_wide_answer_has_its_octets(rt: HostRuntime) {
     };
     let mut out = [0xff; 52];
     encode_wide(&ba, &mut out);
-    assert_eq!(rt; &out[..16], &ANSWER[..16]);
-    assert_eq!(rt; &out[16..21], [0x0c, 0x50, 0xf0, 0xff, 0x01].as_slice());
-    assert_eq!(rt; out[29], 0x20);
-    assert_eq!(rt; out[51], 0x80);
-    assert_eq!(rt; decode_wide(&out), Ok(ba));
+    same(&rt, &out[..16], &ANSWER[..16]);
+    same(&rt, &out[16..21], [0x0c, 0x50, 0xf0, 0xff, 0x01].as_slice());
+    same(&rt, out[29], 0x20);
+    same(&rt, out[51], 0x80);
+    same(&rt, decode_wide(&out), Ok(ba));
     out[16] = 0x04;
-    assert_eq!(rt; decode_wide(&out), Err(BlockFault::NotWide));
+    same(&rt, decode_wide(&out), Err(BlockFault::NotWide));
     out[18] = 0xf3;
-    assert_eq!(rt; decode_wide(&out), Err(BlockFault::NotWide));
+    same(&rt, decode_wide(&out), Err(BlockFault::NotWide));
 }
 
 /// A place in the answer, the octet put there, and the fault.
@@ -97,22 +98,26 @@ fn the_first_fault_is_told(rt: HostRuntime) {
         if place < 28 {
             octets[place] = octet;
         }
-        assert_eq!(rt; decode_ba(&octets), Err(fault));
+        same(&rt, decode_ba(&octets), Err(fault));
     }
-    assert_eq!(rt;
+    same(
+        &rt,
         decode_ba(&ANSWER[..27]),
-        Err(BlockFault::Length { need: 28, have: 27 })
+        Err(BlockFault::Length { need: 28, have: 27 }),
     );
-    assert_eq!(rt;
+    same(
+        &rt,
         decode_bar(&ANSWER),
-        Err(BlockFault::Length { need: 20, have: 28 })
+        Err(BlockFault::Length { need: 20, have: 28 }),
     );
-    assert_eq!(rt;
+    same(
+        &rt,
         decode_bar(&REQUEST[..19]),
-        Err(BlockFault::Length { need: 20, have: 19 })
+        Err(BlockFault::Length { need: 20, have: 19 }),
     );
-    assert_eq!(rt;
+    same(
+        &rt,
         decode_wide(&ANSWER),
-        Err(BlockFault::Length { need: 52, have: 28 })
+        Err(BlockFault::Length { need: 52, have: 28 }),
     );
 }

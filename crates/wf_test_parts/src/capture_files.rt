@@ -1,5 +1,6 @@
 //! Headers as other programs write them, and each fault.
 
+use crate::alike::same;
 use std::alloc::AllocError;
 use wf_io::Kept;
 use wf_pcap::*;
@@ -38,9 +39,9 @@ fn a_capture_of_one_frame_begins_so(rt: HostRuntime) -> Result<(), AllocError> {
     assert!(rt; write_head(&mut sink).is_ok());
     assert!(rt; write_packet(&mut sink, 0, &frame).is_ok());
     assert_eq!(rt; sink.octets().len(), 1566);
-    assert_eq!(rt; &sink.octets()[..24], HEAD.as_slice());
-    assert_eq!(rt; &sink.octets()[24..40], PACKET.as_slice());
-    assert_eq!(rt; &sink.octets()[40..42], [0x88, 2].as_slice());
+    same(&rt, &sink.octets()[..24], HEAD.as_slice());
+    same(&rt, &sink.octets()[24..40], PACKET.as_slice());
+    same(&rt, &sink.octets()[40..42], [0x88, 2].as_slice());
     Ok(())
 }
 
@@ -50,33 +51,35 @@ fn a_packet_has_its_time(rt: HostRuntime) -> Result<(), AllocError> {
     let mut sink = Kept::new(rt.alloc(), 18, 18, failing)?;
     assert!(rt; write_packet(&mut sink, 3_000_005, &[0xd4, 0]).is_ok());
     let octets = [3, 0, 0, 0, 5, 0, 0, 0, 2, 0, 0, 0, 2, 0, 0, 0, 0xd4, 0];
-    assert_eq!(rt; sink.octets(), octets.as_slice());
+    same(&rt, sink.octets(), octets.as_slice());
     assert!(rt; write_packet(&mut sink, 0, &[0xd4, 0]).is_err());
     Ok(())
 }
 
 #[test]
 fn headers_are_read(rt: HostRuntime) {
-    assert_eq!(rt; read_head(&HEAD), Ok(LITTLE));
-    assert_eq!(rt; read_head(&BIG_HEAD), Ok(BIG));
-    assert_eq!(rt;
+    same(&rt, read_head(&HEAD), Ok(LITTLE));
+    same(&rt, read_head(&BIG_HEAD), Ok(BIG));
+    same(
+        &rt,
         read_packet(LITTLE, &PACKET),
         Ok(Packet {
             seconds: 0,
             fraction: 0,
             captured: 1526,
-            original: 1526
-        })
+            original: 1526,
+        }),
     );
     let octets = [0, 0, 1, 0, 0, 0, 0, 7, 0, 4, 0, 0, 0, 5, 0, 0];
-    assert_eq!(rt;
+    same(
+        &rt,
         read_packet(BIG, &octets),
         Ok(Packet {
             seconds: 256,
             fraction: 7,
             captured: 262_144,
-            original: 327_680
-        })
+            original: 327_680,
+        }),
     );
 }
 
@@ -103,22 +106,25 @@ fn the_first_fault_is_told(rt: HostRuntime) {
         if place < 24 {
             octets[place] = octet;
         }
-        assert_eq!(rt; read_head(&octets), Err(fault));
+        same(&rt, read_head(&octets), Err(fault));
     }
-    assert_eq!(rt;
+    same(
+        &rt,
         read_head(&HEAD[..23]),
-        Err(PcapFault::Short { need: 24, have: 23 })
+        Err(PcapFault::Short { need: 24, have: 23 }),
     );
-    assert_eq!(rt;
+    same(
+        &rt,
         read_packet(LITTLE, &PACKET[..15]),
-        Err(PcapFault::Short { need: 16, have: 15 })
+        Err(PcapFault::Short { need: 16, have: 15 }),
     );
     let mut long = PACKET;
     long[8] = 1;
     long[9] = 0;
     long[10] = 4;
-    assert_eq!(rt;
+    same(
+        &rt,
         read_packet(LITTLE, &long),
-        Err(PcapFault::Long { captured: 262_145 })
+        Err(PcapFault::Long { captured: 262_145 }),
     );
 }

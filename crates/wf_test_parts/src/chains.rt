@@ -2,6 +2,7 @@
 
 ghost use Rattle.std.specs.Prelude.{◌+◌, ◌<◌, ◌≤◌, length};
 
+use crate::alike::same;
 use std::alloc::{AllocError, Global};
 use std::marker::Send;
 use wf_frame::Frame;
@@ -37,11 +38,11 @@ fn parcels_come_in_order(rt: HostRuntime) -> Result<(), AllocError> {
     push(&mut more, alloc, 4)?;
     push(&mut more, alloc, 5)?;
     chain.append(&mut more);
-    assert_eq!(rt; more.len(), 0);
-    assert_eq!(rt; chain.len(), 6);
+    same(&rt, more.len(), 0);
+    same(&rt, chain.len(), 6);
     for id in 0..6 {
         let popped = chain.pop_front().map(|parcel| parcel.into_frame().id());
-        assert_eq!(rt; popped, Some(id));
+        same(&rt, popped, Some(id));
     }
     assert!(rt; chain.pop_front().is_none());
     Ok(())
@@ -50,12 +51,12 @@ fn parcels_come_in_order(rt: HostRuntime) -> Result<(), AllocError> {
 #[test]
 fn a_parcel_keeps_its_frame(rt: HostRuntime) -> Result<(), AllocError> {
     let mut parcel = sample(rt.alloc(), 4)?;
-    assert_eq!(rt; parcel.frame().id(), 4);
+    same(&rt, parcel.frame().id(), 4);
     parcel.frame_mut().mark(9, 3);
     let frame = parcel.into_frame();
-    assert_eq!(rt; frame.id(), 9);
-    assert_eq!(rt; frame.stamp(), 3);
-    assert_eq!(rt; frame.len(), 40);
+    same(&rt, frame.id(), 9);
+    same(&rt, frame.stamp(), 3);
+    same(&rt, frame.len(), 40);
     Ok(())
 }
 

@@ -1,5 +1,6 @@
 //! Durations of data and of control frames, and what an exchange is charged.
 
+use crate::alike::same;
 use wf_air_time::*;
 
 // For each MCS from 0 on, at 20 MHz long and short and at 40 MHz long and short: the rate in
@@ -84,14 +85,14 @@ fn durations_of_each_rate(rt: HostRuntime) {
         let mcs = (place / 4) as u8;
         let mhz = if place % 4 < 2 { 20 } else { 40 };
         let rate = Rate::ht(mcs, mhz, place % 2 == 1).expect(&rt, "a rate");
-        assert_eq!(rt; rate.kbps(), *kbps, "at {place}");
+        same(&rt, (place, rate.kbps()), (place, *kbps));
         let found = [
             rate.data_time(1),
             rate.data_time(26),
             rate.data_time(1534),
             rate.data_time(65535),
         ];
-        assert_eq!(rt; found, *times, "at {place}");
+        same(&rt, (place, found), (place, *times));
     }
 }
 
@@ -111,7 +112,7 @@ const VHT_TIMES: [(u8, u8, bool, u8, u32, u32); 5] = [
 fn durations_of_vht(rt: HostRuntime) {
     for (mcs, mhz, short, streams, octets, time) in VHT_TIMES.iter() {
         let rate = Rate::vht(*mcs, *mhz, *short, *streams).expect(&rt, "a rate");
-        assert_eq!(rt; rate.data_time(*octets), *time, "of {octets}");
+        same(&rt, (octets, rate.data_time(*octets)), (octets, *time));
     }
     for (mcs, mhz, streams) in [
         (9, 20, 1),
@@ -122,10 +123,10 @@ fn durations_of_vht(rt: HostRuntime) {
         (0, 60, 1),
         (0, 20, 9),
     ] {
-        assert_eq!(rt;
-            Rate::vht(mcs, mhz, false, streams),
-            Err(BadRate),
-            "at {mcs}, {mhz} and {streams}"
+        same(
+            &rt,
+            (mcs, mhz, streams, Rate::vht(mcs, mhz, false, streams)),
+            (mcs, mhz, streams, Err(BadRate)),
         );
     }
 }
@@ -143,13 +144,13 @@ const HE_TIMES: [(u8, u8, u16, u8, u32, u32); 5] = [
 fn durations_of_he(rt: HostRuntime) {
     for (mcs, mhz, guard, streams, octets, time) in HE_TIMES.iter() {
         let rate = Rate::he(*mcs, *mhz, *guard, *streams).expect(&rt, "a rate");
-        assert_eq!(rt; rate.data_time(*octets), *time, "of {octets}");
+        same(&rt, (octets, rate.data_time(*octets)), (octets, *time));
     }
     for (mcs, guard, streams) in [(12, 800, 1), (11, 400, 1), (11, 800, 0), (11, 800, 9)] {
-        assert_eq!(rt;
-            Rate::he(mcs, 160, guard, streams),
-            Err(BadRate),
-            "at {mcs}, {guard} and {streams}"
+        same(
+            &rt,
+            (mcs, guard, streams, Rate::he(mcs, 160, guard, streams)),
+            (mcs, guard, streams, Err(BadRate)),
         );
     }
 }
@@ -157,17 +158,17 @@ fn durations_of_he(rt: HostRuntime) {
 #[test]
 fn rates_and_charges(rt: HostRuntime) {
     for (mcs, mhz) in [(16, 20), (255, 40), (0, 0), (7, 80), (15, 21)] {
-        assert_eq!(rt;
-            Rate::ht(mcs, mhz, false),
-            Err(BadRate),
-            "at {mcs} and {mhz}"
+        same(
+            &rt,
+            (mcs, mhz, Rate::ht(mcs, mhz, false)),
+            (mcs, mhz, Err(BadRate)),
         );
     }
     let lowest = Rate::lowest();
-    assert_eq!(rt; Rate::ht(0, 20, false), Ok(lowest));
+    same(&rt, Rate::ht(0, 20, false), Ok(lowest));
     // a single frame of 2304 octets at its slowest
-    assert_eq!(rt; lowest.data_time(2338), 2920);
-    assert_eq!(rt; lowest.data_charge(1534, false), 1976);
-    assert_eq!(rt; lowest.data_charge(1534, true), 1984);
-    assert_eq!(rt; (request_charge(false), request_charge(true)), (80, 88));
+    same(&rt, lowest.data_time(2338), 2920);
+    same(&rt, lowest.data_charge(1534, false), 1976);
+    same(&rt, lowest.data_charge(1534, true), 1984);
+    same(&rt, (request_charge(false), request_charge(true)), (80, 88));
 }

@@ -1,20 +1,32 @@
 //! Each call once, with ample memory.
 
+use crate::alike::same;
 use std::alloc::AllocError;
 use wf_frame::{Cause, Class, Config, Fate, Field, Frame, Ids, Pairs, tid_number};
 
 #[test]
 fn a_sample_frame_has_its_numbers_and_its_body(rt: HostRuntime) -> Result<(), AllocError> {
     let mut frame = Frame::sample(rt.alloc(), 3, 5, 254, 2304)?;
-    assert!(rt; frame.len() == 2304);
+    same(&rt, frame.len(), 2304);
     let short = Frame::sample(rt.alloc(), 3, 5, 254, 4)?;
-    assert!(rt; short.body() == [254, 255, 0, 1].as_slice());
-    assert!(rt; frame.station() == 3 && frame.tid() == 5 && frame.flow() == 254);
-    assert!(rt; frame.id() == 0 && frame.stamp() == 0 && frame.fate() == Fate::Held);
+    same(&rt, short.body(), [254, 255, 0, 1].as_slice());
+    same(
+        &rt,
+        (frame.station(), frame.tid(), frame.flow()),
+        (3, 5, 254),
+    );
+    same(
+        &rt,
+        (frame.id(), frame.stamp(), frame.fate()),
+        (0, 0, Fate::Held),
+    );
     frame.mark(7, 9);
     frame.settle(Fate::Dropped(Cause::Codel));
-    assert!(rt;
-        frame.id() == 7 && frame.stamp() == 9 && frame.fate() == Fate::Dropped(Cause::Codel)
+    let codel = Fate::Dropped(Cause::Codel);
+    same(
+        &rt,
+        (frame.id(), frame.stamp(), frame.fate()),
+        (7, 9, codel),
     );
     Ok(())
 }
@@ -32,33 +44,24 @@ fn a_frame_has_a_source_and_a_tag(rt: HostRuntime) -> Result<(), AllocError> {
 #[test]
 fn settings_are_checked_in_order(rt: HostRuntime) {
     let standard = Config::standard();
-    assert!(rt; standard.check() == None);
-    assert!(rt;
-        Config {
-            agg: 257,
-            ..standard
-        }
-        .check()
-            == Some(Field::Agg)
-    );
-    assert!(rt;
-        Config {
-            agg: 257,
-            calls: 0,
-            cap: 2999,
-            ..standard
-        }
-        .check()
-            == Some(Field::Agg)
-    );
-    assert!(rt;
-        Config {
-            stations: 0,
-            ..standard
-        }
-        .check()
-            == Some(Field::Stations)
-    );
+    same(&rt, standard.check(), None);
+    let one = Config {
+        agg: 257,
+        ..standard
+    };
+    let three = Config {
+        agg: 257,
+        calls: 0,
+        cap: 2999,
+        ..standard
+    };
+    let first = Config {
+        stations: 0,
+        ..standard
+    };
+    same(&rt, one.check(), Some(Field::Agg));
+    same(&rt, three.check(), Some(Field::Agg));
+    same(&rt, first.check(), Some(Field::Stations));
 }
 
 #[test]
@@ -68,8 +71,12 @@ fn fixed_lists_keep_what_is_pushed(rt: HostRuntime) {
     ids.push(4);
     ids.push(2);
     pairs.push((9, 4095));
-    assert!(rt; ids.len() == 2 && ids.at(1) == 2);
-    assert!(rt; pairs.len() == 1 && pairs.at(0) == (9, 4095));
-    assert!(rt; Class::of_tid(3) == Class::Be && Class::Vi.tids() == [4, 5]);
-    assert!(rt; Class::Vo.number() == 3 && tid_number(2, 5) == 21);
+    same(&rt, (ids.len(), ids.at(1)), (2, 2));
+    same(&rt, (pairs.len(), pairs.at(0)), (1, (9, 4095)));
+    same(
+        &rt,
+        (Class::of_tid(3), Class::Vi.tids()),
+        (Class::Be, [4, 5]),
+    );
+    same(&rt, (Class::Vo.number(), tid_number(2, 5)), (3, 21));
 }

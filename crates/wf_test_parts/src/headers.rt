@@ -2,6 +2,7 @@
 
 ghost use Rattle.wf_octets_header.specs.Layout.{IsPlain};
 
+use crate::alike::same;
 use wf_octets_header::{
     Header, HeaderFault, Kind, base_address, decode, encode, source_address, station_address,
 };
@@ -34,9 +35,9 @@ fn data() -> Header
 #[test]
 fn a_data_header_has_its_octets(rt: HostRuntime) {
     let mut out = [0xff; 26];
-    assert_eq!(rt; encode(&data(), &mut out), 26);
-    assert_eq!(rt; out, DATA);
-    assert_eq!(rt; decode(&DATA), Ok((data(), 26)));
+    same(&rt, encode(&data(), &mut out), 26);
+    same(&rt, out, DATA);
+    same(&rt, decode(&DATA), Ok((data(), 26)));
 }
 
 /// Frame Control and QoS Control as the standard has them, with what is read from them.
@@ -69,7 +70,7 @@ fn flags_are_read_and_free_bits_are_not(rt: HostRuntime) {
             tid,
             ..data()
         };
-        assert_eq!(rt; decode(&octets), Ok((wanted, 26)));
+        same(&rt, decode(&octets), Ok((wanted, 26)));
     }
 }
 
@@ -105,13 +106,13 @@ fn short_heads_are_read(rt: HostRuntime) {
         a2: station_address(0),
         ..ack()
     };
-    assert_eq!(rt; decode(&poll), Ok((wanted, 16)));
+    same(&rt, decode(&poll), Ok((wanted, 16)));
     let octets = [0xd4, 0x00, 0x00, 0x00, 2, 0, 0, 1, 0, 3];
-    assert_eq!(rt; decode(&octets), Ok((ack(), 10)));
+    same(&rt, decode(&octets), Ok((ack(), 10)));
     let mut out = [0xff; 26];
-    assert_eq!(rt; encode(&ack(), &mut out), 10);
-    assert_eq!(rt; &out[..10], octets.as_slice());
-    assert_eq!(rt; out[10], 0xff);
+    same(&rt, encode(&ack(), &mut out), 10);
+    same(&rt, &out[..10], octets.as_slice());
+    same(&rt, out[10], 0xff);
 }
 
 /// A place in the data header, the octet put there, and the fault.
@@ -134,18 +135,21 @@ fn the_first_fault_is_told(rt: HostRuntime) {
         if place < 26 {
             octets[place] = octet;
         }
-        assert_eq!(rt; decode(&octets), Err(fault));
+        same(&rt, decode(&octets), Err(fault));
     }
-    assert_eq!(rt;
+    same(
+        &rt,
         decode(&DATA[..1]),
-        Err(HeaderFault::Short { need: 2, have: 1 })
+        Err(HeaderFault::Short { need: 2, have: 1 }),
     );
-    assert_eq!(rt;
+    same(
+        &rt,
         decode(&DATA[..25]),
-        Err(HeaderFault::Short { need: 26, have: 25 })
+        Err(HeaderFault::Short { need: 26, have: 25 }),
     );
-    assert_eq!(rt;
+    same(
+        &rt,
         decode(&[0xd4, 0, 0]),
-        Err(HeaderFault::Short { need: 10, have: 3 })
+        Err(HeaderFault::Short { need: 10, have: 3 }),
     );
 }

@@ -7,6 +7,8 @@
 #[cfg(test)]
 mod aggregates;
 #[cfg(test)]
+mod alike;
+#[cfg(test)]
 mod bitmaps;
 #[cfg(test)]
 mod block_acks;
@@ -28,6 +30,8 @@ mod headers;
 mod marks;
 #[cfg(test)]
 mod members;
+#[cfg(test)]
+mod peaks;
 #[cfg(test)]
 mod peers;
 #[cfg(test)]

@@ -2,6 +2,7 @@
 
 ghost use Rattle.std.specs.Prelude.{◌<◌};
 
+use crate::alike::same;
 use std::alloc::AllocError;
 use wf_frame::Ids;
 use wf_octets_bits::{Bits64, Bits256};
@@ -73,19 +74,28 @@ fn hostile_octets_are_refused(rt: HostRuntime) -> Result<(), AllocError> {
     let mut peer = Peer::new(rt.alloc(), 0)?;
     peer.reset(Seq12::of(100), 64);
     let short = HeaderFault::Short { need: 2, have: 0 };
-    assert_eq!(rt; received(&mut peer, &[], 1), Err(PeerFault::Header(short)));
+    same(
+        &rt,
+        received(&mut peer, &[], 1),
+        Err(PeerFault::Header(short)),
+    );
     for (place, octet, fault) in FAULTS {
         let mut octets = DATA;
         if place < 26 {
             octets[place] = octet;
         }
-        assert_eq!(rt; received(&mut peer, &octets, 1), Err(fault));
+        same(&rt, received(&mut peer, &octets, 1), Err(fault));
     }
-    assert_eq!(rt; received(&mut peer, &ANSWER, 1), Err(PeerFault::Kind(148)));
+    same(
+        &rt,
+        received(&mut peer, &ANSWER, 1),
+        Err(PeerFault::Kind(148)),
+    );
     let length = BlockFault::Length { need: 20, have: 19 };
-    assert_eq!(rt;
+    same(
+        &rt,
         received(&mut peer, &REQUEST[..19], 1),
-        Err(PeerFault::Block(length))
+        Err(PeerFault::Block(length)),
     );
     Ok(())
 }
@@ -108,13 +118,14 @@ fn last_of_64() -> Ba {
 fn a_far_number_moves_the_window(rt: HostRuntime) -> Result<(), AllocError> {
     let mut peer = Peer::new(rt.alloc(), 0)?;
     peer.reset(Seq12::of(100), 64);
-    assert_eq!(rt;
+    same(
+        &rt,
         received(&mut peer, &data([0xc0, 0x44], 0), 5),
-        Ok((0, None))
+        Ok((0, None)),
     );
-    assert_eq!(rt; answered(&peer), Ok(last_of_64()));
-    assert_eq!(rt; received(&mut peer, &DATA, 6), Ok((0, Some(6))));
-    assert_eq!(rt; answered(&peer), Ok(last_of_64()));
+    same(&rt, answered(&peer), Ok(last_of_64()));
+    same(&rt, received(&mut peer, &DATA, 6), Ok((0, Some(6))));
+    same(&rt, answered(&peer), Ok(last_of_64()));
     Ok(())
 }
 
@@ -122,16 +133,18 @@ fn a_far_number_moves_the_window(rt: HostRuntime) -> Result<(), AllocError> {
 fn a_request_releases_what_is_stored(rt: HostRuntime) -> Result<(), AllocError> {
     let mut peer = Peer::new(rt.alloc(), 0)?;
     peer.reset(Seq12::of(100), 64);
-    assert_eq!(rt;
+    same(
+        &rt,
         received(&mut peer, &data([0x50, 0x06], 0), 1),
-        Ok((0, None))
+        Ok((0, None)),
     );
-    assert_eq!(rt; received(&mut peer, &REQUEST, 2), Ok((1, None)));
+    same(&rt, received(&mut peer, &REQUEST, 2), Ok((1, None)));
     let (len, out) = written(&peer, 0);
-    assert_eq!(rt; len, 28);
-    assert_eq!(rt;
+    same(&rt, len, 28);
+    same(
+        &rt,
         &out[16..29],
-        [0x04, 0, 0x60, 0x06, 0, 0, 0, 0, 0, 0, 0, 0, 0xff].as_slice()
+        [0x04, 0, 0x60, 0x06, 0, 0, 0, 0, 0, 0, 0, 0, 0xff].as_slice(),
     );
     Ok(())
 }
@@ -154,13 +167,13 @@ fn a_wide_window_has_a_wide_answer(rt: HostRuntime) -> Result<(), AllocError> {
     peer.reset(Seq12::of(100), 256);
     let mut octets = data([0x40, 0x15], 7);
     octets[9] = 3;
-    assert_eq!(rt; received(&mut peer, &octets, 1), Ok((0, None)));
+    same(&rt, received(&mut peer, &octets, 1), Ok((0, None)));
     let mut bits = Bits256::empty();
     bits.set(240);
     let (len, out) = written(&peer, 7);
-    assert_eq!(rt; len, 52);
-    assert_eq!(rt; decode_wide(&out), Ok(wide(7, bits)));
+    same(&rt, len, 52);
+    same(&rt, decode_wide(&out), Ok(wide(7, bits)));
     let (_, out) = written(&peer, 6);
-    assert_eq!(rt; decode_wide(&out), Ok(wide(6, Bits256::empty())));
+    same(&rt, decode_wide(&out), Ok(wide(6, Bits256::empty())));
     Ok(())
 }

@@ -1,5 +1,6 @@
 //! A recipient's scoreboard.
 
+use crate::alike::same;
 use wf_octets_seq12::Seq12;
 use wf_recv_agreement::Score;
 
@@ -10,16 +11,16 @@ fn a_jump_forgets_what_leaves_the_window(rt: HostRuntime) {
     score.arrive(Seq12::of(0));
     score.arrive(Seq12::of(100));
     let (start, bits) = score.answer();
-    assert_eq!(rt; start.raw(), 37);
-    assert_eq!(rt; bits.word(0), 0x8000_0000_0000_0000);
-    assert_eq!(rt; bits.count(), 1);
+    same(&rt, start.raw(), 37);
+    same(&rt, bits.word(0), 0x8000_0000_0000_0000);
+    same(&rt, bits.count(), 1);
 
     score.bar(Seq12::of(200));
     let (start, bits) = score.answer();
-    assert_eq!(rt; start.raw(), 200);
-    assert_eq!(rt; bits.count(), 0);
+    same(&rt, start.raw(), 200);
+    same(&rt, bits.count(), 0);
 
     score.bar(Seq12::of(199));
-    assert_eq!(rt; score.answer().0.raw(), 200);
-    assert_eq!(rt; score.size(), 64);
+    same(&rt, score.answer().0.raw(), 200);
+    same(&rt, score.size(), 64);
 }

@@ -1,5 +1,6 @@
 //! Sequence numbers round the wrap.
 
+use crate::alike::same;
 use wf_octets_seq12::Seq12;
 
 /// Numbers round the wrap at 4096: self, base, how far ahead, whether newer, whether in the
@@ -21,10 +22,10 @@ fn numbers_compare_across_the_wrap(rt: HostRuntime) {
     for (number, base, ahead, newer, inside) in CASES {
         let number = Seq12::of(number);
         let base = Seq12::of(base + 3 * 4096);
-        assert_eq!(rt; number.ahead(base), ahead);
-        assert_eq!(rt; number.is_newer(base), newer);
-        assert_eq!(rt; number.in_window(base, 64), inside);
-        assert_eq!(rt; base.plus(ahead), number);
+        same(&rt, number.ahead(base), ahead);
+        same(&rt, number.is_newer(base), newer);
+        same(&rt, number.in_window(base, 64), inside);
+        same(&rt, base.plus(ahead), number);
     }
-    assert_eq!(rt; Seq12::of(4095).plus(65535).raw(), 4094);
+    same(&rt, Seq12::of(4095).plus(65535).raw(), 4094);
 }

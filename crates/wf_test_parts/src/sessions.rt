@@ -1,5 +1,6 @@
 ghost use Rattle.wf_session.specs.Layout.{CanBeWritten};
 
+use crate::alike::same;
 use wf_octets_seq12::Seq12;
 use wf_session::{
     Accept, Action, ActionFault, Agreement, Offer, OfferFault, decode_action, encode_action,
@@ -35,21 +36,25 @@ fn response() -> Action
 #[test]
 fn messages_have_their_octets(rt: HostRuntime) {
     let mut out = [0xff; 9];
-    assert_eq!(rt; encode_action(&request(), &mut out), 9);
-    assert_eq!(rt; out, REQUEST);
-    assert_eq!(rt; encode_action(&response(), &mut out), 9);
-    assert_eq!(rt; out, RESPONSE);
-    assert_eq!(rt; decode_action(&REQUEST), Ok(request()));
-    assert_eq!(rt; decode_action(&RESPONSE), Ok(response()));
+    same(&rt, encode_action(&request(), &mut out), 9);
+    same(&rt, out, REQUEST);
+    same(&rt, encode_action(&response(), &mut out), 9);
+    same(&rt, out, RESPONSE);
+    same(&rt, decode_action(&REQUEST), Ok(request()));
+    same(&rt, decode_action(&RESPONSE), Ok(response()));
 
     let teardown = Action::Teardown {
         tid: 5,
         initiator: true,
         reason: 1,
     };
-    assert_eq!(rt; encode_action(&teardown, &mut out), 6);
-    assert_eq!(rt; &out[..6], [0x03, 0x02, 0x00, 0x58, 0x01, 0x00].as_slice());
-    assert_eq!(rt; decode_action(&out), Ok(teardown));
+    same(&rt, encode_action(&teardown, &mut out), 6);
+    same(
+        &rt,
+        &out[..6],
+        [0x03, 0x02, 0x00, 0x58, 0x01, 0x00].as_slice(),
+    );
+    same(&rt, decode_action(&out), Ok(teardown));
 }
 
 /// A place in the request, the octet put there, and the fault.
@@ -69,13 +74,13 @@ fn the_first_fault_is_told(rt: HostRuntime) {
         if place < 9 {
             octets[place] = octet;
         }
-        assert_eq!(rt; decode_action(&octets), Err(fault));
+        same(&rt, decode_action(&octets), Err(fault));
     }
     let short = ActionFault::Short { need: 9, have: 8 };
-    assert_eq!(rt; decode_action(&REQUEST[..8]), Err(short));
-    assert_eq!(rt; decode_action(&RESPONSE[..8]), Err(short));
+    same(&rt, decode_action(&REQUEST[..8]), Err(short));
+    same(&rt, decode_action(&RESPONSE[..8]), Err(short));
     let empty = ActionFault::Short { need: 2, have: 1 };
-    assert_eq!(rt; decode_action(&REQUEST[..1]), Err(empty));
+    same(&rt, decode_action(&REQUEST[..1]), Err(empty));
 }
 
 /// An agreement as token, window and start.
@@ -88,21 +93,21 @@ fn held(agreement: Option<Agreement>) -> Option<(u8, u16, u16)> {
 fn octets_that_are_no_action_frame_change_nothing(rt: HostRuntime) {
     let mut offer = Offer::new(0, 0);
     let mut accept = Accept::new(0, 64, 0);
-    assert_eq!(rt; offer.ask(128, Seq12::of(500)), Ok(request()));
-    assert_eq!(rt; accept.receive(&REQUEST[..8]), None);
-    assert_eq!(rt; held(accept.state()), None);
-    assert_eq!(rt; accept.receive(&REQUEST), Some(response()));
-    assert_eq!(rt; held(accept.state()), Some((1, 64, 500)));
+    same(&rt, offer.ask(128, Seq12::of(500)), Ok(request()));
+    same(&rt, accept.receive(&REQUEST[..8]), None);
+    same(&rt, held(accept.state()), None);
+    same(&rt, accept.receive(&REQUEST), Some(response()));
+    same(&rt, held(accept.state()), Some((1, 64, 500)));
     offer.receive(&RESPONSE[..8]);
-    assert_eq!(rt; held(offer.state()), None);
+    same(&rt, held(offer.state()), None);
     offer.receive(&RESPONSE);
-    assert_eq!(rt; held(offer.state()), Some((1, 64, 500)));
+    same(&rt, held(offer.state()), Some((1, 64, 500)));
 }
 
 #[test]
 fn the_last_token_is_255(rt: HostRuntime) {
     let mut offer = Offer::new(0, 254);
-    assert_eq!(rt; offer.ask(64, Seq12::of(0)).is_ok(), true);
-    assert_eq!(rt; offer.last(), 255);
-    assert_eq!(rt; offer.ask(64, Seq12::of(0)), Err(OfferFault::Spent));
+    same(&rt, offer.ask(64, Seq12::of(0)).is_ok(), true);
+    same(&rt, offer.last(), 255);
+    same(&rt, offer.ask(64, Seq12::of(0)), Err(OfferFault::Spent));
 }

@@ -1,5 +1,6 @@
 //! Counts of frames by fate.
 
+use crate::alike::same;
 use wf_frame::{Cause, Fate};
 use wf_send_stations::Tally;
 
@@ -24,9 +25,13 @@ fn each_fate_has_its_count(rt: HostRuntime) {
             tally.settle(fate);
         }
     }
-    assert_eq!(rt; tally.held(), 1);
-    assert_eq!(rt; (tally.accepted, tally.acked, tally.overlimit), (7, 2, 1));
-    assert_eq!(rt; (tally.codel, tally.retries, tally.left), (1, 1, 1));
+    same(&rt, tally.held(), 1);
+    same(
+        &rt,
+        (tally.accepted, tally.acked, tally.overlimit),
+        (7, 2, 1),
+    );
+    same(&rt, (tally.codel, tally.retries, tally.left), (1, 1, 1));
 }
 
 #[test]
@@ -45,6 +50,6 @@ fn many_settle_at_once(rt: HostRuntime) {
             tally.settle_all(fate, count);
         }
     }
-    assert_eq!(rt; (tally.accepted, tally.left, tally.codel), (7, 4, 2));
-    assert_eq!(rt; tally.held(), 1);
+    same(&rt, (tally.accepted, tally.left, tally.codel), (7, 4, 2));
+    same(&rt, tally.held(), 1);
 }

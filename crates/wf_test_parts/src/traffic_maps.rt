@@ -1,5 +1,6 @@
 //! The element of the traffic indication map.
 
+use crate::alike::same;
 use std::test::Fail;
 use wf_frame::Class;
 use wf_octets_tim::{Sleepers, Tim, TimFault, decode_tim, encode_tim};
@@ -29,7 +30,7 @@ fn elements_are_the_shortest(rt: HostRuntime) {
         let mut out = [0xff; 256];
         if !present[0] {
             let size = encode_tim(&present, 0, 1, &mut out);
-            assert_eq!(rt; out.get(..size), Some(octets));
+            same(&rt, out.get(..size), Some(octets));
         }
         let mut read = [true; 2008];
         let tim = Tim {
@@ -37,8 +38,8 @@ fn elements_are_the_shortest(rt: HostRuntime) {
             period: 1,
             group: false,
         };
-        assert_eq!(rt; decode_tim(octets, &mut read), Ok(tim));
-        assert_eq!(rt; read, present);
+        same(&rt, decode_tim(octets, &mut read), Ok(tim));
+        same(&rt, read, present);
     }
 }
 
@@ -50,11 +51,16 @@ fn longer_elements_are_read_and_others_refused(rt: HostRuntime) {
         period: 3,
         group: true,
     };
-    assert_eq!(rt;
+    same(
+        &rt,
         decode_tim(&[5, 6, 2, 3, 1, 0, 0, 0x02], &mut present),
-        Ok(tim)
+        Ok(tim),
     );
-    assert!(rt; present[17] && !present[16] && !present[0]);
+    same(
+        &rt,
+        (present[17], present[16], present[0]),
+        (true, false, false),
+    );
 
     let kept = present;
     let faults: [(&[u8], TimFault); 5] = [
@@ -65,8 +71,8 @@ fn longer_elements_are_read_and_others_refused(rt: HostRuntime) {
         (&[5, 4, 0, 1, 252, 1], TimFault::Length { said: 4 }),
     ];
     for (octets, fault) in faults {
-        assert_eq!(rt; decode_tim(octets, &mut present), Err(fault));
-        assert_eq!(rt; present, kept);
+        same(&rt, decode_tim(octets, &mut present), Err(fault));
+        same(&rt, present, kept);
     }
 }
 
@@ -74,15 +80,16 @@ fn longer_elements_are_read_and_others_refused(rt: HostRuntime) {
 fn stations_sleep_and_wake(rt: HostRuntime) -> Result<(), Fail> {
     let mut sleepers = Sleepers::new(rt.alloc(), 3)?;
     sleepers.sleep(1);
-    assert!(rt; sleepers.asleep(1) && !sleepers.asleep(0) && !sleepers.asleep(2));
-    assert_eq!(rt; sleepers.credit(1), None);
+    let asleep = (sleepers.asleep(0), sleepers.asleep(1), sleepers.asleep(2));
+    same(&rt, asleep, (false, true, false));
+    same(&rt, sleepers.credit(1), None);
     sleepers.grant(1, Class::Vi);
-    assert_eq!(rt; sleepers.credit(1), Some(Class::Vi));
+    same(&rt, sleepers.credit(1), Some(Class::Vi));
     sleepers.spend(1);
-    assert_eq!(rt; sleepers.credit(1), None);
+    same(&rt, sleepers.credit(1), None);
     sleepers.wake(1);
-    assert!(rt; !sleepers.asleep(1));
+    same(&rt, sleepers.asleep(1), false);
     sleepers.reset(2);
-    assert!(rt; !sleepers.asleep(2));
+    same(&rt, sleepers.asleep(2), false);
     Ok(())
 }
