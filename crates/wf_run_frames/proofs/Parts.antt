@@ -1,16 +1,15 @@
 -- Octets that end before a packet does, or before it is known what is wrong with it.
-use Rattle.std.proofs.Common.{◌≡◌, ℕ, ◌+◌, ◌-◌, ◌<◌, ◌≤◌, Bool, true, false, cond, List, [], ◌∷◌, ◌++◌, length, drop, refl, sym, ◌∙◌, ap, arith, length-append}
-use Rattle.std.specs.Prelude.{Option, Some, None, nat_lt, not, ◌==◌, ◌&&◌, ◌%◌, replicate}
+use Rattle.std.proofs.Common.{◌≡◌, ℕ, ◌+◌, ◌-◌, ◌<◌, ◌≤◌, Bool, true, false, cond, List, [], ◌∷◌, ◌++◌, length, refl, sym, ◌∙◌, ap, arith, length-append}
+use Rattle.std.specs.Prelude.{Option, Some, None, not, ◌==◌, ◌&&◌, ◌%◌, replicate}
 use Rattle.std.proofs.lemmas.List.{drop_all, length-replicate}
 use Rattle.wf_pcap.specs.declared.reading.Form.{Form}
-use Rattle.wf_pcap.specs.declared.reading.PcapFault.{PcapFault}
 use Rattle.wf_pcap.specs.declared.reading.PcapFault.TheVariants as pcap
 use Rattle.wf_pcap.specs.Capture.{number_in_order, link_of_frames}
-use Rattle.wf_pcap.specs.Faults.{form_of, fault_past_magic, head_fault}
+use Rattle.wf_pcap.specs.Faults.{form_of, fault_past_magic}
 use Rattle.wf_run_frames.specs.declared.fault.Fault.{Fault}
 use Rattle.wf_run_frames.specs.declared.fault.FaultKind.{FaultKind}
 use Rattle.wf_run_frames.specs.declared.fault.FaultKind.TheVariants.{Short, Magic, Version, Link}
-use Rattle.wf_run_frames.specs.Packets.{Captured, Listing, listing, listed, behind_head, captured_in, from_each, packet_at, packet_flaw, packets_from, stopped, judged, kind_of}
+use Rattle.wf_run_frames.specs.Packets.{Listing, listing, listed, behind_head, captured_in, from_each, packet_at, packet_flaw, packets_from, stopped, judged}
 use Rattle.wf_run_frames.specs.Outcome.{TellsNoFault}
 use Rattle.wf_run_frames.specs.Reading.{IsPart}
 use Rattle.wf_run_frames.proofs.Heads.{not_below}

@@ -39,5 +39,8 @@ abbrev pub AnsweredBy : Option Fault → Status → Type 0
 AnsweredBy None status = (status ≡ Done) ⊎ (status ≡ NoMemory)
 AnsweredBy (Some fault) status = (status ≡ BadTrace) ⊎ (status ≡ NoMemory)
 
+abbrev pub AnsweredOf : (List ℕ → Listing) → List ℕ → Status → Type 0
+AnsweredOf list input status = AnsweredBy (list input).fault status
+
 abbrev pub FramesAnswered : List ℕ → Status → Type 0
-FramesAnswered input status = AnsweredBy (listing input).fault status
+FramesAnswered input status = AnsweredOf listing input status

@@ -3,8 +3,9 @@
 ghost use Rattle.std.specs.Prelude.{◌≡◌, ◌≢◌, ℕ, List, Some, length};
 ghost use Rattle.std.specs.Io.KnownBytes.{prepend_known, append_known};
 ghost use Rattle.wf_io.specs.Faults.{HasRisen};
+ghost use Rattle.wf_script.specs.Ends.{CommandEnds};
 ghost use Rattle.wf_run_frames.specs.Packets.{behind_head};
-ghost use Rattle.wf_run_frames.specs.Outcome.{OutcomeOf, FramesOutcome, FramesAnswered};
+ghost use Rattle.wf_run_frames.specs.Outcome.{OutcomeOf, AnsweredOf, FramesOutcome, FramesAnswered};
 ghost use Rattle.wf_run_frames.specs.Law.{FramesLaw};
 
 use crate::fault::{Fault, FaultKind};
@@ -47,14 +48,8 @@ pub fn frames<S: Source, K: Sink>(alloc: Global, source: &mut S, sink: &mut K) -
 // Lists a capture from its file header on; the buffer has room for the octets of a packet.
 fn list_capture<S: Source, K: Sink>(body: &mut [u8], source: &mut S, sink: &mut K) -> Status
     requires { length body.old ≡ 262144 }
-    ensures text { (taken written : List ℕ) × (S.left source.old ≡ prepend_known taken (S.left source.new))
-        × (K.held sink.new ≡ append_known (K.held sink.old) written)
-        × ((input : List ℕ) → S.left source.old ≡ Some input → FramesOutcome result input taken written) }
-    ensures read { result ≡ Status.ReadFault → HasRisen (S.faults source.old) (S.faults source.new) }
-    ensures source_quiet { result ≢ Status.ReadFault → S.faults source.new ≡ S.faults source.old }
-    ensures write { result ≡ Status.WriteFault → HasRisen (K.faults sink.old) (K.faults sink.new) }
-    ensures sink_quiet { result ≢ Status.WriteFault → K.faults sink.new ≡ K.faults sink.old }
-    ensures command { result ≢ Status.Usage }
+    ensures ends { CommandEnds S.left S.faults K.held K.faults FramesOutcome FramesAnswered
+        source.old source.new sink.old sink.new result }
     ensures memory { result ≢ Status.NoMemory }
 {
     let mut head = [0; FILE_HEAD];
@@ -81,15 +76,8 @@ fn list_packets<S: Source, K: Sink>(
     sink: &mut K,
 ) -> Status
     requires { length body.old ≡ 262144 }
-    ensures text { (taken written : List ℕ) × (S.left source.old ≡ prepend_known taken (S.left source.new))
-        × (K.held sink.new ≡ append_known (K.held sink.old) written)
-        × ((input : List ℕ) → S.left source.old ≡ Some input →
-        OutcomeOf (behind_head form) result input taken written) }
-    ensures read { result ≡ Status.ReadFault → HasRisen (S.faults source.old) (S.faults source.new) }
-    ensures source_quiet { result ≢ Status.ReadFault → S.faults source.new ≡ S.faults source.old }
-    ensures write { result ≡ Status.WriteFault → HasRisen (K.faults sink.old) (K.faults sink.new) }
-    ensures sink_quiet { result ≢ Status.WriteFault → K.faults sink.new ≡ K.faults sink.old }
-    ensures command { result ≢ Status.Usage }
+    ensures ends { CommandEnds S.left S.faults K.held K.faults (OutcomeOf (behind_head form))
+        (AnsweredOf (behind_head form)) source.old source.new sink.old sink.new result }
     ensures memory { result ≢ Status.NoMemory }
 {
     let mut place = FILE_HEAD as u64;

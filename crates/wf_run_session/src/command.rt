@@ -9,7 +9,7 @@ use crate::answers::{print_answer, print_closing};
 use crate::lines::event_from;
 use crate::parley::Parley;
 use std::alloc::Global;
-use wf_io::{Line, Sink, Source, Status};
+use wf_io::{Failed, Line, Sink, Source, Status};
 use wf_script::{Answers, Unanswered, converse, write_line};
 use wf_session::Event;
 use wf_trace::FaultKind;
@@ -46,10 +46,10 @@ impl Answers for Parley {
         write_line(sink, &line)
     }
 
-    fn close<K: Sink>(&self, sink: &mut K) -> Result<(), Unanswered> {
+    fn close<K: Sink>(&self, sink: &mut K) -> Result<(), Failed> {
         let mut line = Line::new();
         print_closing(self, &mut line);
-        write_line(sink, &line)
+        wf_io::write_line(sink, &line)
     }
 }
 

@@ -9,7 +9,7 @@ use crate::event::Event;
 use crate::lines::event_from;
 use crate::reception::Reception;
 use std::alloc::Global;
-use wf_io::{Sink, Source, Status};
+use wf_io::{Failed, Sink, Source, Status};
 use wf_script::{Answers, Unanswered, converse};
 use wf_trace::FaultKind;
 
@@ -46,7 +46,7 @@ impl Answers for Reception {
         }
     }
 
-    fn close<K: Sink>(&self, sink: &mut K) -> Result<(), Unanswered> {
+    fn close<K: Sink>(&self, sink: &mut K) -> Result<(), Failed> {
         self.tell(sink)
     }
 }

@@ -2,7 +2,7 @@
 
 ghost use Rattle.std.specs.Prelude.{◌≡◌, ◌≢◌, ◌+◌, ◌*◌, ◌^◌, ◌<◌, ◌≤◌, ◌∷◌, [], true, replicate, IfOk, OnOk, OnErr, Err};
 ghost use Rattle.std.specs.Io.KnownBytes.{append_known};
-ghost use Rattle.wf_io.specs.Faults.{HasRisen};
+ghost use Rattle.wf_io.specs.Faults.{HasRisen, CountsFaults};
 ghost use Rattle.wf_io.specs.Fronts.{HoldsFront};
 ghost use Rattle.wf_def_lists.specs.Bounds.{greatest_tick};
 ghost use Rattle.wf_uplink.specs.Shown.{totals_of};
@@ -15,7 +15,7 @@ use crate::told::write_up;
 use std::alloc::{AllocError, Global};
 use std::marker::Model;
 use wf_air_time::Rate;
-use wf_io::{Line, Sink};
+use wf_io::{Failed, Line, Sink};
 use wf_script::{Unanswered, write_line};
 use wf_uplink::{LARGE, Up, Uplink};
 
@@ -216,18 +216,14 @@ impl Reception {
     }
 
     /// How many frames there were, and what became of them, is written.
-    pub fn tell<K: Sink>(&self, sink: &mut K) -> Result<(), Unanswered>
+    pub fn tell<K: Sink>(&self, sink: &mut K) -> Result<(), Failed>
         ensures written { OnOk result
             (K.held sink.new ≡ append_known (K.held sink.old) (totals_line (totals_of self.now))) }
-        ensures front { OnErr result
-            (HoldsFront (K.held sink.old) (K.held sink.new) (totals_line (totals_of self.now))) }
-        ensures memory { result ≢ Err Unanswered.Memory }
-        ensures counted { K.faults sink.old ≤ K.faults sink.new }
-        ensures cause { result ≡ Err Unanswered.Sink → HasRisen (K.faults sink.old) (K.faults sink.new) }
-        ensures quiet { result ≢ Err Unanswered.Sink → K.faults sink.new ≡ K.faults sink.old }
+        ensures front { HoldsFront (K.held sink.old) (K.held sink.new) (totals_line (totals_of self.now)) }
+        ensures cause { CountsFaults (K.faults sink.old) (K.faults sink.new) result }
     {
         let mut line = Line::new();
         print_totals(self.uplink.totals(), &mut line);
-        write_line(sink, &line)
+        wf_io::write_line(sink, &line)
     }
 }

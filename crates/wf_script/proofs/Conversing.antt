@@ -22,7 +22,7 @@ use Rattle.wf_script.specs.declared.reading.Item.TheVariants.{Event, Ended}
 use Rattle.wf_script.specs.Scripts.{Script, Grammar, with_event, script, read_lines}
 use Rattle.wf_script.specs.Texts.{Manner, answers, state_behind, last_lines, text}
 use Rattle.wf_script.specs.Reading.{rest, Says, Reads}
-use Rattle.wf_script.specs.Outcome.{ScriptOutcome, ReachesEnd, StopsAt}
+use Rattle.wf_script.specs.Outcome.{ScriptOutcome, ReachesEnd}
 use Rattle.wf_script.proofs.Fronts.{append_known-nil, append_known-append}
 
 -- ---- events in front

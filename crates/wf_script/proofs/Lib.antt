@@ -1,5 +1,6 @@
--- Octets taken and written; a script that is being answered, and its ways out; that every closed input has an
--- ending.
+-- How commands come to their ends; octets taken and written; a script that is being answered, and its ways
+-- out; that every closed input has an ending.
+pub mod Endings
 mod Fronts
 mod Room
 pub mod Conversing

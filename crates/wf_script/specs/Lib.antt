@@ -1,4 +1,5 @@
 pub mod Scripts
 pub mod Texts
 pub mod Reading
+pub mod Ends
 pub mod Outcome

@@ -56,3 +56,7 @@ abbrev pub Answered : Option Ending → Status → Type 0
 Answered (Some Finish) status = (status ≡ Done) ⊎ (status ≡ NoMemory)
 Answered (Some (Bad fault)) status = (status ≡ BadTrace) ⊎ (status ≡ NoMemory)
 Answered None status = ⊥
+
+-- how a command over a script ends without faults of its source and sink
+abbrev pub ScriptAnswered : {E : Type 0} → Grammar E → List ℕ → Status → Type 0
+ScriptAnswered g input status = Answered (script g true input).ending status

@@ -2,13 +2,13 @@
 
 ghost use Rattle.std.specs.Prelude.{◌≡◌, ◌≢◌, ◌≤◌, true, Option, IfOk, OnOk, OnErr, Result, Err};
 ghost use Rattle.std.specs.Io.KnownBytes.{append_known};
-ghost use Rattle.wf_io.specs.Faults.{HasRisen};
+ghost use Rattle.wf_io.specs.Faults.{HasRisen, CountsFaults};
 ghost use Rattle.wf_trace.specs.Words.{words};
 ghost use Rattle.wf_io.specs.Fronts.{HoldsFront};
 ghost use Rattle.wf_script.specs.Scripts.{Grammar};
 ghost use Rattle.wf_script.specs.Texts.{Manner};
 
-use wf_io::{Line, Sink};
+use wf_io::{Failed, Line, Sink};
 use wf_trace::FaultKind;
 
 /// Why an answer was not written whole.
@@ -57,17 +57,12 @@ pub trait Answers {
         ensures cause { result ≡ Err Unanswered.Sink → HasRisen (K.faults sink.old) (K.faults sink.new) }
         ensures quiet { result ≢ Err Unanswered.Sink → K.faults sink.new ≡ K.faults sink.old };
 
-    /// Writes the lines behind the line `end`. After an error some of them may stand written. Memory is never
-    /// wanting.
-    fn close<K: Sink>(&self, sink: &mut K) -> Result<(), Unanswered>
+    /// Writes the lines behind the line `end`. After an error some of them may stand written.
+    fn close<K: Sink>(&self, sink: &mut K) -> Result<(), Failed>
         ensures written { OnOk result (K.held sink.new
             ≡ append_known (K.held sink.old) (manner.closing self.now)) }
-        ensures front { OnErr result (HoldsFront (K.held sink.old) (K.held sink.new)
-            (manner.closing self.now)) }
-        ensures memory { result ≢ Err Unanswered.Memory }
-        ensures counted { K.faults sink.old ≤ K.faults sink.new }
-        ensures cause { result ≡ Err Unanswered.Sink → HasRisen (K.faults sink.old) (K.faults sink.new) }
-        ensures quiet { result ≢ Err Unanswered.Sink → K.faults sink.new ≡ K.faults sink.old };
+        ensures front { HoldsFront (K.held sink.old) (K.held sink.new) (manner.closing self.now) }
+        ensures cause { CountsFaults (K.faults sink.old) (K.faults sink.new) result };
 }
 
 /// Writes a line as `wf_io::write_line` does: where the sink fails, that is why the answer is not whole.

@@ -1,17 +1,30 @@
 //! The answers to a script, one after the other.
 
-ghost use Rattle.std.specs.Prelude.{◌≡◌, ◌≢◌, ℕ, List, true, Some};
-ghost use Rattle.std.specs.Io.KnownBytes.{prepend_known, append_known};
-ghost use Rattle.wf_io.specs.Faults.{HasRisen};
-ghost use Rattle.wf_script.specs.Outcome.{ScriptOutcome, Answered};
-ghost use Rattle.wf_script.specs.Scripts.{script};
+ghost use Rattle.std.specs.Prelude.{◌≡◌, OnOk};
+ghost use Rattle.std.specs.Io.KnownBytes.{append_known};
+ghost use Rattle.wf_script.specs.Ends.{CommandEnds};
+ghost use Rattle.wf_io.specs.Faults.{CountsFaults};
+ghost use Rattle.wf_io.specs.Fronts.{HoldsFront};
+ghost use Rattle.wf_trace.specs.Faults.{fault_line};
+ghost use Rattle.wf_script.specs.Outcome.{ScriptOutcome, ScriptAnswered};
 
 use crate::answers::{Answers, Unanswered};
 use crate::ending::Ending;
 use crate::reading::{Item, next_item};
 use std::alloc::Global;
-use wf_io::{Line, Sink, Source, Status, write_all};
-use wf_trace::{Cut, print_fault};
+use wf_io::{Failed, Line, Sink, Source, Status, write_line};
+use wf_trace::{Cut, Fault, print_fault};
+
+// Writes the line of a fault.
+fn write_fault<K: Sink>(fault: Fault, sink: &mut K) -> Result<(), Failed>
+    ensures written { OnOk result (K.held sink.new ≡ append_known (K.held sink.old) (fault_line fault)) }
+    ensures front { HoldsFront (K.held sink.old) (K.held sink.new) (fault_line fault) }
+    ensures cause { CountsFaults (K.faults sink.old) (K.faults sink.new) result }
+{
+    let mut line = Line::new();
+    print_fault(fault, &mut line);
+    write_line(sink, &line)
+}
 
 /// Reads a script from the source, and writes the answer of each event before it reads the next; behind the
 /// line `end` the last lines, or in their place the line of the first fault. Octets after the `end` line are
@@ -23,39 +36,8 @@ pub fn converse<C: Answers, S: Source, K: Sink>(
     source: &mut S,
     sink: &mut K,
 ) -> Status
-    ensures text { (taken written : List ℕ) × (S.left source.old ≡ prepend_known taken (S.left source.new))
-        × (K.held sink.new ≡ append_known (K.held sink.old) written)
-        × ((input : List ℕ) → S.left source.old ≡ Some input →
-        ScriptOutcome C.grammar C.manner command.old result input taken written) }
-    ensures read { result ≡ Status.ReadFault → HasRisen (S.faults source.old) (S.faults source.new) }
-    ensures source_quiet { result ≢ Status.ReadFault → S.faults source.new ≡ S.faults source.old }
-    ensures write { result ≡ Status.WriteFault → HasRisen (K.faults sink.old) (K.faults sink.new) }
-    ensures sink_quiet { result ≢ Status.WriteFault → K.faults sink.new ≡ K.faults sink.old }
-    ensures command { result ≢ Status.Usage }
-    ensures complete { (HasRisen (S.faults source.old) (S.faults source.new) → ⊥) →
-        (HasRisen (K.faults sink.old) (K.faults sink.new) → ⊥) →
-        (input : List ℕ) → S.left source.old ≡ Some input →
-        Answered (script C.grammar true input).ending result }
-{
-    answer_lines(alloc, command, source, sink)
-}
-
-// Answers the lines one after the other.
-fn answer_lines<C: Answers, S: Source, K: Sink>(
-    alloc: Global,
-    command: &mut C,
-    source: &mut S,
-    sink: &mut K,
-) -> Status
-    ensures text { (taken written : List ℕ) × (S.left source.old ≡ prepend_known taken (S.left source.new))
-        × (K.held sink.new ≡ append_known (K.held sink.old) written)
-        × ((input : List ℕ) → S.left source.old ≡ Some input →
-        ScriptOutcome C.grammar C.manner command.old result input taken written) }
-    ensures read { result ≡ Status.ReadFault → HasRisen (S.faults source.old) (S.faults source.new) }
-    ensures source_quiet { result ≢ Status.ReadFault → S.faults source.new ≡ S.faults source.old }
-    ensures write { result ≡ Status.WriteFault → HasRisen (K.faults sink.old) (K.faults sink.new) }
-    ensures sink_quiet { result ≢ Status.WriteFault → K.faults sink.new ≡ K.faults sink.old }
-    ensures command { result ≢ Status.Usage }
+    ensures ends { CommandEnds S.left S.faults K.held K.faults (ScriptOutcome C.grammar C.manner command.old)
+        (ScriptAnswered C.grammar) source.old source.new sink.old sink.new result }
 {
     let Ok(mut cut) = Cut::new(alloc) else {
         return Status::NoMemory;
@@ -71,17 +53,12 @@ fn answer_lines<C: Answers, S: Source, K: Sink>(
             },
             Ok(Item::Ended(Ending::Finish)) => match command.close(sink) {
                 Ok(()) => return Status::Done,
-                Err(Unanswered::Sink) => return Status::WriteFault,
-                Err(Unanswered::Memory) => return Status::NoMemory,
+                Err(_) => return Status::WriteFault,
             },
-            Ok(Item::Ended(Ending::Bad(fault))) => {
-                let mut line = Line::new();
-                print_fault(fault, &mut line);
-                match write_all(sink, line.octets()) {
-                    Ok(()) => return Status::BadTrace,
-                    Err(_) => return Status::WriteFault,
-                }
-            }
+            Ok(Item::Ended(Ending::Bad(fault))) => match write_fault(fault, sink) {
+                Ok(()) => return Status::BadTrace,
+                Err(_) => return Status::WriteFault,
+            },
         }
     }
 }

@@ -2,7 +2,7 @@ use Rattle.std.proofs.Common.{◌≡◌, ◌≤◌, ◌+◌}
 use Rattle.wf_trace.specs.Lines.{longest_trace}
 use Rattle.wf_trace.specs.Cutting.{room}
 use Rattle.wf_script.proofs.Conversing.{Conversing}
-use Rattle.wf_script.proofs.conversation.answer_lines.Given as goal
+use Rattle.wf_script.proofs.conversation.converse.Given as goal
 
 abbrev pub invariant-lines : goal.invariant-lines
 invariant-lines g l = record {
