@@ -14,11 +14,20 @@
  * It comes from malloc, realloc and free of the program. They have to be of one allocator, and to align a block to each power
  * of two up to 16 that divides its size.
  *
- * Threads. A handle stays on the thread that made it. Two handles have nothing in common, so each thread may have its own. No
- * function may be called from a signal handler, nor in the child of a fork of a process with threads.
+ * Threads. A handle of a path may go from thread to thread, and many threads may share one under one lock of the caller's: that
+ * it may is proved (Rust's `Send`). A handle of a cell stays on the thread that made it. No two calls on one handle at a time,
+ * readers among themselves excepted: a reader is a function that takes a handle by a pointer to const. Two handles have nothing in
+ * common. No function waits for another thread, and none may be called from a signal handler, nor in the child of a fork of a
+ * process with threads. With threads of POSIX:
  *
- * Buffers. A pointer must not be null, also where the length is 0, and what a function writes to must not overlap anything
- * else that it is given. `length` and `room` are at most what the buffer has. Every struct and buffer must be initialized, as
+ *     pthread_mutex_lock(&lock);
+ *     code = wf_path_pull(&path, WF_BE, &reply, &frames);
+ *     pthread_mutex_unlock(&lock);
+ *
+ * `reply` and `frames` are the caller's: each thread has its own, and looks into them after it has let go of the lock.
+ *
+ * Buffers. A pointer must not be null, also where the length is 0, but for the `body` of wf_path_reap and wf_cell_reap where
+ * `room` is 0; and what a function writes to must not overlap anything else that it is given. `length` and `room` are at most what the buffer has. Every struct and buffer must be initialized, as
  * by `= {0}`, before it is handed in. The library keeps no pointer of the caller's.
  *
  * Platform. Pointers and size_t have 64 bits, and each field of a struct stands at its natural alignment: do not pack them.
@@ -30,8 +39,7 @@
  * Breaches. A handle that is never freed leaks what it holds. Every other breach has no defined behaviour:
  * - a handle that is used while it holds nothing, made while it holds something, freed twice, or used beside a copy of it;
  * - a handle of a cell that is given as one of a path by a cast, or of a path as one of a cell;
- * - one handle in two functions at once. Each function takes the path out of its handle and puts it back, so even two that
- *   only read must not meet;
+ * - one handle in two functions at once, of which one is no reader;
  * - a `length` or `room` that is more than the buffer has: what lies behind it is read, or written;
  * - a struct of another layout, on a platform of another kind;
  * - a null pointer, an overlap, a buffer that is not initialized, a count that is not below 2^62.
@@ -39,6 +47,9 @@
  * Not proved.
  * - That there is ever memory: each function that takes some may give WF_NO_MEMORY, by its contract.
  * - That no other function takes any. By the code none does.
+ * - That a reader writes nothing to the handle, nor to what it holds: its contract says that what the handle holds stays. By the
+ *   code none does. checks/c-library calls each of them on a handle in memory that cannot be written.
+ * - That a null `body` with `room` 0 is as good as any other pointer: no contract speaks of null. By the code nothing looks at it.
  * - That what is let go is freed: a frame when it is reaped or refused, and all of a path or a cell by its `free`. That
  *   nothing is freed twice is proved. checks/c-library runs programs under sanitizers, which see that all is freed.
  * - That the counts of a path stay below 2^62. By the code none rises by more than 10,000,000 in a call, so they do for the
@@ -50,9 +61,12 @@
 #include <stddef.h>
 #include <stdint.h>
 
-/* The version of this header and of the library that it belongs to. With another patch number nothing changes of what is said
- * here. With another minor number there may be more functions, more codes, and fields in space that a struct has reserved: what was
- * built before goes on as it was. With another major number anything may change. */
+/* The version of this header and of the library that it belongs to, and what may change under which number.
+ * - Another patch number: nothing of what is said here.
+ * - Another minor number: there may be more functions, more codes, more kinds and more settings, these in what wf_settings has
+ *   reserved. No struct gets larger, no number means something else, and nothing asks for more. So what was built over an
+ *   older header goes on over a newer library as it was, with the same answers to the same calls.
+ * - Another major number: anything. The name that a loader looks for has it (libwf.so.1). */
 #define WF_VERSION_MAJOR 1
 #define WF_VERSION_MINOR 0
 #define WF_VERSION_PATCH 0
@@ -67,14 +81,14 @@ extern "C" {
  * function says itself. WF_IDLE may have changed something, and a refused call of a cell is an entry of its history. */
 enum wf_code {
   WF_OK = 0,
-  /* refusals; `reply` then has kind WF_REFUSED */
+  /* refusals; `reply` then has kind WF_KIND_REFUSED */
   WF_BAD_STATION = 1,   /* the station number is not below `stations` */
   WF_BAD_WINDOW = 2,    /* the window is not 1 to 256 */
   WF_BAD_START = 3,     /* the first sequence number is above 4095 */
   WF_BAD_EXPONENT = 4,  /* the A-MPDU length exponent is above 3 */
   WF_BAD_RATE = 5,      /* there is no such rate: the MCS, the width, the guard interval or the streams are none of its format, or
                          * are one of the ten combinations that VHT leaves out (wf_path_rate_vht) */
-  WF_BAD_TICK = 6,      /* the clock would move by more than 10,000,000 microseconds */
+  WF_BAD_TICK = 6,      /* the clock would move by more than 10,000,000 microseconds; wf_path_advance: back, or to 2^62 or more */
   WF_BAD_TID = 7,       /* the TID is above 7 */
   WF_BAD_AIR = 8,       /* the airtime is 0 or above 65,535 microseconds; at the end of an exchange: the one that is named is above
                          * `charge` */
@@ -83,7 +97,7 @@ enum wf_code {
   WF_NO_STATION = 11,   /* the station is not live */
   WF_NO_EXCHANGE = 12,  /* no open exchange has that number */
   WF_NO_ANSWER = 13,    /* the exchange was to be heard, but its station never answered */
-  WF_STILL_OPEN = 14,   /* the station has `count` open exchanges */
+  WF_OPEN = 14,         /* the station has `count` open exchanges */
   WF_ROOM = 15,         /* `count` frames are accepted and not yet reaped: as many as `room` */
   WF_SLEEPING = 16,     /* the station sleeps, and `count` frames of the class are queued for it: `sleeping` or more */
   WF_FULL = 17,         /* `count` exchanges of the class are open: as many as `inflight` */
@@ -111,7 +125,8 @@ enum wf_code {
   WF_BLOCK_NARROW = 56, /* not of 256 bits, and the window is above 64 */
   WF_NOT_MINE = 57,     /* not to the access point, or not from the exchange's station */
   WF_WRONG_TID = 58,    /* of another TID */
-  /* wf_path_make, wf_cell_make: 100 and the place of the first setting that is out of its range, 1 to 13 */
+  /* wf_path_make, wf_cell_make: 100 and the place of the first setting that is out of its range, 1 to 13; or 14 to 16 where
+   * that is the first reserved number that is not 0 */
   WF_BAD_SETTING = 100
 };
 
@@ -128,23 +143,24 @@ enum wf_fate {
   WF_LEFT = 5       /* dropped since its station left */
 };
 
-/* What a call answers: which fields of a `struct wf_reply` mean something. All others are 0. */
+/* What a call answers: which fields of a `struct wf_reply` mean something. All others are 0. Each has the first word of its line in
+ * a trace (docs/TRACE.md). */
 enum wf_kind {
-  WF_JOINED = 0,
-  WF_GONE = 1,      /* count: how many frames were dropped */
-  WF_RATE_SET = 2,
-  WF_TICKED = 3,    /* now */
-  WF_ACCEPTED = 4,  /* id; dropped, where has_dropped is 1 */
-  WF_SEND = 5,      /* exchange, station, tid, air, more; start, where request is 1 */
-  WF_RELEASED = 6,  /* of a cell alone: wf_cell_released says of what frames */
-  WF_BA = 7,        /* of a cell alone: wf_cell_block says what is in it */
-  WF_ENDED = 8,     /* acked, waiting, failed */
-  WF_SLEPT = 9,
-  WF_WOKEN = 10,
-  WF_CREDITED = 11, /* class_ */
-  WF_CHARGED = 12,  /* deficit */
-  WF_REAPED = 13,   /* id, fate */
-  WF_REFUSED = 14   /* refusal; count or deficit, where the refusal has one */
+  WF_KIND_JOINED = 0,
+  WF_KIND_LEFT = 1,      /* count: how many frames were dropped */
+  WF_KIND_SET = 2,       /* the rate is set */
+  WF_KIND_NOW = 3,       /* now */
+  WF_KIND_ACCEPTED = 4,  /* id; dropped, where has_dropped is 1 */
+  WF_KIND_SEND = 5,      /* exchange, station, tid, air, more; start, where request is 1 */
+  WF_KIND_RELEASED = 6,  /* of a cell alone: wf_cell_released says of what frames */
+  WF_KIND_BA = 7,        /* of a cell alone: wf_cell_block says what is in it */
+  WF_KIND_DONE = 8,      /* acked, waiting, failed */
+  WF_KIND_SLEPT = 9,
+  WF_KIND_WOKEN = 10,
+  WF_KIND_POLLED = 11,   /* class_ */
+  WF_KIND_CHARGED = 12,  /* deficit */
+  WF_KIND_REAPED = 13,   /* id, fate */
+  WF_KIND_REFUSED = 14   /* refusal; count or deficit, where the refusal has one */
 };
 
 /* The calls of a cell: which fields of a `struct wf_call` mean something. All others are 0 where an entry is read, and are not looked
@@ -170,6 +186,9 @@ enum wf_call_kind {
 #define WF_GREATEST_BODY 2304
 #define WF_GREATEST_MPDU 2330
 
+/* The octets of a name. */
+#define WF_NAME 16
+
 /* A handle. */
 struct wf_path {
   void *at;
@@ -190,6 +209,7 @@ struct wf_settings {
   uint32_t sleeping;     /* frames queued per sleeping station and class [1..65535] */
   uint32_t calls;        /* entries of a history, which a path does not keep [1..4294967295] */
   uint32_t charge;       /* microseconds that the end of an exchange may name, where that names any [0..65535] */
+  uint32_t reserved[3];  /* for later settings: each 0 */
 };
 
 /* An answer (enum wf_kind). */
@@ -233,10 +253,13 @@ struct wf_sent {
 
 /* A frame that was reaped. */
 struct wf_taken {
+  uint64_t id;
+  uint64_t stamp;  /* when it was accepted, in microseconds */
   uint32_t flow;
   uint16_t station;
   uint16_t length; /* of its body, 1 to WF_GREATEST_BODY octets */
   uint8_t tid;
+  uint8_t fate;    /* enum wf_fate, never WF_HELD */
 };
 
 /* The accepted frames by what became of them; the rest of them are inside. */
@@ -253,7 +276,7 @@ struct wf_tally {
 struct wf_share {
   int64_t deficit;   /* what it may use before it is not picked again; below 0 it used too much */
   uint64_t charged;  /* what its exchanges took */
-  uint64_t received; /* what it used itself (wf_path_receive) */
+  uint64_t rx;       /* what it used itself (wf_path_rx) */
 };
 
 /* The formats of rates. The numbers of a call for a rate show no call where `form` is another. */
@@ -302,6 +325,27 @@ struct wf_block {
   uint8_t wide;   /* 1 where it tells of 256 numbers, 0 where of 64 */
 };
 
+/* The three numbers of a version. */
+struct wf_version {
+  uint16_t major;
+  uint16_t minor;
+  uint16_t patch;
+};
+
+/* ---- names and version */
+
+/* Writes the version of the library that is linked: at least WF_VERSION_MAJOR and so on, where it goes with this header. */
+void wf_version(struct wf_version *version);
+
+/* Write the word for a number, for reports and logs, and zeros behind it, at least one: those of a trace (docs/TRACE.md) for
+ * refusals, kinds of answers (the first word of their lines), fates and settings (by their places, 1 to 13); for the other
+ * codes those of enum wf_code in small letters, with "-", and "bad-setting" for WF_BAD_SETTING + 1 to WF_BAD_SETTING + 16. A number
+ * that is none of them has the word "?". */
+void wf_code_name(int32_t code, char name[WF_NAME]);
+void wf_kind_name(int32_t kind, char name[WF_NAME]);
+void wf_fate_name(int32_t fate, char name[WF_NAME]);
+void wf_setting_name(int32_t place, char name[WF_NAME]);
+
 /* ---- making and freeing */
 
 /* Writes the standard settings. */
@@ -321,7 +365,7 @@ void wf_path_free(struct wf_path *path);
 int32_t wf_path_join(struct wf_path *path, uint16_t station, uint16_t window, uint16_t start, uint8_t exponent, uint8_t weight,
                      struct wf_reply *reply);
 
-/* A station is no longer live; its frames are dropped. WF_BAD_STATION, WF_NO_STATION, WF_STILL_OPEN. */
+/* A station is no longer live; its frames are dropped. WF_BAD_STATION, WF_NO_STATION, WF_OPEN. */
 int32_t wf_path_leave(struct wf_path *path, uint16_t station, struct wf_reply *reply);
 
 /* A live station is sent to at this rate of HT: MCS 0 to 15, 20 or 40 MHz, the short guard interval where `short_guard` is not 0.
@@ -343,6 +387,10 @@ int32_t wf_path_rate_he(struct wf_path *path, uint16_t station, uint8_t mcs, uin
 /* The clock moves on by 0 to 10,000,000 microseconds. WF_BAD_TICK. */
 int32_t wf_path_tick(struct wf_path *path, uint32_t by, struct wf_reply *reply);
 
+/* The clock moves on to `now`, in microseconds, by as many ticks as it takes; the answer is that of the last. WF_BAD_TICK exactly
+ * where `now` is before the clock, or 2^62 or more. */
+int32_t wf_path_advance(struct wf_path *path, uint64_t now, struct wf_reply *reply);
+
 /* A live station goes to sleep, and wakes. WF_BAD_STATION, WF_NO_STATION, WF_ASLEEP; WF_AWAKE. */
 int32_t wf_path_sleep(struct wf_path *path, uint16_t station, struct wf_reply *reply);
 int32_t wf_path_wake(struct wf_path *path, uint16_t station, struct wf_reply *reply);
@@ -351,7 +399,7 @@ int32_t wf_path_wake(struct wf_path *path, uint16_t station, struct wf_reply *re
 int32_t wf_path_poll(struct wf_path *path, uint16_t station, struct wf_reply *reply);
 
 /* A live station used 1 to 65,535 microseconds of airtime to send in a class. WF_BAD_STATION, WF_BAD_AIR, WF_NO_STATION, WF_DEBT. */
-int32_t wf_path_receive(struct wf_path *path, uint16_t station, uint8_t class_, uint32_t air, struct wf_reply *reply);
+int32_t wf_path_rx(struct wf_path *path, uint16_t station, uint8_t class_, uint32_t air, struct wf_reply *reply);
 
 /* A frame comes for a station: its TID, its flow, and its body of 1 to WF_GREATEST_BODY octets, which is copied.
  * WF_BAD_LENGTH exactly where `length` is another, and else WF_NO_MEMORY where there is no memory for the frame, whatever the
@@ -364,23 +412,24 @@ int32_t wf_path_enqueue(struct wf_path *path, uint16_t station, uint8_t tid, uin
 int32_t wf_path_pull(struct wf_path *path, uint8_t class_, struct wf_reply *reply, struct wf_frames *frames);
 
 /* Takes the first finished frame: its id and fate, what it was, and its body of `taken->length` octets at the front of
- * `body`, the rest of which stays. WF_SMALL_BUFFER exactly where `room` is below WF_GREATEST_BODY, also where there is nothing
- * to reap, and then `reply` is as it was; WF_NOTHING. After both `taken` and `body` are as they were. */
+ * `body`, the rest of which stays. Where `room` is 0 the body is let go uncopied, and `body` may be null. WF_SMALL_BUFFER exactly
+ * where `room` is 1 to WF_GREATEST_BODY - 1, also where there is nothing to reap, and then `reply` is as it was; WF_NOTHING.
+ * After both `taken` and `body` are as they were. */
 int32_t wf_path_reap(struct wf_path *path, struct wf_reply *reply, struct wf_taken *taken, uint8_t *body, size_t room);
 
 /* ---- an open exchange */
 
 /* Writes what an exchange sends, and to whom. WF_NO_EXCHANGE, and then `sent` is as it was. */
-int32_t wf_path_sent(struct wf_path *path, uint64_t exchange, struct wf_sent *sent);
+int32_t wf_path_sent(const struct wf_path *path, uint64_t exchange, struct wf_sent *sent);
 
 /* Writes the id of the frame of a transmission, from index 0 on. WF_BAD_INDEX where there is none: the exchange is not open, is a
  * request, or has no such transmission; then `id` is as it was. */
-int32_t wf_path_frame_id(struct wf_path *path, uint64_t exchange, uint16_t index, uint64_t *id);
+int32_t wf_path_frame_id(const struct wf_path *path, uint64_t exchange, uint16_t index, uint64_t *id);
 
 /* Writes the octets of a transmission (a QoS data frame of IEEE 802.11-2012, or a BlockAckReq) and how many they are, at most
  * WF_GREATEST_MPDU and at most `room`; the rest of `out` stays. WF_NO_EXCHANGE, WF_BAD_INDEX, WF_SMALL_BUFFER; then `out` is
  * as it was, and `size` too, but where there is too little room it says how much is needed. */
-int32_t wf_path_mpdu(struct wf_path *path, uint64_t exchange, uint16_t index, uint8_t *out, size_t room, size_t *size);
+int32_t wf_path_mpdu(const struct wf_path *path, uint64_t exchange, uint16_t index, uint8_t *out, size_t room, size_t *size);
 
 /* An exchange ends: its station pays for it, and its frames are acknowledged, wait again or are dropped. What it pays is `air`, 1 to
  * `charge` microseconds, which a device has measured; where `air` is 0, what wf_path_pull answered. WF_NO_EXCHANGE, and then
@@ -401,24 +450,24 @@ int32_t wf_path_done_octets(struct wf_path *path, uint64_t exchange, const uint8
 /* ---- what a path tells */
 
 /* The clock, in microseconds. */
-uint64_t wf_path_now(struct wf_path *path);
+uint64_t wf_path_now(const struct wf_path *path);
 
 /* How many exchanges were opened, and how many are open (at most 32). */
-uint64_t wf_path_exchanges(struct wf_path *path);
-uint32_t wf_path_open_count(struct wf_path *path);
+uint64_t wf_path_exchanges(const struct wf_path *path);
+uint32_t wf_path_open_count(const struct wf_path *path);
 
 /* 1 where a station is live, else 0. */
-int32_t wf_path_live(struct wf_path *path, uint16_t station);
+int32_t wf_path_live(const struct wf_path *path, uint16_t station);
 
 /* Writes the accepted frames by what became of them. */
-void wf_path_tally(struct wf_path *path, struct wf_tally *tally);
+void wf_path_tally(const struct wf_path *path, struct wf_tally *tally);
 
 /* Writes a live station's airtime in a class. WF_NO_STATION, and then `share` is as it was. */
-int32_t wf_path_share(struct wf_path *path, uint16_t station, uint8_t class_, struct wf_share *share);
+int32_t wf_path_share(const struct wf_path *path, uint16_t station, uint8_t class_, struct wf_share *share);
 
 /* Writes the TIM element (IEEE 802.11-2012, 8.4.2.7) of the stations that sleep and have traffic, and gives how many octets it has.
  * The rest of `out` stays. */
-size_t wf_path_tim(struct wf_path *path, uint8_t out[256]);
+size_t wf_path_tim(const struct wf_path *path, uint8_t out[256]);
 
 /* ---- a cell: both halves, and the history of its calls. A transmission crosses the air as octets inside: the cell writes each one
  * that arrives, gives it to the station, and reads the station's BlockAck. What a handle of a path asks of its caller a handle of
@@ -449,21 +498,21 @@ int32_t wf_cell_reap(struct wf_cell *cell, uint32_t caller, struct wf_reply *rep
                      size_t room);
 
 /* What the last call was answered beside `reply`. Where it sends an aggregate, of what frames; else their count is 0. */
-void wf_cell_frames(struct wf_cell *cell, struct wf_frames *frames);
+void wf_cell_frames(const struct wf_cell *cell, struct wf_frames *frames);
 
 /* Where a transmission arrived, what frames its station passed up; else their count is 0. */
-void wf_cell_released(struct wf_cell *cell, struct wf_passed_up *up);
+void wf_cell_released(const struct wf_cell *cell, struct wf_passed_up *up);
 
 /* Where a station answered, its BlockAck; else all is 0. */
-void wf_cell_block(struct wf_cell *cell, struct wf_block *block);
+void wf_cell_block(const struct wf_cell *cell, struct wf_block *block);
 
 /* How many entries the history has, and how many it may still take. */
-uint64_t wf_cell_len(struct wf_cell *cell);
-uint64_t wf_cell_room(struct wf_cell *cell);
+uint64_t wf_cell_len(const struct wf_cell *cell);
+uint64_t wf_cell_room(const struct wf_cell *cell);
 
 /* Writes an entry of the history, from place 0 on: who called, and the call. WF_BAD_INDEX where the history is shorter, and then both
  * are as they were. */
-int32_t wf_cell_entry(struct wf_cell *cell, uint64_t place, uint32_t *caller, struct wf_call *call);
+int32_t wf_cell_entry(const struct wf_cell *cell, uint64_t place, uint32_t *caller, struct wf_call *call);
 
 #ifdef __cplusplus
 }

@@ -35,18 +35,22 @@ static void fail(const char *what) {
 
 static void write_released(void) {
   struct wf_passed_up up = {0};
+  char kind[WF_NAME] = {0};
   uint16_t i;
   wf_cell_released(&cell, &up);
-  fprintf(answers, "released");
+  wf_kind_name(reply.kind, kind);
+  fprintf(answers, "%s", kind);
   for (i = 0; i < up.count; i++) fprintf(answers, " %llu", (unsigned long long)up.ids[i]);
   fprintf(answers, "\n");
 }
 
 static void write_block(void) {
   struct wf_block block = {0};
+  char kind[WF_NAME] = {0};
   int i;
   wf_cell_block(&cell, &block);
-  fprintf(answers, "ba %u ", (unsigned)block.start);
+  wf_kind_name(reply.kind, kind);
+  fprintf(answers, "%s %u ", kind, (unsigned)block.start);
   for (i = block.wide ? 3 : 0; i >= 0; i--) fprintf(answers, "%016llx", (unsigned long long)block.bits[i]);
   fprintf(answers, "\n");
 }
@@ -56,21 +60,21 @@ static void write_answer(int32_t code) {
   struct wf_frames frames = {0};
   if (code != reply.refusal) fail("a code that is not the reply's");
   wf_cell_frames(&cell, &frames);
-  if (frames.count && (reply.kind != WF_SEND || reply.request)) fail("frames that nothing sends");
+  if (frames.count && (reply.kind != WF_KIND_SEND || reply.request)) fail("frames that nothing sends");
   if (write_words(answers, &reply, &frames)) return;
-  if (reply.kind == WF_RELEASED) write_released();
-  else if (reply.kind == WF_BA) write_block();
+  if (reply.kind == WF_KIND_RELEASED) write_released();
+  else if (reply.kind == WF_KIND_BA) write_block();
   else fail("an answer of no cell");
 }
 
 /* Which exchanges are open, by the last answer. */
 static void follow(uint64_t exchange) {
   uint32_t i;
-  if (reply.kind == WF_SEND) {
+  if (reply.kind == WF_KIND_SEND) {
     exchanges[open_count++] = reply.exchange;
     opened++;
   }
-  if (reply.kind != WF_ENDED) return;
+  if (reply.kind != WF_KIND_DONE) return;
   for (i = 0; i < open_count && exchanges[i] != exchange; i++) continue;
   if (i == open_count) fail("an exchange that ends, and was not open");
   exchanges[i] = exchanges[--open_count];
@@ -146,13 +150,16 @@ static void call_reap(uint32_t caller) {
   static uint8_t body[WF_GREATEST_BODY];
   struct wf_taken taken = {0};
   int32_t code = wf_cell_reap(&cell, caller, &reply, &taken, body, sizeof body - 1);
+  int wanted = below(2) == 0;
   uint16_t j;
   if (code != WF_SMALL_BUFFER) fail("room for a body in 2303 octets");
-  code = wf_cell_reap(&cell, caller, &reply, &taken, body, sizeof body);
+  if (wanted) code = wf_cell_reap(&cell, caller, &reply, &taken, body, sizeof body);
+  else code = wf_cell_reap(&cell, caller, &reply, &taken, NULL, 0);
   write_answer(code);
   if (code) return;
+  if (taken.id != reply.id || taken.fate != reply.fate) fail("another frame");
   if (taken.station >= STATIONS || taken.tid > 7 || taken.flow >= 20 || taken.length == 0) fail("a frame that never came");
-  for (j = 0; j < taken.length; j++) {
+  for (j = 0; wanted && j < taken.length; j++) {
     if (body[j] != (uint8_t)(taken.flow + j)) fail("another body");
   }
 }

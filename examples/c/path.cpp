@@ -14,12 +14,10 @@
 
 namespace {
 
-constexpr const char *FATES[] = {"held", "acked", "overlimit", "codel", "retries", "left"};
-
 /* Ends the program where a call was refused that must not be. */
 void want(std::int32_t code, const char *call) {
   if (code == WF_OK) return;
-  std::printf("%s: code %d\n", call, static_cast<int>(code));
+  std::printf("%s: code %d, %s\n", call, static_cast<int>(code), wf::code_name(code).c_str());
   std::exit(1);
 }
 
@@ -58,7 +56,7 @@ bool exchange_once(wf::Path &path, std::uint64_t lost) {
   want(path.done_bits(exchange, frames.numbers[0], bits, reply), "done");
   std::printf(": %d acknowledged, %d wait again\n", static_cast<int>(reply.acked),
               static_cast<int>(reply.waiting));
-  want(path.tick(air, reply), "tick");
+  want(path.advance(path.now() + air, reply), "advance");
   return true;
 }
 
@@ -69,7 +67,8 @@ void reap_all(wf::Path &path) {
   std::uint8_t body[WF_GREATEST_BODY] = {};
   while (path.reap(reply, taken, body, sizeof body) == WF_OK) {
     std::printf("reaped: frame %d of station %d, %d octets, %s\n", static_cast<int>(reply.id),
-                static_cast<int>(taken.station), static_cast<int>(taken.length), FATES[reply.fate]);
+                static_cast<int>(taken.station), static_cast<int>(taken.length),
+                wf::fate_name(taken.fate).c_str());
   }
 }
 
@@ -80,8 +79,8 @@ int main() {
   settings.stations = 0;
   std::int32_t code = WF_OK;
   if (wf::Path::make(settings, code)) return 1;
-  std::printf("no stations: code %d, the setting %d\n", static_cast<int>(code),
-              static_cast<int>(code - WF_BAD_SETTING));
+  std::printf("no stations: code %d, the setting %s\n", static_cast<int>(code),
+              wf::setting_name(code - WF_BAD_SETTING).c_str());
 
   settings.stations = 2;
   std::optional<wf::Path> made = wf::Path::make(settings, code);

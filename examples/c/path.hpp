@@ -4,7 +4,8 @@
  * Each call of wf.h on a path is a method here, with the same arguments behind the handle, and gives the same:
  * what wf.h says of a call holds of its method. The airtime of an end stands last, and may be left out. A path may be
  * moved and not copied. One that was moved from holds nothing: it may be destroyed, assigned to and asked by `holds`,
- * and no other method may be called on it. A path stays on the thread that made it.
+ * and no other method may be called on it. A path may go from thread to thread; no two methods of one path at a time,
+ * those that are const excepted among themselves.
  */
 #ifndef WF_PATH_HPP
 #define WF_PATH_HPP
@@ -12,6 +13,7 @@
 #include <cstddef>
 #include <cstdint>
 #include <optional>
+#include <string>
 #include <utility>
 
 #include "wf.h"
@@ -23,6 +25,28 @@ inline wf_settings standard_settings() {
   wf_settings settings{};
   wf_settings_standard(&settings);
   return settings;
+}
+
+/* The words for numbers (wf_code_name and so on). */
+inline std::string code_name(std::int32_t code) {
+  char name[WF_NAME] = {};
+  wf_code_name(code, name);
+  return name;
+}
+inline std::string kind_name(std::int32_t kind) {
+  char name[WF_NAME] = {};
+  wf_kind_name(kind, name);
+  return name;
+}
+inline std::string fate_name(std::int32_t fate) {
+  char name[WF_NAME] = {};
+  wf_fate_name(fate, name);
+  return name;
+}
+inline std::string setting_name(std::int32_t place) {
+  char name[WF_NAME] = {};
+  wf_setting_name(place, name);
+  return name;
 }
 
 class Path {
@@ -84,6 +108,9 @@ class Path {
   [[nodiscard]] std::int32_t tick(std::uint32_t by, wf_reply &reply) {
     return wf_path_tick(&handle_, by, &reply);
   }
+  [[nodiscard]] std::int32_t advance(std::uint64_t now, wf_reply &reply) {
+    return wf_path_advance(&handle_, now, &reply);
+  }
   [[nodiscard]] std::int32_t sleep(std::uint16_t station, wf_reply &reply) {
     return wf_path_sleep(&handle_, station, &reply);
   }
@@ -93,9 +120,9 @@ class Path {
   [[nodiscard]] std::int32_t poll(std::uint16_t station, wf_reply &reply) {
     return wf_path_poll(&handle_, station, &reply);
   }
-  [[nodiscard]] std::int32_t receive(std::uint16_t station, wf_class access, std::uint32_t air,
+  [[nodiscard]] std::int32_t rx(std::uint16_t station, wf_class access, std::uint32_t air,
                                      wf_reply &reply) {
-    return wf_path_receive(&handle_, station, static_cast<std::uint8_t>(access), air, &reply);
+    return wf_path_rx(&handle_, station, static_cast<std::uint8_t>(access), air, &reply);
   }
   [[nodiscard]] std::int32_t enqueue(std::uint16_t station, std::uint8_t tid, std::uint32_t flow,
                                      const std::uint8_t *body, std::size_t length, wf_reply &reply) {
@@ -107,17 +134,21 @@ class Path {
   [[nodiscard]] std::int32_t reap(wf_reply &reply, wf_taken &taken, std::uint8_t *body, std::size_t room) {
     return wf_path_reap(&handle_, &reply, &taken, body, room);
   }
+  /* The same without the body. */
+  [[nodiscard]] std::int32_t reap(wf_reply &reply, wf_taken &taken) {
+    return wf_path_reap(&handle_, &reply, &taken, nullptr, 0);
+  }
 
   /* An open exchange, and its end. */
 
-  [[nodiscard]] std::int32_t sent(std::uint64_t exchange, wf_sent &out) {
+  [[nodiscard]] std::int32_t sent(std::uint64_t exchange, wf_sent &out) const {
     return wf_path_sent(&handle_, exchange, &out);
   }
-  [[nodiscard]] std::int32_t frame_id(std::uint64_t exchange, std::uint16_t index, std::uint64_t &id) {
+  [[nodiscard]] std::int32_t frame_id(std::uint64_t exchange, std::uint16_t index, std::uint64_t &id) const {
     return wf_path_frame_id(&handle_, exchange, index, &id);
   }
   [[nodiscard]] std::int32_t mpdu(std::uint64_t exchange, std::uint16_t index, std::uint8_t *out,
-                                  std::size_t room, std::size_t &size) {
+                                  std::size_t room, std::size_t &size) const {
     return wf_path_mpdu(&handle_, exchange, index, out, room, &size);
   }
 
@@ -138,19 +169,19 @@ class Path {
 
   /* What a path tells. */
 
-  std::uint64_t now() { return wf_path_now(&handle_); }
-  std::uint64_t exchanges() { return wf_path_exchanges(&handle_); }
-  std::uint32_t open_count() { return wf_path_open_count(&handle_); }
-  bool live(std::uint16_t station) { return wf_path_live(&handle_, station) != 0; }
-  wf_tally tally() {
+  std::uint64_t now() const { return wf_path_now(&handle_); }
+  std::uint64_t exchanges() const { return wf_path_exchanges(&handle_); }
+  std::uint32_t open_count() const { return wf_path_open_count(&handle_); }
+  bool live(std::uint16_t station) const { return wf_path_live(&handle_, station) != 0; }
+  wf_tally tally() const {
     wf_tally told{};
     wf_path_tally(&handle_, &told);
     return told;
   }
-  [[nodiscard]] std::int32_t share(std::uint16_t station, wf_class access, wf_share &out) {
+  [[nodiscard]] std::int32_t share(std::uint16_t station, wf_class access, wf_share &out) const {
     return wf_path_share(&handle_, station, static_cast<std::uint8_t>(access), &out);
   }
-  std::size_t tim(std::uint8_t (&out)[256]) { return wf_path_tim(&handle_, out); }
+  std::size_t tim(std::uint8_t (&out)[256]) const { return wf_path_tim(&handle_, out); }
 
  private:
   Path() = default;

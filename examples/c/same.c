@@ -15,7 +15,7 @@
 #include "words.h"
 #include "wf.h"
 
-enum { STATIONS = 6, NUMBERS = 4096, OPEN = 32, CHARGE = 5000 };
+enum { STATIONS = 6, NUMBERS = 4096, OPEN = 32, CHARGE = 5000, TICK = 10000000 };
 
 /* An open exchange. */
 struct exchange {
@@ -242,17 +242,39 @@ static void call_done(void) {
 static void call_reap(void) {
   static uint8_t body[WF_GREATEST_BODY];
   struct wf_taken taken = {0};
-  int32_t code = wf_path_reap(&path, &reply, &taken, body, sizeof body - 1);
+  int32_t code = wf_path_reap(&path, &reply, &taken, body, below(2) ? 1 : sizeof body - 1);
+  int wanted = below(2) == 0;
   uint16_t j;
   if (code != WF_SMALL_BUFFER) fail("room for a body in 2303 octets");
-  code = wf_path_reap(&path, &reply, &taken, body, sizeof body);
+  if (wanted) code = wf_path_reap(&path, &reply, &taken, body, sizeof body);
+  else code = wf_path_reap(&path, &reply, &taken, NULL, 0);
   fprintf(trace, "reap\n");
   write_answer(code, NULL);
   if (code) return;
+  if (taken.id != reply.id || taken.fate != reply.fate || taken.stamp > wf_path_now(&path)) fail("another frame");
   if (taken.station >= STATIONS || taken.tid > 7 || taken.flow >= 20 || taken.length == 0) fail("a frame that never came");
-  for (j = 0; j < taken.length; j++) {
+  for (j = 0; wanted && j < taken.length; j++) {
     if (body[j] != (uint8_t)(taken.flow + j)) fail("another body");
   }
+}
+
+/* Moves the clock to a time, now and then to one that is too early. What was moved by is written as the ticks that it takes. */
+static void call_advance(void) {
+  uint64_t now = wf_path_now(&path), to = now + below(25) * below(1000000);
+  int32_t code;
+  if (now && below(8) == 0) to = now - 1;
+  code = wf_path_advance(&path, to, &reply);
+  if (to < now) {
+    fprintf(trace, "tick %d\n", TICK + 1);
+    if (wf_path_now(&path) != now) fail("the clock was moved back");
+  }
+  for (; to > now + TICK; now += TICK) {
+    fprintf(trace, "tick %d\n", TICK);
+    fprintf(answers, "now %llu\n", (unsigned long long)(now + TICK));
+    lines++;
+  }
+  if (to >= now) fprintf(trace, "tick %llu\n", (unsigned long long)(to - now));
+  write_answer(code, NULL);
 }
 
 static void call_other(uint16_t s) {
@@ -265,7 +287,7 @@ static void call_other(uint16_t s) {
     case 2: code = wf_path_wake(&path, s, &reply), fprintf(trace, "wake %u\n", (unsigned)s); break;
     case 3: code = wf_path_poll(&path, s, &reply), fprintf(trace, "poll %u\n", (unsigned)s); break;
     case 4:
-      code = wf_path_receive(&path, s, class_, number, &reply);
+      code = wf_path_rx(&path, s, class_, number, &reply);
       fprintf(trace, "rx %u %s %lu\n", (unsigned)s, CLASSES[class_], (unsigned long)number);
       break;
     default:
@@ -288,6 +310,7 @@ static void call(void) {
   else if (which < 94) call_rate(s);
   else if (which < 95) call_rate_vht(s);
   else if (which < 96) call_rate_he(s);
+  else if (which < 97) call_advance();
   else call_other(s);
 }
 
@@ -308,15 +331,29 @@ static void summary(void) {
   for (s = 0; s < STATIONS; s++) {
     for (c = 0; c < 4; c++) {
       if ((wf_path_share(&path, s, c, &share) == WF_OK) != (wf_path_live(&path, s) == 1)) fail("live, and not live");
-      if (!wf_path_live(&path, s) || (share.charged == 0 && share.received == 0)) continue;
+      if (!wf_path_live(&path, s) || (share.charged == 0 && share.rx == 0)) continue;
       fprintf(answers, "sta %u %s charged %llu rx %llu deficit %lld\n", (unsigned)s, CLASSES[c], (unsigned long long)share.charged,
-              (unsigned long long)share.received, (long long)share.deficit);
+              (unsigned long long)share.rx, (long long)share.deficit);
     }
   }
   size = wf_path_tim(&path, tim);
   fprintf(answers, "tim ");
   for (i = 0; i < size; i++) fprintf(answers, "%02x", tim[i]);
   fprintf(answers, "\n");
+}
+
+/* The line of a trace that names the settings, by their places in the struct. */
+static void write_settings(const struct wf_settings *settings) {
+  uint32_t values[13];
+  int place;
+  memcpy(values, settings, sizeof values);
+  fprintf(trace, "cell");
+  for (place = 1; place <= 13; place++) {
+    char name[WF_NAME] = {0};
+    wf_setting_name(place, name);
+    fprintf(trace, " %s=%lu", name, (unsigned long)values[place - 1]);
+  }
+  fprintf(trace, "\n");
 }
 
 static void open_path(void) {
@@ -326,15 +363,26 @@ static void open_path(void) {
   settings.flows = 5000;
   if (wf_path_make(&path, &settings) != WF_BAD_SETTING + 2) fail("5000 flows are taken");
   settings.flows = 32;
+  settings.reserved[1] = 1;
+  if (wf_path_make(&path, &settings) != WF_BAD_SETTING + 15) fail("a setting that is none is taken");
+  settings.reserved[1] = 0;
   settings.limit = 40;
   settings.room = 400;
   settings.attempts = 4;
   settings.sleeping = 8;
+  settings.calls = 4000000;
   settings.charge = 70000;
   if (wf_path_make(&path, &settings) != WF_BAD_SETTING + 13) fail("a charge of 70000 is taken");
   settings.charge = CHARGE;
   if (wf_path_make(&path, &settings)) fail("there is no path");
-  fprintf(trace, "cell stations=%d flows=32 limit=40 room=400 attempts=4 sleeping=8 charge=%d\n", STATIONS, CHARGE);
+  write_settings(&settings);
+}
+
+/* The library is of the version that the header tells. */
+static void look_at_the_version(void) {
+  struct wf_version version = {0};
+  wf_version(&version);
+  if (version.major != WF_VERSION_MAJOR || version.minor != WF_VERSION_MINOR || version.patch != WF_VERSION_PATCH) fail("another version");
 }
 
 int main(int count, char **words) {
@@ -345,6 +393,7 @@ int main(int count, char **words) {
   trace = fopen(words[3], "w");
   answers = fopen(words[4], "w");
   if (!trace || !answers) fail("no file");
+  look_at_the_version();
   open_path();
   while (calls-- > 0) call();
   fprintf(trace, "end\n");

@@ -1,8 +1,10 @@
 mod CallKinds
 mod CellSlots
 mod Ended
+mod Filled
 mod Ids
 mod Makings
 mod Pairs
 mod Slots
+mod Ticks
 mod Words

@@ -1,5 +1,5 @@
 -- A frame that comes in, and one that is taken back.
-use Rattle.std.specs.Prelude.{◌≡◌, ◌<◌, ◌≤◌, ◌⊎◌, ℕ, ℤ, pos, true, List, Option, Some, None, length, take, drop}
+use Rattle.std.specs.Prelude.{◌≡◌, ◌<◌, ◌≤◌, ◌⊎◌, ◌&&◌, nat_lt, ℕ, ℤ, pos, Bool, true, List, Option, Some, None, length, take, drop}
 use Rattle.wf_frame.specs.Answers.{reply_of}
 use Rattle.wf_frame.specs.Frames.{FrameValue}
 use Rattle.wf_frame.specs.declared.notes.Ask.TheVariants.{Reap}
@@ -11,7 +11,7 @@ use Rattle.wf_path.specs.Jobs.{bodies_after, changes_nothing, frame_given_back}
 use Rattle.wf_path.specs.Paths.{IsPath}
 use Rattle.wf_path.specs.declared.job.Job.TheVariants.{Call, Give}
 use Rattle.wf_c.specs.Calls.{IsCalled}
-use Rattle.wf_c.specs.Numbers.{numbers_of}
+use Rattle.wf_c.specs.Numbers.{fate_number, numbers_of}
 use Rattle.wf_c.specs.declared.frames.NoFrame.{NoFrame}
 use Rattle.wf_c.specs.declared.frames.NoFrame.TheVariants.{NoMemory, BadLength}
 use Rattle.wf_c.specs.declared.frames.Taken.{Taken}
@@ -60,14 +60,26 @@ pub record IsGivenToC (h : Held) (f : FrameValue) (k : Held) (shown : Reply) : T
 abbrev pub small_buffer : ℕ
 small_buffer = 42
 
--- The caller's struct and the front of the buffer show frame f, but for its id, its stamp and its
--- fate; the rest of the buffer is as it was.
-pub record ShowsFrame (f : FrameValue) (taken : Taken) (before buffer : List ℕ) : Type 0 where
+-- whether a buffer of n octets is too small: it has some room, and not for the greatest body; one of no
+-- octets is for a body that is not wanted
+abbrev pub is_small_buffer : ℕ → Bool
+is_small_buffer n = nat_lt 0 n && nat_lt n greatest_body
+
+-- the caller's struct shows frame f, but for its body
+pub record IsAbout (f : FrameValue) (taken : Taken) : Type 0 where
+  pub id : taken.id ≡ f.id
+  pub stamp : taken.stamp ≡ f.stamp
   pub station : taken.station ≡ f.station
   pub tid : taken.tid ≡ f.tid
   pub flow : taken.flow ≡ f.flow
   pub size : taken.length ≡ length f.body
-  pub body : take (length f.body) buffer ≡ f.body
+  pub fate : taken.fate ≡ fate_number f.fate
+
+-- The caller's struct shows frame f, and the front of a buffer with room its body; the rest of the buffer is
+-- as it was.
+pub record ShowsFrame (f : FrameValue) (taken : Taken) (before buffer : List ℕ) : Type 0 where
+  pub about : IsAbout f taken
+  pub body : greatest_body ≤ length before → take (length f.body) buffer ≡ f.body
   pub rest : drop (length f.body) buffer ≡ drop (length f.body) before
 
 -- the caller's struct and buffer show the frame that came back, if any, and else are as they were

@@ -25,4 +25,4 @@ counts_shown t = record {
 pub record ShowsShare (w : World) (s : ℕ) (c : Class) (shown : Share) : Type 0 where
   pub deficit : shown.deficit ≡ (share w s c).deficit
   pub charged : shown.charged ≡ (share w s c).charged
-  pub received : shown.received ≡ (share w s c).received
+  pub rx : shown.rx ≡ (share w s c).received

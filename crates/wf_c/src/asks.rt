@@ -15,21 +15,18 @@ ghost use Rattle.wf_c.specs.Pulled.{ShowsAggregate};
 use crate::pulled::Frames;
 use crate::reply::Reply;
 use crate::slot::PathSlot;
-use std::alloc::Global;
 use wf_frame::{Ask, AskedRate, Class};
 
 impl PathSlot {
     // Makes a call that brings no frame, but for a reap.
-    fn ask(&mut self, alloc: Global, ask: Ask, reply: &mut Reply) -> i32
+    fn ask(&mut self, ask: Ask, reply: &mut Reply) -> i32
         requires open { is_some self.old.value ≡ true }
         requires small { HoldsSmall self.old.value }
         requires heard { IsHeard (Call ask) }
         ensures called { Becomes (λ h k. IsCalled h ask k reply.new) self.old.value self.new.value }
         ensures code { result ≡ pos reply.new.refusal }
     {
-        let mut held = self.take(alloc);
-        *reply = held.ask(ask);
-        self.put(held);
+        *reply = self.held().ask(ask);
         i32::from(reply.refusal)
     }
 }
@@ -49,7 +46,6 @@ pub(crate) fn class_of_number(number: u8) -> Class
 /// A station joins (`wf_path::Path::call` with `Ask::Join`).
 #[unsafe(no_mangle)]
 pub extern "C" fn wf_path_join(
-    alloc: Global,
     path: &mut PathSlot,
     station: u16,
     window: u16,
@@ -71,29 +67,23 @@ pub extern "C" fn wf_path_join(
         exponent,
         weight,
     };
-    path.ask(alloc, ask, reply)
+    path.ask(ask, reply)
 }
 
 /// A station leaves, and its frames are dropped.
 #[unsafe(no_mangle)]
-pub extern "C" fn wf_path_leave(
-    alloc: Global,
-    path: &mut PathSlot,
-    station: u16,
-    reply: &mut Reply,
-) -> i32
+pub extern "C" fn wf_path_leave(path: &mut PathSlot, station: u16, reply: &mut Reply) -> i32
     requires open { is_some path.old.value ≡ true }
     requires small { HoldsSmall path.old.value }
     ensures called { Becomes (λ h k. IsCalled h (Leave station) k reply.new) path.old.value path.new.value }
     ensures code { result ≡ pos reply.new.refusal }
 {
-    path.ask(alloc, Ask::Leave { station }, reply)
+    path.ask(Ask::Leave { station }, reply)
 }
 
 /// A station is sent to at another rate, one of HT; `short` other than 0 is the short guard interval.
 #[unsafe(no_mangle)]
 pub extern "C" fn wf_path_rate(
-    alloc: Global,
     path: &mut PathSlot,
     station: u16,
     mcs: u8,
@@ -112,13 +102,12 @@ pub extern "C" fn wf_path_rate(
         mhz,
         short: short != 0,
     };
-    path.ask(alloc, Ask::Rate { station, rate }, reply)
+    path.ask(Ask::Rate { station, rate }, reply)
 }
 
 /// A station is sent to at another rate, one of VHT; `short` other than 0 is the short guard interval.
 #[unsafe(no_mangle)]
 pub extern "C" fn wf_path_rate_vht(
-    alloc: Global,
     path: &mut PathSlot,
     station: u16,
     mcs: u8,
@@ -139,13 +128,12 @@ pub extern "C" fn wf_path_rate_vht(
         short: short != 0,
         streams,
     };
-    path.ask(alloc, Ask::Rate { station, rate }, reply)
+    path.ask(Ask::Rate { station, rate }, reply)
 }
 
 /// A station is sent to at another rate, one of HE, with a guard interval of so many nanoseconds.
 #[unsafe(no_mangle)]
 pub extern "C" fn wf_path_rate_he(
-    alloc: Global,
     path: &mut PathSlot,
     station: u16,
     mcs: u8,
@@ -166,77 +154,56 @@ pub extern "C" fn wf_path_rate_he(
         guard,
         streams,
     };
-    path.ask(alloc, Ask::Rate { station, rate }, reply)
+    path.ask(Ask::Rate { station, rate }, reply)
 }
 
 /// The clock moves on.
 #[unsafe(no_mangle)]
-pub extern "C" fn wf_path_tick(
-    alloc: Global,
-    path: &mut PathSlot,
-    by: u32,
-    reply: &mut Reply,
-) -> i32
+pub extern "C" fn wf_path_tick(path: &mut PathSlot, by: u32, reply: &mut Reply) -> i32
     requires open { is_some path.old.value ≡ true }
     requires small { HoldsSmall path.old.value }
     ensures called { Becomes (λ h k. IsCalled h (Tick by) k reply.new) path.old.value path.new.value }
     ensures code { result ≡ pos reply.new.refusal }
 {
-    path.ask(alloc, Ask::Tick { by }, reply)
+    path.ask(Ask::Tick { by }, reply)
 }
 
 /// A station goes to sleep.
 #[unsafe(no_mangle)]
-pub extern "C" fn wf_path_sleep(
-    alloc: Global,
-    path: &mut PathSlot,
-    station: u16,
-    reply: &mut Reply,
-) -> i32
+pub extern "C" fn wf_path_sleep(path: &mut PathSlot, station: u16, reply: &mut Reply) -> i32
     requires open { is_some path.old.value ≡ true }
     requires small { HoldsSmall path.old.value }
     ensures called { Becomes (λ h k. IsCalled h (Sleep station) k reply.new) path.old.value path.new.value }
     ensures code { result ≡ pos reply.new.refusal }
 {
-    path.ask(alloc, Ask::Sleep { station }, reply)
+    path.ask(Ask::Sleep { station }, reply)
 }
 
 /// A station wakes.
 #[unsafe(no_mangle)]
-pub extern "C" fn wf_path_wake(
-    alloc: Global,
-    path: &mut PathSlot,
-    station: u16,
-    reply: &mut Reply,
-) -> i32
+pub extern "C" fn wf_path_wake(path: &mut PathSlot, station: u16, reply: &mut Reply) -> i32
     requires open { is_some path.old.value ≡ true }
     requires small { HoldsSmall path.old.value }
     ensures called { Becomes (λ h k. IsCalled h (Wake station) k reply.new) path.old.value path.new.value }
     ensures code { result ≡ pos reply.new.refusal }
 {
-    path.ask(alloc, Ask::Wake { station }, reply)
+    path.ask(Ask::Wake { station }, reply)
 }
 
 /// A sleeping station asks for one frame (PS-Poll).
 #[unsafe(no_mangle)]
-pub extern "C" fn wf_path_poll(
-    alloc: Global,
-    path: &mut PathSlot,
-    station: u16,
-    reply: &mut Reply,
-) -> i32
+pub extern "C" fn wf_path_poll(path: &mut PathSlot, station: u16, reply: &mut Reply) -> i32
     requires open { is_some path.old.value ≡ true }
     requires small { HoldsSmall path.old.value }
     ensures called { Becomes (λ h k. IsCalled h (Poll station) k reply.new) path.old.value path.new.value }
     ensures code { result ≡ pos reply.new.refusal }
 {
-    path.ask(alloc, Ask::Poll { station }, reply)
+    path.ask(Ask::Poll { station }, reply)
 }
 
 /// A station used airtime to send.
 #[unsafe(no_mangle)]
-pub extern "C" fn wf_path_receive(
-    alloc: Global,
+pub extern "C" fn wf_path_rx(
     path: &mut PathSlot,
     station: u16,
     class: u8,
@@ -254,14 +221,13 @@ pub extern "C" fn wf_path_receive(
         class: class_of_number(class),
         air,
     };
-    path.ask(alloc, ask, reply)
+    path.ask(ask, reply)
 }
 
 /// The driver asks for the next exchange of a class. Where it sends an aggregate, `frames` has its frames,
 /// and else none.
 #[unsafe(no_mangle)]
 pub extern "C" fn wf_path_pull(
-    alloc: Global,
     path: &mut PathSlot,
     class: u8,
     reply: &mut Reply,
@@ -274,10 +240,9 @@ pub extern "C" fn wf_path_pull(
     ensures frames { IfSome path.new.value (λ k. ShowsAggregate frames.new k.answer.brief k.answer.pairs) }
     ensures code { result ≡ pos reply.new.refusal }
 {
-    let mut held = path.take(alloc);
     let class = class_of_number(class);
+    let held = path.held();
     *reply = held.ask(Ask::Pull { class });
     frames.show(&held.answer);
-    path.put(held);
     i32::from(reply.refusal)
 }

@@ -19,7 +19,6 @@ ghost use Rattle.wf_c.specs.Numbers.{named_air};
 use crate::held::Held;
 use crate::reply::Reply;
 use crate::slot::PathSlot;
-use std::alloc::Global;
 use wf_octets_bits::Bits256;
 use wf_octets_block::BlockFault;
 use wf_octets_seq12::Seq12;
@@ -50,12 +49,7 @@ pub struct Sent {
 /// Writes what an exchange sends, and to whom, and gives 0; gives 12 where it is not open, and then
 /// writes nothing.
 #[unsafe(no_mangle)]
-pub extern "C" fn wf_path_sent(
-    alloc: Global,
-    path: &mut PathSlot,
-    exchange: u64,
-    sent: &mut Sent,
-) -> i32
+pub extern "C" fn wf_path_sent(path: &mut PathSlot, exchange: u64, sent: &mut Sent) -> i32
     requires open { is_some path.old.value ≡ true }
     ensures code { (w : World) (bodies : ℕ → FrameValue) → HoldsFor path.old.value w bodies →
         result ≡ pos (sent_code (exchange_in w exchange)) }
@@ -64,10 +58,7 @@ pub extern "C" fn wf_path_sent(
     ensures kept { (result ≡ pos 0) ⊎ (sent.new ≡ sent.old) }
     ensures unchanged { path.new.value ≡ path.old.value }
 {
-    let held = path.take(alloc);
-    let found = held.path.sent(exchange);
-    path.put(held);
-    match found {
+    match path.held().path.sent(exchange) {
         Some(found) => {
             *sent = Sent {
                 station: found.station,
@@ -85,7 +76,6 @@ pub extern "C" fn wf_path_sent(
 /// request, or has no transmission of that index, and then writes nothing.
 #[unsafe(no_mangle)]
 pub extern "C" fn wf_path_frame_id(
-    alloc: Global,
     path: &mut PathSlot,
     exchange: u64,
     index: u16,
@@ -99,10 +89,7 @@ pub extern "C" fn wf_path_frame_id(
     ensures kept { (result ≡ pos 0) ⊎ (id.new ≡ id.old) }
     ensures unchanged { path.new.value ≡ path.old.value }
 {
-    let held = path.take(alloc);
-    let found = held.path.frame_id(exchange, index);
-    path.put(held);
-    match found {
+    match path.held().path.frame_id(exchange, index) {
         Some(found) => {
             *id = found;
             0
@@ -116,7 +103,6 @@ pub extern "C" fn wf_path_frame_id(
 /// says how much room is needed, while with the others it is as it was.
 #[unsafe(no_mangle)]
 pub extern "C" fn wf_path_mpdu(
-    alloc: Global,
     path: &mut PathSlot,
     exchange: u64,
     index: u16,
@@ -136,10 +122,7 @@ pub extern "C" fn wf_path_mpdu(
         needs (write_fault w bodies exchange index (length out.old)) size.old size.new }
     ensures unchanged { path.new.value ≡ path.old.value }
 {
-    let held = path.take(alloc);
-    let written = held.path.mpdu(exchange, index, out);
-    path.put(held);
-    match written {
+    match path.held().path.mpdu(exchange, index, out) {
         Ok(count) => {
             *size = count;
             0
@@ -204,7 +187,6 @@ impl PathSlot {
     // An exchange ends.
     fn end_exchange(
         &mut self,
-        alloc: Global,
         exchange: u64,
         heard: Option<(Seq12, Bits256)>,
         air: u32,
@@ -216,9 +198,7 @@ impl PathSlot {
             (named_air air) k reply.new) self.old.value self.new.value }
         ensures code { result ≡ pos reply.new.refusal }
     {
-        let mut held = self.take(alloc);
-        *reply = held.end(exchange, heard, named_air(air));
-        self.put(held);
+        *reply = self.held().end(exchange, heard, named_air(air));
         i32::from(reply.refusal)
     }
 }
@@ -227,7 +207,6 @@ impl PathSlot {
 /// computed of the exchange.
 #[unsafe(no_mangle)]
 pub extern "C" fn wf_path_done_lost(
-    alloc: Global,
     path: &mut PathSlot,
     exchange: u64,
     air: u32,
@@ -239,14 +218,13 @@ pub extern "C" fn wf_path_done_lost(
         (named_air air) k reply.new) path.old.value path.new.value }
     ensures code { result ≡ pos reply.new.refusal }
 {
-    path.end_exchange(alloc, exchange, None, air, reply)
+    path.end_exchange(exchange, None, air, reply)
 }
 
 /// An exchange ends, and a BlockAck of this start and this bitmap was heard; `air` is as of
 /// `wf_path_done_lost`.
 #[unsafe(no_mangle)]
 pub extern "C" fn wf_path_done_bits(
-    alloc: Global,
     path: &mut PathSlot,
     exchange: u64,
     start: u16,
@@ -262,7 +240,7 @@ pub extern "C" fn wf_path_done_bits(
     ensures code { result ≡ pos reply.new.refusal }
 {
     let heard = (Seq12::of(u64::from(start)), Bits256::of_octets(*bits));
-    path.end_exchange(alloc, exchange, Some(heard), air, reply)
+    path.end_exchange(exchange, Some(heard), air, reply)
 }
 
 /// An exchange ends, and the octets of a BlockAck were heard; `air` is as of `wf_path_done_lost`. Gives 0, or
@@ -270,7 +248,6 @@ pub extern "C" fn wf_path_done_bits(
 /// open still, and `reply` is as it was.
 #[unsafe(no_mangle)]
 pub extern "C" fn wf_path_done_octets(
-    alloc: Global,
     path: &mut PathSlot,
     exchange: u64,
     octets: &[u8],
@@ -288,12 +265,10 @@ pub extern "C" fn wf_path_done_octets(
     ensures fault { (result ≡ pos 0) ⊎ Becomes (λ h k. k.path ≡ h.path) path.old.value path.new.value }
     ensures kept { (result ≡ pos 0) ⊎ (reply.new ≡ reply.old) }
 {
-    let mut held = path.take(alloc);
     let air = named_air(air);
+    let held = path.held();
     let is_bad = held.is_bad_air(air);
-    let ended = held.end_by(exchange, octets, air);
-    path.put(held);
-    match ended {
+    match held.end_by(exchange, octets, air) {
         Ok(_) if is_bad => BAD_AIR,
         Ok(shown) => {
             *reply = shown;

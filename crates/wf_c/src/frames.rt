@@ -1,17 +1,17 @@
 //! A frame comes in, and a finished one is taken back.
 
-ghost use Rattle.std.specs.Prelude.{◌≡◌, ◌⊎◌, ◌<◌, ◌≤◌, true, is_some, pos, take, drop, length, IfOk, IfErr};
+ghost use Rattle.std.specs.Prelude.{◌≡◌, ◌⊎◌, ◌≤◌, true, false, is_some, pos, take, drop, length, IfOk, IfErr};
 ghost use Rattle.wf_frame.specs.Frames.{new_frame};
 ghost use Rattle.wf_def_lists.specs.Lengths.{greatest_body};
 ghost use Rattle.wf_path.specs.Paths.{IsSmall};
 ghost use Rattle.wf_c.specs.Calls.{Becomes, HoldsSmall};
-ghost use Rattle.wf_c.specs.Bodies.{FitsCause, IsBadLength, IsBodyLength, IsGivenToC, IsReapedFromC, IsUntouched, ShowsBack, ShowsFrame, bad_length, small_buffer};
+ghost use Rattle.wf_c.specs.Bodies.{FitsCause, IsAbout, IsBadLength, IsBodyLength, IsGivenToC, IsReapedFromC, IsUntouched, ShowsBack, ShowsFrame, bad_length, is_small_buffer, small_buffer};
 ghost use Rattle.wf_c.specs.Making.{no_memory};
 
 use crate::exchanges::SMALL_BUFFER;
 use crate::held::Held;
 use crate::make::NO_MEMORY;
-use crate::reply::Reply;
+use crate::reply::{Reply, number_of_fate};
 use crate::slot::PathSlot;
 use std::alloc::{AllocError, Global};
 use wf_frame::{Ask, Frame, GREATEST_BODY};
@@ -81,7 +81,6 @@ impl Held {
     // Takes the first finished frame back.
     fn reap(&mut self, taken: &mut Taken, body: &mut [u8]) -> Reply
         requires small { IsSmall self.old.path }
-        requires room { greatest_body ≤ length body.old }
         ensures { IsReapedFromC self.old self.new result taken.old body.old taken.new body.new }
     {
         let back = self.path.call(Job::Call(Ask::Reap), &mut self.answer);
@@ -90,9 +89,9 @@ impl Held {
     }
 }
 
-// Shows a frame that came back, if any, and frees it. The rest of the buffer stays.
+// Shows a frame that came back, if any, and frees it. Its body goes to the front of a buffer that has room;
+// the rest of the buffer stays.
 pub(crate) fn show_back(back: Option<Parcel>, taken: &mut Taken, body: &mut [u8])
-    requires room { greatest_body ≤ length body.old }
     ensures { ShowsBack back taken.old body.old taken.new body.new }
 {
     if let Some(parcel) = back {
@@ -104,6 +103,10 @@ pub(crate) fn show_back(back: Option<Parcel>, taken: &mut Taken, body: &mut [u8]
 #[repr(C)]
 #[derive(Clone, Copy)]
 pub struct Taken {
+    /// Its id.
+    pub id: u64,
+    /// When it was accepted, in microseconds.
+    pub stamp: u64,
     /// Its flow.
     pub flow: u32,
     /// The station that it was for.
@@ -112,24 +115,44 @@ pub struct Taken {
     pub length: u16,
     /// Its TID, 0 to 7.
     pub tid: u8,
+    /// What became of it: 1 to 5.
+    pub fate: u8,
 }
 
 impl Taken {
-    // Shows a frame, with its body in a buffer.
+    // Shows a frame, with its body in a buffer that has room.
     fn show(&mut self, parcel: &Parcel, body: &mut [u8])
-        requires room { greatest_body ≤ length body.old }
         ensures { ShowsFrame parcel.now self.new body.old body.new }
     {
         let frame = parcel.frame();
-        let length = frame.len();
-        copy_to_front(frame.body(), body);
-        *self = Taken {
+        *self = Taken::of(frame);
+        if usize::from(GREATEST_BODY) <= body.len() {
+            copy_to_front(frame.body(), body);
+        }
+    }
+
+    // A frame, but for its body.
+    fn of(frame: &Frame) -> Taken
+        ensures about { IsAbout frame.now result }
+        ensures length { length frame.now.body ≤ greatest_body }
+    {
+        Taken {
+            id: frame.id(),
+            stamp: frame.stamp(),
             flow: frame.flow(),
             station: frame.station(),
-            length,
+            length: frame.len(),
             tid: frame.tid(),
-        };
+            fate: number_of_fate(frame.fate()),
+        }
     }
+}
+
+// Whether a buffer is too small: it has some room, and not for the greatest body.
+pub(crate) fn is_small(buffer: &[u8]) -> bool
+    ensures { result ≡ is_small_buffer (length buffer.now) }
+{
+    0 < buffer.len() && buffer.len() < usize::from(GREATEST_BODY)
 }
 
 // Copies octets to the front of a buffer.
@@ -165,9 +188,7 @@ pub extern "C" fn wf_path_enqueue(
 {
     match frame_of(alloc, station, tid, flow, body) {
         Ok(parcel) => {
-            let mut held = path.take(alloc);
-            *reply = held.give(parcel);
-            path.put(held);
+            *reply = path.held().give(parcel);
             i32::from(reply.refusal)
         }
         Err(NoFrame::NoMemory) => NO_MEMORY,
@@ -175,11 +196,11 @@ pub extern "C" fn wf_path_enqueue(
     }
 }
 
-/// Takes the first finished frame back, with its body at the front of a buffer. Gives the refusal,
-/// or 42 where the buffer has no room for the greatest body, and then nothing has changed.
+/// Takes the first finished frame back, with its body at the front of a buffer, and without it where the
+/// buffer has no octet. Gives the refusal, or 42 where the buffer has some room, and not for the greatest
+/// body: then nothing has changed.
 #[unsafe(no_mangle)]
 pub extern "C" fn wf_path_reap(
-    alloc: Global,
     path: &mut PathSlot,
     reply: &mut Reply,
     taken: &mut Taken,
@@ -187,19 +208,17 @@ pub extern "C" fn wf_path_reap(
 ) -> i32
     requires open { is_some path.old.value ≡ true }
     requires small { HoldsSmall path.old.value }
-    ensures reaped { greatest_body ≤ length body.old → Becomes (λ h k. IsReapedFromC h k
+    ensures reaped { is_small_buffer (length body.old) ≡ false → Becomes (λ h k. IsReapedFromC h k
         reply.new taken.old body.old taken.new body.new) path.old.value path.new.value }
-    ensures code { greatest_body ≤ length body.old → result ≡ pos reply.new.refusal }
-    ensures refused { length body.old < greatest_body →
+    ensures code { is_small_buffer (length body.old) ≡ false → result ≡ pos reply.new.refusal }
+    ensures refused { is_small_buffer (length body.old) ≡ true →
         IsUntouched path.old.value path.new.value reply.old reply.new result small_buffer }
-    ensures taken_stays { length body.old < greatest_body → taken.new ≡ taken.old }
-    ensures body_stays { length body.old < greatest_body → body.new ≡ body.old }
+    ensures taken_stays { is_small_buffer (length body.old) ≡ true → taken.new ≡ taken.old }
+    ensures body_stays { is_small_buffer (length body.old) ≡ true → body.new ≡ body.old }
 {
-    if body.len() < usize::from(GREATEST_BODY) {
+    if is_small(body) {
         return SMALL_BUFFER;
     }
-    let mut held = path.take(alloc);
-    *reply = held.reap(taken, body);
-    path.put(held);
+    *reply = path.held().reap(taken, body);
     i32::from(reply.refusal)
 }

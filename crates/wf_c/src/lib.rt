@@ -9,19 +9,23 @@
 
 mod asks;
 mod cell;
+mod clock;
+mod crossing;
 mod exchanges;
 mod frames;
 mod held;
 mod make;
+mod names;
 mod pulled;
 mod readers;
 mod reply;
 mod settings;
 mod slot;
+mod version;
 
 pub use asks::{
     wf_path_join, wf_path_leave, wf_path_poll, wf_path_pull, wf_path_rate, wf_path_rate_he,
-    wf_path_rate_vht, wf_path_receive, wf_path_sleep, wf_path_tick, wf_path_wake,
+    wf_path_rate_vht, wf_path_rx, wf_path_sleep, wf_path_tick, wf_path_wake,
 };
 pub use cell::answers::{Block, PassedUp, wf_cell_block, wf_cell_frames, wf_cell_released};
 pub use cell::asks::wf_cell_ask;
@@ -30,12 +34,14 @@ pub use cell::frames::{wf_cell_enqueue, wf_cell_reap};
 pub use cell::make::{wf_cell_free, wf_cell_make};
 pub use cell::readers::{wf_cell_entry, wf_cell_len, wf_cell_room};
 pub use cell::slot::CellSlot;
+pub use clock::wf_path_advance;
 pub use exchanges::{
     Sent, wf_path_done_bits, wf_path_done_lost, wf_path_done_octets, wf_path_frame_id,
     wf_path_mpdu, wf_path_sent,
 };
 pub use frames::{Taken, wf_path_enqueue, wf_path_reap};
 pub use make::{wf_path_free, wf_path_make};
+pub use names::{wf_code_name, wf_fate_name, wf_kind_name, wf_setting_name, words_law};
 pub use pulled::Frames;
 pub use readers::{
     Share, Tally, wf_path_exchanges, wf_path_live, wf_path_now, wf_path_open_count, wf_path_share,
@@ -44,3 +50,4 @@ pub use readers::{
 pub use reply::Reply;
 pub use settings::{Settings, wf_settings_standard};
 pub use slot::PathSlot;
+pub use version::{Version, wf_version};

@@ -4,10 +4,10 @@ ghost use Rattle.std.specs.Prelude.{◌≡◌, ◌⊎◌, ℕ, None, true, is_so
 ghost use Rattle.wf_frame.specs.Frames.{FrameValue};
 ghost use Rattle.wf_def_world.specs.World.{opening};
 ghost use Rattle.wf_c.specs.Calls.{HoldsFor, HoldsSmall};
-ghost use Rattle.wf_c.specs.Making.{IsMadeCode, bad_field, config_of};
+ghost use Rattle.wf_c.specs.Making.{IsMadeCode, bad_place, config_of};
 
 use crate::held::Held;
-use crate::settings::{Settings, number_of_field};
+use crate::settings::Settings;
 use crate::slot::PathSlot;
 use std::alloc::Global;
 
@@ -23,14 +23,14 @@ pub(crate) const BAD_SETTING: i32 = 100;
 #[unsafe(no_mangle)]
 pub extern "C" fn wf_path_make(alloc: Global, path: &mut PathSlot, settings: &Settings) -> i32
     requires empty { path.old.value ≡ None }
-    ensures code { IsMadeCode (bad_field settings.now) result }
+    ensures code { IsMadeCode (bad_place settings.now) result }
     ensures stands { result ≡ pos 0 → (bodies : ℕ → FrameValue) →
         HoldsFor path.new.value (opening (config_of settings.now)) bodies }
     ensures small { result ≡ pos 0 → HoldsSmall path.new.value }
     ensures nothing { (result ≡ pos 0) ⊎ (path.new.value ≡ None) }
 {
-    if let Some(field) = settings.fault() {
-        return BAD_SETTING + i32::from(number_of_field(field));
+    if let Some(place) = settings.fault() {
+        return BAD_SETTING + i32::from(place);
     }
     match Held::made(alloc, settings.config()) {
         Some(held) => {

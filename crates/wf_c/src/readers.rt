@@ -13,7 +13,6 @@ ghost use Rattle.wf_c.specs.Shares.{ShowsShare, counts_shown, no_station_code};
 use crate::asks::class_of_number;
 use crate::held::Held;
 use crate::slot::PathSlot;
-use std::alloc::Global;
 use wf_frame::Class;
 
 /// No such station.
@@ -46,76 +45,62 @@ pub struct Share {
     /// What its exchanges took.
     pub charged: u64,
     /// What it used itself.
-    pub received: u64,
+    pub rx: u64,
 }
 
 /// The clock, in microseconds.
 #[unsafe(no_mangle)]
-pub extern "C" fn wf_path_now(alloc: Global, path: &mut PathSlot) -> u64
+pub extern "C" fn wf_path_now(path: &mut PathSlot) -> u64
     requires open { is_some path.old.value ≡ true }
     ensures world { (w : World) (bodies : ℕ → FrameValue) → HoldsFor path.old.value w bodies →
         result ≡ w.clock }
     ensures unchanged { path.new.value ≡ path.old.value }
 {
-    let held = path.take(alloc);
-    let now = held.path.now();
-    path.put(held);
-    now
+    path.held().path.now()
 }
 
 /// How many exchanges were opened.
 #[unsafe(no_mangle)]
-pub extern "C" fn wf_path_exchanges(alloc: Global, path: &mut PathSlot) -> u64
+pub extern "C" fn wf_path_exchanges(path: &mut PathSlot) -> u64
     requires open { is_some path.old.value ≡ true }
     ensures world { (w : World) (bodies : ℕ → FrameValue) → HoldsFor path.old.value w bodies →
         result ≡ w.exchanges }
     ensures unchanged { path.new.value ≡ path.old.value }
 {
-    let held = path.take(alloc);
-    let exchanges = held.path.exchanges();
-    path.put(held);
-    exchanges
+    path.held().path.exchanges()
 }
 
 /// How many exchanges are open, at most 32.
 #[unsafe(no_mangle)]
-pub extern "C" fn wf_path_open_count(alloc: Global, path: &mut PathSlot) -> u32
+pub extern "C" fn wf_path_open_count(path: &mut PathSlot) -> u32
     requires open { is_some path.old.value ≡ true }
     ensures world { (w : World) (bodies : ℕ → FrameValue) → HoldsFor path.old.value w bodies →
         result ≡ length w.opened }
     ensures unchanged { path.new.value ≡ path.old.value }
 {
-    let held = path.take(alloc);
-    let count = held.path.open_count();
-    path.put(held);
-    count
+    path.held().path.open_count()
 }
 
 /// Whether a station is live: 1 or 0.
 #[unsafe(no_mangle)]
-pub extern "C" fn wf_path_live(alloc: Global, path: &mut PathSlot, station: u16) -> i32
+pub extern "C" fn wf_path_live(path: &mut PathSlot, station: u16) -> i32
     requires open { is_some path.old.value ≡ true }
     ensures world { (w : World) (bodies : ℕ → FrameValue) → HoldsFor path.old.value w bodies →
         result ≡ pos (flag_of (is_live w station)) }
     ensures unchanged { path.new.value ≡ path.old.value }
 {
-    let held = path.take(alloc);
-    let live = held.path.live(station);
-    path.put(held);
-    i32::from(live)
+    i32::from(path.held().path.live(station))
 }
 
 /// Writes the accepted frames by what became of them.
 #[unsafe(no_mangle)]
-pub extern "C" fn wf_path_tally(alloc: Global, path: &mut PathSlot, tally: &mut Tally)
+pub extern "C" fn wf_path_tally(path: &mut PathSlot, tally: &mut Tally)
     requires open { is_some path.old.value ≡ true }
     ensures world { (w : World) (bodies : ℕ → FrameValue) → HoldsFor path.old.value w bodies →
         counts_shown tally.new ≡ counts_in w }
     ensures unchanged { path.new.value ≡ path.old.value }
 {
-    let held = path.take(alloc);
-    let counts = held.path.tally();
-    path.put(held);
+    let counts = path.held().path.tally();
     *tally = Tally {
         accepted: counts.accepted,
         acked: counts.acked,
@@ -140,7 +125,7 @@ impl Held {
         Some(Share {
             deficit: self.path.deficit(station, class),
             charged: self.path.charged(station, class),
-            received: self.path.received(station, class),
+            rx: self.path.received(station, class),
         })
     }
 }
@@ -149,7 +134,6 @@ impl Held {
 /// writes nothing.
 #[unsafe(no_mangle)]
 pub extern "C" fn wf_path_share(
-    alloc: Global,
     path: &mut PathSlot,
     station: u16,
     class: u8,
@@ -164,10 +148,7 @@ pub extern "C" fn wf_path_share(
     ensures kept { (result ≡ pos 0) ⊎ (share.new ≡ share.old) }
     ensures unchanged { path.new.value ≡ path.old.value }
 {
-    let held = path.take(alloc);
-    let shown = held.share(station, class_of_number(class));
-    path.put(held);
-    match shown {
+    match path.held().share(station, class_of_number(class)) {
         Some(shown) => {
             *share = shown;
             0
@@ -178,15 +159,12 @@ pub extern "C" fn wf_path_share(
 
 /// Writes the TIM element of the live stations that sleep and have traffic, and gives how many octets it has.
 #[unsafe(no_mangle)]
-pub extern "C" fn wf_path_tim(alloc: Global, path: &mut PathSlot, out: &mut [u8; 256]) -> usize
+pub extern "C" fn wf_path_tim(path: &mut PathSlot, out: &mut [u8; 256]) -> usize
     requires open { is_some path.old.value ≡ true }
     ensures octets { (w : World) (bodies : ℕ → FrameValue) → HoldsFor path.old.value w bodies →
         take result out.new ≡ traffic_map (with_traffic w) }
     ensures rest { drop result out.new ≡ drop result out.old }
     ensures unchanged { path.new.value ≡ path.old.value }
 {
-    let held = path.take(alloc);
-    let size = held.path.tim(out);
-    path.put(held);
-    size
+    path.held().path.tim(out)
 }

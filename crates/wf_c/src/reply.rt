@@ -234,7 +234,7 @@ pub(crate) fn number_of_class(class: Class) -> u8
 }
 
 // The number of a fate: 0 to 5.
-fn number_of_fate(fate: Fate) -> u8
+pub(crate) fn number_of_fate(fate: Fate) -> u8
     ensures { result ≡ fate_number fate }
 {
     match fate {

@@ -1,8 +1,8 @@
 //! The settings of a path, in a struct of the caller's.
 
-ghost use Rattle.std.specs.Prelude.{◌≡◌};
+ghost use Rattle.std.specs.Prelude.{◌≡◌, ◌∷◌, []};
 ghost use Rattle.wf_frame.specs.Settings.{standard};
-ghost use Rattle.wf_c.specs.Making.{bad_field, config_of, field_number};
+ghost use Rattle.wf_c.specs.Making.{bad_place, config_of, field_number, first_reserved, first_set};
 
 use wf_frame::{Config, Field};
 
@@ -36,6 +36,8 @@ pub struct Settings {
     pub calls: u32,
     /// The greatest airtime that the end of an exchange may name, in microseconds: 0 to 65535.
     pub charge: u32,
+    /// Room for later settings: each 0.
+    pub reserved: [u32; 3],
 }
 
 impl Settings {
@@ -60,19 +62,39 @@ impl Settings {
         }
     }
 
-    // The first setting that is out of its range.
-    #[tactic(auto, unfolding(crate::specs::Making::bad_field))]
-    pub(crate) fn fault(&self) -> Option<Field>
-        ensures { result ≡ bad_field self.now }
+    // The place of the first setting that is out of its range.
+    #[tactic(auto, unfolding(crate::specs::Making::bad_place))]
+    pub(crate) fn fault(&self) -> Option<u8>
+        ensures { result ≡ bad_place self.now }
     {
-        self.config().check()
+        match self.config().check() {
+            Some(field) => Some(number_of_field(field)),
+            None => self.reserved_fault(),
+        }
+    }
+
+    // The place of the first reserved number that is not 0.
+    fn reserved_fault(&self) -> Option<u8>
+        ensures { result ≡ first_set first_reserved self.now.reserved }
+    {
+        let [first, second, third] = self.reserved;
+        if first != 0 {
+            Some(14)
+        } else if second != 0 {
+            Some(15)
+        } else if third != 0 {
+            Some(16)
+        } else {
+            None
+        }
     }
 }
 
 /// Writes the settings that the program `wf` has where a trace names none.
 #[unsafe(no_mangle)]
 pub extern "C" fn wf_settings_standard(settings: &mut Settings)
-    ensures { config_of settings.new ≡ standard }
+    ensures config { config_of settings.new ≡ standard }
+    ensures reserved { settings.new.reserved ≡ 0 ∷ 0 ∷ 0 ∷ [] }
 {
     let config = Config::standard();
     *settings = Settings {
@@ -89,11 +111,12 @@ pub extern "C" fn wf_settings_standard(settings: &mut Settings)
         sleeping: config.sleeping,
         calls: config.calls,
         charge: config.charge,
+        reserved: [0, 0, 0],
     };
 }
 
 // The place of a setting, 1 to 13.
-pub(crate) fn number_of_field(field: Field) -> u8
+fn number_of_field(field: Field) -> u8
     ensures { result ≡ field_number field }
 {
     match field {

@@ -1,12 +1,13 @@
 //! The handle that a C program keeps.
 
 ghost use Rattle.std.specs.Prelude.{◌≡◌, Option, Some, None, true, is_some};
+ghost use Rattle.std.specs.Borrow.{sem};
 ghost use Rattle.wf_c.specs.Slots.{slot_owns};
 ghost use Rattle.wf_c.specs.declared.held.Held.{Held as HeldValue};
 
 use crate::held::Held;
 use std::alloc::Global;
-use std::marker::Model;
+use std::marker::{Model, Send};
 use std::mem::replace;
 use wf_queue_chain::Unboxed;
 
@@ -22,7 +23,12 @@ impl Model for PathSlot {
     ghost also_owns = { λ s. slot_owns s.alloc s.at s.value };
 }
 
+// A handle may go from thread to thread.
+unsafe impl Send for PathSlot {}
+
 impl PathSlot {
+    ghost use Rattle.wf_c.specs.Lending.{LendsHeld};
+
     // A handle that holds nothing.
     pub(crate) fn empty(alloc: Global) -> PathSlot
         ensures { result.value ≡ None }
@@ -80,5 +86,14 @@ impl PathSlot {
         ensures { self.new.value ≡ Some held.value }
     {
         replace(self, PathSlot::full(Unboxed::of(held))).end();
+    }
+
+    // What a handle holds, in its place; what is left behind the reference is what the handle then holds.
+    pub(crate) fn held(&mut self) -> &mut Held
+        requires { is_some self.old.value ≡ true }
+        ensures* writes_back { sem 𝓛 (LendsHeld self.entry result) }
+        ensures value { self.old.value ≡ Some result.now }
+    {
+        unsafe { &mut *(self.at as *mut Held) }
     }
 }

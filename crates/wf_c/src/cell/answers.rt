@@ -7,7 +7,6 @@ ghost use Rattle.wf_c.specs.Pulled.{ShowsAggregate};
 
 use crate::cell::slot::CellSlot;
 use crate::pulled::Frames;
-use std::alloc::Global;
 use wf_frame::{Answer, Brief, Ids};
 
 /// The ids of the frames that a station passed up, in order, of which there are `count`.
@@ -94,36 +93,30 @@ impl Block {
 
 /// Shows the frames of the aggregate that the last call sends, and else none.
 #[unsafe(no_mangle)]
-pub extern "C" fn wf_cell_frames(alloc: Global, cell: &mut CellSlot, frames: &mut Frames)
+pub extern "C" fn wf_cell_frames(cell: &mut CellSlot, frames: &mut Frames)
     requires open { is_some cell.old.value ≡ true }
     ensures frames { IfSome cell.old.value (λ h. ShowsAggregate frames.new h.answer.brief h.answer.pairs) }
     ensures unchanged { cell.new.value ≡ cell.old.value }
 {
-    let held = cell.take(alloc);
-    frames.show(&held.answer);
-    cell.put(held);
+    frames.show(&cell.held().answer);
 }
 
 /// Shows the ids of the frames that the last call passes up, and else none.
 #[unsafe(no_mangle)]
-pub extern "C" fn wf_cell_released(alloc: Global, cell: &mut CellSlot, up: &mut PassedUp)
+pub extern "C" fn wf_cell_released(cell: &mut CellSlot, up: &mut PassedUp)
     requires open { is_some cell.old.value ≡ true }
     ensures ids { IfSome cell.old.value (λ h. ShowsPassedUp up.new h.answer.brief h.answer.ids) }
     ensures unchanged { cell.new.value ≡ cell.old.value }
 {
-    let held = cell.take(alloc);
-    up.show(&held.answer);
-    cell.put(held);
+    up.show(&cell.held().answer);
 }
 
 /// Shows the BlockAck that the last call is answered with, and else zeros.
 #[unsafe(no_mangle)]
-pub extern "C" fn wf_cell_block(alloc: Global, cell: &mut CellSlot, block: &mut Block)
+pub extern "C" fn wf_cell_block(cell: &mut CellSlot, block: &mut Block)
     requires open { is_some cell.old.value ≡ true }
     ensures block { IfSome cell.old.value (λ h. block.new ≡ block_of h.answer.brief) }
     ensures unchanged { cell.new.value ≡ cell.old.value }
 {
-    let held = cell.take(alloc);
-    *block = Block::of(held.answer.brief);
-    cell.put(held);
+    *block = Block::of(cell.held().answer.brief);
 }

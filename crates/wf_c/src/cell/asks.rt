@@ -8,7 +8,6 @@ ghost use Rattle.wf_c.specs.CellCalls.{IsAsked, IsStepped, TurnsInto};
 use crate::cell::calls::CallNumbers;
 use crate::cell::slot::CellSlot;
 use crate::reply::Reply;
-use std::alloc::Global;
 use wf_frame::Ask;
 
 /// The numbers show no call, or one that brings a frame or takes one.
@@ -16,15 +15,13 @@ const BAD_CALL: i32 = 43;
 
 impl CellSlot {
     // Makes a call that brings no frame.
-    fn ask(&mut self, alloc: Global, caller: u32, ask: Ask, reply: &mut Reply) -> i32
+    fn ask(&mut self, caller: u32, ask: Ask, reply: &mut Reply) -> i32
         requires open { is_some self.old.value ≡ true }
         ensures called { TurnsInto (λ h k. IsStepped h caller
             (Call ask) k reply.new) self.old.value self.new.value }
         ensures code { result ≡ pos reply.new.refusal }
     {
-        let mut held = self.take(alloc);
-        *reply = held.ask(caller, ask);
-        self.put(held);
+        *reply = self.held().ask(caller, ask);
         i32::from(reply.refusal)
     }
 }
@@ -33,7 +30,6 @@ impl CellSlot {
 /// numbers show no such call, and then nothing changes.
 #[unsafe(no_mangle)]
 pub extern "C" fn wf_cell_ask(
-    alloc: Global,
     cell: &mut CellSlot,
     caller: u32,
     call: &CallNumbers,
@@ -43,7 +39,7 @@ pub extern "C" fn wf_cell_ask(
     ensures { IsAsked (asked call.now) caller cell.old.value reply.old cell.new.value reply.new result }
 {
     match call.asked() {
-        Some(ask) => cell.ask(alloc, caller, ask, reply),
+        Some(ask) => cell.ask(caller, ask, reply),
         None => BAD_CALL,
     }
 }

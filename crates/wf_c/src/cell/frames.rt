@@ -1,22 +1,21 @@
 //! A frame comes into a cell, and a finished one is taken back.
 
-ghost use Rattle.std.specs.Prelude.{◌≡◌, ◌⊎◌, ◌<◌, ◌≤◌, true, is_some, pos, length};
+ghost use Rattle.std.specs.Prelude.{◌≡◌, ◌⊎◌, true, false, is_some, pos, length};
 ghost use Rattle.wf_frame.specs.Frames.{new_frame};
-ghost use Rattle.wf_def_lists.specs.Lengths.{greatest_body};
 ghost use Rattle.wf_path.specs.declared.job.Job.TheVariants.{Give};
-ghost use Rattle.wf_c.specs.Bodies.{IsBadLength, IsBodyLength, IsUntouched, bad_length, small_buffer};
+ghost use Rattle.wf_c.specs.Bodies.{IsBadLength, IsBodyLength, IsUntouched, bad_length, is_small_buffer, small_buffer};
 ghost use Rattle.wf_c.specs.CellCalls.{IsStepped, IsTakenBack, TurnsInto};
 ghost use Rattle.wf_c.specs.Making.{no_memory};
 
 use crate::cell::held::HeldCell;
 use crate::cell::slot::CellSlot;
 use crate::exchanges::SMALL_BUFFER;
-use crate::frames::{BAD_LENGTH, NoFrame, Taken, frame_of, show_back};
+use crate::frames::{BAD_LENGTH, NoFrame, Taken, frame_of, is_small, show_back};
 use crate::make::NO_MEMORY;
 use crate::reply::Reply;
 use std::alloc::Global;
 use wf_cell::Job;
-use wf_frame::{Ask, GREATEST_BODY};
+use wf_frame::Ask;
 use wf_queue_chain::Parcel;
 
 impl HeldCell {
@@ -30,7 +29,6 @@ impl HeldCell {
 
     // Takes the first finished frame back.
     fn reap(&mut self, caller: u32, taken: &mut Taken, body: &mut [u8]) -> Reply
-        requires room { greatest_body ≤ length body.old }
         ensures { IsTakenBack self.old caller self.new result
             taken.old body.old taken.new body.new }
     {
@@ -65,9 +63,7 @@ pub extern "C" fn wf_cell_enqueue(
 {
     match frame_of(alloc, station, tid, flow, body) {
         Ok(parcel) => {
-            let mut held = cell.take(alloc);
-            *reply = held.give(caller, parcel);
-            cell.put(held);
+            *reply = cell.held().give(caller, parcel);
             i32::from(reply.refusal)
         }
         Err(NoFrame::NoMemory) => NO_MEMORY,
@@ -75,11 +71,11 @@ pub extern "C" fn wf_cell_enqueue(
     }
 }
 
-/// Takes the first finished frame back, with its body at the front of a buffer. Gives the refusal,
-/// or 42 where the buffer has no room for the greatest body, and then nothing has changed.
+/// Takes the first finished frame back, with its body at the front of a buffer, and without it where the
+/// buffer has no octet. Gives the refusal, or 42 where the buffer has some room, and not for the greatest
+/// body: then nothing has changed.
 #[unsafe(no_mangle)]
 pub extern "C" fn wf_cell_reap(
-    alloc: Global,
     cell: &mut CellSlot,
     caller: u32,
     reply: &mut Reply,
@@ -87,19 +83,17 @@ pub extern "C" fn wf_cell_reap(
     body: &mut [u8],
 ) -> i32
     requires open { is_some cell.old.value ≡ true }
-    ensures reaped { greatest_body ≤ length body.old → TurnsInto (λ h k. IsTakenBack h caller k
+    ensures reaped { is_small_buffer (length body.old) ≡ false → TurnsInto (λ h k. IsTakenBack h caller k
         reply.new taken.old body.old taken.new body.new) cell.old.value cell.new.value }
-    ensures code { greatest_body ≤ length body.old → result ≡ pos reply.new.refusal }
-    ensures refused { length body.old < greatest_body →
+    ensures code { is_small_buffer (length body.old) ≡ false → result ≡ pos reply.new.refusal }
+    ensures refused { is_small_buffer (length body.old) ≡ true →
         IsUntouched cell.old.value cell.new.value reply.old reply.new result small_buffer }
-    ensures taken_stays { length body.old < greatest_body → taken.new ≡ taken.old }
-    ensures body_stays { length body.old < greatest_body → body.new ≡ body.old }
+    ensures taken_stays { is_small_buffer (length body.old) ≡ true → taken.new ≡ taken.old }
+    ensures body_stays { is_small_buffer (length body.old) ≡ true → body.new ≡ body.old }
 {
-    if body.len() < usize::from(GREATEST_BODY) {
+    if is_small(body) {
         return SMALL_BUFFER;
     }
-    let mut held = cell.take(alloc);
-    *reply = held.reap(caller, taken, body);
-    cell.put(held);
+    *reply = cell.held().reap(caller, taken, body);
     i32::from(reply.refusal)
 }

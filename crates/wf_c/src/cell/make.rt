@@ -4,12 +4,12 @@ ghost use Rattle.std.specs.Prelude.{◌≡◌, ◌⊎◌, ℕ, [], None, true, i
 ghost use Rattle.wf_frame.specs.Frames.{FrameValue};
 ghost use Rattle.wf_def_world.specs.World.{opening};
 ghost use Rattle.wf_c.specs.CellCalls.{HasPast, StandsIn};
-ghost use Rattle.wf_c.specs.Making.{IsMadeCode, bad_field, config_of};
+ghost use Rattle.wf_c.specs.Making.{IsMadeCode, bad_place, config_of};
 
 use crate::cell::held::HeldCell;
 use crate::cell::slot::CellSlot;
 use crate::make::{BAD_SETTING, NO_MEMORY};
-use crate::settings::{Settings, number_of_field};
+use crate::settings::Settings;
 use std::alloc::Global;
 
 /// Makes a cell of these settings in a handle that holds nothing: no station is live, and no call was made.
@@ -18,15 +18,15 @@ use std::alloc::Global;
 #[unsafe(no_mangle)]
 pub extern "C" fn wf_cell_make(alloc: Global, cell: &mut CellSlot, settings: &Settings) -> i32
     requires empty { cell.old.value ≡ None }
-    ensures code { IsMadeCode (bad_field settings.now) result }
+    ensures code { IsMadeCode (bad_place settings.now) result }
     ensures past { result ≡ pos 0 → HasPast cell.new.value
         (record { config = config_of settings.now; history = [] }) }
     ensures stands { result ≡ pos 0 → (bodies : ℕ → FrameValue) →
         StandsIn cell.new.value (opening (config_of settings.now)) bodies }
     ensures nothing { (result ≡ pos 0) ⊎ (cell.new.value ≡ None) }
 {
-    if let Some(field) = settings.fault() {
-        return BAD_SETTING + i32::from(number_of_field(field));
+    if let Some(place) = settings.fault() {
+        return BAD_SETTING + i32::from(place);
     }
     match HeldCell::made(alloc, settings.config()) {
         Some(held) => {

@@ -8,7 +8,6 @@ ghost use Rattle.wf_c.specs.CellCalls.{HasPast, ShowsEntry};
 use crate::cell::calls::CallNumbers;
 use crate::cell::held::HeldCell;
 use crate::cell::slot::CellSlot;
-use std::alloc::Global;
 use wf_frame::Note;
 
 /// The history has no such entry.
@@ -16,28 +15,22 @@ const NO_ENTRY: i32 = 9;
 
 /// How many entries the history has.
 #[unsafe(no_mangle)]
-pub extern "C" fn wf_cell_len(alloc: Global, cell: &mut CellSlot) -> u64
+pub extern "C" fn wf_cell_len(cell: &mut CellSlot) -> u64
     requires open { is_some cell.old.value ≡ true }
     ensures count { (p : Past) → HasPast cell.old.value p → result ≡ length p.history }
     ensures unchanged { cell.new.value ≡ cell.old.value }
 {
-    let held = cell.take(alloc);
-    let len = held.cell.len();
-    cell.put(held);
-    len
+    cell.held().cell.len()
 }
 
 /// How many entries the history may still take.
 #[unsafe(no_mangle)]
-pub extern "C" fn wf_cell_room(alloc: Global, cell: &mut CellSlot) -> u64
+pub extern "C" fn wf_cell_room(cell: &mut CellSlot) -> u64
     requires open { is_some cell.old.value ≡ true }
     ensures room { (p : Past) → HasPast cell.old.value p → result ≡ room_in p }
     ensures unchanged { cell.new.value ≡ cell.old.value }
 {
-    let held = cell.take(alloc);
-    let room = held.cell.room();
-    cell.put(held);
-    room
+    cell.held().cell.room()
 }
 
 impl HeldCell {
@@ -57,7 +50,6 @@ impl HeldCell {
 /// is shorter, and then writes nothing.
 #[unsafe(no_mangle)]
 pub extern "C" fn wf_cell_entry(
-    alloc: Global,
     cell: &mut CellSlot,
     place: u64,
     caller: &mut u32,
@@ -68,10 +60,7 @@ pub extern "C" fn wf_cell_entry(
         (slice_get h.cell.past.history place) caller.old call.old result caller.new call.new) }
     ensures unchanged { cell.new.value ≡ cell.old.value }
 {
-    let held = cell.take(alloc);
-    let found = held.entry(place);
-    cell.put(held);
-    match found {
+    match cell.held().entry(place) {
         Some((who, note)) => {
             *caller = who;
             *call = CallNumbers::of(note);

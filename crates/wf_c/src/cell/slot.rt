@@ -1,6 +1,7 @@
 //! The handle that a C program keeps of a cell.
 
 ghost use Rattle.std.specs.Prelude.{◌≡◌, Option, Some, None, true, is_some};
+ghost use Rattle.std.specs.Borrow.{sem};
 ghost use Rattle.wf_c.specs.CellSlots.{cell_slot_owns};
 ghost use Rattle.wf_c.specs.declared.cell.held.HeldCell.{HeldCell as HeldValue};
 
@@ -23,6 +24,8 @@ impl Model for CellSlot {
 }
 
 impl CellSlot {
+    ghost use Rattle.wf_c.specs.CellLending.{LendsCell};
+
     // A handle that holds nothing.
     pub(crate) fn empty(alloc: Global) -> CellSlot
         ensures { result.value ≡ None }
@@ -80,5 +83,14 @@ impl CellSlot {
         ensures { self.new.value ≡ Some held.value }
     {
         replace(self, CellSlot::full(Unboxed::of(held))).end();
+    }
+
+    // What a handle holds, in its place; what is left behind the reference is what the handle then holds.
+    pub(crate) fn held(&mut self) -> &mut HeldCell
+        requires { is_some self.old.value ≡ true }
+        ensures* writes_back { sem 𝓛 (LendsCell self.entry result) }
+        ensures value { self.old.value ≡ Some result.now }
+    {
+        unsafe { &mut *(self.at as *mut HeldCell) }
     }
 }

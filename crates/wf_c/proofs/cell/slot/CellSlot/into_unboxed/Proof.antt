@@ -1,6 +1,4 @@
 -- `into_unboxed` hands out the block.
-use Rattle.std.proofs.lemmas.Bool.{both_ways}
-use Rattle.std.specs.Prelude.{false}
 use Rattle.std.proofs.Common.{◌≡◌, List, [], ◌∷◌, ◌++◌, refl, sym, subst}
 use mir.Val.{Val}
 use base.Logic.{SProp, ent, id⊢}
@@ -18,10 +16,11 @@ use denote.Signature.{plain}
 use denote.Steps.{nothing, heard}
 use denote.RawPtr.{Ptr, ptr_val}
 use denote.Triple.Walked.{says, Stays, stay_dropped, Goes-dropped, walk_of, ends_at}
-use Rattle.std.specs.Prelude.{Option, Some, None, true, is_some}
+use Rattle.std.specs.Prelude.{Option, true, is_some}
 use Rattle.std.proofs.raw_atomic.Walks.{proved_at}
 use Rattle.std_alloc.proofs.RcSteps.{Ptr-Good}
 use Rattle.wf_c.proofs.Words.{both}
+use Rattle.wf_c.proofs.Filled.{full_of}
 use Rattle.wf_c.proofs.CellSlots.{Slot, Owned, slot_good, owned_good, slot_out, owned_in}
 use Rattle.wf_c.specs.CellSlots.{cell_slot_owns}
 use Rattle.wf_c.specs.contracts.cell.slot.CellSlot.into_unboxed as f
@@ -32,15 +31,6 @@ use Rattle.wf_c.specs.declared.cell.held.HeldCell.{HeldCell}
 
 abbrev stayed : Stays f.ended.signature.params f.ended.kept
 stayed = (stay_dropped (plain (λ _. Slot)) yes, tt)
-
--- what a full handle holds
-record Full (o : Option HeldCell) : Type 0 where
-  held : HeldCell
-  is : o ≡ Some held
-
-full_of : (o : Option HeldCell) → is_some o ≡ true → Full o
-full_of (Some held) e = record { held = held; is = refl }
-full_of None e = absurd (both_ways false refl e)
 
 pub into_unboxed_spec : {M : Type 1} → statement M
 into_unboxed_spec 𝓤 𝓛 𝓜 𝓡 wired =
