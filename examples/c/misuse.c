@@ -1,0 +1,324 @@
+/*
+ * Hands to libwf what a caller should not, wherever the library can see it, and wants the code that wf.h says; after a refusal the
+ * caller's structs and buffers have to be as they were. It writes how often it asked, and each code that was another.
+ */
+#include <stdint.h>
+#include <stdio.h>
+#include <string.h>
+
+#include "wf.h"
+
+enum { STATIONS = 4, CHARGE = 5000 };
+
+static struct wf_path path;
+static struct wf_reply reply;
+static struct wf_frames frames;
+static int asked, failed;
+
+/* The code of a call, which has to be this one. */
+static void want(int32_t code, int32_t wanted, const char *call) {
+  char name[WF_NAME] = {0}, other[WF_NAME] = {0};
+  asked++;
+  if (code == wanted) return;
+  wf_code_name(code, name);
+  wf_code_name(wanted, other);
+  printf("misuse: %s: %d (%s), and not %d (%s)\n", call, (int)code, name, (int)wanted, other);
+  failed++;
+}
+
+/* What a call must leave as it was: these octets have to be those. */
+static void unchanged(const void *now, const void *before, size_t size, const char *call) {
+  asked++;
+  if (memcmp(now, before, size) == 0) return;
+  printf("misuse: %s: has changed what it was given\n", call);
+  failed++;
+}
+
+/* Settings that are small, and in their ranges. */
+static struct wf_settings some_settings(void) {
+  struct wf_settings settings = {0};
+  wf_settings_standard(&settings);
+  settings.stations = STATIONS;
+  settings.flows = 32;
+  settings.room = 70;
+  settings.limit = 60;
+  settings.sleeping = 2;
+  settings.inflight = 1;
+  settings.calls = 8;
+  settings.charge = CHARGE;
+  return settings;
+}
+
+/* Each setting below and above its range, and each reserved number. */
+static void misuse_settings(void) {
+  static const uint32_t LOW[16] = {0, 0, 0, 0, 63, 99, 0, 0, 0, 2999, 0, 0, 65536, 1, 1, 1};
+  static const uint32_t HIGH[16] = {257, 4097, 65536, 131073, 65536, 10001, 9, 65, 257, 5401, 65536, 0, 65536, 7, 8, 9};
+  int i;
+  for (i = 0; i < 16; i++) {
+    struct wf_path none = {0}, empty = {0};
+    struct wf_cell no_cell = {0};
+    struct wf_settings settings = some_settings();
+    uint32_t values[16];
+    memcpy(values, &settings, sizeof values);
+    values[i] = LOW[i];
+    memcpy(&settings, values, sizeof values);
+    want(wf_path_make(&none, &settings), WF_BAD_SETTING + 1 + i, "wf_path_make");
+    want(wf_cell_make(&no_cell, &settings), WF_BAD_SETTING + 1 + i, "wf_cell_make");
+    values[i] = HIGH[i];
+    memcpy(&settings, values, sizeof values);
+    want(wf_path_make(&none, &settings), WF_BAD_SETTING + 1 + i, "wf_path_make");
+    unchanged(&none, &empty, sizeof none, "wf_path_make");
+  }
+}
+
+/* Calls that name a station that there is not, or that is not live. */
+static void misuse_stations(void) {
+  static const uint8_t body[100];
+  const uint16_t none = STATIONS;
+  want(wf_path_join(&path, none, 64, 0, 3, 1, &reply), WF_BAD_STATION, "wf_path_join");
+  want(wf_path_leave(&path, none, &reply), WF_BAD_STATION, "wf_path_leave");
+  want(wf_path_rate(&path, none, 7, 20, 0, &reply), WF_BAD_STATION, "wf_path_rate");
+  want(wf_path_sleep(&path, none, &reply), WF_BAD_STATION, "wf_path_sleep");
+  want(wf_path_wake(&path, none, &reply), WF_BAD_STATION, "wf_path_wake");
+  want(wf_path_poll(&path, none, &reply), WF_BAD_STATION, "wf_path_poll");
+  want(wf_path_rx(&path, none, WF_BE, 100, &reply), WF_BAD_STATION, "wf_path_rx");
+  want(wf_path_enqueue(&path, none, 0, 0, body, sizeof body, &reply), WF_BAD_STATION, "wf_path_enqueue");
+  want(wf_path_leave(&path, 3, &reply), WF_NO_STATION, "wf_path_leave");
+  want(wf_path_rate(&path, 3, 7, 20, 0, &reply), WF_NO_STATION, "wf_path_rate");
+  want(wf_path_sleep(&path, 3, &reply), WF_NO_STATION, "wf_path_sleep");
+  want(wf_path_wake(&path, 3, &reply), WF_NO_STATION, "wf_path_wake");
+  want(wf_path_poll(&path, 3, &reply), WF_NO_STATION, "wf_path_poll");
+  want(wf_path_rx(&path, 3, WF_BE, 100, &reply), WF_NO_STATION, "wf_path_rx");
+  want(wf_path_enqueue(&path, 3, 0, 0, body, sizeof body, &reply), WF_NO_STATION, "wf_path_enqueue");
+}
+
+static void misuse_joins(void) {
+  want(wf_path_join(&path, 3, 0, 0, 3, 1, &reply), WF_BAD_WINDOW, "a window of 0");
+  want(wf_path_join(&path, 3, 257, 0, 3, 1, &reply), WF_BAD_WINDOW, "a window of 257");
+  want(wf_path_join(&path, 3, 64, 4096, 3, 1, &reply), WF_BAD_START, "a start of 4096");
+  want(wf_path_join(&path, 3, 64, 0, 4, 1, &reply), WF_BAD_EXPONENT, "an exponent of 4");
+  want(wf_path_join(&path, 3, 64, 0, 3, 0, &reply), WF_BAD_WEIGHT, "a weight of 0");
+  want(wf_path_join(&path, 3, 64, 0, 3, 17, &reply), WF_BAD_WEIGHT, "a weight of 17");
+  want(wf_path_join(&path, 0, 64, 0, 3, 1, &reply), WF_LIVE, "a second join");
+}
+
+static void misuse_rates(void) {
+  want(wf_path_rate(&path, 0, 16, 20, 0, &reply), WF_BAD_RATE, "MCS 16 of HT");
+  want(wf_path_rate(&path, 0, 7, 80, 0, &reply), WF_BAD_RATE, "80 MHz of HT");
+  want(wf_path_rate_vht(&path, 0, 10, 80, 0, 1, &reply), WF_BAD_RATE, "MCS 10 of VHT");
+  want(wf_path_rate_vht(&path, 0, 9, 20, 0, 1, &reply), WF_BAD_RATE, "MCS 9 of VHT on 20 MHz");
+  want(wf_path_rate_vht(&path, 0, 9, 80, 0, 9, &reply), WF_BAD_RATE, "9 streams of VHT");
+  want(wf_path_rate_he(&path, 0, 12, 80, 800, 1, &reply), WF_BAD_RATE, "MCS 12 of HE");
+  want(wf_path_rate_he(&path, 0, 11, 80, 400, 1, &reply), WF_BAD_RATE, "400 ns of HE");
+  want(wf_path_rate_he(&path, 0, 11, 80, 800, 0, &reply), WF_BAD_RATE, "no stream of HE");
+}
+
+static void misuse_clock(void) {
+  uint64_t now;
+  want(wf_path_tick(&path, 10000001, &reply), WF_BAD_TICK, "a tick that is too long");
+  want(wf_path_advance(&path, 25000000, &reply), WF_OK, "25 seconds");
+  now = wf_path_now(&path);
+  want(now == 25000000, 1, "the clock after 25 seconds");
+  want(wf_path_advance(&path, now, &reply), WF_OK, "no time at all");
+  want(wf_path_advance(&path, now - 1, &reply), WF_BAD_TICK, "a time that is over");
+  want(wf_path_advance(&path, (uint64_t)1 << 62, &reply), WF_BAD_TICK, "the time 2^62");
+  want(wf_path_now(&path) == now, 1, "the clock after refusals");
+}
+
+static void misuse_airtime(void) {
+  want(wf_path_rx(&path, 0, WF_BE, 0, &reply), WF_BAD_AIR, "no airtime");
+  want(wf_path_rx(&path, 0, WF_BE, 65536, &reply), WF_BAD_AIR, "too much airtime");
+  while (wf_path_rx(&path, 2, WF_BE, 65535, &reply) == WF_OK) continue;
+  want(reply.refusal, WF_DEBT, "a debt");
+}
+
+static void misuse_frames(void) {
+  static uint8_t body[WF_GREATEST_BODY + 1];
+  struct wf_reply before = reply;
+  int i;
+  want(wf_path_enqueue(&path, 0, 0, 0, body, 0, &reply), WF_BAD_LENGTH, "a body of no octet");
+  want(wf_path_enqueue(&path, 0, 0, 0, body, sizeof body, &reply), WF_BAD_LENGTH, "a body that is too long");
+  unchanged(&reply, &before, sizeof reply, "a bad length");
+  want(wf_path_enqueue(&path, 0, 8, 0, body, 100, &reply), WF_BAD_TID, "TID 8");
+  for (i = 0; i < 70; i++) {
+    want(wf_path_enqueue(&path, 0, 0, 0, body, WF_GREATEST_BODY, &reply), WF_OK, "a frame of the greatest length");
+  }
+  want(wf_path_enqueue(&path, 0, 0, 0, body, 100, &reply), WF_ROOM, "one frame too many");
+}
+
+static void misuse_reaps(void) {
+  static uint8_t body[WF_GREATEST_BODY], same[WF_GREATEST_BODY];
+  struct wf_taken taken = {0}, none = {0};
+  struct wf_reply before = reply;
+  want(wf_path_reap(&path, &reply, &taken, body, 1), WF_SMALL_BUFFER, "room for one octet");
+  want(wf_path_reap(&path, &reply, &taken, body, sizeof body - 1), WF_SMALL_BUFFER, "room for 2303 octets");
+  unchanged(&reply, &before, sizeof reply, "a small buffer");
+  while (wf_path_reap(&path, &reply, &taken, NULL, 0) == WF_OK) {
+    want(taken.fate == WF_OVERLIMIT && taken.length == WF_GREATEST_BODY && taken.id == reply.id, 1, "a frame without its body");
+  }
+  memset(&taken, 0, sizeof taken);
+  want(wf_path_reap(&path, &reply, &taken, NULL, 0), WF_NOTHING, "a reap of nothing");
+  want(wf_path_reap(&path, &reply, &taken, body, sizeof body), WF_NOTHING, "a reap of nothing");
+  unchanged(&taken, &none, sizeof taken, "a reap of nothing");
+  unchanged(body, same, sizeof body, "a reap of nothing");
+}
+
+/* The octets of a BlockAck to an exchange, right in all. */
+static void make_answer(uint64_t exchange, uint8_t answer[28]) {
+  uint8_t frame[WF_GREATEST_MPDU] = {0};
+  size_t size = 0;
+  want(wf_path_mpdu(&path, exchange, 0, frame, sizeof frame, &size), WF_OK, "a transmission");
+  memset(answer, 0, 28);
+  answer[0] = 0x94;
+  memcpy(answer + 4, frame + 10, 6);
+  memcpy(answer + 10, frame + 4, 6);
+  answer[16] = 0x04;
+  memcpy(answer + 18, frame + 22, 2);
+}
+
+/* Octets that are no BlockAck to an exchange: one bit is another. */
+static void misuse_answer(uint64_t exchange, const uint8_t answer[28], size_t octet, uint8_t bit, int32_t code, const char *what) {
+  struct wf_reply before = reply;
+  uint8_t other[28];
+  memcpy(other, answer, 28);
+  other[octet] ^= bit;
+  want(wf_path_done_octets(&path, exchange, other, 28, 0, &reply), code, what);
+  unchanged(&reply, &before, sizeof reply, what);
+}
+
+static void misuse_answers(uint64_t exchange) {
+  uint8_t answer[28];
+  make_answer(exchange, answer);
+  want(wf_path_done_octets(&path, exchange, answer, 27, 0, &reply), WF_BLOCK_LENGTH, "27 octets");
+  misuse_answer(exchange, answer, 0, 0x10, WF_BLOCK_KIND, "a BlockAckReq");
+  misuse_answer(exchange, answer, 16, 0x04, WF_BLOCK_BASIC, "a basic BlockAck");
+  misuse_answer(exchange, answer, 16, 0x02, WF_BLOCK_MULTI, "a BlockAck of many TIDs");
+  misuse_answer(exchange, answer, 18, 0x01, WF_BLOCK_FRAGMENT, "a fragment number");
+  misuse_answer(exchange, answer, 4, 0x02, WF_NOT_MINE, "a BlockAck to another");
+  misuse_answer(exchange, answer, 10, 0x02, WF_NOT_MINE, "a BlockAck from another");
+  misuse_answer(exchange, answer, 17, 0x10, WF_WRONG_TID, "a BlockAck of another TID");
+  want(wf_path_done_octets(&path, exchange, answer, 28, CHARGE + 1, &reply), WF_BAD_AIR, "too much airtime");
+  want(wf_path_done_lost(&path, exchange, CHARGE + 1, &reply), WF_BAD_AIR, "too much airtime");
+  want(wf_path_done_octets(&path, exchange, answer, 28, CHARGE, &reply), WF_OK, "a BlockAck");
+  want(wf_path_done_octets(&path, exchange, answer, 28, 0, &reply), WF_NO_EXCHANGE, "a second BlockAck");
+  want(wf_path_done_bits(&path, exchange, 0, (const uint8_t[32]){0}, 0, &reply), WF_NO_EXCHANGE, "bits of no exchange");
+  want(wf_path_done_lost(&path, exchange, 0, &reply), WF_NO_EXCHANGE, "the end of no exchange");
+}
+
+static void misuse_exchanges(void) {
+  uint8_t out[WF_GREATEST_MPDU] = {0}, same[WF_GREATEST_MPDU] = {0};
+  struct wf_sent sent = {0}, none = {0};
+  uint64_t id = 7, exchange;
+  size_t size = 7;
+  want(wf_path_pull(&path, WF_VO, &reply, &frames), WF_IDLE, "nothing to pull");
+  want(wf_path_pull(&path, WF_BE, &reply, &frames), WF_OK, "a pull");
+  exchange = reply.exchange;
+  want(wf_path_pull(&path, WF_BE, &reply, &frames), WF_FULL, "a second pull");
+  want(wf_path_leave(&path, 0, &reply), WF_OPEN, "a leave with an open exchange");
+  want(wf_path_sent(&path, exchange + 1, &sent), WF_NO_EXCHANGE, "wf_path_sent");
+  unchanged(&sent, &none, sizeof sent, "wf_path_sent");
+  want(wf_path_frame_id(&path, exchange, 256, &id), WF_BAD_INDEX, "wf_path_frame_id");
+  want(wf_path_mpdu(&path, exchange + 1, 0, out, sizeof out, &size), WF_NO_EXCHANGE, "wf_path_mpdu");
+  want(wf_path_mpdu(&path, exchange, 256, out, sizeof out, &size), WF_BAD_INDEX, "wf_path_mpdu");
+  want(id == 7 && size == 7, 1, "what no transmission has");
+  want(wf_path_mpdu(&path, exchange, 0, out, 25, &size), WF_SMALL_BUFFER, "room for 25 octets");
+  want(size == WF_GREATEST_MPDU, 1, "the room that is needed");
+  unchanged(out, same, sizeof out, "wf_path_mpdu");
+  misuse_answers(exchange);
+}
+
+static void misuse_sleepers(void) {
+  static const uint8_t body[100];
+  struct wf_share share = {0}, none = {0};
+  want(wf_path_wake(&path, 1, &reply), WF_AWAKE, "a second wake");
+  want(wf_path_poll(&path, 1, &reply), WF_AWAKE, "a poll of one that is awake");
+  want(wf_path_sleep(&path, 1, &reply), WF_OK, "a sleep");
+  want(wf_path_sleep(&path, 1, &reply), WF_ASLEEP, "a second sleep");
+  want(wf_path_poll(&path, 1, &reply), WF_NOTHING, "a poll of nothing");
+  want(wf_path_enqueue(&path, 1, 0, 0, body, sizeof body, &reply), WF_OK, "a frame for a sleeper");
+  want(wf_path_enqueue(&path, 1, 0, 0, body, sizeof body, &reply), WF_OK, "another");
+  want(wf_path_enqueue(&path, 1, 0, 0, body, sizeof body, &reply), WF_SLEEPING, "a third");
+  want(wf_path_poll(&path, 1, &reply), WF_OK, "a poll");
+  want(wf_path_poll(&path, 1, &reply), WF_POLLED, "a second poll");
+  want(wf_path_share(&path, 3, WF_BE, &share), WF_NO_STATION, "wf_path_share");
+  unchanged(&share, &none, sizeof share, "wf_path_share");
+  want(wf_path_live(&path, 3), 0, "a station that is not live");
+  want(wf_path_live(&path, 65535), 0, "a station that there is not");
+}
+
+/* A path of four stations, of which three are live. */
+static void misuse_path(void) {
+  struct wf_settings settings = some_settings();
+  uint16_t station;
+  want(wf_path_make(&path, &settings), WF_OK, "wf_path_make");
+  for (station = 0; station < 3; station++) {
+    want(wf_path_join(&path, station, 64, 0, 3, 1, &reply), WF_OK, "wf_path_join");
+  }
+  misuse_stations();
+  misuse_joins();
+  misuse_rates();
+  misuse_clock();
+  misuse_airtime();
+  misuse_frames();
+  misuse_reaps();
+  misuse_exchanges();
+  wf_path_free(&path);
+  want(path.at == NULL, 1, "a handle that holds nothing");
+  want(wf_path_make(&path, &settings), WF_OK, "a path in the same handle");
+  want(wf_path_join(&path, 1, 64, 0, 3, 1, &reply), WF_OK, "wf_path_join");
+  misuse_sleepers();
+  wf_path_free(&path);
+}
+
+/* A cell with room for eight calls. */
+static void misuse_cell(void) {
+  static uint8_t body[WF_GREATEST_BODY];
+  struct wf_settings settings = some_settings();
+  struct wf_cell cell = {0};
+  struct wf_call call = {0}, none = {0};
+  struct wf_reply before;
+  struct wf_taken taken = {0};
+  uint32_t caller = 7;
+  want(wf_cell_make(&cell, &settings), WF_OK, "wf_cell_make");
+  before = reply;
+  call.kind = WF_CALL_ENQUEUE;
+  want(wf_cell_ask(&cell, 0, &call, &reply), WF_BAD_CALL, "a frame without its body");
+  call.kind = WF_CALL_REAP;
+  want(wf_cell_ask(&cell, 0, &call, &reply), WF_BAD_CALL, "a reap without its struct");
+  call.kind = WF_CALL_REAP + 1;
+  want(wf_cell_ask(&cell, 0, &call, &reply), WF_BAD_CALL, "a call of no kind");
+  call.kind = WF_CALL_RATE;
+  call.form = WF_FORM_HE + 1;
+  want(wf_cell_ask(&cell, 0, &call, &reply), WF_BAD_CALL, "a rate of no format");
+  want(wf_cell_enqueue(&cell, 0, 0, 0, 0, body, 0, &reply), WF_BAD_LENGTH, "a body of no octet");
+  want(wf_cell_reap(&cell, 0, &reply, &taken, body, 1), WF_SMALL_BUFFER, "room for one octet");
+  unchanged(&reply, &before, sizeof reply, "a call of a cell that is none");
+  want(wf_cell_entry(&cell, 0, &caller, &none), WF_BAD_INDEX, "an entry of an empty history");
+  want(caller == 7 && wf_cell_len(&cell) == 0, 1, "an empty history");
+  call.kind = WF_CALL_TICK;
+  while (wf_cell_room(&cell)) want(wf_cell_ask(&cell, 0, &call, &reply), WF_OK, "a tick");
+  want(wf_cell_ask(&cell, 0, &call, &reply), WF_HISTORY_FULL, "a call too many");
+  want(wf_cell_enqueue(&cell, 0, 0, 0, 0, body, 100, &reply), WF_HISTORY_FULL, "a frame too many");
+  want(wf_cell_reap(&cell, 0, &reply, &taken, NULL, 0), WF_HISTORY_FULL, "a reap too many");
+  wf_cell_free(&cell);
+}
+
+/* Numbers that stand for nothing. */
+static void misuse_names(void) {
+  static const int32_t NONE[] = {-1, 28, 39, 44, 50, 59, 100, 117, INT32_MAX, INT32_MIN};
+  size_t i;
+  for (i = 0; i < sizeof NONE / sizeof *NONE; i++) {
+    char name[WF_NAME] = {0};
+    wf_code_name(NONE[i], name);
+    want(strcmp(name, "?"), 0, "the name of no code");
+  }
+}
+
+int main(void) {
+  misuse_settings();
+  misuse_path();
+  misuse_cell();
+  misuse_names();
+  printf("misuse: asked %d times, %d other codes\n", asked, failed);
+  return failed != 0;
+}

@@ -1,0 +1,286 @@
+/*
+ * A driver over libwf as its author would write it, with a small model of a device. The device has a hardware queue for each class
+ * and works by itself, on a thread that stands for its interrupts: it sends what lies in the queues, sends again what was lost on
+ * the air, measures the airtime that all of it took, and makes the station's BlockAck. One lock stands before the path. The
+ * upper queue, from which packets come, is stopped while many frames are inside, and woken when there are few again.
+ */
+#include <pthread.h>
+#include <stdint.h>
+#include <stdio.h>
+#include <string.h>
+
+#include "wf.h"
+
+enum { STATIONS = 4, CLASSES = 4, DEPTH = 2, PACKETS = 4000, STOP_AT = 200, WAKE_AT = 100, TRIES = 3, LONGEST = 20000 };
+
+/* An exchange in a hardware queue: what the device needs to send it, and to make its BlockAck. */
+struct job {
+  uint64_t exchange;
+  uint32_t air; /* what sending it once takes */
+  uint16_t count;
+  uint8_t request;
+  uint8_t tid;
+  uint8_t head[26];      /* the first octets of its first transmission */
+  uint16_t numbers[256]; /* the sequence numbers of its frames */
+};
+
+/* What the device made of a job. */
+struct outcome {
+  int heard;
+  uint32_t air;
+  uint8_t answer[28];
+};
+
+struct hardware {
+  struct job jobs[CLASSES][DEPTH];
+  int count[CLASSES];
+};
+
+struct driver {
+  pthread_mutex_t lock;   /* stands before all that follows */
+  pthread_cond_t kick;    /* the device has something to send, or nothing more will come */
+  pthread_cond_t wake;    /* the upper queue may go on */
+  struct wf_path path;
+  struct hardware hardware;
+  uint64_t time;          /* of the air, in microseconds */
+  unsigned inside;        /* frames accepted and not yet reaped */
+  int is_stopped, is_closing, has_failed;
+  unsigned stops, acked, dropped;
+  uint64_t measured, computed; /* airtime, in microseconds */
+};
+
+static uint32_t next_random(uint32_t *random) {
+  *random = *random * 1664525u + 1013904223u;
+  return *random >> 16;
+}
+
+/* ---- the device, which knows nothing of the path */
+
+static unsigned number_at(const uint8_t *octets) { return (unsigned)(octets[0] | octets[1] << 8) >> 4; }
+
+/* Begins the station's BlockAck to a job: it has got nothing yet. */
+static void start_answer(const struct job *job, uint8_t answer[28]) {
+  memset(answer, 0, 28);
+  answer[0] = 0x94;
+  memcpy(answer + 4, job->head + 10, 6); /* to who sends */
+  memcpy(answer + 10, job->head + 4, 6); /* from who receives */
+  answer[16] = 0x04;                     /* compressed */
+  answer[17] = (uint8_t)(job->tid << 4);
+  memcpy(answer + 18, job->head + (job->request ? 18 : 22), 2);
+}
+
+/* Sends a job once; what arrives is told in the answer. Gives whether the answer came back. */
+static int send_once(const struct job *job, uint8_t answer[28], uint32_t *random) {
+  int i, any = 0;
+  for (i = 0; i < job->count; i++) {
+    unsigned offset;
+    if (next_random(random) % 8 == 0) continue;
+    any = 1;
+    if (job->request) continue;
+    offset = (job->numbers[i] - number_at(answer + 18)) & 4095u;
+    answer[20 + offset / 8] |= (uint8_t)(1 << offset % 8);
+  }
+  return any && next_random(random) % 16;
+}
+
+/* Sends a job until its answer comes back, and measures what that takes of the air: the waiting before each try is drawn. */
+static void send_job(const struct job *job, struct outcome *outcome, uint32_t *random) {
+  int tries;
+  outcome->heard = 0;
+  outcome->air = 0;
+  start_answer(job, outcome->answer);
+  for (tries = 0; tries < TRIES && !outcome->heard; tries++) {
+    outcome->air += job->air + 9 * (next_random(random) % 16);
+    outcome->heard = send_once(job, outcome->answer, random);
+  }
+  if (outcome->air > LONGEST) outcome->air = LONGEST;
+}
+
+/* ---- the driver, under its lock */
+
+/* Puts a pulled exchange into the hardware queue of its class. */
+static int hand_over(struct driver *driver, int access, const struct wf_reply *reply, const struct wf_frames *frames) {
+  struct job *job = &driver->hardware.jobs[access][driver->hardware.count[access]];
+  uint8_t octets[WF_GREATEST_MPDU] = {0};
+  struct wf_sent sent = {0};
+  size_t size = 0;
+  if (wf_path_sent(&driver->path, reply->exchange, &sent)) return 0;
+  if (wf_path_mpdu(&driver->path, reply->exchange, 0, octets, sizeof octets, &size)) return 0;
+  job->exchange = reply->exchange;
+  job->air = reply->air;
+  job->count = sent.count;
+  job->request = sent.request;
+  job->tid = sent.tid;
+  memcpy(job->head, octets, sizeof job->head);
+  memcpy(job->numbers, frames->numbers, sizeof job->numbers);
+  driver->hardware.count[access]++;
+  return 1;
+}
+
+/* Fills the hardware queues, the most urgent first. */
+static int fill_hardware(struct driver *driver) {
+  static struct wf_frames frames;
+  int access;
+  for (access = CLASSES - 1; access >= 0; access--) {
+    while (driver->hardware.count[access] < DEPTH) {
+      struct wf_reply reply = {0};
+      int32_t code = wf_path_pull(&driver->path, (uint8_t)access, &reply, &frames);
+      if (code == WF_IDLE || code == WF_FULL) break;
+      if (code || !hand_over(driver, access, &reply, &frames)) return 0;
+      pthread_cond_signal(&driver->kick);
+    }
+  }
+  return 1;
+}
+
+/* Takes the finished frames back. Their bodies are still the upper queue's, so no copy is asked for. */
+static void reap_all(struct driver *driver) {
+  struct wf_reply reply = {0};
+  struct wf_taken taken = {0};
+  while (wf_path_reap(&driver->path, &reply, &taken, NULL, 0) == WF_OK) {
+    driver->inside--;
+    if (taken.fate == WF_ACKED) driver->acked++;
+    else driver->dropped++;
+  }
+}
+
+/* A job is over: its exchange ends by what was heard and what was measured, and the clock goes on. */
+static int finish(struct driver *driver, const struct job *job, const struct outcome *outcome) {
+  struct wf_reply reply = {0};
+  int32_t code;
+  driver->time += outcome->air;
+  driver->measured += outcome->air;
+  driver->computed += job->air;
+  if (wf_path_advance(&driver->path, driver->time, &reply)) return 0;
+  if (outcome->heard) {
+    code = wf_path_done_octets(&driver->path, job->exchange, outcome->answer, sizeof outcome->answer, outcome->air, &reply);
+  } else {
+    code = wf_path_done_lost(&driver->path, job->exchange, outcome->air, &reply);
+  }
+  if (code) return 0;
+  reap_all(driver);
+  if (driver->is_stopped && driver->inside <= WAKE_AT) {
+    driver->is_stopped = 0;
+    pthread_cond_signal(&driver->wake);
+  }
+  return fill_hardware(driver);
+}
+
+/* Takes the first job of the most urgent hardware queue. Gives 0 where all are empty. */
+static int take_job(struct driver *driver, struct job *job) {
+  int access;
+  for (access = CLASSES - 1; access >= 0; access--) {
+    struct job *jobs = driver->hardware.jobs[access];
+    if (driver->hardware.count[access] == 0) continue;
+    *job = jobs[0];
+    memmove(jobs, jobs + 1, (DEPTH - 1) * sizeof *jobs);
+    driver->hardware.count[access]--;
+    return 1;
+  }
+  return 0;
+}
+
+/* ---- the two threads */
+
+/* The device at work, until nothing more will come. The lock is let go while it sends. */
+static void *interrupts(void *given) {
+  struct driver *driver = given;
+  struct outcome outcome;
+  struct job job;
+  uint32_t random = 1;
+  pthread_mutex_lock(&driver->lock);
+  while (!driver->has_failed) {
+    if (take_job(driver, &job)) {
+      pthread_mutex_unlock(&driver->lock);
+      send_job(&job, &outcome, &random);
+      pthread_mutex_lock(&driver->lock);
+      if (!finish(driver, &job, &outcome)) driver->has_failed = 1;
+    } else if (driver->is_closing) {
+      break;
+    } else {
+      pthread_cond_wait(&driver->kick, &driver->lock);
+    }
+  }
+  pthread_cond_signal(&driver->wake);
+  pthread_mutex_unlock(&driver->lock);
+  return NULL;
+}
+
+/* A packet comes from above. Where many frames are inside, the upper queue stands still until it is woken. */
+static int take_packet(struct driver *driver, uint16_t station, uint8_t tid, const uint8_t *body, size_t length) {
+  struct wf_reply reply = {0};
+  int32_t code = WF_OK;
+  pthread_mutex_lock(&driver->lock);
+  if (driver->inside >= STOP_AT) {
+    driver->is_stopped = 1;
+    driver->stops++;
+  }
+  while (driver->is_stopped && !driver->has_failed) pthread_cond_wait(&driver->wake, &driver->lock);
+  code = wf_path_enqueue(&driver->path, station, tid, station, body, length, &reply);
+  if (code == WF_OK) driver->inside++;
+  if (code != WF_OK || !fill_hardware(driver)) driver->has_failed = 1;
+  code = driver->has_failed;
+  pthread_mutex_unlock(&driver->lock);
+  return !code;
+}
+
+/* ---- the program */
+
+static int open_driver(struct driver *driver) {
+  struct wf_settings settings = {0};
+  struct wf_reply reply = {0};
+  uint16_t station;
+  memset(driver, 0, sizeof *driver);
+  if (pthread_mutex_init(&driver->lock, NULL)) return 0;
+  if (pthread_cond_init(&driver->kick, NULL) || pthread_cond_init(&driver->wake, NULL)) return 0;
+  wf_settings_standard(&settings);
+  settings.stations = STATIONS;
+  settings.inflight = DEPTH + 1; /* one more is on the air */
+  settings.charge = LONGEST;     /* the device tells what it has measured */
+  if (wf_path_make(&driver->path, &settings)) return 0;
+  for (station = 0; station < STATIONS; station++) {
+    if (wf_path_join(&driver->path, station, 64, 0, 3, 1, &reply)) return 0;
+    if (wf_path_rate_he(&driver->path, station, (uint8_t)(2 * station + 1), 20, 800, 1, &reply)) return 0;
+  }
+  return 1;
+}
+
+static int drive(struct driver *driver) {
+  static const uint8_t body[1500] = {0xaa, 0xaa, 0x03};
+  static const uint8_t TIDS[] = {0, 0, 0, 5, 0, 0, 6, 1};
+  pthread_t device;
+  uint32_t random = 2;
+  int i, all = 1;
+  if (pthread_create(&device, NULL, interrupts, driver)) return 0;
+  for (i = 0; all && i < PACKETS; i++) {
+    all = take_packet(driver, (uint16_t)(next_random(&random) % STATIONS), TIDS[next_random(&random) % 8], body, sizeof body);
+  }
+  pthread_mutex_lock(&driver->lock);
+  driver->is_closing = 1;
+  pthread_cond_signal(&driver->kick);
+  pthread_mutex_unlock(&driver->lock);
+  return pthread_join(device, NULL) == 0 && all && !driver->has_failed;
+}
+
+/* Writes what is the same whenever the two threads meet, and gives whether all of it is as it should be. */
+static int report(const struct driver *driver) {
+  unsigned back = driver->acked + driver->dropped;
+  int is_measured = driver->measured > driver->computed;
+  printf("wake: %d packets, %u came back, %u are inside, %d exchanges are open\n", PACKETS, back, driver->inside,
+         (int)wf_path_open_count(&driver->path));
+  printf("wake: the upper queue was %s; what was measured is %s what was computed\n", driver->stops ? "stopped and woken" : "never stopped",
+         is_measured ? "more than" : "not more than");
+  return back == PACKETS && driver->inside == 0 && driver->stops && is_measured && wf_path_now(&driver->path) == driver->time;
+}
+
+int main(void) {
+  static struct driver driver;
+  int all;
+  if (!open_driver(&driver)) return 1;
+  all = drive(&driver) && report(&driver);
+  wf_path_free(&driver.path);
+  pthread_cond_destroy(&driver.wake);
+  pthread_cond_destroy(&driver.kick);
+  pthread_mutex_destroy(&driver.lock);
+  return !all;
+}
