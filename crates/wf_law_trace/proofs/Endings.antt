@@ -1,6 +1,6 @@
 -- The ending of a trace is finish or a fault, and without a fault of its source and sink a run ends as its
 -- trace does.
-use Rattle.std.proofs.Common.{◌≡◌, ℕ, List, [], ◌∷◌, ◌++◌, true, refl, inl, inr, sym, subst}
+use Rattle.std.proofs.Common.{ℕ, List, [], ◌∷◌, ◌++◌, true, refl, inl, inr, sym, subst}
 use Rattle.std.specs.Prelude.{Option, Some, None, Result, Ok, Err}
 use Rattle.wf_trace.specs.declared.cut.Piece.{Piece}
 use Rattle.wf_trace.specs.declared.cut.Piece.TheVariants as piece
@@ -14,10 +14,10 @@ use Rattle.wf_trace.specs.Words.{words}
 use Rattle.wf_trace.specs.Meanings.{meant}
 use Rattle.wf_trace.specs.Pieces.{Numbered, pieces}
 use Rattle.wf_trace.specs.Reading.{Reading, reading, read_behind, place_behind, stopped, line_told}
+use Rattle.wf_script.proofs.Endings.{Judges}
 use Rattle.wf_script.proofs.Known.{EndsInput, pieces_known}
-use Rattle.wf_io.specs.declared.status.Status.{Status}
 use Rattle.wf_io.specs.declared.status.Status.TheVariants.{Done, Usage, BadTrace, ReadFault, WriteFault, NoMemory}
-use Rattle.wf_law_trace.specs.Endings.{FitsEnding, EndsTrace}
+use Rattle.wf_law_trace.specs.Endings.{FitsEnding, TraceAnswered, EndsTrace}
 use Rattle.wf_law_trace.specs.Outcomes.{TraceOutcome}
 
 stopped_ends : (place : Option Place) (end : Option Piece) → EndsInput end →
@@ -51,10 +51,7 @@ without_memory (Some (Bad fault)) ends = inr refl
 without_memory (Some (Head config)) ends = absurd ends
 without_memory (Some (Entry caller note)) ends = absurd ends
 
-pub answered : (calls text : Reading → List ℕ) (status : Status) (input taken written : List ℕ) →
-    TraceOutcome calls text status input taken written →
-    (status ≡ ReadFault → ⊥) → (status ≡ WriteFault → ⊥) → (status ≡ Usage → ⊥) →
-    FitsEnding (reading true input).ending status
+pub answered : (calls text : Reading → List ℕ) → Judges (TraceOutcome calls text) TraceAnswered
 answered calls text Done input taken written outcome read write usage =
     subst (λ (e : Option Item). FitsEnding e Done) (sym outcome.0) (inl refl)
 answered calls text BadTrace input taken written outcome read write usage =

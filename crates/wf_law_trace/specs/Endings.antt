@@ -1,5 +1,5 @@
 -- How far a trace was read, and how its run ends.
-use Rattle.std.specs.Prelude.{◌≡◌, ◌⊎◌, ℕ, List, false, Option, Some, None}
+use Rattle.std.specs.Prelude.{◌≡◌, ◌⊎◌, ℕ, List, true, false, Option, Some, None}
 use Rattle.wf_trace.specs.declared.reader.Item.{Item}
 use Rattle.wf_trace.specs.declared.reader.Item.TheVariants.{Head, Entry, Finish, Bad}
 use Rattle.wf_trace.specs.Reading.{reading}
@@ -17,6 +17,10 @@ FitsEnding (Some (Bad fault)) status = (status ≡ BadTrace) ⊎ (status ≡ NoM
 FitsEnding (Some (Head config)) status = ⊥
 FitsEnding (Some (Entry caller note)) status = ⊥
 FitsEnding None status = ⊥
+
+-- the same by the octets of the trace
+abbrev pub TraceAnswered : List ℕ → Status → Type 0
+TraceAnswered input status = FitsEnding (reading true input).ending status
 
 -- finish or a fault
 abbrev pub EndsTrace : Option Item → Type 0

@@ -1,14 +1,15 @@
 //! A trace is played: its calls are made to a stage one after the other, and told.
 
-ghost use Rattle.std.specs.Prelude.{◌≡◌, ◌≢◌, ◌<◌, ◌++◌, [], ℕ, List, Some, Err, IsSomeAnd, IsTrue, OnOk, option_map};
-ghost use Rattle.std.specs.Io.KnownBytes.{prepend_known, append_known};
+ghost use Rattle.std.specs.Prelude.{◌≡◌, ◌≢◌, ◌<◌, ◌++◌, [], Err, IsSomeAnd, IsTrue, OnOk, option_map};
 ghost use Rattle.wf_cell.specs.Cells.{room_in, with_entry};
 ghost use Rattle.wf_io.specs.Faults.{HasRisen};
 ghost use Rattle.wf_law_runs.specs.Queues.{HasLength, IsAtMost};
 ghost use Rattle.wf_def_lists.specs.Lengths.{greatest_body};
 ghost use Rattle.wf_io.specs.Fronts.{HoldsFront};
+ghost use Rattle.wf_script.specs.Ends.{CommandEnds};
 ghost use Rattle.wf_trace.specs.declared.reader.Item.TheVariants as item;
 ghost use Rattle.wf_def_world.specs.Run.{by, world_of};
+ghost use Rattle.wf_law_trace.specs.Endings.{TraceAnswered};
 ghost use Rattle.wf_law_trace.specs.Leaving.{Leaves};
 ghost use Rattle.wf_law_trace.specs.Outcomes.{TraceOutcome};
 ghost use Rattle.wf_law_trace.specs.Running.{world_in};
@@ -18,18 +19,10 @@ use crate::{Plays, Tells};
 use std::alloc::Global;
 use wf_frame::{Answer, Note};
 use wf_io::{Sink, Source, Status};
+use wf_script::Unanswered;
 use wf_trace::{Item, TraceReader};
 
-// Why a call was not told whole.
-#[derive(Clone, Copy, Debug, PartialEq, Eq)]
-enum Untold {
-    // The sink failed.
-    Sink,
-    // There was no memory for the call's frame; nothing was told.
-    Memory,
-}
-
-// Makes a call, and tells of it.
+// Makes a call, and tells of it. Where there was no memory for its frame, nothing was told.
 fn call<T: Tells, M: Plays, K: Sink>(
     teller: &mut T,
     stage: &mut M,
@@ -38,7 +31,7 @@ fn call<T: Tells, M: Plays, K: Sink>(
     answer: &mut Answer,
     due: bool,
     sink: &mut K,
-) -> Result<(), Untold>
+) -> Result<(), Unanswered>
     requires room { 0 < room_in (M.past stage.old) }
     requires some { HasLength note }
     requires most { IsAtMost greatest_body note }
@@ -49,16 +42,16 @@ fn call<T: Tells, M: Plays, K: Sink>(
     ensures none { OnOk result (IsTrue due → T.waiting teller.new ≡ []) }
     ensures front { HoldsFront (K.held sink.old) (K.held sink.new)
         (T.waiting teller.old ++ T.telling.call (world_of (M.past stage.old)) note) }
-    ensures cause { result ≡ Err Untold.Sink → HasRisen (K.faults sink.old) (K.faults sink.new) }
-    ensures quiet { result ≢ Err Untold.Sink → K.faults sink.new ≡ K.faults sink.old }
+    ensures cause { result ≡ Err Unanswered.Sink → HasRisen (K.faults sink.old) (K.faults sink.new) }
+    ensures quiet { result ≢ Err Unanswered.Sink → K.faults sink.new ≡ K.faults sink.old }
 {
     match stage.call(caller, note, answer) {
         Ok(()) => {}
-        Err(_) => return Err(Untold::Memory),
+        Err(_) => return Err(Unanswered::Memory),
     }
     match teller.tell_call(stage.cell(), answer, due, sink) {
         Ok(()) => Ok(()),
-        Err(_) => Err(Untold::Sink),
+        Err(_) => Err(Unanswered::Sink),
     }
 }
 
@@ -71,7 +64,7 @@ fn make<T: Tells, M: Plays, K: Sink>(
     answer: &mut Answer,
     due: bool,
     sink: &mut K,
-) -> Result<(), Untold>
+) -> Result<(), Unanswered>
     requires room { IsSomeAnd (option_map M.past stage.old) (λ p. 0 < room_in p) }
     requires some { HasLength note }
     requires most { IsAtMost greatest_body note }
@@ -84,8 +77,8 @@ fn make<T: Tells, M: Plays, K: Sink>(
     ensures front { HoldsFront (K.held sink.old) (K.held sink.new)
         (T.waiting teller.old ++ told_item T.telling (world_in (option_map M.past stage.old))
         (item.Entry caller note)) }
-    ensures cause { result ≡ Err Untold.Sink → HasRisen (K.faults sink.old) (K.faults sink.new) }
-    ensures quiet { result ≢ Err Untold.Sink → K.faults sink.new ≡ K.faults sink.old }
+    ensures cause { result ≡ Err Unanswered.Sink → HasRisen (K.faults sink.old) (K.faults sink.new) }
+    ensures quiet { result ≢ Err Unanswered.Sink → K.faults sink.new ≡ K.faults sink.old }
 {
     match stage {
         Some(stage) => call(teller, stage, caller, note, answer, due, sink),
@@ -103,15 +96,9 @@ pub fn play<T: Tells, M: Plays, S: Source, K: Sink>(
     sink: &mut K,
 ) -> Status
     requires { T.waiting teller.old ≡ [] }
-    ensures text { (taken written : List ℕ) × (S.left source.old ≡ prepend_known taken (S.left source.new))
-        × (K.held sink.new ≡ append_known (K.held sink.old) written)
-        × ((input : List ℕ) → S.left source.old ≡ Some input → TraceOutcome
-        (λ r. told_so_far T.telling r) (λ r. told_whole T.telling r) result input taken written) }
-    ensures read { result ≡ Status.ReadFault → HasRisen (S.faults source.old) (S.faults source.new) }
-    ensures source_quiet { result ≢ Status.ReadFault → S.faults source.new ≡ S.faults source.old }
-    ensures write { result ≡ Status.WriteFault → HasRisen (K.faults sink.old) (K.faults sink.new) }
-    ensures sink_quiet { result ≢ Status.WriteFault → K.faults sink.new ≡ K.faults sink.old }
-    ensures command { result ≢ Status.Usage }
+    ensures ends { CommandEnds S.left S.faults K.held K.faults
+        (TraceOutcome (λ r. told_so_far T.telling r) (λ r. told_whole T.telling r)) TraceAnswered
+        source.old source.new sink.old sink.new result }
 {
     let Ok(mut reader) = TraceReader::new(alloc) else {
         return Status::NoMemory;
@@ -133,8 +120,8 @@ pub fn play<T: Tells, M: Plays, S: Source, K: Sink>(
                 let due = reader.will_read();
                 match make(teller, &mut stage, caller, note, &mut answer, due, sink) {
                     Ok(()) => {}
-                    Err(Untold::Sink) => return Status::WriteFault,
-                    Err(Untold::Memory) => return Status::NoMemory,
+                    Err(Unanswered::Sink) => return Status::WriteFault,
+                    Err(Unanswered::Memory) => return Status::NoMemory,
                 }
             }
             Ok(Item::Finish) => match teller.tell_end(&stage, sink) {

@@ -13,21 +13,33 @@ returns-in_default-clause-text g c =
 
 pub returns-in_default-clause-complete : goal.returns-in_default-clause-complete
 returns-in_default-clause-complete g c = λ read write input is.
-    answered answers text NoMemory input [] [] (unsaid input) (λ e. absurd (cc)) (λ e. absurd (cc)) (λ e. cc)
+    answered answers text NoMemory input [] [] (unsaid input) (λ e. cc) (λ e. cc) (λ e. cc)
 
 pub returns-in_default-clause-laws : goal.returns-in_default-clause-laws
 returns-in_default-clause-laws g c = λ input told. trace_laws true input
 
-pub returns-clause-text : goal.returns-clause-text
-returns-clause-text g c =
-    let told = c.play.ensures.text in
-    (told.0, told.1, told.2, told.3, λ input is. said _ input told.0 told.1 (told.4 input is))
-
-pub returns-clause-complete : goal.returns-clause-complete
-returns-clause-complete g c = λ read write input is.
-    let told = c.play.ensures.text in
-    answered answers text c.play.result input told.0 told.1 (said _ input told.0 told.1 (told.4 input is))
-    (λ e. read (c.play.ensures.read e)) (λ e. write (c.play.ensures.write e)) c.play.ensures.command
-
 pub returns-clause-laws : goal.returns-clause-laws
 returns-clause-laws g c = λ input told. trace_laws true input
+
+pub returns-clause-text : goal.returns-clause-text
+returns-clause-text g c =
+    let told = c.play.ensures.ends.text in
+    (told.0, told.1, told.2, told.3, λ input is. said _ input told.0 told.1 (told.4 input is))
+
+pub returns-clause-read : goal.returns-clause-read
+returns-clause-read g c = c.play.ensures.ends.read.risen
+
+pub returns-clause-source_quiet : goal.returns-clause-source_quiet
+returns-clause-source_quiet g c = c.play.ensures.ends.read.quiet
+
+pub returns-clause-write : goal.returns-clause-write
+returns-clause-write g c = c.play.ensures.ends.write.risen
+
+pub returns-clause-sink_quiet : goal.returns-clause-sink_quiet
+returns-clause-sink_quiet g c = c.play.ensures.ends.write.quiet
+
+pub returns-clause-command : goal.returns-clause-command
+returns-clause-command g c = c.play.ensures.ends.command
+
+pub returns-clause-complete : goal.returns-clause-complete
+returns-clause-complete g c = c.play.ensures.ends.complete

@@ -2,20 +2,33 @@ use Rattle.std.proofs.Common.{◌∙◌, refl}
 use Rattle.std.specs.Prelude.{option_map}
 use Rattle.wf_trace.specs.declared.reader.Item.TheVariants.{Entry, Finish, Bad}
 use Rattle.wf_io.specs.declared.status.Status.TheVariants.{Done, BadTrace, ReadFault, WriteFault, NoMemory}
+use Rattle.wf_script.proofs.Endings.{ends_quiet, ends_unread, ends_unwritten}
 use Rattle.wf_law_trace.specs.Running.{progress_of}
 use Rattle.wf_law_trace.proofs.Ranges.{line_config, line_sized}
 use Rattle.wf_law_trace.proofs.Tellings.{turned, running_none, none_waits, with_head, with_entry, ended_at_once, ended_ahead, ended_no_memory, ended_no_memory_at, ended_read, ended_write, ended_done, ended_bad}
 use Rattle.wf_run_replay.proofs.Cells.{progress_at, progress_head, progress_on, at_head, at_entry, room_at}
-use Rattle.wf_run_replay.proofs.Tellings.{said}
+use Rattle.wf_run_replay.proofs.Tellings.{said, judged}
 use Rattle.wf_run_replay.proofs.runner.play.Goals as goal
 
-pub returns-in_default-clause-text : goal.returns-in_default-clause-text
-returns-in_default-clause-text g c = said g.T.Tells.telling NoMemory _ _ _ _
-    (ended_at_once g.T.Tells.telling (g.S.Source.left c.args.source.now) (g.K.Sink.held c.args.sink.now))
+pub returns-in_default : goal.returns-in_default
+returns-in_default g c =
+    let left = g.S.Source.left c.args.source.now in
+    let held = g.K.Sink.held c.args.sink.now in
+    record {
+      ends = ends_quiet _ _ _ _ _ _ _ _ _ _ NoMemory tt (judged g.T.Tells.telling)
+          (said g.T.Tells.telling NoMemory _ _ _ _
+          (ended_at_once g.T.Tells.telling left held))
+          refl refl;
+    }
 
-pub returns-in-Err-clause-text : goal.returns-in-Err-clause-text
-returns-in-Err-clause-text g c = said g.T.Tells.telling WriteFault _ _ _ _
-    (ended_ahead g.T.Tells.telling _ _ _ c.in-Err.ensures.front)
+pub returns-in-Err : goal.returns-in-Err
+returns-in-Err g c =
+    record {
+      ends = ends_unwritten _ _ _ _ _ _ _ _ _ _ _ (judged g.T.Tells.telling)
+          (said g.T.Tells.telling WriteFault _ _ _ _
+          (ended_ahead g.T.Tells.telling _ _ _ c.in-Err.ensures.front))
+          refl refl c.in-Err.ensures.cause.risen;
+    }
 
 pub items-init : goal.items-init
 items-init g c = (
@@ -49,12 +62,16 @@ make-requires-clause-most g c =
     let placed = rw (c.in-Ok-Entry.field-0-is) at (c.in-Ok-Entry.ensures.placed c.items.invariant.1) in
     (line_sized _ _ _ placed.0).1
 
-pub returns-in-Err-next-clause-text : goal.returns-in-Err-next-clause-text
-returns-in-Err-next-clause-text g c =
+pub returns-in-Err-next : goal.returns-in-Err-next
+returns-in-Err-next g c =
     let reads = c.in-Err-next.ensures.reads in
-    said g.T.Tells.telling ReadFault _ _ _ _ (ended_read _ _ _ _ _ _ _ _ _
-    (turned _ _ _ _ _ _ _ _ _ _ _ reads.0 c.items.invariant.0 reads.1 c.in-Err-next.ensures.sticky)
-    (none_waits _ _ _ c.items.invariant.5 c.in-Err-next.ensures.quiet) c.in-Err-next.ensures.held)
+    record {
+      ends = ends_unread _ _ _ _ _ _ _ _ _ _ _ (judged g.T.Tells.telling)
+          (said g.T.Tells.telling ReadFault _ _ _ _ (ended_read _ _ _ _ _ _ _ _ _
+          (turned _ _ _ _ _ _ _ _ _ _ _ reads.0 c.items.invariant.0 reads.1 c.in-Err-next.ensures.sticky)
+          (none_waits _ _ _ c.items.invariant.5 c.in-Err-next.ensures.quiet) c.in-Err-next.ensures.held))
+          c.items.invariant.3 c.in-Err-next.ensures.cause.risen c.items.invariant.4;
+    }
 
 pub items-preserved-in-Ok-open : goal.items-preserved-in-Ok-open
 items-preserved-in-Ok-open g c =
@@ -73,11 +90,15 @@ items-preserved-in-Ok-open g c =
       (λ absent. c.items.invariant.6 goes.0),
     )
 
-pub returns-in-Err-open-clause-text : goal.returns-in-Err-open-clause-text
-returns-in-Err-open-clause-text g c =
+pub returns-in-Err-open : goal.returns-in-Err-open
+returns-in-Err-open g c =
     let reads = c.in-Ok-Head.ensures.reads in
-    said g.T.Tells.telling NoMemory _ _ _ _ (ended_no_memory _ _ _ _ _ _ _ _ _
-    (turned _ _ _ _ _ _ _ _ _ _ _ reads.0 c.items.invariant.0 reads.1 c.in-Ok-Head.ensures.sticky))
+    record {
+      ends = ends_quiet _ _ _ _ _ _ _ _ _ _ NoMemory tt (judged g.T.Tells.telling)
+          (said g.T.Tells.telling NoMemory _ _ _ _ (ended_no_memory _ _ _ _ _ _ _ _ _
+          (turned _ _ _ _ _ _ _ _ _ _ _ reads.0 c.items.invariant.0 reads.1 c.in-Ok-Head.ensures.sticky)))
+          (c.in-Ok-Head.ensures.cause.quiet ∙ c.items.invariant.3) c.items.invariant.4;
+    }
 
 pub items-preserved : goal.items-preserved
 items-preserved g c =
@@ -98,49 +119,80 @@ items-preserved g c =
       (λ absent. absurd (let here = rw absent at goes.1 in cc)),
     )
 
-pub returns-in-Err-Sink-clause-text : goal.returns-in-Err-Sink-clause-text
-returns-in-Err-Sink-clause-text g c =
+pub returns-in-Err-Sink : goal.returns-in-Err-Sink
+returns-in-Err-Sink g c =
     let reads = rw (c.in-Ok-Entry.field-0-is) at c.in-Ok-Entry.ensures.reads in
-    said g.T.Tells.telling WriteFault _ _ _ _ (ended_write _ _ _ _ _ _ _ _ _
-    (Entry c.in-Ok-Entry.caller c.in-Ok-Entry.note) _
-    (turned _ _ _ _ _ _ _ _ _ _ _ reads.0 c.items.invariant.0 reads.1 c.in-Ok-Entry.ensures.sticky)
-    refl c.in-Err-Sink.ensures.front)
+    let risen = rw (c.in-Err-Sink.field-0-is) at c.in-Err-Sink.ensures.cause in
+    record {
+      ends = ends_unwritten _ _ _ _ _ _ _ _ _ _ _ (judged g.T.Tells.telling)
+          (said g.T.Tells.telling WriteFault _ _ _ _ (ended_write _ _ _ _ _ _ _ _ _
+          (Entry c.in-Ok-Entry.caller c.in-Ok-Entry.note) _
+          (turned _ _ _ _ _ _ _ _ _ _ _ reads.0 c.items.invariant.0 reads.1 c.in-Ok-Entry.ensures.sticky)
+          refl c.in-Err-Sink.ensures.front))
+          (c.in-Ok-Entry.ensures.cause.quiet ∙ c.items.invariant.3) c.items.invariant.4 (risen refl);
+    }
 
-pub returns-in-Err-Memory-clause-text : goal.returns-in-Err-Memory-clause-text
-returns-in-Err-Memory-clause-text g c =
+pub returns-in-Err-Memory : goal.returns-in-Err-Memory
+returns-in-Err-Memory g c =
     let reads = rw (c.in-Ok-Entry.field-0-is) at c.in-Ok-Entry.ensures.reads in
-    said g.T.Tells.telling NoMemory _ _ _ _ (ended_no_memory_at _ _ _ _ _ _ _ _ _
-    (Entry c.in-Ok-Entry.caller c.in-Ok-Entry.note) _
-    (turned _ _ _ _ _ _ _ _ _ _ _ reads.0 c.items.invariant.0 reads.1 c.in-Ok-Entry.ensures.sticky)
-    refl c.in-Err-Memory.ensures.front)
+    let quiet = rw (c.in-Err-Memory.field-0-is) at c.in-Err-Memory.ensures.quiet in
+    record {
+      ends = ends_quiet _ _ _ _ _ _ _ _ _ _ NoMemory tt (judged g.T.Tells.telling)
+          (said g.T.Tells.telling NoMemory _ _ _ _ (ended_no_memory_at _ _ _ _ _ _ _ _ _
+          (Entry c.in-Ok-Entry.caller c.in-Ok-Entry.note) _
+          (turned _ _ _ _ _ _ _ _ _ _ _ reads.0 c.items.invariant.0 reads.1 c.in-Ok-Entry.ensures.sticky)
+          refl c.in-Err-Memory.ensures.front))
+          (c.in-Ok-Entry.ensures.cause.quiet ∙ c.items.invariant.3)
+          (quiet (λ is. absurd (cc)) ∙ c.items.invariant.4);
+    }
 
-pub returns-in-Ok-tell_end-clause-text : goal.returns-in-Ok-tell_end-clause-text
-returns-in-Ok-tell_end-clause-text g c =
+pub returns-in-Ok-tell_end : goal.returns-in-Ok-tell_end
+returns-in-Ok-tell_end g c =
     let reads = rw (c.in-Ok-Finish.field-0-is) at c.in-Ok-Finish.ensures.reads in
     let over = rw (c.in-Ok-Finish.field-0-is) at c.in-Ok-Finish.ensures.over in
-    said g.T.Tells.telling Done _ _ _ _ (ended_done _ _ _ _ _ _ _ _ _ _
-    (turned _ _ _ _ _ _ _ _ _ _ _ reads.0 c.items.invariant.0 reads.1 c.in-Ok-Finish.ensures.sticky)
-    refl c.in-Ok-tell_end.ensures.written (over c.items.invariant.1 refl))
+    record {
+      ends = ends_quiet _ _ _ _ _ _ _ _ _ _ Done tt (judged g.T.Tells.telling)
+          (said g.T.Tells.telling Done _ _ _ _ (ended_done _ _ _ _ _ _ _ _ _ _
+          (turned _ _ _ _ _ _ _ _ _ _ _ reads.0 c.items.invariant.0 reads.1 c.in-Ok-Finish.ensures.sticky)
+          refl c.in-Ok-tell_end.ensures.written (over c.items.invariant.1 refl)))
+          (c.in-Ok-Finish.ensures.cause.quiet ∙ c.items.invariant.3)
+          (c.in-Ok-tell_end.ensures.cause.quiet ∙ c.items.invariant.4);
+    }
 
-pub returns-in-Err-tell_end-clause-text : goal.returns-in-Err-tell_end-clause-text
-returns-in-Err-tell_end-clause-text g c =
+pub returns-in-Err-tell_end : goal.returns-in-Err-tell_end
+returns-in-Err-tell_end g c =
     let reads = rw (c.in-Ok-Finish.field-0-is) at c.in-Ok-Finish.ensures.reads in
-    said g.T.Tells.telling WriteFault _ _ _ _ (ended_write _ _ _ _ _ _ _ _ _ Finish _
-    (turned _ _ _ _ _ _ _ _ _ _ _ reads.0 c.items.invariant.0 reads.1 c.in-Ok-Finish.ensures.sticky)
-    refl c.in-Err-tell_end.ensures.front)
+    record {
+      ends = ends_unwritten _ _ _ _ _ _ _ _ _ _ _ (judged g.T.Tells.telling)
+          (said g.T.Tells.telling WriteFault _ _ _ _ (ended_write _ _ _ _ _ _ _ _ _ Finish _
+          (turned _ _ _ _ _ _ _ _ _ _ _ reads.0 c.items.invariant.0 reads.1 c.in-Ok-Finish.ensures.sticky)
+          refl c.in-Err-tell_end.ensures.front))
+          (c.in-Ok-Finish.ensures.cause.quiet ∙ c.items.invariant.3) c.items.invariant.4
+          c.in-Err-tell_end.ensures.cause.risen;
+    }
 
-pub returns-in-Ok-tell_fault-clause-text : goal.returns-in-Ok-tell_fault-clause-text
-returns-in-Ok-tell_fault-clause-text g c =
+pub returns-in-Ok-tell_fault : goal.returns-in-Ok-tell_fault
+returns-in-Ok-tell_fault g c =
     let at = progress_of (option_map g.M.Plays.past c.items.stage) in
     let reads = rw (c.in-Ok-Bad.field-0-is) at c.in-Ok-Bad.ensures.reads in
-    said g.T.Tells.telling BadTrace _ _ _ _ (ended_bad _ _ _ _ _ _ _ _ _ c.in-Ok-Bad.fault _
-    (turned _ _ _ _ _ _ _ _ _ _ _ reads.0 c.items.invariant.0 reads.1 c.in-Ok-Bad.ensures.sticky)
-    refl (c.in-Ok-tell_fault.ensures.written at.world at.calls))
+    record {
+      ends = ends_quiet _ _ _ _ _ _ _ _ _ _ BadTrace tt (judged g.T.Tells.telling)
+          (said g.T.Tells.telling BadTrace _ _ _ _ (ended_bad _ _ _ _ _ _ _ _ _ c.in-Ok-Bad.fault _
+          (turned _ _ _ _ _ _ _ _ _ _ _ reads.0 c.items.invariant.0 reads.1 c.in-Ok-Bad.ensures.sticky)
+          refl (c.in-Ok-tell_fault.ensures.written at.world at.calls)))
+          (c.in-Ok-Bad.ensures.cause.quiet ∙ c.items.invariant.3)
+          (c.in-Ok-tell_fault.ensures.cause.quiet ∙ c.items.invariant.4);
+    }
 
-pub returns-in-Err-tell_fault-clause-text : goal.returns-in-Err-tell_fault-clause-text
-returns-in-Err-tell_fault-clause-text g c =
+pub returns-in-Err-tell_fault : goal.returns-in-Err-tell_fault
+returns-in-Err-tell_fault g c =
     let at = progress_of (option_map g.M.Plays.past c.items.stage) in
     let reads = rw (c.in-Ok-Bad.field-0-is) at c.in-Ok-Bad.ensures.reads in
-    said g.T.Tells.telling WriteFault _ _ _ _ (ended_write _ _ _ _ _ _ _ _ _ (Bad c.in-Ok-Bad.fault) _
-    (turned _ _ _ _ _ _ _ _ _ _ _ reads.0 c.items.invariant.0 reads.1 c.in-Ok-Bad.ensures.sticky)
-    refl (c.in-Err-tell_fault.ensures.front at.world at.calls))
+    record {
+      ends = ends_unwritten _ _ _ _ _ _ _ _ _ _ _ (judged g.T.Tells.telling)
+          (said g.T.Tells.telling WriteFault _ _ _ _ (ended_write _ _ _ _ _ _ _ _ _ (Bad c.in-Ok-Bad.fault) _
+          (turned _ _ _ _ _ _ _ _ _ _ _ reads.0 c.items.invariant.0 reads.1 c.in-Ok-Bad.ensures.sticky)
+          refl (c.in-Err-tell_fault.ensures.front at.world at.calls)))
+          (c.in-Ok-Bad.ensures.cause.quiet ∙ c.items.invariant.3) c.items.invariant.4
+          c.in-Err-tell_fault.ensures.cause.risen;
+    }
