@@ -20,6 +20,7 @@ use Rattle.wf_law_runs.specs.Queues.{IsAtMost, AreAtMost}
 use Rattle.wf_law_runs.proofs.Sent.Lengths.{IsStocked, stocked}
 use Rattle.wf_path.specs.Transmissions.{header_of, data_octets, octets_of_content}
 use Rattle.wf_cell.proofs.Runs.{world_then, time_by}
+use Rattle.wf_cell.proofs.Written.{header_long}
 use Rattle.wf_captures.specs.Captures.{most_calls_timed, sample_of, samples, packets_by, packets_from, packets_in, capture_of}
 use Rattle.wf_captures.specs.Packets.{frames_sent, frames_by, block_acks, exchange_answered, packets_at}
 use Rattle.wf_captures.proofs.Sampled.{length_sample}
@@ -38,6 +39,11 @@ sample_length : (note : Note) → length (sample_of note).body ≡ len_of note
 sample_length (Enqueue s t flow len) = length_sample flow len
 sample_length (Asked ask) = refl
 
+-- and a source of six
+sample_source : (note : Note) → length (sample_of note).source ≡ 6
+sample_source (Enqueue s t flow len) = refl
+sample_source (Asked ask) = refl
+
 data_short : (w : World) (x : Exchange) → IsStocked greatest_body w → (mpdus : List Mpdu) →
     AreShort (map (data_octets w (samples w) x) mpdus)
 data_short w x all [] = tt
@@ -46,7 +52,8 @@ data_short w x all (m ∷ mpdus) = (
     arith,
     all.short m.id,
     sample_length (frame w m.id).note,
-    length-append (header_as_octets (header_of w x m)) (samples w m.id).body,
+    header_long w (samples w) x m (sample_source (frame w m.id).note),
+    length-append (header_as_octets (header_of w (samples w) x m)) (samples w m.id).body,
   ),
   data_short w x all mpdus,
 )

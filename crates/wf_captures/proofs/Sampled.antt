@@ -33,10 +33,13 @@ length_sample flow (suc n) = omega (
 )
 
 pub is_sample : (s t flow n : ℕ) → IsSample (new_frame s t flow (sample_body flow n))
-is_sample s t flow n = ap (sample_body flow) (sym (length_sample flow n))
+is_sample s t flow n = record {
+  body = ap (sample_body flow) (sym (length_sample flow n));
+  source = refl;
+}
 
 pub no_sample : IsSample (new_frame 0 0 0 [])
-no_sample = refl
+no_sample = record { body = refl; source = refl }
 
 with_sample : (bodies : ℕ → FrameValue) (f : FrameValue) → ((id : ℕ) → IsSample (bodies id)) → IsSample f →
     (id : ℕ) → IsSample (with_body bodies f id)
@@ -50,7 +53,8 @@ pub after_sample : (v : TransmitValue) (job : Job) (answered : ReplyNote) (bodie
     ((id : ℕ) → IsSample (bodies id)) → ((f : FrameValue) → frame_of job ≡ Some f → IsSample f) →
     (id : ℕ) → IsSample (bodies_after v job answered bodies id)
 after_sample v (Give f) (reply.Accepted given dropped) bodies all brought =
-    with_sample bodies (as_accepted v f) all (brought f refl)
+    let is : IsSample f = brought f refl in
+    with_sample bodies (as_accepted v f) all (record { body = is.body; source = is.source })
 after_sample v (Give f) _ bodies all brought = all
 after_sample v (Call ask) answered bodies all brought = all
 
@@ -67,14 +71,22 @@ module _ (v : TransmitValue) (w : World) (bodies : ℕ → FrameValue) (stands :
       slice_get (mpdus_of x.content) k ≡ Some m → (bodies m.id).body ≡ (samples w m.id).body
   body_same e x known k m among =
       let accepted = stands.parts.others.notes m.id (is_accepted v w bodies stands e x known k m among) in
-      all m.id ∙ sym (ap (λ (n : Note). (sample_of n).body) accepted.note)
+      (all m.id).body ∙ sym (ap (λ (n : Note). (sample_of n).body) accepted.note)
+
+  source_same : (e : ℕ) (x : Exchange) → exchange w e ≡ Some x → (k : ℕ) (m : Mpdu) →
+      slice_get (mpdus_of x.content) k ≡ Some m → (bodies m.id).source ≡ (samples w m.id).source
+  source_same e x known k m among =
+      let accepted = stands.parts.others.notes m.id (is_accepted v w bodies stands e x known k m among) in
+      (all m.id).source ∙ sym (ap (λ (n : Note). (sample_of n).source) accepted.note)
 
   content_same : (e : ℕ) (x : Exchange) → exchange w e ≡ Some x → (c : Content) → x.content ≡ c →
       octets_of_content w bodies x c ≡ octets_of_content w (samples w) x c
   content_same e x known (Frames mpdus) is =
       map_same (data_octets w bodies x) (data_octets w (samples w) x) mpdus
-      (λ k m among. ap (λ b. header_as_octets (header_of w x m) ++ b)
-      (body_same e x known k m (ap (λ (c : Content). slice_get (mpdus_of c) k) is ∙ among)))
+      (λ k m among.
+      let there = ap (λ (c : Content). slice_get (mpdus_of c) k) is ∙ among in
+      ap₂ (λ (s b : List ℕ). header_as_octets (record (header_of w bodies x m) { a3 = s }) ++ b)
+      (source_same e x known k m there) (body_same e x known k m there))
   content_same e x known (Request start) is = refl
 
   pub sent_same : (e : ℕ) → frames_sent w bodies e ≡ frames_sent w (samples w) e

@@ -141,7 +141,11 @@ some_octets w bodies e k f sent = of (exchange w e) refl
     data_long x [] k is = absurd (cc is)
     data_long x (m ∷ ms) zero is =
         let same : data_octets w bodies x m ≡ f = cc is in
-        omega (arith, ap length same, length-append (header_octets (header_of w x m)) (bodies m.id).body)
+        omega (
+          arith,
+          ap length same,
+          length-append (header_octets (header_of w bodies x m)) (bodies m.id).body,
+        )
     data_long x (m ∷ ms) (suc k) is = data_long x ms k is
 
     content_long : (x : Exchange) (c : Content) (k : ℕ) →

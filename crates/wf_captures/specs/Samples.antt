@@ -1,6 +1,6 @@
 -- A cell whose frames are those that the calls of a trace bring.
 use Rattle.std.specs.Prelude.{◌≡◌, ℕ, ◌<◌, Some, length}
-use Rattle.wf_frame.specs.Frames.{FrameValue, sample_body}
+use Rattle.wf_frame.specs.Frames.{FrameValue, made_up_source, sample_body}
 use Rattle.wf_def_world.specs.World.{World, Exchange, exchange}
 use Rattle.wf_def_world.specs.Exchanges.{transmissions}
 use Rattle.wf_def_world.specs.Run.{world_of}
@@ -12,9 +12,10 @@ use Rattle.wf_cell.specs.Cells.{CellValue}
 abbrev pub world_behind : CellValue → World
 world_behind c = world_of c.past
 
--- a frame has the body that a call of a trace brings, of its flow
-abbrev pub IsSample : FrameValue → Type 0
-IsSample f = f.body ≡ sample_body f.flow (length f.body)
+-- a frame has the body that a call of a trace brings, of its flow, and the source of a frame as it is made
+pub record IsSample (f : FrameValue) : Type 0 where
+  pub body : f.body ≡ sample_body f.flow (length f.body)
+  pub source : f.source ≡ made_up_source
 
 -- a half stands for a world, with such frames
 pub record HasSamples (half : TransmitValue) (w : World) : Type 0 where

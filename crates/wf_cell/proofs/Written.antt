@@ -3,6 +3,7 @@ use Rattle.std.proofs.Common.{◌≡◌, refl, ap, sym, ◌∙◌, subst, ℕ, z
 use Rattle.std.specs.Prelude.{slice_get, option_map, option_and_then, if◌then◌else◌, Result, Ok, Err}
 use Rattle.std.proofs.lemmas.Bool.{le-ltb}
 use Rattle.std.specs.Result.{is_err}
+use Rattle.std.proofs.lemmas.List.{take_at}
 use Rattle.std.proofs.lemmas.Option.{slice_get-map}
 use Rattle.wf_frame.specs.Frames.{FrameValue}
 use Rattle.wf_def_lists.specs.Lengths.{greatest_body}
@@ -12,8 +13,9 @@ use Rattle.wf_def_world.specs.Exchanges.{mpdus_of, transmissions, no_mpdu, after
 use Rattle.wf_law_runs.specs.Windows.{EachMpdu}
 use Rattle.wf_law_runs.proofs.Sent.Lengths.{IsStocked, stocked}
 use Rattle.wf_octets_fields.specs.Fields.{number_at, two_octets}
-use Rattle.wf_octets_header.specs.Layout.{header_as_octets}
-use Rattle.wf_octets_header.proofs.Written.{qos_begins}
+use Rattle.wf_octets_header.specs.declared.header.Header.{Header}
+use Rattle.wf_octets_header.specs.Layout.{first_octet, flags_octet, header_as_octets}
+use Rattle.wf_octets_header.proofs.Written.{qos_begins, qos_long}
 use Rattle.wf_octets_block.specs.Layout.{request, narrow_form}
 use Rattle.wf_octets_block.proofs.Written.{head_begins}
 use Rattle.wf_send_exchanges.specs.declared.opened.Sending.TheVariants.{Data}
@@ -34,15 +36,29 @@ use Rattle.wf_cell.specs.Octets.{SaysData, SaysRequest, IsSentTo}
 two_read : (n : ℕ) → n < 65536 → number_at (two_octets n) 0 ≡ n
 two_read n small = omega arith
 
+-- a frame's source has six octets
+abbrev pub HasSource : (ℕ → FrameValue) → Mpdu → Type 0
+HasSource bodies m = length (bodies m.id).source ≡ 6
+
+-- so its header has 26
+pub header_long : (w : World) (bodies : ℕ → FrameValue) (x : Exchange) (m : Mpdu) → HasSource bodies m →
+    length (header_as_octets (header_of w bodies x m)) ≡ 26
+header_long w bodies x m source =
+    let h : Header = header_of w bodies x m in
+    qos_long (first_octet h.kind) (flags_octet h) h.duration h.a1 h.a2 h.a3 (16 * h.seq) h.tid refl refl
+    source
+
 data_says : (w : World) (bodies : ℕ → FrameValue) (x : Exchange) (m : Mpdu) → x.tid < 8 →
-    SaysData x.station x.tid (m.number % 4096) (data_octets w bodies x m)
-data_says w bodies x m low = record {
-  header = header_of w x m;
+    HasSource bodies m → SaysData x.station x.tid (m.number % 4096) (data_octets w bodies x m)
+data_says w bodies x m low source = record {
+  header = header_of w bodies x m;
   is_for = record {
     layout =
-        qos_begins (data_octets w bodies x m) (header_of w x m) refl refl
+        qos_begins (data_octets w bodies x m) (header_of w bodies x m) refl refl
         (record { not_both = refl; tid = omega (arith, low) }) refl
-        (two_read (16 * (m.number % 4096)) (omega arith)) refl refl refl refl;
+        (two_read (16 * (m.number % 4096)) (omega arith)) refl refl source
+        (take_at (header_as_octets (header_of w bodies x m)) (bodies m.id).body 26
+        (header_long w bodies x m source));
     kind = refl;
     recipient = refl;
     transmitter = refl;
@@ -80,27 +96,30 @@ with_content x content = record x { content = content }
 
 of_content : (w : World) (bodies : ℕ → FrameValue) (x : Exchange) (k : ℕ) (octets : List ℕ) → x.tid < 8 →
     (content : Content) → k < transmissions content →
+    ((m : Mpdu) → slice_get (mpdus_of content) k ≡ Some m → HasSource bodies m) →
     transmission_octets w bodies (record x { content = content }) k ≡ Some octets →
     IsSentTo x.station x.tid k content octets
-of_content w bodies x k octets low (Frames mpdus) few sent =
+of_content w bodies x k octets low (Frames mpdus) few sources sent =
     let m : Mpdu = at no_mpdu mpdus k in
     let z : Exchange = record x { content = Frames mpdus } in
     let is : Some (data_octets w bodies z m) ≡ Some octets =
     sym (slice_get-map (data_octets w bodies z) mpdus k
     ∙ ap (option_map (data_octets w bodies z)) (in_list mpdus k few)) ∙ sent in
     let same : data_octets w bodies z m ≡ octets = cc in
-    subst (SaysData x.station x.tid (m.number % 4096)) same (data_says w bodies z m low)
-of_content w bodies x zero octets low (Request start) few sent =
+    subst (SaysData x.station x.tid (m.number % 4096)) same
+    (data_says w bodies z m low (sources m (in_list mpdus k few)))
+of_content w bodies x zero octets low (Request start) few sources sent =
     let z : Exchange = record x { content = Request start } in
     let same : bar_octets z start ≡ octets = cc in
     subst (SaysRequest x.station x.tid (start % 4096)) same (bar_says z start low)
-of_content w bodies x (suc k) octets low (Request start) few sent = absurd (omega arith)
+of_content w bodies x (suc k) octets low (Request start) few sources sent = absurd (omega arith)
 
 pub octets_say : (w : World) (bodies : ℕ → FrameValue) (e k : ℕ) (x : Exchange) (octets : List ℕ) →
     exchange w e ≡ Some x → x.tid < 8 → k < transmissions x.content →
+    ((m : Mpdu) → slice_get (mpdus_of x.content) k ≡ Some m → HasSource bodies m) →
     octets_sent w bodies e k ≡ Some octets → IsSentTo x.station x.tid k x.content octets
-octets_say w bodies e k x octets known low few sent =
-    of_content w bodies x k octets low x.content few
+octets_say w bodies e k x octets known low few sources sent =
+    of_content w bodies x k octets low x.content few sources
     (sym (ap (option_and_then (λ y. transmission_octets w bodies y k)) known) ∙ sent)
 
 -- ---- there is room for them
@@ -139,7 +158,11 @@ module _ (v : TransmitValue) (w : World) (bodies : ℕ → FrameValue) (h : Stan
       each_at _ sends.mpdus k m ending.loose there in
       omega (arith, loose.low, ap length (frames_same w x.number x))
 
-  -- and has at most 2304 octets
+  -- it has a source
+  pub has_source : (k : ℕ) (m : Mpdu) → slice_get (mpdus_of x.content) k ≡ Some m → HasSource bodies m
+  has_source k m among = (h.parts.others.notes m.id (is_accepted k m among)).source
+
+  -- and at most 2304 octets
   body_short : (k : ℕ) (m : Mpdu) → slice_get (mpdus_of x.content) k ≡ Some m →
       length (bodies m.id).body ≤ 2304
   body_short k m among =
@@ -153,7 +176,8 @@ module _ (v : TransmitValue) (w : World) (bodies : ℕ → FrameValue) (h : Stan
   data_short k m among = omega (
     arith,
     body_short k m among,
-    length-append (header_as_octets (header_of w x m)) (bodies m.id).body,
+    header_long w bodies x m (has_source k m among),
+    length-append (header_as_octets (header_of w bodies x m)) (bodies m.id).body,
   )
 
   content_short : (k : ℕ) (octets : List ℕ) (content : Content) → x.content ≡ content →

@@ -19,6 +19,15 @@ short o f d a1 a2 = (o ∷ f ∷ []) ++ two_octets d ++ a1 ++ a2
 abbrev pub qos : ℕ → ℕ → ℕ → List ℕ → List ℕ → List ℕ → ℕ → ℕ → List ℕ
 qos o f d a1 a2 a3 s t = (o ∷ f ∷ []) ++ two_octets d ++ a1 ++ a2 ++ a3 ++ two_octets s ++ (t ∷ 0 ∷ [])
 
+-- how long the last is
+pub qos_long : (o f d : ℕ) (a1 a2 a3 : List ℕ) (s t : ℕ) → length a1 ≡ 6 → length a2 ≡ 6 → length a3 ≡ 6 →
+    length (qos o f d a1 a2 a3 s t) ≡ 26
+qos_long o f d a1 a2 a3 s t l1 l2 l3 = six (λ a1. length (qos o f d a1 a2 a3 s t) ≡ 26)
+    (λ a b c x y z. let b1 : List ℕ = a ∷ b ∷ c ∷ x ∷ y ∷ z ∷ [] in
+    six (λ a2. length (qos o f d b1 a2 a3 s t) ≡ 26)
+    (λ a' b' c' x' y' z'. let b2 : List ℕ = a' ∷ b' ∷ c' ∷ x' ∷ y' ∷ z' ∷ [] in
+    six (λ a3. length (qos o f d b1 b2 a3 s t) ≡ 26) (λ a'' b'' c'' x'' y'' z''. refl) a3 l3) a2 l2) a1 l1
+
 record IsRead (xs : List ℕ) (n o f d : ℕ) (a1 : List ℕ) : Type 0 where
   long : length xs ≡ n
   first : get_or xs 0 0 ≡ o

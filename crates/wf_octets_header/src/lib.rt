@@ -6,7 +6,7 @@
 #![tactic(auto)]
 
 ghost use Rattle.std.specs.Prelude.{◌≡◌};
-ghost use Rattle.wf_octets_header.specs.Addresses.{base, address_of_station, source};
+ghost use Rattle.wf_octets_header.specs.Addresses.{base, address_of_station};
 
 mod decoding;
 mod encoding;
@@ -29,11 +29,4 @@ pub fn station_address(station: u16) -> [u8; 6]
 {
     let [high, low] = station.to_be_bytes();
     [0x02, 0, 0, 0x01, high, low]
-}
-
-/// The address of the source of every data frame, `02 00 00 02 00 00`.
-pub fn source_address() -> [u8; 6]
-    ensures { result ≡ source }
-{
-    [0x02, 0, 0, 0x02, 0, 0]
 }

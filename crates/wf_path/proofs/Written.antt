@@ -93,7 +93,8 @@ module _ (v : TransmitValue) (e : ℕ) (o : Open) (index seq : ℕ)
     (is : Some o ≡ find (λ x. x.number == e) v.opened) (carries : number_carried o.sending index ≡ Some seq)
     (w : World) (bodies : ℕ → FrameValue) (h : StandsFor v w bodies) (header : Header) (head body : List ℕ)
     (frame : FrameValue)
-    (header_is : (x : Exchange) (m : Mpdu) → IsInFlight v o index w bodies x m → header ≡ header_of w x m)
+    (header_is : (x : Exchange) (m : Mpdu) → IsInFlight v o index w bodies x m →
+    header ≡ header_of w bodies x m)
     (frame_is : (x : Exchange) (m : Mpdu) → IsInFlight v o index w bodies x m → frame ≡ bodies m.id)
     (head_is : head ≡ header_as_octets header) (body_is : body ≡ frame.body) where
   k : IsFound v w bodies e o index
@@ -101,7 +102,7 @@ module _ (v : TransmitValue) (e : ℕ) (o : Open) (index seq : ℕ)
 
   octets_are : transmission_octets w bodies k.exchange_is index ≡ Some (head ++ body)
   octets_are =
-      let head_there : head ≡ header_as_octets (header_of w k.exchange_is k.mpdu) =
+      let head_there : head ≡ header_as_octets (header_of w bodies k.exchange_is k.mpdu) =
       head_is ∙ ap header_as_octets (header_is k.exchange_is k.mpdu k.flight) in
       let body_there : body ≡ (bodies k.mpdu.id).body =
       body_is ∙ ap (λ (f : FrameValue). f.body) (frame_is k.exchange_is k.mpdu k.flight) in

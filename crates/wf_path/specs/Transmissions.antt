@@ -5,7 +5,7 @@ use Rattle.std.specs.Prelude.{ℕ, ◌+◌, nat_lt, Bool, true, false, List, [],
 use Rattle.wf_frame.specs.Frames.{FrameValue}
 use Rattle.wf_def_air.specs.Airtime.{sifs, answer_time}
 use Rattle.wf_def_agreement.specs.Session.{slot}
-use Rattle.wf_octets_header.specs.Addresses.{base, address_of_station, source}
+use Rattle.wf_octets_header.specs.Addresses.{base, address_of_station}
 use Rattle.wf_octets_header.specs.Layout.{header_as_octets}
 use Rattle.wf_octets_header.specs.declared.header.Header.{Header}
 use Rattle.wf_octets_header.specs.declared.header.Kind.TheVariants.{QosData}
@@ -29,10 +29,10 @@ abbrev pub is_retried : World → ℕ → ℕ → ℕ → Bool
 is_retried w s t n = nat_lt 0 (slot (session w s t) n).attempts
 
 -- the header of a transmission of data (8.3.2.1), from the distribution system: to the station, of the access
--- point, from the source of every data frame. It has its sequence number modulo 4096, and the More Data bit
--- of its exchange (8.2.4.1.8).
-abbrev pub header_of : World → Exchange → Mpdu → Header
-header_of w x m = record {
+-- point, from the source of its frame. It has its sequence number modulo 4096, and the More Data bit of its
+-- exchange (8.2.4.1.8).
+abbrev pub header_of : World → (ℕ → FrameValue) → Exchange → Mpdu → Header
+header_of w bodies x m = record {
   kind = QosData;
   to_ds = false;
   from_ds = true;
@@ -42,14 +42,14 @@ header_of w x m = record {
   duration = duration;
   a1 = address_of_station x.station;
   a2 = base;
-  a3 = source;
+  a3 = (bodies m.id).source;
   seq = on_air m.number;
   tid = x.tid;
 }
 
 -- the octets of a transmission of data: the header, and the body of the frame that it carries
 abbrev pub data_octets : World → (ℕ → FrameValue) → Exchange → Mpdu → List ℕ
-data_octets w bodies x m = header_as_octets (header_of w x m) ++ (bodies m.id).body
+data_octets w bodies x m = header_as_octets (header_of w bodies x m) ++ (bodies m.id).body
 
 -- the BlockAckReq of an exchange with this start (8.3.1.8): to the station, of the access point
 abbrev pub bar_of : Exchange → ℕ → Bar

@@ -9,7 +9,7 @@ ghost use Rattle.wf_path.specs.Transmissions.{header_of};
 ghost use Rattle.wf_path.specs.Flights.{IsInFlight, Flies};
 
 use wf_frame::Frame;
-use wf_octets_header::{Header, Kind, base_address, source_address, station_address};
+use wf_octets_header::{Header, Kind, base_address, station_address};
 use wf_octets_seq12::Seq12;
 use wf_send_exchanges::Open;
 use wf_send_half::Transmit;
@@ -35,7 +35,7 @@ pub(crate) fn header_of(half: &Transmit, open: &Open, index: u16, seq: Seq12) ->
     ensures plain { IsPlain result }
     ensures header { (w : World) (bodies : ℕ → FrameValue) (x : Exchange) (m : Mpdu) →
         IsInFlight half.now open.now index w bodies x m →
-        result ≡ header_of w x m }
+        result ≡ header_of w bodies x m }
 {
     let attempts = half.window(open.station, open.tid).attempts(seq);
     Header {
@@ -48,7 +48,7 @@ pub(crate) fn header_of(half: &Transmit, open: &Open, index: u16, seq: Seq12) ->
         duration: DURATION,
         a1: station_address(open.station),
         a2: base_address(),
-        a3: source_address(),
+        a3: frame_of(half, open, index, seq).source(),
         seq,
         tid: open.tid,
     }

@@ -3,9 +3,8 @@
 ghost use Rattle.wf_octets_header.specs.Layout.{IsPlain};
 
 use crate::alike::same;
-use wf_octets_header::{
-    Header, HeaderFault, Kind, base_address, decode, encode, source_address, station_address,
-};
+use wf_frame::source_address;
+use wf_octets_header::{Header, HeaderFault, Kind, base_address, decode, encode, station_address};
 use wf_octets_seq12::Seq12;
 
 /// The data frame of sequence number 100, TID 0, to station 0.

@@ -18,8 +18,8 @@ fn call(path: &mut Path, job: Job)
     }
 }
 
-/// A path of one station, which joined with the window 64 from number 100 on. A frame of 3 octets of flow 7
-/// is queued for it.
+/// A path of one station, which joined with the window 64 from number 100 on. A frame of 3 octets of flow 7,
+/// with a source and a tag of its own, is queued for it.
 fn with_frame(alloc: Global) -> Result<Path, Fail> {
     let config = Config {
         stations: 1,
@@ -34,7 +34,9 @@ fn with_frame(alloc: Global) -> Result<Path, Fail> {
         weight: 1,
     };
     call(&mut path, Job::Call(join));
-    let frame = Frame::sample(alloc, 0, 0, 7, 3)?;
+    let mut frame = Frame::sample(alloc, 0, 0, 7, 3)?;
+    frame.set_source([0x0a, 1, 2, 3, 4, 5]);
+    frame.set_tag(77);
     let parcel = Parcel::new(alloc, frame).map_err(|refused| refused.0)?;
     call(&mut path, Job::Give(parcel));
     Ok(path)
@@ -48,10 +50,10 @@ fn with_exchange(alloc: Global) -> Result<Path, Fail> {
 }
 
 /// Its transmission (IEEE 802.11-2012, 8.3.2.1): QoS Data, From DS, Duration 48, the station, the access
-/// point, the source, number 100, TID 0 and the body; then an octet that is not its own.
+/// point, the frame's source, number 100, TID 0 and the body; then an octet that is not its own.
 const FRAME: [u8; 30] = [
-    0x88, 0x02, 0x30, 0x00, 2, 0, 0, 1, 0, 0, 2, 0, 0, 0, 0, 0, 2, 0, 0, 2, 0, 0, 0x40, 0x06, 0, 0,
-    7, 8, 9, 0xff,
+    0x88, 0x02, 0x30, 0x00, 2, 0, 0, 1, 0, 0, 2, 0, 0, 0, 0, 0, 0x0a, 1, 2, 3, 4, 5, 0x40, 0x06, 0,
+    0, 7, 8, 9, 0xff,
 ];
 
 #[test]
@@ -122,6 +124,19 @@ fn an_answer_ends_its_exchange(rt: HostRuntime) -> Result<(), Fail> {
     }
     assert!(rt; path.sent(0).is_none());
     assert_eq!(rt; path.tally().acked, 1);
+    Ok(())
+}
+
+#[test]
+fn a_frame_comes_back_with_its_tag(rt: HostRuntime) -> Result<(), Fail> {
+    let mut path = with_exchange(rt.alloc())?;
+    if path.has_small_counts() {
+        let _ = path.done_bytes(0, Some(&ANSWER), None);
+    }
+    if path.has_small_counts() {
+        let back = path.call(Job::Call(Ask::Reap), &mut Answer::new());
+        assert_eq!(rt; back.map(|parcel| parcel.frame().tag()), Some(77));
+    }
     Ok(())
 }
 

@@ -1,7 +1,7 @@
 use Rattle.std.proofs.Common.{◌≡◌, ap, ◌∙◌, arith, length}
 use Rattle.wf_path.specs.Writing.{write_fault}
 use Rattle.wf_recv_refines.proofs.Sent.{tid_now}
-use Rattle.wf_cell.proofs.Written.{octets_say, no_write_fault}
+use Rattle.wf_cell.proofs.Written.{octets_say, has_source, no_write_fault}
 use Rattle.wf_cell.proofs.air.written.Goals as goal
 
 pub unreachable-requires : goal.unreachable-requires
@@ -18,4 +18,6 @@ unreachable-requires c =
 pub returns-clause-says : goal.returns-clause-says
 returns-clause-says c = λ w bodies x stands known few.
     octets_say w bodies c.args.exchange c.args.index x _ known
-    (tid_now w stands.reached c.args.exchange x known) few (c.in-Ok.ensures.octets w bodies stands)
+    (tid_now w stands.reached c.args.exchange x known) few
+    (λ m among. has_source c.args.path.now w bodies stands c.args.exchange x known c.args.index m among)
+    (c.in-Ok.ensures.octets w bodies stands)
