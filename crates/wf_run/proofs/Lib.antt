@@ -1,2 +1,3 @@
-mod SoakText
 mod LiveText
+mod ProgramLaws
+mod SoakText

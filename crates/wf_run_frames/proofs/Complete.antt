@@ -7,7 +7,7 @@ use Rattle.wf_run_frames.specs.Packets.{Listing}
 use Rattle.wf_run_frames.specs.Outcome.{OutcomeOf, AnsweredBy, AnsweredOf}
 use Rattle.wf_script.proofs.Endings.{Judges}
 
-pub without_memory : (fault : Option Fault) → AnsweredBy fault NoMemory
+without_memory : (fault : Option Fault) → AnsweredBy fault NoMemory
 without_memory None = inr refl
 without_memory (Some fault) = inr refl
 

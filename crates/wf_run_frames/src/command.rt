@@ -1,8 +1,6 @@
 //! The command.
 
 ghost use Rattle.std.specs.Prelude.{◌≡◌, ◌≢◌, ℕ, List, Some, length};
-ghost use Rattle.std.specs.Io.KnownBytes.{prepend_known, append_known};
-ghost use Rattle.wf_io.specs.Faults.{HasRisen};
 ghost use Rattle.wf_script.specs.Ends.{CommandEnds};
 ghost use Rattle.wf_run_frames.specs.Packets.{behind_head};
 ghost use Rattle.wf_run_frames.specs.Outcome.{OutcomeOf, AnsweredOf, FramesOutcome, FramesAnswered};
@@ -22,22 +20,13 @@ use wf_pcap::{FILE_HEAD, Form, MOST_CAPTURED, PACKET_HEAD, read_head};
 ///
 /// It takes memory for the octets of one packet, and only before it reads.
 pub fn frames<S: Source, K: Sink>(alloc: Global, source: &mut S, sink: &mut K) -> Status
-    ensures text { (taken written : List ℕ) × (S.left source.old ≡ prepend_known taken (S.left source.new))
-        × (K.held sink.new ≡ append_known (K.held sink.old) written)
-        × ((input : List ℕ) → S.left source.old ≡ Some input → FramesOutcome result input taken written) }
-    ensures read { result ≡ Status.ReadFault → HasRisen (S.faults source.old) (S.faults source.new) }
-    ensures source_quiet { result ≢ Status.ReadFault → S.faults source.new ≡ S.faults source.old }
-    ensures write { result ≡ Status.WriteFault → HasRisen (K.faults sink.old) (K.faults sink.new) }
-    ensures sink_quiet { result ≢ Status.WriteFault → K.faults sink.new ≡ K.faults sink.old }
-    ensures command { result ≢ Status.Usage }
+    ensures ends { CommandEnds S.left S.faults K.held K.faults FramesOutcome FramesAnswered
+        source.old source.new sink.old sink.new result }
 
     // memory is wanting only before anything is taken or written
     ensures unread { result ≡ Status.NoMemory → S.left source.new ≡ S.left source.old }
     ensures unwritten { result ≡ Status.NoMemory → K.held sink.new ≡ K.held sink.old }
     ensures law { (input : List ℕ) → S.left source.old ≡ Some input → FramesLaw input }
-    ensures complete { (HasRisen (S.faults source.old) (S.faults source.new) → ⊥) →
-        (HasRisen (K.faults sink.old) (K.faults sink.new) → ⊥) →
-        (input : List ℕ) → S.left source.old ≡ Some input → FramesAnswered input result }
 {
     let Ok(mut body) = vec![in alloc; 0; MOST_CAPTURED as usize] else {
         return Status::NoMemory;

@@ -1,9 +1,8 @@
 //! The command.
 
-ghost use Rattle.std.specs.Prelude.{◌≡◌, ◌≢◌, ◌≤◌, ℕ, List};
-ghost use Rattle.std.specs.Io.KnownBytes.{append_known};
+ghost use Rattle.std.specs.Prelude.{◌≡◌, ◌≤◌, ℕ};
 ghost use Rattle.wf_frame.specs.Settings.{standard};
-ghost use Rattle.wf_io.specs.Faults.{HasRisen};
+ghost use Rattle.wf_script.specs.Ends.{CommandWrites};
 ghost use Rattle.wf_run_live.specs.Lives.{IsLiveHistory, LiveStatusSays};
 
 use crate::closed::run;
@@ -20,11 +19,9 @@ fn tell<K: Sink>(cell: &Record, sink: &mut K) -> Status
     requires standard { cell.now.past.config ≡ standard }
     requires live { (seed senders frames : ℕ) × (senders ≤ 8) ×
         IsLiveHistory seed senders frames cell.now.past.history }
-    ensures text { (seed senders frames : ℕ) → IsLiveHistory seed senders frames cell.now.past.history →
-        (written : List ℕ) × (K.held sink.new ≡ append_known (K.held sink.old) written) ×
-        LiveStatusSays result seed senders frames written }
-    ensures write { result ≡ Status.WriteFault → HasRisen (K.faults sink.old) (K.faults sink.new) }
-    ensures sink_quiet { result ≢ Status.WriteFault → K.faults sink.new ≡ K.faults sink.old }
+    ensures ends { (seed senders frames : ℕ) → IsLiveHistory seed senders frames cell.now.past.history →
+        CommandWrites K.held K.faults (λ status written. LiveStatusSays status seed senders frames written)
+        sink.old sink.new result }
 {
     match write_history(cell, sink) {
         Ok(()) => Status::Done,
@@ -45,10 +42,8 @@ pub fn lived<R: Threads + Wait + Sync, K: Sink, T: Turnstile + Sync>(
 ) -> Status
     requires senders { (1 ≤ senders) × (senders ≤ 8) }
     requires frames { (1 ≤ frames) × (frames ≤ 10000) }
-    ensures text { (written : List ℕ) × (K.held sink.new ≡ append_known (K.held sink.old) written) ×
-        LiveStatusSays result seed senders frames written }
-    ensures write { result ≡ Status.WriteFault → HasRisen (K.faults sink.old) (K.faults sink.new) }
-    ensures sink_quiet { result ≢ Status.WriteFault → K.faults sink.new ≡ K.faults sink.old }
+    ensures ends { CommandWrites K.held K.faults
+        (λ status written. LiveStatusSays status seed senders frames written) sink.old sink.new result }
 {
     match run(rt, alloc, seed, senders, frames, turnstile) {
         Ok(cell) => tell(&cell, sink),

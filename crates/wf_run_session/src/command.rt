@@ -1,8 +1,7 @@
 //! The command.
 
-ghost use Rattle.std.specs.Prelude.{◌≡◌, ◌≢◌, ℕ, List, Some};
-ghost use Rattle.std.specs.Io.KnownBytes.{prepend_known, append_known};
-ghost use Rattle.wf_io.specs.Faults.{HasRisen};
+ghost use Rattle.std.specs.Prelude.{◌≡◌, ℕ, List, Some};
+ghost use Rattle.wf_script.specs.Ends.{CommandEnds};
 ghost use Rattle.wf_run_session.specs.Outcome.{SessionOutcome, SessionAnswered, SessionLaw};
 
 use crate::answers::{print_answer, print_closing};
@@ -58,18 +57,9 @@ impl Answers for Parley {
 /// how many messages each end sent and what they agreed; where the script has a fault, the line of the fault
 /// in place of that. Octets after the `end` line are not looked at.
 pub fn session<S: Source, K: Sink>(alloc: Global, source: &mut S, sink: &mut K) -> Status
-    ensures text { (taken written : List ℕ) × (S.left source.old ≡ prepend_known taken (S.left source.new))
-        × (K.held sink.new ≡ append_known (K.held sink.old) written)
-        × ((input : List ℕ) → S.left source.old ≡ Some input → SessionOutcome result input taken written) }
-    ensures read { result ≡ Status.ReadFault → HasRisen (S.faults source.old) (S.faults source.new) }
-    ensures source_quiet { result ≢ Status.ReadFault → S.faults source.new ≡ S.faults source.old }
-    ensures write { result ≡ Status.WriteFault → HasRisen (K.faults sink.old) (K.faults sink.new) }
-    ensures sink_quiet { result ≢ Status.WriteFault → K.faults sink.new ≡ K.faults sink.old }
-    ensures command { result ≢ Status.Usage }
+    ensures ends { CommandEnds S.left S.faults K.held K.faults SessionOutcome SessionAnswered
+        source.old source.new sink.old sink.new result }
     ensures law { (input : List ℕ) → S.left source.old ≡ Some input → SessionLaw input }
-    ensures complete { (HasRisen (S.faults source.old) (S.faults source.new) → ⊥) →
-        (HasRisen (K.faults sink.old) (K.faults sink.new) → ⊥) →
-        (input : List ℕ) → S.left source.old ≡ Some input → SessionAnswered input result }
 {
     let mut parley = Parley::new(alloc, 0, 64);
     converse(alloc, &mut parley, source, sink)

@@ -1,3 +1,7 @@
+use Rattle.std.proofs.Common.{[], refl, sym}
+use Rattle.wf_io.specs.declared.status.Status.TheVariants.{NoMemory}
+use Rattle.wf_io.proofs.FrontLaws.{append_known-nil}
+use Rattle.wf_script.proofs.Endings.{writes_quiet}
 use Rattle.wf_run_live.proofs.command.lived.Goals as goal
 
 pub tell-requires-clause-live : goal.tell-requires-clause-live
@@ -9,6 +13,12 @@ tell-requires-clause-live g c = (
   c.in-Ok.ensures.live,
 )
 
-pub returns-in-Ok-clause-text : goal.returns-in-Ok-clause-text
-returns-in-Ok-clause-text g c = c.tell.ensures.text c.args.seed c.args.senders c.args.frames
-    c.in-Ok.ensures.live
+pub returns-in-Ok : goal.returns-in-Ok
+returns-in-Ok g c = record {
+  ends = c.tell.ensures.ends c.args.seed c.args.senders c.args.frames c.in-Ok.ensures.live;
+}
+
+pub returns-in-Err : goal.returns-in-Err
+returns-in-Err g c = record {
+  ends = writes_quiet _ _ _ _ _ NoMemory tt [] (sym (append_known-nil _)) refl refl;
+}
