@@ -25,7 +25,12 @@ use Rattle.wf_send_half_refines.proofs.Endings.{closed_agreements}
 use Rattle.wf_send_half.specs.Half.{HasWorld}
 use Rattle.wf_send_half.proofs.Dones.{IsKnown, known_of, none_open}
 use Rattle.wf_send_half.proofs.Ends.{IsData, sends as data_sent, begun}
-use Rattle.wf_path.specs.Transmissions.{transmission_id, id_sent}
+use Rattle.wf_octets_header.specs.Layout.{header_as_octets}
+use Rattle.wf_path.specs.Transmissions.{transmission_id, transmission_tag, transmission_header, id_sent, tag_sent, header_of, header_sent}
+use Rattle.wf_path.specs.Writing.{no_data_fault, write_header_fault}
+use Rattle.std.specs.Option.{option_map_or}
+use Rattle.wf_path.specs.declared.faults.PathFault.TheVariants.{NoExchange, BadIndex}
+use Rattle.wf_octets_header.specs.declared.header.Header.{Header}
 use Rattle.wf_path.specs.Flights.{IsInFlight, Flies}
 use Rattle.wf_path.proofs.Opened.{live, low, within}
 
@@ -231,6 +236,36 @@ module _ (v : TransmitValue) (e : ℕ) (o : Open) (index seq : ℕ)
       ap Some own ∙ sym (ap (option_map (λ (z : Mpdu). z.id)) k.flight.among)
       ∙ sym (ap (option_and_then (λ x. transmission_id x index)) k.known)
 
+  -- its tag
+  pub tag_is : (w : World) (bodies : ℕ → FrameValue) (h : StandsFor v w bodies) (frame : FrameValue)
+      (tag : ℕ) → ((x : Exchange) (m : Mpdu) → IsInFlight v o index w bodies x m → frame ≡ bodies m.id) →
+      tag ≡ frame.tag → Some tag ≡ tag_sent w bodies e index
+  tag_is w bodies h frame tag frame_is is_tag =
+      let k : IsFound v w bodies e o index = found_in w bodies h in
+      let own : tag ≡ (bodies k.mpdu.id).tag = is_tag ∙ ap (λ (f : FrameValue). f.tag)
+      (frame_is k.exchange_is k.mpdu k.flight) in
+      ap Some own ∙ sym (ap (option_map (λ (z : Mpdu). (bodies z.id).tag)) k.flight.among)
+      ∙ sym (ap (option_and_then (λ x. transmission_tag bodies x index)) k.known)
+
+  -- its header, and that there is one
+  module _ (w : World) (bodies : ℕ → FrameValue) (h : StandsFor v w bodies) where
+    pub header_is : (header : Header) (head : List ℕ) →
+        ((x : Exchange) (m : Mpdu) → IsInFlight v o index w bodies x m → header ≡ header_of w bodies x m) →
+        head ≡ header_as_octets header → header_sent w bodies e index ≡ Some head
+    header_is header head is_header is_head =
+        let k : IsFound v w bodies e o index = found_in w bodies h in
+        let own : head ≡ header_as_octets (header_of w bodies k.exchange_is k.mpdu) =
+        is_head ∙ ap header_as_octets (is_header k.exchange_is k.mpdu k.flight) in
+        ap (option_and_then (λ x. transmission_header w bodies x index)) k.known
+        ∙ ap (option_map (λ (z : Mpdu). header_as_octets (header_of w bodies k.exchange_is z))) k.flight.among
+        ∙ sym (ap Some own)
+
+    pub header_there : None ≡ write_header_fault w e index
+    header_there =
+        let k : IsFound v w bodies e o index = found_in w bodies h in
+        sym (ap (λ z. option_map_or (λ x. no_data_fault (transmission_id x index)) z (Some NoExchange))
+        k.known ∙ ap (λ (z : Option Mpdu). no_data_fault (option_map (λ m. m.id) z)) k.flight.among)
+
 -- no exchange, and no number
 module _ (v : TransmitValue) (w : World) (bodies : ℕ → FrameValue) (h : StandsFor v w bodies)
     (e index : ℕ) where
@@ -244,3 +279,28 @@ module _ (v : TransmitValue) (w : World) (bodies : ℕ → FrameValue) (h : Stan
       sym (ap (option_map (λ (z : Mpdu). z.id)) (none_at k.exchange_is.content index
       (subst (λ (z : Open). number_carried z.sending index ≡ None) k.same none)))
       ∙ sym (ap (option_and_then (λ x. transmission_id x index)) k.known)
+
+  pub no_tag : None ≡ find (λ x. x.number == e) v.opened → None ≡ tag_sent w bodies e index
+  no_tag is = sym (ap (option_and_then (λ x. transmission_tag bodies x index)) (none_open v w bodies h e is))
+
+  pub no_tagged : (o : Open) → Some o ≡ find (λ x. x.number == e) v.opened →
+      number_carried o.sending index ≡ None → None ≡ tag_sent w bodies e index
+  no_tagged o is none =
+      let k : IsKnown w e o = known_of v w bodies h e o is in
+      sym (ap (option_map (λ (z : Mpdu). (bodies z.id).tag)) (none_at k.exchange_is.content index
+      (subst (λ (z : Open). number_carried z.sending index ≡ None) k.same none)))
+      ∙ sym (ap (option_and_then (λ x. transmission_tag bodies x index)) k.known)
+
+  pub no_header : None ≡ find (λ x. x.number == e) v.opened → Some NoExchange ≡ write_header_fault w e index
+  no_header is = sym (ap
+      (λ z. option_map_or (λ x. no_data_fault (transmission_id x index)) z (Some NoExchange))
+      (none_open v w bodies h e is))
+
+  pub no_data : (o : Open) → Some o ≡ find (λ x. x.number == e) v.opened →
+      number_carried o.sending index ≡ None → Some BadIndex ≡ write_header_fault w e index
+  no_data o is none =
+      let k : IsKnown w e o = known_of v w bodies h e o is in
+      sym (ap (λ z. option_map_or (λ x. no_data_fault (transmission_id x index)) z (Some NoExchange)) k.known
+      ∙ ap (λ (z : Option Mpdu). no_data_fault (option_map (λ m. m.id) z))
+      (none_at k.exchange_is.content index
+      (subst (λ (z : Open). number_carried z.sending index ≡ None) k.same none)))

@@ -85,6 +85,15 @@ transmission_octets w bodies x index = slice_get (frames_on_air w bodies x) inde
 abbrev pub transmission_id : Exchange → ℕ → Option ℕ
 transmission_id x index = option_map (λ m. m.id) (slice_get (mpdus_of x.content) index)
 
+-- the header of the transmission of this index, as octets: none where it is a BlockAckReq
+abbrev pub transmission_header : World → (ℕ → FrameValue) → Exchange → ℕ → Option (List ℕ)
+transmission_header w bodies x index =
+    option_map (λ m. header_as_octets (header_of w bodies x m)) (slice_get (mpdus_of x.content) index)
+
+-- the tag of the frame that it carries: none where it is a BlockAckReq
+abbrev pub transmission_tag : (ℕ → FrameValue) → Exchange → ℕ → Option ℕ
+transmission_tag bodies x index = option_map (λ m. (bodies m.id).tag) (slice_get (mpdus_of x.content) index)
+
 -- what an exchange sends, in short
 abbrev pub sent_of : Exchange → Sent
 sent_of x = record {
@@ -102,3 +111,9 @@ octets_sent w bodies e index = option_and_then (λ x. transmission_octets w bodi
 
 abbrev pub id_sent : World → ℕ → ℕ → Option ℕ
 id_sent w e index = option_and_then (λ x. transmission_id x index) (exchange w e)
+
+abbrev pub header_sent : World → (ℕ → FrameValue) → ℕ → ℕ → Option (List ℕ)
+header_sent w bodies e index = option_and_then (λ x. transmission_header w bodies x index) (exchange w e)
+
+abbrev pub tag_sent : World → (ℕ → FrameValue) → ℕ → ℕ → Option ℕ
+tag_sent w bodies e index = option_and_then (λ x. transmission_tag bodies x index) (exchange w e)

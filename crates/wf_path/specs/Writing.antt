@@ -5,7 +5,7 @@ use Rattle.wf_frame.specs.Frames.{FrameValue}
 use Rattle.wf_def_world.specs.World.{World, exchange}
 use Rattle.wf_path.specs.declared.faults.PathFault.{PathFault}
 use Rattle.wf_path.specs.declared.faults.PathFault.TheVariants.{NoExchange, BadIndex, SmallBuffer}
-use Rattle.wf_path.specs.Transmissions.{transmission_octets}
+use Rattle.wf_path.specs.Transmissions.{transmission_octets, transmission_id}
 
 -- there is such a transmission, and there is room for so many octets at least as it has
 abbrev pub room_fault : ℕ → Option (List ℕ) → Option PathFault
@@ -17,3 +17,13 @@ room_fault room (Some octets) = if nat_lt room (length octets) then Some (SmallB
 abbrev pub write_fault : World → (ℕ → FrameValue) → ℕ → ℕ → ℕ → Option PathFault
 write_fault w bodies e index room = option_map_or
     (λ x. room_fault room (transmission_octets w bodies x index)) (exchange w e) (Some NoExchange)
+
+-- there is such a transmission of data
+abbrev pub no_data_fault : Option ℕ → Option PathFault
+no_data_fault None = Some BadIndex
+no_data_fault (Some id) = None
+
+-- the first check that fails, of the header of a transmission of exchange e
+abbrev pub write_header_fault : World → ℕ → ℕ → Option PathFault
+write_header_fault w e index = option_map_or
+    (λ x. no_data_fault (transmission_id x index)) (exchange w e) (Some NoExchange)

@@ -1,14 +1,14 @@
 //! What a driver is told of an open exchange, and how it ends one.
 
-ghost use Rattle.std.specs.Prelude.{◌≡◌, ◌≤◌, ℕ, Some, option_map, take, drop, length, IfOk, OnErr};
+ghost use Rattle.std.specs.Prelude.{◌≡◌, ◌≤◌, ℕ, Some, option_map, take, drop, length, IfOk, OnOk, OnErr};
 ghost use Rattle.wf_frame.specs.Frames.{FrameValue};
 ghost use Rattle.wf_def_world.specs.Text.{traffic_map, with_traffic};
 ghost use Rattle.wf_def_world.specs.World.{World, exchange as exchange_in};
 ghost use Rattle.wf_send_half_refines.specs.Standing.{StandsFor};
 ghost use Rattle.std.specs.Result.{result_err};
 ghost use Rattle.wf_path.specs.Answers.{block_ack_in};
-ghost use Rattle.wf_path.specs.Transmissions.{sent_of, id_sent, octets_sent};
-ghost use Rattle.wf_path.specs.Writing.{write_fault};
+ghost use Rattle.wf_path.specs.Transmissions.{sent_of, id_sent, tag_sent, octets_sent, header_sent};
+ghost use Rattle.wf_path.specs.Writing.{write_fault, write_header_fault};
 ghost use Rattle.wf_path.specs.Driver.{IsEnded, end_fault};
 ghost use Rattle.wf_path.specs.Paths.{IsPath, IsSmall, RiseLittle};
 
@@ -93,6 +93,27 @@ impl Path {
             result ≡ id_sent w exchange index }
     {
         crate::frame_id(&self.half, exchange, index)
+    }
+
+    /// The tag of the frame of a transmission, by which its owner finds it again. None where `frame_id` is.
+    pub fn frame_tag(&self, exchange: u64, index: u16) -> Option<u64>
+        ensures { (w : World) (bodies : ℕ → FrameValue) → StandsFor self.now w bodies →
+            result ≡ tag_sent w bodies exchange index }
+    {
+        crate::frame_tag(&self.half, exchange, index)
+    }
+
+    /// Writes the header alone of a transmission of data of an open exchange (8.3.2.1), for a driver that
+    /// sends the body from a buffer of its own. Refused as NoExchange where the exchange is not open, or as
+    /// BadIndex where it has no data of that index, as a BlockAckReq has none; then `out` stays.
+    pub fn header(&self, exchange: u64, index: u16, out: &mut [u8; 26]) -> Result<(), PathFault>
+        ensures fault { (w : World) (bodies : ℕ → FrameValue) → StandsFor self.now w bodies →
+            result_err result ≡ write_header_fault w exchange index }
+        ensures unchanged { OnErr result (out.new ≡ out.old) }
+        ensures octets { OnOk result ((w : World) (bodies : ℕ → FrameValue) →
+            StandsFor self.now w bodies → header_sent w bodies exchange index ≡ Some out.new) }
+    {
+        crate::write_header(&self.half, exchange, index, out)
     }
 
     /// Writes the octets of one transmission of an open exchange, a data frame or a BlockAckReq (8.3.2.1 and

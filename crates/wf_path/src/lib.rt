@@ -3,9 +3,9 @@
 //! `call` makes any call but those of a receiver, `done_bits` and `done_bytes` end an exchange by a BlockAck;
 //! `has_small_counts` tells whether these may be called.
 //!
-//! What an open exchange sends is told by `sent`, `frame_id` and `mpdu`, as octets (IEEE 802.11-2012, 8.2.4,
-//! 8.3.1.8, 8.3.2.1; specs/Transmissions); its BlockAck is read back (8.3.1.9), and `tim` is for sleepers
-//! (8.4.2.7). Only `new` takes memory.
+//! What an open exchange sends is told by `sent`, `frame_id`, `frame_tag`, `header` and `mpdu`, as octets
+//! (IEEE 802.11-2012, 8.2.4, 8.3.1.8, 8.3.2.1; specs/Transmissions); its BlockAck is read back (8.3.1.9), and
+//! `tim` is for sleepers (8.4.2.7). Only `new` takes memory.
 #![tactic(auto)]
 
 mod answers;
@@ -26,7 +26,7 @@ pub use answers::read_block_ack;
 pub use faults::{DoneFault, NewFault, PathFault};
 pub use job::Job;
 pub use path::Path;
-pub use reading::{Sent, frame_id, sent_by};
+pub use reading::{Sent, frame_id, frame_tag, sent_by};
 pub use small::first_calls_law;
 pub use traffic::tim;
-pub use writing::write_transmission;
+pub use writing::{write_header, write_transmission};

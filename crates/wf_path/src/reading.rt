@@ -5,7 +5,7 @@ ghost use Rattle.wf_frame.specs.Frames.{FrameValue};
 ghost use Rattle.wf_def_world.specs.World.{World, exchange};
 ghost use Rattle.wf_send_half.specs.Half.{HasWorld};
 ghost use Rattle.wf_send_half_refines.specs.Standing.{StandsFor};
-ghost use Rattle.wf_path.specs.Transmissions.{sent_of, id_sent};
+ghost use Rattle.wf_path.specs.Transmissions.{sent_of, id_sent, tag_sent};
 
 use crate::flights::frame_of;
 use wf_send_half::Transmit;
@@ -48,4 +48,16 @@ pub fn frame_id(half: &Transmit, number: u64, index: u16) -> Option<u64>
     let open = half.exchange(number)?;
     let seq = open.number_at(index)?;
     Some(frame_of(half, open, index, seq).id())
+}
+
+/// The tag of the frame that a transmission of the exchange with this number carries, by the transmission's
+/// index, counted from 0. None exactly where `frame_id` is None.
+pub fn frame_tag(half: &Transmit, number: u64, index: u16) -> Option<u64>
+    requires { HasWorld half.now }
+    ensures { (w : World) (bodies : ℕ → FrameValue) → StandsFor half.now w bodies →
+        result ≡ tag_sent w bodies number index }
+{
+    let open = half.exchange(number)?;
+    let seq = open.number_at(index)?;
+    Some(frame_of(half, open, index, seq).tag())
 }

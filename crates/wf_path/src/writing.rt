@@ -1,13 +1,13 @@
 //! The octets of a transmission.
 
-ghost use Rattle.std.specs.Prelude.{◌≡◌, ◌<◌, ◌≤◌, ◌++◌, ℕ, Some, length, take, drop, IfOk, OnErr};
+ghost use Rattle.std.specs.Prelude.{◌≡◌, ◌<◌, ◌≤◌, ◌++◌, ℕ, Some, length, take, drop, IfOk, OnOk, OnErr};
 ghost use Rattle.wf_frame.specs.Frames.{FrameValue};
 ghost use Rattle.wf_def_world.specs.World.{World};
 ghost use Rattle.wf_send_half.specs.Half.{HasWorld};
 ghost use Rattle.wf_send_half_refines.specs.Standing.{StandsFor};
-ghost use Rattle.wf_path.specs.Transmissions.{octets_sent};
+ghost use Rattle.wf_path.specs.Transmissions.{octets_sent, header_sent};
 ghost use Rattle.std.specs.Result.{result_err};
-ghost use Rattle.wf_path.specs.Writing.{write_fault, room_fault};
+ghost use Rattle.wf_path.specs.Writing.{write_fault, room_fault, write_header_fault};
 
 use crate::PathFault;
 use crate::flights::{DURATION, frame_of, header_of};
@@ -71,6 +71,32 @@ pub fn write_transmission(
             write_parts(&request, &[], out)
         }
     }
+}
+
+/// Writes the header alone of a transmission of data of the exchange with this number, by its index, counted
+/// from 0 (IEEE 802.11-2012, 8.3.2.1): its body is that of its frame. Refused as NoExchange where the
+/// exchange is not open, or as BadIndex where it has no data of that index; then `out` stays.
+pub fn write_header(
+    half: &Transmit,
+    number: u64,
+    index: u16,
+    out: &mut [u8; 26],
+) -> Result<(), PathFault>
+    requires { HasWorld half.now }
+    ensures fault { (w : World) (bodies : ℕ → FrameValue) → StandsFor half.now w bodies →
+        result_err result ≡ write_header_fault w number index }
+    ensures unchanged { OnErr result (out.new ≡ out.old) }
+    ensures octets { OnOk result ((w : World) (bodies : ℕ → FrameValue) → StandsFor half.now w bodies →
+        header_sent w bodies number index ≡ Some out.new) }
+{
+    let Some(open) = half.exchange(number) else {
+        return Err(PathFault::NoExchange);
+    };
+    let Some(seq) = open.number_at(index) else {
+        return Err(PathFault::BadIndex);
+    };
+    encode(&header_of(half, open, index, seq), out);
+    Ok(())
 }
 
 /// Writes a head and a body to the front of `out`, where there is room for both.

@@ -74,6 +74,22 @@ fn a_frame_has_its_octets(rt: HostRuntime) -> Result<(), Fail> {
 }
 
 #[test]
+fn a_header_stands_alone_and_its_frame_has_a_tag(rt: HostRuntime) -> Result<(), Fail> {
+    let path = with_exchange(rt.alloc())?;
+    assert_eq!(rt;
+        (path.frame_tag(0, 0), path.frame_tag(0, 1)),
+        (Some(77), None)
+    );
+    let mut header = [0xff; 26];
+    assert!(rt; path.header(1, 0, &mut header) == Err(PathFault::NoExchange));
+    assert!(rt; path.header(0, 1, &mut header) == Err(PathFault::BadIndex));
+    assert!(rt; header == [0xff; 26]);
+    assert!(rt; path.header(0, 0, &mut header) == Ok(()));
+    assert!(rt; FRAME.starts_with(&header));
+    Ok(())
+}
+
+#[test]
 fn a_transmission_may_be_refused(rt: HostRuntime) -> Result<(), Fail> {
     let path = with_exchange(rt.alloc())?;
     let mut out = [0xff; 28];

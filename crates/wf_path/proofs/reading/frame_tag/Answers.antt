@@ -1,0 +1,22 @@
+use Rattle.std.proofs.Common.{◌∙◌, sym}
+use Rattle.wf_path.proofs.Flying.{some_flies, tag_is, no_tag, no_tagged}
+use Rattle.wf_path.proofs.reading.frame_tag.Goals as goal
+
+pub returns-in_err-open : goal.returns-in_err-open
+returns-in_err-open c w bodies h = c.from_residual.ensures
+    ∙ no_tag c.args.half.now w bodies h c.args.number c.args.index c.in_err-open.ensures
+
+pub returns-in_err-seq : goal.returns-in_err-seq
+returns-in_err-seq c w bodies h =
+    c.from_residual-in_err-seq.ensures ∙ no_tagged c.args.half.now w bodies h c.args.number c.args.index
+    c.in_ok-open.open.now c.in_ok-open.ensures (sym c.in_err-seq.ensures)
+
+pub frame_of-requires : goal.frame_of-requires
+frame_of-requires c = some_flies c.args.half.now c.args.number c.in_ok-open.open.now c.args.index
+    c.in_ok-seq.seq c.in_ok-open.ensures (sym c.in_ok-seq.ensures) c.requires
+
+pub returns : goal.returns
+returns c w bodies h =
+    tag_is c.args.half.now c.args.number c.in_ok-open.open.now c.args.index c.in_ok-seq.seq
+    c.in_ok-open.ensures (sym c.in_ok-seq.ensures) w bodies h c.frame_of.result.now c.tag.result
+    (λ x m f. c.frame_of.ensures w bodies x m f) c.tag.ensures
