@@ -1,5 +1,8 @@
 -- The words for numbers: those of the trace grammar, where it has one.
-use Rattle.std.specs.Prelude.{ℕ, ℤ, pos, ◌-◌, ◌==◌, List, [], ◌∷◌, ◌++◌, if◌then◌else◌, codes, length, replicate}
+use Rattle.std.specs.Prelude.{ℕ, ℤ, pos, ◌-◌, ◌==◌, List, [], ◌∷◌, ◌++◌, if◌then◌else◌, codes, length, map, replicate}
+use Rattle.wf_frame.specs.Refusals.{refusal_number, refusal_word}
+use Rattle.wf_frame.specs.declared.notes.Refusal.{Refusal}
+use Rattle.wf_frame.specs.declared.notes.Refusal.TheVariants as refusal
 use Rattle.wf_def_world.specs.Refusals.{is_within}
 
 -- the octets of a name
@@ -31,19 +34,22 @@ first_word (word ∷ words) = word
 
 -- ---- codes
 
--- why a call was refused
-abbrev pub refusal_rows : List (ℕ × List ℕ)
-refusal_rows =
-    (1, codes "bad-station") ∷ (2, codes "bad-window") ∷ (3, codes "bad-start") ∷ (4, codes "bad-exponent") ∷
-    (5, codes "bad-rate") ∷ (6, codes "bad-tick") ∷ (7, codes "bad-tid") ∷ (8, codes "bad-air") ∷
-    (9, codes "bad-index") ∷ (10, codes "live") ∷ (11, codes "no-station") ∷ (12, codes "no-exchange") ∷
-    (13, codes "no-answer") ∷ (14, codes "open") ∷ (15, codes "room") ∷ (16, codes "sleeping") ∷
-    (17, codes "full") ∷ (18, codes "idle") ∷ (19, codes "answered") ∷ (20, codes "arrived") ∷
-    (21, codes "nothing") ∷ (22, codes "asleep") ∷ (23, codes "awake") ∷ (24, codes "polled") ∷
-    (25, codes "debt") ∷ (26, codes "history-full") ∷ (27, codes "bad-weight") ∷ []
+-- each refusal, with 0 for what it tells beside its word
+abbrev pub refusals : List Refusal
+refusals =
+    refusal.BadStation ∷ refusal.BadWindow ∷ refusal.BadStart ∷ refusal.BadExponent ∷ refusal.BadRate ∷
+    refusal.BadTick ∷ refusal.BadTid ∷ refusal.BadAir ∷ refusal.BadIndex ∷ refusal.Live ∷
+    refusal.NoStation ∷ refusal.NoExchange ∷ refusal.NoAnswer ∷ (refusal.StillOpen 0) ∷
+    (refusal.Room 0) ∷ (refusal.Sleeping 0) ∷ (refusal.Full 0) ∷ refusal.Idle ∷ refusal.Answered ∷
+    refusal.Arrived ∷ refusal.Nothing ∷ refusal.Asleep ∷ refusal.Awake ∷ refusal.Polled ∷
+    (refusal.Debt (pos 0)) ∷ refusal.HistoryFull ∷ refusal.BadWeight ∷ []
 
-abbrev pub refusal_word : ℕ → List ℕ
-refusal_word = word_among refusal_rows
+-- why a call was refused: of each refusal its number and its word
+abbrev pub refusal_rows : List (ℕ × List ℕ)
+refusal_rows = map (λ r. (refusal_number r, refusal_word r)) refusals
+
+abbrev pub refusal_word_at : ℕ → List ℕ
+refusal_word_at = word_among refusal_rows
 
 -- why octets are no BlockAck to an exchange
 abbrev pub block_rows : List (ℕ × List ℕ)
@@ -67,7 +73,7 @@ own_word = word_among own_rows
 -- any code; 101 to 116 are of settings, by their places
 abbrev pub code_word : ℕ → List ℕ
 code_word n =
-    if is_within 1 27 n then refusal_word n
+    if is_within 1 27 n then refusal_word_at n
     else (if is_within 51 58 n then block_word n
     else (if is_within 101 116 n then codes "bad-setting"
     else own_word n))

@@ -6,7 +6,7 @@ ghost use Rattle.wf_frame.specs.declared.answers.Brief.{Brief};
 ghost use Rattle.wf_frame.specs.declared.classes.Fate.{Fate};
 ghost use Rattle.wf_frame.specs.declared.notes.Refusal.{Refusal};
 ghost use Rattle.wf_def_world.specs.Text.{fate_name, refusal_words, reply_words};
-ghost use Rattle.wf_c.specs.Names.{block_word, code_word, fate_word, first_word, answer_word, name_text, own_word, refusal_word, setting_word, word_at};
+ghost use Rattle.wf_c.specs.Names.{block_word, code_word, fate_word, first_word, answer_word, name_text, own_word, refusal_word_at, setting_word, word_at};
 ghost use Rattle.wf_c.specs.Numbers.{fate_number, numbers_of, refusal_number};
 
 /// The word for a number that stands for nothing.
@@ -49,7 +49,7 @@ fn word_of_code(code: u32) -> &'static [u8]
 
 // The word of a refusal, 1 to 27.
 fn word_of_refusal(code: u32) -> &'static [u8]
-    ensures word { result.now ≡ refusal_word code }
+    ensures word { result.now ≡ refusal_word_at code }
     ensures short { length result.now ≤ 15 }
 {
     match code {
