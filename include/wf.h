@@ -27,8 +27,9 @@
  * `reply` and `frames` are the caller's: each thread has its own, and looks into them after it has let go of the lock.
  *
  * Buffers. A pointer must not be null, also where the length is 0, but for the `body` of wf_path_reap and wf_cell_reap where
- * `room` is 0; and what a function writes to must not overlap anything else that it is given. `length` and `room` are at most what the buffer has. Every struct and buffer must be initialized, as
- * by `= {0}`, before it is handed in. The library keeps no pointer of the caller's.
+ * `room` is 0. What a function writes to must not overlap anything else that it is given, nor the body of a packet. `length` and
+ * `room` are at most what the buffer has. Every struct and buffer must be initialized, as by `= {0}`, before it is handed in; a
+ * packet's `body` then still has to be set. The library keeps no pointer of the caller's.
  *
  * Platform. Pointers and size_t have 64 bits, and each field of a struct stands at its natural alignment: do not pack them.
  *
@@ -251,15 +252,27 @@ struct wf_sent {
   uint8_t request; /* 1 where it sends a BlockAckReq */
 };
 
+/* A packet that comes for a station, to be sent as a frame. */
+struct wf_packet {
+  const uint8_t *body; /* its octets, which are copied */
+  size_t length;       /* how many they are: 1 to WF_GREATEST_BODY */
+  uint64_t tag;        /* what its owner finds it again by, as an index or a pointer: nothing here reads it */
+  uint32_t flow;
+  uint8_t source[6];   /* the address that it comes from (the third of its header); six zeros stand for 02:00:00:02:00:00 */
+  uint8_t tid;
+};
+
 /* A frame that was reaped. */
 struct wf_taken {
   uint64_t id;
-  uint64_t stamp;  /* when it was accepted, in microseconds */
+  uint64_t stamp;    /* when it was accepted, in microseconds */
+  uint64_t tag;      /* that of its packet */
   uint32_t flow;
   uint16_t station;
-  uint16_t length; /* of its body, 1 to WF_GREATEST_BODY octets */
+  uint16_t length;   /* of its body, 1 to WF_GREATEST_BODY octets */
+  uint8_t source[6]; /* that of its packet, or 02:00:00:02:00:00 where that was six zeros */
   uint8_t tid;
-  uint8_t fate;    /* enum wf_fate, never WF_HELD */
+  uint8_t fate;      /* enum wf_fate, never WF_HELD */
 };
 
 /* The accepted frames by what became of them; the rest of them are inside. */
@@ -401,20 +414,20 @@ int32_t wf_path_poll(struct wf_path *path, uint16_t station, struct wf_reply *re
 /* A live station used 1 to 65,535 microseconds of airtime to send in a class. WF_BAD_STATION, WF_BAD_AIR, WF_NO_STATION, WF_DEBT. */
 int32_t wf_path_rx(struct wf_path *path, uint16_t station, uint8_t class_, uint32_t air, struct wf_reply *reply);
 
-/* A frame comes for a station: its TID, its flow, and its body of 1 to WF_GREATEST_BODY octets, which is copied.
- * WF_BAD_LENGTH exactly where `length` is another, and else WF_NO_MEMORY where there is no memory for the frame, whatever the
- * rest of the call: after both `reply` is as it was. WF_BAD_STATION, WF_BAD_TID, WF_NO_STATION, WF_ROOM, WF_SLEEPING. */
-int32_t wf_path_enqueue(struct wf_path *path, uint16_t station, uint8_t tid, uint32_t flow, const uint8_t *body, size_t length,
-                        struct wf_reply *reply);
+/* A packet comes for a station. Its body is copied, and where it is refused nothing is kept of it: it is the caller's as before.
+ * WF_BAD_LENGTH exactly where `length` is not 1 to WF_GREATEST_BODY, and else WF_NO_MEMORY where there is no memory for the
+ * frame, whatever the rest of the call: after both `reply` is as it was. WF_BAD_STATION, WF_BAD_TID, WF_NO_STATION, WF_ROOM,
+ * WF_SLEEPING. */
+int32_t wf_path_enqueue(struct wf_path *path, uint16_t station, const struct wf_packet *packet, struct wf_reply *reply);
 
 /* The driver asks for the next exchange of a class. Where it sends an aggregate, `frames` says of what frames; else their count is
  * 0. WF_FULL, WF_IDLE. */
 int32_t wf_path_pull(struct wf_path *path, uint8_t class_, struct wf_reply *reply, struct wf_frames *frames);
 
-/* Takes the first finished frame: its id and fate, what it was, and its body of `taken->length` octets at the front of
- * `body`, the rest of which stays. Where `room` is 0 the body is let go uncopied, and `body` may be null. WF_SMALL_BUFFER exactly
- * where `room` is 1 to WF_GREATEST_BODY - 1, also where there is nothing to reap, and then `reply` is as it was; WF_NOTHING.
- * After both `taken` and `body` are as they were. */
+/* Takes the first finished frame: its id and fate, what its packet was, with the tag, and its body of `taken->length` octets at the
+ * front of `body`, the rest of which stays. Where `room` is 0 the body is let go uncopied, and `body` may be null.
+ * WF_SMALL_BUFFER exactly where `room` is 1 to WF_GREATEST_BODY - 1, also where there is nothing to reap, and then `reply` is as it
+ * was; WF_NOTHING. After both `taken` and `body` are as they were. */
 int32_t wf_path_reap(struct wf_path *path, struct wf_reply *reply, struct wf_taken *taken, uint8_t *body, size_t room);
 
 /* ---- an open exchange */
@@ -465,6 +478,15 @@ void wf_path_tally(const struct wf_path *path, struct wf_tally *tally);
 /* Writes a live station's airtime in a class. WF_NO_STATION, and then `share` is as it was. */
 int32_t wf_path_share(const struct wf_path *path, uint16_t station, uint8_t class_, struct wf_share *share);
 
+/* 1 where a pull of a class would send now, else 0: then wf_path_pull would give WF_FULL or WF_IDLE. */
+int32_t wf_path_can_pull(const struct wf_path *path, uint8_t class_);
+
+/* Write how many frames of a live station's TID are in flow queues, and how many of its sequence numbers wait to be sent. WF_BAD_TID
+ * exactly where the TID is above 7, and else WF_NO_STATION exactly where the station is not live; after both `count` is as it
+ * was. */
+int32_t wf_path_queued(const struct wf_path *path, uint16_t station, uint8_t tid, uint32_t *count);
+int32_t wf_path_waiting(const struct wf_path *path, uint16_t station, uint8_t tid, uint32_t *count);
+
 /* Writes the TIM element (IEEE 802.11-2012, 8.4.2.7) of the stations that sleep and have traffic, and gives how many octets it has.
  * The rest of `out` stays. */
 size_t wf_path_tim(const struct wf_path *path, uint8_t out[256]);
@@ -487,10 +509,11 @@ void wf_cell_free(struct wf_cell *cell);
  * nothing has changed. */
 int32_t wf_cell_ask(struct wf_cell *cell, uint32_t caller, const struct wf_call *call, struct wf_reply *reply);
 
-/* A frame comes for a station, as in wf_path_enqueue; it takes memory for the frame. Also WF_HISTORY_FULL. The call is one
- * entry of the history, but after WF_BAD_LENGTH and WF_NO_MEMORY none. */
-int32_t wf_cell_enqueue(struct wf_cell *cell, uint32_t caller, uint16_t station, uint8_t tid, uint32_t flow, const uint8_t *body,
-                        size_t length, struct wf_reply *reply);
+/* A packet comes for a station, as in wf_path_enqueue; it takes memory for the frame. Also WF_HISTORY_FULL. The call is one
+ * entry of the history, but after WF_BAD_LENGTH and WF_NO_MEMORY none. The entry has neither the source of the packet nor its
+ * tag: the frame has both, inside and as wf_cell_reap gives it back, and a replay of the history has the made-up source. */
+int32_t wf_cell_enqueue(struct wf_cell *cell, uint32_t caller, uint16_t station, const struct wf_packet *packet,
+                        struct wf_reply *reply);
 
 /* Takes the first finished frame, as in wf_path_reap. Also WF_HISTORY_FULL, and then too `taken` and `body` are as they were.
  * The call is one entry of the history, but after WF_SMALL_BUFFER none. */

@@ -26,9 +26,12 @@ static int fill(struct handles *handles) {
   struct wf_settings settings = {0};
   struct wf_reply reply = {0};
   struct wf_call call = {0};
+  struct wf_packet packet = {0};
+  packet.body = body;
+  packet.length = sizeof body;
   wf_settings_standard(&settings);
   if (wf_path_make(&handles->path, &settings) || wf_path_join(&handles->path, 0, 64, 0, 3, 1, &reply)) return 0;
-  if (wf_path_enqueue(&handles->path, 0, 0, 0, body, sizeof body, &reply)) return 0;
+  if (wf_path_enqueue(&handles->path, 0, &packet, &reply)) return 0;
   if (wf_path_pull(&handles->path, WF_BE, &reply, &frames)) return 0;
   exchange = reply.exchange;
   call.kind = WF_CALL_TICK;
@@ -41,12 +44,14 @@ static int read_path(const struct wf_path *path) {
   struct wf_share share = {0};
   struct wf_sent sent = {0};
   uint64_t id = 0;
+  uint32_t queued = 1, waiting = 1;
   size_t size = 0;
   wf_path_tally(path, &tally);
   return wf_path_now(path) == 0 && wf_path_exchanges(path) == 1 && wf_path_open_count(path) == 1 && wf_path_live(path, 0) == 1 &&
          wf_path_share(path, 0, WF_BE, &share) == WF_OK && wf_path_sent(path, exchange, &sent) == WF_OK && sent.count == 1 &&
          wf_path_frame_id(path, exchange, 0, &id) == WF_OK && wf_path_mpdu(path, exchange, 0, out, sizeof out, &size) == WF_OK &&
-         size == 1526 && wf_path_tim(path, tim) == 6 && tally.accepted == 1;
+         size == 1526 && wf_path_tim(path, tim) == 6 && tally.accepted == 1 && wf_path_can_pull(path, WF_BE) == 0 &&
+         wf_path_queued(path, 0, 0, &queued) == WF_OK && queued == 0 && wf_path_waiting(path, 0, 0, &waiting) == WF_OK && waiting == 0;
 }
 
 static int read_cell(const struct wf_cell *cell) {

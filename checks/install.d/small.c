@@ -15,13 +15,18 @@ int main(void) {
   struct wf_path path = {0};
   struct wf_settings settings = {0};
   struct wf_reply reply = {0};
+  struct wf_packet packet = {0};
   struct wf_taken taken = {0};
   uint8_t bits[32] = {1};
 
+  packet.body = body;
+  packet.length = 1500;
+  packet.flow = 7;
+  packet.tid = 5;
   wf_settings_standard(&settings);
   if (wf_path_make(&path, &settings) != WF_OK) return 1;
   if (wf_path_join(&path, 3, 64, 4095, 3, 1, &reply) != WF_OK) return 1;
-  if (wf_path_enqueue(&path, 3, 5, 7, body, 1500, &reply) != WF_OK) return 1;
+  if (wf_path_enqueue(&path, 3, &packet, &reply) != WF_OK) return 1;
   printf("frame %d is accepted\n", (int)reply.id);
   if (wf_path_pull(&path, WF_VI, &reply, &frames) != WF_OK) return 1;
   printf("exchange %d: %d microseconds, frame %d, number %d\n", (int)reply.exchange, (int)reply.air,

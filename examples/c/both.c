@@ -135,13 +135,20 @@ static void call_ask(uint32_t caller, uint16_t station) {
 }
 
 static void call_enqueue(uint32_t caller, uint16_t station) {
-  uint8_t tid = (uint8_t)below(below(50) ? 8 : 10), body[WF_GREATEST_BODY];
-  uint32_t flow = below(20);
+  uint8_t body[WF_GREATEST_BODY];
+  struct wf_packet packet = {0};
   size_t length = 1 + below(below(4) ? 200 : WF_GREATEST_BODY), j;
   int32_t code;
-  for (j = 0; j < length; j++) body[j] = (uint8_t)(flow + j);
-  if (wf_cell_enqueue(&cell, caller, station, tid, flow, body, 0, &reply) != WF_BAD_LENGTH) fail("a body of no octet is taken");
-  code = wf_cell_enqueue(&cell, caller, station, tid, flow, body, length, &reply);
+  packet.body = body;
+  packet.tid = (uint8_t)below(below(50) ? 8 : 10);
+  packet.flow = below(20);
+  packet.tag = packet.flow << 16 | (uint32_t)length;
+  packet.source[0] = 0x0a;
+  packet.source[5] = (uint8_t)packet.flow;
+  for (j = 0; j < length; j++) body[j] = (uint8_t)(packet.flow + j);
+  if (wf_cell_enqueue(&cell, caller, station, &packet, &reply) != WF_BAD_LENGTH) fail("a body of no octet is taken");
+  packet.length = length;
+  code = wf_cell_enqueue(&cell, caller, station, &packet, &reply);
   if (code == WF_NO_MEMORY) fail("out of memory");
   write_answer(code);
 }
@@ -159,6 +166,8 @@ static void call_reap(uint32_t caller) {
   if (code) return;
   if (taken.id != reply.id || taken.fate != reply.fate) fail("another frame");
   if (taken.station >= STATIONS || taken.tid > 7 || taken.flow >= 20 || taken.length == 0) fail("a frame that never came");
+  if (taken.tag != (taken.flow << 16 | taken.length)) fail("another tag");
+  if (taken.source[0] != 0x0a || taken.source[5] != taken.flow) fail("another source");
   for (j = 0; wanted && j < taken.length; j++) {
     if (body[j] != (uint8_t)(taken.flow + j)) fail("another body");
   }

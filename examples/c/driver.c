@@ -46,10 +46,14 @@ static int open_air(struct air *air) {
 /* Frames come until each station has QUEUED inside. */
 static int fill(struct air *air) {
   static const uint8_t body[1500] = {0xaa, 0xaa, 0x03};
+  struct wf_packet packet = {0};
   uint16_t station;
+  packet.body = body;
+  packet.length = sizeof body;
   for (station = 0; station < STATIONS; station++) {
+    packet.flow = station;
     while (air->inside[station] < QUEUED) {
-      if (wf_path_enqueue(&air->path, station, 0, station, body, sizeof body, &air->reply)) return 0;
+      if (wf_path_enqueue(&air->path, station, &packet, &air->reply)) return 0;
       air->inside[station]++;
     }
   }

@@ -34,6 +34,15 @@ static void unchanged(const void *now, const void *before, size_t size, const ch
   failed++;
 }
 
+/* A packet with this body; its source is the made-up one. */
+static struct wf_packet packet_of(uint8_t tid, const uint8_t *body, size_t length) {
+  struct wf_packet packet = {0};
+  packet.body = body;
+  packet.length = length;
+  packet.tid = tid;
+  return packet;
+}
+
 /* Settings that are small, and in their ranges. */
 static struct wf_settings some_settings(void) {
   struct wf_settings settings = {0};
@@ -74,6 +83,7 @@ static void misuse_settings(void) {
 /* Calls that name a station that there is not, or that is not live. */
 static void misuse_stations(void) {
   static const uint8_t body[100];
+  const struct wf_packet packet = packet_of(0, body, sizeof body);
   const uint16_t none = STATIONS;
   want(wf_path_join(&path, none, 64, 0, 3, 1, &reply), WF_BAD_STATION, "wf_path_join");
   want(wf_path_leave(&path, none, &reply), WF_BAD_STATION, "wf_path_leave");
@@ -82,14 +92,14 @@ static void misuse_stations(void) {
   want(wf_path_wake(&path, none, &reply), WF_BAD_STATION, "wf_path_wake");
   want(wf_path_poll(&path, none, &reply), WF_BAD_STATION, "wf_path_poll");
   want(wf_path_rx(&path, none, WF_BE, 100, &reply), WF_BAD_STATION, "wf_path_rx");
-  want(wf_path_enqueue(&path, none, 0, 0, body, sizeof body, &reply), WF_BAD_STATION, "wf_path_enqueue");
+  want(wf_path_enqueue(&path, none, &packet, &reply), WF_BAD_STATION, "wf_path_enqueue");
   want(wf_path_leave(&path, 3, &reply), WF_NO_STATION, "wf_path_leave");
   want(wf_path_rate(&path, 3, 7, 20, 0, &reply), WF_NO_STATION, "wf_path_rate");
   want(wf_path_sleep(&path, 3, &reply), WF_NO_STATION, "wf_path_sleep");
   want(wf_path_wake(&path, 3, &reply), WF_NO_STATION, "wf_path_wake");
   want(wf_path_poll(&path, 3, &reply), WF_NO_STATION, "wf_path_poll");
   want(wf_path_rx(&path, 3, WF_BE, 100, &reply), WF_NO_STATION, "wf_path_rx");
-  want(wf_path_enqueue(&path, 3, 0, 0, body, sizeof body, &reply), WF_NO_STATION, "wf_path_enqueue");
+  want(wf_path_enqueue(&path, 3, &packet, &reply), WF_NO_STATION, "wf_path_enqueue");
 }
 
 static void misuse_joins(void) {
@@ -134,16 +144,19 @@ static void misuse_airtime(void) {
 
 static void misuse_frames(void) {
   static uint8_t body[WF_GREATEST_BODY + 1];
+  const struct wf_packet none = packet_of(0, body, 0), longer = packet_of(0, body, sizeof body), other = packet_of(8, body, 100);
+  struct wf_packet packet = packet_of(0, body, WF_GREATEST_BODY);
   struct wf_reply before = reply;
   int i;
-  want(wf_path_enqueue(&path, 0, 0, 0, body, 0, &reply), WF_BAD_LENGTH, "a body of no octet");
-  want(wf_path_enqueue(&path, 0, 0, 0, body, sizeof body, &reply), WF_BAD_LENGTH, "a body that is too long");
+  want(wf_path_enqueue(&path, 0, &none, &reply), WF_BAD_LENGTH, "a body of no octet");
+  want(wf_path_enqueue(&path, 0, &longer, &reply), WF_BAD_LENGTH, "a body that is too long");
   unchanged(&reply, &before, sizeof reply, "a bad length");
-  want(wf_path_enqueue(&path, 0, 8, 0, body, 100, &reply), WF_BAD_TID, "TID 8");
+  want(wf_path_enqueue(&path, 0, &other, &reply), WF_BAD_TID, "TID 8");
   for (i = 0; i < 70; i++) {
-    want(wf_path_enqueue(&path, 0, 0, 0, body, WF_GREATEST_BODY, &reply), WF_OK, "a frame of the greatest length");
+    packet.tag = (uint64_t)i;
+    want(wf_path_enqueue(&path, 0, &packet, &reply), WF_OK, "a frame of the greatest length");
   }
-  want(wf_path_enqueue(&path, 0, 0, 0, body, 100, &reply), WF_ROOM, "one frame too many");
+  want(wf_path_enqueue(&path, 0, &packet, &reply), WF_ROOM, "one frame too many");
 }
 
 static void misuse_reaps(void) {
@@ -155,6 +168,7 @@ static void misuse_reaps(void) {
   unchanged(&reply, &before, sizeof reply, "a small buffer");
   while (wf_path_reap(&path, &reply, &taken, NULL, 0) == WF_OK) {
     want(taken.fate == WF_OVERLIMIT && taken.length == WF_GREATEST_BODY && taken.id == reply.id, 1, "a frame without its body");
+    want(taken.tag == taken.id && taken.source[0] == 0x02 && taken.source[5] == 0, 1, "the tag and the source of a frame");
   }
   memset(&taken, 0, sizeof taken);
   want(wf_path_reap(&path, &reply, &taken, NULL, 0), WF_NOTHING, "a reap of nothing");
@@ -229,21 +243,36 @@ static void misuse_exchanges(void) {
 
 static void misuse_sleepers(void) {
   static const uint8_t body[100];
+  const struct wf_packet packet = packet_of(0, body, sizeof body);
   struct wf_share share = {0}, none = {0};
   want(wf_path_wake(&path, 1, &reply), WF_AWAKE, "a second wake");
   want(wf_path_poll(&path, 1, &reply), WF_AWAKE, "a poll of one that is awake");
   want(wf_path_sleep(&path, 1, &reply), WF_OK, "a sleep");
   want(wf_path_sleep(&path, 1, &reply), WF_ASLEEP, "a second sleep");
   want(wf_path_poll(&path, 1, &reply), WF_NOTHING, "a poll of nothing");
-  want(wf_path_enqueue(&path, 1, 0, 0, body, sizeof body, &reply), WF_OK, "a frame for a sleeper");
-  want(wf_path_enqueue(&path, 1, 0, 0, body, sizeof body, &reply), WF_OK, "another");
-  want(wf_path_enqueue(&path, 1, 0, 0, body, sizeof body, &reply), WF_SLEEPING, "a third");
+  want(wf_path_enqueue(&path, 1, &packet, &reply), WF_OK, "a frame for a sleeper");
+  want(wf_path_enqueue(&path, 1, &packet, &reply), WF_OK, "another");
+  want(wf_path_enqueue(&path, 1, &packet, &reply), WF_SLEEPING, "a third");
   want(wf_path_poll(&path, 1, &reply), WF_OK, "a poll");
   want(wf_path_poll(&path, 1, &reply), WF_POLLED, "a second poll");
   want(wf_path_share(&path, 3, WF_BE, &share), WF_NO_STATION, "wf_path_share");
   unchanged(&share, &none, sizeof share, "wf_path_share");
   want(wf_path_live(&path, 3), 0, "a station that is not live");
   want(wf_path_live(&path, 65535), 0, "a station that there is not");
+}
+
+/* Asks of TIDs and stations that there are not. */
+static void misuse_counts(void) {
+  uint32_t count = 7;
+  want(wf_path_queued(&path, 0, 8, &count), WF_BAD_TID, "wf_path_queued");
+  want(wf_path_waiting(&path, 0, 8, &count), WF_BAD_TID, "wf_path_waiting");
+  want(wf_path_queued(&path, 3, 8, &count), WF_BAD_TID, "wf_path_queued");
+  want(wf_path_queued(&path, 3, 0, &count), WF_NO_STATION, "wf_path_queued");
+  want(wf_path_waiting(&path, 65535, 7, &count), WF_NO_STATION, "wf_path_waiting");
+  want(count == 7, 1, "a count of no TID");
+  want(wf_path_queued(&path, 0, 7, &count), WF_OK, "wf_path_queued");
+  want(count == 0, 1, "the frames of a new station");
+  want(wf_path_can_pull(&path, WF_BE), 0, "a pull that would be refused");
 }
 
 /* A path of four stations, of which three are live. */
@@ -255,6 +284,7 @@ static void misuse_path(void) {
     want(wf_path_join(&path, station, 64, 0, 3, 1, &reply), WF_OK, "wf_path_join");
   }
   misuse_stations();
+  misuse_counts();
   misuse_joins();
   misuse_rates();
   misuse_clock();
@@ -278,6 +308,7 @@ static void misuse_cell(void) {
   struct wf_call call = {0}, none = {0};
   struct wf_reply before;
   struct wf_taken taken = {0};
+  struct wf_packet packet = packet_of(0, body, 0);
   uint32_t caller = 7;
   want(wf_cell_make(&cell, &settings), WF_OK, "wf_cell_make");
   before = reply;
@@ -290,7 +321,7 @@ static void misuse_cell(void) {
   call.kind = WF_CALL_RATE;
   call.form = WF_FORM_HE + 1;
   want(wf_cell_ask(&cell, 0, &call, &reply), WF_BAD_CALL, "a rate of no format");
-  want(wf_cell_enqueue(&cell, 0, 0, 0, 0, body, 0, &reply), WF_BAD_LENGTH, "a body of no octet");
+  want(wf_cell_enqueue(&cell, 0, 0, &packet, &reply), WF_BAD_LENGTH, "a body of no octet");
   want(wf_cell_reap(&cell, 0, &reply, &taken, body, 1), WF_SMALL_BUFFER, "room for one octet");
   unchanged(&reply, &before, sizeof reply, "a call of a cell that is none");
   want(wf_cell_entry(&cell, 0, &caller, &none), WF_BAD_INDEX, "an entry of an empty history");
@@ -298,7 +329,8 @@ static void misuse_cell(void) {
   call.kind = WF_CALL_TICK;
   while (wf_cell_room(&cell)) want(wf_cell_ask(&cell, 0, &call, &reply), WF_OK, "a tick");
   want(wf_cell_ask(&cell, 0, &call, &reply), WF_HISTORY_FULL, "a call too many");
-  want(wf_cell_enqueue(&cell, 0, 0, 0, 0, body, 100, &reply), WF_HISTORY_FULL, "a frame too many");
+  packet.length = 100;
+  want(wf_cell_enqueue(&cell, 0, 0, &packet, &reply), WF_HISTORY_FULL, "a frame too many");
   want(wf_cell_reap(&cell, 0, &reply, &taken, NULL, 0), WF_HISTORY_FULL, "a reap too many");
   wf_cell_free(&cell);
 }

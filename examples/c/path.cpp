@@ -27,8 +27,12 @@ void open_station(wf::Path &path, std::uint16_t station, std::uint8_t mcs, int f
   wf_reply reply{};
   want(path.join(station, 64, 0, 3, 1, reply), "join");
   want(path.rate(station, mcs, 20, false, reply), "rate");
+  wf_packet packet{};
+  packet.body = body.data();
+  packet.length = body.size();
+  packet.flow = station;
   for (int i = 0; i < frames; i++) {
-    want(path.enqueue(station, 0, station, body.data(), body.size(), reply), "enqueue");
+    want(path.enqueue(station, packet, reply), "enqueue");
     std::printf("station %d: frame %d is accepted\n", static_cast<int>(station), static_cast<int>(reply.id));
   }
 }

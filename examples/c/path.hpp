@@ -124,9 +124,8 @@ class Path {
                                      wf_reply &reply) {
     return wf_path_rx(&handle_, station, static_cast<std::uint8_t>(access), air, &reply);
   }
-  [[nodiscard]] std::int32_t enqueue(std::uint16_t station, std::uint8_t tid, std::uint32_t flow,
-                                     const std::uint8_t *body, std::size_t length, wf_reply &reply) {
-    return wf_path_enqueue(&handle_, station, tid, flow, body, length, &reply);
+  [[nodiscard]] std::int32_t enqueue(std::uint16_t station, const wf_packet &packet, wf_reply &reply) {
+    return wf_path_enqueue(&handle_, station, &packet, &reply);
   }
   [[nodiscard]] std::int32_t pull(wf_class access, wf_reply &reply, wf_frames &frames) {
     return wf_path_pull(&handle_, static_cast<std::uint8_t>(access), &reply, &frames);
@@ -180,6 +179,15 @@ class Path {
   }
   [[nodiscard]] std::int32_t share(std::uint16_t station, wf_class access, wf_share &out) const {
     return wf_path_share(&handle_, station, static_cast<std::uint8_t>(access), &out);
+  }
+  bool can_pull(wf_class access) const {
+    return wf_path_can_pull(&handle_, static_cast<std::uint8_t>(access)) != 0;
+  }
+  [[nodiscard]] std::int32_t queued(std::uint16_t station, std::uint8_t tid, std::uint32_t &count) const {
+    return wf_path_queued(&handle_, station, tid, &count);
+  }
+  [[nodiscard]] std::int32_t waiting(std::uint16_t station, std::uint8_t tid, std::uint32_t &count) const {
+    return wf_path_waiting(&handle_, station, tid, &count);
   }
   std::size_t tim(std::uint8_t (&out)[256]) const { return wf_path_tim(&handle_, out); }
 

@@ -104,17 +104,43 @@ static void call_rate_he(uint16_t s) {
   write_answer(code, NULL);
 }
 
+/* The tag of a packet tells what else it has. */
+static uint64_t tag_of(uint16_t s, uint8_t tid, uint32_t flow, size_t length) {
+  return (uint64_t)s << 48 | (uint64_t)tid << 40 | (uint64_t)flow << 16 | (uint64_t)length;
+}
+
+/* The source of a flow's packets: every fourth flow has six zeros, which stand for the made-up one. */
+static void write_source(uint32_t flow, uint8_t source[6]) {
+  memset(source, 0, 6);
+  if (flow % 4) source[0] = 0x0a;
+  if (flow % 4) source[5] = (uint8_t)flow;
+}
+
 static void call_enqueue(uint16_t s) {
-  uint8_t tid = (uint8_t)below(below(50) ? 8 : 10), body[WF_GREATEST_BODY];
-  uint32_t flow = below(20);
+  uint8_t body[WF_GREATEST_BODY];
+  struct wf_packet packet = {0};
   size_t length = 1 + below(below(4) ? 200 : WF_GREATEST_BODY), j;
   int32_t code;
-  for (j = 0; j < length; j++) body[j] = (uint8_t)(flow + j);
-  if (wf_path_enqueue(&path, s, tid, flow, body, 0, &reply) != WF_BAD_LENGTH) fail("a body of no octet is taken");
-  code = wf_path_enqueue(&path, s, tid, flow, body, length, &reply);
+  packet.body = body;
+  packet.tid = (uint8_t)below(below(50) ? 8 : 10);
+  packet.flow = below(20);
+  packet.tag = tag_of(s, packet.tid, packet.flow, length);
+  write_source(packet.flow, packet.source);
+  for (j = 0; j < length; j++) body[j] = (uint8_t)(packet.flow + j);
+  if (wf_path_enqueue(&path, s, &packet, &reply) != WF_BAD_LENGTH) fail("a body of no octet is taken");
+  packet.length = length;
+  code = wf_path_enqueue(&path, s, &packet, &reply);
   if (code == WF_NO_MEMORY) fail("out of memory");
-  fprintf(trace, "enq %u %u %lu %lu\n", (unsigned)s, (unsigned)tid, (unsigned long)flow, (unsigned long)length);
+  fprintf(trace, "enq %u %u %lu %lu\n", (unsigned)s, (unsigned)packet.tid, (unsigned long)packet.flow, (unsigned long)length);
   write_answer(code, NULL);
+}
+
+/* Whether a frame has the source of its flow's packets. */
+static int has_source(uint32_t flow, const uint8_t source[6]) {
+  static const uint8_t MADE_UP[6] = {0x02, 0, 0, 0x02, 0, 0};
+  uint8_t wanted[6];
+  write_source(flow, wanted);
+  return memcmp(source, flow % 4 ? wanted : MADE_UP, 6) == 0;
 }
 
 /* Compares what is told of a new exchange in many ways. */
@@ -137,9 +163,12 @@ static void call_pull(void) {
   uint8_t class_ = (uint8_t)below(4);
   uint16_t i;
   int32_t code;
+  int can;
   if (open_count == OPEN) return;
   memset(&x->frames, 0, sizeof x->frames);
+  can = wf_path_can_pull(&path, class_);
   code = wf_path_pull(&path, class_, &reply, &x->frames);
+  if (can != (code == WF_OK)) fail("another pull than was told");
   fprintf(trace, "pull %s\n", CLASSES[class_]);
   write_answer(code, &x->frames);
   if (code) return;
@@ -253,6 +282,8 @@ static void call_reap(void) {
   if (code) return;
   if (taken.id != reply.id || taken.fate != reply.fate || taken.stamp > wf_path_now(&path)) fail("another frame");
   if (taken.station >= STATIONS || taken.tid > 7 || taken.flow >= 20 || taken.length == 0) fail("a frame that never came");
+  if (taken.tag != tag_of(taken.station, taken.tid, taken.flow, taken.length)) fail("another tag");
+  if (!has_source(taken.flow, taken.source)) fail("another source");
   for (j = 0; wanted && j < taken.length; j++) {
     if (body[j] != (uint8_t)(taken.flow + j)) fail("another body");
   }

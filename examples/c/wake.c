@@ -1,8 +1,10 @@
 /*
  * A driver over libwf as its author would write it, with a small model of a device. The device has a hardware queue for each class
  * and works by itself, on a thread that stands for its interrupts: it sends what lies in the queues, sends again what was lost on
- * the air, measures the airtime that all of it took, and makes the station's BlockAck. One lock stands before the path. The
- * upper queue, from which packets come, is stopped while many frames are inside, and woken when there are few again.
+ * the air, measures the airtime that all of it took, and makes the station's BlockAck. One lock stands before the path. Each
+ * packet lies in a buffer of a pool, which the packet's tag names, and which is free again when the frame comes back. The upper
+ * queue, from which packets come, is stopped while many frames of a station's TID are queued or no buffer is free, and woken
+ * when it may go on.
  */
 #include <pthread.h>
 #include <stdint.h>
@@ -11,7 +13,7 @@
 
 #include "wf.h"
 
-enum { STATIONS = 4, CLASSES = 4, DEPTH = 2, PACKETS = 4000, STOP_AT = 200, WAKE_AT = 100, TRIES = 3, LONGEST = 20000 };
+enum { STATIONS = 4, CLASSES = 4, DEPTH = 2, PACKETS = 4000, BUFFERS = 512, STOP_AT = 64, WAKE_AT = 32, TRIES = 3, LONGEST = 20000 };
 
 /* An exchange in a hardware queue: what the device needs to send it, and to make its BlockAck. */
 struct job {
@@ -36,18 +38,29 @@ struct hardware {
   int count[CLASSES];
 };
 
+/* Where the packets lie, and the numbers of the buffers that are free. */
+struct pool {
+  uint8_t octets[BUFFERS][1500];
+  uint16_t station[BUFFERS]; /* whom the packet of a buffer is for, or NOBODY */
+  uint16_t free[BUFFERS];
+  unsigned count;
+};
+
 struct driver {
   pthread_mutex_t lock;   /* stands before all that follows */
   pthread_cond_t kick;    /* the device has something to send, or nothing more will come */
   pthread_cond_t wake;    /* the upper queue may go on */
   struct wf_path path;
   struct hardware hardware;
+  struct pool pool;
   uint64_t time;          /* of the air, in microseconds */
-  unsigned inside;        /* frames accepted and not yet reaped */
-  int is_stopped, is_closing, has_failed;
+  int is_closing, has_failed;
   unsigned stops, acked, dropped;
   uint64_t measured, computed; /* airtime, in microseconds */
 };
+
+/* In the place of a station. */
+static const uint16_t NOBODY = UINT16_MAX;
 
 static uint32_t next_random(uint32_t *random) {
   *random = *random * 1664525u + 1013904223u;
@@ -117,31 +130,47 @@ static int hand_over(struct driver *driver, int access, const struct wf_reply *r
   return 1;
 }
 
-/* Fills the hardware queues, the most urgent first. */
+/* Fills the hardware queues, the most urgent first, while there is something to send. */
 static int fill_hardware(struct driver *driver) {
   static struct wf_frames frames;
   int access;
   for (access = CLASSES - 1; access >= 0; access--) {
-    while (driver->hardware.count[access] < DEPTH) {
+    while (driver->hardware.count[access] < DEPTH && wf_path_can_pull(&driver->path, (uint8_t)access)) {
       struct wf_reply reply = {0};
-      int32_t code = wf_path_pull(&driver->path, (uint8_t)access, &reply, &frames);
-      if (code == WF_IDLE || code == WF_FULL) break;
-      if (code || !hand_over(driver, access, &reply, &frames)) return 0;
+      if (wf_path_pull(&driver->path, (uint8_t)access, &reply, &frames)) return 0;
+      if (!hand_over(driver, access, &reply, &frames)) return 0;
       pthread_cond_signal(&driver->kick);
     }
   }
   return 1;
 }
 
-/* Takes the finished frames back. Their bodies are still the upper queue's, so no copy is asked for. */
-static void reap_all(struct driver *driver) {
+/* Takes a free buffer for a packet, and gives its number. */
+static uint16_t take_buffer(struct pool *pool, uint16_t station) {
+  uint16_t number = pool->free[--pool->count];
+  pool->station[number] = station;
+  memset(pool->octets[number], number & 255, sizeof pool->octets[number]);
+  return number;
+}
+
+/* The buffer with this number is free again. Gives 0 where it has no packet for the station. */
+static int give_back(struct pool *pool, uint64_t number, uint16_t station) {
+  if (number >= BUFFERS || pool->station[number] != station) return 0;
+  pool->station[number] = NOBODY;
+  pool->free[pool->count++] = (uint16_t)number;
+  return 1;
+}
+
+/* Takes the finished frames back. Their octets still lie in the buffers that their tags name, so no copy is asked for. */
+static int reap_all(struct driver *driver) {
   struct wf_reply reply = {0};
   struct wf_taken taken = {0};
   while (wf_path_reap(&driver->path, &reply, &taken, NULL, 0) == WF_OK) {
-    driver->inside--;
+    if (!give_back(&driver->pool, taken.tag, taken.station)) return 0;
     if (taken.fate == WF_ACKED) driver->acked++;
     else driver->dropped++;
   }
+  return 1;
 }
 
 /* A job is over: its exchange ends by what was heard and what was measured, and the clock goes on. */
@@ -157,12 +186,8 @@ static int finish(struct driver *driver, const struct job *job, const struct out
   } else {
     code = wf_path_done_lost(&driver->path, job->exchange, outcome->air, &reply);
   }
-  if (code) return 0;
-  reap_all(driver);
-  if (driver->is_stopped && driver->inside <= WAKE_AT) {
-    driver->is_stopped = 0;
-    pthread_cond_signal(&driver->wake);
-  }
+  if (code || !reap_all(driver)) return 0;
+  pthread_cond_signal(&driver->wake);
   return fill_hardware(driver);
 }
 
@@ -206,22 +231,45 @@ static void *interrupts(void *given) {
   return NULL;
 }
 
-/* A packet comes from above. Where many frames are inside, the upper queue stands still until it is woken. */
-static int take_packet(struct driver *driver, uint16_t station, uint8_t tid, const uint8_t *body, size_t length) {
+/* Whether the upper queue may hand in a packet for a station's TID, of which this many may be queued. */
+static int has_place(const struct driver *driver, uint16_t station, uint8_t tid, uint32_t most) {
+  uint32_t queued = 0;
+  if (wf_path_queued(&driver->path, station, tid, &queued)) return 0;
+  return driver->pool.count > 0 && queued < most;
+}
+
+/* The upper queue stands still, where it has to, until it is woken and may go on. */
+static void wait_for_place(struct driver *driver, uint16_t station, uint8_t tid) {
+  if (has_place(driver, station, tid, STOP_AT)) return;
+  driver->stops++;
+  while (!driver->has_failed && !has_place(driver, station, tid, WAKE_AT)) pthread_cond_wait(&driver->wake, &driver->lock);
+}
+
+/* Hands a packet to the path, from the upper queue's own address, with the number of its buffer for a tag. */
+static int hand_in(struct driver *driver, uint16_t station, uint8_t tid) {
+  static const uint8_t HOST[6] = {0x0a, 0x00, 0x5e, 0x00, 0x53, 0x01};
   struct wf_reply reply = {0};
-  int32_t code = WF_OK;
+  struct wf_packet packet = {0};
+  packet.tag = take_buffer(&driver->pool, station);
+  packet.body = driver->pool.octets[packet.tag];
+  packet.length = sizeof driver->pool.octets[packet.tag];
+  packet.flow = station;
+  packet.tid = tid;
+  memcpy(packet.source, HOST, sizeof packet.source);
+  if (wf_path_enqueue(&driver->path, station, &packet, &reply) == WF_OK) return 1;
+  give_back(&driver->pool, packet.tag, station);
+  return 0;
+}
+
+/* A packet comes from above. */
+static int take_packet(struct driver *driver, uint16_t station, uint8_t tid) {
+  int all;
   pthread_mutex_lock(&driver->lock);
-  if (driver->inside >= STOP_AT) {
-    driver->is_stopped = 1;
-    driver->stops++;
-  }
-  while (driver->is_stopped && !driver->has_failed) pthread_cond_wait(&driver->wake, &driver->lock);
-  code = wf_path_enqueue(&driver->path, station, tid, station, body, length, &reply);
-  if (code == WF_OK) driver->inside++;
-  if (code != WF_OK || !fill_hardware(driver)) driver->has_failed = 1;
-  code = driver->has_failed;
+  wait_for_place(driver, station, tid);
+  if (!driver->has_failed && (!hand_in(driver, station, tid) || !fill_hardware(driver))) driver->has_failed = 1;
+  all = !driver->has_failed;
   pthread_mutex_unlock(&driver->lock);
-  return !code;
+  return all;
 }
 
 /* ---- the program */
@@ -229,8 +277,12 @@ static int take_packet(struct driver *driver, uint16_t station, uint8_t tid, con
 static int open_driver(struct driver *driver) {
   struct wf_settings settings = {0};
   struct wf_reply reply = {0};
-  uint16_t station;
+  uint16_t station, number;
   memset(driver, 0, sizeof *driver);
+  for (number = 0; number < BUFFERS; number++) {
+    driver->pool.station[number] = NOBODY;
+    driver->pool.free[driver->pool.count++] = number;
+  }
   if (pthread_mutex_init(&driver->lock, NULL)) return 0;
   if (pthread_cond_init(&driver->kick, NULL) || pthread_cond_init(&driver->wake, NULL)) return 0;
   wf_settings_standard(&settings);
@@ -246,14 +298,13 @@ static int open_driver(struct driver *driver) {
 }
 
 static int drive(struct driver *driver) {
-  static const uint8_t body[1500] = {0xaa, 0xaa, 0x03};
   static const uint8_t TIDS[] = {0, 0, 0, 5, 0, 0, 6, 1};
   pthread_t device;
   uint32_t random = 2;
   int i, all = 1;
   if (pthread_create(&device, NULL, interrupts, driver)) return 0;
   for (i = 0; all && i < PACKETS; i++) {
-    all = take_packet(driver, (uint16_t)(next_random(&random) % STATIONS), TIDS[next_random(&random) % 8], body, sizeof body);
+    all = take_packet(driver, (uint16_t)(next_random(&random) % STATIONS), TIDS[next_random(&random) % 8]);
   }
   pthread_mutex_lock(&driver->lock);
   driver->is_closing = 1;
@@ -264,13 +315,13 @@ static int drive(struct driver *driver) {
 
 /* Writes what is the same whenever the two threads meet, and gives whether all of it is as it should be. */
 static int report(const struct driver *driver) {
-  unsigned back = driver->acked + driver->dropped;
+  unsigned back = driver->acked + driver->dropped, inside = BUFFERS - driver->pool.count;
   int is_measured = driver->measured > driver->computed;
-  printf("wake: %d packets, %u came back, %u are inside, %d exchanges are open\n", PACKETS, back, driver->inside,
+  printf("wake: %d packets, %u came back, %u are inside, %d exchanges are open\n", PACKETS, back, inside,
          (int)wf_path_open_count(&driver->path));
   printf("wake: the upper queue was %s; what was measured is %s what was computed\n", driver->stops ? "stopped and woken" : "never stopped",
          is_measured ? "more than" : "not more than");
-  return back == PACKETS && driver->inside == 0 && driver->stops && is_measured && wf_path_now(&driver->path) == driver->time;
+  return back == PACKETS && inside == 0 && driver->stops && is_measured && wf_path_now(&driver->path) == driver->time;
 }
 
 int main(void) {

@@ -114,7 +114,11 @@ class PathDevice : public ns3::SimpleNetDevice {
     // the flow: both addresses and ports, behind 8 octets of the link's header and 12 of IPv4's
     const uint32_t flow = ns3::Hash32(reinterpret_cast<const char*>(body.data()) + 20, 12);
     Tick();
-    const int32_t code = wf_path_enqueue(&m_path, m_air.StationOf(destination), 0, flow, body.data(), body.size(), &m_reply);
+    wf_packet given{};
+    given.body = body.data();
+    given.length = body.size();
+    given.flow = flow;
+    const int32_t code = wf_path_enqueue(&m_path, m_air.StationOf(destination), &given, &m_reply);
     if (code == WF_ROOM) return false;
     Must(code);
     if (!m_busy) Begin();

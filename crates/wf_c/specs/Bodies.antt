@@ -1,7 +1,8 @@
 -- A frame that comes in, and one that is taken back.
-use Rattle.std.specs.Prelude.{◌≡◌, ◌<◌, ◌≤◌, ◌⊎◌, ◌&&◌, nat_lt, ℕ, ℤ, pos, Bool, true, List, Option, Some, None, length, take, drop}
+use Rattle.std.specs.Prelude.{◌≡◌, ◌<◌, ◌≤◌, ◌⊎◌, ◌&&◌, nat_eq, nat_lt, ℕ, ℤ, pos, Bool, true, List, [], ◌∷◌, if◌then◌else◌, Option, Some, None, length, take, drop}
+use Rattle.std.specs.Cmp.Lexicographic.{pointwise}
 use Rattle.wf_frame.specs.Answers.{reply_of}
-use Rattle.wf_frame.specs.Frames.{FrameValue}
+use Rattle.wf_frame.specs.Frames.{FrameValue, made_up_source, new_frame}
 use Rattle.wf_frame.specs.declared.notes.Ask.TheVariants.{Reap}
 use Rattle.wf_def_lists.specs.Lengths.{greatest_body}
 use Rattle.wf_def_world.specs.World.{World}
@@ -14,6 +15,7 @@ use Rattle.wf_c.specs.Calls.{IsCalled}
 use Rattle.wf_c.specs.Numbers.{fate_number, numbers_of}
 use Rattle.wf_c.specs.declared.frames.NoFrame.{NoFrame}
 use Rattle.wf_c.specs.declared.frames.NoFrame.TheVariants.{NoMemory, BadLength}
+use Rattle.wf_c.specs.declared.frames.Packet.{Packet}
 use Rattle.wf_c.specs.declared.frames.Taken.{Taken}
 use Rattle.wf_c.specs.declared.held.Held.{Held}
 use Rattle.wf_c.specs.declared.reply.Reply.{Reply}
@@ -33,6 +35,19 @@ IsBadLength n = (n ≡ 0) ⊎ (greatest_body < n)
 abbrev pub FitsCause : NoFrame → ℕ → Type 0
 FitsCause NoMemory n = IsBodyLength n
 FitsCause BadLength n = IsBadLength n
+
+-- the source that stands for the made-up one: six zeros
+abbrev pub no_source : List ℕ
+no_source = 0x00 ∷ 0x00 ∷ 0x00 ∷ 0x00 ∷ 0x00 ∷ 0x00 ∷ []
+
+-- the source that a packet names by these octets
+abbrev pub source_named : List ℕ → List ℕ
+source_named octets = if pointwise nat_eq octets no_source then made_up_source else octets
+
+-- the frame that the caller's packet for a station shows, not accepted yet
+abbrev pub frame_shown : ℕ → Packet → FrameValue
+frame_shown station p = record
+    (new_frame station p.tid p.flow p.body.now) { source = source_named p.source; tag = p.tag }
 
 -- the code of a body that no frame has
 abbrev pub bad_length : ℕ
@@ -69,10 +84,12 @@ is_small_buffer n = nat_lt 0 n && nat_lt n greatest_body
 pub record IsAbout (f : FrameValue) (taken : Taken) : Type 0 where
   pub id : taken.id ≡ f.id
   pub stamp : taken.stamp ≡ f.stamp
+  pub tag : taken.tag ≡ f.tag
   pub station : taken.station ≡ f.station
   pub tid : taken.tid ≡ f.tid
   pub flow : taken.flow ≡ f.flow
   pub size : taken.length ≡ length f.body
+  pub source : taken.source ≡ f.source
   pub fate : taken.fate ≡ fate_number f.fate
 
 -- The caller's struct shows frame f, and the front of a buffer with room its body; the rest of the buffer is

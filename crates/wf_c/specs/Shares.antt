@@ -1,14 +1,31 @@
 -- Counts and airtime in structs of the caller's.
-use Rattle.std.specs.Prelude.{◌≡◌, ℕ}
+use Rattle.std.specs.Prelude.{◌≡◌, ℕ, nat_lt, Option, Some, None, if◌then◌else◌}
 use Rattle.wf_frame.specs.declared.classes.Class.{Class}
-use Rattle.wf_def_world.specs.World.{World, share}
+use Rattle.wf_def_world.specs.World.{World, is_live, share}
 use Rattle.wf_send_stations.specs.Tally.{Counts}
+use Rattle.wf_c.specs.declared.readers.NoSession.{NoSession}
+use Rattle.wf_c.specs.declared.readers.NoSession.TheVariants.{BadTid, NoStation}
 use Rattle.wf_c.specs.declared.readers.Share.{Share}
 use Rattle.wf_c.specs.declared.readers.Tally.{Tally}
 
 -- the code of a station that is not live: that refusal's number
 abbrev pub no_station_code : ℕ
 no_station_code = 11
+
+-- the code of a TID above 7: that refusal's number
+abbrev pub bad_tid_code : ℕ
+bad_tid_code = 7
+
+-- why nothing is told of a station's TID: a TID above 7 is told before a station that is not live
+abbrev pub session_fault : World → ℕ → ℕ → Option NoSession
+session_fault w s tid =
+    if nat_lt 7 tid then Some BadTid else (if is_live w s then None else Some NoStation)
+
+-- its code
+abbrev pub session_code : Option NoSession → ℕ
+session_code None = 0
+session_code (Some BadTid) = bad_tid_code
+session_code (Some NoStation) = no_station_code
 
 -- the counts that the caller's struct shows
 abbrev pub counts_shown : Tally → Counts

@@ -1,11 +1,10 @@
 //! A frame comes in, and a finished one is taken back.
 
 ghost use Rattle.std.specs.Prelude.{◌≡◌, ◌⊎◌, ◌≤◌, true, false, is_some, pos, take, drop, length, IfOk, IfErr};
-ghost use Rattle.wf_frame.specs.Frames.{new_frame};
 ghost use Rattle.wf_def_lists.specs.Lengths.{greatest_body};
 ghost use Rattle.wf_path.specs.Paths.{IsSmall};
 ghost use Rattle.wf_c.specs.Calls.{Becomes, HoldsSmall};
-ghost use Rattle.wf_c.specs.Bodies.{FitsCause, IsAbout, IsBadLength, IsBodyLength, IsGivenToC, IsReapedFromC, IsUntouched, ShowsBack, ShowsFrame, bad_length, is_small_buffer, small_buffer};
+ghost use Rattle.wf_c.specs.Bodies.{FitsCause, IsAbout, IsBadLength, IsBodyLength, IsGivenToC, IsReapedFromC, IsUntouched, ShowsBack, ShowsFrame, bad_length, frame_shown, is_small_buffer, small_buffer, source_named};
 ghost use Rattle.wf_c.specs.Making.{no_memory};
 
 use crate::exchanges::SMALL_BUFFER;
@@ -14,7 +13,7 @@ use crate::make::NO_MEMORY;
 use crate::reply::{Reply, number_of_fate};
 use crate::slot::PathSlot;
 use std::alloc::{AllocError, Global};
-use wf_frame::{Ask, Frame, GREATEST_BODY};
+use wf_frame::{Ask, Frame, GREATEST_BODY, source_address};
 use wf_path::Job;
 use wf_queue_chain::Parcel;
 
@@ -41,25 +40,51 @@ impl From<AllocError> for NoFrame {
     }
 }
 
-// A frame with this body. Its length is judged before memory is asked for.
-pub(crate) fn frame_of(
-    alloc: Global,
-    station: u16,
-    tid: u8,
-    flow: u32,
-    body: &[u8],
-) -> Result<Parcel, NoFrame>
-    ensures made { IfOk result (λ made. made ≡ new_frame station tid flow body.now) }
-    ensures fits { IfOk result (λ _. IsBodyLength (length body.now)) }
-    ensures cause { IfErr result (λ why. FitsCause why (length body.now)) }
+/// A packet that comes in, to be sent as a frame.
+#[repr(C)]
+#[derive(Clone, Copy)]
+pub struct Packet<'a> {
+    /// Its body, of 1 to 2304 octets.
+    pub body: &'a [u8],
+    /// What its owner finds it again by, as an index or a pointer. Nothing here reads it.
+    pub tag: u64,
+    /// Its flow.
+    pub flow: u32,
+    /// The address that it comes from; six zeros stand for the made-up one, `02 00 00 02 00 00`.
+    pub source: [u8; 6],
+    /// Its TID, 0 to 7.
+    pub tid: u8,
+}
+
+impl<'a> Packet<'a> {
+    // The address that it comes from.
+    fn source(&self) -> [u8; 6]
+        ensures { result ≡ source_named self.now.source }
+    {
+        if self.source == [0; 6] {
+            source_address()
+        } else {
+            self.source
+        }
+    }
+}
+
+// The frame of a packet. The length of the body is judged before memory is asked for.
+pub(crate) fn frame_of(alloc: Global, station: u16, packet: &Packet) -> Result<Parcel, NoFrame>
+    ensures made { IfOk result (λ made. made ≡ frame_shown station packet.now) }
+    ensures fits { IfOk result (λ _. IsBodyLength (length packet.now.body.now)) }
+    ensures cause { IfErr result (λ why. FitsCause why (length packet.now.body.now)) }
 {
+    let body = packet.body;
     if body.is_empty() || usize::from(GREATEST_BODY) < body.len() {
         return Err(NoFrame::BadLength);
     }
     let octets = Vec::from_slice(alloc, body)?;
-    let Ok(frame) = Frame::new(station, tid, flow, octets) else {
+    let Ok(mut frame) = Frame::new(station, packet.tid, packet.flow, octets) else {
         return Err(NoFrame::BadLength);
     };
+    frame.set_source(packet.source());
+    frame.set_tag(packet.tag);
     match Parcel::new(alloc, frame) {
         Ok(parcel) => Ok(parcel),
         Err(_) => Err(NoFrame::NoMemory),
@@ -107,12 +132,16 @@ pub struct Taken {
     pub id: u64,
     /// When it was accepted, in microseconds.
     pub stamp: u64,
+    /// What its owner finds it again by.
+    pub tag: u64,
     /// Its flow.
     pub flow: u32,
     /// The station that it was for.
     pub station: u16,
     /// The length of its body in octets, 1 to 2304.
     pub length: u16,
+    /// The address that it came from.
+    pub source: [u8; 6],
     /// Its TID, 0 to 7.
     pub tid: u8,
     /// What became of it: 1 to 5.
@@ -139,9 +168,11 @@ impl Taken {
         Taken {
             id: frame.id(),
             stamp: frame.stamp(),
+            tag: frame.tag(),
             flow: frame.flow(),
             station: frame.station(),
             length: frame.len(),
+            source: frame.source(),
             tid: frame.tid(),
             fate: number_of_fate(frame.fate()),
         }
@@ -165,28 +196,26 @@ fn copy_to_front(octets: &[u8], buffer: &mut [u8])
     front.copy_from_slice(octets);
 }
 
-/// A frame with this body comes for a station. Gives its refusal, 41 where a frame has no such body,
-/// or 40 where there is no memory for it; after 40 and 41 nothing has changed.
+/// A packet comes for a station. Gives its refusal, 41 where a frame has no such body, or 40 where there is
+/// no memory for it; after 40 and 41 nothing has changed.
 #[unsafe(no_mangle)]
 pub extern "C" fn wf_path_enqueue(
     alloc: Global,
     path: &mut PathSlot,
     station: u16,
-    tid: u8,
-    flow: u32,
-    body: &[u8],
+    packet: &Packet,
     reply: &mut Reply,
 ) -> i32
     requires open { is_some path.old.value ≡ true }
     requires small { HoldsSmall path.old.value }
-    ensures given { IsBodyLength (length body.now) →
-        Becomes (λ h k. IsGivenToC h (new_frame station tid flow body.now) k reply.new ×
+    ensures given { IsBodyLength (length packet.now.body.now) →
+        Becomes (λ h k. IsGivenToC h (frame_shown station packet.now) k reply.new ×
         (result ≡ pos reply.new.refusal)) path.old.value path.new.value ⊎
         IsUntouched path.old.value path.new.value reply.old reply.new result no_memory }
-    ensures refused { IsBadLength (length body.now) →
+    ensures refused { IsBadLength (length packet.now.body.now) →
         IsUntouched path.old.value path.new.value reply.old reply.new result bad_length }
 {
-    match frame_of(alloc, station, tid, flow, body) {
+    match frame_of(alloc, station, packet) {
         Ok(parcel) => {
             *reply = path.held().give(parcel);
             i32::from(reply.refusal)

@@ -39,13 +39,13 @@ pub use exchanges::{
     Sent, wf_path_done_bits, wf_path_done_lost, wf_path_done_octets, wf_path_frame_id,
     wf_path_mpdu, wf_path_sent,
 };
-pub use frames::{Taken, wf_path_enqueue, wf_path_reap};
+pub use frames::{Packet, Taken, wf_path_enqueue, wf_path_reap};
 pub use make::{wf_path_free, wf_path_make};
 pub use names::{wf_code_name, wf_fate_name, wf_kind_name, wf_setting_name, words_law};
 pub use pulled::Frames;
 pub use readers::{
-    Share, Tally, wf_path_exchanges, wf_path_live, wf_path_now, wf_path_open_count, wf_path_share,
-    wf_path_tally, wf_path_tim,
+    Share, Tally, wf_path_can_pull, wf_path_exchanges, wf_path_live, wf_path_now,
+    wf_path_open_count, wf_path_queued, wf_path_share, wf_path_tally, wf_path_tim, wf_path_waiting,
 };
 pub use reply::Reply;
 pub use settings::{Settings, wf_settings_standard};

@@ -1,14 +1,21 @@
 //! What a path tells without a call of the machine.
 
-ghost use Rattle.std.specs.Prelude.{◌≡◌, ◌⊎◌, ℕ, true, is_some, pos, length, take, drop, IfSome, if◌then◌else◌};
+ghost use Rattle.std.specs.Prelude.{◌≡◌, ◌<◌, ◌⊎◌, ℕ, true, is_none, is_some, pos, length, take, drop, IfOk, IfSome, if◌then◌else◌};
+ghost use Rattle.std.specs.Result.{result_err};
 ghost use Rattle.wf_frame.specs.Classes.{all_classes, class_among};
 ghost use Rattle.wf_frame.specs.Frames.{FrameValue};
+ghost use Rattle.wf_frame.specs.declared.notes.Ask.TheVariants.{Pull};
+ghost use Rattle.wf_frame.specs.declared.notes.Note.TheVariants.{Asked};
+ghost use Rattle.wf_def_agreement.specs.Session.{waiting_numbers};
+ghost use Rattle.wf_def_world.specs.FlowQueues.{frames_queued};
+ghost use Rattle.wf_def_world.specs.Refusals.{refusal};
 ghost use Rattle.wf_def_world.specs.Text.{traffic_map, with_traffic};
-ghost use Rattle.wf_def_world.specs.World.{World, is_live};
+ghost use Rattle.wf_def_world.specs.World.{World, is_live, session};
+ghost use Rattle.wf_send_half.specs.Half.{IsLive};
 ghost use Rattle.wf_send_half_refines.specs.Standing.{StandsFor, counts_in};
 ghost use Rattle.wf_c.specs.Calls.{HoldsFor};
 ghost use Rattle.wf_c.specs.Numbers.{flag_of};
-ghost use Rattle.wf_c.specs.Shares.{ShowsShare, counts_shown, no_station_code};
+ghost use Rattle.wf_c.specs.Shares.{ShowsShare, counts_shown, no_station_code, session_code, session_fault};
 
 use crate::asks::class_of_number;
 use crate::held::Held;
@@ -17,6 +24,9 @@ use wf_frame::Class;
 
 /// No such station.
 const NO_STATION: i32 = 11;
+
+/// No such TID.
+const BAD_TID: i32 = 7;
 
 /// The accepted frames by what became of them.
 #[repr(C)]
@@ -154,6 +164,116 @@ pub extern "C" fn wf_path_share(
             0
         }
         None => NO_STATION,
+    }
+}
+
+/// Whether a pull of a class would send now: 1, or 0 where it would be refused.
+#[unsafe(no_mangle)]
+pub extern "C" fn wf_path_can_pull(path: &mut PathSlot, class: u8) -> i32
+    requires open { is_some path.old.value ≡ true }
+    ensures world { (w : World) (bodies : ℕ → FrameValue) → HoldsFor path.old.value w bodies →
+        result ≡ pos (flag_of (is_none (refusal w (Asked (Pull (class_among all_classes class)))))) }
+    ensures unchanged { path.new.value ≡ path.old.value }
+{
+    i32::from(path.held().path.can_pull(class_of_number(class)))
+}
+
+/// Why nothing is told of a station's TID.
+#[derive(Clone, Copy)]
+pub(crate) enum NoSession {
+    /// The TID is above 7.
+    BadTid,
+    /// The station is not live.
+    NoStation,
+}
+
+impl Held {
+    // Whether something is told of a station's TID: the TID is one, and the station live.
+    fn find_session(&self, station: u16, tid: u8) -> Result<(), NoSession>
+        ensures live { IfOk result (λ _. IsLive self.now.path station) }
+        ensures tid { IfOk result (λ _. tid < 8) }
+        ensures fault { (w : World) (bodies : ℕ → FrameValue) → StandsFor self.now.path w bodies →
+            result_err result ≡ session_fault w station tid }
+    {
+        if 7 < tid {
+            return Err(NoSession::BadTid);
+        }
+        if !self.path.live(station) {
+            return Err(NoSession::NoStation);
+        }
+        Ok(())
+    }
+
+    // How many frames of a live station's TID are in flow queues.
+    fn queued(&self, station: u16, tid: u8) -> Result<u32, NoSession>
+        ensures shown { IfOk result (λ count. (w : World) (bodies : ℕ → FrameValue) →
+            StandsFor self.now.path w bodies → count ≡ frames_queued w station tid) }
+        ensures fault { (w : World) (bodies : ℕ → FrameValue) → StandsFor self.now.path w bodies →
+            result_err result ≡ session_fault w station tid }
+    {
+        self.find_session(station, tid)?;
+        Ok(self.path.queued(station, tid))
+    }
+
+    // How many numbers of a live station's TID wait to be sent.
+    fn waiting(&self, station: u16, tid: u8) -> Result<u32, NoSession>
+        ensures shown { IfOk result (λ count. (w : World) (bodies : ℕ → FrameValue) →
+            StandsFor self.now.path w bodies →
+            count ≡ length (waiting_numbers (session w station tid))) }
+        ensures fault { (w : World) (bodies : ℕ → FrameValue) → StandsFor self.now.path w bodies →
+            result_err result ≡ session_fault w station tid }
+    {
+        self.find_session(station, tid)?;
+        Ok(self.path.waiting(station, tid))
+    }
+}
+
+/// Writes how many frames of a live station's TID are in flow queues, and gives 0; gives 7 where the TID is
+/// above 7, and else 11 where the station is not live, and then writes nothing.
+#[unsafe(no_mangle)]
+pub extern "C" fn wf_path_queued(path: &mut PathSlot, station: u16, tid: u8, count: &mut u32) -> i32
+    requires open { is_some path.old.value ≡ true }
+    ensures code { (w : World) (bodies : ℕ → FrameValue) → HoldsFor path.old.value w bodies →
+        result ≡ pos (session_code (session_fault w station tid)) }
+    ensures shown { (w : World) (bodies : ℕ → FrameValue) → HoldsFor path.old.value w bodies →
+        result ≡ pos 0 → count.new ≡ frames_queued w station tid }
+    ensures kept { (result ≡ pos 0) ⊎ (count.new ≡ count.old) }
+    ensures unchanged { path.new.value ≡ path.old.value }
+{
+    match path.held().queued(station, tid) {
+        Ok(found) => {
+            *count = found;
+            0
+        }
+        Err(NoSession::BadTid) => BAD_TID,
+        Err(NoSession::NoStation) => NO_STATION,
+    }
+}
+
+/// Writes how many numbers of a live station's TID wait to be sent, and gives 0; gives 7 where the TID is
+/// above 7, and else 11 where the station is not live, and then writes nothing.
+#[unsafe(no_mangle)]
+pub extern "C" fn wf_path_waiting(
+    path: &mut PathSlot,
+    station: u16,
+    tid: u8,
+    count: &mut u32,
+) -> i32
+    requires open { is_some path.old.value ≡ true }
+    ensures code { (w : World) (bodies : ℕ → FrameValue) → HoldsFor path.old.value w bodies →
+        result ≡ pos (session_code (session_fault w station tid)) }
+    ensures shown { (w : World) (bodies : ℕ → FrameValue) → HoldsFor path.old.value w bodies →
+        result ≡ pos 0 → count.new ≡ length (waiting_numbers (session w station tid)) }
+    ensures kept { (result ≡ pos 0) ⊎ (count.new ≡ count.old) }
+    ensures unchanged { path.new.value ≡ path.old.value }
+{
+    match path.held().waiting(station, tid) {
+        Ok(found) => {
+            *count = found;
+            0
+        }
+        Err(NoSession::BadTid) => BAD_TID,
+        Err(NoSession::NoStation) => NO_STATION,
     }
 }
 

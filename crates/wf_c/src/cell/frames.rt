@@ -1,16 +1,15 @@
 //! A frame comes into a cell, and a finished one is taken back.
 
 ghost use Rattle.std.specs.Prelude.{◌≡◌, ◌⊎◌, true, false, is_some, pos, length};
-ghost use Rattle.wf_frame.specs.Frames.{new_frame};
 ghost use Rattle.wf_path.specs.declared.job.Job.TheVariants.{Give};
-ghost use Rattle.wf_c.specs.Bodies.{IsBadLength, IsBodyLength, IsUntouched, bad_length, is_small_buffer, small_buffer};
+ghost use Rattle.wf_c.specs.Bodies.{IsBadLength, IsBodyLength, IsUntouched, bad_length, frame_shown, is_small_buffer, small_buffer};
 ghost use Rattle.wf_c.specs.CellCalls.{IsStepped, IsTakenBack, TurnsInto};
 ghost use Rattle.wf_c.specs.Making.{no_memory};
 
 use crate::cell::held::HeldCell;
 use crate::cell::slot::CellSlot;
 use crate::exchanges::SMALL_BUFFER;
-use crate::frames::{BAD_LENGTH, NoFrame, Taken, frame_of, is_small, show_back};
+use crate::frames::{BAD_LENGTH, NoFrame, Packet, Taken, frame_of, is_small, show_back};
 use crate::make::NO_MEMORY;
 use crate::reply::Reply;
 use std::alloc::Global;
@@ -40,7 +39,7 @@ impl HeldCell {
     }
 }
 
-/// A frame with this body comes for a station. Gives its refusal, 41 where a frame has no such body,
+/// A packet comes for a station. Gives its refusal, 41 where a frame has no such body,
 /// or 40 where there is no memory for it; after 40 and 41 nothing has changed.
 #[unsafe(no_mangle)]
 pub extern "C" fn wf_cell_enqueue(
@@ -48,20 +47,18 @@ pub extern "C" fn wf_cell_enqueue(
     cell: &mut CellSlot,
     caller: u32,
     station: u16,
-    tid: u8,
-    flow: u32,
-    body: &[u8],
+    packet: &Packet,
     reply: &mut Reply,
 ) -> i32
     requires open { is_some cell.old.value ≡ true }
-    ensures given { IsBodyLength (length body.now) → TurnsInto (λ h k. IsStepped h caller
-        (Give (new_frame station tid flow body.now)) k reply.new ×
+    ensures given { IsBodyLength (length packet.now.body.now) → TurnsInto (λ h k. IsStepped h caller
+        (Give (frame_shown station packet.now)) k reply.new ×
         (result ≡ pos reply.new.refusal)) cell.old.value cell.new.value ⊎
         IsUntouched cell.old.value cell.new.value reply.old reply.new result no_memory }
-    ensures refused { IsBadLength (length body.now) →
+    ensures refused { IsBadLength (length packet.now.body.now) →
         IsUntouched cell.old.value cell.new.value reply.old reply.new result bad_length }
 {
-    match frame_of(alloc, station, tid, flow, body) {
+    match frame_of(alloc, station, packet) {
         Ok(parcel) => {
             *reply = cell.held().give(caller, parcel);
             i32::from(reply.refusal)
