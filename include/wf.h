@@ -186,6 +186,7 @@ enum wf_call_kind {
 /* The greatest body of a frame, and the greatest transmission, in octets. */
 #define WF_GREATEST_BODY 2304
 #define WF_GREATEST_MPDU 2330
+#define WF_HEADER 26
 
 /* The octets of a name. */
 #define WF_NAME 16
@@ -438,6 +439,15 @@ int32_t wf_path_sent(const struct wf_path *path, uint64_t exchange, struct wf_se
 /* Writes the id of the frame of a transmission, from index 0 on. WF_BAD_INDEX where there is none: the exchange is not open, is a
  * request, or has no such transmission; then `id` is as it was. */
 int32_t wf_path_frame_id(const struct wf_path *path, uint64_t exchange, uint16_t index, uint64_t *id);
+
+/* Writes the tag of the frame of a transmission, by which a driver finds its own buffer. WF_BAD_INDEX where wf_path_frame_id gives it;
+ * then `tag` is as it was. */
+int32_t wf_path_frame_tag(const struct wf_path *path, uint64_t exchange, uint16_t index, uint64_t *tag);
+
+/* Writes the header alone of a transmission of data (a QoS data frame of IEEE 802.11-2012), WF_HEADER octets: for a driver that gathers,
+ * and sends the body from a buffer of its own. A BlockAckReq has no body: wf_path_mpdu writes it. WF_NO_EXCHANGE, and WF_BAD_INDEX where
+ * the exchange has no data of that index; then `out` is as it was. */
+int32_t wf_path_header(const struct wf_path *path, uint64_t exchange, uint16_t index, uint8_t out[WF_HEADER]);
 
 /* Writes the octets of a transmission (a QoS data frame of IEEE 802.11-2012, or a BlockAckReq) and how many they are, at most
  * WF_GREATEST_MPDU and at most `room`; the rest of `out` stays. WF_NO_EXCHANGE, WF_BAD_INDEX, WF_SMALL_BUFFER; then `out` is

@@ -234,6 +234,10 @@ static void misuse_exchanges(void) {
   want(wf_path_frame_id(&path, exchange, 256, &id), WF_BAD_INDEX, "wf_path_frame_id");
   want(wf_path_mpdu(&path, exchange + 1, 0, out, sizeof out, &size), WF_NO_EXCHANGE, "wf_path_mpdu");
   want(wf_path_mpdu(&path, exchange, 256, out, sizeof out, &size), WF_BAD_INDEX, "wf_path_mpdu");
+  want(wf_path_frame_tag(&path, exchange, 256, &id), WF_BAD_INDEX, "wf_path_frame_tag");
+  want(wf_path_frame_tag(&path, exchange + 1, 0, &id), WF_BAD_INDEX, "a tag of no exchange");
+  want(wf_path_header(&path, exchange + 1, 0, out), WF_NO_EXCHANGE, "wf_path_header");
+  want(wf_path_header(&path, exchange, 256, out), WF_BAD_INDEX, "wf_path_header");
   want(id == 7 && size == 7, 1, "what no transmission has");
   want(wf_path_mpdu(&path, exchange, 0, out, 25, &size), WF_SMALL_BUFFER, "room for 25 octets");
   want(size == WF_GREATEST_MPDU, 1, "the room that is needed");

@@ -146,6 +146,12 @@ class Path {
   [[nodiscard]] std::int32_t frame_id(std::uint64_t exchange, std::uint16_t index, std::uint64_t &id) const {
     return wf_path_frame_id(&handle_, exchange, index, &id);
   }
+  [[nodiscard]] std::int32_t frame_tag(std::uint64_t exchange, std::uint16_t index, std::uint64_t &tag) const {
+    return wf_path_frame_tag(&handle_, exchange, index, &tag);
+  }
+  [[nodiscard]] std::int32_t header(std::uint64_t exchange, std::uint16_t index, std::uint8_t (&out)[WF_HEADER]) const {
+    return wf_path_header(&handle_, exchange, index, out);
+  }
   [[nodiscard]] std::int32_t mpdu(std::uint64_t exchange, std::uint16_t index, std::uint8_t *out,
                                   std::size_t room, std::size_t &size) const {
     return wf_path_mpdu(&handle_, exchange, index, out, room, &size);

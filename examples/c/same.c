@@ -143,6 +143,16 @@ static int has_source(uint32_t flow, const uint8_t source[6]) {
   return memcmp(source, flow % 4 ? wanted : MADE_UP, 6) == 0;
 }
 
+/* Compares the header alone and the tag of a transmission with its octets: the station's number stands in both. */
+static void look_at_parts(const struct exchange *x, uint16_t index) {
+  uint8_t whole[WF_GREATEST_MPDU] = {0}, header[WF_HEADER] = {0};
+  size_t size = 0;
+  uint64_t tag = 0;
+  if (wf_path_mpdu(&path, x->number, index, whole, sizeof whole, &size)) fail("no octets");
+  if (wf_path_header(&path, x->number, index, header) || memcmp(header, whole, WF_HEADER)) fail("another header");
+  if (wf_path_frame_tag(&path, x->number, index, &tag) || (tag & 0xffff) != (size - WF_HEADER)) fail("another tag on the air");
+}
+
 /* Compares what is told of a new exchange in many ways. */
 static void look_at(const struct exchange *x) {
   struct wf_sent sent = {0};
@@ -155,6 +165,9 @@ static void look_at(const struct exchange *x) {
     if (wf_path_frame_id(&path, x->number, i, &id) || id != x->frames.ids[i]) fail("another frame");
   }
   if (wf_path_frame_id(&path, x->number, x->frames.count, &id) != WF_BAD_INDEX) fail("a frame too many");
+  for (i = 0; i < x->frames.count; i++) look_at_parts(x, i);
+  if (wf_path_frame_tag(&path, x->number, x->frames.count, &id) != WF_BAD_INDEX) fail("a tag too many");
+  if (wf_path_header(&path, x->number, x->frames.count, (uint8_t[WF_HEADER]){0}) != WF_BAD_INDEX) fail("a header too many");
 }
 
 static void call_pull(void) {

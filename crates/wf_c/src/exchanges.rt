@@ -8,8 +8,8 @@ ghost use Rattle.wf_octets_bits.specs.Offsets.{offsets_in};
 ghost use Rattle.wf_send_half_refines.specs.Standing.{StandsFor};
 ghost use Rattle.std.specs.Result.{result_err};
 ghost use Rattle.wf_path.specs.Answers.{block_ack_in};
-ghost use Rattle.wf_path.specs.Transmissions.{sent_of, id_sent, octets_sent};
-ghost use Rattle.wf_path.specs.Writing.{write_fault};
+ghost use Rattle.wf_path.specs.Transmissions.{sent_of, id_sent, tag_sent, octets_sent, header_sent};
+ghost use Rattle.wf_path.specs.Writing.{write_fault, write_header_fault};
 ghost use Rattle.wf_path.specs.Driver.{end_fault};
 ghost use Rattle.wf_path.specs.Paths.{IsSmall};
 ghost use Rattle.wf_c.specs.Calls.{Becomes, HoldsFor, HoldsSmall};
@@ -95,6 +95,57 @@ pub extern "C" fn wf_path_frame_id(
             0
         }
         None => BAD_INDEX,
+    }
+}
+
+/// Writes the tag of the frame of a transmission, and gives 0; gives 9 where `wf_path_frame_id` does, and
+/// then writes nothing.
+#[unsafe(no_mangle)]
+pub extern "C" fn wf_path_frame_tag(
+    path: &mut PathSlot,
+    exchange: u64,
+    index: u16,
+    tag: &mut u64,
+) -> i32
+    requires open { is_some path.old.value ≡ true }
+    ensures code { (w : World) (bodies : ℕ → FrameValue) → HoldsFor path.old.value w bodies →
+        result ≡ pos (id_code (tag_sent w bodies exchange index)) }
+    ensures shown { (w : World) (bodies : ℕ → FrameValue) → HoldsFor path.old.value w bodies →
+        result ≡ pos 0 → tag_sent w bodies exchange index ≡ Some tag.new }
+    ensures kept { (result ≡ pos 0) ⊎ (tag.new ≡ tag.old) }
+    ensures unchanged { path.new.value ≡ path.old.value }
+{
+    match path.held().path.frame_tag(exchange, index) {
+        Some(found) => {
+            *tag = found;
+            0
+        }
+        None => BAD_INDEX,
+    }
+}
+
+/// Writes the header alone of a transmission of data, its 26 octets, and gives 0; gives 12 or 9 where there
+/// is no such exchange, or no data of that index: then `out` is as it was.
+#[unsafe(no_mangle)]
+pub extern "C" fn wf_path_header(
+    path: &mut PathSlot,
+    exchange: u64,
+    index: u16,
+    out: &mut [u8; 26],
+) -> i32
+    requires open { is_some path.old.value ≡ true }
+    ensures code { (w : World) (bodies : ℕ → FrameValue) → HoldsFor path.old.value w bodies →
+        result ≡ pos (write_code (write_header_fault w exchange index)) }
+    ensures octets { (w : World) (bodies : ℕ → FrameValue) → HoldsFor path.old.value w bodies →
+        result ≡ pos 0 → header_sent w bodies exchange index ≡ Some out.new }
+    ensures kept { (result ≡ pos 0) ⊎ (out.new ≡ out.old) }
+    ensures unchanged { path.new.value ≡ path.old.value }
+{
+    match path.held().path.header(exchange, index, out) {
+        Ok(()) => 0,
+        Err(PathFault::NoExchange) => NO_EXCHANGE,
+        Err(PathFault::BadIndex) => BAD_INDEX,
+        Err(PathFault::SmallBuffer { .. }) => SMALL_BUFFER,
     }
 }
 

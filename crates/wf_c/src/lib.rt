@@ -37,7 +37,7 @@ pub use cell::slot::CellSlot;
 pub use clock::wf_path_advance;
 pub use exchanges::{
     Sent, wf_path_done_bits, wf_path_done_lost, wf_path_done_octets, wf_path_frame_id,
-    wf_path_mpdu, wf_path_sent,
+    wf_path_frame_tag, wf_path_header, wf_path_mpdu, wf_path_sent,
 };
 pub use frames::{Packet, Taken, wf_path_enqueue, wf_path_reap};
 pub use make::{wf_path_free, wf_path_make};
