@@ -214,6 +214,8 @@ static void *interrupts(void *given) {
   struct job job;
   uint32_t random = 1;
   pthread_mutex_lock(&driver->lock);
+  /* it powers up when the upper queue is stopped for the first time, so that each run stops and wakes it, however the threads meet */
+  while (!driver->stops && !driver->is_closing) pthread_cond_wait(&driver->kick, &driver->lock);
   while (!driver->has_failed) {
     if (take_job(driver, &job)) {
       pthread_mutex_unlock(&driver->lock);
@@ -242,6 +244,7 @@ static int has_place(const struct driver *driver, uint16_t station, uint8_t tid,
 static void wait_for_place(struct driver *driver, uint16_t station, uint8_t tid) {
   if (has_place(driver, station, tid, STOP_AT)) return;
   driver->stops++;
+  pthread_cond_signal(&driver->kick);
   while (!driver->has_failed && !has_place(driver, station, tid, WAKE_AT)) pthread_cond_wait(&driver->wake, &driver->lock);
 }
 
