@@ -15,6 +15,7 @@ CHECKS = TOP / "checks"
 EXAMPLES = TOP / "examples"
 BUILT = TOP / "crates" / "wf" / "out" / "wf"
 LIBRARY = TOP / "crates" / "wf_c" / "out" / "libwf.a"
+UNPROVED_LIBRARY = LIBRARY.with_name("libwf.unproved.a")
 # The check that runs: each line that it says of itself begins with this name.
 NAME = pathlib.Path(sys.argv[0]).name
 
@@ -66,6 +67,26 @@ def program():
     if not os.access(path, os.X_OK):
         skip("no program is built (./wf build makes it, and so does rt ci)")
     return path
+
+
+def is_fresh(made):
+    """Whether a file is there and newer than all that it is made of."""
+    if not made.exists():
+        return False
+    since = made.stat().st_mtime
+    files = [TOP / "crates.txt", *(file for part in ("src", "specs", "proofs") for file in TOP.glob(f"crates/*/{part}/**/*"))]
+    return all(file.stat().st_mtime <= since for file in files)
+
+
+def library():
+    """The static library that is as new as the sources: the proved one, else the unproved one, which is built where it is not."""
+    for found in (LIBRARY, UNPROVED_LIBRARY):
+        if is_fresh(found):
+            return found
+    if shutil.which("rt") is None:
+        skip("there is no library that is as new as the sources, and no rt to build one")
+    subprocess.run([TOP / "wf", "lib", "--unproved"], check=True, capture_output=True, timeout=1200)
+    return UNPROVED_LIBRARY
 
 
 def ended(bad, what="runs"):

@@ -1,17 +1,17 @@
 /*
- * A device of ns-3 whose transmit queue is a path of the library.
+ * A device of ns-3 whose transmit queue is a path of the library, over ns-3's own channel.
  *
- * Simulated is the air of an access point that is alone on it. An exchange takes the air for what the path charges for it: its
- * data, SIFS and its BlockAck, and no time to get at the air. Each transmission arrives or is lost by itself, as an error model of
- * ns-3 draws. BlockAcks always arrive, but where no transmission did, there is none.
+ * An access point's device has a radio of ns-3 without ns-3's MAC over it. It sends one exchange at a time: it waits for AIFS and
+ * a backoff, sends a PSDU, and hears the station's BlockAck or gives up. It tells what that took of the air, as the channel had
+ * it: from the beginning of the PSDU to the end of the BlockAck, or to where it gave up. A station's radio loses transmissions as
+ * an error model of ns-3 draws; no BlockAck is lost, but where no transmission arrived there is none.
  */
 #ifndef PATH_DEVICE_H
 #define PATH_DEVICE_H
 
-#include <algorithm>
 #include <array>
 #include <cstdint>
-#include <functional>
+#include <deque>
 #include <map>
 #include <vector>
 
@@ -20,22 +20,36 @@
 #include "ns3/wifi-module.h"
 #include "wf.h"
 
-/// A station: its device, and the MCS that it is sent at, at 20 MHz with the long guard interval.
+/// The width of the channel, in MHz.
+constexpr uint16_t WIDTH = 80;
+
+/// A station: its device, which has its address, its radio, and how it is sent to: with the long guard interval, in one stream.
 struct Station {
   ns3::Ptr<ns3::SimpleNetDevice> device;
-  uint8_t mcs;
+  ns3::Ptr<ns3::WifiPhy> radio;
+  uint8_t mcs; ///< of VHT
 
-  /// Gives a packet that arrived to the station's IP, which does not ask for the sender's address.
-  void HandUp(ns3::Ptr<ns3::Packet> packet, uint16_t protocol) const {
-    device->Receive(packet, protocol, ns3::Mac48Address::ConvertFrom(device->GetAddress()), ns3::Mac48Address());
+  ns3::Mac48Address Address() const { return ns3::Mac48Address::ConvertFrom(device->GetAddress()); }
+
+  /// How data go to it.
+  ns3::WifiTxVector Data() const {
+    return {ns3::VhtPhy::GetVhtMcs(mcs), 0, ns3::WIFI_PREAMBLE_VHT_SU, 800, 1, 1, 0, WIDTH, true};
+  }
+
+  /// How its answers go, and requests for them: at 6, 12 or 24 Mbit/s, as in ns-3's own Wi-Fi by the modulation of its data.
+  ns3::WifiTxVector Control() const {
+    const auto mode = mcs == 0  ? ns3::OfdmPhy::GetOfdmRate6Mbps()
+                      : mcs < 3 ? ns3::OfdmPhy::GetOfdmRate12Mbps()
+                                : ns3::OfdmPhy::GetOfdmRate24Mbps();
+    return {mode, 0, ns3::WIFI_PREAMBLE_LONG, 800, 1, 1, 0, 20, false};
   }
 };
 
-/// What the access point sends over.
+/// What the access point sends over: its address, its radio, and the stations.
 struct Air {
+  ns3::Mac48Address address;
+  ns3::Ptr<ns3::WifiPhy> radio;
   std::vector<Station> stations;
-  ns3::Ptr<ns3::ErrorModel> losses;
-  std::function<void(uint16_t, ns3::Time)> carry; ///< is told the station and the airtime of each exchange
 
   uint16_t StationOf(const ns3::Address& address) const {
     for (uint16_t station = 0; station < stations.size(); station++) {
@@ -45,152 +59,242 @@ struct Air {
   }
 };
 
-/// A station's receive half: it puts what arrives in the order of its sequence numbers, and hands it up.
+/// A station's receive half: it answers a PSDU with a BlockAck, puts data in the order of their numbers, and hands them up.
 class Receiver {
  public:
-  explicit Receiver(const Station& station) : m_station(station) {}
+  explicit Receiver(const Station& station) : m_station(station) {
+    m_station.radio->SetReceiveOkCallback(ns3::MakeCallback(&Receiver::Hear, this));
+  }
+  Receiver(const Receiver&) = delete;
+
+ private:
+  static constexpr uint16_t NUMBERS = 4096;
+  static constexpr uint16_t WINDOW = 64;
 
   /// How far a number is ahead of another.
   static uint16_t Ahead(uint16_t number, uint16_t other) { return (number + NUMBERS - other) % NUMBERS; }
 
-  /// Takes the octets of a transmission, a data frame or a BlockAckReq, and gives the number of a data frame.
-  uint16_t Hear(ns3::Ptr<ns3::Packet> octets) {
-    ns3::WifiMacHeader header;
-    octets->RemoveHeader(header);
-    const uint16_t number = header.GetSequenceNumber();
-    if (header.IsBlockAckReq()) {
-      ns3::CtrlBAckRequestHeader request;
-      octets->RemoveHeader(request);
-      while (m_next != request.GetStartingSequence() && IsNew(request.GetStartingSequence())) Advance();
-    } else if (IsNew(number)) {
-      m_held.emplace(number, octets);
-    }
-    while (m_held.count(m_next)) Advance();
-    return number;
-  }
-
- private:
-  static constexpr uint16_t NUMBERS = 4096;
-
   bool IsNew(uint16_t number) const { return Ahead(number, m_next) < NUMBERS / 2; }
 
-  /// Hands up the packet of the next number, if it has come.
+  /// Hears a PSDU, of which these transmissions arrived. (The radio tells of each of an aggregate by itself too.)
+  void Hear(ns3::Ptr<const ns3::WifiPsdu> psdu, ns3::RxSignalInfo, ns3::WifiTxVector vector, std::vector<bool> arrived) {
+    if (psdu->GetAddr1() != m_station.Address() || (vector.IsAggregation() && arrived.empty())) return;
+    for (size_t index = 0; index < psdu->GetNMpdus(); index++) {
+      if (arrived.empty() || arrived[index]) Take(*(psdu->begin() + index));
+    }
+    ns3::CtrlBAckResponseHeader block;
+    block.SetType(ns3::BlockAckType::COMPRESSED);
+    block.SetTidInfo(0);
+    block.SetStartingSequence(m_next);
+    for (const auto& [number, mpdu] : m_held) block.SetReceivedPacket(number);
+    while (m_held.count(m_next)) Advance();
+    ns3::Simulator::Schedule(m_station.radio->GetSifs(), &Receiver::Answer, this, psdu->GetAddr2(), block);
+  }
+
+  /// Takes a transmission in, a data frame or a BlockAckReq.
+  void Take(ns3::Ptr<const ns3::WifiMpdu> mpdu) {
+    const uint16_t number = mpdu->GetHeader().GetSequenceNumber();
+    if (mpdu->GetHeader().IsBlockAckReq()) {
+      ns3::CtrlBAckRequestHeader request;
+      mpdu->GetPacket()->PeekHeader(request);
+      while (m_next != request.GetStartingSequence() && IsNew(request.GetStartingSequence())) Advance();
+    } else if (IsNew(number)) {
+      while (Ahead(number, m_next) >= WINDOW) Advance();
+      m_held.emplace(number, mpdu);
+    }
+  }
+
+  /// Hands up the packet of the next number, if it has come: the packet that was sent, with the tags that ns-3 put on it.
   void Advance() {
     const auto found = m_held.find(m_next);
     if (found != m_held.end()) {
+      const auto packet = found->second->GetPacket()->Copy();
       ns3::LlcSnapHeader link;
-      found->second->RemoveHeader(link);
-      m_station.HandUp(found->second, link.GetType());
+      packet->RemoveHeader(link);
+      m_station.device->Receive(packet, link.GetType(), m_station.Address(), found->second->GetHeader().GetAddr3());
       m_held.erase(found);
     }
     m_next = (m_next + 1) % NUMBERS;
   }
 
+  void Answer(ns3::Mac48Address to, const ns3::CtrlBAckResponseHeader& block) {
+    ns3::WifiMacHeader header(ns3::WIFI_MAC_CTL_BACKRESP);
+    header.SetAddr1(to);
+    header.SetAddr2(m_station.Address());
+    const auto packet = ns3::Create<ns3::Packet>();
+    packet->AddHeader(block);
+    m_station.radio->Send(ns3::Create<ns3::WifiPsdu>(packet, header), m_station.Control());
+  }
+
   Station m_station;
   uint16_t m_next = 0;
-  std::map<uint16_t, ns3::Ptr<ns3::Packet>> m_held;
+  std::map<uint16_t, ns3::Ptr<const ns3::WifiMpdu>> m_held;
 };
 
-/// The access point's device. All its packets have TID 0.
-class PathDevice : public ns3::SimpleNetDevice {
+/// A device of the access point, by its radio. What follows an exchange is its subclass's.
+class AirDevice : public ns3::SimpleNetDevice {
  public:
-  PathDevice(const Air& air, const wf_settings& settings) : m_air(air), m_receivers(air.stations.begin(), air.stations.end()) {
+  explicit AirDevice(const Air& air) : m_air(air), m_receivers(air.stations.begin(), air.stations.end()) {
+    SetAddress(m_air.address);
+    m_air.radio->SetReceiveOkCallback(ns3::MakeCallback(&AirDevice::Hear, this));
+    m_backoff->SetAttribute("Max", ns3::DoubleValue(15));
+    m_backoff->SetStream(2);
+  }
+
+ protected:
+  /// How long it waits for the air: AIFS of best effort, and a backoff.
+  ns3::Time Wait() const { return m_air.radio->GetSifs() + (3 + m_backoff->GetInteger()) * m_air.radio->GetSlot(); }
+
+  /// Sends a PSDU to a station. `Over` follows.
+  void Transmit(ns3::Ptr<const ns3::WifiPsdu> psdu, const ns3::WifiTxVector& vector, const Station& station) {
+    const uint32_t answer = 32; // octets of a BlockAck
+    m_begin = ns3::Simulator::Now();
+    m_air.radio->Send(psdu, vector);
+    const ns3::Time patience = ns3::WifiPhy::CalculateTxDuration(psdu, vector, ns3::WIFI_PHY_BAND_5GHZ) + m_air.radio->GetSifs() +
+                               ns3::WifiPhy::CalculateTxDuration(answer, station.Control(), ns3::WIFI_PHY_BAND_5GHZ) +
+                               m_air.radio->GetSlot();
+    m_end = ns3::Simulator::Schedule(patience, &AirDevice::GiveUp, this);
+  }
+
+  /// The exchange is over: the octets of its BlockAck, none where none was heard, and what it took of the air.
+  virtual void Over(const std::vector<uint8_t>& answer, ns3::Time took) = 0;
+
+  Air m_air;
+
+ private:
+  void Hear(ns3::Ptr<const ns3::WifiPsdu> psdu, ns3::RxSignalInfo, ns3::WifiTxVector, std::vector<bool>) {
+    if (psdu->GetAddr1() != m_air.address) return;
+    const auto packet = psdu->GetPayload(0)->Copy();
+    packet->AddHeader(psdu->GetHeader(0));
+    std::vector<uint8_t> octets(packet->GetSize());
+    packet->CopyData(octets.data(), octets.size());
+    m_end.Cancel();
+    Over(octets, ns3::Simulator::Now() - m_begin);
+  }
+
+  void GiveUp() { Over({}, ns3::Simulator::Now() - m_begin); }
+
+  std::deque<Receiver> m_receivers;
+  ns3::Ptr<ns3::UniformRandomVariable> m_backoff = ns3::CreateObject<ns3::UniformRandomVariable>();
+  ns3::Time m_begin;  ///< when the PSDU began that is on the air
+  ns3::EventId m_end; ///< when it gives up
+};
+
+/// The access point's device over a path. All its packets have TID 0.
+class PathDevice : public AirDevice {
+ public:
+  PathDevice(const Air& air, const wf_settings& settings) : AirDevice(air) {
     Must(wf_path_make(&m_path, &settings));
-    for (uint16_t station = 0; station < m_air.stations.size(); station++) {
+    Must(wf_path_set_base(&m_path, Octets(air.address).data()));
+    for (uint16_t station = 0; station < air.stations.size(); station++) {
+      Must(wf_path_set_address(&m_path, station, Octets(air.stations[station].Address()).data()));
       Must(wf_path_join(&m_path, station, 64, 0, 3, 1, &m_reply));
-      Must(wf_path_rate(&m_path, station, m_air.stations[station].mcs, 20, 0, &m_reply));
+      Must(wf_path_rate_vht(&m_path, station, air.stations[station].mcs, WIDTH, 0, 1, &m_reply));
     }
   }
 
   ~PathDevice() override { wf_path_free(&m_path); }
 
-  /// Puts a packet of UDP over IPv4 into the path, and begins an exchange where the air is free.
+  /// Puts a packet of UDP over IPv4 into the path. The packet itself is kept, and the frame's tag names it.
   bool Send(ns3::Ptr<ns3::Packet> packet, const ns3::Address& destination, uint16_t protocol) override {
     ns3::LlcSnapHeader link;
     link.SetType(protocol);
     packet->AddHeader(link);
     std::vector<uint8_t> body(packet->GetSize());
     packet->CopyData(body.data(), body.size());
-    // the flow: both addresses and ports, behind 8 octets of the link's header and 12 of IPv4's
-    const uint32_t flow = ns3::Hash32(reinterpret_cast<const char*>(body.data()) + 20, 12);
-    Tick();
     wf_packet given{};
     given.body = body.data();
     given.length = body.size();
-    given.flow = flow;
+    given.tag = m_came;
+    // the flow: both addresses and ports, behind 8 octets of the link's header and 12 of IPv4's
+    given.flow = ns3::Hash32(reinterpret_cast<const char*>(body.data()) + 20, 12);
+    m_air.address.CopyTo(given.source);
+    Advance();
     const int32_t code = wf_path_enqueue(&m_path, m_air.StationOf(destination), &given, &m_reply);
     if (code == WF_ROOM) return false;
     Must(code);
-    if (!m_busy) Begin();
+    m_kept.emplace(m_came++, packet);
+    if (!m_busy) Next();
     return true;
   }
 
  private:
   static void Must(int32_t code) { NS_ABORT_MSG_IF(code != WF_OK, "the path answered " << code); }
 
+  static std::array<uint8_t, 6> Octets(const ns3::Mac48Address& address) {
+    std::array<uint8_t, 6> octets{};
+    address.CopyTo(octets.data());
+    return octets;
+  }
+
   /// The path's clock follows that of ns-3.
-  void Tick() {
-    const uint32_t greatest = 10'000'000;
-    const uint64_t now = ns3::Simulator::Now().GetMicroSeconds();
-    while (const uint64_t by = std::min<uint64_t>(now - wf_path_now(&m_path), greatest)) {
-      Must(wf_path_tick(&m_path, by, &m_reply));
-    }
+  void Advance() { Must(wf_path_advance(&m_path, ns3::Simulator::Now().GetMicroSeconds(), &m_reply)); }
+
+  /// Waits for the air.
+  void Next() {
+    m_busy = true;
+    ns3::Simulator::Schedule(Wait(), &PathDevice::Begin, this);
   }
 
   /// The air is free: what the path sends next takes it.
   void Begin() {
-    Tick();
-    const int32_t code = wf_path_pull(&m_path, WF_BE, &m_reply, &m_frames);
-    m_busy = code != WF_IDLE;
+    Advance();
+    m_busy = wf_path_can_pull(&m_path, WF_BE) != 0;
     if (!m_busy) return;
-    Must(code);
-    const auto airtime = ns3::MicroSeconds(m_reply.air);
-    m_air.carry(m_reply.station, airtime);
-    const uint16_t start = m_reply.request ? m_reply.start : m_frames.numbers[0];
-    ns3::Simulator::Schedule(airtime, &PathDevice::End, this, m_reply.exchange, start);
-  }
-
-  /// The airtime is over: the station has answered with a BlockAck from this number on, or has heard nothing.
-  void End(uint64_t exchange, uint16_t start) {
-    std::array<uint8_t, 32> bits{};
-    Tick();
-    Must(Transmit(exchange, start, bits) ? wf_path_done_bits(&m_path, exchange, start, bits.data(), 0, &m_reply)
-                                         : wf_path_done_lost(&m_path, exchange, 0, &m_reply));
-    Reap();
-    Begin();
-  }
-
-  /// Draws which transmissions of an exchange arrive, and sets their bits. Gives whether any did.
-  bool Transmit(uint64_t exchange, uint16_t start, std::array<uint8_t, 32>& bits) {
-    wf_sent sent{};
-    bool arrived = false;
-    Must(wf_path_sent(&m_path, exchange, &sent));
-    for (uint16_t index = 0; index < sent.count; index++) {
-      std::array<uint8_t, WF_GREATEST_MPDU> octets{};
-      size_t size = 0;
-      Must(wf_path_mpdu(&m_path, exchange, index, octets.data(), octets.size(), &size));
-      const auto transmission = ns3::Create<ns3::Packet>(octets.data(), size);
-      if (m_air.losses->IsCorrupt(transmission)) continue;
-      arrived = true;
-      const uint16_t place = Receiver::Ahead(m_receivers[sent.station].Hear(transmission), start);
-      if (!sent.request) bits[place / 8] |= 1 << place % 8;
+    Must(wf_path_pull(&m_path, WF_BE, &m_reply, &m_frames));
+    m_exchange = m_reply.exchange;
+    const Station& station = m_air.stations[m_reply.station];
+    if (m_reply.request) {
+      Transmit(Request(), station.Control(), station);
+    } else {
+      Transmit(Aggregate(), station.Data(), station);
     }
-    return arrived;
   }
 
-  /// Takes the finished frames out, acknowledged or dropped.
-  void Reap() {
+  /// The aggregate of the exchange: the path's header for each frame, and the packet that its tag names.
+  ns3::Ptr<ns3::WifiPsdu> Aggregate() const {
+    std::vector<ns3::Ptr<ns3::WifiMpdu>> mpdus;
+    for (uint16_t index = 0; index < m_frames.count; index++) {
+      std::array<uint8_t, WF_HEADER> octets{};
+      uint64_t tag = 0;
+      Must(wf_path_header(&m_path, m_exchange, index, octets.data()));
+      Must(wf_path_frame_tag(&m_path, m_exchange, index, &tag));
+      ns3::WifiMacHeader header;
+      ns3::Create<ns3::Packet>(octets.data(), octets.size())->PeekHeader(header);
+      mpdus.push_back(ns3::Create<ns3::WifiMpdu>(m_kept.at(tag), header));
+    }
+    return ns3::Create<ns3::WifiPsdu>(mpdus);
+  }
+
+  /// The BlockAckReq of the exchange.
+  ns3::Ptr<ns3::WifiPsdu> Request() const {
+    std::array<uint8_t, WF_GREATEST_MPDU> octets{};
+    size_t size = 0;
+    Must(wf_path_mpdu(&m_path, m_exchange, 0, octets.data(), octets.size(), &size));
+    const auto packet = ns3::Create<ns3::Packet>(octets.data(), size);
+    ns3::WifiMacHeader header;
+    packet->RemoveHeader(header);
+    return ns3::Create<ns3::WifiPsdu>(packet, header);
+  }
+
+  /// Hands in what was heard and what was measured, and takes the finished frames out: their packets are let go.
+  void Over(const std::vector<uint8_t>& answer, ns3::Time took) override {
+    const uint32_t air = took.GetMicroSeconds();
+    Advance();
+    Must(answer.empty() ? wf_path_done_lost(&m_path, m_exchange, air, &m_reply)
+                        : wf_path_done_octets(&m_path, m_exchange, answer.data(), answer.size(), air, &m_reply));
     wf_taken taken{};
-    std::array<uint8_t, WF_GREATEST_BODY> body{};
-    while (wf_path_reap(&m_path, &m_reply, &taken, body.data(), body.size()) == WF_OK) continue;
+    while (wf_path_reap(&m_path, &m_reply, &taken, nullptr, 0) == WF_OK) m_kept.erase(taken.tag);
+    Next();
   }
 
-  Air m_air;
-  std::vector<Receiver> m_receivers;
   wf_path m_path{};
   wf_reply m_reply{};
   wf_frames m_frames{};
-  bool m_busy = false; ///< an exchange is on the air
+  uint64_t m_exchange = 0;                                ///< the last that was pulled
+  uint64_t m_came = 0;                                    ///< packets that the path has taken
+  std::map<uint64_t, ns3::Ptr<const ns3::Packet>> m_kept; ///< packets inside, by their tags
+  bool m_busy = false;                                    ///< it waits for the air, or an exchange is on it
 };
 
 #endif

@@ -1,21 +1,24 @@
 /*
  * A bench for ns-3: an access point sends to three stations of different rates, over a path of the library (path-device.h), over
- * two queue disciplines of ns-3, and over ns-3's own Wi-Fi.
+ * two queue disciplines of ns-3, and over ns-3's own Wi-Fi. All send over a channel of ns-3, of 80 MHz, at rates of VHT.
  *
- * Simulated are UDP flows through ns-3's sockets, UDP and IPv4: a heavy one to each station, of some 30 Mbit/s, and a sparse one to
- * the fast station, of a small packet each 20 milliseconds. A transmission in 16 is lost. Below the queue disciplines each packet
- * goes out by itself, and takes the airtime that the library would charge for it. ns-3's Wi-Fi aggregates, contends for the
- * air, and sends beacons; its airtime is counted as in the other runs. Nothing is counted in the first second.
+ * Simulated are UDP flows through ns-3's sockets, UDP and IPv4: a heavy one to each station, of some 130 Mbit/s, and a sparse one
+ * to the fast station, of a small packet each 20 milliseconds. A transmission in 16 is lost. Below the queue disciplines each
+ * packet goes out by itself. ns-3's Wi-Fi aggregates, and sends beacons. Airtime is that of PSDUs to a station and of its own,
+ * which answer them, with the SIFS before each. What comes is told by ns-3's FlowMonitor, which knows a packet by the tag that it
+ * has put on it. Nothing that is sent in the first second is counted.
  *
  *   queues [--seconds=N]
  */
 #include <algorithm>
 #include <array>
 #include <cstdio>
+#include <map>
 #include <numeric>
 #include <string>
 
 #include "ns3/applications-module.h"
+#include "ns3/flow-monitor-module.h"
 #include "ns3/internet-module.h"
 #include "ns3/mobility-module.h"
 #include "ns3/traffic-control-module.h"
@@ -25,58 +28,70 @@ using namespace ns3;
 
 namespace {
 
-/// The rate of a station: its MCS, and the bits of a symbol of 4 microseconds.
+/// The rate of a station: its MCS of VHT, and Mbit/s on 80 MHz in one stream.
 struct Rate {
   const char* name;
   uint8_t mcs;
-  uint32_t bits;
+  double mbits;
 };
 
-constexpr std::array<Rate, 3> RATES{{{"fast", 7, 260}, {"middle", 3, 104}, {"slow", 0, 26}}};
+constexpr std::array<Rate, 3> RATES{{{"fast", 9, 390}, {"middle", 4, 175.5}, {"slow", 0, 29.3}}};
 constexpr uint16_t STATIONS = RATES.size();
-constexpr uint16_t SPARSE = STATIONS;       // the number of the sparse flow; a heavy one has that of its station
-constexpr uint32_t LIMIT = 600;             // packets in a queue, all flows together
-constexpr double LOST = 1.0 / 16;           // of the transmissions
-const Time ACKNOWLEDGED = MicroSeconds(48); // SIFS and a BlockAck
-const Time WARM = Seconds(1);               // nothing is counted before
+constexpr uint16_t SPARSE = STATIONS; // the number of the sparse flow; a heavy one has that of its station
+constexpr uint16_t PORT = 1000;       // that of flow 0
+constexpr uint32_t LIMIT = 600;       // packets in a queue, all flows together
+constexpr uint32_t LONGEST = 10'000;  // microseconds that an exchange may be said to have taken
+constexpr double LOST = 1.0 / 16;     // of the transmissions
+const Time WARM = Seconds(1);         // nothing is counted before
 
-/// What is measured: the airtime of each station, and the octets and delays of what each flow's receiver got.
-class Figures {
+using StationNumbers = std::map<Mac48Address, uint16_t>;
+using Flows = std::array<FlowMonitor::FlowStats, STATIONS + 1>;
+
+/// The airtime of each station.
+class Airtimes {
  public:
-  void Carry(uint16_t station, Time air) {
-    if (Simulator::Now() >= WARM) m_air[station] += air.GetSeconds();
-  }
-
-  void Receive(uint16_t flow, Ptr<const Packet> packet) {
+  /// Counts a PSDU to a station, or of one.
+  void Carry(const StationNumbers& numbers, Ptr<const WifiPsdu> psdu, const WifiTxVector& vector, Time sifs) {
     if (Simulator::Now() < WARM) return;
-    SeqTsHeader stamp;
-    packet->PeekHeader(stamp);
-    m_octets[flow] += packet->GetSize();
-    m_delays[flow].push_back((Simulator::Now() - stamp.GetTs()).GetSeconds() * 1000);
+    const Time airtime = WifiPhy::CalculateTxDuration(psdu, vector, WIFI_PHY_BAND_5GHZ);
+    const auto to = numbers.find(psdu->GetAddr1());
+    if (to != numbers.end()) m_air[to->second] += airtime.GetSeconds();
+    if (psdu->GetHeader(0).IsCts() || psdu->GetHeader(0).IsAck()) return; // they do not say whose they are
+    const auto from = numbers.find(psdu->GetAddr2());
+    if (from != numbers.end()) m_air[from->second] += (sifs + airtime).GetSeconds();
   }
 
-  void Print(const std::string& title, Time until) {
-    const double all = std::accumulate(m_air.begin(), m_air.end(), 0.0);
-    std::printf("%s\nflow      Mbit/s airtime %%   kbit/s  mean ms  95 %% ms\n", title.c_str());
-    for (uint16_t flow = 0; flow <= SPARSE; flow++) {
-      if (flow == SPARSE) {
-        std::printf("%-8s %7s %9s", "sparse", "", "");
-      } else {
-        std::printf("%-8s %7.1f %9.1f", RATES[flow].name, RATES[flow].bits / 4.0, 100 * m_air[flow] / all);
-      }
-      auto& delays = m_delays[flow];
-      std::sort(delays.begin(), delays.end());
-      const double mean = std::accumulate(delays.begin(), delays.end(), 0.0) / std::max<size_t>(delays.size(), 1);
-      const double most = delays.empty() ? 0 : delays[delays.size() * 95 / 100];
-      std::printf(" %8.0f %8.1f %8.1f\n", m_octets[flow] * 8 / 1000 / (until - WARM).GetSeconds(), mean, most);
-    }
-  }
+  double Share(uint16_t station) const { return m_air[station] / std::accumulate(m_air.begin(), m_air.end(), 0.0); }
 
  private:
   std::array<double, STATIONS> m_air{};
-  std::array<double, STATIONS + 1> m_octets{};
-  std::array<std::vector<double>, STATIONS + 1> m_delays;
 };
+
+/// The delay below which 95 of 100 packets of a flow stay, in milliseconds.
+double Most(Histogram delays, uint32_t packets) {
+  uint64_t passed = 0;
+  for (uint32_t bin = 0; bin < delays.GetNBins(); bin++) {
+    passed += delays.GetBinCount(bin);
+    if (100 * passed >= 95 * uint64_t{packets}) return 1000 * delays.GetBinEnd(bin);
+  }
+  return 0;
+}
+
+/// Writes a table: the airtime of each station, and the octets and delays of what came of each flow.
+void Print(const std::string& title, const Airtimes& airtimes, const Flows& flows, Time until) {
+  std::printf("%s\nflow      Mbit/s airtime %%   kbit/s  mean ms  95 %% ms\n", title.c_str());
+  for (uint16_t flow = 0; flow <= SPARSE; flow++) {
+    if (flow == SPARSE) {
+      std::printf("%-8s %7s %9s", "sparse", "", "");
+    } else {
+      std::printf("%-8s %7.1f %9.1f", RATES[flow].name, RATES[flow].mbits, 100 * airtimes.Share(flow));
+    }
+    const FlowMonitor::FlowStats& seen = flows[flow];
+    const double mean = 1000 * seen.delaySum.GetSeconds() / std::max(seen.rxPackets, 1u);
+    const double kbits = 8e-3 * seen.rxBytes / (until - WARM).GetSeconds();
+    std::printf(" %8.0f %8.1f %8.1f\n", kbits, mean, Most(seen.delayHistogram, seen.rxPackets));
+  }
+}
 
 /// Which transmissions are lost: the same draws in each run.
 Ptr<ErrorModel> Losses() {
@@ -88,53 +103,112 @@ Ptr<ErrorModel> Losses() {
 }
 
 /// A device below a queue discipline of ns-3: it sends one packet at a time, again while it does not arrive.
-class PlainDevice : public SimpleNetDevice {
+class PlainDevice : public AirDevice {
  public:
-  PlainDevice(const Air& air, const wf_settings& settings) : m_air(air), m_attempts(settings.attempts) {}
+  PlainDevice(const Air& air, const wf_settings& settings)
+      : AirDevice(air), m_attempts(settings.attempts), m_numbers(air.stations.size()) {}
 
   bool Send(Ptr<Packet> packet, const Address& destination, uint16_t protocol) override {
+    LlcSnapHeader link;
+    link.SetType(protocol);
+    packet->AddHeader(link);
+    m_packet = packet;
+    m_station = m_air.StationOf(destination);
+    m_attempt = 1;
     GetObject<NetDeviceQueueInterface>()->GetTxQueue(0)->Stop();
-    Begin(packet, m_air.StationOf(destination), protocol, 1);
+    Simulator::Schedule(Wait(), &PlainDevice::Begin, this);
     return true;
   }
 
  private:
-  /// The packet is the body of a data frame that is alone in its aggregate.
-  void Begin(Ptr<Packet> packet, uint16_t station, uint16_t protocol, uint32_t attempt) {
-    const uint32_t octets = 4 + 26 + LlcSnapHeader().GetSerializedSize() + packet->GetSize() + 4;
-    const uint32_t symbols = (16 + 8 * octets + 6 + RATES[station].bits - 1) / RATES[station].bits;
-    const Time airtime = MicroSeconds(36 + 4 * symbols) + ACKNOWLEDGED;
-    m_air.carry(station, airtime);
-    Simulator::Schedule(airtime, &PlainDevice::End, this, packet, station, protocol, attempt);
+  /// The air is free: the packet is the body of a data frame that is alone in its aggregate.
+  void Begin() {
+    const Station& station = m_air.stations[m_station];
+    WifiMacHeader header(WIFI_MAC_QOSDATA);
+    header.SetDsFrom();
+    header.SetDsNotTo();
+    header.SetAddr1(station.Address());
+    header.SetAddr2(m_air.address);
+    header.SetAddr3(m_air.address);
+    header.SetSequenceNumber(m_numbers[m_station]);
+    header.SetQosTid(0);
+    Transmit(Create<WifiPsdu>(Create<WifiMpdu>(m_packet, header), true), station.Data(), station);
   }
 
-  void End(Ptr<Packet> packet, uint16_t station, uint16_t protocol, uint32_t attempt) {
-    const bool lost = m_air.losses->IsCorrupt(packet);
-    if (lost && attempt < m_attempts) return Begin(packet, station, protocol, attempt + 1);
-    if (!lost) m_air.stations[station].HandUp(packet, protocol);
+  void Over(const std::vector<uint8_t>& answer, Time) override {
+    if (answer.empty() && m_attempt++ < m_attempts) {
+      Simulator::Schedule(Wait(), &PlainDevice::Begin, this);
+      return;
+    }
+    // the number of a packet that never arrived is the next one's
+    if (!answer.empty()) m_numbers[m_station] = (m_numbers[m_station] + 1) % 4096;
     GetObject<NetDeviceQueueInterface>()->GetTxQueue(0)->Wake();
   }
 
-  Air m_air;
+  Ptr<Packet> m_packet;
+  uint16_t m_station = 0;
+  uint32_t m_attempt = 0;
   uint32_t m_attempts;
+  std::vector<uint16_t> m_numbers;
 };
+
+void OnPsdu(Airtimes* airtimes, StationNumbers numbers, Time sifs, WifiConstPsduMap sent, WifiTxVector vector, double) {
+  airtimes->Carry(numbers, sent.begin()->second, vector, sifs);
+}
+
+/// Has the airtime counted of what these radios send, the access point's and those of the stations with these addresses.
+void Count(Airtimes& airtimes, const std::vector<Ptr<WifiPhy>>& radios, const StationNumbers& numbers) {
+  for (const auto& radio : radios) {
+    radio->TraceConnectWithoutContext("PhyTxPsduBegin", MakeBoundCallback(&OnPsdu, &airtimes, numbers, radio->GetSifs()));
+  }
+}
+
+/// Radios on one channel of 80 MHz.
+YansWifiPhyHelper Radios() {
+  YansWifiPhyHelper phy;
+  phy.SetChannel(YansWifiChannelHelper::Default().Create());
+  phy.Set("ChannelSettings", StringValue("{42, 80, BAND_5GHZ, 0}"));
+  return phy;
+}
+
+/// A node's radio, without a MAC of ns-3 over it.
+Ptr<WifiPhy> BareRadio(const WifiPhyHelper& radios, Ptr<Node> node) {
+  auto holder = CreateObject<WifiNetDevice>();
+  holder->SetNode(node);
+  const auto radio = radios.Create(node, holder)[0];
+  radio->ConfigureStandard(WIFI_STANDARD_80211ac);
+  radio->Initialize();
+  return radio;
+}
 
 /// Puts the access point's device on node 0 and the stations' on the others.
 template <typename Device>
-NetDeviceContainer InstallAir(const NodeContainer& nodes, Figures& figures) {
-  Air air{{}, Losses(), [&figures](uint16_t station, Time airtime) { figures.Carry(station, airtime); }};
-  for (const Rate& rate : RATES) air.stations.push_back({CreateObject<SimpleNetDevice>(), rate.mcs});
+NetDeviceContainer InstallAir(const NodeContainer& nodes, Airtimes& airtimes) {
+  const auto radios = Radios();
+  Air air{Mac48Address::Allocate(), BareRadio(radios, nodes.Get(0)), {}};
+  std::vector<Ptr<WifiPhy>> all{air.radio};
+  StationNumbers numbers;
+  for (uint16_t number = 0; number < STATIONS; number++) {
+    const Station station{CreateObject<SimpleNetDevice>(), BareRadio(radios, nodes.Get(1 + number)), RATES[number].mcs};
+    station.device->SetAddress(Mac48Address::Allocate());
+    station.radio->SetPostReceptionErrorModel(Losses());
+    numbers[station.Address()] = number;
+    air.stations.push_back(station);
+    all.push_back(station.radio);
+  }
+  Count(airtimes, all, numbers);
   wf_settings settings{};
   wf_settings_standard(&settings);
   settings.limit = LIMIT;
+  settings.agg = 64;
+  settings.charge = LONGEST;
   NetDeviceContainer devices(CreateObject<Device>(air, settings));
   for (const Station& station : air.stations) devices.Add(station.device);
-  auto channel = CreateObject<SimpleChannel>();
+  const auto link = CreateObject<SimpleChannel>(); // nothing goes over it: a SimpleNetDevice wants one
   for (uint32_t i = 0; i < devices.GetN(); i++) {
-    auto device = DynamicCast<SimpleNetDevice>(devices.Get(i));
-    device->SetAddress(Mac48Address::Allocate());
+    const auto device = DynamicCast<SimpleNetDevice>(devices.Get(i));
     device->SetMtu(1500);
-    device->SetChannel(channel);
+    device->SetChannel(link);
     nodes.Get(i)->AddDevice(device);
   }
   return devices;
@@ -152,8 +226,7 @@ class RatePerStation : public ConstantRateWifiManager {
 
  private:
   WifiTxVector DoGetDataTxVector(WifiRemoteStation* station, uint16_t) override {
-    const WifiMode mode = HtPhy::GetHtMcs(m_rates[station->m_state->m_address]);
-    return WifiTxVector(mode, 0, WIFI_PREAMBLE_HT_MF, 800, 1, 1, 0, 20, true);
+    return Station{nullptr, nullptr, m_rates[station->m_state->m_address]}.Data();
   }
 
   std::map<Mac48Address, uint8_t> m_rates;
@@ -161,30 +234,18 @@ class RatePerStation : public ConstantRateWifiManager {
 
 NS_OBJECT_ENSURE_REGISTERED(RatePerStation);
 
-using StationNumbers = std::map<Mac48Address, uint16_t>;
-
-/// Counts what ns-3's Wi-Fi sends to a station.
-void CarryWifi(Figures* figures, StationNumbers numbers, WifiConstPsduMap sent, WifiTxVector vector, double) {
-  const auto psdu = sent.begin()->second;
-  const auto found = numbers.find(psdu->GetAddr1());
-  if (found == numbers.end()) return;
-  figures->Carry(found->second, WifiPhy::CalculateTxDuration(psdu, vector, WIFI_PHY_BAND_5GHZ) + ACKNOWLEDGED);
-}
-
-/// ns-3's Wi-Fi on the same nodes, all in one place.
-NetDeviceContainer InstallWifi(const NodeContainer& nodes, Figures& figures) {
-  MobilityHelper().Install(nodes);
-  YansWifiPhyHelper phy;
-  phy.SetChannel(YansWifiChannelHelper::Default().Create());
-  phy.Set("ChannelSettings", StringValue("{36, 20, BAND_5GHZ, 0}"));
+/// ns-3's Wi-Fi on the same nodes.
+NetDeviceContainer InstallWifi(const NodeContainer& nodes, Airtimes& airtimes) {
+  const auto phy = Radios();
   WifiHelper wifi;
-  wifi.SetStandard(WIFI_STANDARD_80211n);
+  wifi.SetStandard(WIFI_STANDARD_80211ac);
   wifi.SetRemoteStationManager("RatePerStation");
   WifiMacHelper mac;
-  mac.SetType("ns3::ApWifiMac");
+  mac.SetType("ns3::ApWifiMac", "BE_MaxAmpduSize", UintegerValue(1048575));
   NetDeviceContainer devices = wifi.Install(phy, mac, nodes.Get(0));
   const auto sender = DynamicCast<WifiNetDevice>(devices.Get(0));
   mac.SetType("ns3::StaWifiMac");
+  std::vector<Ptr<WifiPhy>> all{sender->GetPhy()};
   StationNumbers numbers;
   for (uint16_t station = 0; station < STATIONS; station++) {
     devices.Add(wifi.Install(phy, mac, nodes.Get(1 + station)));
@@ -192,34 +253,52 @@ NetDeviceContainer InstallWifi(const NodeContainer& nodes, Figures& figures) {
     const Mac48Address address = device->GetMac()->GetAddress();
     numbers[address] = station;
     device->GetPhy()->SetPostReceptionErrorModel(Losses());
+    all.push_back(device->GetPhy());
     DynamicCast<RatePerStation>(sender->GetRemoteStationManager())->Set(address, RATES[station].mcs);
   }
-  sender->GetPhy()->TraceConnectWithoutContext("PhyTxPsduBegin", MakeBoundCallback(&CarryWifi, &figures, numbers));
+  Count(airtimes, all, numbers);
   return devices;
 }
 
-void OnReceive(Figures* figures, uint16_t flow, Ptr<const Packet> packet) { figures->Receive(flow, packet); }
-
 /// A flow from the access point to a station's node.
-void StartFlow(const NodeContainer& nodes, Ptr<Node> to, Ipv4Address address, uint16_t flow, uint32_t octets, Time interval,
-               Figures& figures) {
-  const uint16_t port = 1000 + flow;
-  auto server = UdpServerHelper(port).Install(to).Get(0);
-  server->TraceConnectWithoutContext("Rx", MakeBoundCallback(&OnReceive, &figures, flow));
-  UdpClientHelper client(address, port);
+void StartFlow(const NodeContainer& nodes, Ptr<Node> to, Ipv4Address address, uint16_t flow, uint32_t octets, Time interval) {
+  UdpServerHelper(PORT + flow).Install(to);
+  UdpClientHelper client(address, PORT + flow);
   client.SetAttribute("MaxPackets", UintegerValue(UINT32_MAX));
   client.SetAttribute("PacketSize", UintegerValue(octets));
   client.SetAttribute("Interval", TimeValue(interval));
   client.Install(nodes.Get(0)).Start(Seconds(0.5));
 }
 
+/// The traffic: a heavy flow to each station, and the sparse one.
+void StartFlows(const NodeContainer& nodes, const Ipv4InterfaceContainer& addresses) {
+  for (uint16_t station = 0; station < STATIONS; station++) {
+    // different, so that it is not always the same flow that meets a full queue
+    const Time interval = MicroSeconds(89 + 2 * station);
+    StartFlow(nodes, nodes.Get(1 + station), addresses.GetAddress(1 + station), station, 1472, interval);
+  }
+  StartFlow(nodes, nodes.Get(1), addresses.GetAddress(1), SPARSE, 172, MilliSeconds(20));
+}
+
+/// What ns-3's monitor has seen of each flow.
+Flows FlowsOf(FlowMonitorHelper& helper) {
+  Flows flows;
+  const auto classifier = DynamicCast<Ipv4FlowClassifier>(helper.GetClassifier());
+  for (const auto& [id, seen] : helper.GetMonitor()->GetFlowStats()) {
+    const uint16_t port = classifier->FindFlow(id).destinationPort;
+    if (port >= PORT && port <= PORT + SPARSE) flows[port - PORT] = seen;
+  }
+  return flows;
+}
+
 /// One run: the devices, a queue discipline of ns-3 on that of the access point, where one is named, and the traffic.
 template <typename Install>
 void Run(const std::string& title, Install install, const std::string& discipline, Time until) {
-  Figures figures;
+  Airtimes airtimes;
   NodeContainer nodes;
   nodes.Create(1 + STATIONS);
-  const NetDeviceContainer devices = install(nodes, figures);
+  MobilityHelper().Install(nodes); // all in one place
+  const NetDeviceContainer devices = install(nodes, airtimes);
   if (!discipline.empty() && !devices.Get(0)->GetObject<NetDeviceQueueInterface>()) {
     devices.Get(0)->AggregateObject(CreateObject<NetDeviceQueueInterface>()); // by which it stops and wakes the discipline
   }
@@ -231,16 +310,16 @@ void Run(const std::string& title, Install install, const std::string& disciplin
   }
   const auto addresses = Ipv4AddressHelper("10.0.0.0", "255.255.255.0").Assign(devices);
   NeighborCacheHelper().PopulateNeighborCache(devices);
-  for (uint16_t station = 0; station < STATIONS; station++) {
-    // different, so that it is not always the same flow that meets a full queue
-    const Time interval = MicroSeconds(397 + 6 * station);
-    StartFlow(nodes, nodes.Get(1 + station), addresses.GetAddress(1 + station), station, 1472, interval, figures);
-  }
-  StartFlow(nodes, nodes.Get(1), addresses.GetAddress(1), SPARSE, 172, MilliSeconds(20), figures);
+  StartFlows(nodes, addresses);
+  FlowMonitorHelper monitor;
+  monitor.SetMonitorAttribute("StartTime", TimeValue(WARM));
+  monitor.SetMonitorAttribute("DelayBinWidth", DoubleValue(0.0001));
+  monitor.InstallAll();
   Simulator::Stop(until);
   Simulator::Run();
+  const Flows flows = FlowsOf(monitor);
   Simulator::Destroy();
-  figures.Print(title, until);
+  Print(title, airtimes, flows, until);
 }
 
 } // namespace
