@@ -1,5 +1,6 @@
 """What the scripts of this folder share: where things stand, what is skipped, how commands are run, and copies of crates for trials."""
 import contextlib
+import itertools
 import os
 import pathlib
 import re
@@ -74,7 +75,8 @@ def is_fresh(made):
     if not made.exists():
         return False
     since = made.stat().st_mtime
-    files = [TOP / "crates.txt", *(file for part in ("src", "specs", "proofs") for file in TOP.glob(f"crates/*/{part}/**/*"))]
+    parts = (TOP.glob(f"crates/*/{part}/**/*") for part in ("src", "specs", "proofs"))
+    files = itertools.chain([TOP / "crates.txt", TOP / "HANDLES"], *parts)
     return all(file.stat().st_mtime <= since for file in files)
 
 
