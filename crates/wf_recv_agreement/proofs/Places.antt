@@ -50,6 +50,44 @@ pub items_turned : (n m : ℕ) (xs : List (Option ℕ)) →
 items_turned n m xs = items_append (drop n xs) (replicate m None)
     ∙ ap (λ ys. items_of (drop n xs) ++ ys) (no_items m) ∙ append-nil (items_of (drop n xs))
 
+-- ---- how many there are
+
+pub stored_none : (xs : List (Option ℕ)) (n : ℕ) → xs ≡ replicate n None → 0 ≡ length (items_of xs)
+stored_none xs n e = sym (ap (λ (ys : List (Option ℕ)). length (items_of ys)) e ∙ ap length (no_items n))
+
+pub none_stored : (xs : List (Option ℕ)) → length (items_of xs) ≡ 0 → xs ≡ replicate (length xs) None
+none_stored [] h = refl
+none_stored (None ∷ xs) h = ap (λ (ys : List (Option ℕ)). None ∷ ys) (none_stored xs h)
+none_stored (Some x ∷ xs) h = absurd (omega (arith, h))
+
+pub stored_more : (xs : List (Option ℕ)) (d x : ℕ) → d < length xs → is_some (get_or xs d None) ≡ false →
+    length (items_of (set xs d (Some x))) ≡ length (items_of xs) + 1
+stored_more [] d x h e = absurd (omega (arith, h))
+stored_more (None ∷ xs) zero x h e = omega arith
+stored_more (Some y ∷ xs) zero x h e = absurd (cc e)
+stored_more (None ∷ xs) (suc d) x h e = stored_more xs d x (omega (arith, h)) e
+stored_more (Some y ∷ xs) (suc d) x h e = omega (arith, stored_more xs d x (omega (arith, h)) e)
+
+pub stored_same : (xs : List (Option ℕ)) (d x : ℕ) → is_some (get_or xs d None) ≡ true →
+    length (items_of (set xs d (Some x))) ≡ length (items_of xs)
+stored_same [] d x e = refl
+stored_same (None ∷ xs) zero x e = absurd (cc e)
+stored_same (Some y ∷ xs) zero x e = omega arith
+stored_same (None ∷ xs) (suc d) x e = stored_same xs d x e
+stored_same (Some y ∷ xs) (suc d) x e = omega (arith, stored_same xs d x e)
+
+pub stored_fewer : (xs : List (Option ℕ)) → is_some (get_or xs 0 None) ≡ true →
+    length (items_of (drop 1 xs ++ None ∷ [])) + 1 ≡ length (items_of xs)
+stored_fewer [] e = absurd (cc e)
+stored_fewer (None ∷ xs) e = absurd (cc e)
+stored_fewer (Some x ∷ xs) e = omega (arith, ap length (items_turned 0 1 xs))
+
+pub stored_left : (xs : List (Option ℕ)) → is_some (get_or xs 0 None) ≡ false →
+    length (items_of (drop 1 xs ++ None ∷ [])) ≡ length (items_of xs)
+stored_left [] e = refl
+stored_left (None ∷ xs) e = ap length (items_turned 0 1 xs)
+stored_left (Some x ∷ xs) e = absurd (cc e)
+
 pub item_here : (xs : List (Option ℕ)) (i : ℕ) (p : Option ℕ) → i < length xs → p ≡ get_or xs i None →
     items_of (take (i + 1) xs) ≡ items_of (take i xs) ++ items_of (p ∷ [])
 item_here xs i p h e =

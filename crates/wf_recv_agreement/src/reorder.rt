@@ -3,7 +3,7 @@
 //!
 //! It meets its rules for every sequence of numbers whatever, jumps included.
 
-ghost use Rattle.std.specs.Prelude.{◌≡◌, ◌+◌, ◌≤◌, ◌<◌, ◌++◌, ◌∷◌, [], length, take, drop, replicate, IfOk, MatchOption, None, slice_index_or, is_some};
+ghost use Rattle.std.specs.Prelude.{◌≡◌, true, ◌+◌, ◌≤◌, ◌<◌, ◌++◌, ◌∷◌, [], length, take, drop, replicate, IfOk, MatchOption, None, slice_index_or, is_some};
 ghost use Rattle.wf_recv_agreement.specs.Buffer.{items_of, run_of, empty_buffer, first_stored, first_stored_of, with_stored_item, items_below, with_start_moved, release_outcome, store_outcome, jump_outcome, number_outcome, request_outcome, HasOneMore};
 
 use std::alloc::{AllocError, Global};
@@ -18,12 +18,14 @@ struct Slots {
     start: Seq12,
     size: u16,
     ring: VecDeque<Option<u64>>,
+    /// How many items are stored.
+    stored: u16,
 }
 
 impl Model for Slots {
     ghost use Rattle.std.specs.Prelude.{◌≡◌, ◌≤◌, length};
     ghost use Rattle.std.specs.VecDeque.{deque_capacity, deque_len};
-    ghost use Rattle.wf_recv_agreement.specs.Buffer.{Buffer};
+    ghost use Rattle.wf_recv_agreement.specs.Buffer.{Buffer, items_of};
 
     ghost Value = { Buffer };
 
@@ -35,10 +37,12 @@ impl Model for Slots {
     } };
 
     ghost invariant = { λ s. (1 ≤ s.size) × (s.size ≤ 256) × (deque_len s.ring ≡ s.size) ×
-        (length s.ring.items ≡ s.size) × (s.size ≤ deque_capacity s.ring) × (deque_capacity s.ring ≤ 256) };
+        (length s.ring.items ≡ s.size) × (s.size ≤ deque_capacity s.ring) × (deque_capacity s.ring ≤ 256) ×
+        (s.stored ≡ length (items_of s.ring.items)) };
 }
 
 impl Slots {
+    #[tactic(auto, using(crate::proofs::Places::stored_none))]
     fn new(alloc: Global, capacity: u16) -> Result<Slots, AllocError>
         requires { (1 ≤ capacity) × (capacity ≤ 256) }
         ensures { IfOk result (λ s. s ≡ empty_buffer capacity 0 capacity) }
@@ -51,19 +55,41 @@ impl Slots {
             start: Seq12::of(0),
             size: capacity,
             ring,
+            stored: 0,
         })
     }
 
+    /// A new start, and so many empty places. Where as many are empty already, none is written.
     fn reset(&mut self, start: Seq12, size: u16)
         requires { (1 ≤ size) × (size ≤ self.old.capacity) }
         ensures { self.new ≡ empty_buffer self.old.capacity start size }
+    {
+        self.start = start;
+        if !self.has_empty(size) {
+            self.clear(size);
+        }
+    }
+
+    /// Whether there are so many places, all of them empty.
+    #[tactic(auto, using(crate::proofs::Places::none_stored))]
+    fn has_empty(&self, size: u16) -> bool
+        ensures { result ≡ true → self.now ≡ empty_buffer self.now.capacity self.now.start size }
+    {
+        self.stored == 0 && self.size == size
+    }
+
+    /// So many empty places.
+    #[tactic(auto, using(crate::proofs::Places::stored_none))]
+    fn clear(&mut self, size: u16)
+        requires { (1 ≤ size) × (size ≤ self.old.capacity) }
+        ensures { self.new ≡ empty_buffer self.old.capacity self.old.start size }
     {
         self.ring.clear();
         for _ in 0..size {
             self.ring.push_back_reserved(None);
         }
-        self.start = start;
         self.size = size;
+        self.stored = 0;
     }
 
     fn start(&self) -> Seq12
@@ -88,20 +114,29 @@ impl Slots {
         self.ring[usize::from(place)].is_some()
     }
 
+    #[tactic(auto, using(crate::proofs::Places::items_few))]
     fn store(&mut self, place: u16, item: u64)
         requires { place < self.old.size }
         ensures { self.new ≡ with_stored_item place item self.old }
     {
+        let is_more = !self.holds(place);
         self.ring[usize::from(place)] = Some(item);
+        if is_more {
+            self.stored += 1;
+        }
     }
 
     /// The first place leaves and an empty one comes last; the start stays.
+    #[tactic(auto, using(crate::proofs::Places::stored_fewer, crate::proofs::Places::stored_left))]
     fn turn(&mut self) -> Option<u64>
         ensures slots { self.new ≡ record self.old { places = drop 1 self.old.places ++ None ∷ [] } }
         ensures first { result ≡ slice_index_or self.old.places 0 None }
     {
         let first = self.ring.pop_front().flatten();
         self.ring.push_back_reserved(None);
+        if first.is_some() {
+            self.stored -= 1;
+        }
         first
     }
 
