@@ -2,7 +2,7 @@
 use Rattle.std.proofs.Common.{◌≡◌, ℕ, ◌+◌, ◌*◌, ◌-◌, ◌<◌, ◌≤◌, true, false, not, List, [], ◌∷◌, Some, None, length, get_or, set, drop, map, refl, sym, ap, ◌∙◌, subst, inl, inr, arith, length-drop, eq-eqb}
 use Rattle.std.specs.Prelude.{◌==◌, ◌%◌}
 use Rattle.std.proofs.lemmas.List.{get_or-map, get_or_past, length-map, get_or_read, nil_from_length}
-use Rattle.std.proofs.lemmas.Bool.{cases_eq, cases_lt, cases_Bool, both_ways, ne_eqb, cond-true, cond-false}
+use Rattle.std.proofs.lemmas.Bool.{cases_eq, cases_lt, both_ways, ne_eqb, cond-true, cond-false}
 use Rattle.wf_frame.specs.Frames.{FrameValue}
 use Rattle.wf_def_rotation.specs.Rotation.{Rotation, no_keys, in_order, without_key}
 use Rattle.wf_def_lists.specs.Lists.{on}
@@ -13,7 +13,7 @@ use Rattle.wf_law_rules.proofs.Lemmas.Counts.{on_order-none}
 use Rattle.wf_law_rules.proofs.Lemmas.Counts.{on-nil, on-append}
 use Rattle.wf_queue_flows.specs.Backlog.{BacklogValue, frames_at, first_id, after_head_drop, after_flush}
 use Rattle.wf_queue_flows.specs.Flows.{FlowsValue, tids, queues, is_listed, is_listed_by_another, queue_for}
-use Rattle.wf_queue_flows.specs.Kept.{depth, AreFlowsKept, CanList, without_queue}
+use Rattle.wf_queue_flows.specs.Kept.{depth, AreFlowsKept, CanList}
 use Rattle.wf_queue_flows.proofs.Flags.{nothing_dropped, changed_at}
 use Rattle.wf_queue_flows.proofs.Picks.{on-filter, on-filter_le, on-filter_out}
 use Rattle.wf_queue_flows.proofs.Owners.{listed_elsewhere, on-listed}
@@ -61,10 +61,10 @@ on-without_le r k y =
       on-filter_le (λ x. not (x == k)) r.old y,
     )
 
-abbrev all_without : List Rotation → ℕ → List Rotation
+abbrev pub all_without : List Rotation → ℕ → List Rotation
 all_without all k = map (λ r. without_key r k) all
 
-at-without : (all : List Rotation) (k j : ℕ) → lists_at (all_without all k) j ≡ without_key (lists_at all j) k
+pub at-without : (all : List Rotation) (k j : ℕ) → lists_at (all_without all k) j ≡ without_key (lists_at all j) k
 at-without all k j = elim (cases_lt j (length all)) [
   | inl low ↦ get_or-map (λ r. without_key r k) all j no_keys no_keys low
   | inr past ↦ get_or_past (all_without all k) j no_keys
@@ -129,14 +129,16 @@ module _ (v now : FlowsValue) (counts : List ℕ) (same : v ≡ now) (ok : AreFl
 
   -- ---- purge_queue
 
-  module _ (i q x gone place : ℕ) (side : Side) (low : place < length v.rotas.lists)
-      (is : has_on v.rotas.lists place side q ≡ true) (here : place ≡ i) (read_x : x ≡ get_or counts i x)
+  on_now : (j q : ℕ) → is_listed now j q ≡ true → 0 < on_at v.rotas.lists j q
+  on_now j q is = on-listed v j q (subst (λ (w : FlowsValue). is_listed w j q ≡ true) (sym same) is)
+
+  module _ (i q x gone : ℕ) (low : i < tids now) (is : is_listed now i q ≡ true) (read_x : x ≡ get_or counts i x)
       (count : gone ≡ depth v.backlog.queues q) where
     low_i : i < length v.rotas.lists
-    low_i = omega arith
+    low_i = omega (arith, ap (λ (w : FlowsValue). tids w) same, ok.sized.lists)
 
     stands_i : 0 < on_at v.rotas.lists i q
-    stands_i = subst (λ (m : ℕ). 0 < on_at v.rotas.lists m q) here (stands q place side is)
+    stands_i = on_now i q is
 
     low_q : q < v.flows + 8 * v.stations
     low_q = ok.listed.apart.below i q stands_i
@@ -179,17 +181,6 @@ module _ (v now : FlowsValue) (counts : List ℕ) (same : v ≡ now) (ok : AreFl
             (ap (λ (b : BacklogValue). b.room) flush) (low_place i low_i) low_q stands_i
             (omega (arith, purge_fits, count, read i x low_i read_x))
 
-  pub purge_other : (i q place : ℕ) (side : Side) → has_on v.rotas.lists place side q ≡ true →
-      (place ≡ i → ⊥) → now ≡ without_queue now i q
-  purge_other i q place side is other =
-      let fails : is_listed v i q ≡ false = elim (cases_Bool (is_listed v i q)) [
-        | inl holds ↦ absurd (other (ok.listed.apart.one_list place i q (stands q place side is)
-            (on-listed v i q holds)))
-        | inr off ↦ off
-      ] in
-      sym (cond-false (is_listed now i q) _ now (subst
-      (λ (w : FlowsValue). is_listed w i q ≡ false) same fails))
-
   -- ---- queue_for, where the code reads `flows` of the fields
 
   flows_same : v.flows ≡ now.flows
@@ -210,9 +201,6 @@ module _ (v now : FlowsValue) (counts : List ℕ) (same : v ≡ now) (ok : AreFl
       flow % n ≡ queue_for now i flow) (sym flows_same)
       (λ e. sym (cond-false (is_listed_by_another now i (flow % now.flows)) (now.flows + i)
       (flow % now.flows) e)) is
-
-  on_now : (j q : ℕ) → is_listed now j q ≡ true → 0 < on_at v.rotas.lists j q
-  on_now j q is = on-listed v j q (subst (λ (w : FlowsValue). is_listed w j q ≡ true) (sym same) is)
 
   pub can_overflow : (i q : ℕ) → q ≡ v.flows + i → CanList now i q
   can_overflow i q e = record {

@@ -1,20 +1,21 @@
--- A walk over the queues' numbers purges the queues of one TID.
-use Rattle.std.proofs.Common.{◌≡◌, ℕ, zero, suc, ◌+◌, ◌*◌, ◌<◌, Bool, true, false, not, List, [], ◌∷◌, ◌++◌, length, map, set, refl, sym, ap, ◌∙◌, subst, inl, inr, arith, add-one, eq-eqb, length-set}
+-- The queues of one TID are purged, the least first.
+use Rattle.std.proofs.Common.{◌≡◌, ℕ, zero, suc, ◌+◌, ◌-◌, ◌*◌, ◌<◌, ◌≤◌, Bool, true, false, not, List, [], ◌∷◌, ◌++◌, length, map, set, refl, sym, ap, ◌∙◌, subst, inl, inr, arith, eq-eqb, length-set, length-append}
 use Rattle.std.specs.Prelude.{◌==◌, ◌||◌, nat_le}
 use Rattle.std.specs.List.{filter}
 use Rattle.std.proofs.lemmas.List.{append-nil, set-get_or, map-set, get_or-map, length-map, get_or-set_same, get_or-set_other, ext_get_or}
 use Rattle.std.proofs.lemmas.List.Elements.{filter-append}
-use Rattle.std.proofs.lemmas.Bool.{cases_eq, cases_lt, cases_Bool, ne_eqb, le-leb, lt-leb, cond-true, cond-false}
+use Rattle.std.proofs.lemmas.Bool.{cases_eq, cases_lt, cases_Bool, ne_eqb, le-leb, lt-leb}
 use Rattle.wf_def_lists.specs.Table.{has, count_from, upto}
 use Rattle.wf_def_rotation.specs.Rotation.{Rotation, no_keys, has_key, in_order, without_key}
 use Rattle.wf_def_lists.specs.Lists.{on}
 use Rattle.wf_sched_rotation.specs.Lists.{AreDisjoint, lists_at, on_at}
-use Rattle.wf_law_rules.proofs.Lemmas.Counts.{on-first, on-cons_same, on-append}
+use Rattle.wf_law_rules.proofs.Lemmas.Counts.{on-nil, on-first, on-cons_same, on-cons_other, on-append, on-filter_out, listed-none}
 use Rattle.wf_law_rules.proofs.Lemmas.Counts.{on_order-none}
 use Rattle.wf_queue_flows.specs.Backlog.{BacklogValue, after_flush}
 use Rattle.wf_queue_flows.specs.Flows.{FlowsValue, tids, tid_rotation, is_listed, queues, queues_of, all_flushed, after_purge}
 use Rattle.wf_queue_flows.specs.Kept.{AreFlowsKept, rest_from, without_queue, purged_below}
 use Rattle.wf_queue_flows.proofs.Owners.{on-listed}
+use Rattle.wf_queue_flows.proofs.Leaves.{at-without}
 
 -- ---- filters
 
@@ -124,10 +125,18 @@ module _ (v : FlowsValue) (i : ℕ) (apart : AreDisjoint
       ≡ rest_from k (tid_rotation v i)
   rest_rotation k = get_or-set_same v.rotas.lists i (rest_from k (tid_rotation v i)) no_keys low
 
-  lists-rest : (k : ℕ) (r : Rotation) → has_key (rest_from k r) k ≡ has_key r k
-  lists-rest k r =
-      let is : nat_le k k ≡ true = le-leb k k (omega arith) in
-      rw (has-filter (nat_le k) r.new k is, has-filter (nat_le k) r.old k is) refl
+  has_rest : (k m : ℕ) (r : Rotation) → k ≤ m → has_key (rest_from k r) m ≡ has_key r m
+  has_rest k m r past =
+      let is : nat_le k m ≡ true = le-leb k m past in
+      rw (has-filter (nat_le k) r.new m is, has-filter (nat_le k) r.old m is) refl
+
+  has_none : (k m : ℕ) (r : Rotation) → m < k → has_key (rest_from k r) m ≡ false
+  has_none k m r low = listed-none (rest_from k r) m (omega (
+    arith,
+    on-append (rest_from k r).old (rest_from k r).new m,
+    on-filter_out (nat_le k) r.new m (lt-leb k m low),
+    on-filter_out (nat_le k) r.old m (lt-leb k m low),
+  ))
 
   off : (j k : ℕ) → (j ≡ i → ⊥) → is_listed v i k ≡ true → on_at v.rotas.lists j k ≡ 0
   off j k other is = elim (cases_lt 0 (on_at v.rotas.lists j k)) [
@@ -221,18 +230,7 @@ module _ (v : FlowsValue) (i : ℕ) (apart : AreDisjoint
       ∙ ap (λ (t : List ℕ). filter (is_listed v i) (upto k) ++ t) (one_fails k fails)
       ∙ append-nil (filter (is_listed v i) (upto k))))
 
-  is_same : (k : ℕ) → is_listed (purged_below v i k) i k ≡ is_listed v i k
-  unfolding purged_below
-  is_same k = ap (λ (r : Rotation). has_key r k) (rest_rotation k) ∙ lists-rest k (tid_rotation v i)
-
-  abbrev gone : FlowsValue → ℕ → FlowsValue
-  gone w k = record w {
-    backlog = after_flush w.backlog k;
-    rotas =
-        record w.rotas { lists = map (λ r. without_key r k) w.rotas.lists };
-  }
-
-  next_gone : (k : ℕ) → is_listed v i k ≡ true → gone (purged_below v i k) k ≡ purged_below v i (suc k)
+  next_gone : (k : ℕ) → is_listed v i k ≡ true → without_queue (purged_below v i k) k ≡ purged_below v i (suc k)
   unfolding purged_below
   next_gone k holds =
       ap (λ (b : BacklogValue). with_lists b (map (without k)
@@ -248,19 +246,57 @@ module _ (v : FlowsValue) (i : ℕ) (apart : AreDisjoint
       (set v.rotas.lists i r)) (same_rotation k (tid_rotation v i)
       (on_order-none (tid_rotation v i) k fails))
 
-  pub purged-next : (k : ℕ) → without_queue (purged_below v i k) i k ≡ purged_below v i (k + 1)
-  purged-next k =
-      let more : k + 1 ≡ suc k = add-one k in
-      rw more (elim (cases_Bool (is_listed v i k)) [
-        | inl holds ↦
-            let taken : without_queue (purged_below v i k) i k ≡ gone (purged_below v i k) k =
-            cond-true (is_listed (purged_below v i k) i k) _ _ (is_same k ∙ holds) in
-            taken ∙ next_gone k holds
-        | inr fails ↦
-            let left : without_queue (purged_below v i k) i k ≡ purged_below v i k =
-            cond-false (is_listed (purged_below v i k) i k) _ _ (is_same k ∙ fails) in
-            left ∙ next_same k fails
-      ])
+  -- queues that the TID does not list are passed over
+  purged-skip : (k d : ℕ) → ((m : ℕ) → k ≤ m → m < k + d → is_listed v i m ≡ false) →
+      purged_below v i k ≡ purged_below v i (k + d)
+  purged-skip k zero none = (let e : k + 0 ≡ k = omega arith in rw e refl)
+  purged-skip k (suc d) none =
+      let e : k + suc d ≡ suc (k + d) = omega arith in
+      rw e (purged-skip k d (λ m past low. none m past (omega arith))
+      ∙ next_same (k + d) (none (k + d) (omega arith) (omega arith)))
+
+  purged-to : (k n : ℕ) → k ≤ n → ((m : ℕ) → k ≤ m → m < n → is_listed v i m ≡ false) →
+      purged_below v i k ≡ purged_below v i n
+  purged-to k n past none =
+      let e : k + (n - k) ≡ n = omega arith in
+      purged-skip k (n - k) (λ m high low. none m high (omega arith)) ∙ ap (purged_below v i) e
+
+  module _ (w : FlowsValue) (k : ℕ) (is : w ≡ purged_below v i k) (few : k ≤ queues v) where
+    listed_past : (m : ℕ) → k ≤ m → is_listed w i m ≡ is_listed v i m
+    unfolding purged_below
+    listed_past m past = ap (λ (u : FlowsValue). is_listed u i m) is
+        ∙ ap (λ (r : Rotation). has_key r m) (rest_rotation k) ∙ has_rest k m (tid_rotation v i) past
+
+    listed_below : (m : ℕ) → m < k → is_listed w i m ≡ false
+    unfolding purged_below
+    listed_below m low = ap (λ (u : FlowsValue). is_listed u i m) is
+        ∙ ap (λ (r : Rotation). has_key r m) (rest_rotation k) ∙ has_none k m (tid_rotation v i) low
+
+    module _ (q : ℕ) (listed : is_listed w i q ≡ true)
+        (least : (m : ℕ) → is_listed w i m ≡ true → q ≤ m) where
+      past : k ≤ q
+      past = elim (cases_lt q k) [
+        | inl low ↦ absurd (cc (sym listed, listed_below q low))
+        | inr high ↦ high
+      ]
+
+      stands : is_listed v i q ≡ true
+      stands = sym (listed_past q past) ∙ listed
+
+      -- the least of its queues is one that there is
+      pub least_there : q < queues v
+      least_there = apart.below i q (on-listed v i q stands)
+
+      between : (m : ℕ) → k ≤ m → m < q → is_listed v i m ≡ false
+      between m high low = elim (cases_Bool (is_listed v i m)) [
+        | inl holds ↦ absurd (omega (arith, least m (listed_past m high ∙ holds)))
+        | inr fails ↦ fails
+      ]
+
+      -- the least of its queues leaves
+      pub purged_next : without_queue w q ≡ purged_below v i (suc q)
+      purged_next = ap (λ (u : FlowsValue). without_queue u q) (is ∙ purged-to k q past between)
+          ∙ next_gone q stands
 
   rest_end : rest_from (queues v) (tid_rotation v i) ≡ no_keys
   rest_end =
@@ -283,10 +319,42 @@ module _ (v : FlowsValue) (i : ℕ) (apart : AreDisjoint
         on-append (tid_rotation v i).old (tid_rotation v i).new y,
       ))))
 
-  pub purged_last : (k : ℕ) → k ≡ queues v → purged_below v i k ≡ after_purge v i
+  -- none of its queues is left
+  pub purged_last : (w : FlowsValue) (k : ℕ) → w ≡ purged_below v i k → k ≤ queues v →
+      tid_rotation w i ≡ no_keys → w ≡ after_purge v i
   unfolding purged_below after_purge
-  purged_last k e = ap (purged_below v i) e ∙ ap
-      (λ (r : Rotation). with_lists (all_flushed v.backlog (queues_of v i)) (set v.rotas.lists i r)) rest_end
+  purged_last w k is few empty =
+      is ∙ purged-to k (queues v) few (λ m high low. sym (listed_past w k is few m high)
+      ∙ ap (λ (r : Rotation). has_key r m) empty)
+      ∙ ap (λ (r : Rotation). with_lists (all_flushed v.backlog (queues_of v i)) (set v.rotas.lists i r)) rest_end
+
+length-without : (k : ℕ) (xs : List ℕ) → length (filter (λ y. not (y == k)) xs) + on xs k ≡ length xs
+length-without k [] = omega (arith, on-nil k)
+length-without k (x ∷ xs) = elim (cases_eq x k) [
+  | inl e ↦ rw (eq-eqb x k e) (omega (
+    arith,
+    length-without k xs,
+    subst (λ (y : ℕ). on (y ∷ xs) k ≡ 1 + on xs k) (sym e) (on-cons_same k xs),
+  ))
+  | inr other ↦ rw (ne_eqb x k other) (omega (arith, length-without k xs, on-cons_other x k xs other))
+]
+
+-- a TID whose queue leaves has fewer queues
+pub fewer_queues : (w : FlowsValue) (i q : ℕ) → is_listed w i q ≡ true →
+    length (in_order (tid_rotation (without_queue w q) i)) < length (in_order (tid_rotation w i))
+fewer_queues w i q listed =
+    let r : Rotation = tid_rotation w i in
+    let s : Rotation = without_key r q in
+    omega (
+      arith,
+      ap (λ (t : Rotation). length (in_order t)) (at-without w.rotas.lists q i),
+      length-append s.old s.new,
+      length-append r.old r.new,
+      length-without q r.old,
+      length-without q r.new,
+      on-append r.old r.new q,
+      on-listed w i q listed,
+    )
 
 pub tids_below : (v : FlowsValue) (i k : ℕ) → tids (purged_below v i k) ≡ tids v
 unfolding purged_below

@@ -1,5 +1,5 @@
 -- What the flow queues keep.
-use Rattle.std.specs.Prelude.{◌≡◌, ℕ, ◌+◌, ◌*◌, ◌<◌, ◌≤◌, pos, ◌-ℤ◌, ◌+ℤ◌, ◌≤ℤ◌, Option, IfSome, Bool, true, if◌then◌else◌, List, length, map, filter, nat_le, slice_index_or, slice_set, [], get_or}
+use Rattle.std.specs.Prelude.{◌≡◌, ℕ, ◌+◌, ◌*◌, ◌<◌, ◌≤◌, pos, ◌-ℤ◌, ◌+ℤ◌, ◌≤ℤ◌, Option, IfSome, Bool, true, List, length, map, filter, nat_le, slice_index_or, slice_set, [], get_or}
 use Rattle.wf_frame.specs.Frames.{FrameValue}
 use Rattle.wf_def_lists.specs.Lengths.{greatest_body}
 use Rattle.wf_def_lists.specs.Table.{upto}
@@ -47,14 +47,13 @@ pub record CanList (v : FlowsValue) (i q : ℕ) : Type 0 where
   pub own : (j : ℕ) → is_listed v j q ≡ true → j ≡ i
   pub overflow : v.flows ≤ q → q ≡ v.flows + i
 
--- a queue of TID i loses its frames and leaves the rotation
-abbrev pub without_queue : FlowsValue → ℕ → ℕ → FlowsValue
-without_queue v i q =
-    if is_listed v i q then record v {
-      backlog = after_flush v.backlog q;
-      rotas =
-          record v.rotas { lists = map (λ r. without_key r q) v.rotas.lists };
-    } else v
+-- a queue loses its frames and leaves the rotation that lists it
+abbrev pub without_queue : FlowsValue → ℕ → FlowsValue
+without_queue v q = record v {
+  backlog = after_flush v.backlog q;
+  rotas =
+      record v.rotas { lists = map (λ r. without_key r q) v.rotas.lists };
+}
 
 -- the keys from k on
 abbrev pub rest_from : ℕ → Rotation → Rotation

@@ -170,7 +170,8 @@ impl Flows {
     /// list, by queue number, each queue from its head. The TID's queues leave its rotation, and their CoDel
     /// states become new.
     ///
-    /// It asks each queue who lists it, since a leave is rare and the frames go by rising queue number.
+    /// It looks for the least of the TID's queues until it has none, so a TID without queues costs next to
+    /// nothing, and the frames go by rising queue number.
     pub fn purge(&mut self, station: u16, tid: u8) -> u32
         requires station { station < self.old.stations }
         requires tid { tid < 8 }
@@ -181,7 +182,7 @@ impl Flows {
     {
         let list = tid_number(station, tid);
         let count = self.queued[list as usize];
-        for q in 0..self.flows + 8 * self.stations {
+        while let Some(q) = self.rota.least_key(list) {
             self.purge_queue(list, q);
         }
         count
@@ -352,21 +353,15 @@ impl Flows {
         Some(taken)
     }
 
-    // Drops the frames of a queue that a TID lists, and takes the queue off its rotation; else nothing.
+    // Drops the frames of a queue that a TID lists, and takes the queue off its rotation.
     fn purge_queue(&mut self, list: u32, q: u32)
         requires list { list < tids self.old }
         requires queue { q < queues self.old }
-        ensures gone { self.new ≡ without_queue self.old list q }
+        requires listed { is_listed self.old list q ≡ true }
+        ensures gone { self.new ≡ without_queue self.old q }
         ensures held { held_in_backlog self.new.backlog ≡ held_in_backlog self.old.backlog }
     {
-        match self.rota.where_is(q) {
-            None => {}
-            Some(place) => {
-                if place.0 == list {
-                    self.queued[list as usize] -= self.waiting.flush(q);
-                    self.rota.remove(q);
-                }
-            }
-        }
+        self.queued[list as usize] -= self.waiting.flush(q);
+        self.rota.remove(q);
     }
 }

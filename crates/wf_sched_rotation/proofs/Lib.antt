@@ -16,3 +16,4 @@ mod RemoveLemmas
 mod RangeLemmas
 mod TurnLemmas
 mod PaidLemmas
+mod LowestLemmas

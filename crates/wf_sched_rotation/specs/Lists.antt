@@ -58,6 +58,12 @@ abbrev pub keys_behind : List ℕ → List ℕ
 keys_behind [] = []
 keys_behind (y ∷ ys) = ys
 
+-- the least of a number and these keys
+pub record IsLeast (number : ℕ) (keys : List ℕ) (least : ℕ) : Type 0 where
+  pub most : least ≤ number
+  pub low : (key : ℕ) → 0 < on keys key → least ≤ key
+  pub stands : least < number → 0 < on keys least
+
 -- the list without a key
 abbrev pub without : ℕ → List ℕ → List ℕ
 without key xs = filter (λ x. not (x == key)) xs

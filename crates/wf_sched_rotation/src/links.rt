@@ -1,6 +1,6 @@
 ghost use Rattle.std.specs.Prelude.{◌≡◌, ℕ, ◌^◌, ◌<◌, ◌≤◌, List, [], ◌∷◌, ◌++◌, length, replicate, IfOk};
 ghost use Rattle.wf_def_rotation.specs.Rotation.{no_keys};
-ghost use Rattle.wf_sched_rotation.specs.Lists.{AllLists, keys_at, with_keys, without, IsOff, AreDisjoint, first_of, keys_behind};
+ghost use Rattle.wf_sched_rotation.specs.Lists.{AllLists, keys_at, with_keys, without, IsOff, AreDisjoint, first_of, keys_behind, IsLeast};
 ghost use Rattle.wf_sched_rotation.specs.Links.{slot_of};
 ghost use Rattle.wf_sched_rotation.specs.declared.Side.{Side as OneSide};
 ghost use Rattle.wf_sched_rotation.specs.declared.Side.TheVariants.{Old};
@@ -157,6 +157,24 @@ impl Links {
             next = self.after(key);
         }
         count
+    }
+
+    /// The least of a number and the keys of a list.
+    pub(crate) fn least_key(&self, list: u32, side: Side, number: u32) -> u32
+        requires in_lists { list < length self.now.lists }
+        requires few { self.now.keys < 2 ^ 32 }
+        ensures least { IsLeast number (keys_at self.now.lists list side) result }
+        ensures disjoint { AreDisjoint self.now }
+    {
+        let mut least = number;
+        let mut seen = 0usize;
+        let mut next = self.first(list, side);
+        while let Some(key) = next {
+            least = least.min(key);
+            seen += 1;
+            next = self.after(key);
+        }
+        least
     }
 
     /// Takes the first key off a list, and puts it last again unless it is this one.

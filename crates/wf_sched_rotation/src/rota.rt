@@ -178,6 +178,21 @@ impl Rota {
         }
     }
 
+    /// The least key of a rotation; None exactly where the rotation has no key.
+    pub fn least_key(&self, list: u32) -> Option<u32>
+        requires { list < length self.now.lists }
+        ensures none { IfNone result (lists_at self.now.lists list ≡ no_keys) }
+        ensures listed { IfSome result (λ key. has_key (lists_at self.now.lists list) key ≡ true) }
+        ensures least { IfSome result (λ key. (other : ℕ) →
+            has_key (lists_at self.now.lists list) other ≡ true → key ≤ other) }
+        ensures below { IfSome result (λ key. key < length self.now.deficits) }
+    {
+        let keys = self.deficits.len() as u32;
+        let old = self.links.least_key(list, Side::Old, keys);
+        let least = self.links.least_key(list, Side::New, old);
+        if least < keys { Some(least) } else { None }
+    }
+
     /// The first key of a list.
     fn first(&self, list: u32, side: Side) -> Option<u32>
         requires { list < length self.now.lists }

@@ -1,17 +1,11 @@
-use Rattle.wf_queue_flows.proofs.Leaves.{purge_fits, purge_keeps, purge_other}
+use Rattle.wf_queue_flows.proofs.Leaves.{purge_fits, purge_keeps}
 use Rattle.wf_queue_flows.proofs.flows.Flows.purge_queue.Goals as goal
 
 pub overflow_sub-index_mut : goal.overflow_sub-index_mut
 overflow_sub-index_mut c = purge_fits _ _ _ c.self.view_is c.self.invariant c.args.list c.args.q _
-    c.flush.result c.in-Some.place.0 _ c.in-Some.ensures.some.0 c.in-Some.ensures.some.1 c.if-place-list.true
-    c.index_mut.ensures.value c.flush.ensures.count
+    c.flush.result c.requires.list c.requires.listed c.index_mut.ensures.value c.flush.ensures.count
 
 pub invariant_of-self : goal.invariant_of-self
 invariant_of-self c = purge_keeps _ _ _ c.self.view_is c.self.invariant c.args.list c.args.q _ c.flush.result
-    c.in-Some.place.0 _ c.in-Some.ensures.some.0 c.in-Some.ensures.some.1 c.if-place-list.true
-    c.index_mut.ensures.value c.flush.ensures.count c.flush.new.self c.remove.new.self c.flush.ensures.flushed
-    c.remove.ensures
-
-pub returns-else-place-list-clause-gone : goal.returns-else-place-list-clause-gone
-returns-else-place-list-clause-gone c = purge_other _ _ _ c.self.view_is c.self.invariant c.args.list c.args.q
-    c.in-Some.place.0 _ c.in-Some.ensures.some.1 c.if-place-list.false
+    c.requires.list c.requires.listed c.index_mut.ensures.value c.flush.ensures.count c.flush.new.self
+    c.remove.new.self c.flush.ensures.flushed c.remove.ensures
