@@ -1,11 +1,12 @@
 -- What a tournament's root holds, and how a node is played again.
-use Rattle.std.proofs.Common.{◌≡◌, ◌≢◌, ℕ, zero, suc, ◌+◌, ◌-◌, ◌*◌, ◌/◌, ◌<◌, ◌≤◌, Bool, true, false, cond, ◌⊎◌, inl, inr, List, ◌∷◌, length, map, drop, replicate, set, get_or, refl, sym, ap, ◌∙◌, arith, get_or-set_other, get_or-set_same}
+use Rattle.std.proofs.Common.{◌≡◌, ◌≢◌, ℕ, zero, suc, ◌+◌, ◌-◌, ◌*◌, ◌/◌, ◌%◌, ◌^◌, ◌<◌, ◌≤◌, Bool, true, false, cond, ◌⊎◌, inl, inr, List, ◌∷◌, length, map, drop, replicate, set, get_or, refl, sym, ap, ◌∙◌, arith, get_or-set_other, get_or-set_same}
 use Rattle.std.proofs.Math.ListN.{length-set, get_or-map}
 use Rattle.std.proofs.lemmas.List.{get_or_past, length-map, length-drop, get_or-drop, drop-set-lt, drop-set-add, map-set, set-get_or, get_or-replicate, length-replicate, drop-replicate}
 use Rattle.std.proofs.lemmas.Bool.Decides.{nat_tests}
 use Rattle.std.proofs.lemmas.Bool.{cases_lt}
+use Rattle.std.proofs.lemmas.Nat.{xor_block}
 use Rattle.std.proofs.Math.Nat.{eq-or-lt_of_le}
-use Rattle.std.specs.Prelude.{slice_index, slice_set}
+use Rattle.std.specs.Prelude.{slice_index, slice_set, bit_xor}
 use Rattle.wf_queue_counted.specs.declared.peak.Candidate.{Candidate}
 use Rattle.wf_queue_counted.specs.Best.{IsBest}
 use Rattle.wf_queue_counted.specs.Tree.{no_candidate, node_at, is_ahead, winner_of, values_of, IsPlayedBut, IsFilledFrom}
@@ -52,6 +53,81 @@ wins a b = record {
   second = record { value = grind (arith, nat_tests); tie = grind (arith, nat_tests) };
   one = elim (either (is_ahead b a) b a) [ inl h ↦ inr h | inr h ↦ inl h ];
 }
+
+same_candidate : (a b : Candidate) → a.value ≡ b.value → a.leaf ≡ b.leaf → a ≡ b
+same_candidate a b value leaf =
+    ap (λ (v : ℕ). let c : Candidate = record { value = v; leaf = a.leaf } in c) value
+    ∙ ap (λ (l : ℕ). let c : Candidate = record { value = b.value; leaf = l } in c) leaf
+
+-- neither of two comes first
+winner_turned : (a b : Candidate) → winner_of a b ≡ winner_of b a
+winner_turned a b =
+    let here : Wins a b (winner_of a b) = wins a b in
+    let there : Wins b a (winner_of b a) = wins b a in
+    let one : IsNoWorse (winner_of a b) (winner_of b a) = elim there.one [
+      | inl e ↦ rw e here.second
+      | inr e ↦ rw e here.first
+    ] in
+    let two : IsNoWorse (winner_of b a) (winner_of a b) = elim here.one [
+      | inl e ↦ rw e there.second
+      | inr e ↦ rw e there.first
+    ] in
+    let value : (winner_of a b).value ≡ (winner_of b a).value = omega (arith, one.value, two.value) in
+    same_candidate (winner_of a b) (winner_of b a) value
+    (omega (arith, one.tie (sym value), two.tie value))
+
+xor_none-bit : (r : ℕ) → r < 2 → bit_xor r 0 ≡ r
+xor_none-bit zero low = refl
+xor_none-bit (suc zero) low = refl
+xor_none-bit (suc (suc r)) low = absurd (omega arith)
+
+xor_one-bit : (r : ℕ) → r < 2 → bit_xor r 1 ≡ 1 - r
+xor_one-bit zero low = refl
+xor_one-bit (suc zero) low = refl
+xor_one-bit (suc (suc r)) low = absurd (omega arith)
+
+-- by halves, of which there are fewer than m
+xor_none : (m n : ℕ) → n ≤ m → bit_xor n 0 ≡ n
+xor_none zero n few = (let e : n ≡ 0 = omega arith in rw e refl)
+xor_none (suc m) n few =
+    let split : n / 2 * 2 ^ 1 + n % 2 ≡ n = omega arith in
+    let low : n % 2 < 2 = omega arith in
+    let less : n / 2 ≤ m = omega arith in
+    sym (ap (λ (k : ℕ). bit_xor k 0) split) ∙ xor_block 1 (n / 2) 0 (n % 2) 0 low (omega arith)
+    ∙ omega (arith, xor_none m (n / 2) less, xor_none-bit (n % 2) low)
+
+-- the other child of a node's parent
+sibling_is : (n : ℕ) → ((n ≡ 2 * (n / 2)) × (bit_xor n 1 ≡ 2 * (n / 2) + 1)) ⊎
+    ((n ≡ 2 * (n / 2) + 1) × (bit_xor n 1 ≡ 2 * (n / 2)))
+sibling_is n =
+    let split : n / 2 * 2 ^ 1 + n % 2 ≡ n = omega arith in
+    let low : n % 2 < 2 = omega arith in
+    let parts : bit_xor n 1 ≡ bit_xor (n / 2) 0 * 2 ^ 1 + bit_xor (n % 2) 1 =
+    sym (ap (λ (k : ℕ). bit_xor k 1) split) ∙ xor_block 1 (n / 2) 0 (n % 2) 1 low (omega arith) in
+    let all : bit_xor n 1 ≡ n / 2 * 2 + (1 - n % 2) =
+    omega (arith, parts, xor_none (n / 2) (n / 2) (omega arith), xor_one-bit (n % 2) low) in
+    elim (cases_lt 0 (n % 2)) [
+      | inl odd ↦ inr (omega arith, omega (arith, all))
+      | inr even ↦ inl (omega arith, omega (arith, all))
+    ]
+
+pub sibling_within : (n count : ℕ) → n < 2 * count → bit_xor n 1 < 2 * count
+sibling_within n count low = elim (sibling_is n) [
+  | inl e ↦ omega (arith, e.1)
+  | inr e ↦ omega (arith, e.1)
+]
+
+-- the winner of a node and its sibling is the winner of their parent's children
+pub winner_above : (nodes : List Candidate) (n : ℕ) →
+    winner_of (node_at nodes n) (node_at nodes (bit_xor n 1))
+    ≡ winner_of (node_at nodes (2 * (n / 2))) (node_at nodes (2 * (n / 2) + 1))
+winner_above nodes n = elim (sibling_is n) [
+  | inl e ↦ ap (λ (k : ℕ). winner_of (node_at nodes k) (node_at nodes (bit_xor n 1))) e.0
+      ∙ ap (λ (k : ℕ). winner_of (node_at nodes (2 * (n / 2))) (node_at nodes k)) e.1
+  | inr e ↦ ap (λ (k : ℕ). winner_of (node_at nodes k) (node_at nodes (bit_xor n 1))) e.0
+      ∙ ap (λ (k : ℕ). winner_of (node_at nodes (2 * (n / 2) + 1)) (node_at nodes k)) e.1
+      ∙ winner_turned (node_at nodes (2 * (n / 2) + 1)) (node_at nodes (2 * (n / 2)))
+]
 
 -- a fact of a node that holds the winner of its two children
 winner_at : (nodes : List Candidate) (count k : ℕ) → IsPlayedBut nodes count 0 → 0 < k → k < count →

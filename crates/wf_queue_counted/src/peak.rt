@@ -95,11 +95,13 @@ impl Peak {
         ensures levels { length self.old + leaf < 2 * 2 ^ (steps.new - steps.old) }
     {
         let mut node = self.count + leaf as usize;
-        self.nodes[node] = Candidate { value, leaf };
+        let mut winner = Candidate { value, leaf };
+        self.nodes[node] = winner;
         while node > 1 {
             steps.tick();
+            let sibling = self.nodes[node ^ 1];
+            winner = winner_of(winner, sibling);
             node /= 2;
-            let winner = winner_of(self.nodes[2 * node], self.nodes[2 * node + 1]);
             self.nodes[node] = winner;
         }
     }

@@ -1,8 +1,10 @@
-use Rattle.std.proofs.Common.{◌≡◌, ◌+◌, ◌-◌, ◌*◌, ◌/◌, ◌<◌, ◌∙◌, ap, sym, arith, length, slice_set}
+use Rattle.std.proofs.Common.{◌≡◌, ◌+◌, ◌-◌, ◌/◌, ◌<◌, ◌∙◌, ap, sym, arith, length, slice_set, get_or-set_same}
+use Rattle.std.specs.Prelude.{bit_xor}
 use Rattle.std.proofs.lemmas.List.{get_or_default}
-use Rattle.wf_queue_counted.specs.Tree.{no_candidate, node_at}
+use Rattle.wf_queue_counted.specs.declared.peak.Candidate.{Candidate}
+use Rattle.wf_queue_counted.specs.Tree.{no_candidate, node_at, winner_of}
 use Rattle.wf_queue_counted.proofs.CostLemmas.{one_more, cost_halved, levels_halved}
-use Rattle.wf_queue_counted.proofs.TreeLemmas.{length_of, leaf_set, values_set, node_played, values_kept}
+use Rattle.wf_queue_counted.proofs.TreeLemmas.{length_of, leaf_set, values_set, node_played, values_kept, sibling_within, winner_above}
 use Rattle.wf_queue_counted.proofs.peak.Peak.set.Goals as goal
 
 pub loop-node-init : goal.loop-node-init
@@ -14,6 +16,8 @@ loop-node-init g c =
     record {
       played = leaf_set c.self.inside.nodes.items c.self.inside.count c.args.leaf c.args.value
           c.self.invariant (omega arith);
+      winner = sym (get_or-set_same c.self.inside.nodes.items (c.self.inside.count + c.args.leaf) _ no_candidate
+          (omega (arith, c.self.invariant.size)));
       count = sym size;
       some = omega (arith, c.self.invariant.some);
       within = omega arith;
@@ -24,20 +28,32 @@ loop-node-init g c =
       levels = rw e (omega arith);
     }
 
+pub index-sibling-requires : goal.index-sibling-requires
+index-sibling-requires g c = omega (
+  arith,
+  c.loop-node.invariant.played.size,
+  sibling_within c.loop-node.node c.loop-node.self-inside.count c.loop-node.invariant.within,
+)
+
 pub loop-node-preserved : goal.loop-node-preserved
 loop-node-preserved g c =
     let inner : c.loop-node.node / 2 < c.loop-node.self-inside.count = omega arith in
-    let first : node_at c.loop-node.self-inside.nodes.items (2 * (c.loop-node.node / 2))
-    ≡ c.index.result.now = get_or_default c.loop-node.self-inside.nodes.items
-    (2 * (c.loop-node.node / 2)) no_candidate c.index.result.now
-    (omega (arith, c.loop-node.invariant.played.size)) ∙ sym c.index.ensures in
-    let second : node_at c.loop-node.self-inside.nodes.items (2 * (c.loop-node.node / 2) + 1)
-    ≡ c.index-in-loop-node.result.now = get_or_default c.loop-node.self-inside.nodes.items
-    (2 * (c.loop-node.node / 2) + 1) no_candidate c.index-in-loop-node.result.now
-    (omega (arith, c.loop-node.invariant.played.size)) ∙ sym c.index-in-loop-node.ensures in
+    let sibling : c.index-sibling.result.now ≡ node_at c.loop-node.self-inside.nodes.items
+    (bit_xor c.loop-node.node 1) = c.index-sibling.ensures
+    ∙ sym (get_or_default c.loop-node.self-inside.nodes.items (bit_xor c.loop-node.node 1) no_candidate
+    c.index-sibling.result.now (omega (
+      arith,
+      c.loop-node.invariant.played.size,
+      sibling_within c.loop-node.node c.loop-node.self-inside.count c.loop-node.invariant.within,
+    ))) in
     record {
       played = node_played _ _ _ _ c.loop-node.invariant.played (omega arith) inner
-          (rw (first, second) c.winner_of-winner.ensures);
+          (c.winner_of-winner.ensures ∙ ap (λ (w : Candidate). winner_of w c.index-sibling.result.now)
+          c.loop-node.invariant.winner ∙ ap (λ (w : Candidate). winner_of
+          (node_at c.loop-node.self-inside.nodes.items c.loop-node.node) w) sibling
+          ∙ winner_above c.loop-node.self-inside.nodes.items c.loop-node.node);
+      winner = sym (get_or-set_same c.loop-node.self-inside.nodes.items (c.loop-node.node / 2) _ no_candidate
+          (omega (arith, c.loop-node.invariant.played.size)));
       count = c.loop-node.invariant.count;
       some = omega arith;
       within = omega arith;

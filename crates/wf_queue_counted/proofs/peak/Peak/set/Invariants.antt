@@ -1,10 +1,11 @@
 use Rattle.std.proofs.Common.{◌≡◌, ◌-◌, ◌+◌, ◌*◌, ◌/◌, ◌^◌, ◌≤◌, ◌<◌, length, slice_set}
-use Rattle.wf_queue_counted.specs.Tree.{IsPlayedBut, values_of}
+use Rattle.wf_queue_counted.specs.Tree.{IsPlayedBut, node_at, values_of}
 use Rattle.wf_queue_counted.proofs.peak.Peak.set.Given as goal
 
 abbrev pub invariant-loop-node : goal.invariant-loop-node
 invariant-loop-node g l = record {
   played : IsPlayedBut l.self-inside.nodes.items l.self-inside.count (l.node / 2);
+  winner : l.winner ≡ node_at l.self-inside.nodes.items l.node;
   count : l.self-inside.count ≡ length l.fn.self;
   some : 0 < l.node;
   within : l.node < 2 * l.self-inside.count;
