@@ -64,7 +64,8 @@ on-without_le r k y =
 abbrev pub all_without : List Rotation → ℕ → List Rotation
 all_without all k = map (λ r. without_key r k) all
 
-pub at-without : (all : List Rotation) (k j : ℕ) → lists_at (all_without all k) j ≡ without_key (lists_at all j) k
+pub at-without : (all : List Rotation) (k j : ℕ) →
+    lists_at (all_without all k) j ≡ without_key (lists_at all j) k
 at-without all k j = elim (cases_lt j (length all)) [
   | inl low ↦ get_or-map (λ r. without_key r k) all j no_keys no_keys low
   | inr past ↦ get_or_past (all_without all k) j no_keys
@@ -132,8 +133,8 @@ module _ (v now : FlowsValue) (counts : List ℕ) (same : v ≡ now) (ok : AreFl
   on_now : (j q : ℕ) → is_listed now j q ≡ true → 0 < on_at v.rotas.lists j q
   on_now j q is = on-listed v j q (subst (λ (w : FlowsValue). is_listed w j q ≡ true) (sym same) is)
 
-  module _ (i q x gone : ℕ) (low : i < tids now) (is : is_listed now i q ≡ true) (read_x : x ≡ get_or counts i x)
-      (count : gone ≡ depth v.backlog.queues q) where
+  module _ (i q x gone : ℕ) (low : i < tids now) (is : is_listed now i q ≡ true)
+      (read_x : x ≡ get_or counts i x) (count : gone ≡ depth v.backlog.queues q) where
     low_i : i < length v.rotas.lists
     low_i = omega (arith, ap (λ (w : FlowsValue). tids w) same, ok.sized.lists)
 

@@ -230,7 +230,8 @@ module _ (v : FlowsValue) (i : ℕ) (apart : AreDisjoint
       ∙ ap (λ (t : List ℕ). filter (is_listed v i) (upto k) ++ t) (one_fails k fails)
       ∙ append-nil (filter (is_listed v i) (upto k))))
 
-  next_gone : (k : ℕ) → is_listed v i k ≡ true → without_queue (purged_below v i k) k ≡ purged_below v i (suc k)
+  next_gone : (k : ℕ) → is_listed v i k ≡ true →
+      without_queue (purged_below v i k) k ≡ purged_below v i (suc k)
   unfolding purged_below
   next_gone k holds =
       ap (λ (b : BacklogValue). with_lists b (map (without k)
@@ -326,7 +327,8 @@ module _ (v : FlowsValue) (i : ℕ) (apart : AreDisjoint
   purged_last w k is few empty =
       is ∙ purged-to k (queues v) few (λ m high low. sym (listed_past w k is few m high)
       ∙ ap (λ (r : Rotation). has_key r m) empty)
-      ∙ ap (λ (r : Rotation). with_lists (all_flushed v.backlog (queues_of v i)) (set v.rotas.lists i r)) rest_end
+      ∙ ap (λ (r : Rotation). with_lists (all_flushed v.backlog (queues_of v i)) (set v.rotas.lists i r))
+      rest_end
 
 length-without : (k : ℕ) (xs : List ℕ) → length (filter (λ y. not (y == k)) xs) + on xs k ≡ length xs
 length-without k [] = omega (arith, on-nil k)

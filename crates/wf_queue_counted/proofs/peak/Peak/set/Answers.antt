@@ -16,7 +16,8 @@ loop-node-init g c =
     record {
       played = leaf_set c.self.inside.nodes.items c.self.inside.count c.args.leaf c.args.value
           c.self.invariant (omega arith);
-      winner = sym (get_or-set_same c.self.inside.nodes.items (c.self.inside.count + c.args.leaf) _ no_candidate
+      winner = sym (get_or-set_same c.self.inside.nodes.items (c.self.inside.count + c.args.leaf) _
+          no_candidate
           (omega (arith, c.self.invariant.size)));
       count = sym size;
       some = omega (arith, c.self.invariant.some);

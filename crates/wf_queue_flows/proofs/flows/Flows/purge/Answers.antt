@@ -40,7 +40,8 @@ purge_queue-requires-clause-queue c = omega (
       c.in-Some.q
       (subst (λ (w : FlowsValue). is_listed w c.tid_number-list.result c.in-Some.q ≡ true)
       c.self-in-loop-q.view_is c.in-Some.ensures.listed)
-      (subst (λ (w : FlowsValue). (m : ℕ) → is_listed w c.tid_number-list.result m ≡ true → c.in-Some.q ≤ m)
+      (subst (λ (w : FlowsValue). (m : ℕ) → is_listed w c.tid_number-list.result m ≡ true →
+      c.in-Some.q ≤ m)
       c.self-in-loop-q.view_is c.in-Some.ensures.least),
 )
 
@@ -57,7 +58,8 @@ loop-q-preserved c =
             c.loop-q.invariant.purged.1 c.in-Some.q
             (subst (λ (w : FlowsValue). is_listed w c.tid_number-list.result c.in-Some.q ≡ true)
             c.self-in-loop-q.view_is c.in-Some.ensures.listed)
-            (subst (λ (w : FlowsValue). (m : ℕ) → is_listed w c.tid_number-list.result m ≡ true → c.in-Some.q ≤ m)
+            (subst (λ (w : FlowsValue). (m : ℕ) → is_listed w c.tid_number-list.result m ≡ true →
+            c.in-Some.q ≤ m)
             c.self-in-loop-q.view_is c.in-Some.ensures.least),
         c.purge_queue.ensures.gone ∙ purged_next c.args.self.now c.tid_number-list.result
             (kept_apart _ _ _ c.self.view_is c.self.invariant)
@@ -66,7 +68,8 @@ loop-q-preserved c =
             c.loop-q.invariant.purged.1 c.in-Some.q
             (subst (λ (w : FlowsValue). is_listed w c.tid_number-list.result c.in-Some.q ≡ true)
             c.self-in-loop-q.view_is c.in-Some.ensures.listed)
-            (subst (λ (w : FlowsValue). (m : ℕ) → is_listed w c.tid_number-list.result m ≡ true → c.in-Some.q ≤ m)
+            (subst (λ (w : FlowsValue). (m : ℕ) → is_listed w c.tid_number-list.result m ≡ true →
+            c.in-Some.q ≤ m)
             c.self-in-loop-q.view_is c.in-Some.ensures.least),
       );
       held = c.purge_queue.ensures.held ∙ c.loop-q.invariant.held;
@@ -98,7 +101,8 @@ least_key-requires c = kept_low _ _ _ _ refl c.self-in-loop-q.invariant (omega (
 
 pub loop-q-smaller : goal.loop-q-smaller
 loop-q-smaller c = subst (λ (w : FlowsValue). length (in_order (tid_rotation w c.tid_number-list.result))
-    < length (in_order (tid_rotation c.loop-q.self c.tid_number-list.result))) (sym c.purge_queue.ensures.gone)
+    < length (in_order (tid_rotation c.loop-q.self c.tid_number-list.result)))
+    (sym c.purge_queue.ensures.gone)
     (fewer_queues c.loop-q.self c.tid_number-list.result c.in-Some.q
     (subst (λ (w : FlowsValue). is_listed w c.tid_number-list.result c.in-Some.q ≡ true)
     c.self-in-loop-q.view_is c.in-Some.ensures.listed))

@@ -36,7 +36,8 @@ invariant_of-self-else-is_more c =
     sym c.holds-is_more.ensures ∙ c.if-is_more.false in
     let at : is_some (get_or c.self.inside.ring.items c.from.result None) ≡ true =
     subst (λ n. is_some (get_or c.self.inside.ring.items n None) ≡ true) (sym c.from.ensures)
-    (subst (λ (b : Buffer). is_some (get_or b.places c.args.place None) ≡ true) (sym c.self.view_is) here) in (
+    (subst (λ (b : Buffer). is_some (get_or b.places c.args.place None) ≡ true) (sym c.self.view_is)
+    here) in (
       c.self.invariant.0,
       c.self.invariant.1,
       c.self.invariant.2,

@@ -7,7 +7,8 @@ use Rattle.wf_sched_rotation.proofs.rota.Rota.least_key.Goals as goal
 
 pub returns-then-least-keys-clause-listed : goal.returns-then-least-keys-clause-listed
 returns-then-least-keys-clause-listed c =
-    subst (λ (v : Rotas). has_key (lists_at v.lists c.args.list) c.least_key-least.result ≡ true) c.self.view_is
+    subst (λ (v : Rotas). has_key (lists_at v.lists c.args.list) c.least_key-least.result ≡ true)
+    c.self.view_is
     (least_listed (lists_at c.self.inside.links.lists c.args.list) c.len-keys.result c.least_key-old.result
     c.least_key-least.result (λ key there. omega (
       arith,
