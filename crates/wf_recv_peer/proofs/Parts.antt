@@ -38,13 +38,13 @@ offsets_of_front octets long low = same_members 0 0 64 64 (offsets_in (take 8 oc
 pub offsets_within : (size : ℕ) (xs : List ℕ) → size ≤ 64 → IsOffsets size xs → IsOffsets 64 xs
 offsets_within size xs narrow rises = rises_wider 0 size 0 64 xs (omega arith) narrow rises
 
-pub answered_wide : (station tid : ℕ) (b : Board) (octets : List ℕ) → nat_lt 64 b.size ≡ true →
-    length octets ≡ 52 → IsWrittenWide octets (wide_answer station tid b) →
-    IsAnswer station tid b (take 52 octets)
-answered_wide station tid b octets wide long written =
-    subst (λ os. IsAnswer station tid b os) (sym (take_all 52 octets (omega arith)))
-    (subst (λ t. MatchBool t (IsWrittenWide octets (wide_answer station tid b))
-    (IsWritten octets (narrow_answer station tid b))) (sym wide) written)
+pub answered_wide : (own base : List ℕ) (tid : ℕ) (b : Board) (octets : List ℕ) → nat_lt 64 b.size ≡ true →
+    length octets ≡ 52 → IsWrittenWide octets (wide_answer own base tid b) →
+    IsAnswer own base tid b (take 52 octets)
+answered_wide own base tid b octets wide long written =
+    subst (λ os. IsAnswer own base tid b os) (sym (take_all 52 octets (omega arith)))
+    (subst (λ t. MatchBool t (IsWrittenWide octets (wide_answer own base tid b))
+    (IsWritten octets (narrow_answer own base tid b))) (sym wide) written)
 
 pub all_alike : {X : Type 0} (x : X) (n : ℕ) (xs : List X) → length xs ≡ n →
     ((k : ℕ) (d : X) → k < n → get_or xs k d ≡ x) → xs ≡ replicate n x

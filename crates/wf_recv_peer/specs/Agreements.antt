@@ -14,16 +14,19 @@ pub record AgreementValue : Type 0 where
   pub buffer : Buffer
 
 pub record PeerValue : Type 0 where
-  pub station : ℕ
+  pub own : List ℕ  -- the station's address
+  pub base : List ℕ  -- the access point's
   pub agreements : List AgreementValue  -- eight, by their TIDs
 
 -- nothing has arrived
 abbrev pub new_agreement : ℕ → ℕ → AgreementValue
 new_agreement start size = record { board = empty_board start size; buffer = empty_buffer 256 start size }
 
-abbrev pub new_peer : ℕ → ℕ → ℕ → PeerValue
-new_peer station start size = record {
-  station = station;
+-- of the station with the address `own`, at the access point with the address `base`
+abbrev pub new_peer : List ℕ → List ℕ → ℕ → ℕ → PeerValue
+new_peer own base start size = record {
+  own = own;
+  base = base;
   agreements =
       replicate 8 (new_agreement start size);
 }

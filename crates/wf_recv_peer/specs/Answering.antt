@@ -1,26 +1,25 @@
--- The BlockAck that a station answers with: from it to the access point, with Duration 0 and what the
--- scoreboard of the TID shows.
+-- The BlockAck that a station with the address `own` answers with: from it to the access point, whose address
+-- is `base`, with Duration 0 and what the scoreboard of the TID shows.
 use Rattle.std.specs.Prelude.{◌≡◌, ℕ, nat_lt, List, take, MatchBool, if◌then◌else◌}
-use Rattle.wf_octets_header.specs.Addresses.{base, address_of_station}
 use Rattle.wf_recv_agreement.specs.Board.{Board}
 use Rattle.wf_octets_block.specs.declared.frames.Ba.{Ba}
 use Rattle.wf_octets_block.specs.declared.frames.WideBa.{WideBa}
 use Rattle.wf_octets_block.specs.Layout.{IsBlockAck, IsWideBa, answer, narrow_form, wide_form, head_octets, head_of_ba, head_of_wide}
 
-abbrev pub narrow_answer : ℕ → ℕ → Board → Ba
-narrow_answer station tid b = record {
+abbrev pub narrow_answer : List ℕ → List ℕ → ℕ → Board → Ba
+narrow_answer own base tid b = record {
   ra = base;
-  ta = address_of_station station;
+  ta = own;
   duration = 0;
   tid = tid;
   start = b.start;
   bits = b.offsets;
 }
 
-abbrev pub wide_answer : ℕ → ℕ → Board → WideBa
-wide_answer station tid b = record {
+abbrev pub wide_answer : List ℕ → List ℕ → ℕ → Board → WideBa
+wide_answer own base tid b = record {
   ra = base;
-  ta = address_of_station station;
+  ta = own;
   duration = 0;
   tid = tid;
   start = b.start;
@@ -40,7 +39,7 @@ pub record IsWrittenWide (octets : List ℕ) (ba : WideBa) : Type 0 where
 abbrev pub answer_size : Board → ℕ
 answer_size b = if nat_lt 64 b.size then 52 else 28
 
-abbrev pub IsAnswer : ℕ → ℕ → Board → List ℕ → Type 0
-IsAnswer station tid b octets =
-    MatchBool (nat_lt 64 b.size) (IsWrittenWide octets (wide_answer station tid b))
-    (IsWritten octets (narrow_answer station tid b))
+abbrev pub IsAnswer : List ℕ → List ℕ → ℕ → Board → List ℕ → Type 0
+IsAnswer own base tid b octets =
+    MatchBool (nat_lt 64 b.size) (IsWrittenWide octets (wide_answer own base tid b))
+    (IsWritten octets (narrow_answer own base tid b))

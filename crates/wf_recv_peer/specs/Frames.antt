@@ -1,6 +1,6 @@
--- The frames that a station takes: from the access point to it, of a traffic identifier below 8.
+-- The frames that a station with the address `own` takes: from the access point, whose address is `base`, to
+-- it, of a traffic identifier below 8.
 use Rattle.std.specs.Prelude.{◌≡◌, ℕ, ◌<◌, List}
-use Rattle.wf_octets_header.specs.Addresses.{base, address_of_station}
 use Rattle.wf_octets_header.specs.Layout.{BeginsWithHeader}
 use Rattle.wf_octets_header.specs.declared.header.Kind.TheVariants.{QosData}
 use Rattle.wf_octets_header.specs.declared.header.Header.{Header}
@@ -8,16 +8,16 @@ use Rattle.wf_octets_block.specs.Layout.{IsBar}
 use Rattle.wf_octets_block.specs.declared.frames.Bar.{Bar}
 
 -- data with this header
-pub record IsDataFor (station : ℕ) (octets : List ℕ) (h : Header) : Type 0 where
+pub record IsDataFor (own base : List ℕ) (octets : List ℕ) (h : Header) : Type 0 where
   pub layout : BeginsWithHeader octets h
   pub kind : h.kind ≡ QosData
-  pub recipient : h.a1 ≡ address_of_station station
+  pub recipient : h.a1 ≡ own
   pub transmitter : h.a2 ≡ base
   pub tid : h.tid < 8
 
 -- a request with these fields
-pub record IsRequestFor (station : ℕ) (octets : List ℕ) (b : Bar) : Type 0 where
+pub record IsRequestFor (own base : List ℕ) (octets : List ℕ) (b : Bar) : Type 0 where
   pub layout : IsBar octets b
-  pub recipient : b.ra ≡ address_of_station station
+  pub recipient : b.ra ≡ own
   pub transmitter : b.ta ≡ base
   pub tid : b.tid < 8

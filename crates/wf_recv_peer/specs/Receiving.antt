@@ -4,7 +4,6 @@ use Rattle.std.specs.Prelude.{ℕ, ◌/◌, ◌%◌, ◌==◌, nat_lt, Bool, fal
 use Rattle.std.specs.Option.{option_map, option_or}
 use Rattle.std.specs.Str.{bytes_eq}
 use Rattle.wf_octets_fields.specs.Fields.{number_at, part}
-use Rattle.wf_octets_header.specs.Addresses.{base, address_of_station}
 use Rattle.wf_octets_header.specs.Layout.{address_1_at, address_2_at, sequence_at, qos_at, address_octets, first_octet}
 use Rattle.wf_octets_header.specs.Faults.{first_header_fault as first_header_fault}
 use Rattle.wf_octets_header.specs.declared.header.Kind.TheVariants.{QosData, BlockAckReq}
@@ -47,18 +46,18 @@ block_fault octets = if is_request_to_peer octets
     then option_map Block (first_block_fault 20 request false octets) else None
 
 -- Address 1 is to be the station's, and Address 2 the access point's
-abbrev pub peer_address_fault : ℕ → List ℕ → Option PeerFault
-peer_address_fault station octets =
-    if bytes_eq (part octets address_1_at address_octets) (address_of_station station)
+abbrev pub peer_address_fault : List ℕ → List ℕ → List ℕ → Option PeerFault
+peer_address_fault own base octets =
+    if bytes_eq (part octets address_1_at address_octets) own
     && bytes_eq (part octets address_2_at address_octets) base then None else Some NotMine
 
 abbrev pub peer_tid_fault : List ℕ → Option PeerFault
 peer_tid_fault octets = if nat_lt (tid_read (reading_of octets)) 8 then None
     else Some (Tid (tid_read (reading_of octets)))
 
--- the first check that fails
-abbrev pub first_peer_fault : ℕ → List ℕ → Option PeerFault
-first_peer_fault station octets =
+-- the first check that fails, at a station with the address `own` whose access point has the address `base`
+abbrev pub first_peer_fault : List ℕ → List ℕ → List ℕ → Option PeerFault
+first_peer_fault own base octets =
     option_or (peer_header_fault octets)
     (option_or (peer_kind_fault octets) (option_or (block_fault octets)
-    (option_or (peer_address_fault station octets) (peer_tid_fault octets))))
+    (option_or (peer_address_fault own base octets) (peer_tid_fault octets))))

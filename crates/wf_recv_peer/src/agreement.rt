@@ -12,7 +12,6 @@ use wf_frame::Ids;
 use wf_octets_bits::{Bits64, Bits256};
 use wf_octets_block::{Ba, WideBa, encode_ba, encode_wide};
 use wf_octets_fields::put;
-use wf_octets_header::{base_address, station_address};
 use wf_octets_seq12::Seq12;
 use wf_recv_agreement::{Reorder, Score};
 
@@ -87,32 +86,33 @@ impl Agreement {
         self.score.size() > 64
     }
 
-    /// Writes the BlockAck of a station's traffic identifier, and answers its size in octets.
-    pub(crate) fn answer(&self, station: u16, tid: u8, out: &mut [u8; 52]) -> usize
+    /// Writes the BlockAck of a traffic identifier, from the station with the address `own` to the access
+    /// point with the address `base`, and answers its size in octets.
+    pub(crate) fn answer(&self, own: [u8; 6], base: [u8; 6], tid: u8, out: &mut [u8; 52]) -> usize
         requires { tid < 8 }
         ensures length { result ≡ answer_size self.now.board }
-        ensures octets { IsAnswer station tid self.now.board (take result out.new) }
+        ensures octets { IsAnswer own base tid self.now.board (take result out.new) }
         ensures rest { drop result out.new ≡ drop result out.old }
     {
         if self.is_wide() {
-            write_wide(&self.score, station, tid, out);
+            write_wide(&self.score, own, base, tid, out);
             52
         } else {
-            write_narrow(&self.score, station, tid, out);
+            write_narrow(&self.score, own, base, tid, out);
             28
         }
     }
 }
 
 /// Writes the BlockAck of 256 numbers.
-fn write_wide(score: &Score, station: u16, tid: u8, out: &mut [u8; 52])
+fn write_wide(score: &Score, own: [u8; 6], base: [u8; 6], tid: u8, out: &mut [u8; 52])
     requires { tid < 8 }
-    ensures { IsWrittenWide out.new (wide_answer station tid score.now) }
+    ensures { IsWrittenWide out.new (wide_answer own base tid score.now) }
 {
     let (start, bits) = score.answer();
     let ba = WideBa {
-        ra: base_address(),
-        ta: station_address(station),
+        ra: base,
+        ta: own,
         duration: 0,
         tid,
         start,
@@ -122,16 +122,16 @@ fn write_wide(score: &Score, station: u16, tid: u8, out: &mut [u8; 52])
 }
 
 /// Writes the BlockAck of 64 numbers.
-fn write_narrow(score: &Score, station: u16, tid: u8, out: &mut [u8; 52])
+fn write_narrow(score: &Score, own: [u8; 6], base: [u8; 6], tid: u8, out: &mut [u8; 52])
     requires tid { tid < 8 }
     requires narrow { score.now.size ≤ 64 }
-    ensures octets { IsWritten (take 28 out.new) (narrow_answer station tid score.now) }
+    ensures octets { IsWritten (take 28 out.new) (narrow_answer own base tid score.now) }
     ensures rest { drop 28 out.new ≡ drop 28 out.old }
 {
     let (start, bits) = score.answer();
     let ba = Ba {
-        ra: base_address(),
-        ta: station_address(station),
+        ra: base,
+        ta: own,
         duration: 0,
         tid,
         start,

@@ -21,11 +21,12 @@ use wf_octets_seq12::Seq12;
 /// How many traffic identifiers have an agreement.
 const TIDS: usize = 8;
 
-/// The receive half of one station: for each traffic identifier 0 to 7 a block acknowledgement agreement with
-/// the access point.
+/// The receive half of one station: its own address and the access point's, and for each traffic identifier 0
+/// to 7 a block acknowledgement agreement with the access point.
 #[derive(Drop)]
 pub struct Peer {
-    station: u16,
+    own: [u8; 6],
+    base: [u8; 6],
     agreements: Vec<Agreement>,
 }
 
@@ -35,7 +36,7 @@ impl Model for Peer {
 
     ghost Value = { PeerValue };
 
-    ghost view = { λ p. record { station = p.station; agreements = p.agreements.items } };
+    ghost view = { λ p. record { own = p.own; base = p.base; agreements = p.agreements.items } };
 
     ghost invariant = { λ p. length p.agreements.items ≡ 8 };
 }
@@ -60,16 +61,20 @@ fn reset_all(agreements: &mut [Agreement], start: Seq12, size: u16)
 }
 
 impl Peer {
-    /// The receive half of the station with this number. Each window is of 256 numbers from 0 on, and nothing
-    /// has arrived.
+    /// The receive half of the station with the address `own`, at the access point with the address `base`.
+    /// It takes frames from `base` to `own`, and its BlockAcks go from `own` to `base`. Both are octets as
+    /// they are in a frame, the first one first (IEEE 802.11-2012, 8.2.4.3). Any six octets will do: no call
+    /// refuses a group address, whose first octet is odd. Each window is of 256 numbers from 0 on, and
+    /// nothing has arrived.
     ///
     /// Fails for want of memory, which no other call takes.
-    pub fn new(alloc: Global, station: u16) -> Result<Peer, AllocError>
-        ensures { IfOk result (λ p. p ≡ new_peer station 0 256) }
+    pub fn new(alloc: Global, own: [u8; 6], base: [u8; 6]) -> Result<Peer, AllocError>
+        ensures { IfOk result (λ p. p ≡ new_peer own base 0 256) }
     {
         let agreements = new_agreements(alloc)?;
         Ok(Peer {
-            station,
+            own,
+            base,
             agreements,
         })
     }
@@ -78,7 +83,7 @@ impl Peer {
     /// numbers. What is stored goes.
     pub fn reset(&mut self, start: Seq12, size: u16)
         requires { (1 ≤ size) × (size ≤ 256) }
-        ensures { self.new ≡ new_peer self.old.station start size }
+        ensures { self.new ≡ new_peer self.old.own self.old.base start size }
     {
         reset_all(&mut self.agreements, start, size);
     }
@@ -96,14 +101,14 @@ impl Peer {
         requires { up.old ≡ [] }
 
         // refused exactly where a check fails, for the first that does
-        ensures fault { result_err result ≡ first_peer_fault self.old.station octets.now }
+        ensures fault { result_err result ≡ first_peer_fault self.old.own self.old.base octets.now }
         ensures unchanged { OnErr result (self.new ≡ self.old) }
         ensures nothing_up { OnErr result (up.new ≡ []) }
 
         // so each frame for the station is taken, and read as its header or its fields say
-        ensures data { (h : Header) → IsDataFor self.old.station octets.now h →
+        ensures data { (h : Header) → IsDataFor self.old.own self.old.base octets.now h →
             IsOk result × (reading_of octets.now ≡ Data h.tid h.seq) }
-        ensures request { (b : Bar) → IsRequestFor self.old.station octets.now b →
+        ensures request { (b : Bar) → IsRequestFor self.old.own self.old.base octets.now b →
             IsOk result × (reading_of octets.now ≡ Request b.tid b.start) }
 
         // then one agreement hears of it, and the others stay
@@ -116,7 +121,7 @@ impl Peer {
             (buffer_of_tid reading self.new)) }
         ensures eight { length self.new.agreements ≡ 8 }
     {
-        let reading = read(self.station, octets)?;
+        let reading = read(self.own, self.base, octets)?;
         let agreement = &mut self.agreements[usize::from(reading.tid())];
         Ok(agreement.hear(reading, id, up))
     }
@@ -126,9 +131,10 @@ impl Peer {
     pub fn answer(&self, tid: u8, out: &mut [u8; 52]) -> usize
         requires { tid < 8 }
         ensures length { result ≡ answer_size (agreement self.now tid).board }
-        ensures octets { IsAnswer self.now.station tid (agreement self.now tid).board (take result out.new) }
+        ensures octets { IsAnswer self.now.own self.now.base tid (agreement self.now tid).board
+            (take result out.new) }
         ensures rest { drop result out.new ≡ drop result out.old }
     {
-        self.agreements[usize::from(tid)].answer(self.station, tid, out)
+        self.agreements[usize::from(tid)].answer(self.own, self.base, tid, out)
     }
 }

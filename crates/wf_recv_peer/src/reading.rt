@@ -4,14 +4,13 @@ ghost use Rattle.std.specs.Prelude.{◌≡◌, ◌<◌, ◌&&◌, IfOk, OnOk};
 ghost use Rattle.std.specs.Option.{option_or};
 ghost use Rattle.std.specs.Str.{bytes_eq};
 ghost use Rattle.wf_octets_fields.specs.Fields.{part};
-ghost use Rattle.wf_octets_header.specs.Addresses.{base, address_of_station};
 ghost use Rattle.wf_octets_header.specs.Layout.{BeginsWithHeader};
 ghost use Rattle.std.specs.Result.{result_err};
 ghost use Rattle.wf_recv_peer.specs.Receiving.{tid_read, reading_of, peer_kind_fault, block_fault, first_peer_fault};
 
 use crate::PeerFault;
 use wf_octets_block::decode_bar;
-use wf_octets_header::{Header, Kind, base_address, decode, station_address};
+use wf_octets_header::{Header, Kind, decode};
 use wf_octets_seq12::Seq12;
 
 /// A frame for the station, as far as its agreements go.
@@ -34,15 +33,15 @@ impl Reading {
     }
 }
 
-/// Reads octets that reach a station.
-pub(crate) fn read(station: u16, octets: &[u8]) -> Result<Reading, PeerFault>
-    ensures fault { result_err result ≡ first_peer_fault station octets.now }
+/// Reads octets that reach the station with the address `own`, whose access point has the address `base`.
+pub(crate) fn read(own: [u8; 6], base: [u8; 6], octets: &[u8]) -> Result<Reading, PeerFault>
+    ensures fault { result_err result ≡ first_peer_fault own base octets.now }
     ensures reading { IfOk result (λ reading. reading ≡ reading_of octets.now) }
     ensures tid { IfOk result (λ reading. tid_read reading < 8) }
 {
     let (header, _) = decode(octets).map_err(PeerFault::Header)?;
     let reading = carried(&header, octets)?;
-    if !is_mine(station, &header) {
+    if !is_mine(own, base, &header) {
         return Err(PeerFault::NotMine);
     }
     let tid = reading.tid();
@@ -78,9 +77,9 @@ fn carried(header: &Header, octets: &[u8]) -> Result<Reading, PeerFault>
     }
 }
 
-/// Whether a frame goes from the access point to the station.
-fn is_mine(station: u16, header: &Header) -> bool
-    ensures { result ≡ (bytes_eq header.now.a1 (address_of_station station) && bytes_eq header.now.a2 base) }
+/// Whether a frame goes to the station with the address `own`, from the access point with the address `base`.
+fn is_mine(own: [u8; 6], base: [u8; 6], header: &Header) -> bool
+    ensures { result ≡ (bytes_eq header.now.a1 own && bytes_eq header.now.a2 base) }
 {
-    header.a1 == station_address(station) && header.a2 == base_address()
+    header.a1 == own && header.a2 == base
 }

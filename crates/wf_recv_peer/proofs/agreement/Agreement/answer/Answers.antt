@@ -7,10 +7,10 @@ use Rattle.wf_recv_peer.proofs.agreement.Agreement.answer.Goals as goal
 
 pub returns-then-is_wide-clause-octets : goal.returns-then-is_wide-clause-octets
 returns-then-is_wide-clause-octets c =
-    answered_wide c.args.station c.args.tid c.args.self.now.board c.write_wide.new.out
+    answered_wide c.args.own c.args.base c.args.tid c.args.self.now.board c.write_wide.new.out
     (sym c.is_wide.ensures ∙ c.if-is_wide.true) c.write_wide.array_long
     (subst (λ (a : AgreementValue). IsWrittenWide c.write_wide.new.out
-    (wide_answer c.args.station c.args.tid a.board)) c.self.view_is c.write_wide.ensures)
+    (wide_answer c.args.own c.args.base c.args.tid a.board)) c.self.view_is c.write_wide.ensures)
 
 pub returns-then-is_wide-clause-rest : goal.returns-then-is_wide-clause-rest
 returns-then-is_wide-clause-rest c =
