@@ -21,6 +21,7 @@ use Rattle.wf_def_world.specs.Step.{Outcome, outcome_of, outcome_where_open, joi
 use Rattle.wf_law_runs.proofs.Deficits.KeptStep.{no_row}
 use Rattle.wf_send_exchanges.specs.declared.marks.Mark.{Mark}
 use Rattle.wf_send_exchanges.specs.Marks.{new_mark}
+use Rattle.wf_octets_header.specs.Addresses.{base}
 use Rattle.wf_recv_peer.specs.Agreements.{PeerValue, new_peer}
 use Rattle.wf_send_half_refines.specs.Half.{TransmitValue}
 use Rattle.wf_send_half_refines.specs.Standing.{StandsFor, IsReached, Meets as PathMeets}
@@ -29,7 +30,7 @@ use Rattle.wf_path.specs.declared.job.Job.{Job}
 use Rattle.wf_path.specs.declared.job.Job.TheVariants.{Call}
 use Rattle.wf_path.specs.Jobs.{IsHeard, note_of, bodies_after, changes_nothing, frame_given_back}
 use Rattle.wf_recv_refines.specs.Arriving.{IsUntold}
-use Rattle.wf_recv_refines.specs.Hearing.{Hears, with_peer, peer_of}
+use Rattle.wf_recv_refines.specs.Hearing.{Hears, HasAddresses, with_peer, peer_of}
 use Rattle.wf_cell.specs.Engines.{EngineValue, EngineIsIn, IsJobDone, EngineMeets}
 use Rattle.wf_cell.specs.Cells.{is_received}
 use Rattle.wf_recv_refines.proofs.Keeping.{untold_hears, refused_hears}
@@ -155,21 +156,23 @@ pub joined_meets : (v : EngineValue) (after : TransmitValue) (answered : ReplyNo
     (record v {
       half = after;
       peers = with_peer s
-          (new_peer (peer_of v.peers s).station number window) v.peers;
+          (new_peer (peer_of v.peers s).own (peer_of v.peers s).base number window) v.peers;
     }) answered
 joined_meets v after answered w bodies s window start exponent weight number i m is same =
     let done : refusal w (Asked (ask.Join s window start exponent weight)) ≡ None =
     is_joined w s window start exponent weight (sym m.reply ∙ is) in
-    let own : (peer_of v.peers s).station ≡ s = i.hears.sized.station s
+    let p : PeerValue = peer_of v.peers s in
+    let its : HasAddresses s p = i.hears.sized.addresses s
     (station_in_range w s window start exponent weight done) in
     record {
       is_in = record {
         half = m.stands;
         hears =
-            subst (λ (p : PeerValue). Hears (with_peer s p v.peers) v.marks
+            subst (λ (q : PeerValue). Hears (with_peer s q v.peers) v.marks
             (step w (Asked (ask.Join s window start exponent weight))).world)
-            (ap (λ k. new_peer k start window) (sym own) ∙ ap
-            (λ k. new_peer (peer_of v.peers s).station k window) (sym same))
+            (ap (λ a. new_peer a base start window) (sym its.own)
+            ∙ (ap (λ a. new_peer p.own a start window) (sym its.base)
+            ∙ ap (λ k. new_peer p.own p.base k window) (sym same)))
             (joined_hears v.peers v.marks w s window start exponent weight i.half.reached i.hears done);
       };
       reply = m.reply;

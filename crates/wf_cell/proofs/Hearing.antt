@@ -1,8 +1,9 @@
 -- Receive halves: new ones, and one that takes octets.
-use Rattle.std.proofs.Common.{◌≡◌, refl, ap, ◌∙◌, subst, ℕ, ◌+◌, ◌<◌, List, [], ◌∷◌, ◌++◌, length, Option, Result, Ok, Err, zero, suc, true, inl, inr, arith, length-append}
+use Rattle.std.proofs.Common.{◌≡◌, refl, ap, sym, ◌∙◌, subst, ℕ, ◌+◌, ◌<◌, List, [], ◌∷◌, ◌++◌, length, Option, Result, Ok, Err, zero, suc, true, inl, inr, arith, length-append}
 use Rattle.std.specs.Prelude.{IsOk, OnOk, slice_index_or, slice_set, ◌%◌}
 use Rattle.std.proofs.lemmas.Bool.{cases_lt}
 use Rattle.std.specs.Result.{is_err}
+use Rattle.wf_octets_header.specs.Addresses.{base, address_of_station}
 use Rattle.wf_octets_header.specs.declared.header.Header.{Header}
 use Rattle.wf_octets_block.specs.declared.frames.Bar.{Bar}
 use Rattle.wf_recv_peer.specs.declared.fault.PeerFault.{PeerFault}
@@ -11,9 +12,9 @@ use Rattle.wf_def_world.specs.World.{Content, Frames, Request}
 use Rattle.wf_def_world.specs.Exchanges.{no_mpdu}
 use Rattle.wf_recv_agreement.specs.Board.{after_number as board_arrived, after_start as board_requested}
 use Rattle.wf_recv_agreement.specs.Buffer.{number_outcome as buffer_arrived, request_outcome as buffer_requested}
-use Rattle.wf_recv_peer.specs.Agreements.{PeerValue, new_peer, agreement}
+use Rattle.wf_recv_peer.specs.Agreements.{PeerValue, agreement}
 use Rattle.wf_recv_peer.specs.Frames.{IsDataFor, IsRequestFor}
-use Rattle.wf_recv_refines.specs.Hearing.{AreNew}
+use Rattle.wf_recv_refines.specs.Hearing.{AreNew, HasAddresses, new_receive_half}
 use Rattle.wf_recv_refines.specs.Arriving.{peer_after, buffer_outcome_of_transmission}
 use Rattle.wf_cell.specs.Octets.{IsSentTo}
 
@@ -31,17 +32,17 @@ before_end (y ∷ ys) x d zero h = refl
 before_end (y ∷ ys) x d (suc k) h = before_end ys x d k (omega arith)
 
 pub one_new : (n : ℕ) (peers : List PeerValue) → AreNew n peers →
-    AreNew (n + 1) (peers ++ new_peer n 0 256 ∷ [])
+    AreNew (n + 1) (peers ++ new_receive_half n 0 256 ∷ [])
 one_new n peers new = record {
-  count = omega (arith, length-append peers (new_peer n 0 256 ∷ []), new.count);
+  count = omega (arith, length-append peers (new_receive_half n 0 256 ∷ []), new.count);
   each = λ s below. elim (cases_lt s n) [
-    | inl before ↦ before_end peers (new_peer n 0 256) (new_peer 0 0 256) s (omega (arith, new.count))
-        ∙ new.each s before
+    | inl before ↦ before_end peers (new_receive_half n 0 256) (new_receive_half 0 0 256) s
+        (omega (arith, new.count)) ∙ new.each s before
     | inr last ↦
         let here : s ≡ length peers = omega (arith, new.count) in
-        ap (λ k. slice_index_or (peers ++ new_peer n 0 256 ∷ []) k (new_peer 0 0 256)) here
-        ∙ at_end peers (new_peer n 0 256) (new_peer 0 0 256)
-        ∙ ap (λ k. new_peer k 0 256) (omega (arith, new.count))
+        ap (λ k. slice_index_or (peers ++ new_receive_half n 0 256 ∷ []) k (new_receive_half 0 0 256)) here
+        ∙ at_end peers (new_receive_half n 0 256) (new_receive_half 0 0 256)
+        ∙ ap (λ k. new_receive_half k 0 256) (omega (arith, new.count))
   ];
 }
 
@@ -50,9 +51,29 @@ none_new = record { count = refl; each = λ s below. absurd (omega arith) }
 
 -- ---- one that takes octets
 
+-- what is for a station is for the receive half that has its addresses
+pub data_for_half : (s : ℕ) (p : PeerValue) (octets : List ℕ) (h : Header) → HasAddresses s p →
+    IsDataFor (address_of_station s) base octets h → IsDataFor p.own p.base octets h
+data_for_half s p octets h its is = record {
+  layout = is.layout;
+  kind = is.kind;
+  recipient = is.recipient ∙ sym its.own;
+  transmitter = is.transmitter ∙ sym its.base;
+  tid = is.tid;
+}
+
+pub request_for_half : (s : ℕ) (p : PeerValue) (octets : List ℕ) (b : Bar) → HasAddresses s p →
+    IsRequestFor (address_of_station s) base octets b → IsRequestFor p.own p.base octets b
+request_for_half s p octets b its is = record {
+  layout = is.layout;
+  recipient = is.recipient ∙ sym its.own;
+  transmitter = is.transmitter ∙ sym its.base;
+  tid = is.tid;
+}
+
 pub record IsTaken (s : ℕ) (octets : List ℕ) (result : Result (Option ℕ) PeerFault) : Type 0 where
-  pub of_data : (h : Header) → IsDataFor s octets h → IsOk result
-  pub of_request : (b : Bar) → IsRequestFor s octets b → IsOk result
+  pub of_data : (h : Header) → IsDataFor (address_of_station s) base octets h → IsOk result
+  pub of_request : (b : Bar) → IsRequestFor (address_of_station s) base octets b → IsOk result
 
 pub is_ok_sent : (s : ℕ) (octets : List ℕ) (result : Result (Option ℕ) PeerFault) → IsTaken s octets result →
     (t i : ℕ) (content : Content) → IsSentTo s t i content octets → IsOk result
@@ -69,7 +90,7 @@ where_ok P (Err fault) ok here = absurd (cc)
 
 -- what a frame leads to, for a frame of whatever kind
 pub record LeadsTo (s : ℕ) (octets : List ℕ) (id : ℕ) (p after : PeerValue) (up : List ℕ) : Type 0 where
-  pub of_data : (h : Header) → IsDataFor s octets h →
+  pub of_data : (h : Header) → IsDataFor (address_of_station s) base octets h →
       (after ≡ record p {
         agreements = slice_set p.agreements h.tid
             (record {
@@ -79,7 +100,7 @@ pub record LeadsTo (s : ℕ) (octets : List ℕ) (id : ℕ) (p after : PeerValue
             });
       })
       × (up ≡ (buffer_arrived h.seq id (agreement p h.tid).buffer).up)
-  pub of_request : (b : Bar) → IsRequestFor s octets b →
+  pub of_request : (b : Bar) → IsRequestFor (address_of_station s) base octets b →
       (after ≡ record p {
         agreements = slice_set p.agreements b.tid
             (record {

@@ -1,8 +1,9 @@
--- What octets on the air say to a station.
+-- What octets on the air say to a station. In a cell both ends have their made-up addresses.
 use Rattle.std.specs.Prelude.{◌≡◌, ℕ, ◌%◌, List}
 use Rattle.wf_def_lists.specs.Table.{at}
 use Rattle.wf_def_world.specs.World.{Content, Frames, Request}
 use Rattle.wf_def_world.specs.Exchanges.{no_mpdu}
+use Rattle.wf_octets_header.specs.Addresses.{base, address_of_station}
 use Rattle.wf_octets_header.specs.declared.header.Header.{Header}
 use Rattle.wf_octets_block.specs.declared.frames.Bar.{Bar}
 use Rattle.wf_recv_peer.specs.Frames.{IsDataFor, IsRequestFor}
@@ -10,14 +11,14 @@ use Rattle.wf_recv_peer.specs.Frames.{IsDataFor, IsRequestFor}
 -- data for station s, of this TID and this number
 pub record SaysData (s tid number : ℕ) (octets : List ℕ) : Type 0 where
   pub header : Header
-  pub is_for : IsDataFor s octets header
+  pub is_for : IsDataFor (address_of_station s) base octets header
   pub tid_is : header.tid ≡ tid
   pub number_is : header.seq ≡ number
 
 -- a BlockAckReq for station s, of this TID and with this start
 pub record SaysRequest (s tid start : ℕ) (octets : List ℕ) : Type 0 where
   pub bar : Bar
-  pub is_for : IsRequestFor s octets bar
+  pub is_for : IsRequestFor (address_of_station s) base octets bar
   pub tid_is : bar.tid ≡ tid
   pub start_is : bar.start ≡ start
 

@@ -4,7 +4,7 @@ ghost use Rattle.std.specs.Prelude.{◌≡◌, ℕ, ◌<◌, ◌≤◌, [], leng
 ghost use Rattle.wf_recv_peer.specs.Agreements.{new_peer};
 ghost use Rattle.wf_recv_refines.specs.Arriving.{buffer_outcome_of_transmission, peer_after};
 ghost use Rattle.wf_def_world.specs.World.{Content};
-ghost use Rattle.wf_recv_refines.specs.Hearing.{AreNew, agreement_of, peer_of, with_peer};
+ghost use Rattle.wf_recv_refines.specs.Hearing.{AreNew, HasAddresses, agreement_of, peer_of, with_peer};
 ghost use Rattle.wf_cell.specs.Octets.{IsForStation, IsSentTo};
 
 use std::alloc::{AllocError, Global};
@@ -12,6 +12,7 @@ use std::marker::Model;
 use wf_frame::Ids;
 use wf_octets_bits::Bits256;
 use wf_octets_block::{decode_ba, decode_wide};
+use wf_octets_header::{base_address, station_address};
 use wf_octets_seq12::Seq12;
 use wf_recv_peer::Peer;
 use wf_send_exchanges::widened;
@@ -49,14 +50,16 @@ impl Model for Peers {
 }
 
 impl Peers {
-    /// The receive halves of so many stations, to which nothing came.
+    /// The receive halves of so many stations, to which nothing came. Each has its made-up address and knows
+    /// the access point by its own.
     pub(crate) fn new(alloc: Global, stations: u32) -> Result<Peers, AllocError>
         requires { stations ≤ 256 }
         ensures { IfOk result (λ made. AreNew stations made) }
     {
         let mut list = Vec::with_capacity(alloc, stations as usize)?;
         for station in 0..stations as u16 {
-            list.push_reserved(Peer::new(alloc, station)?);
+            let peer = Peer::new(alloc, station_address(station), base_address())?;
+            list.push_reserved(peer);
         }
         Ok(Peers { list })
     }
@@ -65,8 +68,8 @@ impl Peers {
     pub(crate) fn reset(&mut self, station: u16, start: Seq12, size: u16)
         requires within { station < length self.old }
         requires size { (1 ≤ size) × (size ≤ 256) }
-        ensures { self.new ≡ with_peer station (new_peer
-            (peer_of self.old station).station start size) self.old }
+        ensures { let p = peer_of self.old station in
+            self.new ≡ with_peer station (new_peer p.own p.base start size) self.old }
     {
         self.list[usize::from(station)].reset(start, size);
     }
@@ -75,13 +78,14 @@ impl Peers {
     /// must be empty.
     pub(crate) fn receive(&mut self, station: u16, octets: &[u8], id: u64, up: &mut Ids)
         requires within { station < length self.old }
-        requires sent { IsForStation (peer_of self.old station).station octets.now }
+        requires addresses { HasAddresses station (peer_of self.old station) }
+        requires sent { IsForStation station octets.now }
         requires empty { up.old ≡ [] }
         ensures heard { (tid i : ℕ) (content : Content) →
-            IsSentTo (peer_of self.old station).station tid i content octets.now →
+            IsSentTo station tid i content octets.now →
             self.new ≡ with_peer station (peer_after tid i id content (peer_of self.old station)) self.old }
         ensures up { (tid i : ℕ) (content : Content) →
-            IsSentTo (peer_of self.old station).station tid i content octets.now →
+            IsSentTo station tid i content octets.now →
             up.new ≡ (buffer_outcome_of_transmission i id content
             (agreement_of self.old station tid).buffer).up }
     {

@@ -29,7 +29,7 @@ use Rattle.wf_recv_peer_refines.specs.Half.{ReceiveHalfStandsFor}
 use Rattle.wf_recv_peer_refines.proofs.Halves.{stands_data, up_data, stands_request, up_request}
 use Rattle.wf_send_half_refines.specs.Standing.{IsReached}
 use Rattle.wf_recv_refines.specs.Arriving.{buffer_outcome_of_transmission, agreement_after_transmission, peer_after, CarriesId, MayReach}
-use Rattle.wf_recv_refines.specs.Hearing.{peer_of, agreement_of, with_peer, ArePeers, carried, StandsForTid, mark_of, Hears}
+use Rattle.wf_recv_refines.specs.Hearing.{peer_of, agreement_of, with_peer, HasAddresses, ArePeers, carried, StandsForTid, mark_of, Hears}
 use Rattle.wf_recv_refines.proofs.Marks.{changed_marks, rises_now}
 use Rattle.wf_recv_refines.proofs.Keeping.{lawful_now, reply_done, config_done, stays_same, stays_stand, hears_stays}
 use Rattle.wf_recv_refines.proofs.Peers.{peer_own, peer_other, sized_with, agreement_own, agreement_other}
@@ -191,13 +191,16 @@ module _ (peers : List PeerValue) (marks : List Mark) (w : World) (e i id : ℕ)
       (sym (peer_other peers x.station s after_it (eq_no s x.station away)))
       (stands_other s t (λ k _. eq_no s x.station away k) live low))
 
+  addressed : HasAddresses x.station (peer_of peers x.station)
+  addressed = h.sized.addresses x.station (station_now w e x reached known)
+
   now_hears : Hears (with_peer x.station after_it peers) (with_changed e (with_arrival i) marks) arrived_world
   unfolding arrived_world after_it
   now_hears = record {
     sized = subst (λ (c : Config). ArePeers c.stations (with_peer x.station after_it peers))
         (sym (arrived_config w x i))
         (sized_with w.config.stations x.station peers after_it (station_now w e x reached known)
-        (h.sized.station x.station (station_now w e x reached known))
+        (record { own = addressed.own; base = addressed.base })
         (length-set (peer_of peers x.station).agreements x.tid _
         ∙ h.sized.eight x.station (station_now w e x reached known)) h.sized);
     agreements = stands_each;

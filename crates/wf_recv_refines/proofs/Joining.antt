@@ -20,11 +20,11 @@ use Rattle.wf_law_runs.proofs.Releases.Kept.{kept_equal}
 use Rattle.wf_law_runs.proofs.Releases.Released.{side_with_station, side_own_station, live_with_station}
 use Rattle.wf_law_driver.proofs.Opened.{step_done}
 use Rattle.wf_send_exchanges.specs.declared.marks.Mark.{Mark}
-use Rattle.wf_recv_peer.specs.Agreements.{PeerValue, agreement, new_agreement, new_peer}
+use Rattle.wf_recv_peer.specs.Agreements.{PeerValue, agreement, new_agreement}
 use Rattle.wf_recv_peer_refines.specs.Half.{ReceiveHalfStandsFor}
 use Rattle.wf_recv_peer_refines.proofs.Halves.{stands_first}
 use Rattle.wf_send_half_refines.specs.Standing.{IsReached}
-use Rattle.wf_recv_refines.specs.Hearing.{peer_of, agreement_of, with_peer, ArePeers, carried, StandsForTid, mark_of, Hears}
+use Rattle.wf_recv_refines.specs.Hearing.{new_receive_half, peer_of, agreement_of, with_peer, ArePeers, carried, StandsForTid, mark_of, Hears}
 use Rattle.wf_recv_refines.proofs.Keeping.{lawful_now, config_done, stays_same, stays_stand, hears_stays}
 use Rattle.wf_recv_refines.proofs.Peers.{peer_own, peer_other, sized_with}
 
@@ -116,10 +116,10 @@ joined_stand : (peers : List PeerValue) (marks : List Mark) (w : World) (s windo
     s < w.config.stations → (1 ≤ window) × (window ≤ 256) → start < 4096 → (i t : ℕ) → is_live
     (join_outcome w s window start exponent weight).world i ≡ true → t < 8 →
     StandsForTid (join_outcome w s window start exponent weight).world i t
-    (agreement_of (with_peer s (new_peer s start window) peers) i t)
+    (agreement_of (with_peer s (new_receive_half s start window) peers) i t)
 joined_stand peers marks w s window start exponent weight lawful h low size small i t live below =
     let v : World = (join_outcome w s window start exponent weight).world in
-    let p : PeerValue = new_peer s start window in
+    let p : PeerValue = new_receive_half s start window in
     let own : peer_of (with_peer s p peers) s ≡ p = peer_own peers s p (omega (arith, h.sized.count, low)) in
     on_bool (s == i)
     (λ yes. subst (λ (k : ℕ). StandsForTid v k t (agreement_of (with_peer s p peers) k t)) (eq_yes s i yes)
@@ -140,7 +140,7 @@ joined_stand peers marks w s window start exponent weight lawful h low size smal
 pub joined_hears : (peers : List PeerValue) (marks : List Mark) (w : World)
     (s window start exponent weight : ℕ) → IsReached w → Hears peers marks w →
     refusal w (Asked (Join s window start exponent weight)) ≡ None →
-    Hears (with_peer s (new_peer s start window) peers) marks
+    Hears (with_peer s (new_receive_half s start window) peers) marks
     (step w (Asked (Join s window start exponent weight))).world
 unfolding outcome_of
 joined_hears peers marks w s window start exponent weight reached h fine =
@@ -152,16 +152,16 @@ joined_hears peers marks w s window start exponent weight reached h fine =
     let low : s < w.config.stations = station_in_range w s window start exponent weight fine in
     let rest = joined_rest w s window start exponent weight in
     let same : Same u v = same_listed (Some s) u in
-    let now : Hears (with_peer s (new_peer s start window) peers) marks u = record {
-      sized = subst (λ (c : Config). ArePeers c.stations (with_peer s (new_peer s start window) peers))
-          (sym rest.1)
-          (sized_with w.config.stations s peers (new_peer s start window) low refl refl h.sized);
+    let p : PeerValue = new_receive_half s start window in
+    let now : Hears (with_peer s p peers) marks u = record {
+      sized = subst (λ (c : Config). ArePeers c.stations (with_peer s p peers)) (sym rest.1)
+          (sized_with w.config.stations s peers p low (record { own = refl; base = refl }) refl h.sized);
       agreements = joined_stand peers marks w s window start exponent weight i h low
           (window_in_range w s window start exponent weight fine)
           (start_in_range w s window start exponent weight fine);
       kept = h.kept ∙ ap (map mark_of) (sym rest.0);
     } in
-    subst (Hears (with_peer s (new_peer s start window) peers) marks) (sym (step_done w note fine))
+    subst (Hears (with_peer s (new_receive_half s start window) peers) marks) (sym (step_done w note fine))
     (hears_stays _ marks marks u v (lawful_joined w s window start exponent weight dead i)
     (stays_same u v same)
     (config_done w note fine ∙ sym rest.1) (now.kept ∙ ap (map mark_of) (sym same.opened)) now)

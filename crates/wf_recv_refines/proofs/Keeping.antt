@@ -27,7 +27,7 @@ use Rattle.wf_recv_peer_refines.proofs.Halves.{other_ids}
 use Rattle.wf_send_exchanges.specs.declared.marks.Mark.{Mark}
 use Rattle.wf_send_half_refines.specs.Standing.{IsReached}
 use Rattle.wf_recv_refines.specs.Arriving.{IsUntold}
-use Rattle.wf_recv_refines.specs.Hearing.{agreement_of, ArePeers, AreNew, carried, StandsForTid, mark_of, Hears}
+use Rattle.wf_recv_refines.specs.Hearing.{agreement_of, HasAddresses, ArePeers, AreNew, carried, StandsForTid, mark_of, Hears}
 
 pub lawful_now : (w : World) → IsReached w → IsLawful w
 lawful_now w r = subst IsLawful (sym r.after) (lawful w.config r.history)
@@ -256,7 +256,7 @@ pub new_hears : (c : Config) (peers : List PeerValue) → AreNew c.stations peer
 new_hears c peers h = record {
   sized = record {
     count = h.count;
-    station = λ s low. ap (λ (p : PeerValue). p.station) (h.each s low);
+    addresses = λ s low. subst (HasAddresses s) (sym (h.each s low)) (record { own = refl; base = refl });
     eight = λ s low. ap (λ (p : PeerValue). length p.agreements) (h.each s low);
   };
   agreements = λ s t live low. absurd (cc live);

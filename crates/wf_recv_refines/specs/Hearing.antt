@@ -5,15 +5,25 @@ use Rattle.std.specs.Option.{option_map}
 use Rattle.wf_def_agreement.specs.Session.{Session, slot}
 use Rattle.wf_def_agreement.specs.Receiver.{Score}
 use Rattle.wf_def_world.specs.World.{World, Exchange, is_live, session, receiver}
+use Rattle.wf_octets_header.specs.Addresses.{base, address_of_station}
 use Rattle.wf_recv_peer.specs.Agreements.{PeerValue, AgreementValue, agreement, new_peer}
 use Rattle.wf_recv_peer_refines.specs.Half.{ReceiveHalfStandsFor}
 use Rattle.wf_send_exchanges.specs.declared.marks.Mark.{Mark}
 
 -- ---- receive halves
 
+-- the receive half of station s when nothing has arrived, with the made-up addresses
+abbrev pub new_receive_half : ℕ → ℕ → ℕ → PeerValue
+new_receive_half s start size = new_peer (address_of_station s) base start size
+
+-- a receive half has the made-up addresses of station s and of the access point
+pub record HasAddresses (s : ℕ) (p : PeerValue) : Type 0 where
+  pub own : p.own ≡ address_of_station s
+  pub base : p.base ≡ base
+
 -- the receive half of a station
 abbrev pub peer_of : List PeerValue → ℕ → PeerValue
-peer_of peers s = slice_index_or peers s (new_peer 0 0 256)
+peer_of peers s = slice_index_or peers s (new_receive_half 0 0 256)
 
 -- the agreement of TID t of a station
 abbrev pub agreement_of : List PeerValue → ℕ → ℕ → AgreementValue
@@ -23,16 +33,16 @@ agreement_of peers s t = agreement (peer_of peers s) t
 abbrev pub with_peer : ℕ → PeerValue → List PeerValue → List PeerValue
 with_peer s p peers = slice_set peers s p
 
--- there is one receive half for each of n stations, by its number, with eight agreements
+-- there is one receive half for each of n stations, by its number, with its addresses and eight agreements
 pub record ArePeers (n : ℕ) (peers : List PeerValue) : Type 0 where
   pub count : length peers ≡ n
-  pub station : (s : ℕ) → s < n → (peer_of peers s).station ≡ s
+  pub addresses : (s : ℕ) → s < n → HasAddresses s (peer_of peers s)
   pub eight : (s : ℕ) → s < n → length (peer_of peers s).agreements ≡ 8
 
 -- new receive halves, to which nothing came
 pub record AreNew (n : ℕ) (peers : List PeerValue) : Type 0 where
   pub count : length peers ≡ n
-  pub each : (s : ℕ) → s < n → peer_of peers s ≡ new_peer s 0 256
+  pub each : (s : ℕ) → s < n → peer_of peers s ≡ new_receive_half s 0 256
 
 -- the id that a number of a session carries
 abbrev pub carried : Session → ℕ → ℕ

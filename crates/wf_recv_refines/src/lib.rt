@@ -25,12 +25,12 @@ ghost use Rattle.wf_def_world.specs.Step.{step};
 ghost use Rattle.wf_send_exchanges.specs.declared.opened.TheConstants.{MOST_OPEN};
 ghost use Rattle.wf_send_exchanges.specs.Marks.{new_mark, with_arrival, with_answer, with_changed};
 ghost use Rattle.wf_send_exchanges.specs.declared.marks.Mark.{Mark};
-ghost use Rattle.wf_recv_peer.specs.Agreements.{PeerValue, new_peer};
+ghost use Rattle.wf_recv_peer.specs.Agreements.{PeerValue};
 ghost use Rattle.wf_send_half_refines.specs.Standing.{IsReached};
 ghost use Rattle.wf_send_half.specs.Bits.{AreShown};
 ghost use Rattle.wf_recv_refines.specs.Answers.{KeepsShown};
 ghost use Rattle.wf_recv_refines.specs.Arriving.{peer_after, buffer_outcome_of_transmission, CarriesId, MayReach, IsUntold};
-ghost use Rattle.wf_recv_refines.specs.Hearing.{peer_of, agreement_of, with_peer, AreNew, kept_of, mark_of, Hears};
+ghost use Rattle.wf_recv_refines.specs.Hearing.{peer_of, agreement_of, with_peer, new_receive_half, AreNew, kept_of, mark_of, Hears};
 ghost use Rattle.wf_recv_refines.specs.Refusing.{mark_in, arrive_refusal, answer_refusal, done_refusal};
 
 /// New receive halves, and no mark, stand for the opening world.
@@ -55,7 +55,7 @@ pub fn a_station_joins()
     ensures hears { (peers : List PeerValue) (marks : List Mark) (w : World)
         (s window start exponent weight : ℕ) → IsReached w → Hears peers marks w →
         refusal w (Asked (Join s window start exponent weight)) ≡ None →
-        Hears (with_peer s (new_peer s start window) peers) marks
+        Hears (with_peer s (new_receive_half s start window) peers) marks
         (step w (Asked (Join s window start exponent weight))).world }
     ensures station { (w : World) (s window start exponent weight : ℕ) →
         refusal w (Asked (Join s window start exponent weight)) ≡ None →

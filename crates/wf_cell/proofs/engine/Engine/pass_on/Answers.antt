@@ -1,4 +1,4 @@
-use Rattle.std.proofs.Common.{◌≡◌, ap, sym, ◌∙◌, subst, ℕ, ◌<◌, List, take, arith}
+use Rattle.std.proofs.Common.{◌≡◌, ap, sym, subst, ℕ, ◌<◌, List, take, arith}
 use Rattle.wf_frame.specs.Frames.{FrameValue}
 use Rattle.wf_def_world.specs.World.{World, Exchange}
 use Rattle.wf_def_world.specs.Exchanges.{transmissions}
@@ -51,6 +51,27 @@ receive-requires-clause-within c =
     let within : k < transmissions x.content = arrives_within w e k x o.known done in
     told_station v w bodies e sent j told
 
+pub receive-requires-clause-addresses : goal.receive-requires-clause-addresses
+receive-requires-clause-addresses c =
+    let w : World = c.requires.world in let bodies : ℕ → FrameValue = c.requires.bodies in
+    let i = c.requires.is_in in let done = c.requires.arrives in
+    let v : EngineValue = record {
+      half = c.self.inside.path;
+      peers = c.self.inside.peers;
+      marks =
+          c.self.inside.marks;
+    } in
+    let j : EngineIsIn v w bodies = subst (λ (u : EngineValue). EngineIsIn u w bodies)
+    (sym c.self.view_is) i in
+    let e : ℕ = c.args.exchange in let k : ℕ = c.args.index in let sent : Sent = c.args.sent in
+    let told = c.requires.told w bodies i in
+    let o : IsOpen w e = told_open w e sent told in
+    let x : Exchange = o.sending in
+    let here : sent.station ≡ x.station = ap (λ (s : Sent). s.station) (told_is w e sent x told o.known) in
+    let within : k < transmissions x.content = arrives_within w e k x o.known done in
+    j.hears.sized.addresses sent.station
+    (omega (arith, told_station v w bodies e sent j told, j.hears.sized.count))
+
 pub receive-requires-clause-sent : goal.receive-requires-clause-sent
 receive-requires-clause-sent c =
     let w : World = c.requires.world in let bodies : ℕ → FrameValue = c.requires.bodies in
@@ -69,15 +90,9 @@ receive-requires-clause-sent c =
     let x : Exchange = o.sending in
     let here : sent.station ≡ x.station = ap (λ (s : Sent). s.station) (told_is w e sent x told o.known) in
     let within : k < transmissions x.content = arrives_within w e k x o.known done in
-    let own : (peer_of c.self.inside.peers sent.station).station ≡ x.station =
-    j.hears.sized.station sent.station (omega (
-      arith,
-      told_station v w bodies e sent j told,
-      j.hears.sized.count,
-    )) ∙ here in
     let octets : List ℕ = take c.written-len.result c.written-len.new.octets in
-    let at_own : IsSentTo (peer_of c.self.inside.peers sent.station).station x.tid k x.content octets =
-    subst (λ s. IsSentTo s x.tid k x.content octets) (sym own)
+    let at_own : IsSentTo sent.station x.tid k x.content octets =
+    subst (λ s. IsSentTo s x.tid k x.content octets) (sym here)
     (c.written-len.ensures.says w bodies x j.half o.known within) in
     record { tid = x.tid; index = k; content = x.content; sent = at_own }
 
@@ -117,15 +132,9 @@ returns-clause-meets c = λ w bodies i done.
     let x : Exchange = o.sending in
     let here : sent.station ≡ x.station = ap (λ (s : Sent). s.station) (told_is w e sent x told o.known) in
     let within : k < transmissions x.content = arrives_within w e k x o.known done in
-    let own : (peer_of c.self.inside.peers sent.station).station ≡ x.station =
-    j.hears.sized.station sent.station (omega (
-      arith,
-      told_station v w bodies e sent j told,
-      j.hears.sized.count,
-    )) ∙ here in
     let octets : List ℕ = take c.written-len.result c.written-len.new.octets in
-    let at_own : IsSentTo (peer_of c.self.inside.peers sent.station).station x.tid k x.content octets =
-    subst (λ s. IsSentTo s x.tid k x.content octets) (sym own)
+    let at_own : IsSentTo sent.station x.tid k x.content octets =
+    subst (λ s. IsSentTo s x.tid k x.content octets) (sym here)
     (c.written-len.ensures.says w bodies x j.half o.known within) in
     let id : ℕ = c.carried_id-id.result in
     let peers : List PeerValue = c.self.inside.peers in

@@ -1,6 +1,6 @@
 use Rattle.std.proofs.Common.{rules, ◌≡◌, ap, sym, ◌∙◌, subst, ℕ, ◌+◌, List, [], ◌∷◌, ◌++◌, arith}
-use Rattle.wf_recv_peer.specs.Agreements.{PeerValue, new_peer}
-use Rattle.wf_recv_refines.specs.Hearing.{AreNew}
+use Rattle.wf_recv_peer.specs.Agreements.{PeerValue}
+use Rattle.wf_recv_refines.specs.Hearing.{AreNew, new_receive_half}
 use Rattle.wf_cell.proofs.Hearing.{one_new, none_new}
 use Rattle.wf_cell.proofs.peers.Peers.new.Goals as goal
 
@@ -15,9 +15,11 @@ pub loop-station-preserved : goal.loop-station-preserved
 loop-station-preserved c =
     let xs : List PeerValue = c.loop-station.list.items in
     let n : ℕ = c.loop-station.station in
-    let grown : c.push_reserved.new.self.items ≡ xs ++ new_peer n 0 256 ∷ [] =
-    c.push_reserved.ensures.items ∙ ap (λ (p : PeerValue). xs ++ p ∷ []) c.in_ok-new.ensures in (
-      subst (λ (ys : List PeerValue). AreNew (n + 1) ys) (sym grown) (one_new n xs c.loop-station.invariant.0),
+    let made : c.in_ok-peer.peer ≡ new_receive_half n 0 256 = search rules in
+    let grown : c.push_reserved.new.self.items ≡ xs ++ new_receive_half n 0 256 ∷ [] =
+    c.push_reserved.ensures.items ∙ ap (λ (p : PeerValue). xs ++ p ∷ []) made in (
+      subst (λ (ys : List PeerValue). AreNew (n + 1) ys) (sym grown)
+          (one_new n xs c.loop-station.invariant.0),
       search rules,
       search rules,
     )
