@@ -6,6 +6,7 @@ ghost use Rattle.wf_path.specs.Jobs.{IsHeard};
 use anyhow::{Result, bail, ensure};
 use std::alloc::Global;
 use wf_frame::{Answer, Ask, Brief, Class, Config, Frame, Ids};
+use wf_octets_header::{base_address, station_address};
 use wf_octets_seq12::Seq12;
 use wf_path::{Job, Path};
 use wf_queue_chain::Parcel;
@@ -38,7 +39,7 @@ struct Air {
 
 impl Air {
     fn new(alloc: Global) -> Result<Air> {
-        let mut station = Peer::new(alloc, STATION)?;
+        let mut station = Peer::new(alloc, station_address(STATION), base_address())?;
         station.reset(Seq12::of(u64::from(START)), WINDOW);
         Ok(Air {
             path: Path::new(alloc, Config::standard())?,

@@ -3,7 +3,7 @@
 ghost use Rattle.std.specs.Prelude.{◌<◌};
 
 use crate::alike::same;
-use std::alloc::AllocError;
+use std::alloc::{AllocError, Global};
 use wf_frame::Ids;
 use wf_octets_bits::{Bits64, Bits256};
 use wf_octets_block::{Ba, BlockFault, WideBa, decode_ba, decode_wide};
@@ -25,6 +25,11 @@ const REQUEST: [u8; 20] = [
 const ANSWER: [u8; 28] = [
     0x94, 0, 0, 0, 2, 0, 0, 0, 0, 0, 2, 0, 0, 1, 0, 0, 0x04, 0, 0x40, 0x06, 2, 0, 0, 0, 0, 0, 0, 0,
 ];
+
+/// The receive half of a station, with the made-up addresses.
+fn peer_of(alloc: Global, station: u16) -> Result<Peer, AllocError> {
+    Peer::new(alloc, station_address(station), base_address())
+}
 
 /// The data frame for station 0 with these octets of Sequence Control and this TID.
 fn data(sequence: [u8; 2], tid: u8) -> [u8; 26] {
@@ -71,7 +76,7 @@ const FAULTS: [(usize, u8, PeerFault); 5] = [
 
 #[test]
 fn hostile_octets_are_refused(rt: HostRuntime) -> Result<(), AllocError> {
-    let mut peer = Peer::new(rt.alloc(), 0)?;
+    let mut peer = peer_of(rt.alloc(), 0)?;
     peer.reset(Seq12::of(100), 64);
     let short = HeaderFault::Short { need: 2, have: 0 };
     same(
@@ -116,7 +121,7 @@ fn last_of_64() -> Ba {
 
 #[test]
 fn a_far_number_moves_the_window(rt: HostRuntime) -> Result<(), AllocError> {
-    let mut peer = Peer::new(rt.alloc(), 0)?;
+    let mut peer = peer_of(rt.alloc(), 0)?;
     peer.reset(Seq12::of(100), 64);
     same(
         &rt,
@@ -131,7 +136,7 @@ fn a_far_number_moves_the_window(rt: HostRuntime) -> Result<(), AllocError> {
 
 #[test]
 fn a_request_releases_what_is_stored(rt: HostRuntime) -> Result<(), AllocError> {
-    let mut peer = Peer::new(rt.alloc(), 0)?;
+    let mut peer = peer_of(rt.alloc(), 0)?;
     peer.reset(Seq12::of(100), 64);
     same(
         &rt,
@@ -163,7 +168,7 @@ fn wide(tid: u8, bits: Bits256) -> WideBa {
 
 #[test]
 fn a_wide_window_has_a_wide_answer(rt: HostRuntime) -> Result<(), AllocError> {
-    let mut peer = Peer::new(rt.alloc(), 3)?;
+    let mut peer = peer_of(rt.alloc(), 3)?;
     peer.reset(Seq12::of(100), 256);
     let mut octets = data([0x40, 0x15], 7);
     octets[9] = 3;
@@ -175,5 +180,42 @@ fn a_wide_window_has_a_wide_answer(rt: HostRuntime) -> Result<(), AllocError> {
     same(&rt, decode_wide(&out), Ok(wide(7, bits)));
     let (_, out) = written(&peer, 6);
     same(&rt, decode_wide(&out), Ok(wide(6, Bits256::empty())));
+    Ok(())
+}
+
+/// Addresses of a station and an access point that a maker gave them.
+const OWN: [u8; 6] = [0x00, 0x1b, 0x21, 0x3c, 0x4d, 0x5e];
+
+const BASE: [u8; 6] = [0x00, 0x0c, 0x42, 0x9a, 0xb1, 0x07];
+
+/// The data frame with number 100 of TID 0 between them.
+const OWN_DATA: [u8; 26] = [
+    0x88, 0x02, 0x30, 0x00, 0x00, 0x1b, 0x21, 0x3c, 0x4d, 0x5e, 0x00, 0x0c, 0x42, 0x9a, 0xb1, 0x07,
+    2, 0, 0, 2, 0, 0, 0x40, 0x06, 0, 0,
+];
+
+/// The BlockAck that answers it.
+const OWN_ANSWER: [u8; 28] = [
+    0x94, 0, 0, 0, 0x00, 0x0c, 0x42, 0x9a, 0xb1, 0x07, 0x00, 0x1b, 0x21, 0x3c, 0x4d, 0x5e, 0x04, 0,
+    0x40, 0x06, 1, 0, 0, 0, 0, 0, 0, 0,
+];
+
+#[test]
+fn a_peer_has_the_addresses_that_it_is_given(rt: HostRuntime) -> Result<(), AllocError> {
+    let mut peer = Peer::new(rt.alloc(), OWN, BASE)?;
+    peer.reset(Seq12::of(100), 64);
+    same(&rt, received(&mut peer, &DATA, 1), Err(PeerFault::NotMine));
+    let mut octets = OWN_DATA;
+    octets[15] = 0x08;
+    same(
+        &rt,
+        received(&mut peer, &octets, 2),
+        Err(PeerFault::NotMine),
+    );
+    same(&rt, received(&mut peer, &OWN_DATA, 3), Ok((1, None)));
+    let (len, out) = written(&peer, 0);
+    same(&rt, len, 28);
+    let (octets, _) = out.split_at(28);
+    same(&rt, octets, OWN_ANSWER.as_slice());
     Ok(())
 }
