@@ -15,30 +15,37 @@ use Rattle.wf_def_world.specs.Step.{concerned_station}
 use Rattle.wf_law_driver.specs.Unheard.{IsSilent}
 use Rattle.wf_send_half_refines.specs.Half.{TransmitValue}
 use Rattle.wf_send_half_refines.specs.Standing.{StandsFor, Meets}
+use Rattle.wf_path.specs.Addresses.{Addresses}
 use Rattle.wf_path.specs.Flags.{Flags, with_flags, AreFlags, FlagsHaveRoom}
 use Rattle.wf_path.specs.Jobs.{changes_nothing}
-use Rattle.wf_path.specs.Paths.{IsTracked, RiseLittle, IsToldBriefly}
+use Rattle.wf_path.specs.Paths.{PathValue, IsTracked, RiseLittle, IsToldBriefly}
 use Rattle.wf_path.proofs.Kept.{Leaves, same_bodies, kept_path, same_config, tracked_station, answered, within_range}
 use Rattle.wf_path.proofs.Rises.{rises_by}
+use Rattle.wf_path.proofs.Values.{half_is, addresses_are, with_half}
 
 -- there is a flag for each station
 pub room_for : (x : TransmitValue) (r : Flags) (s : ℕ) → AreFlags x r → s < x.config.stations →
     FlagsHaveRoom r s
 room_for x r s flags low c = omega (arith, (flags c).stations, low)
 
--- x are the fields of the path v, and u what a call of it leaves
+-- x is the half of the path p, a are its addresses, and u is what a call of it leaves of the half
 module _ (x : TransmitValue) (r : Flags) (h : IsTracked x r) (ask : Ask) (reply : ReplyNote)
     (u : TransmitValue) (meets : Leaves x u same_bodies (Asked ask) reply) where
-  pub told_briefly : (v : TransmitValue) → x ≡ v → (brief : Brief) →
+  pub told_briefly : (a : Addresses) (p : PathValue) →
+      ◌≡◌ {A = PathValue} (record { half = x; addresses = a }) p → (brief : Brief) →
       ((pairs : List (ℕ × ℕ)) (ids : List ℕ) → reply_with brief pairs ids ≡ reply) → IsSilent (Asked ask) →
-      (changes_nothing reply ≡ true → u ≡ x) → IsToldBriefly v ask u brief
-  told_briefly v same brief says quiet stays pairs = record {
+      (changes_nothing reply ≡ true → u ≡ x) →
+      IsToldBriefly p ask (record { half = u; addresses = a }) brief
+  told_briefly a p same brief says quiet stays pairs = record {
     meets = λ w bodies ids st. subst (λ (z : ReplyNote). Meets w bodies (Asked ask) u z)
         (sym (says pairs ids)) (meets w bodies (subst (λ (z : TransmitValue). StandsFor z w bodies)
-        (sym same) st));
-    refused = λ ids is. stays (ap changes_nothing (sym (says pairs ids)) ∙ is) ∙ same;
+        (sym (half_is same)) st));
+    refused = λ ids is. ap (λ (z : TransmitValue). with_half a z)
+        (stays (ap changes_nothing (sym (says pairs ids)) ∙ is)) ∙ same;
+    addresses = addresses_are same;
     path = kept_path x u same_bodies (Asked ask) reply meets quiet h.path;
-    rises = subst (λ (z : TransmitValue). RiseLittle z u) same (rises_by x u h.path h.path.bodies (Asked ask)
+    rises = subst (λ (z : TransmitValue). RiseLittle z u) (half_is same) (rises_by x u h.path h.path.bodies
+        (Asked ask)
         reply (meets h.path.world h.path.bodies h.path.stands));
   }
 

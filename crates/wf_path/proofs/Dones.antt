@@ -41,11 +41,13 @@ use Rattle.wf_send_half_refines.proofs.Readers.{exchange_same}
 use Rattle.wf_send_half_refines.proofs.Whole.{arrive_stands, answer_stands}
 use Rattle.wf_send_half.proofs.Dones.{refused_done, ends_unknown}
 use Rattle.wf_path.proofs.Opened.{open_within, open_low}
+use Rattle.wf_path.specs.Addresses.{Addresses}
 use Rattle.wf_path.specs.Driver.{IsEnded}
 use Rattle.wf_path.specs.Flags.{Flags, flags_in, with_flag}
-use Rattle.wf_path.specs.Paths.{IsPath, IsTracked, IsSmall, RiseLittle}
+use Rattle.wf_path.specs.Paths.{PathValue, IsPath, IsTracked, IsSmall, RiseLittle}
 use Rattle.wf_path.proofs.Flags.{AreNearly, set_alone}
 use Rattle.wf_path.proofs.Rises.{rise_little}
+use Rattle.wf_path.proofs.Values.{half_is, addresses_are, with_half}
 use Rattle.wf_def_world.specs.Refusals.{is_bad_air}
 
 pub has_world : (v : TransmitValue) → IsPath v → HasWorld v
@@ -222,27 +224,28 @@ module _ (x : TransmitValue) (r : Flags) (h : IsTracked x r) (u : TransmitValue)
               air result done i d (out_of i d out));
         }
 
-  -- v is the path's value before
-  module _ (v : TransmitValue) (same : x ≡ v) (b : Brief)
+  -- p is the path before, and a are its addresses
+  module _ (a : Addresses) (p : PathValue)
+      (same : ◌≡◌ {A = PathValue} (record { half = x; addresses = a }) p) (b : Brief)
       (says : (pairs : List (ℕ × ℕ)) (ids : List ℕ) →
       reply_of_result ended_reply result ≡ reply_with b pairs ids)
       (acked : (acked waiting failed : ℕ) → b ≡ brief.Ended acked waiting failed →
       IfSome (find (λ y. y.number == e) x.opened) (λ y. acked ≡ count_shown_of x heard y)) where
-    before : (w : World) (bodies : ℕ → FrameValue) → StandsFor v w bodies → StandsFor x w bodies
-    before w bodies st = subst (λ (z : TransmitValue). StandsFor z w bodies) (sym same) st
+    before : (w : World) (bodies : ℕ → FrameValue) → StandsFor p.half w bodies → StandsFor x w bodies
+    before w bodies st = subst (λ (z : TransmitValue). StandsFor z w bodies) (sym (half_is same)) st
 
     lost_if : (o : Option (ℕ × List ℕ)) → IfNone o
         ((w : World) (bodies : ℕ → FrameValue) → StandsFor x w bodies →
         Meets w bodies (Asked (Done e false air)) u (reply_of_result ended_reply result)) →
         IfNone o ((w : World) (bodies : ℕ → FrameValue) (pairs : List (ℕ × ℕ)) (ids : List ℕ) →
-        StandsFor v w bodies → Meets w bodies (Asked (Done e false air)) u (reply_with b pairs ids))
+        StandsFor p.half w bodies → Meets w bodies (Asked (Done e false air)) u (reply_with b pairs ids))
     lost_if None f = λ w bodies pairs ids st. subst
         (λ (z : ReplyNote). Meets w bodies (Asked (Done e false air)) u z) (says pairs ids)
         (f w bodies (before w bodies st))
     lost_if (Some score) f = tt
 
     pub is_ended : ((why : Refusal) → end_refusal x e air ≡ Some why → (b ≡ brief.Refused why) × (u ≡ x)) →
-        IsEnded v e heard air u b
+        IsEnded p e heard air (record { half = u; addresses = a }) b
     is_ended refuses = record {
       lost = lost_if heard done.lost;
       shown = shown_if heard done.shown;
@@ -255,17 +258,18 @@ module _ (x : TransmitValue) (r : Flags) (h : IsTracked x r) (u : TransmitValue)
           (meets_unheard x u w bodies (before w bodies st) un e heard air result done caller);
       acked_where = λ w bodies caller y st un known fine.
           acked_where_shown w st.reached un caller e y known air fine heard;
-      acked = λ a i f is. subst (λ (z : TransmitValue).
-          IfSome (find (λ y. y.number == e) z.opened) (λ y. a ≡ count_shown_of z heard y)) same
-          (acked a i f is);
+      acked = λ n i f is. subst (λ (z : TransmitValue).
+          IfSome (find (λ y. y.number == e) z.opened) (λ y. n ≡ count_shown_of z heard y)) (half_is same)
+          (acked n i f is);
       refused = λ why is.
-          let k = refuses why (ap (λ (z : TransmitValue). end_refusal z e air) same ∙ is) in
-          (k.0, k.1 ∙ same);
+          let k = refuses why (ap (λ (z : TransmitValue). end_refusal z e air) (half_is same) ∙ is) in
+          (k.0, ap (λ (z : TransmitValue). with_half a z) k.1 ∙ same);
       not_open = λ e'. let k = refuses NoExchange (ends_unknown x e air
-          (sym (ap (λ (z : TransmitValue). find (λ y. y.number == e) z.opened) same ∙ e'))) in
-          (k.0, k.1 ∙ same);
+          (sym (ap (λ (z : TransmitValue). find (λ y. y.number == e) z.opened) (half_is same) ∙ e'))) in
+          (k.0, ap (λ (z : TransmitValue). with_half a z) k.1 ∙ same);
+      addresses = addresses_are same;
       path = ended_path;
-      rises = subst (λ (z : TransmitValue). RiseLittle z u) same rises;
+      rises = subst (λ (z : TransmitValue). RiseLittle z u) (half_is same) rises;
     }
       where
         shown_if : (o : Option (ℕ × List ℕ)) → IfSome o
@@ -274,7 +278,7 @@ module _ (x : TransmitValue) (r : Flags) (h : IsTracked x r) (u : TransmitValue)
             AreShown w y answer (Some score) → Meets w bodies (Asked (Done e true air)) u
             (reply_of_result ended_reply result)) →
             IfSome o (λ score. (w : World) (bodies : ℕ → FrameValue) (y : Exchange) (answer : Score)
-            (pairs : List (ℕ × ℕ)) (ids : List ℕ) → StandsFor v w bodies → exchange w e ≡ Some y →
+            (pairs : List (ℕ × ℕ)) (ids : List ℕ) → StandsFor p.half w bodies → exchange w e ≡ Some y →
             y.answer ≡ Some answer → AreShown w y answer (Some score) →
             Meets w bodies (Asked (Done e true air)) u (reply_with b pairs ids))
         shown_if None f = tt
@@ -317,9 +321,11 @@ module _ (x : TransmitValue) (r : Flags) (h : IsTracked x r) (e : ℕ) (heard : 
     refused = (unknown, refl);
   }
 
-  pub nothing_ended : (v : TransmitValue) → x ≡ v → IsEnded v e heard air v (brief.Refused NoExchange)
-  nothing_ended v same =
-      subst (λ (z : TransmitValue). IsEnded v e heard air z (brief.Refused NoExchange)) same
-      (is_ended x r h x e heard air (Err NoExchange) unchanged v same (brief.Refused NoExchange)
+  pub nothing_ended : (a : Addresses) (p : PathValue) →
+      ◌≡◌ {A = PathValue} (record { half = x; addresses = a }) p →
+      IsEnded p e heard air p (brief.Refused NoExchange)
+  nothing_ended a p same =
+      subst (λ (z : PathValue). IsEnded p e heard air z (brief.Refused NoExchange)) same
+      (is_ended x r h x e heard air (Err NoExchange) unchanged a p same (brief.Refused NoExchange)
       (λ pairs ids. refl) (λ a i f is. absurd (cc is))
       (λ why is. (ap brief.Refused (cc (unknown, is)), refl)))

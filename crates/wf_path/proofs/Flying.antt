@@ -26,6 +26,7 @@ use Rattle.wf_send_half.specs.Half.{HasWorld}
 use Rattle.wf_send_half.proofs.Dones.{IsKnown, known_of, none_open}
 use Rattle.wf_send_half.proofs.Ends.{IsData, sends as data_sent, begun}
 use Rattle.wf_octets_header.specs.Layout.{header_as_octets}
+use Rattle.wf_path.specs.Addresses.{Addresses}
 use Rattle.wf_path.specs.Transmissions.{transmission_id, transmission_tag, transmission_header, id_sent, tag_sent, header_of, header_sent}
 use Rattle.wf_path.specs.Writing.{no_data_fault, write_header_fault}
 use Rattle.std.specs.Option.{option_map_or}
@@ -249,15 +250,16 @@ module _ (v : TransmitValue) (e : ℕ) (o : Open) (index seq : ℕ)
 
   -- its header, and that there is one
   module _ (w : World) (bodies : ℕ → FrameValue) (h : StandsFor v w bodies) where
-    pub header_is : (header : Header) (head : List ℕ) →
-        ((x : Exchange) (m : Mpdu) → IsInFlight v o index w bodies x m → header ≡ header_of w bodies x m) →
-        head ≡ header_as_octets header → header_sent w bodies e index ≡ Some head
-    header_is header head is_header is_head =
+    pub header_is : (a : Addresses) (header : Header) (head : List ℕ) →
+        ((x : Exchange) (m : Mpdu) → IsInFlight v o index w bodies x m → header ≡ header_of a w bodies x m) →
+        head ≡ header_as_octets header → header_sent a w bodies e index ≡ Some head
+    header_is a header head is_header is_head =
         let k : IsFound v w bodies e o index = found_in w bodies h in
-        let own : head ≡ header_as_octets (header_of w bodies k.exchange_is k.mpdu) =
+        let own : head ≡ header_as_octets (header_of a w bodies k.exchange_is k.mpdu) =
         is_head ∙ ap header_as_octets (is_header k.exchange_is k.mpdu k.flight) in
-        ap (option_and_then (λ x. transmission_header w bodies x index)) k.known
-        ∙ ap (option_map (λ (z : Mpdu). header_as_octets (header_of w bodies k.exchange_is z))) k.flight.among
+        ap (option_and_then (λ x. transmission_header a w bodies x index)) k.known
+        ∙ ap (option_map (λ (z : Mpdu). header_as_octets (header_of a w bodies k.exchange_is z)))
+        k.flight.among
         ∙ sym (ap Some own)
 
     pub header_there : None ≡ write_header_fault w e index

@@ -21,6 +21,7 @@ use Rattle.wf_send_half.specs.Half.{HasWorld}
 use Rattle.wf_send_half.proofs.Dones.{IsKnown, known_of, none_open}
 use Rattle.wf_send_half.proofs.Ends.{begun}
 use Rattle.wf_path.specs.Transmissions.{sent_of}
+use Rattle.wf_path.specs.Addresses.{Addresses}
 use Rattle.wf_path.specs.Answers.{answer_fault, read_fault}
 use Rattle.wf_path.specs.declared.faults.DoneFault.TheVariants.{NoExchange}
 
@@ -63,24 +64,25 @@ module _ (v : TransmitValue) (some : HasWorld v) (e : ℕ) (o : Open)
 -- ---- its answer
 
 module _ (v : TransmitValue) (w : World) (bodies : ℕ → FrameValue) (h : StandsFor v w bodies) (e : ℕ)
-    (octets : List ℕ) where
-  pub none_answered : None ≡ find (λ x. x.number == e) v.opened → Some NoExchange ≡ read_fault w e octets
+    (octets : List ℕ) (a : Addresses) where
+  pub none_answered : None ≡ find (λ x. x.number == e) v.opened → Some NoExchange ≡ read_fault a w e octets
   none_answered is = sym (ap (λ o. option_map_or
-      (λ x. answer_fault (is_wide w x.station x.tid) x.station x.tid octets) o (Some NoExchange))
+      (λ x. answer_fault a (is_wide w x.station x.tid) x.station x.tid octets) o (Some NoExchange))
       (none_open v w bodies h e is))
 
   pub some_answered : (o : Open) (wide : Bool) → Some o ≡ find (λ x. x.number == e) v.opened →
-      wide ≡ is_wide_of v o.station o.tid → answer_fault wide o.station o.tid octets ≡ read_fault w e octets
+      wide ≡ is_wide_of v o.station o.tid → answer_fault a wide o.station o.tid octets ≡ read_fault a w e
+      octets
   some_answered o wide is told =
       let k : IsKnown w e o = known_of v w bodies h e o is in
       let x : Exchange = k.exchange_is in
       let same : is_wide_of v x.station x.tid ≡ is_wide w x.station x.tid =
       wide_same v w bodies x.station x.tid h.parts (live v w bodies h e x k.known)
       (low v w bodies h e x k.known) in
-      ap (λ b. answer_fault b o.station o.tid octets) told
-      ∙ ap (λ (z : Open). answer_fault (is_wide_of v z.station z.tid) z.station z.tid octets) k.same
-      ∙ ap (λ b. answer_fault b x.station x.tid octets) same
-      ∙ sym (ap (λ o. option_map_or (λ y. answer_fault (is_wide w y.station y.tid) y.station y.tid octets) o
+      ap (λ b. answer_fault a b o.station o.tid octets) told
+      ∙ ap (λ (z : Open). answer_fault a (is_wide_of v z.station z.tid) z.station z.tid octets) k.same
+      ∙ ap (λ b. answer_fault a b x.station x.tid octets) same
+      ∙ sym (ap (λ o. option_map_or (λ y. answer_fault a (is_wide w y.station y.tid) y.station y.tid octets) o
       (Some NoExchange)) k.known)
 
 -- ---- what it sends, in short

@@ -32,12 +32,14 @@ use Rattle.wf_send_half_refines.proofs.Readers.{class_count_same, live_same}
 use Rattle.wf_send_half_refines.proofs.Spared.{ready_refused}
 use Rattle.wf_send_stations.specs.declared.members.Member.{Member}
 use Rattle.wf_send_stations.specs.Members.{member}
+use Rattle.wf_path.specs.Addresses.{Addresses}
 use Rattle.wf_path.specs.Flags.{Flags, flags_in, with_flag, AreFlags}
 use Rattle.wf_path.specs.Jobs.{changes_nothing}
-use Rattle.wf_path.specs.Paths.{IsTracked, RiseLittle, IsAnswered}
+use Rattle.wf_path.specs.Paths.{PathValue, IsTracked, RiseLittle, IsAnswered}
 use Rattle.wf_path.proofs.Flags.{AreNearly, all_set, set_alone}
 use Rattle.wf_path.proofs.Kept.{Leaves, same_bodies, kept_path, same_config, nearly}
 use Rattle.wf_path.proofs.Rises.{rises_by}
+use Rattle.wf_path.proofs.Values.{half_is, addresses_are, with_half}
 
 -- ---- the world
 
@@ -239,22 +241,25 @@ send_only (brief.Refused refusal) pairs e s t air part more is = absurd (cc is)
 
 -- ---- a whole pull
 
--- x are the fields of the path v, and u what a pull of it leaves
+-- x is the half of the path p, a are its addresses, and u is what a pull of it leaves of the half
 module _ (x : TransmitValue) (r : Flags) (h : IsTracked x r) (c : Class) (b : Brief) (pairs : List (ℕ × ℕ))
     (u : TransmitValue) (meets : Leaves x u same_bodies (Asked (Pull c)) (reply_with b pairs [])) where
   met : Meets h.path.world h.path.bodies (Asked (Pull c)) u (reply_with b pairs [])
   met = meets h.path.world h.path.bodies h.path.stands
 
-  pub pull_answered : (v : TransmitValue) → x ≡ v →
+  pub pull_answered : (a : Addresses) (p : PathValue) →
+      ◌≡◌ {A = PathValue} (record { half = x; addresses = a }) p →
       (nat_le x.config.inflight (count_by (λ y. same_class y.class c) x.opened) ≡ true → u ≡ x) →
-      IsAnswered v (Pull c) u b pairs
-  pull_answered v same full = record {
+      IsAnswered p (Pull c) (record { half = u; addresses = a }) b pairs
+  pull_answered a p same full = record {
     meets = λ w bodies ids st. pull_met w bodies c u b pairs ids
-        (meets w bodies (subst (λ (z : TransmitValue). StandsFor z w bodies) (sym same) st));
-    refused = λ ids is. full_or_same x u h.path.world h.path.bodies c b pairs ids h.path.stands
-        (pull_met h.path.world h.path.bodies c u b pairs ids met) full is ∙ same;
+        (meets w bodies (subst (λ (z : TransmitValue). StandsFor z w bodies) (sym (half_is same)) st));
+    refused = λ ids is. ap (λ (z : TransmitValue). with_half a z)
+        (full_or_same x u h.path.world h.path.bodies c b pairs ids h.path.stands
+        (pull_met h.path.world h.path.bodies c u b pairs ids met) full is) ∙ same;
+    addresses = addresses_are same;
     path = kept_path x u same_bodies (Asked (Pull c)) (reply_with b pairs []) meets tt h.path;
-    rises = subst (λ (z : TransmitValue). RiseLittle z u) same (rises_by x u h.path h.path.bodies
+    rises = subst (λ (z : TransmitValue). RiseLittle z u) (half_is same) (rises_by x u h.path h.path.bodies
         (Asked (Pull c)) (reply_with b pairs []) met);
   }
 

@@ -6,11 +6,11 @@ use Rattle.std.specs.Str.{bytes_eq}
 use Rattle.wf_def_air.specs.Airtime.{block_ack_octets}
 use Rattle.wf_octets_bits.specs.Offsets.{offsets_in}
 use Rattle.wf_octets_fields.specs.Fields.{number_at, part}
-use Rattle.wf_octets_header.specs.Addresses.{base, address_of_station}
 use Rattle.wf_octets_header.specs.Layout.{address_1_at, address_2_at, address_octets}
 use Rattle.wf_octets_block.specs.Layout.{answer}
 use Rattle.wf_octets_block.specs.Faults.{first_block_fault}
 use Rattle.wf_def_world.specs.World.{World, exchange, is_wide}
+use Rattle.wf_path.specs.Addresses.{Addresses, address_in}
 use Rattle.wf_path.specs.declared.faults.DoneFault.{DoneFault}
 use Rattle.wf_path.specs.declared.faults.DoneFault.TheVariants.{NoExchange, Block, NotMine, WrongTid}
 
@@ -47,20 +47,20 @@ abbrev pub layout_fault : Bool → List ℕ → Option DoneFault
 layout_fault wide octets = option_map Block (first_block_fault (block_ack_octets wide) answer wide octets)
 
 -- it is to the access point, from station s
-abbrev pub address_fault : ℕ → List ℕ → Option DoneFault
-address_fault s octets = if bytes_eq (recipient_in octets) base
-    && bytes_eq (transmitter_in octets) (address_of_station s) then None else Some NotMine
+abbrev pub address_fault : Addresses → ℕ → List ℕ → Option DoneFault
+address_fault a s octets = if bytes_eq (recipient_in octets) a.base
+    && bytes_eq (transmitter_in octets) (address_in a s) then None else Some NotMine
 
 -- it is of TID t
 abbrev pub tid_fault : ℕ → List ℕ → Option DoneFault
 tid_fault t octets = if tid_in octets == t then None else Some (WrongTid (tid_in octets))
 
 -- the first check that fails, of an answer to what is sent to TID t of station s
-abbrev pub answer_fault : Bool → ℕ → ℕ → List ℕ → Option DoneFault
-answer_fault wide s t octets = option_or (layout_fault wide octets)
-    (option_or (address_fault s octets) (tid_fault t octets))
+abbrev pub answer_fault : Addresses → Bool → ℕ → ℕ → List ℕ → Option DoneFault
+answer_fault a wide s t octets = option_or (layout_fault wide octets)
+    (option_or (address_fault a s octets) (tid_fault t octets))
 
 -- the first check that fails, of an answer to exchange e
-abbrev pub read_fault : World → ℕ → List ℕ → Option DoneFault
-read_fault w e octets = option_map_or (λ x. answer_fault (is_wide w x.station x.tid) x.station x.tid octets)
-    (exchange w e) (Some NoExchange)
+abbrev pub read_fault : Addresses → World → ℕ → List ℕ → Option DoneFault
+read_fault a w e octets = option_map_or
+    (λ x. answer_fault a (is_wide w x.station x.tid) x.station x.tid octets) (exchange w e) (Some NoExchange)

@@ -12,8 +12,14 @@ use Rattle.wf_law_driver.specs.Unheard.{IsUnheard}
 use Rattle.wf_send_stations.specs.Members.{member, charged_in, received_in}
 use Rattle.wf_send_half_refines.specs.Half.{TransmitValue}
 use Rattle.wf_send_half_refines.specs.Standing.{StandsFor, Meets}
+use Rattle.wf_path.specs.Addresses.{Addresses}
 use Rattle.wf_path.specs.Flags.{Flags, AreFlags}
 use Rattle.wf_path.specs.Jobs.{changes_nothing}
+
+-- a path: its transmit half, and the addresses that it writes and reads beside it
+pub record PathValue : Type 0 where
+  pub half : TransmitValue
+  pub addresses : Addresses
 
 -- A path stands for the transmit half of some world of a run, in which no receiver has anything of which its
 -- sender does not know.
@@ -46,16 +52,17 @@ IsSmall v = HasCountsBelow (2 ^ 62) v
 abbrev pub RiseLittle : TransmitValue → TransmitValue → Type 0
 RiseLittle v u = (n : ℕ) → HasCountsBelow n v → HasCountsBelow (n + greatest_tick) u
 
--- What a call that brings no frame leaves of v, for every world that v stands for, and its brief, beside
--- these frames and whatever ids.
-pub record IsAnswered (v : TransmitValue) (ask : Ask) (u : TransmitValue) (brief : Brief)
+-- What a call that brings no frame leaves of the path p, for every world that p stands for, and its brief,
+-- beside these frames and whatever ids.
+pub record IsAnswered (p : PathValue) (ask : Ask) (q : PathValue) (brief : Brief)
     (pairs : List (ℕ × ℕ)) : Type 0 where
-  pub meets : (w : World) (bodies : ℕ → FrameValue) (ids : List ℕ) → StandsFor v w bodies →
-      Meets w bodies (Asked ask) u (reply_with brief pairs ids)
-  pub refused : (ids : List ℕ) → changes_nothing (reply_with brief pairs ids) ≡ true → u ≡ v
-  pub path : IsPath u
-  pub rises : RiseLittle v u
+  pub meets : (w : World) (bodies : ℕ → FrameValue) (ids : List ℕ) → StandsFor p.half w bodies →
+      Meets w bodies (Asked ask) q.half (reply_with brief pairs ids)
+  pub refused : (ids : List ℕ) → changes_nothing (reply_with brief pairs ids) ≡ true → q ≡ p
+  pub addresses : q.addresses ≡ p.addresses
+  pub path : IsPath q.half
+  pub rises : RiseLittle p.half q.half
 
 -- the same where the brief names no list
-abbrev pub IsToldBriefly : TransmitValue → Ask → TransmitValue → Brief → Type 0
-IsToldBriefly v ask u brief = (pairs : List (ℕ × ℕ)) → IsAnswered v ask u brief pairs
+abbrev pub IsToldBriefly : PathValue → Ask → PathValue → Brief → Type 0
+IsToldBriefly p ask q brief = (pairs : List (ℕ × ℕ)) → IsAnswered p ask q brief pairs

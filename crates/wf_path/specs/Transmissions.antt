@@ -1,11 +1,10 @@
 -- What an open exchange sends, as octets on the air (IEEE 802.11-2012, 8.2.4, 8.3.1.8 and 8.3.2.1).
 --
--- A world w has the exchange, and `bodies` the frame of each id as it was accepted.
+-- A world w has the exchange, `bodies` the frame of each id as it was accepted, and `a` the addresses.
 use Rattle.std.specs.Prelude.{ℕ, ◌+◌, nat_lt, Bool, true, false, List, [], ◌∷◌, ◌++◌, map, slice_get, Option, option_and_then, option_map}
 use Rattle.wf_frame.specs.Frames.{FrameValue}
 use Rattle.wf_def_air.specs.Airtime.{sifs, answer_time}
 use Rattle.wf_def_agreement.specs.Session.{slot}
-use Rattle.wf_octets_header.specs.Addresses.{base, address_of_station}
 use Rattle.wf_octets_header.specs.Layout.{header_as_octets}
 use Rattle.wf_octets_header.specs.declared.header.Header.{Header}
 use Rattle.wf_octets_header.specs.declared.header.Kind.TheVariants.{QosData}
@@ -15,6 +14,7 @@ use Rattle.wf_send_window.specs.Window.{on_air}
 use Rattle.wf_def_world.specs.World.{World, Mpdu, Content, Frames, Request, Exchange, session, exchange}
 use Rattle.wf_def_world.specs.CanSend.{is_request}
 use Rattle.wf_def_world.specs.Exchanges.{mpdus_of, transmissions}
+use Rattle.wf_path.specs.Addresses.{Addresses, address_in}
 use Rattle.wf_path.specs.declared.reading.Sent.{Sent}
 
 -- ---- one transmission
@@ -31,8 +31,8 @@ is_retried w s t n = nat_lt 0 (slot (session w s t) n).attempts
 -- the header of a transmission of data (8.3.2.1), from the distribution system: to the station, of the access
 -- point, from the source of its frame. It has its sequence number modulo 4096, and the More Data bit of its
 -- exchange (8.2.4.1.8).
-abbrev pub header_of : World → (ℕ → FrameValue) → Exchange → Mpdu → Header
-header_of w bodies x m = record {
+abbrev pub header_of : Addresses → World → (ℕ → FrameValue) → Exchange → Mpdu → Header
+header_of a w bodies x m = record {
   kind = QosData;
   to_ds = false;
   from_ds = true;
@@ -40,55 +40,55 @@ header_of w bodies x m = record {
   power = false;
   more = x.more;
   duration = duration;
-  a1 = address_of_station x.station;
-  a2 = base;
+  a1 = address_in a x.station;
+  a2 = a.base;
   a3 = (bodies m.id).source;
   seq = on_air m.number;
   tid = x.tid;
 }
 
 -- the octets of a transmission of data: the header, and the body of the frame that it carries
-abbrev pub data_octets : World → (ℕ → FrameValue) → Exchange → Mpdu → List ℕ
-data_octets w bodies x m = header_as_octets (header_of w bodies x m) ++ (bodies m.id).body
+abbrev pub data_octets : Addresses → World → (ℕ → FrameValue) → Exchange → Mpdu → List ℕ
+data_octets a w bodies x m = header_as_octets (header_of a w bodies x m) ++ (bodies m.id).body
 
 -- the BlockAckReq of an exchange with this start (8.3.1.8): to the station, of the access point
-abbrev pub bar_of : Exchange → ℕ → Bar
-bar_of x start = record {
-  ra = address_of_station x.station;
-  ta = base;
+abbrev pub bar_of : Addresses → Exchange → ℕ → Bar
+bar_of a x start = record {
+  ra = address_in a x.station;
+  ta = a.base;
   duration = duration;
   tid = x.tid;
   start = on_air start;
 }
 
 -- the octets of a transmission of a BlockAckReq
-abbrev pub bar_octets : Exchange → ℕ → List ℕ
-bar_octets x start = head_octets request narrow_form (bar_of x start)
+abbrev pub bar_octets : Addresses → Exchange → ℕ → List ℕ
+bar_octets a x start = head_octets request narrow_form (bar_of a x start)
 
 -- ---- all that an exchange sends
 
 -- the octets of each transmission of such a content: one for each frame, or the one BlockAckReq
-abbrev pub octets_of_content : World → (ℕ → FrameValue) → Exchange → Content → List (List ℕ)
-octets_of_content w bodies x (Frames mpdus) = map (data_octets w bodies x) mpdus
-octets_of_content w bodies x (Request start) = bar_octets x start ∷ []
+abbrev pub octets_of_content : Addresses → World → (ℕ → FrameValue) → Exchange → Content → List (List ℕ)
+octets_of_content a w bodies x (Frames mpdus) = map (data_octets a w bodies x) mpdus
+octets_of_content a w bodies x (Request start) = bar_octets a x start ∷ []
 
 -- the octets of each transmission of an exchange, in order
-abbrev pub frames_on_air : World → (ℕ → FrameValue) → Exchange → List (List ℕ)
-frames_on_air w bodies x = octets_of_content w bodies x x.content
+abbrev pub frames_on_air : Addresses → World → (ℕ → FrameValue) → Exchange → List (List ℕ)
+frames_on_air a w bodies x = octets_of_content a w bodies x x.content
 
 -- the octets of the transmission of this index, counted from 0: none where the exchange has no such
 -- transmission
-abbrev pub transmission_octets : World → (ℕ → FrameValue) → Exchange → ℕ → Option (List ℕ)
-transmission_octets w bodies x index = slice_get (frames_on_air w bodies x) index
+abbrev pub transmission_octets : Addresses → World → (ℕ → FrameValue) → Exchange → ℕ → Option (List ℕ)
+transmission_octets a w bodies x index = slice_get (frames_on_air a w bodies x) index
 
 -- the id of the frame that it carries: none where it is a BlockAckReq
 abbrev pub transmission_id : Exchange → ℕ → Option ℕ
 transmission_id x index = option_map (λ m. m.id) (slice_get (mpdus_of x.content) index)
 
 -- the header of the transmission of this index, as octets: none where it is a BlockAckReq
-abbrev pub transmission_header : World → (ℕ → FrameValue) → Exchange → ℕ → Option (List ℕ)
-transmission_header w bodies x index =
-    option_map (λ m. header_as_octets (header_of w bodies x m)) (slice_get (mpdus_of x.content) index)
+abbrev pub transmission_header : Addresses → World → (ℕ → FrameValue) → Exchange → ℕ → Option (List ℕ)
+transmission_header a w bodies x index =
+    option_map (λ m. header_as_octets (header_of a w bodies x m)) (slice_get (mpdus_of x.content) index)
 
 -- the tag of the frame that it carries: none where it is a BlockAckReq
 abbrev pub transmission_tag : (ℕ → FrameValue) → Exchange → ℕ → Option ℕ
@@ -106,14 +106,14 @@ sent_of x = record {
 
 -- ---- the same of the exchange with number e: none where it is not open
 
-abbrev pub octets_sent : World → (ℕ → FrameValue) → ℕ → ℕ → Option (List ℕ)
-octets_sent w bodies e index = option_and_then (λ x. transmission_octets w bodies x index) (exchange w e)
+abbrev pub octets_sent : Addresses → World → (ℕ → FrameValue) → ℕ → ℕ → Option (List ℕ)
+octets_sent a w bodies e index = option_and_then (λ x. transmission_octets a w bodies x index) (exchange w e)
 
 abbrev pub id_sent : World → ℕ → ℕ → Option ℕ
 id_sent w e index = option_and_then (λ x. transmission_id x index) (exchange w e)
 
-abbrev pub header_sent : World → (ℕ → FrameValue) → ℕ → ℕ → Option (List ℕ)
-header_sent w bodies e index = option_and_then (λ x. transmission_header w bodies x index) (exchange w e)
+abbrev pub header_sent : Addresses → World → (ℕ → FrameValue) → ℕ → ℕ → Option (List ℕ)
+header_sent a w bodies e index = option_and_then (λ x. transmission_header a w bodies x index) (exchange w e)
 
 abbrev pub tag_sent : World → (ℕ → FrameValue) → ℕ → ℕ → Option ℕ
 tag_sent w bodies e index = option_and_then (λ x. transmission_tag bodies x index) (exchange w e)

@@ -3,6 +3,7 @@ use Rattle.std.specs.Prelude.{ℕ, nat_lt, List, length, Option, Some, None, if�
 use Rattle.std.specs.Option.{option_map_or}
 use Rattle.wf_frame.specs.Frames.{FrameValue}
 use Rattle.wf_def_world.specs.World.{World, exchange}
+use Rattle.wf_path.specs.Addresses.{Addresses}
 use Rattle.wf_path.specs.declared.faults.PathFault.{PathFault}
 use Rattle.wf_path.specs.declared.faults.PathFault.TheVariants.{NoExchange, BadIndex, SmallBuffer}
 use Rattle.wf_path.specs.Transmissions.{transmission_octets, transmission_id}
@@ -14,9 +15,9 @@ room_fault room (Some octets) = if nat_lt room (length octets) then Some (SmallB
     else None
 
 -- the first check that fails, of a transmission of exchange e, where there is room for so many octets
-abbrev pub write_fault : World → (ℕ → FrameValue) → ℕ → ℕ → ℕ → Option PathFault
-write_fault w bodies e index room = option_map_or
-    (λ x. room_fault room (transmission_octets w bodies x index)) (exchange w e) (Some NoExchange)
+abbrev pub write_fault : Addresses → World → (ℕ → FrameValue) → ℕ → ℕ → ℕ → Option PathFault
+write_fault a w bodies e index room = option_map_or
+    (λ x. room_fault room (transmission_octets a w bodies x index)) (exchange w e) (Some NoExchange)
 
 -- there is such a transmission of data
 abbrev pub no_data_fault : Option ℕ → Option PathFault

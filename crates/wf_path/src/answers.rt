@@ -7,17 +7,17 @@ ghost use Rattle.wf_def_world.specs.World.{World};
 ghost use Rattle.wf_send_half.specs.Half.{HasWorld};
 ghost use Rattle.wf_send_half_refines.specs.Standing.{StandsFor};
 ghost use Rattle.wf_def_air.specs.Airtime.{block_ack_octets};
-ghost use Rattle.wf_octets_header.specs.Addresses.{base, address_of_station};
 ghost use Rattle.wf_octets_block.specs.Layout.{answer};
 ghost use Rattle.std.specs.Result.{result_err};
 ghost use Rattle.wf_octets_block.specs.Faults.{first_block_fault};
 ghost use Rattle.std.specs.Result.{result_err};
+ghost use Rattle.wf_path.specs.Addresses.{address_in};
 ghost use Rattle.wf_path.specs.Answers.{recipient_in, transmitter_in, tid_in, answer_fault, read_fault, block_ack_in};
 
 use crate::DoneFault;
+use crate::addresses::AddressBook;
 use wf_octets_bits::Bits256;
 use wf_octets_block::{Ba, BlockFault, WideBa, decode_ba, decode_wide};
-use wf_octets_header::{base_address, station_address};
 use wf_octets_seq12::Seq12;
 use wf_send_exchanges::widened;
 use wf_send_half::Transmit;
@@ -29,8 +29,9 @@ const NARROW_WINDOW: u16 = 64;
 /// Reads the BlockAck to the exchange with this number: its start, and the offsets from there of the numbers
 /// that arrived (IEEE 802.11-2012, 8.3.1.9). A session whose window is above 64 has the BlockAck of 256
 /// numbers, each other one that of 64.
-pub fn read_block_ack(
+pub(crate) fn read_block_ack(
     half: &Transmit,
+    addresses: &AddressBook,
     number: u64,
     octets: &[u8],
 ) -> Result<(Seq12, Bits256), DoneFault>
@@ -38,28 +39,29 @@ pub fn read_block_ack(
 
     // refused exactly where a check fails, for the first that does
     ensures fault { (w : World) (bodies : ℕ → FrameValue) → StandsFor half.now w bodies →
-        result_err result ≡ read_fault w number octets.now }
+        result_err result ≡ read_fault addresses.now w number octets.now }
     ensures read { IfOk result (λ read. read ≡ block_ack_in octets.now) }
 {
     let Some(open) = half.exchange(number) else {
         return Err(DoneFault::NoExchange);
     };
     let wide = half.window(open.station, open.tid).size() > NARROW_WINDOW;
-    read_answer(open.station, open.tid, wide, octets)
+    read_answer(addresses, open.station, open.tid, wide, octets)
 }
 
 /// Reads the BlockAck of this width from a station to what was sent to one of its TIDs.
 fn read_answer(
+    addresses: &AddressBook,
     station: u16,
     tid: u8,
     wide: bool,
     octets: &[u8],
 ) -> Result<(Seq12, Bits256), DoneFault>
-    ensures fault { result_err result ≡ answer_fault wide station tid octets.now }
+    ensures fault { result_err result ≡ answer_fault addresses.now wide station tid octets.now }
     ensures read { IfOk result (λ read. read ≡ block_ack_in octets.now) }
 {
     let answer = decode(wide, octets).map_err(DoneFault::Block)?;
-    if !is_from(station, &answer) {
+    if !is_from(addresses, station, &answer) {
         return Err(DoneFault::NotMine);
     }
     if answer.tid != tid {
@@ -98,8 +100,9 @@ fn decode(wide: bool, octets: &[u8]) -> Result<WideBa, BlockFault>
 }
 
 /// Whether a BlockAck goes from a station to the access point.
-fn is_from(station: u16, ba: &WideBa) -> bool
-    ensures { result ≡ (bytes_eq ba.now.ra base && bytes_eq ba.now.ta (address_of_station station)) }
+fn is_from(addresses: &AddressBook, station: u16, ba: &WideBa) -> bool
+    ensures { result ≡ (bytes_eq ba.now.ra addresses.now.base
+        && bytes_eq ba.now.ta (address_in addresses.now station)) }
 {
-    ba.ra == base_address() && ba.ta == station_address(station)
+    ba.ra == addresses.base() && ba.ta == addresses.of(station)
 }

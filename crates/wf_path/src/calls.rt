@@ -26,17 +26,18 @@ impl Path {
     /// where it was refused, or reaped.
     pub fn call(&mut self, job: Job, answer: &mut Answer) -> Option<Parcel>
         requires heard { IsHeard job }
-        requires small { IsSmall self.old }
-        ensures meets { (w : World) (bodies : ℕ → FrameValue) → StandsFor self.old w bodies →
-            Meets w (bodies_after self.old job (reply_of answer.new) bodies) (note_of job) self.new
+        requires small { IsSmall self.old.half }
+        ensures meets { (w : World) (bodies : ℕ → FrameValue) → StandsFor self.old.half w bodies →
+            Meets w (bodies_after self.old.half job (reply_of answer.new) bodies) (note_of job) self.new.half
             (reply_of answer.new) }
-        ensures parcel { (w : World) (bodies : ℕ → FrameValue) → StandsFor self.old w bodies →
+        ensures parcel { (w : World) (bodies : ℕ → FrameValue) → StandsFor self.old.half w bodies →
             result ≡ frame_given_back bodies job (reply_of answer.new) }
         ensures refused { changes_nothing (reply_of answer.new) ≡ true → self.new ≡ self.old }
-        ensures unheard { (w : World) (bodies : ℕ → FrameValue) → StandsFor self.old w bodies →
+        ensures unheard { (w : World) (bodies : ℕ → FrameValue) → StandsFor self.old.half w bodies →
             IsUnheard w → IsUnheard (step w (note_of job)).world }
-        ensures path { IsPath self.new }
-        ensures rises { RiseLittle self.old self.new }
+        ensures addresses { self.new.addresses ≡ self.old.addresses }
+        ensures path { IsPath self.new.half }
+        ensures rises { RiseLittle self.old.half self.new.half }
     {
         match job {
             Job::Give(parcel) => self.give(parcel, answer),
@@ -54,15 +55,16 @@ impl Path {
 
     // A frame comes in.
     fn give(&mut self, parcel: Parcel, answer: &mut Answer) -> Option<Parcel>
-        requires small { IsSmall self.old }
-        ensures meets { (w : World) (bodies : ℕ → FrameValue) → StandsFor self.old w bodies →
-            Meets w (bodies_after self.old (Job.Give parcel) (reply_of answer.new) bodies)
-            (enqueue_of parcel) self.new (reply_of answer.new) }
+        requires small { IsSmall self.old.half }
+        ensures meets { (w : World) (bodies : ℕ → FrameValue) → StandsFor self.old.half w bodies →
+            Meets w (bodies_after self.old.half (Job.Give parcel) (reply_of answer.new) bodies)
+            (enqueue_of parcel) self.new.half (reply_of answer.new) }
         ensures parcel { (bodies : ℕ → FrameValue) →
             result ≡ frame_given_back bodies (Job.Give parcel) (reply_of answer.new) }
         ensures refused { changes_nothing (reply_of answer.new) ≡ true → self.new ≡ self.old }
-        ensures path { IsPath self.new }
-        ensures rises { RiseLittle self.old self.new }
+        ensures addresses { self.new.addresses ≡ self.old.addresses }
+        ensures path { IsPath self.new.half }
+        ensures rises { RiseLittle self.old.half self.new.half }
     {
         match self.enqueue(parcel) {
             Ok((id, dropped)) => {
@@ -78,18 +80,19 @@ impl Path {
 
     // Accepts a frame, or hands it back.
     fn enqueue(&mut self, parcel: Parcel) -> Result<(u64, Option<u64>), (Refusal, Parcel)>
-        requires small { IsSmall self.old }
+        requires small { IsSmall self.old.half }
         ensures meets { IfOk result (λ given. (w : World) (bodies : ℕ → FrameValue) →
-            StandsFor self.old w bodies →
-            Meets w (with_body bodies (as_accepted self.old parcel)) (enqueue_of parcel) self.new
+            StandsFor self.old.half w bodies →
+            Meets w (with_body bodies (as_accepted self.old.half parcel)) (enqueue_of parcel) self.new.half
             (Accepted given.0 given.1)) }
         ensures refuses { IfErr result (λ given. (w : World) (bodies : ℕ → FrameValue) →
-            StandsFor self.old w bodies →
-            Meets w bodies (enqueue_of parcel) self.new (Refused given.0)) }
+            StandsFor self.old.half w bodies →
+            Meets w bodies (enqueue_of parcel) self.new.half (Refused given.0)) }
         ensures refused { IfErr result (λ _. self.new ≡ self.old) }
         ensures handed_back { IfErr result (λ given. given.1 ≡ parcel) }
-        ensures path { IsPath self.new }
-        ensures rises { RiseLittle self.old self.new }
+        ensures addresses { self.new.addresses ≡ self.old.addresses }
+        ensures path { IsPath self.new.half }
+        ensures rises { RiseLittle self.old.half self.new.half }
     {
         let frame = parcel.frame();
         let (station, tid, _octets) = (frame.station(), frame.tid(), frame.len());
@@ -106,13 +109,14 @@ impl Path {
 
     // Takes the first finished frame.
     fn reap(&mut self) -> Option<Parcel>
-        ensures meets { (w : World) (bodies : ℕ → FrameValue) → StandsFor self.old w bodies →
-            Meets w bodies (Asked Reap) self.new (reaped_reply result) }
+        ensures meets { (w : World) (bodies : ℕ → FrameValue) → StandsFor self.old.half w bodies →
+            Meets w bodies (Asked Reap) self.new.half (reaped_reply result) }
         ensures parcel { IfSome result (λ p. (w : World) (bodies : ℕ → FrameValue) →
-            StandsFor self.old w bodies → IsBodySettled bodies p) }
+            StandsFor self.old.half w bodies → IsBodySettled bodies p) }
         ensures refused { IfNone result (self.new ≡ self.old) }
-        ensures path { IsPath self.new }
-        ensures rises { RiseLittle self.old self.new }
+        ensures addresses { self.new.addresses ≡ self.old.addresses }
+        ensures path { IsPath self.new.half }
+        ensures rises { RiseLittle self.old.half self.new.half }
     {
         self.half.reap()
     }
@@ -120,7 +124,7 @@ impl Path {
     // Makes a call whose answer is a brief, with the frames of an aggregate.
     fn ask(&mut self, ask: Ask, pairs: &mut Pairs) -> Brief
         requires brief { IsBrief ask }
-        requires small { IsSmall self.old }
+        requires small { IsSmall self.old.half }
         ensures answered { IsAnswered self.old ask self.new result pairs.new }
         ensures brief { IsBrief ask }
     {
@@ -150,7 +154,7 @@ impl Path {
     }
 
     fn pull(&mut self, class: Class, pairs: &mut Pairs) -> Brief
-        requires small { IsSmall self.old }
+        requires small { IsSmall self.old.half }
         ensures { IsAnswered self.old (Pull class) self.new result pairs.new }
     {
         let brief = self.half.pull(class, self.ready.of(class), pairs);
@@ -161,7 +165,7 @@ impl Path {
     }
 
     fn tick(&mut self, by: u32) -> Brief
-        requires small { IsSmall self.old }
+        requires small { IsSmall self.old.half }
         ensures { IsToldBriefly self.old (Tick by) self.new result }
     {
         match self.half.tick(by) {
@@ -180,7 +184,7 @@ impl Path {
     }
 
     fn receive(&mut self, station: u16, class: Class, air: u32) -> Brief
-        requires small { IsSmall self.old }
+        requires small { IsSmall self.old.half }
         ensures { IsToldBriefly self.old (Rx station class air) self.new result }
     {
         match self.half.receive(station, class, air) {

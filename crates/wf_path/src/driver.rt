@@ -12,6 +12,8 @@ ghost use Rattle.wf_path.specs.Writing.{write_fault, write_header_fault};
 ghost use Rattle.wf_path.specs.Driver.{IsEnded, end_fault};
 ghost use Rattle.wf_path.specs.Paths.{IsPath, IsSmall, RiseLittle};
 
+use crate::answers::read_block_ack;
+use crate::writing::{write_header, write_transmission};
 use crate::{DoneFault, Path, PathFault, Sent};
 use wf_frame::{Brief, Class, Refusal};
 use wf_octets_bits::Bits256;
@@ -31,7 +33,7 @@ impl Path {
         heard: Option<(Seq12, Bits256)>,
         air: Option<u32>,
     ) -> Brief
-        requires small { IsSmall self.old }
+        requires small { IsSmall self.old.half }
         ensures { IsEnded self.old exchange heard air self.new result }
     {
         let Some(open) = self.half.exchange(exchange) else {
@@ -61,17 +63,19 @@ impl Path {
         heard: Option<&[u8]>,
         air: Option<u32>,
     ) -> Result<Brief, DoneFault>
-        requires small { IsSmall self.old }
-        ensures fault { (w : World) (bodies : ℕ → FrameValue) → StandsFor self.old w bodies →
-            result_err result ≡ end_fault w exchange (option_map (λ octets. octets.now) heard.entry) }
+        requires small { IsSmall self.old.half }
+        ensures fault { (w : World) (bodies : ℕ → FrameValue) → StandsFor self.old.half w bodies →
+            result_err result ≡ end_fault self.old.addresses w exchange
+            (option_map (λ octets. octets.now) heard.entry) }
         ensures unchanged { OnErr result (self.new ≡ self.old) }
         ensures ended { IfOk result (λ brief. IsEnded self.old exchange
             (option_map (λ octets. block_ack_in octets.now) heard.entry) air self.new brief) }
-        ensures path { IsPath self.new }
-        ensures rises { RiseLittle self.old self.new }
+        ensures addresses { self.new.addresses ≡ self.old.addresses }
+        ensures path { IsPath self.new.half }
+        ensures rises { RiseLittle self.old.half self.new.half }
     {
         let shown = match heard {
-            Some(octets) => Some(crate::read_block_ack(&self.half, exchange, octets)?),
+            Some(octets) => Some(read_block_ack(&self.half, &self.addresses, exchange, octets)?),
             None if self.sent(exchange).is_some() => None,
             None => return Err(DoneFault::NoExchange),
         };
@@ -80,7 +84,7 @@ impl Path {
 
     /// What an open exchange sends, and to whom. None where it is not open.
     pub fn sent(&self, exchange: u64) -> Option<Sent>
-        ensures { (w : World) (bodies : ℕ → FrameValue) → StandsFor self.now w bodies →
+        ensures { (w : World) (bodies : ℕ → FrameValue) → StandsFor self.now.half w bodies →
             result ≡ option_map sent_of (exchange_in w exchange) }
     {
         crate::sent_by(&self.half, exchange)
@@ -89,7 +93,7 @@ impl Path {
     /// The id of the frame of a transmission. None where the exchange is not open, is a request, or has no
     /// transmission of that index.
     pub fn frame_id(&self, exchange: u64, index: u16) -> Option<u64>
-        ensures { (w : World) (bodies : ℕ → FrameValue) → StandsFor self.now w bodies →
+        ensures { (w : World) (bodies : ℕ → FrameValue) → StandsFor self.now.half w bodies →
             result ≡ id_sent w exchange index }
     {
         crate::frame_id(&self.half, exchange, index)
@@ -97,7 +101,7 @@ impl Path {
 
     /// The tag of the frame of a transmission, by which its owner finds it again. None where `frame_id` is.
     pub fn frame_tag(&self, exchange: u64, index: u16) -> Option<u64>
-        ensures { (w : World) (bodies : ℕ → FrameValue) → StandsFor self.now w bodies →
+        ensures { (w : World) (bodies : ℕ → FrameValue) → StandsFor self.now.half w bodies →
             result ≡ tag_sent w bodies exchange index }
     {
         crate::frame_tag(&self.half, exchange, index)
@@ -107,36 +111,38 @@ impl Path {
     /// sends the body from a buffer of its own. Refused as NoExchange where the exchange is not open, or as
     /// BadIndex where it has no data of that index, as a BlockAckReq has none; then `out` stays.
     pub fn header(&self, exchange: u64, index: u16, out: &mut [u8; 26]) -> Result<(), PathFault>
-        ensures fault { (w : World) (bodies : ℕ → FrameValue) → StandsFor self.now w bodies →
+        ensures fault { (w : World) (bodies : ℕ → FrameValue) → StandsFor self.now.half w bodies →
             result_err result ≡ write_header_fault w exchange index }
         ensures unchanged { OnErr result (out.new ≡ out.old) }
         ensures octets { OnOk result ((w : World) (bodies : ℕ → FrameValue) →
-            StandsFor self.now w bodies → header_sent w bodies exchange index ≡ Some out.new) }
+            StandsFor self.now.half w bodies →
+            header_sent self.now.addresses w bodies exchange index ≡ Some out.new) }
     {
-        crate::write_header(&self.half, exchange, index, out)
+        write_header(&self.half, &self.addresses, exchange, index, out)
     }
 
     /// Writes the octets of one transmission of an open exchange, a data frame or a BlockAckReq (8.3.2.1 and
     /// 8.3.1.8), and gives how many they are. The rest of `out` stays; after a fault all of it does.
     pub fn mpdu(&self, exchange: u64, index: u16, out: &mut [u8]) -> Result<usize, PathFault>
-        ensures fault { (w : World) (bodies : ℕ → FrameValue) → StandsFor self.now w bodies →
-            result_err result ≡ write_fault w bodies exchange index (length out.old) }
+        ensures fault { (w : World) (bodies : ℕ → FrameValue) → StandsFor self.now.half w bodies →
+            result_err result ≡ write_fault self.now.addresses w bodies exchange index
+            (length out.old) }
         ensures unchanged { OnErr result (out.new ≡ out.old) }
         ensures octets { IfOk result (λ n. (w : World) (bodies : ℕ → FrameValue) →
-            StandsFor self.now w bodies →
-            octets_sent w bodies exchange index ≡ Some (take n out.new)) }
+            StandsFor self.now.half w bodies →
+            octets_sent self.now.addresses w bodies exchange index ≡ Some (take n out.new)) }
         ensures within { IfOk result (λ n. n ≤ length out.new) }
         ensures rest { IfOk result (λ n. drop n out.new ≡ drop n out.old) }
     {
-        crate::write_transmission(&self.half, exchange, index, out)
+        write_transmission(&self.half, &self.addresses, exchange, index, out)
     }
 
     /// Writes the TIM element (8.4.2.7) of the live stations that sleep and have traffic, and gives how many
     /// octets it has. The rest of `out` stays.
     pub fn tim(&self, out: &mut [u8; 256]) -> usize
-        ensures octets { (w : World) (bodies : ℕ → FrameValue) → StandsFor self.now w bodies →
+        ensures octets { (w : World) (bodies : ℕ → FrameValue) → StandsFor self.now.half w bodies →
             take result out.new ≡ traffic_map (with_traffic w) }
-        ensures size { (w : World) (bodies : ℕ → FrameValue) → StandsFor self.now w bodies →
+        ensures size { (w : World) (bodies : ℕ → FrameValue) → StandsFor self.now.half w bodies →
             result ≡ length (traffic_map (with_traffic w)) }
         ensures rest { drop result out.new ≡ drop result out.old }
     {

@@ -1,4 +1,5 @@
-//! Why there is no path, why a transmission is not written, and why octets are no answer to it.
+//! Why there is no path, why an address is not taken, why a transmission is not written, and why octets are
+//! no answer to it.
 
 ghost use Rattle.std.specs.Prelude.{◌≡◌};
 ghost use Rattle.wf_path.specs.declared.faults.NewFault.TheVariants.{NoMemory};
@@ -25,6 +26,18 @@ impl From<AllocError> for NewFault {
     fn from(_e: AllocError) -> NewFault {
         NewFault::NoMemory
     }
+}
+
+/// Why an address is not taken. The variants stand in the order of the checks, and the first check that fails
+/// is told.
+#[derive(Clone, Copy, Debug, PartialEq, Eq, Error)]
+pub enum BadAddress {
+    /// The station's number is not below the setting `stations`.
+    #[error("no such station")]
+    NoStation,
+    /// It is a group's address: the lowest bit of its first octet is set (IEEE 802.11-2012, 8.2.4.3).
+    #[error("a group's address")]
+    Group,
 }
 
 /// Why no octets of a transmission were written. The variants stand in the order of the checks, and the first

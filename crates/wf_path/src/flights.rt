@@ -8,8 +8,9 @@ ghost use Rattle.wf_def_world.specs.World.{World, Exchange, Mpdu};
 ghost use Rattle.wf_path.specs.Transmissions.{header_of};
 ghost use Rattle.wf_path.specs.Flights.{IsInFlight, Flies};
 
+use crate::addresses::AddressBook;
 use wf_frame::Frame;
-use wf_octets_header::{Header, Kind, base_address, station_address};
+use wf_octets_header::{Header, Kind};
 use wf_octets_seq12::Seq12;
 use wf_send_exchanges::Open;
 use wf_send_half::Transmit;
@@ -29,13 +30,19 @@ pub(crate) fn frame_of<'a>(half: &'a Transmit, open: &Open, index: u16, seq: Seq
 }
 
 /// The header of a transmission that carries this number.
-pub(crate) fn header_of(half: &Transmit, open: &Open, index: u16, seq: Seq12) -> Header
+pub(crate) fn header_of(
+    half: &Transmit,
+    addresses: &AddressBook,
+    open: &Open,
+    index: u16,
+    seq: Seq12,
+) -> Header
     requires { Flies half.now open.now index seq }
     ensures kind { result.kind ≡ QosData }
     ensures plain { IsPlain result }
     ensures header { (w : World) (bodies : ℕ → FrameValue) (x : Exchange) (m : Mpdu) →
         IsInFlight half.now open.now index w bodies x m →
-        result ≡ header_of w bodies x m }
+        result ≡ header_of addresses.now w bodies x m }
 {
     let attempts = half.window(open.station, open.tid).attempts(seq);
     Header {
@@ -46,8 +53,8 @@ pub(crate) fn header_of(half: &Transmit, open: &Open, index: u16, seq: Seq12) ->
         power: false,
         more: open.more,
         duration: DURATION,
-        a1: station_address(open.station),
-        a2: base_address(),
+        a1: addresses.of(open.station),
+        a2: addresses.base(),
         a3: frame_of(half, open, index, seq).source(),
         seq,
         tid: open.tid,

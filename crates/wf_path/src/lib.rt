@@ -5,9 +5,11 @@
 //!
 //! What an open exchange sends is told by `sent`, `frame_id`, `frame_tag`, `header` and `mpdu`, as octets
 //! (IEEE 802.11-2012, 8.2.4, 8.3.1.8, 8.3.2.1; specs/Transmissions); its BlockAck is read back (8.3.1.9), and
-//! `tim` is for sleepers (8.4.2.7). Only `new` takes memory.
+//! `tim` is for sleepers (8.4.2.7). The addresses are made up at first, and others are named by `set_base`
+//! and `set_address`. Only `new` takes memory.
 #![tactic(auto)]
 
+mod addresses;
 mod answers;
 mod calls;
 mod driver;
@@ -22,11 +24,9 @@ mod standing;
 mod traffic;
 mod writing;
 
-pub use answers::read_block_ack;
-pub use faults::{DoneFault, NewFault, PathFault};
+pub use faults::{BadAddress, DoneFault, NewFault, PathFault};
 pub use job::Job;
 pub use path::Path;
 pub use reading::{Sent, frame_id, frame_tag, sent_by};
 pub use small::first_calls_law;
 pub use traffic::tim;
-pub use writing::{write_header, write_transmission};

@@ -10,9 +10,11 @@ ghost use Rattle.wf_sched_stations.specs.ClassRotas.{deficit};
 ghost use Rattle.wf_send_stations.specs.Members.{member, charged_in, received_in};
 ghost use Rattle.wf_send_half.specs.Half.{IsLive};
 ghost use Rattle.wf_send_half_refines.specs.Standing.{StandsFor, counts_in};
+ghost use Rattle.wf_path.specs.Addresses.{made_up};
 ghost use Rattle.wf_path.specs.Paths.{IsPath, HasCountsBelow, IsSmall};
 
 use crate::NewFault;
+use crate::addresses::AddressBook;
 use crate::ready::Ready;
 use std::alloc::Global;
 use std::marker::Model;
@@ -21,61 +23,68 @@ use wf_send_half::Transmit;
 use wf_send_stations::Tally;
 
 /// The transmit path. A contract sees its transmit half, and says of a call what it makes of each world of a
-/// run that the half stands for (`wf_send_half_refines`); there is always one. Only `new` takes memory.
+/// run that the half stands for (`wf_send_half_refines`); there is always one. Beside the half it sees the
+/// addresses, which stay at each call but `set_base` and `set_address`. Only `new` takes memory.
 ///
 /// It keeps by class which stations are ready, so that a pull asks nobody.
 #[derive(Drop)]
 pub struct Path {
     pub(crate) half: Transmit,
     pub(crate) ready: Ready,
+    pub(crate) addresses: AddressBook,
 }
 
 impl Model for Path {
-    ghost use Rattle.wf_send_half_refines.specs.Half.{TransmitValue};
-    ghost use Rattle.wf_path.specs.Paths.{IsTracked};
+    ghost use Rattle.wf_path.specs.Paths.{PathValue, IsTracked};
 
-    ghost Value = { TransmitValue };
+    ghost Value = { PathValue };
 
-    ghost view = { λ p. p.half };
+    ghost view = { λ p. record { half = p.half; addresses = p.addresses } };
 
     ghost invariant = { λ p. IsTracked p.half p.ready };
 }
 
 impl Path {
-    /// A path of these settings: no station is live, and no frame was accepted. Refused as BadConfig where a
-    /// setting is out of its range, with the first such setting, or as NoMemory.
+    /// A path of these settings: no station is live, no frame was accepted, and the addresses are made up.
+    /// Refused as BadConfig where a setting is out of its range, with the first such setting, or as NoMemory.
     pub fn new(alloc: Global, config: Config) -> Result<Path, NewFault>
         ensures bad { (f : Field) → (result ≡ Err (NewFault.BadConfig f)) ↔
             (first_out_of_range config ≡ Some f) }
         ensures stands { IfOk result (λ made. (bodies : ℕ → FrameValue) →
-            StandsFor made (opening config) bodies) }
-        ensures small { IfOk result IsSmall }
-        ensures none { IfOk result (HasCountsBelow 1) }
-        ensures path { IfOk result IsPath }
+            StandsFor made.half (opening config) bodies) }
+        ensures small { IfOk result (λ made. IsSmall made.half) }
+        ensures none { IfOk result (λ made. HasCountsBelow 1 made.half) }
+        ensures addresses { IfOk result (λ made. made.addresses ≡ made_up) }
+        ensures path { IfOk result (λ made. IsPath made.half) }
     {
         if let Some(field) = config.check() {
             return Err(NewFault::BadConfig(field));
         }
         let ready = Ready::new(alloc, config.stations)?;
+        let addresses = AddressBook::new(alloc)?;
         let half = Transmit::new(alloc, config)?;
-        Ok(Path { half, ready })
+        Ok(Path {
+            half,
+            ready,
+            addresses,
+        })
     }
 
     /// The settings. Clause `path` tells whoever holds a path that there is a world for which it stands, so
     /// that what the other readers say of such worlds says something.
     pub fn config(&self) -> Config
-        ensures value { result ≡ self.now.config }
-        ensures world { (w : World) (bodies : ℕ → FrameValue) → StandsFor self.now w bodies →
+        ensures value { result ≡ self.now.half.config }
+        ensures world { (w : World) (bodies : ℕ → FrameValue) → StandsFor self.now.half w bodies →
             result ≡ w.config }
-        ensures path { IsPath self.now }
+        ensures path { IsPath self.now.half }
     {
         self.half.config()
     }
 
     /// The clock, in microseconds.
     pub fn now(&self) -> u64
-        ensures value { result ≡ self.now.clock }
-        ensures world { (w : World) (bodies : ℕ → FrameValue) → StandsFor self.now w bodies →
+        ensures value { result ≡ self.now.half.clock }
+        ensures world { (w : World) (bodies : ℕ → FrameValue) → StandsFor self.now.half w bodies →
             result ≡ w.clock }
     {
         self.half.now()
@@ -83,8 +92,8 @@ impl Path {
 
     /// How many exchanges were opened.
     pub fn exchanges(&self) -> u64
-        ensures value { result ≡ self.now.exchanges }
-        ensures world { (w : World) (bodies : ℕ → FrameValue) → StandsFor self.now w bodies →
+        ensures value { result ≡ self.now.half.exchanges }
+        ensures world { (w : World) (bodies : ℕ → FrameValue) → StandsFor self.now.half w bodies →
             result ≡ w.exchanges }
     {
         self.half.exchanges()
@@ -92,8 +101,8 @@ impl Path {
 
     /// How many exchanges are open, at most 32.
     pub fn open_count(&self) -> u32
-        ensures value { result ≡ length self.now.opened }
-        ensures world { (w : World) (bodies : ℕ → FrameValue) → StandsFor self.now w bodies →
+        ensures value { result ≡ length self.now.half.opened }
+        ensures world { (w : World) (bodies : ℕ → FrameValue) → StandsFor self.now.half w bodies →
             result ≡ length w.opened }
     {
         self.half.open_count()
@@ -101,8 +110,8 @@ impl Path {
 
     /// Whether a station is live; one past the last is not.
     pub fn live(&self, station: u16) -> bool
-        ensures value { result ≡ is_some (member self.now.members station) }
-        ensures world { (w : World) (bodies : ℕ → FrameValue) → StandsFor self.now w bodies →
+        ensures value { result ≡ is_some (member self.now.half.members station) }
+        ensures world { (w : World) (bodies : ℕ → FrameValue) → StandsFor self.now.half w bodies →
             result ≡ is_live w station }
     {
         self.half.is_live(station)
@@ -110,8 +119,8 @@ impl Path {
 
     /// The accepted frames by what became of them.
     pub fn tally(&self) -> Tally
-        ensures value { counts_of result ≡ self.now.tally }
-        ensures world { (w : World) (bodies : ℕ → FrameValue) → StandsFor self.now w bodies →
+        ensures value { counts_of result ≡ self.now.half.tally }
+        ensures world { (w : World) (bodies : ℕ → FrameValue) → StandsFor self.now.half w bodies →
             counts_of result ≡ counts_in w }
     {
         self.half.tally()
@@ -119,9 +128,9 @@ impl Path {
 
     /// The deficit of a live station in a class, in microseconds.
     pub fn deficit(&self, station: u16, class: Class) -> i64
-        requires live { IsLive self.now station }
-        ensures value { result ≡ deficit self.now.sched class station }
-        ensures world { (w : World) (bodies : ℕ → FrameValue) → StandsFor self.now w bodies →
+        requires live { IsLive self.now.half station }
+        ensures value { result ≡ deficit self.now.half.sched class station }
+        ensures world { (w : World) (bodies : ℕ → FrameValue) → StandsFor self.now.half w bodies →
             result ≡ (share w station class).deficit }
     {
         self.half.deficit(station, class)
@@ -129,9 +138,10 @@ impl Path {
 
     /// The airtime of a live station's exchanges in a class since its join, in microseconds.
     pub fn charged(&self, station: u16, class: Class) -> u64
-        requires live { IsLive self.now station }
-        ensures value { option_map (λ m. charged_in m class) (member self.now.members station) ≡ Some result }
-        ensures world { (w : World) (bodies : ℕ → FrameValue) → StandsFor self.now w bodies →
+        requires live { IsLive self.now.half station }
+        ensures value { option_map (λ m. charged_in m class) (member self.now.half.members station)
+            ≡ Some result }
+        ensures world { (w : World) (bodies : ℕ → FrameValue) → StandsFor self.now.half w bodies →
             result ≡ (share w station class).charged }
     {
         self.half.charged(station, class)
@@ -139,10 +149,10 @@ impl Path {
 
     /// The airtime that a live station itself used in a class since its join, in microseconds.
     pub fn received(&self, station: u16, class: Class) -> u64
-        requires live { IsLive self.now station }
-        ensures value { option_map (λ m. received_in m class) (member self.now.members station)
+        requires live { IsLive self.now.half station }
+        ensures value { option_map (λ m. received_in m class) (member self.now.half.members station)
             ≡ Some result }
-        ensures world { (w : World) (bodies : ℕ → FrameValue) → StandsFor self.now w bodies →
+        ensures world { (w : World) (bodies : ℕ → FrameValue) → StandsFor self.now.half w bodies →
             result ≡ (share w station class).received }
     {
         self.half.received(station, class)

@@ -20,8 +20,8 @@ impl Path {
     /// ask before each call: where all of them are below a number, they are below that and 10,000,000 after a
     /// call (clause `rises`), so they stay so for the first 2^38 calls (`first_calls_law`).
     pub fn has_small_counts(&self) -> bool
-        ensures small { result ≡ true → IsSmall self.now }
-        ensures large { IsSmall self.now → result ≡ true }
+        ensures small { result ≡ true → IsSmall self.now.half }
+        ensures large { IsSmall self.now.half → result ≡ true }
     {
         self.now() < LARGE
             && self.exchanges() < LARGE
@@ -31,8 +31,8 @@ impl Path {
 
     // Whether the sums of each station are small.
     fn has_small_sums(&self) -> bool
-        ensures small { result ≡ true → (s : ℕ) (c : ClassName) → IsSmallIn self.now s c }
-        ensures large { ((s : ℕ) (c : ClassName) → IsSmallIn self.now s c) → result ≡ true }
+        ensures small { result ≡ true → (s : ℕ) (c : ClassName) → IsSmallIn self.now.half s c }
+        ensures large { ((s : ℕ) (c : ClassName) → IsSmallIn self.now.half s c) → result ≡ true }
     {
         let _ = &self.half;
         for station in 0..256u16 {
@@ -45,8 +45,8 @@ impl Path {
 
     // Whether the sums of a station are small in each class.
     fn is_small_at(&self, station: u16) -> bool
-        ensures small { result ≡ true → (c : ClassName) → IsSmallIn self.now station c }
-        ensures large { ((c : ClassName) → IsSmallIn self.now station c) → result ≡ true }
+        ensures small { result ≡ true → (c : ClassName) → IsSmallIn self.now.half station c }
+        ensures large { ((c : ClassName) → IsSmallIn self.now.half station c) → result ≡ true }
     {
         !self.live(station)
             || (self.is_small_in(station, Class::Bk)
@@ -57,9 +57,9 @@ impl Path {
 
     // Whether the sums of a live station are small in a class.
     fn is_small_in(&self, station: u16, class: Class) -> bool
-        requires live { IsLive self.now station }
-        ensures small { result ≡ true → IsSmallIn self.now station class }
-        ensures large { IsSmallIn self.now station class → result ≡ true }
+        requires live { IsLive self.now.half station }
+        ensures small { result ≡ true → IsSmallIn self.now.half station class }
+        ensures large { IsSmallIn self.now.half station class → result ≡ true }
     {
         self.charged(station, class) < LARGE && self.received(station, class) < LARGE
     }

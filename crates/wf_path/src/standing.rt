@@ -18,7 +18,7 @@ impl Path {
     /// Whether a pull of a class would send now: exactly where it would be refused neither as Full nor as
     /// Idle.
     pub fn can_pull(&self, class: Class) -> bool
-        ensures { (w : World) (bodies : ℕ → FrameValue) → StandsFor self.now w bodies →
+        ensures { (w : World) (bodies : ℕ → FrameValue) → StandsFor self.now.half w bodies →
             result ≡ is_none (refusal w (Asked (Pull class))) }
     {
         self.half.may_open(class) && self.ready.has_any(class)
@@ -26,9 +26,9 @@ impl Path {
 
     /// How many frames of a live station's TID, below 8, are in flow queues.
     pub fn queued(&self, station: u16, tid: u8) -> u32
-        requires live { IsLive self.now station }
+        requires live { IsLive self.now.half station }
         requires tid { tid < 8 }
-        ensures { (w : World) (bodies : ℕ → FrameValue) → StandsFor self.now w bodies →
+        ensures { (w : World) (bodies : ℕ → FrameValue) → StandsFor self.now.half w bodies →
             result ≡ frames_queued w station tid }
     {
         self.half.queued(station, tid)
@@ -36,9 +36,9 @@ impl Path {
 
     /// How many numbers of a live station's TID, below 8, wait to be sent.
     pub fn waiting(&self, station: u16, tid: u8) -> u32
-        requires live { IsLive self.now station }
+        requires live { IsLive self.now.half station }
         requires tid { tid < 8 }
-        ensures { (w : World) (bodies : ℕ → FrameValue) → StandsFor self.now w bodies →
+        ensures { (w : World) (bodies : ℕ → FrameValue) → StandsFor self.now.half w bodies →
             result ≡ length (waiting_numbers (session w station tid)) }
     {
         self.half.window(station, tid).waiting_count()

@@ -10,10 +10,11 @@ ghost use Rattle.std.specs.Result.{result_err};
 ghost use Rattle.wf_path.specs.Writing.{write_fault, room_fault, write_header_fault};
 
 use crate::PathFault;
+use crate::addresses::AddressBook;
 use crate::flights::{DURATION, frame_of, header_of};
 use wf_octets_block::{Bar, encode_bar};
 use wf_octets_fields::put;
-use wf_octets_header::{base_address, encode, station_address};
+use wf_octets_header::encode;
 use wf_send_exchanges::Sending;
 use wf_send_half::Transmit;
 
@@ -26,8 +27,9 @@ const REQUEST: usize = 20;
 /// Writes the octets of a transmission of the exchange with this number, by the transmission's index, counted
 /// from 0: a QoS Data frame with its body, or the BlockAckReq (IEEE 802.11-2012, 8.3.2.1 and 8.3.1.8).
 /// Answers how many they are; the rest of `out` stays. After a fault all of it does.
-pub fn write_transmission(
+pub(crate) fn write_transmission(
     half: &Transmit,
+    addresses: &AddressBook,
     number: u64,
     index: u16,
     out: &mut [u8],
@@ -36,12 +38,12 @@ pub fn write_transmission(
 
     // refused exactly where a check fails, for the first that does
     ensures fault { (w : World) (bodies : ℕ → FrameValue) → StandsFor half.now w bodies →
-        result_err result ≡ write_fault w bodies number index (length out.old) }
+        result_err result ≡ write_fault addresses.now w bodies number index (length out.old) }
     ensures unchanged { OnErr result (out.new ≡ out.old) }
 
     // else the first octets are the transmission's
     ensures octets { IfOk result (λ n. (w : World) (bodies : ℕ → FrameValue) → StandsFor half.now w bodies →
-        octets_sent w bodies number index ≡ Some (take n out.new)) }
+        octets_sent addresses.now w bodies number index ≡ Some (take n out.new)) }
     ensures within { IfOk result (λ n. n ≤ length out.new) }
     ensures rest { IfOk result (λ n. drop n out.new ≡ drop n out.old) }
 {
@@ -55,13 +57,13 @@ pub fn write_transmission(
         Sending::Data(numbers) => {
             let seq = numbers.at(index);
             let mut header = [0; HEADER];
-            encode(&header_of(half, open, index, seq), &mut header);
+            encode(&header_of(half, addresses, open, index, seq), &mut header);
             write_parts(&header, frame_of(half, open, index, seq).body(), out)
         }
         Sending::Request(start) => {
             let bar = Bar {
-                ra: station_address(open.station),
-                ta: base_address(),
+                ra: addresses.of(open.station),
+                ta: addresses.base(),
                 duration: DURATION,
                 tid: open.tid,
                 start: *start,
@@ -76,8 +78,9 @@ pub fn write_transmission(
 /// Writes the header alone of a transmission of data of the exchange with this number, by its index, counted
 /// from 0 (IEEE 802.11-2012, 8.3.2.1): its body is that of its frame. Refused as NoExchange where the
 /// exchange is not open, or as BadIndex where it has no data of that index; then `out` stays.
-pub fn write_header(
+pub(crate) fn write_header(
     half: &Transmit,
+    addresses: &AddressBook,
     number: u64,
     index: u16,
     out: &mut [u8; 26],
@@ -87,7 +90,7 @@ pub fn write_header(
         result_err result ≡ write_header_fault w number index }
     ensures unchanged { OnErr result (out.new ≡ out.old) }
     ensures octets { OnOk result ((w : World) (bodies : ℕ → FrameValue) → StandsFor half.now w bodies →
-        header_sent w bodies number index ≡ Some out.new) }
+        header_sent addresses.now w bodies number index ≡ Some out.new) }
 {
     let Some(open) = half.exchange(number) else {
         return Err(PathFault::NoExchange);
@@ -95,7 +98,7 @@ pub fn write_header(
     let Some(seq) = open.number_at(index) else {
         return Err(PathFault::BadIndex);
     };
-    encode(&header_of(half, open, index, seq), out);
+    encode(&header_of(half, addresses, open, index, seq), out);
     Ok(())
 }
 

@@ -5,7 +5,8 @@ use Rattle.wf_path.proofs.answers.read_block_ack.Goals as goal
 
 pub returns-in_default-clause-fault : goal.returns-in_default-clause-fault
 returns-in_default-clause-fault c w bodies h =
-    none_answered c.args.half.now w bodies h c.args.number c.args.octets.now c.in_default.ensures
+    none_answered c.args.half.now w bodies h c.args.number c.args.octets.now c.args.addresses.now
+    c.in_default.ensures
 
 pub window-requires-clause-within : goal.window-requires-clause-within
 window-requires-clause-within c = open_within c.args.half.now c.requires c.args.number c.in-Some.open.now
@@ -18,6 +19,7 @@ window-requires-clause-tid c = open_low c.args.half.now c.requires c.args.number
 pub returns-clause-fault : goal.returns-clause-fault
 returns-clause-fault c w bodies h =
     c.read_answer.ensures.fault
-    ∙ some_answered c.args.half.now w bodies h c.args.number c.args.octets.now c.in-Some.open.now
+    ∙ some_answered c.args.half.now w bodies h c.args.number c.args.octets.now c.args.addresses.now
+    c.in-Some.open.now
     (nat_lt 64 c.size-wide.result) c.in-Some.ensures
     (ap (nat_lt 64) (c.size-wide.ensures.shown ∙ ap (λ (z : WindowValue). z.size) c.window.ensures))

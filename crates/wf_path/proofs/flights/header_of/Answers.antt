@@ -1,7 +1,7 @@
 use Rattle.std.proofs.Common.{◌≡◌, refl, sym, ap, ◌∙◌, subst, true, nat_lt, arith}
 use Rattle.wf_frame.specs.Frames.{FrameValue}
 use Rattle.wf_send_exchanges.specs.declared.opened.Open.{Open}
-use Rattle.wf_octets_header.specs.Addresses.{address_of_station}
+use Rattle.wf_path.specs.Addresses.{address_in}
 use Rattle.wf_send_window.specs.Window.{WindowValue, WindowStandsFor, state_at, holds_parcel}
 use Rattle.wf_def_world.specs.World.{session}
 use Rattle.wf_path.specs.Transmissions.{is_retried}
@@ -37,8 +37,9 @@ returns-clause-header c w bodies x m f =
     in
     let more = ap (λ (k : Open). k.more) f.same in
     let tid = ap (λ (k : Open). k.tid) f.same in
-    let recipient = c.station_address.ensures ∙ ap (λ (k : Open). address_of_station k.station) f.same in
+    let recipient = c.of.ensures
+    ∙ ap (λ (k : Open). address_in c.args.addresses.now k.station) f.same in
     let seq = air c.args.half.now c.args.open.now c.args.index w bodies x m f c.args.seq c.requires.carries in
     let source = c.source.ensures.exact
     ∙ ap (λ (g : FrameValue). g.source) (c.frame_of.ensures w bodies x m f) in
-    cc (retry, more, tid, recipient, seq, c.base_address.ensures, source)
+    cc (retry, more, tid, recipient, seq, c.base.ensures, source)

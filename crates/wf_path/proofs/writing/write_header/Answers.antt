@@ -29,5 +29,6 @@ returns-clause-octets c w bodies h =
     (c.encode.array_long ∙ sym (c.encode.ensures.size ∙ ap size_of c.header_of.ensures.kind)))
     ∙ c.encode.ensures.octets in
     header_is c.args.half.now c.args.number c.in-Some.open.now c.args.index c.in-Some-number_at.seq
-    c.in-Some.ensures (sym c.in-Some-number_at.ensures) w bodies h c.header_of.result c.encode.new.out
+    c.in-Some.ensures (sym c.in-Some-number_at.ensures) w bodies h c.args.addresses.now c.header_of.result
+    c.encode.new.out
     (λ x m f. c.header_of.ensures.header w bodies x m f) head_is

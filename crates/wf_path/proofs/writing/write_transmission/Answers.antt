@@ -1,5 +1,5 @@
 use Rattle.std.proofs.Common.{◌≡◌, sym, ap, ◌∙◌, arith, ◌++◌, [], Some, length, take}
-use Rattle.wf_octets_header.specs.Addresses.{address_of_station}
+use Rattle.wf_path.specs.Addresses.{address_in}
 use Rattle.wf_octets_header.specs.Layout.{size_of, header_as_octets}
 use Rattle.wf_octets_block.specs.declared.frames.Bar.{Bar}
 use Rattle.wf_send_exchanges.specs.declared.opened.Open.{Open}
@@ -13,11 +13,12 @@ use Rattle.wf_path.proofs.writing.write_transmission.Goals as goal
 
 pub returns-in_default-clause-fault : goal.returns-in_default-clause-fault
 returns-in_default-clause-fault c w bodies h =
-    not_open c.args.half.now w bodies h c.args.number c.args.index _ c.in_default.ensures
+    not_open c.args.addresses.now c.args.half.now w bodies h c.args.number c.args.index _ c.in_default.ensures
 
 pub returns-then-index-count-clause-fault : goal.returns-then-index-count-clause-fault
 returns-then-index-count-clause-fault c w bodies h =
-    past_last c.args.half.now w bodies h c.args.number c.args.index _ c.in-Some.open.now c.in-Some.ensures
+    past_last c.args.addresses.now c.args.half.now w bodies h c.args.number c.args.index _ c.in-Some.open.now
+    c.in-Some.ensures
     (omega (arith, c.count.ensures.count, c.if-index-count.true))
 
 pub header_of-requires : goal.header_of-requires
@@ -44,7 +45,8 @@ returns-in-Data-clause-fault c w bodies h =
     (c.encode.array_long ∙ sym (c.encode.ensures.size ∙ ap size_of c.header_of.ensures.kind)))
     ∙ c.encode.ensures.octets in
     c.write_parts.ensures.fault
-    ∙ data_fault c.args.half.now c.args.number c.in-Some.open.now c.args.index c.at-seq.result
+    ∙ data_fault c.args.addresses.now c.args.half.now c.args.number c.in-Some.open.now c.args.index
+    c.at-seq.result
     c.in-Some.ensures (ap (λ (s : Sending). number_carried s c.args.index) c.in-Data.is
     ∙ c.at-seq.ensures)
     w bodies h c.header_of.result c.encode.new.out c.body.result.now c.frame_of.result.now
@@ -60,7 +62,8 @@ returns-in-Data-clause-octets c =
     where_ok (λ n. take n c.write_parts.new.out ≡ c.encode.new.out ++ c.body.result.now) _
     c.write_parts.result c.write_parts.ensures.octets
     (λ n is w bodies h.
-    data_sent c.args.half.now c.args.number c.in-Some.open.now c.args.index c.at-seq.result c.in-Some.ensures
+    data_sent c.args.addresses.now c.args.half.now c.args.number c.in-Some.open.now c.args.index
+    c.at-seq.result c.in-Some.ensures
     (ap (λ (s : Sending). number_carried s c.args.index) c.in-Data.is ∙ c.at-seq.ensures)
     w bodies h c.header_of.result c.encode.new.out c.body.result.now c.frame_of.result.now
     (λ x m f. c.header_of.ensures.header w bodies x m f)
@@ -70,30 +73,31 @@ returns-in-Data-clause-octets c =
 pub returns-in-Request-clause-fault : goal.returns-in-Request-clause-fault
 returns-in-Request-clause-fault c w bodies h =
     let bar : Bar = record {
-      ra = c.station_address.result;
-      ta = c.base_address.result;
+      ra = c.of.result;
+      ta = c.base.result;
       duration = 48;
       tid =
           c.in-Some.open.now.tid;
       start = c.in-Request.start;
     } in
     c.write_parts-in-Request.ensures.fault
-    ∙ request_fault c.args.half.now c.args.number c.in-Some.open.now c.args.index c.in-Request.start
+    ∙ request_fault c.args.addresses.now c.args.half.now c.args.number c.in-Some.open.now c.args.index
+    c.in-Request.start
     c.in-Some.ensures c.in-Request.is (omega (arith, c.count.ensures.count, c.if-index-count.false))
     w bodies h bar c.encode_bar.new.out
     (λ x start same air.
-    let recipient : c.station_address.result ≡ address_of_station x.station =
-    c.station_address.ensures ∙ ap (λ (k : Open). address_of_station k.station) same in
+    let recipient : c.of.result ≡ address_in c.args.addresses.now x.station =
+    c.of.ensures ∙ ap (λ (k : Open). address_in c.args.addresses.now k.station) same in
     let tid : c.in-Some.open.now.tid ≡ x.tid = ap (λ (k : Open). k.tid) same in
-    let bar_is : bar ≡ bar_of x start = cc (recipient, c.base_address.ensures, tid, air) in
+    let bar_is : bar ≡ bar_of c.args.addresses.now x start = cc (recipient, c.base.ensures, tid, air) in
     bar_is)
     c.encode_bar.ensures.octets (length c.args.out.now)
 
 pub returns-in-Request-clause-octets : goal.returns-in-Request-clause-octets
 returns-in-Request-clause-octets c =
     let bar : Bar = record {
-      ra = c.station_address.result;
-      ta = c.base_address.result;
+      ra = c.of.result;
+      ta = c.base.result;
       duration = 48;
       tid =
           c.in-Some.open.now.tid;
@@ -102,14 +106,15 @@ returns-in-Request-clause-octets c =
     where_ok (λ n. take n c.write_parts-in-Request.new.out ≡ c.encode_bar.new.out ++ []) _
     c.write_parts-in-Request.result c.write_parts-in-Request.ensures.octets
     (λ n is w bodies h.
-    request_sent c.args.half.now c.args.number c.in-Some.open.now c.args.index c.in-Request.start
+    request_sent c.args.addresses.now c.args.half.now c.args.number c.in-Some.open.now c.args.index
+    c.in-Request.start
     c.in-Some.ensures c.in-Request.is (omega (arith, c.count.ensures.count, c.if-index-count.false))
     w bodies h bar c.encode_bar.new.out
     (λ x start same air.
-    let recipient : c.station_address.result ≡ address_of_station x.station =
-    c.station_address.ensures ∙ ap (λ (k : Open). address_of_station k.station) same in
+    let recipient : c.of.result ≡ address_in c.args.addresses.now x.station =
+    c.of.ensures ∙ ap (λ (k : Open). address_in c.args.addresses.now k.station) same in
     let tid : c.in-Some.open.now.tid ≡ x.tid = ap (λ (k : Open). k.tid) same in
-    let bar_is : bar ≡ bar_of x start = cc (recipient, c.base_address.ensures, tid, air) in
+    let bar_is : bar ≡ bar_of c.args.addresses.now x start = cc (recipient, c.base.ensures, tid, air) in
     bar_is)
     c.encode_bar.ensures.octets
     ∙ ap Some (sym is))

@@ -3,14 +3,16 @@ use Rattle.std.specs.Prelude.{find, IfSome, Ok, Err}
 use Rattle.wf_frame.specs.declared.answers.Brief.TheVariants as brief
 use Rattle.wf_send_half.specs.Bits.{count_shown_of}
 use Rattle.wf_path.proofs.Dones.{charge_small, open_tid, open_low_after, open_room, tracked_ended, is_ended, nothing_ended}
+use Rattle.wf_path.proofs.Values.{half_is}
 use Rattle.wf_path.proofs.path.Path.done_bits.Goals as goal
 
 pub returns-in_default : goal.returns-in_default
 returns-in_default c = nothing_ended c.self.inside.half c.self.inside.ready c.self.invariant c.args.exchange
-    c.args.heard c.args.air c.in_default.ensures c.args.self.now c.self.view_is
+    c.args.heard c.args.air c.in_default.ensures c.self.inside.addresses c.args.self.now c.self.view_is
 
 pub done-requires-clause-small : goal.done-requires-clause-small
-done-requires-clause-small c = charge_small c.args.self.now c.self.inside.half c.self.view_is c.args.exchange
+done-requires-clause-small c = charge_small c.args.self.now.half c.self.inside.half (half_is c.self.view_is)
+    c.args.exchange
     c.requires.small
 
 pub of_tid-requires : goal.of_tid-requires
@@ -76,7 +78,8 @@ returns-in-Ok c =
       refused =
           c.in-Ok.ensures.refused;
     })
-    c.args.self.now c.self.view_is (brief.Ended c.in-Ok.ended.acked c.in-Ok.ended.waiting
+    c.self.inside.addresses c.args.self.now c.self.view_is (brief.Ended c.in-Ok.ended.acked
+    c.in-Ok.ended.waiting
     c.in-Ok.ended.failed) (λ pairs ids. refl)
     (λ a i f is. subst (λ (n : ℕ). IfSome (find (λ y. y.number == c.args.exchange) c.self.inside.half.opened)
     (λ y. n ≡ count_shown_of c.self.inside.half c.args.heard y))
@@ -93,6 +96,6 @@ returns-in-Err c =
       found = c.in-Err.ensures.found;
       refused = c.in-Err.ensures.refused;
     })
-    c.args.self.now c.self.view_is (brief.Refused c.in-Err.reason) (λ pairs ids. refl)
+    c.self.inside.addresses c.args.self.now c.self.view_is (brief.Refused c.in-Err.reason) (λ pairs ids. refl)
     (λ a i f is. absurd (cc is))
     (λ why is. (ap brief.Refused (cc (c.in-Err.ensures.refused.0, is)), c.in-Err.ensures.refused.1))

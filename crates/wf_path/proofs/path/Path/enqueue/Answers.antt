@@ -8,9 +8,10 @@ use Rattle.wf_frame.specs.declared.notes.ReplyNote.TheVariants.{Accepted}
 use Rattle.wf_queue_flows_refines.specs.Frames.{with_body}
 use Rattle.wf_send_half.specs.Enqueues.{enqueue_of, as_accepted}
 use Rattle.wf_send_half_refines.specs.Half.{TransmitValue}
-use Rattle.wf_path.specs.Paths.{IsPath, RiseLittle}
+use Rattle.wf_path.specs.Paths.{PathValue, IsPath, RiseLittle}
 use Rattle.wf_path.proofs.Enqueues.{some_octets, few_octets, accepted_tid, accepted_within, accepted_room, accepted_path, loser_within, loser_room, tracked_alone, tracked_both}
 use Rattle.wf_path.proofs.Rises.{rises_by, no_rise}
+use Rattle.wf_path.proofs.Values.{half_is}
 use Rattle.wf_path.proofs.path.Path.enqueue.Goals as goal
 use Rattle.wf_path.proofs.path.Path.enqueue.Goals.{in-Some, in_default}
 
@@ -97,12 +98,13 @@ invariant_of-self-in_default c =
 
 pub returns-clause-path : goal.returns-clause-path
 returns-clause-path c = elim c.match-loser.branch [
-  | in-Some w ↦ subst IsPath (sym w.self-is) (accepted_path c.self.inside.half c.self.inside.ready
+  | in-Some w ↦ subst (λ (p : PathValue). IsPath p.half) (sym w.self-is) (accepted_path c.self.inside.half
+      c.self.inside.ready
       c.self.invariant c.args.parcel
       (Accepted c.in_ok-accepted.accepted.0 (option_map (λ l. l.id) c.in_ok-accepted.accepted.1))
       (λ bodies. with_body bodies (as_accepted c.self.inside.half c.args.parcel)) c.enqueue.new.self
       c.in_ok-accepted.ensures.meets (λ why e. cc e))
-  | in_default w ↦ subst IsPath (sym w.self-is)
+  | in_default w ↦ subst (λ (p : PathValue). IsPath p.half) (sym w.self-is)
       (accepted_path c.self.inside.half c.self.inside.ready c.self.invariant c.args.parcel
       (Accepted c.in_ok-accepted.accepted.0 (option_map (λ l. l.id) c.in_ok-accepted.accepted.1))
       (λ bodies. with_body bodies (as_accepted c.self.inside.half c.args.parcel)) c.enqueue.new.self
@@ -111,8 +113,8 @@ returns-clause-path c = elim c.match-loser.branch [
 
 pub returns-clause-rises : goal.returns-clause-rises
 returns-clause-rises c =
-    let rise : RiseLittle c.args.self.now c.enqueue.new.self =
-    subst (λ (z : TransmitValue). RiseLittle z c.enqueue.new.self) c.self.view_is
+    let rise : RiseLittle c.args.self.now.half c.enqueue.new.self =
+    subst (λ (z : TransmitValue). RiseLittle z c.enqueue.new.self) (half_is c.self.view_is)
     (rises_by c.self.inside.half c.enqueue.new.self c.self.invariant.path
     (with_body c.self.invariant.path.bodies (as_accepted c.self.inside.half c.args.parcel))
     (enqueue_of c.args.parcel)
@@ -120,26 +122,26 @@ returns-clause-rises c =
     (c.in_ok-accepted.ensures.meets c.self.invariant.path.world c.self.invariant.path.bodies
     c.self.invariant.path.stands)) in
     elim c.match-loser.branch [
-      | in-Some w ↦ subst (RiseLittle c.args.self.now) (sym w.self-is) rise
-      | in_default w ↦ subst (RiseLittle c.args.self.now) (sym w.self-is) rise
+      | in-Some w ↦ subst (λ (p : PathValue). RiseLittle c.args.self.now.half p.half) (sym w.self-is) rise
+      | in_default w ↦ subst (λ (p : PathValue). RiseLittle c.args.self.now.half p.half) (sym w.self-is) rise
     ]
 
 pub returns-in_err-accepted-clause-rises : goal.returns-in_err-accepted-clause-rises
-returns-in_err-accepted-clause-rises c = subst (RiseLittle c.args.self.now)
-    (sym (c.in_err-accepted.ensures.refused ∙ c.self.view_is)) (no_rise c.args.self.now)
+returns-in_err-accepted-clause-rises c = subst (RiseLittle c.args.self.now.half)
+    (sym (c.in_err-accepted.ensures.refused ∙ half_is c.self.view_is)) (no_rise c.args.self.now.half)
 
 pub returns-clause-meets : goal.returns-clause-meets
 returns-clause-meets c =
     let P : TransmitValue → TransmitValue → Type 0 = λ x y. (w : World) (bodies : ℕ → FrameValue) →
     StandsFor x w bodies → Meets w (with_body bodies (as_accepted x c.args.parcel))
     (enqueue_of c.args.parcel) y (Accepted c.in_ok-accepted.accepted.0 c.id_of-dropped.result) in
-    let met : P c.args.self.now c.enqueue.new.self =
-    subst (λ (x : TransmitValue). P x c.enqueue.new.self) c.self.view_is
+    let met : P c.args.self.now.half c.enqueue.new.self =
+    subst (λ (x : TransmitValue). P x c.enqueue.new.self) (half_is c.self.view_is)
     (λ w bodies h. subst (λ (o : Option ℕ). Meets w
     (with_body bodies (as_accepted c.self.inside.half c.args.parcel)) (enqueue_of c.args.parcel)
     c.enqueue.new.self (Accepted c.in_ok-accepted.accepted.0 o)) (sym c.id_of-dropped.ensures)
     (c.in_ok-accepted.ensures.meets w bodies h)) in
     elim c.match-loser.branch [
-      | in-Some w ↦ subst (P c.args.self.now) (sym w.self-is) met
-      | in_default w ↦ subst (P c.args.self.now) (sym w.self-is) met
+      | in-Some w ↦ subst (λ (p : PathValue). P c.args.self.now.half p.half) (sym w.self-is) met
+      | in_default w ↦ subst (λ (p : PathValue). P c.args.self.now.half p.half) (sym w.self-is) met
     ]

@@ -3,5 +3,6 @@ use Rattle.wf_path.proofs.SmallSums.{small_counts}
 use Rattle.wf_path.proofs.path.Path.has_small_counts.Goals as goal
 
 pub returns-then-tally-lt-LARGE-clause-small : goal.returns-then-tally-lt-LARGE-clause-small
-returns-then-tally-lt-LARGE-clause-small c is = small_counts c.args.self.now (search rules) (search rules)
+returns-then-tally-lt-LARGE-clause-small c is = small_counts c.args.self.now.half (search rules) (search
+    rules)
     (search rules) (c.has_small_sums.ensures.small is)

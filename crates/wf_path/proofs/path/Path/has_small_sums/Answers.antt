@@ -1,6 +1,7 @@
 use Rattle.std.proofs.Common.{arith, subst}
 use Rattle.wf_path.specs.Paths.{IsPath}
 use Rattle.wf_path.proofs.SmallSums.{all_small, one_more}
+use Rattle.wf_path.proofs.Values.{half_is}
 use Rattle.wf_path.proofs.path.Path.has_small_sums.Goals as goal
 
 pub loop-station-init : goal.loop-station-init
@@ -8,10 +9,10 @@ loop-station-init c s k low = absurd (omega (arith, low))
 
 pub loop-station-preserved : goal.loop-station-preserved
 loop-station-preserved c =
-    one_more c.args.self.now c.loop-station.station c.loop-station.invariant
+    one_more c.args.self.now.half c.loop-station.station c.loop-station.invariant
     (c.is_small_at.ensures.small c.if-not-is_small_at.false)
 
 pub returns-clause-small : goal.returns-clause-small
 returns-clause-small c is =
-    all_small c.args.self.now (subst IsPath c.self.view_is c.self.invariant.path)
+    all_small c.args.self.now.half (subst IsPath (half_is c.self.view_is) c.self.invariant.path)
     (λ s k low. c.loop-station.invariant s k (omega (arith, low, c.loop-station-test.false)))

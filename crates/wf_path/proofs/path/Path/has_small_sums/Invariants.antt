@@ -5,4 +5,4 @@ use Rattle.wf_path.proofs.path.Path.has_small_sums.Given as goal
 
 -- the sums of the stations before are small
 abbrev pub invariant-loop-station : goal.invariant-loop-station
-invariant-loop-station l = (s : ℕ) (c : Class) → s < l.station → IsSmallIn l.self s c
+invariant-loop-station l = (s : ℕ) (c : Class) → s < l.station → IsSmallIn l.self.half s c

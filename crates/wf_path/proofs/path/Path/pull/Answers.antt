@@ -32,12 +32,15 @@ invariant_of-self-in_default c =
 pub returns-in-Send : goal.returns-in-Send
 returns-in-Send c =
     subst (λ (b : Brief). IsAnswered c.args.self.now
-    (Pull c.args.class) c.pull-brief.new.self b c.pull-brief.new.pairs) c.in-Send.is
+    (Pull c.args.class)
+    (record { half = c.pull-brief.new.self; addresses = c.self.inside.addresses }) b
+    c.pull-brief.new.pairs) c.in-Send.is
     (pull_answered c.self.inside.half c.self.inside.ready c.self.invariant c.args.class c.pull-brief.result
-    c.pull-brief.new.pairs c.pull-brief.new.self c.pull-brief.ensures.meets c.args.self.now c.self.view_is
+    c.pull-brief.new.pairs c.pull-brief.new.self c.pull-brief.ensures.meets c.self.inside.addresses
+    c.args.self.now c.self.view_is
     (λ e. (c.pull-brief.ensures.full e).1))
 
 pub returns-in_default : goal.returns-in_default
 returns-in_default c = pull_answered c.self.inside.half c.self.inside.ready c.self.invariant c.args.class
     c.pull-brief.result c.pull-brief.new.pairs c.pull-brief.new.self c.pull-brief.ensures.meets
-    c.args.self.now c.self.view_is (λ e. (c.pull-brief.ensures.full e).1)
+    c.self.inside.addresses c.args.self.now c.self.view_is (λ e. (c.pull-brief.ensures.full e).1)

@@ -4,20 +4,21 @@ use Rattle.wf_send_half_refines.specs.Half.{TransmitValue}
 use Rattle.wf_send_half_refines.specs.Standing.{StandsFor}
 use Rattle.wf_send_half_refines.proofs.Readers.{queued_same}
 use Rattle.wf_path.proofs.ToSend.{live_in, live_within}
+use Rattle.wf_path.proofs.Values.{half_is}
 use Rattle.wf_path.proofs.path.Path.queued.Goals as goal
 
 pub queued-requires-clause-within : goal.queued-requires-clause-within
 queued-requires-clause-within c = live_within c.self.inside.half c.args.station
-    (subst (λ (v : TransmitValue). IsLive v c.args.station) (sym c.self.view_is) c.requires.live)
+    (subst (λ (v : TransmitValue). IsLive v c.args.station) (sym (half_is c.self.view_is)) c.requires.live)
     c.self.invariant.path
 
 pub returns : goal.returns
 returns c w bodies h =
     let v : TransmitValue = c.self.inside.half in
     let stands : StandsFor v w bodies = subst (λ (u : TransmitValue). StandsFor u w bodies)
-    (sym c.self.view_is) h in
+    (sym (half_is c.self.view_is)) h in
     let live : IsLive v c.args.station =
-    subst (λ (u : TransmitValue). IsLive u c.args.station) (sym c.self.view_is) c.requires.live in
+    subst (λ (u : TransmitValue). IsLive u c.args.station) (sym (half_is c.self.view_is)) c.requires.live in
     c.queued.ensures
     ∙ queued_same v w bodies c.args.station c.args.tid stands.parts
     (live_in v c.args.station live w bodies stands) c.requires.tid

@@ -24,11 +24,13 @@ invariant_of-self c =
 pub returns-in-Ok : goal.returns-in-Ok
 returns-in-Ok c =
     told_briefly c.self.inside.half c.self.inside.ready c.self.invariant (Wake c.args.station)
-    (reply.Woken) c.wake.new.self c.in-Ok.ensures.meets c.args.self.now c.self.view_is (brief.Woken)
+    (reply.Woken) c.wake.new.self c.in-Ok.ensures.meets c.self.inside.addresses c.args.self.now
+    c.self.view_is (brief.Woken)
     (λ pairs ids. refl) tt (λ e. absurd (cc e))
 
 pub returns-in-Err : goal.returns-in-Err
 returns-in-Err c =
     told_briefly c.self.inside.half c.self.inside.ready c.self.invariant (Wake c.args.station)
-    (reply.Refused c.in-Err.reason) c.wake.new.self c.in-Err.ensures.meets c.args.self.now c.self.view_is
+    (reply.Refused c.in-Err.reason) c.wake.new.self c.in-Err.ensures.meets c.self.inside.addresses
+    c.args.self.now c.self.view_is
     (brief.Refused c.in-Err.reason) (λ pairs ids. refl) tt (λ _. c.in-Err.ensures.refused)

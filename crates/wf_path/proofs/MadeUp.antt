@@ -1,0 +1,89 @@
+-- The made-up addresses, and what is sent from and to them.
+use Rattle.std.proofs.Common.{◌≡◌, refl, ap, ap₂, arith, ℕ, List, [], ◌∷◌, ◌++◌, map, length, inl, inr, Option, Some, None}
+use Rattle.std.specs.Prelude.{option_and_then, slice_get}
+use Rattle.std.specs.List.{range_with_len}
+use Rattle.std.specs.Option.{option_map_or}
+use Rattle.std.proofs.lemmas.Bool.{cases_lt}
+use Rattle.std.proofs.lemmas.List.{get_or_past}
+use Rattle.std.proofs.lemmas.List.FromFn.{get_or-map-range_with_len, length-map-range_with_len}
+use Rattle.wf_frame.specs.Frames.{FrameValue}
+use Rattle.wf_octets_block.specs.Layout.{head_octets, request, narrow_form}
+use Rattle.wf_octets_block.specs.declared.frames.Bar.{Bar}
+use Rattle.wf_octets_header.specs.Addresses.{base, address_of_station}
+use Rattle.wf_octets_header.specs.Layout.{header_as_octets}
+use Rattle.wf_octets_header.specs.declared.header.Header.{Header}
+use Rattle.wf_def_world.specs.World.{World, Exchange, Mpdu, Content, Frames, Request, exchange}
+use Rattle.wf_path.specs.Addresses.{Addresses, made_up, address_in, station_numbers}
+use Rattle.wf_path.specs.Transmissions.{header_of, data_octets, bar_of, octets_of_content, frames_on_air, transmission_octets, octets_sent}
+use Rattle.wf_path.specs.Writing.{room_fault, write_fault}
+use Rattle.wf_path.specs.declared.faults.PathFault.TheVariants.{NoExchange}
+
+pub made_up_base : made_up.base ≡ base
+unfolding made_up
+made_up_base = refl
+
+pub made_up_address : (s : ℕ) → address_in made_up s ≡ address_of_station s
+unfolding made_up
+made_up_address s = elim (cases_lt s station_numbers) [
+  | inl low ↦ get_or-map-range_with_len address_of_station 0 station_numbers s s (address_of_station s) low
+      (omega arith)
+  | inr past ↦ get_or_past (map address_of_station (range_with_len 0 station_numbers)) s (address_of_station
+      s)
+      (omega (arith, past, length-map-range_with_len address_of_station 0 station_numbers))
+]
+
+-- addresses that compute to the made-up ones
+abbrev pub plain : Addresses
+plain = record { base = base; stations = [] }
+
+-- ---- what is sent is sent from and to these
+
+module _ (w : World) (bodies : ℕ → FrameValue) where
+  header_plain : (x : Exchange) (m : Mpdu) → header_of made_up w bodies x m ≡ header_of plain w bodies x m
+  header_plain x m = ap₂ (λ (ra ta : List ℕ). let h : Header = record (header_of plain w bodies x m) {
+    a1 = ra;
+    a2 = ta;
+  } in h) (made_up_address x.station) made_up_base
+
+  all_plain : (x : Exchange) (ms : List Mpdu) →
+      map (data_octets made_up w bodies x) ms ≡ map (data_octets plain w bodies x) ms
+  all_plain x [] = refl
+  all_plain x (m ∷ ms) = ap₂ (λ (o : List ℕ) (os : List (List ℕ)). o ∷ os)
+      (ap (λ (h : Header). header_as_octets h ++ (bodies m.id).body) (header_plain x m)) (all_plain x ms)
+
+  bar_plain : (x : Exchange) (start : ℕ) → bar_of made_up x start ≡ bar_of plain x start
+  bar_plain x start = ap₂ (λ (ra ta : List ℕ). let b : Bar = record (bar_of plain x start) {
+    ra = ra;
+    ta = ta;
+  } in b) (made_up_address x.station) made_up_base
+
+  content_plain : (x : Exchange) (c : Content) →
+      octets_of_content made_up w bodies x c ≡ octets_of_content plain w bodies x c
+  content_plain x (Frames mpdus) = all_plain x mpdus
+  content_plain x (Request start) = ap (λ (b : Bar). head_octets request narrow_form b ∷ [])
+      (bar_plain x start)
+
+  pub frames_plain : (x : Exchange) → frames_on_air made_up w bodies x ≡ frames_on_air plain w bodies x
+  frames_plain x = content_plain x x.content
+
+  pub transmission_plain : (x : Exchange) (k : ℕ) →
+      transmission_octets made_up w bodies x k ≡ transmission_octets plain w bodies x k
+  transmission_plain x k = ap (λ (all : List (List ℕ)). slice_get all k) (frames_plain x)
+
+  pub sent_plain : (e k : ℕ) → octets_sent made_up w bodies e k ≡ octets_sent plain w bodies e k
+  sent_plain e k = of (exchange w e)
+    where
+      of : (o : Option Exchange) → option_and_then (λ x. transmission_octets made_up w bodies x k) o
+          ≡ option_and_then (λ x. transmission_octets plain w bodies x k) o
+      of None = refl
+      of (Some x) = transmission_plain x k
+
+  pub write_fault_plain : (e k room : ℕ) →
+      write_fault made_up w bodies e k room ≡ write_fault plain w bodies e k room
+  write_fault_plain e k room = of (exchange w e)
+    where
+      of : (o : Option Exchange) → option_map_or
+          (λ x. room_fault room (transmission_octets made_up w bodies x k)) o (Some NoExchange)
+          ≡ option_map_or (λ x. room_fault room (transmission_octets plain w bodies x k)) o (Some NoExchange)
+      of None = refl
+      of (Some x) = ap (room_fault room) (transmission_plain x k)
