@@ -26,9 +26,11 @@ use Rattle.wf_send_half_refines.specs.Standing.{open_of}
 use Rattle.wf_send_half.proofs.Ends.{IsData, sends as data_sent, begun}
 use Rattle.wf_path.specs.declared.faults.PathFault.{PathFault}
 use Rattle.wf_path.specs.declared.faults.PathFault.TheVariants.{SmallBuffer}
+use Rattle.wf_path.specs.Addresses.{made_up}
 use Rattle.wf_path.specs.Transmissions.{header_of, data_octets, bar_of, bar_octets, transmission_octets, octets_sent}
 use Rattle.std.specs.Result.{result_err}
 use Rattle.wf_path.specs.Writing.{room_fault, write_fault}
+use Rattle.wf_path.proofs.MadeUp.{plain, sent_plain, write_fault_plain}
 use Rattle.wf_cell.specs.Octets.{SaysData, SaysRequest, IsSentTo}
 
 -- ---- what they say
@@ -42,22 +44,22 @@ HasSource bodies m = length (bodies m.id).source ≡ 6
 
 -- so its header has 26
 pub header_long : (w : World) (bodies : ℕ → FrameValue) (x : Exchange) (m : Mpdu) → HasSource bodies m →
-    length (header_as_octets (header_of w bodies x m)) ≡ 26
+    length (header_as_octets (header_of plain w bodies x m)) ≡ 26
 header_long w bodies x m source =
-    let h : Header = header_of w bodies x m in
+    let h : Header = header_of plain w bodies x m in
     qos_long (first_octet h.kind) (flags_octet h) h.duration h.a1 h.a2 h.a3 (16 * h.seq) h.tid refl refl
     source
 
 data_says : (w : World) (bodies : ℕ → FrameValue) (x : Exchange) (m : Mpdu) → x.tid < 8 →
-    HasSource bodies m → SaysData x.station x.tid (m.number % 4096) (data_octets w bodies x m)
+    HasSource bodies m → SaysData x.station x.tid (m.number % 4096) (data_octets plain w bodies x m)
 data_says w bodies x m low source = record {
-  header = header_of w bodies x m;
+  header = header_of plain w bodies x m;
   is_for = record {
     layout =
-        qos_begins (data_octets w bodies x m) (header_of w bodies x m) refl refl
+        qos_begins (data_octets plain w bodies x m) (header_of plain w bodies x m) refl refl
         (record { not_both = refl; tid = omega (arith, low) }) refl
         (two_read (16 * (m.number % 4096)) (omega arith)) refl refl source
-        (take_at (header_as_octets (header_of w bodies x m)) (bodies m.id).body 26
+        (take_at (header_as_octets (header_of plain w bodies x m)) (bodies m.id).body 26
         (header_long w bodies x m source));
     kind = refl;
     recipient = refl;
@@ -69,13 +71,13 @@ data_says w bodies x m low source = record {
 }
 
 bar_says : (x : Exchange) (start : ℕ) → x.tid < 8 →
-    SaysRequest x.station x.tid (start % 4096) (bar_octets x start)
+    SaysRequest x.station x.tid (start % 4096) (bar_octets plain x start)
 bar_says x start low = record {
-  bar = bar_of x start;
+  bar = bar_of plain x start;
   is_for = record {
     layout = record {
       size = refl;
-      head = head_begins (bar_octets x start) request narrow_form (bar_of x start) (inl refl)
+      head = head_begins (bar_octets plain x start) request narrow_form (bar_of plain x start) (inl refl)
           (omega (arith, low)) refl (two_read (16 * (start % 4096)) (omega arith)) refl refl refl;
     };
     recipient = refl;
@@ -97,30 +99,31 @@ with_content x content = record x { content = content }
 of_content : (w : World) (bodies : ℕ → FrameValue) (x : Exchange) (k : ℕ) (octets : List ℕ) → x.tid < 8 →
     (content : Content) → k < transmissions content →
     ((m : Mpdu) → slice_get (mpdus_of content) k ≡ Some m → HasSource bodies m) →
-    transmission_octets w bodies (record x { content = content }) k ≡ Some octets →
+    transmission_octets plain w bodies (record x { content = content }) k ≡ Some octets →
     IsSentTo x.station x.tid k content octets
 of_content w bodies x k octets low (Frames mpdus) few sources sent =
     let m : Mpdu = at no_mpdu mpdus k in
     let z : Exchange = record x { content = Frames mpdus } in
-    let is : Some (data_octets w bodies z m) ≡ Some octets =
-    sym (slice_get-map (data_octets w bodies z) mpdus k
-    ∙ ap (option_map (data_octets w bodies z)) (in_list mpdus k few)) ∙ sent in
-    let same : data_octets w bodies z m ≡ octets = cc in
+    let is : Some (data_octets plain w bodies z m) ≡ Some octets =
+    sym (slice_get-map (data_octets plain w bodies z) mpdus k
+    ∙ ap (option_map (data_octets plain w bodies z)) (in_list mpdus k few)) ∙ sent in
+    let same : data_octets plain w bodies z m ≡ octets = cc in
     subst (SaysData x.station x.tid (m.number % 4096)) same
     (data_says w bodies z m low (sources m (in_list mpdus k few)))
 of_content w bodies x zero octets low (Request start) few sources sent =
     let z : Exchange = record x { content = Request start } in
-    let same : bar_octets z start ≡ octets = cc in
+    let same : bar_octets plain z start ≡ octets = cc in
     subst (SaysRequest x.station x.tid (start % 4096)) same (bar_says z start low)
 of_content w bodies x (suc k) octets low (Request start) few sources sent = absurd (omega arith)
 
 pub octets_say : (w : World) (bodies : ℕ → FrameValue) (e k : ℕ) (x : Exchange) (octets : List ℕ) →
     exchange w e ≡ Some x → x.tid < 8 → k < transmissions x.content →
     ((m : Mpdu) → slice_get (mpdus_of x.content) k ≡ Some m → HasSource bodies m) →
-    octets_sent w bodies e k ≡ Some octets → IsSentTo x.station x.tid k x.content octets
+    octets_sent made_up w bodies e k ≡ Some octets → IsSentTo x.station x.tid k x.content octets
 octets_say w bodies e k x octets known low few sources sent =
     of_content w bodies x k octets low x.content few sources
-    (sym (ap (option_and_then (λ y. transmission_octets w bodies y k)) known) ∙ sent)
+    (sym (ap (option_and_then (λ y. transmission_octets plain w bodies y k)) known)
+    ∙ sym (sent_plain w bodies e k) ∙ sent)
 
 -- ---- there is room for them
 
@@ -172,49 +175,51 @@ module _ (v : TransmitValue) (w : World) (bodies : ℕ → FrameValue) (h : Stan
       omega (arith, all.short m.id, ap len_of (h.parts.others.notes m.id (is_accepted k m among)).note)
 
   data_short : (k : ℕ) (m : Mpdu) → slice_get (mpdus_of x.content) k ≡ Some m →
-      length (data_octets w bodies x m) ≤ 2330
+      length (data_octets plain w bodies x m) ≤ 2330
   data_short k m among = omega (
     arith,
     body_short k m among,
     header_long w bodies x m (has_source k m among),
-    length-append (header_as_octets (header_of w bodies x m)) (bodies m.id).body,
+    length-append (header_as_octets (header_of plain w bodies x m)) (bodies m.id).body,
   )
 
   content_short : (k : ℕ) (octets : List ℕ) (content : Content) → x.content ≡ content →
-      transmission_octets w bodies (record x { content = content }) k ≡ Some octets → length octets ≤ 2330
+      transmission_octets plain w bodies (record x { content = content }) k ≡ Some octets → length octets ≤
+      2330
   content_short k octets (Frames mpdus) is sent =
       of (slice_get mpdus k) refl (sym (slice_get-map
-      (data_octets w bodies (record x { content = Frames mpdus })) mpdus k) ∙ sent)
+      (data_octets plain w bodies (record x { content = Frames mpdus })) mpdus k) ∙ sent)
     where
       of : (o : Option Mpdu) → slice_get mpdus k ≡ o →
-          option_map (data_octets w bodies (record x { content = Frames mpdus })) o ≡ Some octets →
+          option_map (data_octets plain w bodies (record x { content = Frames mpdus })) o ≡ Some octets →
           length octets ≤ 2330
       of None none sent = absurd (cc)
       of (Some m) among sent =
-          let same : data_octets w bodies (record x { content = Frames mpdus }) m ≡ octets = cc in
+          let same : data_octets plain w bodies (record x { content = Frames mpdus }) m ≡ octets = cc in
           subst (λ (xs : List ℕ). length xs ≤ 2330) same
           (data_short k m (ap (λ (c : Content). slice_get (mpdus_of c) k) is ∙ among))
   content_short zero octets (Request start) is sent =
-      let same : bar_octets (record x { content = Request start }) start ≡ octets = cc in
+      let same : bar_octets plain (record x { content = Request start }) start ≡ octets = cc in
       subst (λ (xs : List ℕ). length xs ≤ 2330) same (lit≤ tt)
   content_short (suc k) octets (Request start) is sent = absurd (cc)
 
   content_there : (k : ℕ) (content : Content) → k < transmissions content →
-      transmission_octets w bodies (record x { content = content }) k ≡ None → ⊥
+      transmission_octets plain w bodies (record x { content = content }) k ≡ None → ⊥
   content_there k (Frames mpdus) few none =
       let z : Exchange = record x { content = Frames mpdus } in
-      let some : Some (data_octets w bodies z (at no_mpdu mpdus k)) ≡ None =
-      sym (slice_get-map (data_octets w bodies z) mpdus k
-      ∙ ap (option_map (data_octets w bodies z)) (in_list mpdus k few)) ∙ none in
+      let some : Some (data_octets plain w bodies z (at no_mpdu mpdus k)) ≡ None =
+      sym (slice_get-map (data_octets plain w bodies z) mpdus k
+      ∙ ap (option_map (data_octets plain w bodies z)) (in_list mpdus k few)) ∙ none in
       cc
   content_there zero (Request start) few none = cc
   content_there (suc k) (Request start) few none = absurd (omega arith)
 
   -- so no check fails
-  pub no_write_fault : (k : ℕ) → k < transmissions x.content → write_fault w bodies e k 2330 ≡ None
-  no_write_fault k few = rw known (of (transmission_octets w bodies x k) refl)
+  pub no_write_fault : (k : ℕ) → k < transmissions x.content → write_fault made_up w bodies e k 2330 ≡ None
+  no_write_fault k few = write_fault_plain w bodies e k 2330 ∙ rw known (of (transmission_octets plain w
+      bodies x k) refl)
     where
-      of : (o : Option (List ℕ)) → transmission_octets w bodies x k ≡ o → room_fault 2330 o ≡ None
+      of : (o : Option (List ℕ)) → transmission_octets plain w bodies x k ≡ o → room_fault 2330 o ≡ None
       of None none = absurd (content_there k x.content few none)
       of (Some octets) is = ap (λ b. if b then Some (SmallBuffer (length octets)) else None)
           (le-ltb 2330 (length octets) (content_short k octets x.content refl is))

@@ -17,6 +17,7 @@ ghost use Rattle.wf_send_exchanges.specs.Marks.{with_answer, with_changed};
 ghost use Rattle.wf_recv_refines.specs.Arriving.{CarriesId};
 ghost use Rattle.wf_recv_refines.specs.Hearing.{agreement_of};
 ghost use Rattle.wf_recv_refines.specs.Refusing.{arrive_refusal, answer_refusal, done_refusal, mark_in};
+ghost use Rattle.wf_path.specs.Addresses.{made_up};
 ghost use Rattle.wf_path.specs.Transmissions.{sent_of};
 ghost use Rattle.wf_path.specs.Jobs.{changes_nothing};
 ghost use Rattle.wf_path.specs.Paths.{IsSmall};
@@ -78,9 +79,10 @@ fn ending_refusal(settings: &Config, mark: &Mark, heard: bool, air: Option<u32>)
 
 // Writes a transmission of an open exchange, and gives how many octets it has.
 fn written(path: &Path, exchange: u64, index: u16, octets: &mut [u8; LONGEST]) -> usize
-    requires { IsOnAir path.now exchange index }
+    requires on_air { IsOnAir path.now.half exchange index }
+    requires made_up { path.now.addresses ≡ made_up }
     ensures within { result ≤ 2330 }
-    ensures says { (w : World) (bodies : ℕ → FrameValue) (x : Exchange) → StandsFor path.now w bodies →
+    ensures says { (w : World) (bodies : ℕ → FrameValue) (x : Exchange) → StandsFor path.now.half w bodies →
         exchange_in w exchange ≡ Some x →
         index < transmissions x.content → IsSentTo x.station x.tid index x.content (take result octets.new) }
 {
@@ -92,7 +94,7 @@ fn written(path: &Path, exchange: u64, index: u16, octets: &mut [u8; LONGEST]) -
 
 // The id of the frame that a transmission of an open exchange carries; 0 for a request.
 fn carried_id(path: &Path, exchange: u64, index: u16) -> u64
-    ensures { (w : World) (bodies : ℕ → FrameValue) (x : Exchange) → StandsFor path.now w bodies →
+    ensures { (w : World) (bodies : ℕ → FrameValue) (x : Exchange) → StandsFor path.now.half w bodies →
         exchange_in w exchange ≡ Some x →
         index < transmissions x.content → CarriesId result index x.content }
 {

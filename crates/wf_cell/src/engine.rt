@@ -25,7 +25,8 @@ use wf_send_exchanges::Marks;
 pub(crate) const LONGEST: usize = 2330;
 
 /// The path, the receive half of each station and the marks of the open exchanges. A contract says of a call
-/// what it makes of each world that they stand for. Only `new` takes memory.
+/// what it makes of each world that they stand for. The path's addresses are the made-up ones, and so are the
+/// stations' own. Only `new` takes memory.
 #[derive(Drop)]
 pub(crate) struct Engine {
     pub(crate) path: Path,
@@ -36,11 +37,15 @@ pub(crate) struct Engine {
 }
 
 impl Model for Engine {
+    ghost use Rattle.std.specs.Prelude.{◌≡◌};
+    ghost use Rattle.wf_path.specs.Addresses.{made_up};
     ghost use Rattle.wf_cell.specs.Engines.{EngineValue};
 
     ghost Value = { EngineValue };
 
-    ghost view = { λ e. record { half = e.path; peers = e.peers; marks = e.marks } };
+    ghost view = { λ e. record { half = e.path.half; peers = e.peers; marks = e.marks } };
+
+    ghost invariant = { λ e. e.path.addresses ≡ made_up };
 }
 
 impl Engine {

@@ -5,6 +5,7 @@ use Rattle.wf_frame.specs.declared.notes.Ask.{Ask}
 use Rattle.wf_frame.specs.declared.notes.Ask.TheVariants.{Arrive, Answer, Done, Join, Pull}
 use Rattle.wf_path.specs.declared.job.Job.TheVariants.{Call}
 use Rattle.wf_path.specs.Jobs.{changes_nothing}
+use Rattle.wf_path.specs.Paths.{PathValue}
 use Rattle.wf_cell.specs.Engines.{EngineValue, EngineIsIn, IsJobDone}
 use Rattle.wf_cell.specs.Cells.{is_received}
 use Rattle.wf_cell.proofs.Calls.{ask_done, untold_done, other_heard, other_untold, path_kept_by}
@@ -65,7 +66,7 @@ call-requires-clause-heard c =
 pub returns-in_default-clause-done : goal.returns-in_default-clause-done
 returns-in_default-clause-done c = λ w bodies i.
     let v : EngineValue = record {
-      half = c.self.inside.path;
+      half = c.self.inside.path.half;
       peers = c.self.inside.peers;
       marks =
           c.self.inside.marks;
@@ -74,8 +75,8 @@ returns-in_default-clause-done c = λ w bodies i.
     (sym c.self.view_is) i in
     let d = c.in_default in
     subst (λ (u : EngineValue). IsJobDone w bodies (Call c.args.ask) u.half
-    (record v { half = c.call.new.self }) (reply_of c.call.new.answer) c.call.result) c.self.view_is
-    (untold_done v (Call c.args.ask) c.call.new.self (reply_of c.call.new.answer) c.call.result
+    (record v { half = c.call.new.self.half }) (reply_of c.call.new.answer) c.call.result) c.self.view_is
+    (untold_done v (Call c.args.ask) c.call.new.self.half (reply_of c.call.new.answer) c.call.result
     (record { meets = c.call.ensures.meets; parcel = c.call.ensures.parcel })
     (other_untold c.args.ask (record {
       arrive = d.not-Arrive;
@@ -107,10 +108,11 @@ returns-in-Pull-clause-path_kept c = λ is.
 pub returns-in_default-clause-path_kept : goal.returns-in_default-clause-path_kept
 returns-in_default-clause-path_kept c = λ is.
     let d = c.in_default in
-    c.call.ensures.refused (path_kept_by c.args.ask (reply_of c.call.new.answer) (record {
+    ap (λ (p : PathValue). p.half) (c.call.ensures.refused
+    (path_kept_by c.args.ask (reply_of c.call.new.answer) (record {
       arrive = d.not-Arrive;
       answer = d.not-Answer;
       done = d.not-Done;
       join = d.not-Join;
       pull = d.not-Pull;
-    }) is) ∙ ap (λ (u : EngineValue). u.half) c.self.view_is
+    }) is)) ∙ ap (λ (u : EngineValue). u.half) c.self.view_is

@@ -6,7 +6,7 @@ use Rattle.wf_cell.proofs.engine.Engine.check_answer.Goals as goal
 pub returns-in-None-clause-refused : goal.returns-in-None-clause-refused
 returns-in-None-clause-refused c = λ w bodies i.
     let v : EngineValue = record {
-      half = c.self.inside.path;
+      half = c.self.inside.path.half;
       peers = c.self.inside.peers;
       marks =
           c.self.inside.marks;
@@ -19,7 +19,7 @@ returns-in-None-clause-refused c = λ w bodies i.
 pub returns-in-None-sent-clause-refused : goal.returns-in-None-sent-clause-refused
 returns-in-None-sent-clause-refused c = λ w bodies i.
     let v : EngineValue = record {
-      half = c.self.inside.path;
+      half = c.self.inside.path.half;
       peers = c.self.inside.peers;
       marks =
           c.self.inside.marks;
@@ -32,7 +32,7 @@ returns-in-None-sent-clause-refused c = λ w bodies i.
 pub returns-in-Some-answering_refusal-clause-refused : goal.returns-in-Some-answering_refusal-clause-refused
 returns-in-Some-answering_refusal-clause-refused c = λ w bodies i.
     let v : EngineValue = record {
-      half = c.self.inside.path;
+      half = c.self.inside.path.half;
       peers = c.self.inside.peers;
       marks =
           c.self.inside.marks;
@@ -45,7 +45,7 @@ returns-in-Some-answering_refusal-clause-refused c = λ w bodies i.
 pub returns-in-None-answering_refusal-clause-refused : goal.returns-in-None-answering_refusal-clause-refused
 returns-in-None-answering_refusal-clause-refused c = λ w bodies i.
     let v : EngineValue = record {
-      half = c.self.inside.path;
+      half = c.self.inside.path.half;
       peers = c.self.inside.peers;
       marks =
           c.self.inside.marks;

@@ -6,7 +6,7 @@ use Rattle.wf_cell.proofs.engine.Engine.check_arrival.Goals as goal
 pub returns-in-None-clause-refused : goal.returns-in-None-clause-refused
 returns-in-None-clause-refused c = λ w bodies i.
     let v : EngineValue = record {
-      half = c.self.inside.path;
+      half = c.self.inside.path.half;
       peers = c.self.inside.peers;
       marks =
           c.self.inside.marks;
@@ -19,7 +19,7 @@ returns-in-None-clause-refused c = λ w bodies i.
 pub returns-in-None-sent-clause-refused : goal.returns-in-None-sent-clause-refused
 returns-in-None-sent-clause-refused c = λ w bodies i.
     let v : EngineValue = record {
-      half = c.self.inside.path;
+      half = c.self.inside.path.half;
       peers = c.self.inside.peers;
       marks =
           c.self.inside.marks;
@@ -33,7 +33,7 @@ pub arrival_refusal-requires : goal.arrival_refusal-requires
 arrival_refusal-requires c =
     let w = c.requires.world in let bodies = c.requires.bodies in let i = c.requires.is_in in
     let v : EngineValue = record {
-      half = c.self.inside.path;
+      half = c.self.inside.path.half;
       peers = c.self.inside.peers;
       marks =
           c.self.inside.marks;
@@ -46,7 +46,7 @@ arrival_refusal-requires c =
 pub returns-in-Some-arrival_refusal-clause-refused : goal.returns-in-Some-arrival_refusal-clause-refused
 returns-in-Some-arrival_refusal-clause-refused c = λ w bodies i.
     let v : EngineValue = record {
-      half = c.self.inside.path;
+      half = c.self.inside.path.half;
       peers = c.self.inside.peers;
       marks =
           c.self.inside.marks;
@@ -60,7 +60,7 @@ returns-in-Some-arrival_refusal-clause-refused c = λ w bodies i.
 pub returns-in-None-arrival_refusal-clause-refused : goal.returns-in-None-arrival_refusal-clause-refused
 returns-in-None-arrival_refusal-clause-refused c = λ w bodies i.
     let v : EngineValue = record {
-      half = c.self.inside.path;
+      half = c.self.inside.path.half;
       peers = c.self.inside.peers;
       marks =
           c.self.inside.marks;

@@ -6,7 +6,7 @@ use Rattle.wf_cell.proofs.engine.Engine.check_done.Goals as goal
 pub returns-in-None-clause-refused : goal.returns-in-None-clause-refused
 returns-in-None-clause-refused c = λ w bodies i.
     let v : EngineValue = record {
-      half = c.self.inside.path;
+      half = c.self.inside.path.half;
       peers = c.self.inside.peers;
       marks =
           c.self.inside.marks;
@@ -19,7 +19,7 @@ returns-in-None-clause-refused c = λ w bodies i.
 pub returns-in-Some-ending_refusal-clause-refused : goal.returns-in-Some-ending_refusal-clause-refused
 returns-in-Some-ending_refusal-clause-refused c = λ w bodies i.
     let v : EngineValue = record {
-      half = c.self.inside.path;
+      half = c.self.inside.path.half;
       peers = c.self.inside.peers;
       marks =
           c.self.inside.marks;
@@ -32,7 +32,7 @@ returns-in-Some-ending_refusal-clause-refused c = λ w bodies i.
 pub returns-after-heard-clause-refused : goal.returns-after-heard-clause-refused
 returns-after-heard-clause-refused c = λ w bodies i.
     let v : EngineValue = record {
-      half = c.self.inside.path;
+      half = c.self.inside.path.half;
       peers = c.self.inside.peers;
       marks =
           c.self.inside.marks;

@@ -17,7 +17,7 @@ returns-in-Err-clause-meets c = λ w bodies i.
 pub returns-in-Ok-clause-meets : goal.returns-in-Ok-clause-meets
 returns-in-Ok-clause-meets c = λ w bodies i.
     let v : EngineValue = record {
-      half = c.self.inside.path;
+      half = c.self.inside.path.half;
       peers = c.self.inside.peers;
       marks =
           c.self.inside.marks;
@@ -30,14 +30,15 @@ returns-in-Ok-clause-meets c = λ w bodies i.
     let done = sym (c.in-Ok.ensures.refused w bodies i) in
     let kept = subst (λ (u : EngineValue). c.in-Ok.kept ≡ kept_answer u.marks c.args.exchange c.args.heard)
     (sym c.self.view_is) c.in-Ok.ensures.kept in
-    let met = end_met v w bodies c.args.exchange c.args.heard c.args.air j c.in-Ok.kept d.new.self d.result
+    let met = end_met v w bodies c.args.exchange c.args.heard c.args.air j c.in-Ok.kept d.new.self.half
+    d.result
     pairs ids
     kept done d.ensures.lost d.ensures.shown in
     subst (λ (ms : List Mark). let u : EngineValue =
-    record { half = d.new.self; peers = c.self.inside.peers; marks = ms } in
+    record { half = d.new.self.half; peers = c.self.inside.peers; marks = ms } in
     EngineMeets w bodies (Asked (Done c.args.exchange c.args.heard c.args.air)) u
     (reply_with d.result pairs ids))
-    (sym c.close.ensures) (ended_meets v w bodies c.args.exchange c.args.heard c.args.air j d.new.self
+    (sym c.close.ensures) (ended_meets v w bodies c.args.exchange c.args.heard c.args.air j d.new.self.half
     (reply_with d.result pairs ids) done met)
 
 pub returns-in-Ok-clause-path_kept : goal.returns-in-Ok-clause-path_kept

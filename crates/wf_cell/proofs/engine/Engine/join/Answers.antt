@@ -1,4 +1,5 @@
 use Rattle.std.proofs.Common.{◌≡◌, ap, sym, ◌∙◌, subst, List, arith}
+use Rattle.wf_path.specs.Paths.{PathValue}
 use Rattle.wf_cell.specs.Engines.{EngineValue, EngineIsIn, EngineMeets}
 use Rattle.wf_frame.specs.Answers.{reply_of, reply_with}
 use Rattle.wf_frame.specs.declared.answers.Answer.{Answer}
@@ -15,7 +16,7 @@ pub reset-requires-clause-within : goal.reset-requires-clause-within
 reset-requires-clause-within c =
     let w = c.requires.some.world in let bodies = c.requires.some.bodies in let i = c.requires.some.is_in in
     let v : EngineValue = record {
-      half = c.self.inside.path;
+      half = c.self.inside.path.half;
       peers = c.self.inside.peers;
       marks =
           c.self.inside.marks;
@@ -23,7 +24,7 @@ reset-requires-clause-within c =
     let j : EngineIsIn v w bodies = subst (λ (u : EngineValue). EngineIsIn u w bodies)
     (sym c.self.view_is) i in
     let a : Answer = c.call.new.answer in
-    let after : TransmitValue = c.call.new.self in
+    let after : TransmitValue = c.call.new.self.half in
     let joined = ap (λ (b : Brief). reply_with b a.pairs a.ids) c.in-Joined.is in
     let x = c.args in
     let done = is_joined w x.station x.window x.start x.exponent x.weight
@@ -34,7 +35,7 @@ pub reset-requires-clause-size : goal.reset-requires-clause-size
 reset-requires-clause-size c =
     let w = c.requires.some.world in let bodies = c.requires.some.bodies in let i = c.requires.some.is_in in
     let v : EngineValue = record {
-      half = c.self.inside.path;
+      half = c.self.inside.path.half;
       peers = c.self.inside.peers;
       marks =
           c.self.inside.marks;
@@ -42,7 +43,7 @@ reset-requires-clause-size c =
     let j : EngineIsIn v w bodies = subst (λ (u : EngineValue). EngineIsIn u w bodies)
     (sym c.self.view_is) i in
     let a : Answer = c.call.new.answer in
-    let after : TransmitValue = c.call.new.self in
+    let after : TransmitValue = c.call.new.self.half in
     let joined = ap (λ (b : Brief). reply_with b a.pairs a.ids) c.in-Joined.is in
     let x = c.args in
     window_in_range w x.station x.window x.start x.exponent x.weight
@@ -52,7 +53,7 @@ reset-requires-clause-size c =
 pub returns-in-Joined-clause-meets : goal.returns-in-Joined-clause-meets
 returns-in-Joined-clause-meets c = λ w bodies i.
     let v : EngineValue = record {
-      half = c.self.inside.path;
+      half = c.self.inside.path.half;
       peers = c.self.inside.peers;
       marks =
           c.self.inside.marks;
@@ -60,7 +61,7 @@ returns-in-Joined-clause-meets c = λ w bodies i.
     let j : EngineIsIn v w bodies = subst (λ (u : EngineValue). EngineIsIn u w bodies)
     (sym c.self.view_is) i in
     let a : Answer = c.call.new.answer in
-    let after : TransmitValue = c.call.new.self in
+    let after : TransmitValue = c.call.new.self.half in
     let m = c.call.ensures.meets w bodies j.half in
     let joined = ap (λ (b : Brief). reply_with b a.pairs a.ids) c.in-Joined.is in
     let x = c.args in
@@ -76,7 +77,7 @@ returns-in-Joined-clause-meets c = λ w bodies i.
 pub returns-in_default-clause-meets : goal.returns-in_default-clause-meets
 returns-in_default-clause-meets c = λ w bodies i.
     let v : EngineValue = record {
-      half = c.self.inside.path;
+      half = c.self.inside.path.half;
       peers = c.self.inside.peers;
       marks =
           c.self.inside.marks;
@@ -84,7 +85,7 @@ returns-in_default-clause-meets c = λ w bodies i.
     let j : EngineIsIn v w bodies = subst (λ (u : EngineValue). EngineIsIn u w bodies)
     (sym c.self.view_is) i in
     let a : Answer = c.call.new.answer in
-    let after : TransmitValue = c.call.new.self in
+    let after : TransmitValue = c.call.new.self.half in
     let m = c.call.ensures.meets w bodies j.half in
     let x = c.args in
     refused_meets v after (Asked (Join x.station x.window x.start x.exponent x.weight))
@@ -94,8 +95,10 @@ returns-in_default-clause-meets c = λ w bodies i.
 
 pub returns-in-Joined-clause-path_kept : goal.returns-in-Joined-clause-path_kept
 returns-in-Joined-clause-path_kept c = λ is.
-    c.call.ensures.refused is ∙ ap (λ (u : EngineValue). u.half) c.self.view_is
+    ap (λ (p : PathValue). p.half) (c.call.ensures.refused is) ∙ ap (λ (u : EngineValue). u.half)
+    c.self.view_is
 
 pub returns-in_default-clause-path_kept : goal.returns-in_default-clause-path_kept
 returns-in_default-clause-path_kept c = λ is.
-    c.call.ensures.refused is ∙ ap (λ (u : EngineValue). u.half) c.self.view_is
+    ap (λ (p : PathValue). p.half) (c.call.ensures.refused is) ∙ ap (λ (u : EngineValue). u.half)
+    c.self.view_is

@@ -11,12 +11,12 @@ use Rattle.wf_cell.specs.Octets.{IsSentTo}
 use Rattle.wf_cell.proofs.Exchanges.{IsOpen, told_open, told_is, told_station, arrives_within, transmissions_few, passed_on}
 use Rattle.wf_cell.proofs.engine.Engine.pass_on.Goals as goal
 
-pub written-len-requires : goal.written-len-requires
-written-len-requires c =
+pub written-len-requires-clause-on_air : goal.written-len-requires-clause-on_air
+written-len-requires-clause-on_air c =
     let w : World = c.requires.world in let bodies : ℕ → FrameValue = c.requires.bodies in
     let i = c.requires.is_in in let done = c.requires.arrives in
     let v : EngineValue = record {
-      half = c.self.inside.path;
+      half = c.self.inside.path.half;
       peers = c.self.inside.peers;
       marks =
           c.self.inside.marks;
@@ -36,7 +36,7 @@ receive-requires-clause-within c =
     let w : World = c.requires.world in let bodies : ℕ → FrameValue = c.requires.bodies in
     let i = c.requires.is_in in let done = c.requires.arrives in
     let v : EngineValue = record {
-      half = c.self.inside.path;
+      half = c.self.inside.path.half;
       peers = c.self.inside.peers;
       marks =
           c.self.inside.marks;
@@ -77,7 +77,7 @@ receive-requires-clause-sent c =
     let w : World = c.requires.world in let bodies : ℕ → FrameValue = c.requires.bodies in
     let i = c.requires.is_in in let done = c.requires.arrives in
     let v : EngineValue = record {
-      half = c.self.inside.path;
+      half = c.self.inside.path.half;
       peers = c.self.inside.peers;
       marks =
           c.self.inside.marks;
@@ -101,7 +101,7 @@ arrive-requires c =
     let w : World = c.requires.world in let bodies : ℕ → FrameValue = c.requires.bodies in
     let i = c.requires.is_in in let done = c.requires.arrives in
     let v : EngineValue = record {
-      half = c.self.inside.path;
+      half = c.self.inside.path.half;
       peers = c.self.inside.peers;
       marks =
           c.self.inside.marks;
@@ -119,7 +119,7 @@ arrive-requires c =
 pub returns-clause-meets : goal.returns-clause-meets
 returns-clause-meets c = λ w bodies i done.
     let v : EngineValue = record {
-      half = c.self.inside.path;
+      half = c.self.inside.path.half;
       peers = c.self.inside.peers;
       marks =
           c.self.inside.marks;

@@ -1,4 +1,5 @@
 use Rattle.std.proofs.Common.{ap, sym, ◌∙◌, subst, List}
+use Rattle.wf_path.specs.Paths.{PathValue}
 use Rattle.wf_cell.specs.Engines.{EngineValue, EngineIsIn, EngineMeets}
 use Rattle.wf_frame.specs.Answers.{reply_of, reply_with, part_sent}
 use Rattle.wf_frame.specs.declared.answers.Answer.{Answer}
@@ -14,7 +15,7 @@ pub open-requires-clause-room : goal.open-requires-clause-room
 open-requires-clause-room c =
     let w = c.requires.some.world in let bodies = c.requires.some.bodies in let i = c.requires.some.is_in in
     let v : EngineValue = record {
-      half = c.self.inside.path;
+      half = c.self.inside.path.half;
       peers = c.self.inside.peers;
       marks =
           c.self.inside.marks;
@@ -22,7 +23,7 @@ open-requires-clause-room c =
     let j : EngineIsIn v w bodies = subst (λ (u : EngineValue). EngineIsIn u w bodies)
     (sym c.self.view_is) i in
     let a : Answer = c.call.new.answer in
-    let after : TransmitValue = c.call.new.self in
+    let after : TransmitValue = c.call.new.self.half in
     let s = c.in-Send in
     let sent : IsSend (reply_of a) = record {
       number = s.exchange;
@@ -39,7 +40,7 @@ pub open-requires-clause-above : goal.open-requires-clause-above
 open-requires-clause-above c =
     let w = c.requires.some.world in let bodies = c.requires.some.bodies in let i = c.requires.some.is_in in
     let v : EngineValue = record {
-      half = c.self.inside.path;
+      half = c.self.inside.path.half;
       peers = c.self.inside.peers;
       marks =
           c.self.inside.marks;
@@ -47,7 +48,7 @@ open-requires-clause-above c =
     let j : EngineIsIn v w bodies = subst (λ (u : EngineValue). EngineIsIn u w bodies)
     (sym c.self.view_is) i in
     let a : Answer = c.call.new.answer in
-    let after : TransmitValue = c.call.new.self in
+    let after : TransmitValue = c.call.new.self.half in
     let s = c.in-Send in
     let sent : IsSend (reply_of a) = record {
       number = s.exchange;
@@ -63,7 +64,7 @@ open-requires-clause-above c =
 pub returns-in-Send-clause-meets : goal.returns-in-Send-clause-meets
 returns-in-Send-clause-meets c = λ w bodies i.
     let v : EngineValue = record {
-      half = c.self.inside.path;
+      half = c.self.inside.path.half;
       peers = c.self.inside.peers;
       marks =
           c.self.inside.marks;
@@ -71,7 +72,7 @@ returns-in-Send-clause-meets c = λ w bodies i.
     let j : EngineIsIn v w bodies = subst (λ (u : EngineValue). EngineIsIn u w bodies)
     (sym c.self.view_is) i in
     let a : Answer = c.call.new.answer in
-    let after : TransmitValue = c.call.new.self in
+    let after : TransmitValue = c.call.new.self.half in
     let s = c.in-Send in
     let sent : IsSend (reply_of a) = record {
       number = s.exchange;
@@ -90,7 +91,7 @@ returns-in-Send-clause-meets c = λ w bodies i.
 pub returns-in_default-clause-meets : goal.returns-in_default-clause-meets
 returns-in_default-clause-meets c = λ w bodies i.
     let v : EngineValue = record {
-      half = c.self.inside.path;
+      half = c.self.inside.path.half;
       peers = c.self.inside.peers;
       marks =
           c.self.inside.marks;
@@ -98,7 +99,7 @@ returns-in_default-clause-meets c = λ w bodies i.
     let j : EngineIsIn v w bodies = subst (λ (u : EngineValue). EngineIsIn u w bodies)
     (sym c.self.view_is) i in
     let a : Answer = c.call.new.answer in
-    let after : TransmitValue = c.call.new.self in
+    let after : TransmitValue = c.call.new.self.half in
     let m = c.call.ensures.meets w bodies j.half in
     refused_meets v after (Asked (Pull c.args.class)) (reply_of a) w bodies j m
     (not_pulled w c.args.class (λ sent. send_brief a.brief a.pairs a.ids
@@ -106,8 +107,10 @@ returns-in_default-clause-meets c = λ w bodies i.
 
 pub returns-in-Send-clause-path_kept : goal.returns-in-Send-clause-path_kept
 returns-in-Send-clause-path_kept c = λ is.
-    c.call.ensures.refused is ∙ ap (λ (u : EngineValue). u.half) c.self.view_is
+    ap (λ (p : PathValue). p.half) (c.call.ensures.refused is) ∙ ap (λ (u : EngineValue). u.half)
+    c.self.view_is
 
 pub returns-in_default-clause-path_kept : goal.returns-in_default-clause-path_kept
 returns-in_default-clause-path_kept c = λ is.
-    c.call.ensures.refused is ∙ ap (λ (u : EngineValue). u.half) c.self.view_is
+    ap (λ (p : PathValue). p.half) (c.call.ensures.refused is) ∙ ap (λ (u : EngineValue). u.half)
+    c.self.view_is
