@@ -1,7 +1,7 @@
 -- The flags of a path, while some of them are still to be set.
 use Rattle.std.proofs.Common.{◌≡◌, ◌≢◌, refl, ap, sym, ◌∙◌, subst, arith, ℕ, ◌<◌, ◌≤◌, Bool, false, List, [], length, slice_set, inl, inr}
 use Rattle.std.proofs.lemmas.Bool.{cases_eq, cases_lt}
-use Rattle.std.proofs.lemmas.List.{get_or-set_same, get_or-set_other, get_or_past, length-set}
+use Rattle.std.proofs.lemmas.List.{get_or-set_same, get_or-set_other, get_or_past, length-set, set-set, set-get_or}
 use Rattle.wf_frame.specs.Classes.{class_number}
 use Rattle.wf_frame.specs.declared.classes.Class.{Class}
 use Rattle.wf_frame.specs.declared.classes.Class.TheVariants.{Bk, Be, Vi, Vo}
@@ -47,6 +47,25 @@ pub room_after : (r z : Flags) (c d : Class) (s : ℕ) (b : Bool) → z ≡ with
     s < length (flags_in r d) → s < length (flags_in z d)
 room_after r z c d s b is low = subst (λ (y : Flags). s < length (flags_in y d)) (sym is)
     (omega (arith, set_sized r c s b d, low))
+
+-- a flag that is set again as it is stays
+pub flag_twice : (r z : Flags) (c : Class) (s : ℕ) (b : Bool) → z ≡ with_flag r c s b →
+    with_flag z c s b ≡ z
+flag_twice r z c s b is = subst (λ (y : Flags). with_flag y c s b ≡ y) (sym is)
+    (ap (λ (xs : List Bool). slice_set (with_flag r c s b) (class_number c) xs) here
+    ∙ set-get_or (with_flag r c s b) (class_number c) [])
+  where
+    here : slice_set (flags_in (with_flag r c s b) c) s b ≡ flags_in (with_flag r c s b) c
+    here = elim (cases_lt (class_number c) (length r)) [
+      | inl low ↦
+          let e : flags_in (with_flag r c s b) c ≡ slice_set (flags_in r c) s b =
+          get_or-set_same r (class_number c) (slice_set (flags_in r c) s b) [] low in
+          ap (λ (xs : List Bool). slice_set xs s b) e ∙ set-set (flags_in r c) s b b ∙ sym e
+      | inr far ↦
+          let e : flags_in (with_flag r c s b) c ≡ [] =
+          past_last r c s b far ∙ get_or_past r (class_number c) [] far in
+          ap (λ (xs : List Bool). slice_set xs s b) e ∙ sym e
+    ]
 
 -- of station s itself
 set_here : (r : Flags) (c : Class) (s : ℕ) (b : Bool) → s < length (flags_in r c) →

@@ -99,10 +99,12 @@ impl Path {
         let accepted = self.half.enqueue(parcel)?;
         let (id, loser) = accepted;
         let dropped = id_of(loser);
-        self.ready.set(&self.half, station, Class::of_tid(tid));
+        let class = Class::of_tid(tid);
+        self.ready.set(&self.half, station, class);
         if let Some(lost) = loser {
+            let other = Class::of_tid(lost.tid);
             self.ready
-                .set(&self.half, lost.station, Class::of_tid(lost.tid));
+                .set_other(&self.half, lost.station, other, (station, class));
         }
         Ok((id, dropped))
     }

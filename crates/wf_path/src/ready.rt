@@ -70,6 +70,26 @@ impl Ready {
         flags[usize::from(station)] = half.is_ready(station, class);
     }
 
+    // Sets the flag of a station in a class as the half has it, unless it is one that is known to be so.
+    pub(crate) fn set_other(
+        &mut self,
+        half: &Transmit,
+        station: u16,
+        class: Class,
+        known: (u16, Class),
+    )
+        requires within { station < half.now.config.stations }
+        requires room { station < length (flags_in self.old class) }
+        requires known { with_flag self.old known.1 known.0 (is_ready_of half.now known.1 known.0)
+            ≡ self.old }
+        ensures { self.new ≡ with_flag self.old class station (is_ready_of half.now class station) }
+    {
+        if station == known.0 && class == known.1 {
+            return;
+        }
+        self.set(half, station, class);
+    }
+
     // Sets the four flags of a station as the half has them.
     pub(crate) fn set_all(&mut self, half: &Transmit, station: u16)
         requires within { station < half.now.config.stations }

@@ -10,13 +10,14 @@ use Rattle.wf_send_half.specs.Enqueues.{enqueue_of, as_accepted}
 use Rattle.wf_send_half_refines.specs.Half.{TransmitValue}
 use Rattle.wf_path.specs.Paths.{PathValue, IsPath, RiseLittle}
 use Rattle.wf_path.proofs.Enqueues.{some_octets, few_octets, accepted_tid, accepted_within, accepted_room, accepted_path, loser_within, loser_room, tracked_alone, tracked_both}
+use Rattle.wf_path.proofs.Flags.{flag_twice}
 use Rattle.wf_path.proofs.Rises.{rises_by, no_rise}
 use Rattle.wf_path.proofs.Values.{half_is}
 use Rattle.wf_path.proofs.path.Path.enqueue.Goals as goal
 use Rattle.wf_path.proofs.path.Path.enqueue.Goals.{in-Some, in_default}
 
-pub of_tid-requires : goal.of_tid-requires
-of_tid-requires c =
+pub of_tid-class-requires : goal.of_tid-class-requires
+of_tid-class-requires c =
     subst (λ (t : ℕ). t < 8) (sym (c.tid-tid.ensures ∙ ap (λ (f : FrameValue). f.tid) c.frame-frame.ensures))
     (accepted_tid c.self.inside.half c.self.inside.ready c.self.invariant c.args.parcel
     (Accepted c.in_ok-accepted.accepted.0 (option_map (λ l. l.id) c.in_ok-accepted.accepted.1))
@@ -36,11 +37,11 @@ set-requires-clause-room c = accepted_room c.self.inside.half c.self.inside.read
     c.args.parcel
     (Accepted c.in_ok-accepted.accepted.0 (option_map (λ l. l.id) c.in_ok-accepted.accepted.1))
     (λ bodies. with_body bodies (as_accepted c.self.inside.half c.args.parcel)) c.enqueue.new.self
-    c.in_ok-accepted.ensures.meets (λ why e. cc e) c.station-station.result c.of_tid.result
+    c.in_ok-accepted.ensures.meets (λ why e. cc e) c.station-station.result c.of_tid-class.result
     (c.station-station.ensures ∙ ap (λ (f : FrameValue). f.station) c.frame-frame.ensures)
 
-pub set-requires-in-Some-clause-within : goal.set-requires-in-Some-clause-within
-set-requires-in-Some-clause-within c = loser_within c.self.inside.half c.self.inside.ready c.self.invariant
+pub set_other-requires-clause-within : goal.set_other-requires-clause-within
+set_other-requires-clause-within c = loser_within c.self.inside.half c.self.inside.ready c.self.invariant
     c.args.parcel
     (Accepted c.in_ok-accepted.accepted.0 (option_map (λ l. l.id) c.in_ok-accepted.accepted.1))
     (λ bodies. with_body bodies (as_accepted c.self.inside.half c.args.parcel)) c.enqueue.new.self
@@ -48,23 +49,28 @@ set-requires-in-Some-clause-within c = loser_within c.self.inside.half c.self.in
     (subst (λ (o : Option Lost). IfSome o (λ l. l.station < c.self.inside.half.flows.stations)) c.in-Some.is
     c.in_ok-accepted.ensures.station)
 
-pub set-requires-in-Some-clause-room : goal.set-requires-in-Some-clause-room
-set-requires-in-Some-clause-room c =
+pub set_other-requires-clause-room : goal.set_other-requires-clause-room
+set_other-requires-clause-room c =
     loser_room c.self.inside.half c.self.inside.ready c.self.invariant c.args.parcel
     (Accepted c.in_ok-accepted.accepted.0 (option_map (λ l. l.id) c.in_ok-accepted.accepted.1))
     (λ bodies. with_body bodies (as_accepted c.self.inside.half c.args.parcel)) c.enqueue.new.self
-    c.in_ok-accepted.ensures.meets (λ why e. cc e) c.set.new.self c.of_tid.result c.station-station.result
-    _ c.set.ensures c.of_tid-in-Some.result c.in-Some.lost.station
+    c.in_ok-accepted.ensures.meets (λ why e. cc e) c.set.new.self c.of_tid-class.result
+    c.station-station.result
+    _ c.set.ensures c.of_tid-other.result c.in-Some.lost.station
     (subst (λ (o : Option Lost). IfSome o (λ l. l.station < c.self.inside.half.flows.stations)) c.in-Some.is
     c.in_ok-accepted.ensures.station)
+
+pub set_other-requires-clause-known : goal.set_other-requires-clause-known
+set_other-requires-clause-known c = flag_twice c.self.inside.ready c.set.new.self c.of_tid-class.result
+    c.station-station.result _ c.set.ensures
 
 pub invariant_of-self-in-Some : goal.invariant_of-self-in-Some
 invariant_of-self-in-Some c =
     tracked_both c.self.inside.half c.self.inside.ready c.self.invariant c.args.parcel
     (Accepted c.in_ok-accepted.accepted.0 (option_map (λ l. l.id) c.in_ok-accepted.accepted.1))
     (λ bodies. with_body bodies (as_accepted c.self.inside.half c.args.parcel)) c.enqueue.new.self
-    c.in_ok-accepted.ensures.meets (λ why e. cc e) c.of_tid.result c.tid-tid.result
-    c.station-station.result c.of_tid.ensures
+    c.in_ok-accepted.ensures.meets (λ why e. cc e) c.of_tid-class.result c.tid-tid.result
+    c.station-station.result c.of_tid-class.ensures
     (c.tid-tid.ensures ∙ ap (λ (f : FrameValue). f.tid) c.frame-frame.ensures)
     (c.station-station.ensures ∙ ap (λ (f : FrameValue). f.station) c.frame-frame.ensures)
     (some_octets c.frame-frame.result.now c.args.parcel c.len-octets.result c.frame-frame.ensures
@@ -75,16 +81,16 @@ invariant_of-self-in-Some c =
     c.in_ok-accepted.ensures.only c.in-Some.lost.station c.in-Some.lost.tid
     (ap (λ (o : Option Lost). option_map {U = ℕ × ℕ} (λ l. (l.station, l.tid)) o) c.in-Some.is)
     (subst (λ (o : Option Lost). IfSome o (λ l. l.station < c.self.inside.half.flows.stations)) c.in-Some.is
-    c.in_ok-accepted.ensures.station) c.of_tid-in-Some.result
-    c.of_tid-in-Some.ensures c.set.new.self c.set-in-Some.new.self c.set.ensures c.set-in-Some.ensures
+    c.in_ok-accepted.ensures.station) c.of_tid-other.result
+    c.of_tid-other.ensures c.set.new.self c.set_other.new.self c.set.ensures c.set_other.ensures
 
 pub invariant_of-self-in_default : goal.invariant_of-self-in_default
 invariant_of-self-in_default c =
     tracked_alone c.self.inside.half c.self.inside.ready c.self.invariant c.args.parcel
     (Accepted c.in_ok-accepted.accepted.0 (option_map (λ l. l.id) c.in_ok-accepted.accepted.1))
     (λ bodies. with_body bodies (as_accepted c.self.inside.half c.args.parcel)) c.enqueue.new.self
-    c.in_ok-accepted.ensures.meets (λ why e. cc e) c.of_tid.result c.tid-tid.result
-    c.station-station.result c.of_tid.ensures
+    c.in_ok-accepted.ensures.meets (λ why e. cc e) c.of_tid-class.result c.tid-tid.result
+    c.station-station.result c.of_tid-class.ensures
     (c.tid-tid.ensures ∙ ap (λ (f : FrameValue). f.tid) c.frame-frame.ensures)
     (c.station-station.ensures ∙ ap (λ (f : FrameValue). f.station) c.frame-frame.ensures)
     (some_octets c.frame-frame.result.now c.args.parcel c.len-octets.result c.frame-frame.ensures
