@@ -16,6 +16,7 @@ ghost use Rattle.wf_law_runs.specs.Lengths.{HasLengths};
 ghost use Rattle.wf_send_half_refines.specs.Half.{body_of};
 ghost use Rattle.wf_send_half_refines.specs.Standing.{StandsFor};
 ghost use Rattle.wf_send_half_refines.specs.Inside.{is_inside};
+ghost use Rattle.wf_path.specs.Addresses.{made_up};
 ghost use Rattle.wf_path.specs.Jobs.{bodies_after, changes_nothing, frame_of, frame_given_back, note_of};
 ghost use Rattle.wf_cell.specs.Bodies.{body_after};
 ghost use Rattle.wf_cell.specs.Cells.{is_received, room_in, with_entry};
@@ -166,9 +167,10 @@ impl Record {
     }
 
     /// The transmit path. It stands for the world after the history, and has a body for each frame that was
-    /// accepted and is not reaped: the held ones and those on the finished list.
+    /// accepted and is not reaped: the held ones and those on the finished list. Its addresses are made up.
     pub fn path(&self) -> &Path
-        ensures value { result.now ≡ self.now.half }
+        ensures value { result.now.half ≡ self.now.half }
+        ensures addresses { result.now.addresses ≡ made_up }
         ensures stands { (bodies : ℕ → FrameValue) × StandsFor self.now.half (world_of self.now.past) bodies }
         ensures inside { (id : ℕ) →
             is_some (body_of self.now.half id) ≡ is_inside (world_of self.now.past) id }
