@@ -1,5 +1,5 @@
 -- The packets of a run are ones that a capture can have, so `frames` lists each of them.
-use Rattle.std.proofs.Common.{◌≡◌, refl, subst, ℕ, ◌+◌, ◌*◌, ◌^◌, ◌<◌, ◌≤◌, Bool, true, false, List, [], ◌∷◌, ◌++◌, length, map, Option, Some, None, lit≤, arith, length-append}
+use Rattle.std.proofs.Common.{◌≡◌, refl, sym, subst, ℕ, ◌+◌, ◌*◌, ◌^◌, ◌<◌, ◌≤◌, Bool, true, false, List, [], ◌∷◌, ◌++◌, length, map, Option, Some, None, lit≤, arith, length-append}
 use Rattle.std.specs.Prelude.{option_and_then}
 use Rattle.wf_frame.specs.Settings.{IsInRange}
 use Rattle.wf_frame.specs.declared.notes.Note.{Note}
@@ -19,6 +19,7 @@ use Rattle.wf_law_runs.specs.Lengths.{HasLengths}
 use Rattle.wf_law_runs.specs.Queues.{IsAtMost, AreAtMost}
 use Rattle.wf_law_runs.proofs.Sent.Lengths.{IsStocked, stocked}
 use Rattle.wf_path.specs.Transmissions.{header_of, data_octets, octets_of_content}
+use Rattle.wf_path.proofs.MadeUp.{plain, frames_plain}
 use Rattle.wf_cell.proofs.Runs.{world_then, time_by}
 use Rattle.wf_cell.proofs.Written.{header_long}
 use Rattle.wf_captures.specs.Captures.{most_calls_timed, sample_of, samples, packets_by, packets_from, packets_in, capture_of}
@@ -45,7 +46,7 @@ sample_source (Enqueue s t flow len) = refl
 sample_source (Asked ask) = refl
 
 data_short : (w : World) (x : Exchange) → IsStocked greatest_body w → (mpdus : List Mpdu) →
-    AreShort (map (data_octets w (samples w) x) mpdus)
+    AreShort (map (data_octets plain w (samples w) x) mpdus)
 data_short w x all [] = tt
 data_short w x all (m ∷ mpdus) = (
   omega (
@@ -53,13 +54,13 @@ data_short w x all (m ∷ mpdus) = (
     all.short m.id,
     sample_length (frame w m.id).note,
     header_long w (samples w) x m (sample_source (frame w m.id).note),
-    length-append (header_as_octets (header_of w (samples w) x m)) (samples w m.id).body,
+    length-append (header_as_octets (header_of plain w (samples w) x m)) (samples w m.id).body,
   ),
   data_short w x all mpdus,
 )
 
 content_short : (w : World) (x : Exchange) → IsStocked greatest_body w → (c : Content) →
-    AreShort (octets_of_content w (samples w) x c)
+    AreShort (octets_of_content plain w (samples w) x c)
 content_short w x all (Frames mpdus) = data_short w x all mpdus
 content_short w x all (Request start) = (lit≤ tt, tt)
 
@@ -68,7 +69,8 @@ sent_short w all e = of (exchange w e) refl
   where
     of : (o : Option Exchange) → exchange w e ≡ o → AreShort (frames_sent w (samples w) e)
     of None none = rw none tt
-    of (Some x) known = rw known (content_short w x all x.content)
+    of (Some x) known = rw known (subst AreShort (sym (frames_plain w (samples w) x))
+        (content_short w x all x.content))
 
 acks_short : (start b0 b1 b2 b3 : ℕ) (wide : Bool) (o : Option Exchange) →
     AreShort (block_acks start (b0 ∷ b1 ∷ b2 ∷ b3 ∷ []) wide o)

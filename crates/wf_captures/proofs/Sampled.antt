@@ -13,6 +13,7 @@ use Rattle.wf_queue_flows_refines.specs.Frames.{with_body}
 use Rattle.wf_send_half.specs.Enqueues.{as_accepted}
 use Rattle.wf_send_half_refines.specs.Half.{TransmitValue}
 use Rattle.wf_send_half_refines.specs.Standing.{StandsFor}
+use Rattle.wf_path.specs.Addresses.{made_up}
 use Rattle.wf_path.specs.Transmissions.{header_of, data_octets, octets_of_content}
 use Rattle.wf_path.specs.declared.job.Job.{Job}
 use Rattle.wf_path.specs.declared.job.Job.TheVariants.{Give, Call}
@@ -80,12 +81,12 @@ module _ (v : TransmitValue) (w : World) (bodies : ℕ → FrameValue) (stands :
       (all m.id).source ∙ sym (ap (λ (n : Note). (sample_of n).source) accepted.note)
 
   content_same : (e : ℕ) (x : Exchange) → exchange w e ≡ Some x → (c : Content) → x.content ≡ c →
-      octets_of_content w bodies x c ≡ octets_of_content w (samples w) x c
+      octets_of_content made_up w bodies x c ≡ octets_of_content made_up w (samples w) x c
   content_same e x known (Frames mpdus) is =
-      map_same (data_octets w bodies x) (data_octets w (samples w) x) mpdus
+      map_same (data_octets made_up w bodies x) (data_octets made_up w (samples w) x) mpdus
       (λ k m among.
       let there = ap (λ (c : Content). slice_get (mpdus_of c) k) is ∙ among in
-      ap₂ (λ (s b : List ℕ). header_as_octets (record (header_of w bodies x m) { a3 = s }) ++ b)
+      ap₂ (λ (s b : List ℕ). header_as_octets (record (header_of made_up w bodies x m) { a3 = s }) ++ b)
       (source_same e x known k m there) (body_same e x known k m there))
   content_same e x known (Request start) is = refl
 

@@ -11,6 +11,7 @@ use Rattle.wf_io.proofs.FrontLaws.{front_partly, front_first, front_next, two_wr
 use Rattle.wf_def_world.specs.World.{World, Mpdu, Exchange, Content, Frames, Request, exchange}
 use Rattle.wf_def_world.specs.Exchanges.{transmissions}
 use Rattle.wf_path.specs.declared.reading.Sent.{Sent as Told}
+use Rattle.wf_path.specs.Addresses.{made_up}
 use Rattle.wf_path.specs.Transmissions.{sent_of, octets_sent, transmission_octets, bar_octets, data_octets, header_of, octets_of_content}
 use Rattle.wf_send_half_refines.specs.Half.{TransmitValue}
 use Rattle.wf_send_half_refines.specs.Standing.{StandsFor}
@@ -41,24 +42,24 @@ one_packet at f = append-nil (packet_octets at f)
 
 -- the frame of an index is the one that is sent by it
 sent_by_index : (w : World) (bodies : ℕ → FrameValue) (e k : ℕ) →
-    slice_get (frames_sent w bodies e) k ≡ octets_sent w bodies e k
+    slice_get (frames_sent w bodies e) k ≡ octets_sent made_up w bodies e k
 sent_by_index w bodies e k = of (exchange w e) refl
   where
     of : (o : Option Exchange) → exchange w e ≡ o →
-        slice_get (frames_sent w bodies e) k ≡ octets_sent w bodies e k
+        slice_get (frames_sent w bodies e) k ≡ octets_sent made_up w bodies e k
     of None none = rw none refl
     of (Some x) known = rw known refl
 
 pub octets_same : (v : TransmitValue) (w : World) (bodies : ℕ → FrameValue) → StandsFor v w bodies →
     ((id : ℕ) → IsSample (bodies id)) → (e k : ℕ) →
-    octets_sent w bodies e k ≡ octets_sent w (samples w) e k
+    octets_sent made_up w bodies e k ≡ octets_sent made_up w (samples w) e k
 octets_same v w bodies stands all e k =
     sym (sent_by_index w bodies e k) ∙ ap (λ l. slice_get l k) (sent_same v w bodies stands all e)
     ∙ sent_by_index w (samples w) e k
 
 -- one packet more
 pub packet_more : (w : World) (bodies : ℕ → FrameValue) (e k at : ℕ) (f : List ℕ) →
-    octets_sent w bodies e k ≡ Some f →
+    octets_sent made_up w bodies e k ≡ Some f →
     octets_of_packets (packets_at at (take (k + 1) (frames_sent w bodies e)))
     ≡ octets_of_packets (packets_at at (take k (frames_sent w bodies e))) ++ packet_octets at f
 packet_more w bodies e k at f sent =
@@ -82,10 +83,10 @@ packets_front w bodies e k at =
 -- ---- how many there are
 
 count_of : (w : World) (bodies : ℕ → FrameValue) (x : Exchange) (c : Content) →
-    length (octets_of_content w bodies x c) ≡ transmissions c
+    length (octets_of_content made_up w bodies x c) ≡ transmissions c
 count_of w bodies x (Frames mpdus) = lengths mpdus
   where
-    lengths : (ms : List Mpdu) → length (map (data_octets w bodies x) ms) ≡ length ms
+    lengths : (ms : List Mpdu) → length (map (data_octets made_up w bodies x) ms) ≡ length ms
     lengths [] = refl
     lengths (m ∷ ms) = ap suc (lengths ms)
 count_of w bodies x (Request start) = refl
@@ -133,33 +134,33 @@ is_sending w e k told is few =
 
 -- each transmission has an octet
 pub some_octets : (w : World) (bodies : ℕ → FrameValue) (e k : ℕ) (f : List ℕ) →
-    octets_sent w bodies e k ≡ Some f → 0 < length f
+    octets_sent made_up w bodies e k ≡ Some f → 0 < length f
 some_octets w bodies e k f sent = of (exchange w e) refl
   where
     data_long : (x : Exchange) (ms : List Mpdu) (k : ℕ) →
-        slice_get (map (data_octets w bodies x) ms) k ≡ Some f → 0 < length f
+        slice_get (map (data_octets made_up w bodies x) ms) k ≡ Some f → 0 < length f
     data_long x [] k is = absurd (cc is)
     data_long x (m ∷ ms) zero is =
-        let same : data_octets w bodies x m ≡ f = cc is in
+        let same : data_octets made_up w bodies x m ≡ f = cc is in
         omega (
           arith,
           ap length same,
-          length-append (header_octets (header_of w bodies x m)) (bodies m.id).body,
+          length-append (header_octets (header_of made_up w bodies x m)) (bodies m.id).body,
         )
     data_long x (m ∷ ms) (suc k) is = data_long x ms k is
 
     content_long : (x : Exchange) (c : Content) (k : ℕ) →
-        slice_get (octets_of_content w bodies x c) k ≡ Some f → 0 < length f
+        slice_get (octets_of_content made_up w bodies x c) k ≡ Some f → 0 < length f
     content_long x (Frames mpdus) k is = data_long x mpdus k is
-    content_long x (Request start) zero is = let same : bar_octets x start ≡ f = cc is in
+    content_long x (Request start) zero is = let same : bar_octets made_up x start ≡ f = cc is in
         omega (arith, ap length same)
     content_long x (Request start) (suc k) is = absurd (cc is)
 
     of : (o : Option Exchange) → exchange w e ≡ o → 0 < length f
     of None none = absurd (let bad : None ≡ Some f =
-        sym (ap (option_and_then (λ y. transmission_octets w bodies y k)) none) ∙ sent in cc)
+        sym (ap (option_and_then (λ y. transmission_octets made_up w bodies y k)) none) ∙ sent in cc)
     of (Some x) known = content_long x x.content k
-        (sym (ap (option_and_then (λ y. transmission_octets w bodies y k)) known) ∙ sent)
+        (sym (ap (option_and_then (λ y. transmission_octets made_up w bodies y k)) known) ∙ sent)
 
 -- ---- what a sink holds of them
 
@@ -170,7 +171,7 @@ drop_next (y ∷ ys) zero x is = let same : y ≡ x = cc is in ap (λ z. z ∷ y
 drop_next (y ∷ ys) (suc k) x is = drop_next ys k x is
 
 module _ (held now new : Option (List ℕ)) (w : World) (bodies : ℕ → FrameValue) (e k at : ℕ) (f : List ℕ)
-    (sent : octets_sent w bodies e k ≡ Some f) (clock : at ≡ w.clock)
+    (sent : octets_sent made_up w bodies e k ≡ Some f) (clock : at ≡ w.clock)
     (so_far : now ≡ append_known held (octets_of_packets
     (packets_at w.clock (take k (frames_sent w bodies e))))) where
   -- one packet more was written

@@ -10,13 +10,14 @@ use Rattle.wf_frame.specs.declared.notes.ReplyNote.TheVariants.{Send, Ba}
 use Rattle.wf_pcap.specs.Capture.{packet_octets}
 use Rattle.wf_run_frames.specs.Law.{Sent}
 use Rattle.wf_def_world.specs.World.{World, Exchange, exchange}
+use Rattle.wf_path.specs.Addresses.{made_up}
 use Rattle.wf_path.specs.Transmissions.{frames_on_air}
 use Rattle.wf_captures.specs.BlockAcks.{block_ack_frame}
 
--- the octets of each transmission of exchange e, by index, where `bodies` has the frame of each id: none
--- where it is not open
+-- the octets of each transmission of exchange e, by index, from and to made-up addresses, where `bodies` has
+-- the frame of each id: none where it is not open
 abbrev pub frames_sent : World → (ℕ → FrameValue) → ℕ → List (List ℕ)
-frames_sent w bodies e = option_map_or (λ x. frames_on_air w bodies x) (exchange w e) []
+frames_sent w bodies e = option_map_or (λ x. frames_on_air made_up w bodies x) (exchange w e) []
 
 -- the exchange that a call asks its station to answer
 abbrev pub exchange_answered : Note → Option ℕ

@@ -1,6 +1,7 @@
 //! The octets of one frame on the air.
 
 ghost use Rattle.std.specs.Prelude.{◌≡◌, ◌<◌, ◌≤◌, [], ◌∷◌, Some, take, true, false};
+ghost use Rattle.wf_path.specs.Addresses.{made_up};
 ghost use Rattle.wf_path.specs.Transmissions.{octets_sent};
 ghost use Rattle.wf_captures.specs.BlockAcks.{block_ack_frame};
 ghost use Rattle.wf_captures.specs.Captures.{samples};
@@ -31,8 +32,8 @@ pub(crate) fn transmission(
     requires sending { HasTransmission (world_behind cell.now) exchange index }
     ensures within { result ≤ 2330 }
     ensures some { 0 < result }
-    ensures octets { octets_sent (world_behind cell.now) (samples (world_behind cell.now)) exchange index
-        ≡ Some (take result octets.new) }
+    ensures octets { octets_sent made_up (world_behind cell.now) (samples (world_behind cell.now)) exchange
+        index ≡ Some (take result octets.new) }
 {
     match cell.path().mpdu(exchange, index, octets) {
         Ok(len) => len,

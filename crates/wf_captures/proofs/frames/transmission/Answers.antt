@@ -1,5 +1,7 @@
-use Rattle.std.proofs.Common.{◌≡◌, ap, sym, ◌∙◌, length, arith}
+use Rattle.std.proofs.Common.{◌≡◌, ap, sym, ◌∙◌, subst, length, take, Some, arith}
 use Rattle.std.proofs.lemmas.List.{length-take}
+use Rattle.wf_path.specs.Addresses.{Addresses, made_up}
+use Rattle.wf_path.specs.Transmissions.{octets_sent}
 use Rattle.wf_path.specs.Writing.{write_fault}
 use Rattle.wf_cell.proofs.Written.{no_write_fault}
 use Rattle.wf_def_world.specs.World.{World}
@@ -15,7 +17,9 @@ unreachable-requires c =
     let long : length c.args.octets.now ≡ 2330 = omega arith in
     let fault =
     c.in-Err.ensures.fault w s.bodies (rw (c.path.ensures.value) s.stands)
-    ∙ ap (λ n. write_fault w s.bodies c.args.exchange c.args.index n) long
+    ∙ ap (λ (a : Addresses). write_fault a w s.bodies c.args.exchange c.args.index
+    (length c.args.octets.now)) c.path.ensures.addresses
+    ∙ ap (λ n. write_fault made_up w s.bodies c.args.exchange c.args.index n) long
     ∙ no_write_fault c.args.cell.now.half w s.bodies s.stands c.args.exchange r.sending r.known c.args.index
     r.within in
     cc
@@ -25,7 +29,9 @@ returns-clause-some c =
     let s = c.requires.samples in
     let w : World = world_behind c.args.cell.now in
     let some = some_octets w s.bodies c.args.exchange c.args.index _
-    (c.in-Ok.ensures.octets w s.bodies (rw (c.path.ensures.value) s.stands)) in
+    (subst (λ (a : Addresses). octets_sent a w s.bodies c.args.exchange c.args.index
+    ≡ Some (take c.in-Ok.len c.mpdu.new.out)) c.path.ensures.addresses
+    (c.in-Ok.ensures.octets w s.bodies (rw (c.path.ensures.value) s.stands))) in
     omega (arith, some, length-take c.in-Ok.len c.mpdu.new.out)
 
 pub returns-clause-octets : goal.returns-clause-octets
@@ -33,4 +39,6 @@ returns-clause-octets c =
     let s = c.requires.samples in
     let w : World = world_behind c.args.cell.now in
     sym (octets_same c.args.cell.now.half w s.bodies s.stands s.samples c.args.exchange c.args.index)
-    ∙ c.in-Ok.ensures.octets w s.bodies (rw (c.path.ensures.value) s.stands)
+    ∙ subst (λ (a : Addresses). octets_sent a w s.bodies c.args.exchange c.args.index
+    ≡ Some (take c.in-Ok.len c.mpdu.new.out)) c.path.ensures.addresses
+    (c.in-Ok.ensures.octets w s.bodies (rw (c.path.ensures.value) s.stands))
