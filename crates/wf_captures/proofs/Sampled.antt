@@ -2,15 +2,19 @@
 -- bodies.
 use Rattle.std.proofs.Common.{◌≡◌, refl, ap, ap₂, sym, ◌∙◌, ℕ, zero, suc, Bool, true, false, List, [], ◌∷◌, ◌++◌, ◌+◌, ◌%◌, length, map, Option, Some, None, arith, length-append}
 use Rattle.std.specs.Prelude.{◌==◌, slice_get, if◌then◌else◌}
-use Rattle.wf_frame.specs.Frames.{FrameValue, new_frame, sample_body}
+use Rattle.wf_frame.specs.Frames.{FrameValue, new_frame, sample_body, sent_again}
+use Rattle.wf_frame.specs.declared.notes.Ask.TheVariants.{Pull}
 use Rattle.wf_frame.specs.declared.notes.Note.{Note}
+use Rattle.wf_frame.specs.declared.notes.Part.TheVariants.{Mpdus}
 use Rattle.wf_frame.specs.declared.notes.ReplyNote.{ReplyNote}
 use Rattle.wf_frame.specs.declared.notes.ReplyNote.TheVariants as reply
 use Rattle.wf_def_world.specs.World.{World, Mpdu, Exchange, Content, Frames, Request, exchange}
 use Rattle.wf_def_world.specs.Exchanges.{mpdus_of}
 use Rattle.wf_octets_header.specs.Layout.{header_as_octets}
 use Rattle.wf_queue_flows_refines.specs.Frames.{with_body}
+use Rattle.wf_send_window.specs.Sent.{with_one_sent, with_all_sent}
 use Rattle.wf_send_half.specs.Enqueues.{as_accepted}
+use Rattle.wf_send_half.specs.Replies.{bodies_sent}
 use Rattle.wf_send_half_refines.specs.Half.{TransmitValue}
 use Rattle.wf_send_half_refines.specs.Standing.{StandsFor}
 use Rattle.wf_path.specs.Addresses.{made_up}
@@ -50,14 +54,32 @@ with_sample bodies f all is id = of (id == f.id)
     of true = is
     of false = all id
 
+with_sent_sample : (id : ℕ) (bodies : ℕ → FrameValue) → ((k : ℕ) → IsSample (bodies k)) → (k : ℕ) →
+    IsSample (with_one_sent id bodies k)
+with_sent_sample id bodies all k = of (k == id)
+  where
+    of : (b : Bool) → IsSample (if b then sent_again (bodies k) else bodies k)
+    of true = record { body = (all k).body; source = (all k).source }
+    of false = all k
+
+sent_samples : (pairs : List (ℕ × ℕ)) (bodies : ℕ → FrameValue) → ((id : ℕ) → IsSample (bodies id)) →
+    (id : ℕ) → IsSample (with_all_sent pairs bodies id)
+sent_samples [] bodies all = all
+sent_samples (p ∷ pairs) bodies all =
+    sent_samples pairs (with_one_sent p.0 bodies) (with_sent_sample p.0 bodies all)
+
 pub after_sample : (v : TransmitValue) (job : Job) (answered : ReplyNote) (bodies : ℕ → FrameValue) →
     ((id : ℕ) → IsSample (bodies id)) → ((f : FrameValue) → frame_of job ≡ Some f → IsSample f) →
     (id : ℕ) → IsSample (bodies_after v job answered bodies id)
 after_sample v (Give f) (reply.Accepted given dropped) bodies all brought =
     let is : IsSample f = brought f refl in
     with_sample bodies (as_accepted v f) all (record { body = is.body; source = is.source })
-after_sample v (Give f) _ bodies all brought = all
-after_sample v (Call ask) answered bodies all brought = all
+after_sample v (Call (Pull class)) answered bodies all brought = of answered
+  where
+    of : (r : ReplyNote) → (id : ℕ) → IsSample (bodies_sent r bodies id)
+    of (reply.Send exchange station tid air (Mpdus pairs) more) = sent_samples pairs bodies all
+    of _ = all
+after_sample v _ _ bodies all brought = all
 
 -- ---- what goes on the air
 

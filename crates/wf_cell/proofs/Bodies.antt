@@ -1,9 +1,11 @@
 -- The bodies that a half has after a call.
-use Rattle.std.proofs.Common.{◌≡◌, refl, ap, sym, ◌∙◌, subst, ℕ, ◌==◌, Bool, true, false, if◌then◌else◌, Option, Some, None, IfSome, is_some}
+use Rattle.std.proofs.Common.{◌≡◌, refl, ap, sym, ◌∙◌, subst, ℕ, ◌==◌, Bool, true, false, if◌then◌else◌, List, Option, Some, None, IfSome, is_some}
 use Rattle.wf_frame.specs.Frames.{FrameValue}
 use Rattle.wf_frame.specs.declared.classes.Fate.{Fate}
+use Rattle.wf_frame.specs.declared.notes.Ask.{Ask}
 use Rattle.wf_frame.specs.declared.notes.Ask.TheVariants as ask
 use Rattle.wf_frame.specs.declared.notes.Note.TheVariants.{Asked}
+use Rattle.wf_frame.specs.declared.notes.Part.TheVariants.{Mpdus}
 use Rattle.wf_frame.specs.declared.notes.ReplyNote.{ReplyNote}
 use Rattle.wf_frame.specs.declared.notes.ReplyNote.TheVariants as reply
 use Rattle.wf_law_rules.proofs.Lemmas.Numbers.{on_bool}
@@ -13,16 +15,30 @@ use Rattle.wf_def_world.specs.Step.{step}
 use Rattle.wf_send_stations.specs.Tally.{Counts}
 use Rattle.wf_queue_flows_refines.specs.Frames.{with_body}
 use Rattle.wf_send_half.specs.Enqueues.{as_accepted}
+use Rattle.wf_send_half.specs.Replies.{bodies_sent}
 use Rattle.wf_send_half_refines.specs.Half.{TransmitValue, body_of}
 use Rattle.wf_send_half_refines.specs.Standing.{StandsFor}
 use Rattle.wf_send_half_refines.specs.Inside.{is_held_id, is_inside, inside_after, body_inside}
 use Rattle.wf_send_half_refines.proofs.Inside.{next_id, inside_reached}
 use Rattle.wf_send_half_refines.proofs.Frames.{bodies_are}
+use Rattle.wf_send_window.proofs.Sending.{all_sent_keep}
 use Rattle.wf_path.specs.declared.job.Job.{Job}
 use Rattle.wf_path.specs.declared.job.Job.TheVariants.{Give, Call}
 use Rattle.wf_path.specs.Jobs.{bodies_after, frame_given_back, note_of}
 use Rattle.wf_cell.specs.Bodies.{body_after}
 use Rattle.wf_cell.proofs.Rights.{on_the_list}
+
+-- what a pull sends keeps its body
+sent_body : (answered : ReplyNote) (bodies : ℕ → FrameValue) (id : ℕ) →
+    (bodies_sent answered bodies id).body ≡ (bodies id).body
+sent_body (reply.Send exchange station tid air (Mpdus pairs) more) bodies id =
+    all_sent_keep (λ (f : FrameValue). f.body) (λ f. refl) pairs bodies id
+sent_body _ bodies id = refl
+
+called_body : (v : TransmitValue) (ask : Ask) (answered : ReplyNote) (bodies : ℕ → FrameValue) (id : ℕ) →
+    (bodies_after v (Call ask) answered bodies id).body ≡ (bodies id).body
+called_body v (ask.Pull class) answered bodies id = sent_body answered bodies id
+called_body v _ answered bodies id = refl
 
 module _ (v : TransmitValue) (w : World) (bodies : ℕ → FrameValue) (stands : StandsFor v w bodies) where
   -- an id that stays where it was
@@ -59,6 +75,26 @@ module _ (v : TransmitValue) (w : World) (bodies : ℕ → FrameValue) (stands :
       of true = refl
       of false = stays id
 
+  -- a call that brings no frame, as far as it concerns bodies
+  by_call : (ask : Ask) (answered : ReplyNote) (id : ℕ) →
+      (if inside_after w answered (Asked ask) id then Some (bodies id).body else None)
+      ≡ body_after v answered (Call ask) id
+  by_call ask reply.Joined id = stays id
+  by_call ask (reply.Gone dropped) id = stays id
+  by_call ask reply.RateSet id = stays id
+  by_call ask (reply.Ticked now) id = stays id
+  by_call ask (reply.Accepted new dropped) id = stays id
+  by_call ask (reply.Send exchange station tid air part more) id = stays id
+  by_call ask (reply.Released ids) id = stays id
+  by_call ask (reply.Ba start b0 b1 b2 b3 wide) id = stays id
+  by_call ask (reply.Ended acked waiting failed) id = stays id
+  by_call ask reply.Slept id = stays id
+  by_call ask reply.Woken id = stays id
+  by_call ask (reply.Credited class) id = stays id
+  by_call ask (reply.Charged deficit) id = stays id
+  by_call ask (reply.Reaped gone fate) id = goes gone id
+  by_call ask (reply.Refused reason) id = stays id
+
   by_reply : (job : Job) (answered : ReplyNote) (id : ℕ) →
       ((f : FrameValue) (new : ℕ) (dropped : Option ℕ) → job ≡ Give f →
       answered ≡ reply.Accepted new dropped → new ≡ v.tally.accepted) →
@@ -79,21 +115,9 @@ module _ (v : TransmitValue) (w : World) (bodies : ℕ → FrameValue) (stands :
   by_reply (Give f) (reply.Charged deficit) id next = stays id
   by_reply (Give f) (reply.Reaped gone fate) id next = goes gone id
   by_reply (Give f) (reply.Refused reason) id next = stays id
-  by_reply (Call ask) reply.Joined id next = stays id
-  by_reply (Call ask) (reply.Gone dropped) id next = stays id
-  by_reply (Call ask) reply.RateSet id next = stays id
-  by_reply (Call ask) (reply.Ticked now) id next = stays id
-  by_reply (Call ask) (reply.Accepted new dropped) id next = stays id
-  by_reply (Call ask) (reply.Send exchange station tid air part more) id next = stays id
-  by_reply (Call ask) (reply.Released ids) id next = stays id
-  by_reply (Call ask) (reply.Ba start b0 b1 b2 b3 wide) id next = stays id
-  by_reply (Call ask) (reply.Ended acked waiting failed) id next = stays id
-  by_reply (Call ask) reply.Slept id next = stays id
-  by_reply (Call ask) reply.Woken id next = stays id
-  by_reply (Call ask) (reply.Credited class) id next = stays id
-  by_reply (Call ask) (reply.Charged deficit) id next = stays id
-  by_reply (Call ask) (reply.Reaped gone fate) id next = goes gone id
-  by_reply (Call ask) (reply.Refused reason) id next = stays id
+  by_reply (Call ask) answered id next =
+      ap (λ (l : List ℕ). if inside_after w answered (Asked ask) id then Some l else None)
+      (called_body v ask answered bodies id) ∙ by_call ask answered id
 
 -- the body of each id after a call
 pub bodies_then : (v u : TransmitValue) (w : World) (bodies : ℕ → FrameValue) (job : Job)

@@ -67,7 +67,7 @@ untold_done v job after answered back path untold w bodies i =
 pub ask_done : (v u : EngineValue) (a : Ask) (answered : ReplyNote) →
     ((bodies : ℕ → FrameValue) → frame_given_back bodies (Call a) answered ≡ None) →
     ((w : World) (bodies : ℕ → FrameValue) → EngineIsIn v w bodies →
-    EngineMeets w bodies (Asked a) u answered) →
+    EngineMeets w (bodies_after v.half (Call a) answered bodies) (Asked a) u answered) →
     (w : World) (bodies : ℕ → FrameValue) → EngineIsIn v w bodies →
     IsJobDone w bodies (Call a) v.half u answered None
 ask_done v u a answered none meets w bodies i =
@@ -118,9 +118,9 @@ ended_reply w e heard air done =
 
 -- a refused call leads to where it was, with the same receive halves and marks
 pub refused_meets : (v : EngineValue) (after : TransmitValue) (note : Note) (answered : ReplyNote) (w : World)
-    (bodies : ℕ → FrameValue) → EngineIsIn v w bodies → PathMeets w bodies note after answered →
-    IsRefused w note → EngineMeets w bodies note (record v { half = after }) answered
-refused_meets v after note answered w bodies i m r = record {
+    (bodies others : ℕ → FrameValue) → EngineIsIn v w bodies → PathMeets w others note after answered →
+    IsRefused w note → EngineMeets w others note (record v { half = after }) answered
+refused_meets v after note answered w bodies others i m r = record {
   is_in = record {
     half = m.stands;
     hears = refused_hears v.peers v.marks w note r.reason i.half.reached
@@ -239,11 +239,11 @@ module _ (w : World) (c : Class) (r : IsReached w) (answered : ReplyNote)
 
 -- an exchange that opens has a mark, for which there is room
 pub pulled_meets : (v : EngineValue) (after : TransmitValue) (answered : ReplyNote) (w : World)
-    (bodies : ℕ → FrameValue) (c : Class) → EngineIsIn v w bodies →
-    PathMeets w bodies (Asked (ask.Pull c)) after answered → (sent : IsSend answered) →
-    EngineMeets w bodies (Asked (ask.Pull c)) (record
+    (bodies others : ℕ → FrameValue) (c : Class) → EngineIsIn v w bodies →
+    PathMeets w others (Asked (ask.Pull c)) after answered → (sent : IsSend answered) →
+    EngineMeets w others (Asked (ask.Pull c)) (record
     v { half = after; marks = v.marks ++ new_mark sent.number ∷ [] }) answered
-pulled_meets v after answered w bodies c i m sent = record {
+pulled_meets v after answered w bodies others c i m sent = record {
   is_in = record {
     half = m.stands;
     hears =
@@ -261,10 +261,10 @@ pub record HasPlaceFor (marks : List Mark) (number : ℕ) : Type 0 where
   pub above : All (λ k. k.number < number) marks
 
 pub mark_fits : (v : EngineValue) (after : TransmitValue) (answered : ReplyNote) (w : World)
-    (bodies : ℕ → FrameValue) (c : Class) → EngineIsIn v w bodies →
-    PathMeets w bodies (Asked (ask.Pull c)) after answered → (sent : IsSend answered) →
+    (bodies others : ℕ → FrameValue) (c : Class) → EngineIsIn v w bodies →
+    PathMeets w others (Asked (ask.Pull c)) after answered → (sent : IsSend answered) →
     HasPlaceFor v.marks sent.number
-mark_fits v after answered w bodies c i m sent = record {
+mark_fits v after answered w bodies others c i m sent = record {
   room = marks_within v.peers v.marks w c i.half.reached i.hears
       (is_pulled w c i.half.reached answered m.reply sent);
   above = subst (λ n. All (λ k. k.number < n) v.marks)

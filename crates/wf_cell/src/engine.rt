@@ -7,6 +7,7 @@ ghost use Rattle.wf_frame.specs.Settings.{first_out_of_range};
 ghost use Rattle.wf_frame.specs.declared.notes.Ask.TheVariants.{Join, Pull};
 ghost use Rattle.wf_frame.specs.declared.notes.Note.TheVariants.{Asked};
 ghost use Rattle.wf_def_world.specs.World.{World, opening};
+ghost use Rattle.wf_send_half.specs.Replies.{bodies_sent};
 ghost use Rattle.wf_path.specs.Jobs.{changes_nothing};
 ghost use Rattle.wf_path.specs.Paths.{IsSmall};
 ghost use Rattle.wf_cell.specs.Engines.{EngineHasWorld, IsJobDone, EngineIsIn, EngineMeets};
@@ -166,7 +167,8 @@ impl Engine {
         requires some { EngineHasWorld self.old }
         requires small { IsSmall self.old.half }
         ensures meets { (w : World) (bodies : ℕ → FrameValue) → EngineIsIn self.old w bodies →
-            EngineMeets w bodies (Asked (Pull class)) self.new (reply_of answer.new) }
+            EngineMeets w (bodies_sent (reply_of answer.new) bodies) (Asked (Pull class)) self.new
+            (reply_of answer.new) }
         ensures path_kept { changes_nothing (reply_of answer.new) ≡ true →
             self.new.half ≡ self.old.half }
     {

@@ -1,5 +1,5 @@
 -- A frame as contracts see it.
-use Rattle.std.specs.Prelude.{ℕ, zero, suc, ◌+◌, ◌%◌, List, [], ◌∷◌, ◌++◌}
+use Rattle.std.specs.Prelude.{ℕ, zero, suc, ◌+◌, ◌%◌, nat_lt, if◌then◌else◌, List, [], ◌∷◌, ◌++◌}
 use Rattle.wf_frame.specs.declared.classes.Fate.{Fate}
 use Rattle.wf_frame.specs.declared.classes.Fate.TheVariants.{Held}
 
@@ -12,6 +12,7 @@ pub record FrameValue : Type 0 where
   pub flow : ℕ
   pub source : List ℕ
   pub tag : ℕ
+  pub attempts : ℕ  -- how often it was sent
   pub fate : Fate
 
 -- the octets of a source
@@ -33,8 +34,18 @@ new_frame station tid flow body = record {
   flow = flow;
   source = made_up_source;
   tag = 0;
+  attempts = 0;
   fate = Held;
 }
+
+-- The greatest number of attempts that a frame counts. A frame is sent at most as often as the setting
+-- `attempts` says, which is at most 64.
+abbrev pub most_attempts : ℕ
+most_attempts = 255
+
+-- the frame, sent once more
+abbrev pub sent_again : FrameValue → FrameValue
+sent_again f = record f { attempts = if nat_lt f.attempts most_attempts then f.attempts + 1 else f.attempts }
 
 -- the body that a trace's frame has: octet j is (flow + j) mod 256
 abbrev pub sample_body : ℕ → ℕ → List ℕ

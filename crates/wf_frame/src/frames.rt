@@ -2,7 +2,7 @@
 
 ghost use Rattle.std.specs.Prelude.{◌≡◌, ◌<◌, ◌≤◌, ◌⊎◌, length, IfOk, IfErr};
 ghost use Rattle.wf_def_lists.specs.Lengths.{greatest_body};
-ghost use Rattle.wf_frame.specs.Frames.{made_up_source, source_octets, new_frame, sample_body};
+ghost use Rattle.wf_frame.specs.Frames.{made_up_source, source_octets, new_frame, sent_again, sample_body};
 ghost use Rattle.wf_frame.specs.declared.classes.Fate.TheVariants.{Held};
 
 use crate::Fate;
@@ -11,6 +11,9 @@ use std::marker::Model;
 
 /// The greatest body in octets: the greatest MSDU (IEEE 802.11-2012, 8.2.3).
 pub const GREATEST_BODY: u16 = 2304;
+
+/// The greatest number of attempts that a frame counts, above every number that the settings allow.
+const GREATEST_ATTEMPTS: u8 = 255;
 
 /// The source that a frame has as it is made, `02 00 00 02 00 00`.
 pub fn source_address() -> [u8; 6]
@@ -31,6 +34,7 @@ pub struct Frame {
     flow: u32,
     source: [u8; 6],
     tag: u64,
+    attempts: u8,
     fate: Fate,
 }
 
@@ -50,6 +54,7 @@ impl Model for Frame {
       flow = f.flow;
       source = f.source;
       tag = f.tag;
+      attempts = f.attempts;
       fate = f.fate;
     } };
 
@@ -79,6 +84,7 @@ impl Frame {
             flow,
             source: source_address(),
             tag: 0,
+            attempts: 0,
             fate: Fate::Held,
         })
     }
@@ -109,6 +115,7 @@ impl Frame {
             flow,
             source: source_address(),
             tag: 0,
+            attempts: 0,
             fate: Fate::Held,
         })
     }
@@ -180,6 +187,14 @@ impl Frame {
         self.body.as_slice()
     }
 
+    /// How often it was sent since it was accepted, with whatever fate it ended: at most the setting
+    /// `attempts`, so at most 64.
+    pub fn attempts(&self) -> u8
+        ensures { result ≡ self.now.attempts }
+    {
+        self.attempts
+    }
+
     /// What became of it.
     pub fn fate(&self) -> Fate
         ensures { result ≡ self.now.fate }
@@ -201,12 +216,22 @@ impl Frame {
         self.tag = tag;
     }
 
-    /// Gives the frame its number and its stamp.
+    /// Gives the frame its number and its stamp; from then on it counts how often it is sent.
     pub fn mark(&mut self, id: u64, stamp: u64)
-        ensures { self.new ≡ record self.old { id = id; stamp = stamp } }
+        ensures { self.new ≡ record self.old { id = id; stamp = stamp; attempts = 0 } }
     {
         self.id = id;
         self.stamp = stamp;
+        self.attempts = 0;
+    }
+
+    /// Counts one more time that the frame is sent, where it has counted fewer than 255.
+    pub fn send(&mut self)
+        ensures { self.new ≡ sent_again self.old }
+    {
+        if self.attempts < GREATEST_ATTEMPTS {
+            self.attempts += 1;
+        }
     }
 
     /// Gives the frame its fate.

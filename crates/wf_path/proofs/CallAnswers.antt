@@ -1,6 +1,7 @@
 -- The calls that bring no frame: what each answers, and what it leaves.
 use Rattle.std.proofs.Common.{◌≡◌, ap, sym, ◌∙◌, subst, arith, ℕ, ◌<◌, true, List, ◌∷◌, drop, Some}
 use Rattle.wf_frame.specs.Answers.{reply_with}
+use Rattle.wf_frame.specs.Frames.{FrameValue}
 use Rattle.wf_frame.specs.declared.answers.Brief.{Brief}
 use Rattle.wf_frame.specs.declared.notes.Ask.{Ask}
 use Rattle.wf_frame.specs.declared.notes.Note.TheVariants.{Asked}
@@ -17,7 +18,8 @@ use Rattle.wf_send_half_refines.specs.Half.{TransmitValue}
 use Rattle.wf_send_half_refines.specs.Standing.{StandsFor, Meets}
 use Rattle.wf_path.specs.Addresses.{Addresses}
 use Rattle.wf_path.specs.Flags.{Flags, with_flags, AreFlags, FlagsHaveRoom}
-use Rattle.wf_path.specs.Jobs.{changes_nothing}
+use Rattle.wf_path.specs.Jobs.{bodies_after, changes_nothing}
+use Rattle.wf_path.specs.declared.job.Job.TheVariants.{Call}
 use Rattle.wf_path.specs.Paths.{PathValue, IsTracked, RiseLittle, IsToldBriefly}
 use Rattle.wf_path.proofs.Kept.{Leaves, same_bodies, kept_path, same_config, tracked_station, answered, within_range}
 use Rattle.wf_path.proofs.Rises.{rises_by}
@@ -34,12 +36,15 @@ module _ (x : TransmitValue) (r : Flags) (h : IsTracked x r) (ask : Ask) (reply 
   pub told_briefly : (a : Addresses) (p : PathValue) →
       ◌≡◌ {A = PathValue} (record { half = x; addresses = a }) p → (brief : Brief) →
       ((pairs : List (ℕ × ℕ)) (ids : List ℕ) → reply_with brief pairs ids ≡ reply) → IsSilent (Asked ask) →
+      ((bodies : ℕ → FrameValue) → bodies_after p.half (Call ask) reply bodies ≡ bodies) →
       (changes_nothing reply ≡ true → u ≡ x) →
       IsToldBriefly p ask (record { half = u; addresses = a }) brief
-  told_briefly a p same brief says quiet stays pairs = record {
-    meets = λ w bodies ids st. subst (λ (z : ReplyNote). Meets w bodies (Asked ask) u z)
-        (sym (says pairs ids)) (meets w bodies (subst (λ (z : TransmitValue). StandsFor z w bodies)
-        (sym (half_is same)) st));
+  told_briefly a p same brief says quiet sends stays pairs = record {
+    meets = λ w bodies ids st.
+        subst (λ (z : ReplyNote). Meets w (bodies_after p.half (Call ask) z bodies) (Asked ask) u z)
+        (sym (says pairs ids)) (subst (λ (z : ℕ → FrameValue). Meets w z (Asked ask) u reply)
+        (sym (sends bodies)) (meets w bodies (subst (λ (z : TransmitValue). StandsFor z w bodies)
+        (sym (half_is same)) st)));
     refused = λ ids is. ap (λ (z : TransmitValue). with_half a z)
         (stays (ap changes_nothing (sym (says pairs ids)) ∙ is)) ∙ same;
     addresses = addresses_are same;

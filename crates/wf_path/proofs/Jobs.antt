@@ -42,7 +42,8 @@ none_back bodies job ask same reply is = subst
 
 pub asked_meets : (v u : TransmitValue) (job : Job) (ask : Ask) → job ≡ Call ask →
     (b : Brief) (pairs : List (ℕ × ℕ)) (ids : List ℕ) (w : World) (bodies : ℕ → FrameValue) →
-    Meets w bodies (Asked ask) u (reply_with b pairs ids) →
+    Meets w (bodies_after v (Call ask) (reply_with b pairs ids) bodies) (Asked ask) u
+    (reply_with b pairs ids) →
     Meets w (bodies_after v job (reply_with b pairs ids) bodies) (note_of job) u (reply_with b pairs ids)
 asked_meets v u job ask same b pairs ids w bodies m =
     subst (λ (j : Job). Meets w (bodies_after v j (reply_with b pairs ids) bodies) (note_of j) u

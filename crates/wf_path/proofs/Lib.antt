@@ -1,4 +1,5 @@
 mod CallAnswers
+mod Counts
 mod Dones
 mod Enqueues
 mod Flags

@@ -33,11 +33,12 @@ use Rattle.wf_send_half_refines.proofs.Spared.{ready_refused}
 use Rattle.wf_send_stations.specs.declared.members.Member.{Member}
 use Rattle.wf_send_stations.specs.Members.{member}
 use Rattle.wf_path.specs.Addresses.{Addresses}
+use Rattle.wf_send_half.specs.Replies.{bodies_sent}
 use Rattle.wf_path.specs.Flags.{Flags, flags_in, with_flag, AreFlags}
 use Rattle.wf_path.specs.Jobs.{changes_nothing}
 use Rattle.wf_path.specs.Paths.{PathValue, IsTracked, RiseLittle, IsAnswered}
 use Rattle.wf_path.proofs.Flags.{AreNearly, all_set, set_alone}
-use Rattle.wf_path.proofs.Kept.{Leaves, same_bodies, kept_path, same_config, nearly}
+use Rattle.wf_path.proofs.Kept.{Leaves, kept_path, same_config, nearly}
 use Rattle.wf_path.proofs.Rises.{rises_by}
 use Rattle.wf_path.proofs.Values.{half_is, addresses_are, with_half}
 
@@ -115,12 +116,17 @@ same_said w c x (brief.Reaped id fate) pairs ids k e = e
 same_said w c x (brief.Refused refusal) pairs ids k e = e
 
 pub pull_met : (w : World) (bodies : ℕ → FrameValue) (c : Class) (y : TransmitValue) (b : Brief)
-    (pairs : List (ℕ × ℕ)) (ids : List ℕ) → Meets w bodies (Asked (Pull c)) y (reply_with b pairs []) →
-    Meets w bodies (Asked (Pull c)) y (reply_with b pairs ids)
-pull_met w bodies c y b pairs ids m = record {
-  stands = m.stands;
-  reply = same_said w c (step w (Asked (Pull c))).reply b pairs ids (says w c) m.reply;
-}
+    (pairs : List (ℕ × ℕ)) (ids : List ℕ) →
+    Meets w (bodies_sent (reply_with b pairs []) bodies) (Asked (Pull c)) y (reply_with b pairs []) →
+    Meets w (bodies_sent (reply_with b pairs ids) bodies) (Asked (Pull c)) y (reply_with b pairs ids)
+pull_met w bodies c y b pairs ids m =
+    let said : reply_with b pairs ids ≡ (step w (Asked (Pull c))).reply =
+    same_said w c (step w (Asked (Pull c))).reply b pairs ids (says w c) m.reply in
+    record {
+      stands = subst (λ (r : ReplyNote). StandsFor y (step w (Asked (Pull c))).world (bodies_sent r bodies))
+          (m.reply ∙ sym said) m.stands;
+      reply = said;
+    }
 
 -- who sends was picked
 pub sender_won : (w : World) (c : Class) (e s t air : ℕ) (part : Part) (more : Bool) →
@@ -153,12 +159,12 @@ not_full w c off = from (says w c)
     from (Refuses r h how) = ap changes_nothing (how ∙ ap Refused (only_idle _ _ _ r off h))
 
 -- a pull that changes nothing, by its answer, is full
-pub full_or_same : (v y : TransmitValue) (w : World) (bodies : ℕ → FrameValue) (c : Class) (b : Brief)
+pub full_or_same : (v y : TransmitValue) (w : World) (bodies after : ℕ → FrameValue) (c : Class) (b : Brief)
     (pairs : List (ℕ × ℕ)) (ids : List ℕ) → StandsFor v w bodies →
-    Meets w bodies (Asked (Pull c)) y (reply_with b pairs ids) →
+    Meets w after (Asked (Pull c)) y (reply_with b pairs ids) →
     (nat_le v.config.inflight (count_by (λ x. same_class x.class c) v.opened) ≡ true → y ≡ v) →
     changes_nothing (reply_with b pairs ids) ≡ true → y ≡ v
-full_or_same v y w bodies c b pairs ids h m full is =
+full_or_same v y w bodies after c b pairs ids h m full is =
     from (nat_le v.config.inflight (count_by (λ x. same_class x.class c) v.opened)) refl
   where
     from : (a : Bool) → nat_le v.config.inflight (count_by (λ x. same_class x.class c) v.opened) ≡ a → y ≡ v
@@ -173,13 +179,13 @@ full_or_same v y w bodies c b pairs ids h m full is =
 -- ---- the flags
 
 -- a pull that is refused leaves them right, and one that is not all but that of its station
-module _ (v y : TransmitValue) (r : Flags) (flags : AreFlags v r) (w : World) (bodies : ℕ → FrameValue)
+module _ (v y : TransmitValue) (r : Flags) (flags : AreFlags v r) (w : World) (bodies after : ℕ → FrameValue)
     (c : Class) (reply : ReplyNote) (h : StandsFor v w bodies)
-    (m : Meets w bodies (Asked (Pull c)) y reply) where
+    (m : Meets w after (Asked (Pull c)) y reply) where
   pub nearly_pulled : (Q : ℕ → Class → Type 0) →
       ((s : ℕ) (d : Class) → (picked_station w c).winner ≡ Some s → d ≡ c → Q s d) → AreNearly y r Q
   nearly_pulled Q left =
-      nearly v y r flags w bodies bodies (Asked (Pull c)) reply h m Q
+      nearly v y r flags w bodies after (Asked (Pull c)) reply h m Q
       (λ s d out. ready_pulled w c h.reached s d (λ won same. out (left s d won (sym same))))
 
 -- ---- who wins
@@ -243,8 +249,13 @@ send_only (brief.Refused refusal) pairs e s t air part more is = absurd (cc is)
 
 -- x is the half of the path p, a are its addresses, and u is what a pull of it leaves of the half
 module _ (x : TransmitValue) (r : Flags) (h : IsTracked x r) (c : Class) (b : Brief) (pairs : List (ℕ × ℕ))
-    (u : TransmitValue) (meets : Leaves x u same_bodies (Asked (Pull c)) (reply_with b pairs [])) where
-  met : Meets h.path.world h.path.bodies (Asked (Pull c)) u (reply_with b pairs [])
+    (u : TransmitValue) (meets : Leaves x u (bodies_sent (reply_with b pairs [])) (Asked (Pull c))
+    (reply_with b pairs [])) where
+  -- what is pulled is sent once more
+  abbrev sent : (ℕ → FrameValue) → ℕ → FrameValue
+  sent = bodies_sent (reply_with b pairs [])
+
+  met : Meets h.path.world (sent h.path.bodies) (Asked (Pull c)) u (reply_with b pairs [])
   met = meets h.path.world h.path.bodies h.path.stands
 
   pub pull_answered : (a : Addresses) (p : PathValue) →
@@ -255,11 +266,11 @@ module _ (x : TransmitValue) (r : Flags) (h : IsTracked x r) (c : Class) (b : Br
     meets = λ w bodies ids st. pull_met w bodies c u b pairs ids
         (meets w bodies (subst (λ (z : TransmitValue). StandsFor z w bodies) (sym (half_is same)) st));
     refused = λ ids is. ap (λ (z : TransmitValue). with_half a z)
-        (full_or_same x u h.path.world h.path.bodies c b pairs ids h.path.stands
+        (full_or_same x u h.path.world h.path.bodies _ c b pairs ids h.path.stands
         (pull_met h.path.world h.path.bodies c u b pairs ids met) full is) ∙ same;
     addresses = addresses_are same;
-    path = kept_path x u same_bodies (Asked (Pull c)) (reply_with b pairs []) meets tt h.path;
-    rises = subst (λ (z : TransmitValue). RiseLittle z u) (half_is same) (rises_by x u h.path h.path.bodies
+    path = kept_path x u sent (Asked (Pull c)) (reply_with b pairs []) meets tt h.path;
+    rises = subst (λ (z : TransmitValue). RiseLittle z u) (half_is same) (rises_by x u h.path (sent h.path.bodies)
         (Asked (Pull c)) (reply_with b pairs []) met);
   }
 
@@ -275,7 +286,8 @@ module _ (x : TransmitValue) (r : Flags) (h : IsTracked x r) (c : Class) (b : Br
 
     pub sender_within : s < u.config.stations
     sender_within = subst (λ (z : Config). s < z.stations)
-        (same_config x u h.path.world h.path.bodies h.path.bodies (Asked (Pull c)) _ h.path.stands met)
+        (same_config x u h.path.world h.path.bodies (sent h.path.bodies) (Asked (Pull c)) _ h.path.stands
+        met)
         sender_low
 
     pub sender_room : s < length (flags_in r c)
@@ -283,9 +295,9 @@ module _ (x : TransmitValue) (r : Flags) (h : IsTracked x r) (c : Class) (b : Br
 
     pub tracked_sender : (z : Flags) → z ≡ with_flag r c s (is_ready_of u c s) → IsTracked u z
     tracked_sender z set = subst (IsTracked u) (sym set) (record {
-      path = kept_path x u same_bodies (Asked (Pull c)) (reply_with b pairs []) meets tt h.path;
+      path = kept_path x u sent (Asked (Pull c)) (reply_with b pairs []) meets tt h.path;
       flags = set_alone u r s c
-          (nearly_pulled x u r h.flags h.path.world h.path.bodies c _ h.path.stands met
+          (nearly_pulled x u r h.flags h.path.world h.path.bodies (sent h.path.bodies) c _ h.path.stands met
           (λ i d. (i ≡ s) × (d ≡ c))
           (λ i d wins same. (let k : Some i ≡ Some s = sym wins ∙ won in cc k, same)))
           sender_within;
@@ -294,9 +306,10 @@ module _ (x : TransmitValue) (r : Flags) (h : IsTracked x r) (c : Class) (b : Br
   -- nobody does
   pub tracked_idle : (IsSend b → ⊥) → IsTracked u r
   tracked_idle none = record {
-    path = kept_path x u same_bodies (Asked (Pull c)) (reply_with b pairs []) meets tt h.path;
+    path = kept_path x u sent (Asked (Pull c)) (reply_with b pairs []) meets tt h.path;
     flags = all_set u r (λ _ _. ⊥)
-        (nearly x u r h.flags h.path.world h.path.bodies h.path.bodies (Asked (Pull c)) _ h.path.stands met
+        (nearly x u r h.flags h.path.world h.path.bodies (sent h.path.bodies) (Asked (Pull c)) _
+        h.path.stands met
         (λ _ _. ⊥) (λ s d _. from (says h.path.world c) s d))
         (λ s d low other. other);
   }

@@ -1,15 +1,17 @@
 -- Calls of a path, and what comes back of them beside the answer.
-use Rattle.std.specs.Prelude.{ℕ, Bool, true, false, Option, Some, None}
+use Rattle.std.specs.Prelude.{ℕ, ◌+◌, ◌==◌, Bool, true, false, if◌then◌else◌, List, [], ◌∷◌, Option, Some, None}
 use Rattle.wf_frame.specs.Frames.{FrameValue}
 use Rattle.wf_frame.specs.declared.notes.Ask.{Ask}
-use Rattle.wf_frame.specs.declared.notes.Ask.TheVariants.{Arrive, Answer, Done, Reap}
+use Rattle.wf_frame.specs.declared.notes.Ask.TheVariants.{Pull, Arrive, Answer, Done, Reap}
 use Rattle.wf_frame.specs.declared.notes.Note.{Note}
 use Rattle.wf_frame.specs.declared.notes.Note.TheVariants.{Asked}
+use Rattle.wf_frame.specs.declared.notes.Part.TheVariants.{Mpdus}
 use Rattle.wf_frame.specs.declared.notes.Refusal.TheVariants.{Idle}
 use Rattle.wf_frame.specs.declared.notes.ReplyNote.{ReplyNote}
-use Rattle.wf_frame.specs.declared.notes.ReplyNote.TheVariants.{Accepted, Reaped, Refused}
+use Rattle.wf_frame.specs.declared.notes.ReplyNote.TheVariants.{Accepted, Send, Reaped, Refused}
 use Rattle.wf_queue_flows_refines.specs.Frames.{with_body}
 use Rattle.wf_send_half.specs.Enqueues.{enqueue_of, as_accepted}
+use Rattle.wf_send_half.specs.Replies.{bodies_sent}
 use Rattle.wf_send_half_refines.specs.Half.{TransmitValue}
 use Rattle.wf_path.specs.declared.job.Job.{Job}
 use Rattle.wf_path.specs.declared.job.Job.TheVariants.{Give, Call}
@@ -40,10 +42,23 @@ IsBrief (Done exchange heard air) = ⊥
 IsBrief Reap = ⊥
 IsBrief ask = Unit {0}
 
--- the frames of the ids after a call of v: with the frame that it brought, where that is accepted
+-- The frames of the ids after a call of v, each as it was accepted but for how often it was sent since: with
+-- the frame that the call brought, where that is accepted; and those that a pull sends, by its reply, are
+-- sent once more.
 abbrev pub bodies_after : TransmitValue → Job → ReplyNote → (ℕ → FrameValue) → ℕ → FrameValue
 bodies_after v (Give f) (Accepted id dropped) bodies = with_body bodies (as_accepted v f)
+bodies_after v (Call (Pull class)) reply bodies = bodies_sent reply bodies
 bodies_after v job reply bodies = bodies
+
+-- how often an id stands in these pairs
+abbrev pub times_in : List (ℕ × ℕ) → ℕ → ℕ
+times_in [] id = 0
+times_in (pair ∷ pairs) id = (if id == pair.0 then 1 else 0) + times_in pairs id
+
+-- how often a reply sends the frame of an id
+abbrev pub times_sent : ReplyNote → ℕ → ℕ
+times_sent (Send exchange station tid air (Mpdus pairs) more) id = times_in pairs id
+times_sent reply id = 0
 
 -- The frame that comes back: the one that a call brought, where it is refused; the frame of the reaped id,
 -- with its fate; else none.

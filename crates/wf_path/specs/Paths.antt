@@ -14,7 +14,8 @@ use Rattle.wf_send_half_refines.specs.Half.{TransmitValue}
 use Rattle.wf_send_half_refines.specs.Standing.{StandsFor, Meets}
 use Rattle.wf_path.specs.Addresses.{Addresses}
 use Rattle.wf_path.specs.Flags.{Flags, AreFlags}
-use Rattle.wf_path.specs.Jobs.{changes_nothing}
+use Rattle.wf_path.specs.Jobs.{bodies_after, changes_nothing}
+use Rattle.wf_path.specs.declared.job.Job.TheVariants.{Call}
 
 -- a path: its transmit half, and the addresses that it writes and reads beside it
 pub record PathValue : Type 0 where
@@ -53,11 +54,12 @@ abbrev pub RiseLittle : TransmitValue → TransmitValue → Type 0
 RiseLittle v u = (n : ℕ) → HasCountsBelow n v → HasCountsBelow (n + greatest_tick) u
 
 -- What a call that brings no frame leaves of the path p, for every world that p stands for, and its brief,
--- beside these frames and whatever ids.
+-- beside these pairs and whatever ids.
 pub record IsAnswered (p : PathValue) (ask : Ask) (q : PathValue) (brief : Brief)
     (pairs : List (ℕ × ℕ)) : Type 0 where
   pub meets : (w : World) (bodies : ℕ → FrameValue) (ids : List ℕ) → StandsFor p.half w bodies →
-      Meets w bodies (Asked ask) q.half (reply_with brief pairs ids)
+      Meets w (bodies_after p.half (Call ask) (reply_with brief pairs ids) bodies) (Asked ask) q.half
+      (reply_with brief pairs ids)
   pub refused : (ids : List ℕ) → changes_nothing (reply_with brief pairs ids) ≡ true → q ≡ p
   pub addresses : q.addresses ≡ p.addresses
   pub path : IsPath q.half

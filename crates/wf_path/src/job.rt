@@ -1,9 +1,12 @@
 //! What a caller hands in.
 
-ghost use Rattle.std.specs.Prelude.{◌≡◌};
+ghost use Rattle.std.specs.Prelude.{◌≡◌, ℕ, ◌+◌, ◌≤◌};
+ghost use Rattle.wf_frame.specs.Frames.{FrameValue, most_attempts};
+ghost use Rattle.wf_frame.specs.declared.notes.ReplyNote.{ReplyNote};
 ghost use Rattle.wf_def_lists.specs.Lengths.{greatest_body};
 ghost use Rattle.wf_law_runs.specs.Queues.{HasLength, IsAtMost};
-ghost use Rattle.wf_path.specs.Jobs.{note_of, frame_of};
+ghost use Rattle.wf_send_half.specs.Replies.{bodies_sent};
+ghost use Rattle.wf_path.specs.Jobs.{note_of, frame_of, times_sent};
 
 use wf_frame::{Ask, Note};
 use wf_queue_chain::Parcel;
@@ -48,3 +51,10 @@ impl Job {
         }
     }
 }
+
+/// A frame counts each time that a pull names it. The count ends at 255, far above the setting `attempts`.
+pub fn each_time_that_a_frame_is_sent_counts()
+    ensures { (reply : ReplyNote) (bodies : ℕ → FrameValue) (id : ℕ) →
+        (bodies id).attempts + times_sent reply id ≤ most_attempts →
+        (bodies_sent reply bodies id).attempts ≡ (bodies id).attempts + times_sent reply id }
+{}

@@ -25,7 +25,7 @@ mod traffic;
 mod writing;
 
 pub use faults::{BadAddress, DoneFault, NewFault, PathFault};
-pub use job::Job;
+pub use job::{Job, each_time_that_a_frame_is_sent_counts};
 pub use path::Path;
 pub use reading::{Sent, frame_id, frame_tag, sent_by};
 pub use small::first_calls_law;

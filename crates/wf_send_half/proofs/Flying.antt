@@ -5,7 +5,9 @@ use Rattle.std.specs.Prelude.{slice_get}
 use Rattle.wf_frame.specs.Frames.{FrameValue}
 use Rattle.wf_def_agreement.specs.Session.{Session, State, slot, with_state}
 use Rattle.wf_def_world.specs.World.{World, Mpdu, session, on_session}
-use Rattle.wf_send_window.specs.Window.{WindowValue, WindowStandsFor as WindowStandsFor, IsNumber, state_at, on_air}
+use Rattle.wf_send_window.specs.Window.{WindowValue, WindowStandsFor as WindowStandsFor, IsNumber, HasOwnFrame, state_at, on_air}
+use Rattle.wf_send_window.specs.Sent.{with_one_sent, with_all_sent}
+use Rattle.wf_send_window.proofs.Sending.{all_sent_then}
 use Rattle.wf_send_window.specs.Windows.{WindowsHaveRoom, window_of, with_window}
 use Rattle.wf_send_half_refines.specs.Half.{TransmitValue}
 use Rattle.wf_send_half_refines.specs.Standing.{numbers_on_air}
@@ -15,7 +17,7 @@ use Rattle.wf_def_air.specs.Fit.{aggregate_octets}
 use Rattle.wf_air_fit.specs.Rooms.{RoomValue, RoomStandsFor as RoomStandsFor}
 use Rattle.wf_def_world.specs.Exchanges.{Aggregate, aggregate_of, prepared_data, lens_of}
 use Rattle.wf_send_half_refines.proofs.Sends.{filled_charge}
-use Rattle.wf_send_half_refines.proofs.Flies.{off_begins, off_number, off_waits, off_frame, off_next}
+use Rattle.wf_send_half_refines.proofs.Flies.{off_begins, off_number, off_waits, off_frame, off_own, off_next}
 use Rattle.wf_send_half.specs.Pulls.{IsFlying, pairs_of, IsPreparedAs, IsPrepared}
 
 -- the transmission at place i sends this number
@@ -44,7 +46,12 @@ take_all (m ∷ ms) = ap (λ (l : List Mpdu). m ∷ l) (take_all ms)
 pub flying_begins : (v : TransmitValue) (w : World) (bodies : ℕ → FrameValue) (s t e : ℕ) (mpdus : List Mpdu)
     (after : World) (pairs : List (ℕ × ℕ)) → IsTakingOff v w bodies s t e mpdus after → pairs ≡ [] →
     IsFlying v bodies s t e mpdus after 0 pairs
-flying_begins v w bodies s t e mpdus after pairs off none = record { world = w; off = off; pairs_are = none }
+flying_begins v w bodies s t e mpdus after pairs off none = record {
+  world = w;
+  off = subst (λ (l : List (ℕ × ℕ)). IsTakingOff v w (with_all_sent l bodies) s t e mpdus after) (sym none)
+      off;
+  pairs_are = none;
+}
 
 module _ (v : TransmitValue) (bodies : ℕ → FrameValue) (s t e : ℕ) (mpdus : List Mpdu) (after : World) (i : ℕ)
     (pairs : List (ℕ × ℕ)) (h : IsFlying v bodies s t e mpdus after i pairs) (number : ℕ)
@@ -52,16 +59,20 @@ module _ (v : TransmitValue) (bodies : ℕ → FrameValue) (s t e : ℕ) (mpdus 
   k : IsAt mpdus i number
   k = is_at mpdus i number at
 
-  off : IsTakingOff v h.world bodies s t e (k.m ∷ drop (suc i) mpdus) after
-  off = subst (λ (ms : List Mpdu). IsTakingOff v h.world bodies s t e ms after) k.rest h.off
+  -- the frames once those before have counted it
+  abbrev sent : ℕ → FrameValue
+  sent = with_all_sent pairs bodies
+
+  off : IsTakingOff v h.world sent s t e (k.m ∷ drop (suc i) mpdus) after
+  off = subst (λ (ms : List Mpdu). IsTakingOff v h.world sent s t e ms after) k.rest h.off
 
   pub flying_waits : state_at (window_of v.windows s t) number ≡ State.Waiting
-  flying_waits = off_waits v h.world bodies s t e k.m (drop (suc i) mpdus) after off number k.on_air_is
+  flying_waits = off_waits v h.world sent s t e k.m (drop (suc i) mpdus) after off number k.on_air_is
 
   is_number : IsNumber (session h.world s t) k.m.number number
-  is_number = off_number v h.world bodies s t e k.m (drop (suc i) mpdus) after off number k.on_air_is
+  is_number = off_number v h.world sent s t e k.m (drop (suc i) mpdus) after off number k.on_air_is
 
-  stands : WindowStandsFor (window_of v.windows s t) (session h.world s t) bodies
+  stands : WindowStandsFor (window_of v.windows s t) (session h.world s t) sent
   stands = off.parts.windows.all.stands s t off.live off.tid
 
   pub flying_next : (f : FrameValue) → ((y : Session) (all : ℕ → FrameValue) (n : ℕ) →
@@ -69,26 +80,34 @@ module _ (v : TransmitValue) (bodies : ℕ → FrameValue) (s t e : ℕ) (mpdus 
       (windows : List WindowValue) → windows ≡ with_window v.windows s t (window_of windows s t) →
       WindowsHaveRoom windows →
       ((y : Session) (all : ℕ → FrameValue) (n : ℕ) → WindowStandsFor (window_of v.windows s t) y all →
-      IsNumber y n number → WindowStandsFor (window_of windows s t)
-      (with_state (State.Flying e) n y) all) →
+      IsNumber y n number → HasOwnFrame y n → WindowStandsFor (window_of windows s t)
+      (with_state (State.Flying e) n y) (with_one_sent (slot y n).id all)) →
       IsFlying (record v { windows = windows }) bodies s t e mpdus after (i + 1)
       (pairs ++ (f.id, number) ∷ [])
-  flying_next f read windows others room flies = let one : suc i ≡ i + 1 = omega arith in
+  flying_next f read windows others room flies =
+      let one : suc i ≡ i + 1 = omega arith in
+      let id_is : f.id ≡ k.m.id = ap (λ (g : FrameValue). g.id)
+      (read (session h.world s t) sent k.m.number stands is_number)
+      ∙ off_frame v h.world sent s t e k.m (drop (suc i) mpdus) after off in
+      let counted : with_one_sent k.m.id sent ≡ with_all_sent (pairs ++ (f.id, number) ∷ []) bodies =
+      ap (λ (id : ℕ). with_one_sent id sent) (sym id_is) ∙ sym (all_sent_then pairs (f.id, number) bodies) in
       subst (λ (n : ℕ). IsFlying (record v { windows = windows }) bodies s t e mpdus after n
       (pairs ++ (f.id, number) ∷ [])) one (record {
         world = on_session h.world s t (with_state (State.Flying e) k.m.number);
         off =
-            subst (λ (ws : List WindowValue). IsTakingOff (record v { windows = ws })
-            (on_session h.world s t (with_state (State.Flying e) k.m.number)) bodies s t e
-            (drop (suc i) mpdus) after) (sym others)
-            (off_next v h.world bodies s t e k.m (drop (suc i) mpdus) after off (window_of windows s t)
+            subst (λ (all : ℕ → FrameValue). IsTakingOff (record v { windows = windows })
+            (on_session h.world s t (with_state (State.Flying e) k.m.number)) all s t e
+            (drop (suc i) mpdus) after) counted
+            (subst (λ (ws : List WindowValue). IsTakingOff (record v { windows = ws })
+            (on_session h.world s t (with_state (State.Flying e) k.m.number)) (with_one_sent k.m.id sent)
+            s t e (drop (suc i) mpdus) after) (sym others)
+            (off_next v h.world sent s t e k.m (drop (suc i) mpdus) after off (window_of windows s t)
             (subst WindowsHaveRoom others room) (flies
-            (session h.world s t) bodies k.m.number stands is_number));
+            (session h.world s t) sent k.m.number stands is_number
+            (off_own v h.world sent s t e k.m (drop (suc i) mpdus) after off))));
         pairs_are =
             ap₂ (λ (l : List (ℕ × ℕ)) (p : ℕ × ℕ). l ++ p ∷ []) h.pairs_are
-            (ap₂ (λ (a b : ℕ). (a, b)) (ap (λ (g : FrameValue). g.id)
-            (read (session h.world s t) bodies k.m.number stands is_number)
-            ∙ off_frame v h.world bodies s t e k.m (drop (suc i) mpdus) after off) k.on_air_is)
+            (ap₂ (λ (a b : ℕ). (a, b)) id_is k.on_air_is)
             ∙ sym (map-append (λ (m : Mpdu). (m.id, m.number % 4096)) (take i mpdus) (k.m ∷ []))
             ∙ ap pairs_of (sym k.front);
       })
@@ -126,7 +145,7 @@ module _ (v : TransmitValue) (bodies : ℕ → FrameValue) (s t : ℕ) (room : R
   filled_off =
       subst (λ (e : ℕ). IsTakingOff v a.world bodies s t e a.mpdus (prepared_data s t a).world)
       (sym h.parts.others.exchanges)
-      (off_begins v a bodies s t h.parts h.live h.tid h.waiting)
+      (off_begins v a bodies s t h.parts h.live h.tid h.underway h.waiting)
 
   pub some_room : 1 ≤ length a.mpdus → 1 ≤ room.count
   some_room some = omega (arith, some, h.room_is.lens.count, length-map a.mpdus (λ (m : Mpdu). m.len))
@@ -140,10 +159,10 @@ module _ (v : TransmitValue) (bodies : ℕ → FrameValue) (s t : ℕ) (room : R
     filled_flies u pairs charge flying air =
         subst (λ (b : Aggregate). IsPreparedAs u b bodies s t charge numbers pairs) (sym is) (record {
           world = flying.world;
-          off = subst (λ (e : ℕ). IsTakingOff u flying.world bodies s t e [] (prepared_data s t a).world)
-              h.parts.others.exchanges
-              (subst (λ (ms : List Mpdu). IsTakingOff u flying.world bodies s t v.exchanges ms
-              (prepared_data s t a).world) (drop_all a.mpdus) flying.off);
+          off = subst (λ (e : ℕ). IsTakingOff u flying.world (with_all_sent pairs bodies) s t e []
+              (prepared_data s t a).world) h.parts.others.exchanges
+              (subst (λ (ms : List Mpdu). IsTakingOff u flying.world (with_all_sent pairs bodies) s t
+              v.exchanges ms (prepared_data s t a).world) (drop_all a.mpdus) flying.off);
           charge_is = air (lens_of a.mpdus) h.room_is.lens ∙ filled_charge v bodies s t room numbers a h;
           numbers_are = h.on_air;
           pairs_are = flying.pairs_are ∙ ap pairs_of (take_all a.mpdus);

@@ -49,6 +49,8 @@ use Rattle.wf_send_half_refines.proofs.Pulls.{pick_parts, idle_pull}
 use Rattle.wf_send_half_refines.proofs.Reached.{by_law}
 use Rattle.wf_send_half_refines.proofs.Readers.{can_send_same, live_same, ready_same}
 use Rattle.wf_send_half_refines.proofs.Sends.{winner_live, turn_tid, turned, request_meets, data_meets}
+use Rattle.wf_send_window.specs.Sent.{with_all_sent}
+use Rattle.wf_send_half.specs.Replies.{bodies_sent}
 use Rattle.wf_send_half.specs.Pulls.{IsExponentSmall, IsSameButFrames, IsPreparedAs, TellsWhoIsReady, IsPickedInClass, HasToPrepare, IsRequestDue, IsData, IsPreparedFor, start_sent}
 
 -- ---- what holds in the world of a run
@@ -176,7 +178,8 @@ module _ (v u : TransmitValue) (w : World) (bodies : ℕ → FrameValue) (s : �
           (t_is ∙ tid_of) y turned_half k.due charge k.charge_is))
 
       data_sent : (numbers : List ℕ) → IsData y z s t charge pairs numbers →
-          Meets w bodies (Asked (Pull c)) (after_listing (after_sending z s t c charge (Data numbers)) s)
+          Meets w (with_all_sent pairs bodies) (Asked (Pull c))
+          (after_listing (after_sending z s t c charge (Data numbers)) s)
           (Sends z.exchanges s t charge (Mpdus pairs) (open_next z s t c charge (Data numbers)).more)
       data_sent numbers k =
           let quiet : request_due (session turned_world s t) ≡ false =
@@ -184,16 +187,18 @@ module _ (v u : TransmitValue) (w : World) (bodies : ℕ → FrameValue) (s : �
           (turned_half.parts.windows.all.stands s t turned_half.live turned_half.tid)) ∙ k.quiet in
           let p : IsPreparedAs z (aggregate_of turned_world s t) bodies s t charge numbers pairs =
           k.prepared turned_world bodies (record { turned = turned_half; quiet = quiet }) in
-          subst (λ (l : List (ℕ × ℕ)). Meets w bodies (Asked (Pull c))
+          subst (λ (l : List (ℕ × ℕ)). Meets w (with_all_sent pairs bodies) (Asked (Pull c))
           (after_listing (after_sending z s t c charge (Data numbers)) s)
           (Sends z.exchanges s t charge (Mpdus l) (open_next z s t c charge (Data numbers)).more))
           (sym p.pairs_are)
           (data_meets v w bodies h.stands c s h.passes h.won t (t_is ∙ tid_of)
-          (aggregate_of turned_world s t) refl quiet z p.world p.off charge numbers p.charge_is
-          p.numbers_are)
+          (aggregate_of turned_world s t) refl quiet z p.world (with_all_sent pairs bodies) p.off charge
+          numbers p.charge_is p.numbers_are)
 
       part_sent : (sending : Sending) → IsPreparedFor y z s t charge pairs sending →
-          Meets w bodies (Asked (Pull c)) (after_listing (after_sending z s t c charge sending) s)
+          Meets w (bodies_sent (reply_with (Send z.exchanges s t charge (start_sent sending)
+          (open_next z s t c charge sending).more) pairs []) bodies) (Asked (Pull c))
+          (after_listing (after_sending z s t c charge sending) s)
           (reply_with (Send z.exchanges s t charge (start_sent sending)
           (open_next z s t c charge sending).more) pairs [])
       part_sent (Data numbers) k = data_sent numbers k
@@ -203,11 +208,12 @@ module _ (v u : TransmitValue) (w : World) (bodies : ℕ → FrameValue) (s : �
           a ≡ after_listing (after_sending z s t c charge sending) s →
           (brief : Brief) → brief ≡ Send z.exchanges s t charge (start_sent sending)
           (open_next z s t c charge sending).more →
-          Meets w bodies (Asked (Pull c)) a (reply_with brief pairs [])
+          Meets w (bodies_sent (reply_with brief pairs []) bodies) (Asked (Pull c)) a
+          (reply_with brief pairs [])
       pull_done sending k a a_is brief brief_is =
-          subst (λ (x : TransmitValue). Meets w bodies (Asked (Pull c)) x (reply_with brief pairs []))
-          (sym a_is)
-          (subst (λ (b : Brief). Meets w bodies (Asked (Pull c))
+          subst (λ (x : TransmitValue). Meets w (bodies_sent (reply_with brief pairs []) bodies)
+          (Asked (Pull c)) x (reply_with brief pairs [])) (sym a_is)
+          (subst (λ (b : Brief). Meets w (bodies_sent (reply_with b pairs []) bodies) (Asked (Pull c))
           (after_listing (after_sending z s t c charge sending) s) (reply_with b pairs [])) (sym brief_is)
           (part_sent sending k))
 

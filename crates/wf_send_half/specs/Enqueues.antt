@@ -13,9 +13,9 @@ use Rattle.wf_send_half_refines.specs.Half.{TransmitValue}
 abbrev pub enqueue_of : FrameValue → Note
 enqueue_of f = Enqueue f.station f.tid f.flow (length f.body)
 
--- the frame as it is accepted: with the next id, stamped with the clock, and held
+-- the frame as it is accepted: with the next id, stamped with the clock, not sent yet, and held
 abbrev pub as_accepted : TransmitValue → FrameValue → FrameValue
-as_accepted v f = record f { id = v.tally.accepted; stamp = v.clock; fate = Held }
+as_accepted v f = record f { id = v.tally.accepted; stamp = v.clock; attempts = 0; fate = Held }
 
 -- how many frames are queued for a station in a class
 abbrev pub queued_in_class_of : TransmitValue → ℕ → Class → ℕ

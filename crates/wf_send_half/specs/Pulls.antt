@@ -23,6 +23,7 @@ use Rattle.wf_queue_flows.specs.Flows.{taken_for_tid}
 use Rattle.wf_send_stations.specs.Members.{member}
 use Rattle.wf_octets_tim.specs.Sleepers.{sleeper}
 use Rattle.wf_send_window.specs.Window.{WindowValue, WindowStandsFor as WindowStandsFor}
+use Rattle.wf_send_window.specs.Sent.{with_all_sent}
 use Rattle.wf_send_window.specs.Windows.{WindowsHaveRoom, window_of, with_window}
 use Rattle.wf_send_half_refines.specs.Half.{TransmitValue, is_ready_of}
 use Rattle.wf_send_half_refines.specs.Standing.{StandsFor, numbers_on_air}
@@ -119,11 +120,12 @@ pub record HasTakingOff (v : TransmitValue) (s t : ℕ) (numbers : List ℕ) : T
 abbrev pub pairs_of : List Mpdu → List (ℕ × ℕ)
 pairs_of mpdus = map (λ m. (m.id, m.number % 4096)) mpdus
 
--- after those before place i have taken off, the others are still to, and the pairs are of those before
+-- after those before place i have taken off, the others are still to; the pairs are of those before, whose
+-- frames have counted it
 pub record IsFlying (v : TransmitValue) (bodies : ℕ → FrameValue) (s t e : ℕ) (mpdus : List Mpdu)
     (after : World) (i : ℕ) (pairs : List (ℕ × ℕ)) : Type 0 where
   pub world : World
-  pub off : IsTakingOff v world bodies s t e (drop i mpdus) after
+  pub off : IsTakingOff v world (with_all_sent pairs bodies) s t e (drop i mpdus) after
   pub pairs_are : pairs ≡ pairs_of (take i mpdus)
 
 -- ---- what is sent
@@ -135,11 +137,12 @@ pub record HasToSend (v : TransmitValue) (s t : ℕ) : Type 0 where
   pub to_fill : IsToFill v world bodies s t
   pub some : 1 ≤ length (aggregate_of world s t).mpdus
 
--- the numbers of this aggregate have taken off
+-- the numbers of this aggregate have taken off, and their frames have counted it
 pub record IsPreparedAs (v : TransmitValue) (a : Aggregate) (bodies : ℕ → FrameValue) (s t charge : ℕ)
     (numbers : List ℕ) (pairs : List (ℕ × ℕ)) : Type 0 where
   pub world : World
-  pub off : IsTakingOff v world bodies s t a.world.exchanges [] (prepared_data s t a).world
+  pub off : IsTakingOff v world (with_all_sent pairs bodies) s t a.world.exchanges []
+      (prepared_data s t a).world
   pub charge_is : charge ≡ aggregate_charge s t a
   pub numbers_are : numbers ≡ numbers_on_air a.mpdus
   pub pairs_are : pairs ≡ pairs_of a.mpdus

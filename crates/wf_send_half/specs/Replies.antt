@@ -1,10 +1,12 @@
 -- What a call gives, as the machine's reply.
-use Rattle.std.specs.Prelude.{Option, Some, None, Result, Ok, Err}
+use Rattle.std.specs.Prelude.{ℕ, Option, Some, None, Result, Ok, Err}
 use Rattle.wf_frame.specs.Frames.{FrameValue}
+use Rattle.wf_frame.specs.declared.notes.Part.TheVariants.{Mpdus}
 use Rattle.wf_frame.specs.declared.notes.Refusal.{Refusal}
 use Rattle.wf_frame.specs.declared.notes.Refusal.TheVariants.{Nothing}
 use Rattle.wf_frame.specs.declared.notes.ReplyNote.{ReplyNote}
-use Rattle.wf_frame.specs.declared.notes.ReplyNote.TheVariants.{Reaped, Refused}
+use Rattle.wf_frame.specs.declared.notes.ReplyNote.TheVariants.{Send, Reaped, Refused}
+use Rattle.wf_send_window.specs.Sent.{with_all_sent}
 
 -- the reply of a call, by what it gives where it is not refused
 abbrev pub reply_of_result : {T : Type 0} → (T → ReplyNote) → Result T Refusal → ReplyNote
@@ -15,3 +17,8 @@ reply_of_result reply (Err reason) = Refused reason
 abbrev pub reaped_reply : Option FrameValue → ReplyNote
 reaped_reply None = Refused Nothing
 reaped_reply (Some f) = Reaped f.id f.fate
+
+-- the frames of the ids after a call with this reply: those that it sends are sent once more
+abbrev pub bodies_sent : ReplyNote → (ℕ → FrameValue) → ℕ → FrameValue
+bodies_sent (Send exchange station tid air (Mpdus pairs) more) bodies = with_all_sent pairs bodies
+bodies_sent reply bodies = bodies

@@ -29,12 +29,12 @@ use wf_send_stations::Tally;
 /// The greatest traffic identifier that has queues (IEEE 802.11-2012, 8.2.4.5.2).
 const GREATEST_TID: u8 = 7;
 
-// The parcel, once its frame is marked with this id and stamp, and held. Like every frame, it has a source of
-// six octets and a body of 1 to 2304.
+// The parcel, once its frame is marked with this id and stamp, not sent, and held. Like every frame, it has
+// a source of six octets and a body of 1 to 2304.
 fn marked(mut parcel: Parcel, id: u64, stamp: u64) -> Parcel
     ensures source { length parcel.source ≡ source_octets }
     ensures length { (1 ≤ length parcel.body) × (length parcel.body ≤ greatest_body) }
-    ensures marked { result ≡ record parcel { id = id; stamp = stamp; fate = Held } }
+    ensures marked { result ≡ record parcel { id = id; stamp = stamp; attempts = 0; fate = Held } }
 {
     let frame = parcel.frame_mut();
     let (_source, _octets) = (frame.source(), frame.len());

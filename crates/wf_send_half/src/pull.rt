@@ -16,6 +16,7 @@ ghost use Rattle.wf_send_half_refines.specs.Standing.{StandsFor, Meets, numbers_
 ghost use Rattle.wf_send_half_refines.specs.Changes.{after_listing};
 ghost use Rattle.wf_send_half_refines.specs.Filling.{IsToFill, IsTakingOff};
 ghost use Rattle.wf_send_half_refines.specs.Pulling.{sending_tid_of, after_turn, has_more_of, open_next, after_sending};
+ghost use Rattle.wf_send_half.specs.Replies.{bodies_sent};
 ghost use Rattle.wf_send_half.specs.Half.{HasWorld, IsLive};
 ghost use Rattle.wf_send_half.specs.Pulls.{TellsWhoIsReady, IsPickedInClass, HasPick, IsExponentSmall, IsSameButFrames, HasTakingOff, IsFlying, HasToPrepare, HasToSend, IsPrepared, IsPreparedFor, start_sent};
 
@@ -45,15 +46,16 @@ impl Transmit {
     /// The driver asks for the next exchange of a class. `ready` has an entry for each station, which tells
     /// of a listed one whether it is ready in the class. The station whose turn it is sends what is due on
     /// one of its TIDs: a request, or an aggregate, whose frames are written to `pairs`, each by its id and
-    /// its sequence number. Refused as Full where as many exchanges of the class are open as the setting
-    /// `inflight` allows, or as Idle where no listed station is ready.
+    /// its sequence number, and count that they are sent once more. Refused as Full where as many exchanges
+    /// of the class are open as the setting `inflight` allows, or as Idle where no listed station is ready.
     pub fn pull(&mut self, class: Class, ready: &[bool], pairs: &mut Pairs) -> Brief
         requires some { HasWorld self.old }
         requires told { TellsWhoIsReady self.old class ready.now }
         requires clock { self.old.clock < 2 ^ 62 }
         requires exchanges { self.old.exchanges < 2 ^ 62 }
         ensures meets { (w : World) (bodies : ℕ → FrameValue) → StandsFor self.old w bodies →
-            Meets w bodies (Asked (Pull class)) self.new (reply_with result pairs.new []) }
+            Meets w (bodies_sent (reply_with result pairs.new []) bodies) (Asked (Pull class)) self.new
+            (reply_with result pairs.new []) }
         ensures full { nat_le self.old.config.inflight
             (count_by (λ x. same_class x.class class) self.old.opened) ≡ true →
             (result ≡ Refused (Full (count_by (λ x. same_class x.class class) self.old.opened))) ×
@@ -79,7 +81,8 @@ impl Transmit {
         requires picked { HasPick self.old station class }
         ensures meets { (v : TransmitValue) (w : World) (bodies : ℕ → FrameValue) →
             IsPickedInClass v self.old w bodies station class →
-            Meets w bodies (Asked (Pull class)) self.new (reply_with result pairs.new []) }
+            Meets w (bodies_sent (reply_with result pairs.new []) bodies) (Asked (Pull class)) self.new
+            (reply_with result pairs.new []) }
     {
         let tid = self.take_turn(station, class);
         let prepared = self.prepare(station, tid, pairs);
@@ -198,7 +201,7 @@ impl Transmit {
         tid
     }
 
-    // Lets numbers fly in the next exchange, and writes each with the id of its frame.
+    // Lets numbers fly in the next exchange, and writes each with the id of its frame, which counts it.
     fn fly_all(&mut self, station: u16, tid: u8, numbers: &Numbers, pairs: &mut Pairs)
         requires within { station < self.old.config.stations }
         requires tid { tid < 8 }

@@ -255,6 +255,7 @@ module _ (v : TransmitValue) (w : World) (bodies : ℕ → FrameValue) (s t : �
             parts = to.turned.parts;
             live = to.turned.live;
             tid = to.turned.tid;
+            underway = to.turned.underway;
             waiting = chosen_wait ns (next.number ∷ rest) split;
             on_air = so_far.on_air ∙ airs_of w s t ns;
             room_is = so_far.room_is;

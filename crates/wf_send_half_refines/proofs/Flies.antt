@@ -3,23 +3,27 @@ use Rattle.std.proofs.Common.{◌≡◌, ◌≢◌, refl, ap, sym, ◌∙◌, su
 use Rattle.std.proofs.lemmas.List.{set-get_or}
 use Rattle.wf_frame.specs.Frames.{FrameValue}
 use Rattle.wf_def_lists.specs.Lists.{IsRising}
-use Rattle.wf_def_agreement.specs.Session.{Session, Slot, State, slot, is_settled, with_state}
+use Rattle.wf_def_agreement.specs.Session.{Session, Slot, State, slot, is_settled, next_number, with_state}
 use Rattle.wf_def_lists.specs.Table.{at, put, change}
 use Rattle.wf_def_world.specs.World.{World, Station, Tid, Mpdu, no_tid, is_live, session, with_station, on_station, on_tid, on_session}
 use Rattle.wf_def_world.specs.Exchanges.{Aggregate, with_flying, prepared_data}
 use Rattle.wf_law_rules.proofs.Lemmas.Tables.{at_put_same}
 use Rattle.wf_law_runs.specs.Windows.{EachMpdu}
 use Rattle.wf_law_runs.proofs.Sessions.Starts.{at_change_other}
-use Rattle.wf_send_window.specs.Window.{WindowValue, WindowStandsFor as WindowStandsFor, IsNumber, state_at}
+use Rattle.wf_send_window.specs.Window.{WindowValue, WindowStandsFor as WindowStandsFor, IsNumber, HasOwnFrame, state_at}
 use Rattle.wf_send_window.proofs.Numbers.{open_number}
-use Rattle.wf_send_window.proofs.Callers.{state_is}
+use Rattle.wf_send_window.specs.Sent.{with_one_sent}
+use Rattle.wf_send_window.proofs.Callers.{state_is, next_kept}
+use Rattle.wf_send_window.proofs.Sending.{sent_keeps}
 use Rattle.wf_frame.specs.Classes.{tid_number}
 use Rattle.wf_send_window.specs.Windows.{WindowsHaveRoom, no_window, window_of, with_window}
 use Rattle.wf_send_half_refines.specs.Half.{TransmitValue}
 use Rattle.wf_send_half_refines.specs.Standing.{Parts}
-use Rattle.wf_send_half_refines.specs.Filling.{IsWaitingWith, AreWaiting, IsTakingOff}
+use Rattle.wf_send_half_refines.specs.Filling.{IsWaitingWith, AreWaiting, IsTakingOff, IsUnderway}
 use Rattle.wf_send_half_refines.specs.Views.{Agreements}
 use Rattle.wf_send_half_refines.proofs.Views.{agreements_session}
+use Rattle.wf_send_half_refines.proofs.Alone.{own_frame, sent_parts, still_alone, all_alone}
+use Rattle.wf_send_half_refines.proofs.Gives.{placed}
 use Rattle.wf_send_half_refines.proofs.Moves.{session_parts, session_is}
 
 -- ---- one session changes twice
@@ -94,6 +98,23 @@ behind_wait y bodies e m ms a = record {
       (omega (arith, a.rising.0)) a.rising.1;
 }
 
+-- the frames count that they are sent, and keep their ids
+sent_each : (y : Session) (bodies : ℕ → FrameValue) (id : ℕ) (ms : List Mpdu) →
+    EachMpdu (IsWaitingWith y bodies) ms → EachMpdu (IsWaitingWith y (with_one_sent id bodies)) ms
+sent_each y bodies id [] h = tt
+sent_each y bodies id (m ∷ ms) h = (
+  record {
+    waits = h.0.waits;
+    carries = h.0.carries;
+    frame = sent_keeps (λ (f : FrameValue). f.id) (λ f. refl) bodies id m.id ∙ h.0.frame;
+  },
+  sent_each y bodies id ms h.1,
+)
+
+sent_wait : (y : Session) (bodies : ℕ → FrameValue) (id : ℕ) (ms : List Mpdu) → AreWaiting y bodies ms →
+    AreWaiting y (with_one_sent id bodies) ms
+sent_wait y bodies id ms a = record { each = sent_each y bodies id ms a.each; rising = a.rising }
+
 module _ (v : TransmitValue) (w : World) (bodies : ℕ → FrameValue) (s t e : ℕ) (m : Mpdu) (ms : List Mpdu)
     (after : World) (left : IsTakingOff v w bodies s t e (m ∷ ms) after) where
   -- the number is read off the air
@@ -111,21 +132,36 @@ module _ (v : TransmitValue) (w : World) (bodies : ℕ → FrameValue) (s t e : 
   pub off_frame : (bodies (slot (session w s t) m.number).id).id ≡ m.id
   off_frame = ap (λ (k : ℕ). (bodies k).id) left.waiting.each.0.carries ∙ left.waiting.each.0.frame
 
+  pub off_own : HasOwnFrame (session w s t) m.number
+  off_own = own_frame v w bodies s t m left.alone.0 left.waiting.each.0.carries
+
   pub off_next : (x : WindowValue) → WindowsHaveRoom (with_window v.windows s t x) →
-      WindowStandsFor x (with_state (State.Flying e) m.number (session w s t)) bodies →
+      WindowStandsFor x (with_state (State.Flying e) m.number (session w s t))
+      (with_one_sent (slot (session w s t) m.number).id bodies) →
       IsTakingOff (record v { windows = with_window v.windows s t x })
-      (on_session w s t (with_state (State.Flying e) m.number)) bodies s t e ms after
+      (on_session w s t (with_state (State.Flying e) m.number)) (with_one_sent m.id bodies) s t e ms after
   off_next x room stands = record {
-    parts = session_parts v w bodies s t (with_state (State.Flying e) m.number) x left.live left.tid room
-        stands left.parts;
+    parts = sent_parts v w bodies s t m left.alone.0 left.parts left.live left.tid
+        (with_state (State.Flying e) m.number) x room
+        (subst (λ (id : ℕ). WindowStandsFor x (with_state (State.Flying e) m.number (session w s t))
+        (with_one_sent id bodies)) left.waiting.each.0.carries stands);
     live = ap (λ (a : Agreements). a.live s) (agreements_session w s t
         (with_state (State.Flying e) m.number) left.live) ∙ left.live;
     tid = left.tid;
-    waiting = subst (λ (y : Session). AreWaiting y bodies ms)
+    waiting = subst (λ (y : Session). AreWaiting y (with_one_sent m.id bodies) ms)
         (sym (session_is w s t (with_state (State.Flying e) m.number) left.live))
-        (behind_wait (session w s t) bodies e m ms left.waiting);
+        (sent_wait (with_state (State.Flying e) m.number (session w s t)) bodies m.id ms
+        (behind_wait (session w s t) bodies e m ms left.waiting));
+    alone = still_alone w s t m.number (State.Flying e) left.live left.waiting.each.0.waits
+        left.waiting.rising.0 next_same v (with_window v.windows s t x) ms left.alone.1;
     leads = session_twice w s t (with_state (State.Flying e) m.number) (with_flying e ms) ∙ left.leads;
   }
+    where
+      next_same : next_number (with_state (State.Flying e) m.number (session w s t))
+          ≡ next_number (session w s t)
+      next_same = next_kept (window_of v.windows s t) (session w s t) bodies
+          (left.parts.windows.all.stands s t left.live left.tid) m.number (m.number % 4096)
+          (off_number (m.number % 4096) refl) (λ x. record x { state = State.Flying e })
 
 -- ---- all of them
 
@@ -135,11 +171,18 @@ unfolding prepared_data
 prepared_flies s t a = refl
 
 pub off_begins : (v : TransmitValue) (a : Aggregate) (bodies : ℕ → FrameValue) (s t : ℕ) →
-    Parts v a.world bodies → is_live a.world s ≡ true → t < 8 →
+    Parts v a.world bodies → is_live a.world s ≡ true → t < 8 → IsUnderway a.world s t →
     AreWaiting (session a.world s t) bodies a.mpdus →
     IsTakingOff v a.world bodies s t a.world.exchanges a.mpdus (prepared_data s t a).world
-off_begins v a bodies s t h live low waiting =
-    record { parts = h; live = live; tid = low; waiting = waiting; leads = prepared_flies s t a }
+off_begins v a bodies s t h live low underway waiting = record {
+  parts = h;
+  live = live;
+  tid = low;
+  waiting = waiting;
+  alone = all_alone v a.world bodies s t (session a.world s t).first a.mpdus h (placed a.world s t underway)
+      (omega arith) waiting.rising waiting.each;
+  leads = prepared_flies s t a;
+}
 
 pub off_ends : (v : TransmitValue) (w : World) (bodies : ℕ → FrameValue) (s t e : ℕ) (after : World) →
     IsTakingOff v w bodies s t e [] after → Parts v after bodies

@@ -286,6 +286,7 @@ module _ (v : TransmitValue) (w : World) (bodies : ℕ → FrameValue) (s t : �
     parts = left.parts;
     live = left.live;
     tid = left.tid;
+    underway = left.underway;
     waiting = left.waiting;
     on_air = left.on_air;
     room_is = left.room_is;
@@ -427,6 +428,7 @@ module _ (v : TransmitValue) (w : World) (bodies : ℕ → FrameValue) (s t : �
         parts = given_parts;
         live = live_next;
         tid = left.tid;
+        underway = one_more_fresh w s t left.underway;
         waiting = subst (λ (z : Session). AreWaiting z bodies mpdus) (sym session_next)
             (still_waiting y bodies f.id mpdus left.waiting);
         on_air = left.on_air;

@@ -10,7 +10,7 @@ use Rattle.wf_send_window.proofs.Held.{all_held_stand}
 use Rattle.wf_send_half_refines.specs.Views.{agreements}
 use Rattle.wf_send_half_refines.proofs.Stands.{WindowsStand}
 
-open_state : (state : State) → holds_parcel state ≡ true → is_settled state ≡ false
+pub open_state : (state : State) → holds_parcel state ≡ true → is_settled state ≡ false
 open_state State.Waiting h = refl
 open_state (State.Flying e) h = refl
 open_state State.Acked h = absurd (cc h)

@@ -1,3 +1,4 @@
+mod Alone
 mod Apart
 pub mod Asked
 pub mod Beyond

@@ -35,7 +35,7 @@ pub session_own : (sessions : ℕ → ℕ → Session) (s t : ℕ) (y : Session)
 session_own sessions s t y = ap (λ (g : ℕ → Session). g t) (upd_same sessions s (upd (sessions s) t y))
     ∙ upd_same (sessions s) t y
 
-session_other : (sessions : ℕ → ℕ → Session) (s t : ℕ) (y : Session) (a b : ℕ) → (a ≡ s → b ≡ t → ⊥) →
+pub session_other : (sessions : ℕ → ℕ → Session) (s t : ℕ) (y : Session) (a b : ℕ) → (a ≡ s → b ≡ t → ⊥) →
     with_session sessions s t y a b ≡ sessions a b
 session_other sessions s t y a b other = elim (cases_eq a s) [
   | inl e ↦ ap (λ (g : ℕ → Session). g b) (ap (upd sessions s (upd (sessions s) t y)) e

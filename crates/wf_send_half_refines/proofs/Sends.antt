@@ -112,23 +112,24 @@ module _ (v : TransmitValue) (w : World) (bodies : ℕ → FrameValue) (h : Stan
   abbrev w1 : World
   w1 = after_tid_turn (after_pick w c) s c t
 
-  sent_meets : (p : Prepared) → prepared_exchange w1 s t ≡ p → (x : TransmitValue) → Parts x p.world bodies →
+  sent_meets : (sent : ℕ → FrameValue) (p : Prepared) → prepared_exchange w1 s t ≡ p →
+      (x : TransmitValue) → Parts x p.world sent →
       is_live p.world s ≡ true →
-      Meets w bodies (Asked (Pull c)) (after_listing
+      Meets w sent (Asked (Pull c)) (after_listing
       (after_sending x s t c p.charge (sending_of p.content)) s)
       (Send x.exchanges s t p.charge (part_of p.content)
       (open_next x s t c p.charge (sending_of p.content)).more)
-  sent_meets p is x parts live =
+  sent_meets sent p is x parts live =
       let all : outcome_of w (Asked (Pull c)) ≡ send_outcome s t c p =
       pull_is w c ∙ ap (pull_outcome_for (after_pick w c) c) won ∙ pull_for (after_pick w c) c s
       ∙ ap (λ (k : ℕ). send_outcome s k c (prepared_exchange (after_tid_turn (after_pick w c) s c k) s k))
       (sym t_is) ∙ ap (send_outcome s t c) is in
       let half : TransmitValue = after_sending x s t c p.charge (sending_of p.content) in
-      subst (λ (r : ReplyNote). Meets w bodies (Asked (Pull c)) (after_listing half s) r)
-      (ap (λ (o : Outcome). o.reply) all ∙ sym (send_reply x bodies s t c p parts live))
-      (listed_meets half w bodies (Asked (Pull c)) h.reached tt tt done
-      (subst (λ (o : Outcome). Parts half o.world bodies) (sym all)
-      (send_parts x bodies s t c p parts live)) s won)
+      subst (λ (r : ReplyNote). Meets w sent (Asked (Pull c)) (after_listing half s) r)
+      (ap (λ (o : Outcome). o.reply) all ∙ sym (send_reply x sent s t c p parts live))
+      (listed_meets half w sent (Asked (Pull c)) h.reached tt tt done
+      (subst (λ (o : Outcome). Parts half o.world sent) (sym all)
+      (send_parts x sent s t c p parts live)) s won)
 
   -- a request
   pub request_meets : (x : TransmitValue) → IsTurned x w1 bodies s t →
@@ -142,7 +143,8 @@ module _ (v : TransmitValue) (w : World) (bodies : ℕ → FrameValue) (h : Stan
       let stands = to.parts.windows.all.stands s t to.live to.tid in
       let is_due : request_due (session w1 s t) ≡ true =
       sym (due_is (window_of x.windows s t) (session w1 s t) bodies stands) ∙ due in
-      let meets = sent_meets (prepared_request w1 s t) (due_prepared w1 s t is_due) x to.parts to.live in
+      let meets = sent_meets bodies (prepared_request w1 s t) (due_prepared w1 s t is_due) x to.parts to.live
+      in
       subst (λ (n : ℕ). Meets w bodies (Asked (Pull c))
       (after_listing (after_sending x s t c n (Starts_at (window_of x.windows s t).start)) s)
       (Send x.exchanges s t n (Starts (window_of x.windows s t).start)
@@ -156,35 +158,35 @@ module _ (v : TransmitValue) (w : World) (bodies : ℕ → FrameValue) (h : Stan
 
   -- an aggregate
   data_sent : (a : Aggregate) → aggregate_of w1 s t ≡ a → request_due (session w1 s t) ≡ false →
-      (x : TransmitValue) → Parts x (prepared_data s t a).world bodies →
+      (x : TransmitValue) (sent : ℕ → FrameValue) → Parts x (prepared_data s t a).world sent →
       is_live (prepared_data s t a).world s ≡ true →
-      Meets w bodies (Asked (Pull c)) (after_listing
+      Meets w sent (Asked (Pull c)) (after_listing
       (after_sending x s t c (aggregate_charge s t a) (Data (numbers_on_air a.mpdus))) s)
       (Send x.exchanges s t (aggregate_charge s t a) (Mpdus (map (λ m. (m.id, m.number % 4096)) a.mpdus))
       (open_next x s t c (aggregate_charge s t a) (Data (numbers_on_air a.mpdus))).more)
   unfolding prepared_data
-  data_sent a is quiet x parts live = sent_meets (prepared_data s t a)
+  data_sent a is quiet x sent parts live = sent_meets sent (prepared_data s t a)
       (quiet_prepared w1 s t quiet ∙ ap (prepared_data s t) is) x parts live
 
   pub data_meets : (a : Aggregate) → aggregate_of w1 s t ≡ a → request_due (session w1 s t) ≡ false →
-      (x : TransmitValue) (u : World) → IsTakingOff x u bodies s t a.world.exchanges []
+      (x : TransmitValue) (u : World) (sent : ℕ → FrameValue) → IsTakingOff x u sent s t a.world.exchanges []
       (prepared_data s t a).world →
       (charge : ℕ) (numbers : List ℕ) → charge ≡ aggregate_charge s t a → numbers ≡ numbers_on_air a.mpdus →
-      Meets w bodies (Asked (Pull c)) (after_listing (after_sending x s t c charge (Data numbers)) s)
+      Meets w sent (Asked (Pull c)) (after_listing (after_sending x s t c charge (Data numbers)) s)
       (Send x.exchanges s t charge (Mpdus (map (λ m. (m.id, m.number % 4096)) a.mpdus))
       (open_next x s t c charge (Data numbers)).more)
-  data_meets a is quiet x u left charge numbers charge_is numbers_is =
+  data_meets a is quiet x u sent left charge numbers charge_is numbers_is =
       let live : is_live (prepared_data s t a).world s ≡ true =
       ap (λ (z : World). is_live z s) (sym left.leads)
       ∙ ap (λ (z : Agreements). z.live s) (agreements_session u s t
       (with_flying a.world.exchanges []) left.live) ∙ left.live in
-      let meets = data_sent a is quiet x (off_ends x u bodies s t a.world.exchanges
+      let meets = data_sent a is quiet x sent (off_ends x u sent s t a.world.exchanges
       (prepared_data s t a).world left) live in
-      subst (λ (n : ℕ). Meets w bodies (Asked (Pull c))
+      subst (λ (n : ℕ). Meets w sent (Asked (Pull c))
       (after_listing (after_sending x s t c n (Data numbers)) s)
       (Send x.exchanges s t n (Mpdus (map (λ m. (m.id, m.number % 4096)) a.mpdus))
       (open_next x s t c n (Data numbers)).more)) (sym charge_is)
-      (subst (λ (ns : List ℕ). Meets w bodies (Asked (Pull c))
+      (subst (λ (ns : List ℕ). Meets w sent (Asked (Pull c))
       (after_listing (after_sending x s t c (aggregate_charge s t a) (Data ns)) s)
       (Send x.exchanges s t (aggregate_charge s t a) (Mpdus (map (λ m. (m.id, m.number % 4096)) a.mpdus))
       (open_next x s t c (aggregate_charge s t a) (Data ns)).more)) (sym numbers_is) meets)

@@ -10,11 +10,13 @@ use Rattle.wf_def_agreement.specs.Session.{Session, State, slot, next_number, re
 use Rattle.wf_def_world.specs.World.{World, Mpdu, is_live, station, session, is_wide, on_session}
 use Rattle.wf_def_world.specs.FlowQueues.{Taken, taken_for_tid}
 use Rattle.wf_def_world.specs.Exchanges.{Aggregate, after_pick, after_tid_turn, most_frames, lens_of, fits_in, mpdu_of, with_number, with_fresh, with_flying}
+use Rattle.wf_law_runs.specs.Places.{IsNumbered}
 use Rattle.wf_law_runs.specs.Windows.{EachMpdu}
 use Rattle.wf_air_fit.specs.Rooms.{RoomValue, empty_room, RoomStandsFor as RoomStandsFor}
 use Rattle.wf_send_stations.specs.Tally.{many_settled_as}
 use Rattle.wf_frame.specs.Classes.{tid_number}
 use Rattle.wf_queue_flows.specs.Flows.{FlowsValue, taken_for_tid as take_out}
+use Rattle.wf_queue_flows_refines.specs.Standing.{times_held}
 use Rattle.wf_send_window.specs.Listing.{HasListed}
 use Rattle.wf_send_window.specs.Window.{WindowValue, on_air}
 use Rattle.wf_send_window.specs.Windows.{with_window}
@@ -34,14 +36,21 @@ pub record AreWaiting (y : Session) (bodies : ℕ → FrameValue) (mpdus : List 
   pub each : EachMpdu (IsWaitingWith y bodies) mpdus
   pub rising : IsRising y.first (map (λ m. m.number) mpdus)
 
+-- the frame of a transmission to TID t of station s stands at its number and nowhere else: at no other
+-- number, in no queue and not on the finished list
+pub record IsAlone (v : TransmitValue) (w : World) (s t : ℕ) (m : Mpdu) : Type 0 where
+  pub nowhere : times_held v.flows.backlog m.id ≡ 0
+  pub sole : (i j n : ℕ) → IsNumbered w m.id i j n → (i ≡ s) × (j ≡ t) × (n ≡ m.number)
+
 -- In the middle of the take-off of exchange e, which sends to TID t of station s: these numbers still wait,
--- and then the world is `after`.
+-- each alone with its frame, and then the world is `after`. The frames of those that fly have counted it.
 pub record IsTakingOff (v : TransmitValue) (w : World) (bodies : ℕ → FrameValue) (s t e : ℕ)
     (mpdus : List Mpdu) (after : World) : Type 0 where
   pub parts : Parts v w bodies
   pub live : is_live w s ≡ true
   pub tid : t < 8
   pub waiting : AreWaiting (session w s t) bodies mpdus
+  pub alone : EachMpdu (IsAlone v w s t) mpdus
   pub leads : on_session w s t (with_flying e mpdus) ≡ after
 
 -- ---- frames are taken out
@@ -129,6 +138,7 @@ pub record IsFilled (v : TransmitValue) (bodies : ℕ → FrameValue) (s t : ℕ
   pub parts : Parts v filled.world bodies
   pub live : is_live filled.world s ≡ true
   pub tid : t < 8
+  pub underway : IsUnderway filled.world s t
   pub waiting : AreWaiting (session filled.world s t) bodies filled.mpdus
   pub on_air : numbers ≡ numbers_on_air filled.mpdus
   pub room_is : HasRoomFor room filled.world s t filled.mpdus

@@ -105,7 +105,8 @@ pub record HasWindows (windows : List WindowValue) (w : World) (bodies : ℕ →
   pub room : WindowsHaveRoom windows
   pub all : AllStand windows (λ s. is_live w s) (λ s t. session w s t) bodies
 
--- all parts but the windows agree with the world; `bodies` has the frame of each id as it was accepted
+-- all parts but the windows agree with the world; `bodies` has the frame of each id as it was accepted, but
+-- for how often it was sent since
 pub record HasOthers (v : TransmitValue) (w : World) (bodies : ℕ → FrameValue) : Type 0 where
   pub config : v.config ≡ w.config
   pub clock : v.clock ≡ w.clock

@@ -56,8 +56,9 @@ ghost use Rattle.wf_queue_flows_refines.specs.Rest.{rest_of_world};
 ghost use Rattle.wf_sched_stations.specs.ClassRotas.{SchedValue, deficit, after_join};
 ghost use Rattle.wf_sched_stations_refines.specs.Standing.{SchedulerStandsFor as TurnsStandFor, LeavesRotas, everywhere, with_deficit_charged};
 ghost use Rattle.wf_send_window.specs.Answers.{settling_answer};
-ghost use Rattle.wf_send_window.specs.Window.{WindowValue, WindowStandsFor as WindowStandsFor, session_settled, some_fly, IsNumber, state_at, can_take, on_air, waiting_from};
+ghost use Rattle.wf_send_window.specs.Window.{WindowValue, WindowStandsFor as WindowStandsFor, session_settled, some_fly, IsNumber, HasOwnFrame, state_at, can_take, on_air, waiting_from};
 ghost use Rattle.wf_send_window.specs.Expelling.{frame_left};
+ghost use Rattle.wf_send_window.specs.Sent.{with_one_sent};
 ghost use Rattle.wf_air_fit.specs.Rooms.{RoomValue, RoomStandsFor as RoomStandsFor, empty_room};
 ghost use Rattle.wf_sched_stations_refines.specs.Calls.{HasPickedInClass};
 ghost use Rattle.wf_octets_seq12.specs.Distance.{distance};
@@ -73,7 +74,7 @@ ghost use Rattle.wf_send_half_refines.specs.Counting.{with_overlimit};
 ghost use Rattle.wf_send_half_refines.specs.Ending.{after_close, after_finish, after_answer, IsEnding, state_left};
 ghost use Rattle.wf_send_half_refines.specs.Leaving.{after_expelled, after_tid_purged, after_leave, IsLeaving, IsExpelling, IsExpelled};
 ghost use Rattle.wf_send_half_refines.specs.Pulling.{sending_tid_of, after_turn, is_wide_of, open_next, after_sending};
-ghost use Rattle.wf_send_half_refines.specs.Filling.{AreWaiting, IsTakingOff, with_one_fresh, IsFilling, IsFilled, after_giving, fresh_mpdu, room_for, IsToFill, IsChoosing, IsTurned};
+ghost use Rattle.wf_send_half_refines.specs.Filling.{AreWaiting, IsTakingOff, IsUnderway, with_one_fresh, IsFilling, IsFilled, after_giving, fresh_mpdu, room_for, IsToFill, IsChoosing, IsTurned};
 ghost use Rattle.wf_send_half_refines.specs.Views.{agreements, roster, ledger, HasSameViews, KeepsView, KeepsSums};
 ghost use Rattle.wf_send_half_refines.specs.Readiness.{loses_in, leaves_ready};
 
@@ -650,11 +651,11 @@ pub fn fresh_frames_are_given()
 {}
 
 /// The numbers of an aggregate take off, one after the other. Each of them still waits when its turn comes,
-/// with its own frame; where its window stands for the session in which it flies, those behind it are next,
-/// and at the end all fly.
+/// with a frame that no other number has; where its window stands for the session in which it flies, and its
+/// frame has counted it, those behind it are next, and at the end all fly.
 pub fn the_numbers_take_off()
     ensures begins { (v : TransmitValue) (a : Aggregate) (bodies : ℕ → FrameValue) (s t : ℕ) →
-        Parts v a.world bodies → is_live a.world s ≡ true → t < 8 →
+        Parts v a.world bodies → is_live a.world s ≡ true → t < 8 → IsUnderway a.world s t →
         AreWaiting (session a.world s t) bodies a.mpdus →
         IsTakingOff v a.world bodies s t a.world.exchanges a.mpdus (prepared_data s t a).world }
     ensures number { (v : TransmitValue) (w : World) (bodies : ℕ → FrameValue) (s t e : ℕ) (m : Mpdu)
@@ -668,20 +669,25 @@ pub fn the_numbers_take_off()
     ensures frame { (v : TransmitValue) (w : World) (bodies : ℕ → FrameValue) (s t e : ℕ) (m : Mpdu)
         (ms : List Mpdu) (after : World) →
         IsTakingOff v w bodies s t e (m ∷ ms) after → (bodies (slot (session w s t) m.number).id).id ≡ m.id }
+    ensures own { (v : TransmitValue) (w : World) (bodies : ℕ → FrameValue) (s t e : ℕ) (m : Mpdu)
+        (ms : List Mpdu) (after : World) →
+        IsTakingOff v w bodies s t e (m ∷ ms) after → HasOwnFrame (session w s t) m.number }
     ensures next { (v : TransmitValue) (w : World) (bodies : ℕ → FrameValue) (s t e : ℕ) (m : Mpdu)
         (ms : List Mpdu) (after : World) →
         IsTakingOff v w bodies s t e (m ∷ ms) after → (x : WindowValue) →
         WindowsHaveRoom (with_window v.windows s t x) →
-        WindowStandsFor x (with_state (State.Flying e) m.number (session w s t)) bodies →
+        WindowStandsFor x (with_state (State.Flying e) m.number (session w s t))
+        (with_one_sent (slot (session w s t) m.number).id bodies) →
         IsTakingOff (record v { windows = with_window v.windows s t x })
-        (on_session w s t (with_state (State.Flying e) m.number)) bodies s t e ms after }
+        (on_session w s t (with_state (State.Flying e) m.number)) (with_one_sent m.id bodies) s t e ms after }
     ensures ends { (v : TransmitValue) (w : World) (bodies : ℕ → FrameValue) (s t e : ℕ) (after : World) →
         IsTakingOff v w bodies s t e [] after → Parts v after bodies }
 {}
 
 /// A pull, whole. The station that is picked has its turn, in which the half is to prepare what one of its
 /// TIDs sends. Where a request is due, that is sent; else an aggregate, once it is filled and all its numbers
-/// have taken off. Then the half stands for the step, and the reply is the step's.
+/// have taken off, with the frames that have counted it. Then the half stands for the step, and the reply is
+/// the step's.
 pub fn a_pull()
     ensures tid { (v : TransmitValue) (w : World) (bodies : ℕ → FrameValue) → StandsFor v w bodies →
         (c : Class) (s : ℕ) →
@@ -721,10 +727,10 @@ pub fn a_pull()
         (picked_station w c).winner ≡ Some s → (t : ℕ) → t ≡ sending_tid (after_pick w c) s c →
         (a : Aggregate) → aggregate_of (after_tid_turn (after_pick w c) s c t) s t ≡ a →
         request_due (session (after_tid_turn (after_pick w c) s c t) s t) ≡ false →
-        (x : TransmitValue) (u : World) → IsTakingOff x u bodies s t a.world.exchanges []
-        (prepared_data s t a).world →
+        (x : TransmitValue) (u : World) (sent : ℕ → FrameValue) →
+        IsTakingOff x u sent s t a.world.exchanges [] (prepared_data s t a).world →
         (charge : ℕ) (numbers : List ℕ) → charge ≡ aggregate_charge s t a → numbers ≡ numbers_on_air a.mpdus →
-        Meets w bodies (Asked (Pull c)) (after_listing (after_sending x s t c charge (Data numbers)) s)
+        Meets w sent (Asked (Pull c)) (after_listing (after_sending x s t c charge (Data numbers)) s)
         (Send x.exchanges s t charge (Mpdus (map (λ m. (m.id, m.number % 4096)) a.mpdus))
         (open_next x s t c charge (Data numbers)).more) }
 {}

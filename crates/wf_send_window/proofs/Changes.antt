@@ -25,14 +25,20 @@ module _ (ws now : List WindowValue) (is : ws ≡ now) (s t i : ℕ) (place : i 
     after_is = sym (get_or-set_same ws i after no_window here)
         ∙ ap (λ (k : ℕ). get_or (set ws i after) k no_window) place
 
+    pub stands_with : (x y : Session) (bodies others : ℕ → FrameValue) →
+        (WindowStandsFor before x bodies → WindowStandsFor after y others) →
+        WindowStandsFor (window_of now s t) x bodies →
+        WindowStandsFor (window_of (set ws i after) s t) y others
+    stands_with x y bodies others call stands =
+        let P : WindowValue → Type 0 = λ v. WindowStandsFor v x bodies in
+        let Q : WindowValue → Type 0 = λ v. WindowStandsFor v y others in
+        subst Q after_is (call (subst P (sym before_is) stands))
+
     pub stands_now : (x y : Session) (bodies : ℕ → FrameValue) →
         (WindowStandsFor before x bodies → WindowStandsFor after y bodies) →
         WindowStandsFor (window_of now s t) x bodies →
         WindowStandsFor (window_of (set ws i after) s t) y bodies
-    stands_now x y bodies call stands =
-        let P : WindowValue → Type 0 = λ v. WindowStandsFor v x bodies in
-        let Q : WindowValue → Type 0 = λ v. WindowStandsFor v y bodies in
-        subst Q after_is (call (subst P (sym before_is) stands))
+    stands_now x y bodies = stands_with x y bodies bodies
 
 -- one window among all
 
@@ -49,7 +55,7 @@ module _ (ws : List WindowValue) (s t : ℕ) (v : WindowValue) where
   windows_count = length-set ws (tid_number s t) v
 
   -- whether a TID is this one
-  is_this : (x y : ℕ) → ((x ≡ s) × (y ≡ t)) ⊎ (x ≡ s → y ≡ t → ⊥)
+  pub is_this : (x y : ℕ) → ((x ≡ s) × (y ≡ t)) ⊎ (x ≡ s → y ≡ t → ⊥)
   is_this x y = elim (cases_eq x s) [
     | inl a ↦ elim (cases_eq y t) [
       | inl b ↦ inl (a, b)

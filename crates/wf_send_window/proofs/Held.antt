@@ -13,7 +13,7 @@ use Rattle.wf_send_window.specs.Windows.{window_of}
 use Rattle.wf_send_window.specs.Many.{AllStand, HasSameFrames}
 
 module _ (bodies others : ℕ → FrameValue) where
-  same_place : (x : Slot) → (holds_parcel x.state ≡ true → others x.id ≡ bodies x.id) →
+  pub same_place : (x : Slot) → (holds_parcel x.state ≡ true → others x.id ≡ bodies x.id) →
       slot_place bodies x ≡ slot_place others x
   same_place x h = elim x.state as (λ st. (holds_parcel st ≡ true → others x.id ≡ bodies x.id) →
       place_as st (bodies x.id) x.attempts ≡ place_as st (others x.id) x.attempts) [

@@ -13,4 +13,5 @@ pub mod Listing
 mod Moving
 pub mod Numbers
 mod Resetting
+pub mod Sending
 mod Steps

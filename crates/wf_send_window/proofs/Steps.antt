@@ -1,14 +1,15 @@
 -- What the steps of a window's calls leave, over plain values.
 use Rattle.std.proofs.Common.{◌≡◌, ℕ, zero, suc, ◌+◌, ◌-◌, ◌%◌, ◌<◌, ◌≤◌, nat_le, Bool, true, false, ◌||◌, if◌then◌else◌, Option, Some, None, List, [], ◌∷◌, length, get_or, set, refl, ap, sym, ◌∙◌, subst, arith, length-set, max}
 use Rattle.std.proofs.lemmas.List.{set-set}
-use Rattle.wf_frame.specs.Frames.{FrameValue}
+use Rattle.wf_frame.specs.Frames.{FrameValue, sent_again}
 use Rattle.wf_def_agreement.specs.Session.{Session, State, slot, start_of, next_number, is_settled, is_waiting, with_state, after_miss}
 use Rattle.wf_send_window.specs.declared.place.Place.{Place}
 use Rattle.wf_send_window.specs.declared.place.Place.TheVariants.{Waiting as Waits, Flying as Flies, Failed as Fails}
 use Rattle.wf_send_window.specs.Ring.{RingValue}
 use Rattle.wf_send_window.specs.Places.{state_of_place, front, rest, settled_first, since_failed, at_most}
 use Rattle.wf_octets_seq12.specs.Distance.{distance}
-use Rattle.wf_send_window.specs.Window.{WindowValue, WindowStandsFor, IsNumber, IsInOrder, moved_on, session_settled, is_flying, state_at}
+use Rattle.wf_send_window.specs.Window.{WindowValue, WindowStandsFor, IsNumber, IsInOrder, HasOwnFrame, moved_on, session_settled, is_flying, state_at}
+use Rattle.wf_send_window.specs.Sent.{with_one_sent}
 use Rattle.wf_send_window.specs.Answers.{settling_answer, with_fate}
 use Rattle.wf_send_window.specs.declared.window.Settled.TheVariants.{Acked as Is_answer_acked, Waiting as Is_answer_waiting, Failed as Is_answer_failed}
 use Rattle.wf_frame.specs.declared.classes.Fate.TheVariants.{Acked as Is_acked, Dropped}
@@ -16,7 +17,8 @@ use Rattle.wf_frame.specs.declared.classes.Cause.TheVariants.{Retries}
 use Rattle.std.specs.List.{list_any}
 use Rattle.std.proofs.lemmas.Bool.Decides.{nat_tests}
 use Rattle.wf_send_window.proofs.Fronts.{lengths, rest_unsettled}
-use Rattle.wf_send_window.proofs.Calls.{IsFlyingSlot, found_slot, waiting_slot, settled_set, fly_law, heard_law, acked_law, failed_law, missed_law}
+use Rattle.wf_send_window.proofs.Calls.{IsFlyingSlot, found_slot, waiting_slot, settled_set, heard_law, acked_law, failed_law, missed_law}
+use Rattle.wf_send_window.proofs.Sending.{sent_law}
 use Rattle.wf_send_window.proofs.Moving.{since_bound}
 use Rattle.wf_send_window.proofs.Numbers.{waiting_is}
 use Rattle.wf_send_window.proofs.Laws.{slot_changed, place_is, ahead_number, places_length}
@@ -140,19 +142,20 @@ module _ (size start : ℕ) (due : Option ℕ) (r r1 r2 : RingValue) (now : Wind
 
   pub fly_step : (exchange attempts : ℕ) (parcel : FrameValue) →
       Some (Waits parcel attempts) ≡ get_or r.items i None → r1 ≡ with_items r (set r.items i None) →
-      r2 ≡ with_items r1 (set r1.items i (Some (Flies parcel attempts exchange))) →
+      r2 ≡ with_items r1 (set r1.items i (Some (Flies (sent_again parcel) attempts exchange))) →
       (s : Session) (bodies : ℕ → FrameValue) (n : ℕ) → WindowStandsFor now s bodies → IsNumber s n seq →
-      WindowStandsFor (shown size start due r2) (with_state (State.Flying exchange) n s) bodies
-  fly_step exchange attempts parcel found a b s bodies n stands number =
-      let q : Option Place = Some (Flies parcel attempts exchange) in
+      HasOwnFrame s n → WindowStandsFor (shown size start due r2) (with_state (State.Flying exchange) n s)
+      (with_one_sent (slot s n).id bodies)
+  fly_step exchange attempts parcel found a b s bodies n stands number own =
+      let q : Option Place = Some (Flies (sent_again parcel) attempts exchange) in
       let found_here : get_or r.items (distance seq start) None ≡ Some (Waits parcel attempts) =
       ap (λ (k : ℕ). get_or r.items k None) (sym i_is) ∙ sym found in
       let ring_is : r2 ≡ with_items r (set r.items (distance seq start) q) =
       replaced_twice r r1 r2 i None q a b ∙ ap (λ (k : ℕ). with_items r (set r.items k q)) i_is in
       let P : RingValue → Type 0 = λ v. WindowStandsFor (shown size start due v)
-      (with_state (State.Flying exchange) n s) bodies in
-      subst P (sym ring_is) (fly_law (shown size start due r) s bodies
-      (here s bodies stands) n seq number exchange attempts parcel found_here)
+      (with_state (State.Flying exchange) n s) (with_one_sent (slot s n).id bodies) in
+      subst P (sym ring_is) (sent_law (shown size start due r) s bodies
+      (here s bodies stands) n seq number own exchange attempts parcel found_here)
 
   module _ (parcel : FrameValue) (attempts exchange limit : ℕ)
       (found : Some (Flies parcel attempts exchange) ≡ get_or r.items i None) (s : Session)

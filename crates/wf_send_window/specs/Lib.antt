@@ -5,5 +5,6 @@ pub mod Listing
 pub mod Many
 pub mod Places
 pub mod Ring
+pub mod Sent
 pub mod Window
 pub mod Windows

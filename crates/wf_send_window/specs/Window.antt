@@ -6,7 +6,7 @@ use Rattle.wf_send_window.specs.declared.place.Place.{Place}
 use Rattle.wf_send_window.specs.declared.place.Place.TheVariants.{Waiting as Waits, Flying as Flies}
 use Rattle.wf_octets_seq12.specs.Distance.{distance}
 use Rattle.wf_send_window.specs.Places.{settled_first, state_of_place, slot_place, slot_state, front, rest, since_failed, at_most}
-use Rattle.wf_def_agreement.specs.Session.{Session, Slot, State, start_of, next_number, request_due, has_room, waiting_numbers, is_waiting, with_state, after_miss}
+use Rattle.wf_def_agreement.specs.Session.{Session, Slot, State, slot, start_of, next_number, request_due, has_room, waiting_numbers, is_waiting, with_state, after_miss}
 
 -- a window as its callers see it
 pub record WindowValue : Type 0 where
@@ -106,6 +106,11 @@ abbrev pub HasFrame : Option Place → FrameValue → Type 0
 HasFrame (Some (Waits parcel attempts)) frame = frame ≡ parcel
 HasFrame (Some (Flies parcel attempts exchange)) frame = frame ≡ parcel
 HasFrame _ frame = ⊥
+
+-- no other number that waits or flies has the frame of n
+pub record HasOwnFrame (s : Session) (n : ℕ) : Type 0 where
+  pub sole : (m : ℕ) → start_of s ≤ m → m < next_number s → holds_parcel (slot s m).state ≡ true →
+      (slot s m).id ≡ (slot s n).id → m ≡ n
 
 -- what every window keeps
 pub record IsInOrder (capacity size : ℕ) (places : List (Option Place)) (due : Option ℕ) : Type 0 where

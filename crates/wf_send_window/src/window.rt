@@ -5,13 +5,14 @@
 
 ghost use Rattle.std.specs.Prelude.{count_by, ◌≡◌, ℕ, ◌+◌, ◌%◌, ◌<◌, ◌≤◌, true, false, [], length, max, is_ok, is_some, unwrap_or, option_map, slice_index_or, slice_set, nat_lt, IfOk, IfErr, IfSome, IfNone};
 ghost use Rattle.std.specs.List.{list_any};
-ghost use Rattle.wf_frame.specs.Frames.{FrameValue};
+ghost use Rattle.wf_frame.specs.Frames.{FrameValue, sent_again};
 ghost use Rattle.wf_frame.specs.declared.classes.Fate.TheVariants.{Dropped};
 ghost use Rattle.wf_frame.specs.declared.classes.Cause.TheVariants.{Left};
 ghost use Rattle.wf_def_agreement.specs.Session.{Session, State, slot, new_session, with_number_given, with_state, start_of, next_number, request_due, is_settled, waiting_numbers};
 ghost use Rattle.wf_octets_seq12.specs.Distance.{distance};
 ghost use Rattle.wf_send_window.specs.Places.{state_of_place, front, rest, next_since, since_failed};
-ghost use Rattle.wf_send_window.specs.Window.{fresh_window, WindowStandsFor, IsNumber, may_give, waiting_from, on_air, session_settled, place_at, state_at, attempts_of, is_flying, holds_parcel, HasFrame, waits, some_fly, can_take};
+ghost use Rattle.wf_send_window.specs.Window.{fresh_window, WindowStandsFor, IsNumber, may_give, waiting_from, on_air, session_settled, place_at, state_at, attempts_of, is_flying, holds_parcel, HasOwnFrame, HasFrame, waits, some_fly, can_take};
+ghost use Rattle.wf_send_window.specs.Sent.{with_one_sent};
 ghost use Rattle.wf_send_window.specs.Answers.{settling_answer, with_fate};
 
 use crate::place::{Place, is_waiting};
@@ -161,6 +162,14 @@ fn finished(mut parcel: Parcel, fate: Fate) -> Parcel
     parcel
 }
 
+// The parcel, once its frame has counted that it is sent.
+fn sent(mut parcel: Parcel) -> Parcel
+    ensures { result ≡ sent_again parcel }
+{
+    parcel.frame_mut().send();
+    parcel
+}
+
 impl Window {
     /// A window of no number, as after `reset` with start 0 and the capacity as its size. `capacity` is the
     /// greatest size that it may be given, in frames: 1 to 256.
@@ -277,11 +286,12 @@ impl Window {
         Ok(seq)
     }
 
-    /// A waiting number flies in this exchange.
+    /// A waiting number flies in this exchange; its frame counts that it is sent once more.
     pub fn fly(&mut self, seq: Seq12, exchange: u64)
         requires { state_at self.old seq ≡ State.Waiting }
         ensures stands { (s : Session) (bodies : ℕ → FrameValue) (n : ℕ) → WindowStandsFor self.old s bodies →
-            IsNumber s n seq → WindowStandsFor self.new (with_state (State.Flying exchange) n s) bodies }
+            IsNumber s n seq → HasOwnFrame s n → WindowStandsFor self.new
+            (with_state (State.Flying exchange) n s) (with_one_sent (slot s n).id bodies) }
         ensures capacity { self.new.capacity ≡ self.old.capacity }
     {
         let i = usize::from(seq.ahead(self.start));
@@ -291,7 +301,7 @@ impl Window {
         let _ = self.ring.replace(
             i,
             Some(Place::Flying {
-                parcel,
+                parcel: sent(parcel),
                 attempts,
                 exchange,
             }),

@@ -7,7 +7,8 @@ ghost use Rattle.wf_frame.specs.declared.classes.Cause.TheVariants.{Left};
 ghost use Rattle.wf_def_lists.specs.Bounds.{greatest_window};
 ghost use Rattle.wf_def_agreement.specs.Session.{Session, State, slot, new_session, with_number_given, with_state, start_of, next_number};
 ghost use Rattle.wf_octets_seq12.specs.Distance.{distance};
-ghost use Rattle.wf_send_window.specs.Window.{fresh_window, WindowStandsFor, IsNumber, session_settled, place_at, state_at, attempts_of, is_flying, some_fly, can_take};
+ghost use Rattle.wf_send_window.specs.Window.{fresh_window, WindowStandsFor, IsNumber, session_settled, place_at, state_at, attempts_of, is_flying, HasOwnFrame, some_fly, can_take};
+ghost use Rattle.wf_send_window.specs.Sent.{with_one_sent};
 ghost use Rattle.wf_send_window.specs.Answers.{settling_answer, with_fate};
 ghost use Rattle.wf_frame.specs.Classes.{tid_number};
 ghost use Rattle.wf_send_window.specs.Windows.{WindowsHaveRoom, new_window, window_of, with_window};
@@ -143,8 +144,8 @@ impl Windows {
         requires waits { state_at (window_of self.old station tid) seq ≡ State.Waiting }
         ensures stands { (s : Session) (bodies : ℕ → FrameValue) (n : ℕ) →
             WindowStandsFor (window_of self.old station tid) s bodies →
-            IsNumber s n seq → WindowStandsFor (window_of self.new station tid)
-            (with_state (State.Flying exchange) n s) bodies }
+            IsNumber s n seq → HasOwnFrame s n → WindowStandsFor (window_of self.new station tid)
+            (with_state (State.Flying exchange) n s) (with_one_sent (slot s n).id bodies) }
         ensures others { self.new ≡ with_window self.old station tid (window_of self.new station tid) }
         ensures room { WindowsHaveRoom self.new }
         ensures count { length self.new ≡ length self.old }

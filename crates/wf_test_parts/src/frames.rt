@@ -42,6 +42,20 @@ fn a_frame_has_a_source_and_a_tag(rt: HostRuntime) -> Result<(), AllocError> {
 }
 
 #[test]
+fn a_frame_counts_from_its_acceptance_on(rt: HostRuntime) -> Result<(), AllocError> {
+    let mut frame = Frame::sample(rt.alloc(), 3, 5, 254, 4)?;
+    for _ in 0..300 {
+        frame.send();
+    }
+    same(&rt, frame.attempts(), 255);
+    frame.mark(7, 9);
+    same(&rt, frame.attempts(), 0);
+    frame.send();
+    same(&rt, frame.attempts(), 1);
+    Ok(())
+}
+
+#[test]
 fn settings_are_checked_in_order(rt: HostRuntime) {
     let standard = Config::standard();
     same(&rt, standard.check(), None);

@@ -4,7 +4,7 @@ ghost use Rattle.wf_path.specs.Jobs.{IsHeard};
 
 use std::alloc::Global;
 use std::test::Fail;
-use wf_frame::{Answer, Ask, Class, Config, Frame};
+use wf_frame::{Answer, Ask, Cause, Class, Config, Fate, Frame};
 use wf_octets_block::BlockFault;
 use wf_path::{BadAddress, DoneFault, Job, Path, PathFault, Sent};
 use wf_queue_chain::Parcel;
@@ -239,6 +239,29 @@ fn an_answer_is_from_the_address_of_its_station(rt: HostRuntime) -> Result<(), F
     Ok(())
 }
 
+/// Takes the first finished frame: what became of it, and how often it was sent.
+fn reaped(path: &mut Path) -> Option<(Fate, u8)> {
+    if !path.has_small_counts() {
+        return None;
+    }
+    let parcel = path.call(Job::Call(Ask::Reap), &mut Answer::new())?;
+    Some((parcel.frame().fate(), parcel.frame().attempts()))
+}
+
+#[test]
+fn a_frame_tells_how_often_it_was_sent(rt: HostRuntime) -> Result<(), Fail> {
+    let mut path = with_exchange(rt.alloc())?;
+    if path.has_small_counts() {
+        let _ = path.done_bits(0, None, None);
+    }
+    call(&mut path, Job::Call(Ask::Pull { class: Class::Be }));
+    if path.has_small_counts() {
+        let _ = path.done_bytes(1, Some(&ANSWER), None);
+    }
+    assert_eq!(rt; reaped(&mut path), Some((Fate::Acked, 2)));
+    Ok(())
+}
+
 #[test]
 fn an_address_may_be_refused(rt: HostRuntime) -> Result<(), Fail> {
     let mut path = with_exchange(rt.alloc())?;
@@ -259,5 +282,21 @@ fn a_station_that_leaves_keeps_its_address(rt: HostRuntime) -> Result<(), Fail> 
     call(&mut path, Job::Call(Ask::Leave { station: 0 }));
     assert_eq!(rt; path.address(0), Some(STATION));
     assert_eq!(rt; path.base(), BASE);
+    Ok(())
+}
+
+#[test]
+fn a_frame_that_is_dropped_tells_how_often_it_was_sent(rt: HostRuntime) -> Result<(), Fail> {
+    let mut path = with_exchange(rt.alloc())?;
+    if path.has_small_counts() {
+        let _ = path.done_bits(0, None, None);
+    }
+    let parcel = Parcel::new(rt.alloc(), Frame::sample(rt.alloc(), 0, 0, 7, 3)?).map_err(
+        |refused| refused.0,
+    )?;
+    call(&mut path, Job::Give(parcel));
+    call(&mut path, Job::Call(Ask::Leave { station: 0 }));
+    assert_eq!(rt; reaped(&mut path), Some((Fate::Dropped(Cause::Left), 1)));
+    assert_eq!(rt; reaped(&mut path), Some((Fate::Dropped(Cause::Left), 0)));
     Ok(())
 }

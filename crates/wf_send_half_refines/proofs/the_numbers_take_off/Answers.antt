@@ -1,4 +1,4 @@
-use Rattle.wf_send_half_refines.proofs.Flies.{off_begins, off_number, off_waits, off_frame, off_next, off_ends}
+use Rattle.wf_send_half_refines.proofs.Flies.{off_begins, off_number, off_waits, off_frame, off_own, off_next, off_ends}
 use Rattle.wf_send_half_refines.proofs.the_numbers_take_off.Goals as goal
 
 pub returns-clause-begins : goal.returns-clause-begins
@@ -12,6 +12,9 @@ returns-clause-waits c = off_waits
 
 pub returns-clause-frame : goal.returns-clause-frame
 returns-clause-frame c = off_frame
+
+pub returns-clause-own : goal.returns-clause-own
+returns-clause-own c = off_own
 
 pub returns-clause-next : goal.returns-clause-next
 returns-clause-next c = off_next

@@ -89,7 +89,7 @@ returns-in_default-clause-meets c = λ w bodies i.
     let m = c.call.ensures.meets w bodies j.half in
     let x = c.args in
     refused_meets v after (Asked (Join x.station x.window x.start x.exponent x.weight))
-    (reply_of a) w bodies j m
+    (reply_of a) w bodies bodies j m
     (not_joined w x.station x.window x.start x.exponent x.weight
     (λ joined. c.in_default.not-Joined (joined_brief a.brief a.pairs a.ids (m.reply ∙ joined))))
 

@@ -7,6 +7,7 @@ use Rattle.wf_frame.specs.declared.answers.Brief.{Brief}
 use Rattle.wf_frame.specs.declared.notes.Ask.TheVariants.{Pull}
 use Rattle.wf_frame.specs.declared.notes.Note.TheVariants.{Asked}
 use Rattle.wf_send_exchanges.specs.declared.marks.Mark.{Mark}
+use Rattle.wf_send_half.specs.Replies.{bodies_sent}
 use Rattle.wf_send_half_refines.specs.Half.{TransmitValue}
 use Rattle.wf_cell.proofs.Calls.{IsSend, send_brief, mark_fits, pulled_meets, not_pulled, refused_meets}
 use Rattle.wf_cell.proofs.engine.Engine.pull.Goals as goal
@@ -34,7 +35,8 @@ open-requires-clause-room c =
       more = s.more;
       is = ap (λ (b : Brief). reply_with b a.pairs a.ids) s.is;
     } in
-    (mark_fits v after (reply_of a) w bodies c.args.class j (c.call.ensures.meets w bodies j.half) sent).room
+    (mark_fits v after (reply_of a) w bodies (bodies_sent (reply_of a) bodies) c.args.class j
+    (c.call.ensures.meets w bodies j.half) sent).room
 
 pub open-requires-clause-above : goal.open-requires-clause-above
 open-requires-clause-above c =
@@ -59,7 +61,8 @@ open-requires-clause-above c =
       more = s.more;
       is = ap (λ (b : Brief). reply_with b a.pairs a.ids) s.is;
     } in
-    (mark_fits v after (reply_of a) w bodies c.args.class j (c.call.ensures.meets w bodies j.half) sent).above
+    (mark_fits v after (reply_of a) w bodies (bodies_sent (reply_of a) bodies) c.args.class j
+    (c.call.ensures.meets w bodies j.half) sent).above
 
 pub returns-in-Send-clause-meets : goal.returns-in-Send-clause-meets
 returns-in-Send-clause-meets c = λ w bodies i.
@@ -85,8 +88,9 @@ returns-in-Send-clause-meets c = λ w bodies i.
     } in
     subst (λ (ms : List Mark). let u : EngineValue =
     record { half = after; peers = c.self.inside.peers; marks = ms } in
-    EngineMeets w bodies (Asked (Pull c.args.class)) u (reply_of a)) (sym c.open.ensures)
-    (pulled_meets v after (reply_of a) w bodies c.args.class j (c.call.ensures.meets w bodies j.half) sent)
+    EngineMeets w (bodies_sent (reply_of a) bodies) (Asked (Pull c.args.class)) u (reply_of a))
+    (sym c.open.ensures) (pulled_meets v after (reply_of a) w bodies (bodies_sent (reply_of a) bodies)
+    c.args.class j (c.call.ensures.meets w bodies j.half) sent)
 
 pub returns-in_default-clause-meets : goal.returns-in_default-clause-meets
 returns-in_default-clause-meets c = λ w bodies i.
@@ -101,7 +105,8 @@ returns-in_default-clause-meets c = λ w bodies i.
     let a : Answer = c.call.new.answer in
     let after : TransmitValue = c.call.new.self.half in
     let m = c.call.ensures.meets w bodies j.half in
-    refused_meets v after (Asked (Pull c.args.class)) (reply_of a) w bodies j m
+    refused_meets v after (Asked (Pull c.args.class)) (reply_of a) w bodies
+    (bodies_sent (reply_of a) bodies) j m
     (not_pulled w c.args.class (λ sent. send_brief a.brief a.pairs a.ids
     (subst IsSend (sym m.reply) sent) c.in_default.not-Send))
 

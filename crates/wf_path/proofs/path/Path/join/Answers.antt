@@ -28,7 +28,7 @@ returns-in-Ok c =
     (Join c.args.station c.args.window c.args.start c.args.exponent c.args.weight)
     (reply.Joined) c.join.new.self c.in-Ok.ensures.meets c.self.inside.addresses c.args.self.now
     c.self.view_is (brief.Joined)
-    (λ pairs ids. refl) tt (λ e. absurd (cc e))
+    (λ pairs ids. refl) tt (λ _. refl) (λ e. absurd (cc e))
 
 pub returns-in-Err : goal.returns-in-Err
 returns-in-Err c =
@@ -36,4 +36,4 @@ returns-in-Err c =
     (Join c.args.station c.args.window c.args.start c.args.exponent c.args.weight)
     (reply.Refused c.in-Err.reason) c.join.new.self c.in-Err.ensures.meets c.self.inside.addresses
     c.args.self.now c.self.view_is
-    (brief.Refused c.in-Err.reason) (λ pairs ids. refl) tt (λ _. c.in-Err.ensures.refused)
+    (brief.Refused c.in-Err.reason) (λ pairs ids. refl) tt (λ _. refl) (λ _. c.in-Err.ensures.refused)

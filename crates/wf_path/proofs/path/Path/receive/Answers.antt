@@ -25,11 +25,12 @@ returns c = elim c.match-receive.branch [
       (reply.Charged w.in-Ok.deficit) c.receive.new.self w.in-Ok.ensures.meets
       c.self.inside.addresses c.args.self.now c.self.view_is c.match-receive.result
       (λ pairs ids. ap (λ (b : Brief). reply_with b pairs ids) w.result-is ∙ ap reply.Charged plain) tt
+      (λ _. refl)
       (λ e. absurd (cc e))
   | in-Err w ↦ told_briefly c.self.inside.half c.self.inside.ready c.self.invariant
       (Rx c.args.station c.args.class c.args.air)
       (reply.Refused w.in-Err.reason) c.receive.new.self w.in-Err.ensures.meets
       c.self.inside.addresses c.args.self.now c.self.view_is c.match-receive.result
-      (λ pairs ids. ap (λ (b : Brief). reply_with b pairs ids) w.result-is) tt
+      (λ pairs ids. ap (λ (b : Brief). reply_with b pairs ids) w.result-is) tt (λ _. refl)
       (λ _. w.in-Err.ensures.refused)
 ]

@@ -26,11 +26,11 @@ returns-in-Ok c =
     told_briefly c.self.inside.half c.self.inside.ready c.self.invariant (Sleep c.args.station)
     (reply.Slept) c.sleep.new.self c.in-Ok.ensures.meets c.self.inside.addresses c.args.self.now
     c.self.view_is (brief.Slept)
-    (λ pairs ids. refl) tt (λ e. absurd (cc e))
+    (λ pairs ids. refl) tt (λ _. refl) (λ e. absurd (cc e))
 
 pub returns-in-Err : goal.returns-in-Err
 returns-in-Err c =
     told_briefly c.self.inside.half c.self.inside.ready c.self.invariant (Sleep c.args.station)
     (reply.Refused c.in-Err.reason) c.sleep.new.self c.in-Err.ensures.meets c.self.inside.addresses
     c.args.self.now c.self.view_is
-    (brief.Refused c.in-Err.reason) (λ pairs ids. refl) tt (λ _. c.in-Err.ensures.refused)
+    (brief.Refused c.in-Err.reason) (λ pairs ids. refl) tt (λ _. refl) (λ _. c.in-Err.ensures.refused)

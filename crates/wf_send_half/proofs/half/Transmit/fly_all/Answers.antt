@@ -2,7 +2,8 @@ use Rattle.std.proofs.Common.{◌≡◌, ap, sym, ◌∙◌, subst, arith, ℕ, 
 use Rattle.std.specs.Prelude.{slice_get}
 use Rattle.wf_frame.specs.Frames.{FrameValue}
 use Rattle.wf_def_agreement.specs.Session.{State, Session, slot, with_state}
-use Rattle.wf_send_window.specs.Window.{holds_parcel, state_at, WindowValue, WindowStandsFor as WindowStandsFor, IsNumber}
+use Rattle.wf_send_window.specs.Window.{holds_parcel, state_at, WindowValue, WindowStandsFor as WindowStandsFor, IsNumber, HasOwnFrame}
+use Rattle.wf_send_window.specs.Sent.{with_one_sent}
 use Rattle.wf_send_window.specs.Windows.{window_of}
 use Rattle.wf_send_half_refines.specs.Half.{TransmitValue}
 use Rattle.wf_send_half.proofs.Calls.{view_of}
@@ -40,9 +41,9 @@ loop-i-preserved c = record {
       c.frame.ensures in
       let flies = subst (λ (e : ℕ). (y : Session) (all : ℕ → FrameValue) (n : ℕ) →
       WindowStandsFor (window_of x.windows c.args.station c.args.tid) y all →
-      IsNumber y n c.at-number.result → WindowStandsFor
-      (window_of c.fly.new.self c.args.station c.args.tid) (with_state (State.Flying e) n y) all) same
-      c.fly.ensures.stands in
+      IsNumber y n c.at-number.result → HasOwnFrame y n → WindowStandsFor
+      (window_of c.fly.new.self c.args.station c.args.tid) (with_state (State.Flying e) n y)
+      (with_one_sent (slot y n).id all)) same c.fly.ensures.stands in
       rw (c.push.ensures, c.id-id.ensures, c.raw.ensures.number)
       (flying_next x bodies c.args.station c.args.tid c.args.self.now.exchanges mpdus after c.loop-i.i
       c.loop-i.pairs (c.loop-i.invariant.flying w bodies mpdus after off on_air) c.at-number.result

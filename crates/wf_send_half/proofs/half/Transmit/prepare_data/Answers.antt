@@ -16,3 +16,20 @@ returns-clause-prepared c w bodies to =
     (filled_off c.fill-aggregate.new.self bodies s t c.fill-aggregate.result.room
     c.fill-aggregate.result.numbers a filled) filled.on_air)
     c.air-charge.ensures
+
+pub fly_all-requires-clause-off : goal.fly_all-requires-clause-off
+fly_all-requires-clause-off c =
+    let s : ℕ = c.args.station in
+    let t : ℕ = c.args.tid in
+    let h = c.requires.sends in
+    let a : Aggregate = aggregate_of h.world s t in
+    let filled = c.fill-aggregate.ensures.filled h.world h.bodies h.to_fill in
+    record {
+      world = a.world;
+      bodies = h.bodies;
+      mpdus = a.mpdus;
+      after = (prepared_data s t a).world;
+      off = filled_off c.fill-aggregate.new.self h.bodies s t c.fill-aggregate.result.room
+          c.fill-aggregate.result.numbers a filled;
+      on_air = filled.on_air;
+    }

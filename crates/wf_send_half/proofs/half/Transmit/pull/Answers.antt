@@ -1,7 +1,10 @@
 use Rattle.wf_frame.specs.declared.notes.Ask.TheVariants.{Pull}
 use Rattle.wf_frame.specs.declared.notes.Note.TheVariants.{Asked}
 use Rattle.wf_send_half.proofs.Calls.{view_of}
-use Rattle.wf_send_half.proofs.Worlds.{kept_world}
+use Rattle.std.proofs.Common.{[]}
+use Rattle.wf_frame.specs.Answers.{reply_with}
+use Rattle.wf_send_half.specs.Replies.{bodies_sent}
+use Rattle.wf_send_half.proofs.Worlds.{kept_world, kept_with}
 use Rattle.wf_send_half.proofs.Pulling.{pull_full, room_next, picked_one, picked_none}
 use Rattle.wf_send_half.proofs.half.Transmit.pull.Goals as goal
 
@@ -40,8 +43,9 @@ returns-in-Some-clause-meets c w bodies h =
     c.pick.new.self c.pick.ensures.turned c.pick.ensures.others c.in-Some.station c.in-Some.ensures.winner)
 
 pub returns-in-Some-clause-kept : goal.returns-in-Some-clause-kept
-returns-in-Some-clause-kept c = kept_world c.args.self.now _ (Asked (Pull c.args.class)) _
-    (returns-in-Some-clause-meets c) c.requires.some
+returns-in-Some-clause-kept c = kept_with c.args.self.now _ (Asked (Pull c.args.class)) _
+    (bodies_sent (reply_with c.send.result c.send.new.pairs [])) (returns-in-Some-clause-meets c)
+    c.requires.some
 
 pub returns-in-None-clause-meets : goal.returns-in-None-clause-meets
 returns-in-None-clause-meets c w bodies h =
