@@ -49,7 +49,20 @@ impl Note {
         ensures { result ≡ note_made form values.now }
     {
         match (form, values) {
-            (CallForm::Enqueue, _) => enqueue(values),
+            (
+                CallForm::Enqueue,
+                [
+                    Value::Short(station),
+                    Value::Octet(tid),
+                    Value::Long(flow),
+                    Value::Short(len),
+                ],
+            ) => Some(Note::Enqueue {
+                station: *station,
+                tid: *tid,
+                flow: *flow,
+                len: *len,
+            }),
             (CallForm::Join, _) => join(values),
             (CallForm::Leave, [Value::Short(station)]) => asked(Ask::Leave { station: *station }),
             (CallForm::Rate, _) => ht(values),
@@ -246,27 +259,6 @@ fn ended(exchange: u32, heard: bool, air: Option<u32>) -> Note
         exchange: u64::from(exchange),
         heard,
         air,
-    })
-}
-
-// A frame for a station.
-fn enqueue(values: &[Value]) -> Option<Note>
-    ensures { result ≡ note_made CallForm.Enqueue values.now }
-{
-    let [
-        Value::Short(station),
-        Value::Octet(tid),
-        Value::Long(flow),
-        Value::Short(len),
-    ] = values
-    else {
-        return None;
-    };
-    Some(Note::Enqueue {
-        station: *station,
-        tid: *tid,
-        flow: *flow,
-        len: *len,
     })
 }
 
