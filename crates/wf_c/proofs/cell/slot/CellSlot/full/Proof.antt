@@ -13,7 +13,7 @@ use denote.Exit.{yes}
 use denote.RattleType.{owns}
 use denote.Signature.{plain}
 use denote.Steps.{nothing}
-use denote.RawPtr.{Ptr, ptr_val}
+use denote.RawPtr.{ptr_val}
 use denote.Triple.Walked.{says, Stays, stay_dropped, Goes-dropped, walk_of, ends_at}
 use Rattle.std.specs.Prelude.{Some}
 use Rattle.std.proofs.raw_atomic.Walks.{proved_at}
