@@ -65,8 +65,9 @@
 /* The version of this header and of the library that it belongs to, and what may change under which number.
  * - Another patch number: nothing of what is said here.
  * - Another minor number: there may be more functions, more codes, more kinds and more settings, these in what wf_settings has
- *   reserved. No struct gets larger, no number means something else, and nothing asks for more. So what was built over an
- *   older header goes on over a newer library as it was, with the same answers to the same calls.
+ *   reserved. No other struct gets a field, not even where it has octets to spare: more of a packet, or of a frame that was taken
+ *   back, would be handed over by further functions. No number means something else, and nothing asks for more. So what was
+ *   built over an older header goes on over a newer library as it was, with the same answers to the same calls.
  * - Another major number: anything. The name that a loader looks for has it (libwf.so.1). */
 #define WF_VERSION_MAJOR 1
 #define WF_VERSION_MINOR 0
@@ -117,6 +118,7 @@ enum wf_code {
   WF_BAD_LENGTH = 41,   /* a body has no octet, or more than WF_GREATEST_BODY */
   WF_SMALL_BUFFER = 42, /* the buffer is too small */
   WF_BAD_CALL = 43,     /* the numbers show no call, or one that brings a frame or takes one, or a rate of no format */
+  WF_BAD_ADDRESS = 44,  /* the address is a group's: the lowest bit of its first octet is set */
   /* octets that are no BlockAck to the exchange */
   WF_BLOCK_LENGTH = 51, /* not 28 octets, or 52 where the window is above 64 */
   WF_BLOCK_KIND = 52,   /* not a BlockAck */
@@ -371,6 +373,23 @@ int32_t wf_path_make(struct wf_path *path, const struct wf_settings *settings);
 
 /* Frees the path of a handle with all frames inside; the handle then holds nothing. */
 void wf_path_free(struct wf_path *path);
+
+/* ---- addresses, of six octets each, in the order in which they go on the air. A path has the access point's and one for each station
+ * number; at first they are made up, 02:00:00:00:00:00 and, by the two octets of the station's number, 02:00:00:01:hh:ll. What is
+ * sent goes from the access point's to that of the exchange's station, and a BlockAck is taken from the one to the other alone, by the
+ * addresses that the path then has. No other call changes them: a station's stays where it leaves and joins. That no two live
+ * stations have the same, nor one of them the access point's, is the caller's to see to. A cell has the made-up ones. */
+
+/* Names the access point's address. WF_BAD_ADDRESS exactly where it is a group's, and then nothing has changed. */
+int32_t wf_path_set_base(struct wf_path *path, const uint8_t address[6]);
+
+/* Names the address of a station, live or not. WF_BAD_STATION, and else WF_BAD_ADDRESS exactly where it is a group's; after both
+ * nothing has changed. */
+int32_t wf_path_set_address(struct wf_path *path, uint16_t station, const uint8_t address[6]);
+
+/* Write the access point's address, and that of a station, live or not. WF_BAD_STATION, and then `out` is as it was. */
+void wf_path_base(const struct wf_path *path, uint8_t out[6]);
+int32_t wf_path_address(const struct wf_path *path, uint16_t station, uint8_t out[6]);
 
 /* ---- calls of the machine. Each writes its answer to `reply`, and gives the refusal: WF_OK where it was not refused. */
 

@@ -46,7 +46,10 @@ static int read_path(const struct wf_path *path) {
   uint64_t id = 0;
   uint32_t queued = 1, waiting = 1;
   size_t size = 0;
+  uint8_t base[6] = {0}, address[6] = {0};
   wf_path_tally(path, &tally);
+  wf_path_base(path, base);
+  if (base[0] != 2 || wf_path_address(path, 1, address) || address[5] != 1) return 0;
   return wf_path_now(path) == 0 && wf_path_exchanges(path) == 1 && wf_path_open_count(path) == 1 && wf_path_live(path, 0) == 1 &&
          wf_path_share(path, 0, WF_BE, &share) == WF_OK && wf_path_sent(path, exchange, &sent) == WF_OK && sent.count == 1 &&
          wf_path_frame_id(path, exchange, 0, &id) == WF_OK && wf_path_mpdu(path, exchange, 0, out, sizeof out, &size) == WF_OK &&

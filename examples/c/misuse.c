@@ -102,6 +102,26 @@ static void misuse_stations(void) {
   want(wf_path_enqueue(&path, 3, &packet, &reply), WF_NO_STATION, "wf_path_enqueue");
 }
 
+/* Addresses of groups, and of stations that there are not. */
+static void misuse_addresses(void) {
+  static const uint8_t GROUP[6] = {0x01, 0, 0x5e, 0, 0, 1}, REAL[6] = {0x00, 0, 0x5e, 0, 0x53, 1}, MADE_UP[6] = {0x02, 0, 0, 0x01, 0, 2};
+  uint8_t told[6] = {0}, before[6] = {0};
+  wf_path_base(&path, before);
+  want(wf_path_set_base(&path, GROUP), WF_BAD_ADDRESS, "a group for an access point");
+  wf_path_base(&path, told);
+  unchanged(told, before, 6, "a group for an access point");
+  want(wf_path_set_address(&path, 2, GROUP), WF_BAD_ADDRESS, "a group for a station");
+  want(wf_path_address(&path, 2, told), WF_OK, "wf_path_address");
+  unchanged(told, MADE_UP, 6, "a group for a station");
+  want(wf_path_set_address(&path, STATIONS, REAL), WF_BAD_STATION, "the address of no station");
+  want(wf_path_set_address(&path, STATIONS, GROUP), WF_BAD_STATION, "a group for no station");
+  want(wf_path_set_address(&path, 65535, REAL), WF_BAD_STATION, "the address of no station");
+  want(wf_path_address(&path, STATIONS, told), WF_BAD_STATION, "wf_path_address");
+  unchanged(told, MADE_UP, 6, "the address of no station");
+  want(wf_path_set_address(&path, 3, REAL), WF_OK, "the address of a station that is not live");
+  want(wf_path_set_address(&path, 2, REAL), WF_OK, "the same address for another");
+}
+
 static void misuse_joins(void) {
   want(wf_path_join(&path, 3, 0, 0, 3, 1, &reply), WF_BAD_WINDOW, "a window of 0");
   want(wf_path_join(&path, 3, 257, 0, 3, 1, &reply), WF_BAD_WINDOW, "a window of 257");
@@ -289,6 +309,7 @@ static void misuse_path(void) {
   }
   misuse_stations();
   misuse_counts();
+  misuse_addresses();
   misuse_joins();
   misuse_rates();
   misuse_clock();
@@ -341,7 +362,7 @@ static void misuse_cell(void) {
 
 /* Numbers that stand for nothing. */
 static void misuse_names(void) {
-  static const int32_t NONE[] = {-1, 28, 39, 44, 50, 59, 100, 117, INT32_MAX, INT32_MIN};
+  static const int32_t NONE[] = {-1, 28, 39, 45, 50, 59, 100, 117, INT32_MAX, INT32_MIN};
   size_t i;
   for (i = 0; i < sizeof NONE / sizeof *NONE; i++) {
     char name[WF_NAME] = {0};

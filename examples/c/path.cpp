@@ -37,6 +37,16 @@ void open_station(wf::Path &path, std::uint16_t station, std::uint8_t mcs, int f
   }
 }
 
+/* The path gets a real address for the access point. */
+void name_access_point(wf::Path &path) {
+  const std::uint8_t address[6] = {0x00, 0x00, 0x5e, 0x00, 0x53, 0x00};
+  std::uint8_t told[6] = {};
+  want(path.set_base(address), "set_base");
+  path.base(told);
+  std::printf("the access point has the address %02x:%02x:%02x:%02x:%02x:%02x\n", told[0], told[1], told[2], told[3], told[4],
+              told[5]);
+}
+
 /* The bits of a BlockAck that tells of all frames of an exchange but the one of this id. */
 void answer_bits(const wf_frames &frames, std::uint64_t lost, std::uint8_t (&bits)[32]) {
   for (std::uint16_t i = 0; i < frames.count; i++) {
@@ -93,6 +103,7 @@ int main() {
   std::printf("moved: the old one %s, the new one %s\n", made->holds() ? "holds" : "is empty",
               path.holds() ? "holds" : "is empty");
 
+  name_access_point(path);
   open_station(path, 0, 7, 3);
   open_station(path, 1, 0, 2);
   std::uint64_t lost = 1;

@@ -84,6 +84,17 @@ class Path {
   /* Whether it holds a path: false where it was moved from. */
   bool holds() const { return holds_; }
 
+  /* Addresses: the access point's, and the stations'. */
+
+  [[nodiscard]] std::int32_t set_base(const std::uint8_t (&address)[6]) { return wf_path_set_base(&handle_, address); }
+  [[nodiscard]] std::int32_t set_address(std::uint16_t station, const std::uint8_t (&address)[6]) {
+    return wf_path_set_address(&handle_, station, address);
+  }
+  void base(std::uint8_t (&out)[6]) const { wf_path_base(&handle_, out); }
+  [[nodiscard]] std::int32_t address(std::uint16_t station, std::uint8_t (&out)[6]) const {
+    return wf_path_address(&handle_, station, out);
+  }
+
   /* Calls of the machine: each writes its answer to `reply`, and gives WF_OK or the refusal. */
 
   [[nodiscard]] std::int32_t join(std::uint16_t station, std::uint16_t window, std::uint16_t start,

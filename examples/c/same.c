@@ -34,6 +34,7 @@ struct session {
 };
 
 static struct wf_path path;
+static uint8_t base[6] = {0x02}, addresses[STATIONS][6];
 static struct wf_reply reply;
 static struct exchange exchanges[OPEN];
 static int open_count;
@@ -143,12 +144,34 @@ static int has_source(uint32_t flow, const uint8_t source[6]) {
   return memcmp(source, flow % 4 ? wanted : MADE_UP, 6) == 0;
 }
 
+/* Names an address of the access point or of a station, now and then a group's, or of a station that there is not. It is no call of
+ * the machine, so the trace has nothing of it. */
+static void call_address(void) {
+  uint8_t address[6] = {(uint8_t)below(256), 0, 0x5e, 0, 0x53, (uint8_t)below(256)}, told[6] = {0};
+  uint16_t s = (uint16_t)below(STATIONS + 1);
+  int32_t wanted = address[0] % 2 ? WF_BAD_ADDRESS : WF_OK;
+  if (below(4) == 0) {
+    if (wf_path_set_base(&path, address) != wanted) fail("another code of an address");
+    if (wanted == WF_OK) memcpy(base, address, 6);
+  } else if (s == STATIONS) {
+    if (wf_path_set_address(&path, s, address) != WF_BAD_STATION) fail("an address of no station");
+    if (wf_path_address(&path, s, told) != WF_BAD_STATION) fail("an address of no station is told");
+  } else {
+    if (wf_path_set_address(&path, s, address) != wanted) fail("another code of an address");
+    if (wanted == WF_OK) memcpy(addresses[s], address, 6);
+    if (wf_path_address(&path, s, told) || memcmp(told, addresses[s], 6)) fail("another address is told");
+  }
+  wf_path_base(&path, told);
+  if (memcmp(told, base, 6)) fail("another address of the access point");
+}
+
 /* Compares the header alone and the tag of a transmission with its octets: the station's number stands in both. */
 static void look_at_parts(const struct exchange *x, uint16_t index) {
   uint8_t whole[WF_GREATEST_MPDU] = {0}, header[WF_HEADER] = {0};
   size_t size = 0;
   uint64_t tag = 0;
   if (wf_path_mpdu(&path, x->number, index, whole, sizeof whole, &size)) fail("no octets");
+  if (memcmp(whole + 4, addresses[x->station], 6) || memcmp(whole + 10, base, 6)) fail("another address on the air");
   if (wf_path_header(&path, x->number, index, header) || memcmp(header, whole, WF_HEADER)) fail("another header");
   if (wf_path_frame_tag(&path, x->number, index, &tag) || (tag & 0xffff) != (size - WF_HEADER)) fail("another tag on the air");
 }
@@ -245,6 +268,9 @@ static int32_t done_octets(const struct exchange *x, uint16_t start, const uint8
   if (wf_path_done_octets(&path, x->number, ack, length, air, &reply) != WF_WRONG_TID) fail("another TID is taken");
   if (wf_path_done_octets(&path, x->number, ack, length - 1, air, &reply) != WF_BLOCK_LENGTH) fail("a BlockAck cut short is taken");
   ack[17] = (uint8_t)(x->tid << 4);
+  ack[15] ^= 1;
+  if (wf_path_done_octets(&path, x->number, ack, length, air, &reply) != WF_NOT_MINE) fail("a BlockAck of another is taken");
+  ack[15] ^= 1;
   return wf_path_done_octets(&path, x->number, ack, length, air, &reply);
 }
 
@@ -346,6 +372,7 @@ static void call_other(uint16_t s) {
 static void call(void) {
   uint16_t s = (uint16_t)below(below(100) ? STATIONS : STATIONS + 1);
   uint32_t which = below(100);
+  if (below(50) == 0) call_address();
   if (which < 40) call_enqueue(s);
   else if (which < 58) call_pull();
   else if (which < 76) call_done();
@@ -402,6 +429,7 @@ static void write_settings(const struct wf_settings *settings) {
 
 static void open_path(void) {
   struct wf_settings settings = {0};
+  uint16_t s;
   wf_settings_standard(&settings);
   settings.stations = STATIONS;
   settings.flows = 5000;
@@ -420,6 +448,9 @@ static void open_path(void) {
   settings.charge = CHARGE;
   if (wf_path_make(&path, &settings)) fail("there is no path");
   write_settings(&settings);
+  for (s = 0; s < STATIONS; s++) {
+    if (wf_path_address(&path, s, addresses[s]) || addresses[s][3] != 1 || addresses[s][5] != s) fail("no made-up address");
+  }
 }
 
 /* The library is of the version that the header tells. */

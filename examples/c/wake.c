@@ -1,7 +1,8 @@
 /*
  * A driver over libwf as its author would write it, with a small model of a device. The device has a hardware queue for each class
  * and works by itself, on a thread that stands for its interrupts: it sends what lies in the queues, sends again what was lost on
- * the air, measures the airtime that all of it took, and makes the station's BlockAck. One lock stands before the path. Each
+ * the air, measures the airtime that all of it took, and makes the station's BlockAck. Access point and stations have addresses
+ * of their own, which the path is told. One lock stands before the path. Each
  * packet lies in a buffer of a pool, which the packet's tag names, and which is free again when the frame comes back. The upper
  * queue, from which packets come, is stopped while many frames of a station's TID are queued or no buffer is free, and woken
  * when it may go on.
@@ -19,6 +20,7 @@ enum { STATIONS = 4, CLASSES = 4, DEPTH = 2, PACKETS = 4000, BUFFERS = 512, STOP
 struct job {
   uint64_t exchange;
   uint32_t air; /* what sending it once takes */
+  uint16_t station;
   uint16_t count;
   uint8_t request;
   uint8_t tid;
@@ -62,6 +64,14 @@ struct driver {
 /* In the place of a station. */
 static const uint16_t NOBODY = UINT16_MAX;
 
+/* The address of the access point, and that of the first station; each further station's is one more. */
+static const uint8_t BASE[6] = {0x00, 0x00, 0x5e, 0x00, 0x53, 0x00}, FIRST[6] = {0x00, 0x00, 0x5e, 0x00, 0x53, 0x10};
+
+static void write_address(uint16_t station, uint8_t address[6]) {
+  memcpy(address, FIRST, 6);
+  address[5] = (uint8_t)(address[5] + station);
+}
+
 static uint32_t next_random(uint32_t *random) {
   *random = *random * 1664525u + 1013904223u;
   return *random >> 16;
@@ -75,17 +85,24 @@ static unsigned number_at(const uint8_t *octets) { return (unsigned)(octets[0] |
 static void start_answer(const struct job *job, uint8_t answer[28]) {
   memset(answer, 0, 28);
   answer[0] = 0x94;
-  memcpy(answer + 4, job->head + 10, 6); /* to who sends */
-  memcpy(answer + 10, job->head + 4, 6); /* from who receives */
-  answer[16] = 0x04;                     /* compressed */
+  memcpy(answer + 4, BASE, 6);
+  write_address(job->station, answer + 10); /* the station's own, whatever it was sent to */
+  answer[16] = 0x04;                        /* compressed */
   answer[17] = (uint8_t)(job->tid << 4);
   memcpy(answer + 18, job->head + (job->request ? 18 : 22), 2);
+}
+
+/* Whether a job goes from the access point to its station: others would not hear it. */
+static int is_addressed(const struct job *job) {
+  uint8_t own[6];
+  write_address(job->station, own);
+  return memcmp(job->head + 4, own, 6) == 0 && memcmp(job->head + 10, BASE, 6) == 0;
 }
 
 /* Sends a job once; what arrives is told in the answer. Gives whether the answer came back. */
 static int send_once(const struct job *job, uint8_t answer[28], uint32_t *random) {
   int i, any = 0;
-  for (i = 0; i < job->count; i++) {
+  for (i = 0; i < job->count && is_addressed(job); i++) {
     unsigned offset;
     if (next_random(random) % 8 == 0) continue;
     any = 1;
@@ -121,6 +138,7 @@ static int hand_over(struct driver *driver, int access, const struct wf_reply *r
   if (wf_path_mpdu(&driver->path, reply->exchange, 0, octets, sizeof octets, &size)) return 0;
   job->exchange = reply->exchange;
   job->air = reply->air;
+  job->station = sent.station;
   job->count = sent.count;
   job->request = sent.request;
   job->tid = sent.tid;
@@ -277,9 +295,18 @@ static int take_packet(struct driver *driver, uint16_t station, uint8_t tid) {
 
 /* ---- the program */
 
+/* A station joins, with its own address. */
+static int open_station(struct wf_path *path, uint16_t station) {
+  struct wf_reply reply = {0};
+  uint8_t address[6];
+  write_address(station, address);
+  if (wf_path_set_address(path, station, address)) return 0;
+  if (wf_path_join(path, station, 64, 0, 3, 1, &reply)) return 0;
+  return wf_path_rate_he(path, station, (uint8_t)(2 * station + 1), 20, 800, 1, &reply) == WF_OK;
+}
+
 static int open_driver(struct driver *driver) {
   struct wf_settings settings = {0};
-  struct wf_reply reply = {0};
   uint16_t station, number;
   memset(driver, 0, sizeof *driver);
   for (number = 0; number < BUFFERS; number++) {
@@ -292,10 +319,9 @@ static int open_driver(struct driver *driver) {
   settings.stations = STATIONS;
   settings.inflight = DEPTH + 1; /* one more is on the air */
   settings.charge = LONGEST;     /* the device tells what it has measured */
-  if (wf_path_make(&driver->path, &settings)) return 0;
+  if (wf_path_make(&driver->path, &settings) || wf_path_set_base(&driver->path, BASE)) return 0;
   for (station = 0; station < STATIONS; station++) {
-    if (wf_path_join(&driver->path, station, 64, 0, 3, 1, &reply)) return 0;
-    if (wf_path_rate_he(&driver->path, station, (uint8_t)(2 * station + 1), 20, 800, 1, &reply)) return 0;
+    if (!open_station(&driver->path, station)) return 0;
   }
   return 1;
 }

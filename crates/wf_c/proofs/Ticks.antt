@@ -92,18 +92,18 @@ small_kept v u w bodies after c one other low small =
 
 -- ---- of what a handle holds
 
-module _ (h k : Held) (by : ℕ) (shown : Reply) (p : IsPath h.path) (short : by ≤ greatest_tick)
+module _ (h k : Held) (by : ℕ) (shown : Reply) (p : IsPath h.path.half) (short : by ≤ greatest_tick)
     (called : IsCalled h (Tick by) k shown) where
-  after : (w : World) (bodies : ℕ → FrameValue) → StandsFor h.path w bodies →
-      StandsFor k.path (at_time w (w.clock + by)) bodies
-  after w bodies stands = subst (λ (o : Outcome). StandsFor k.path o.world bodies) (step_tick w by short)
+  after : (w : World) (bodies : ℕ → FrameValue) → StandsFor h.path.half w bodies →
+      StandsFor k.path.half (at_time w (w.clock + by)) bodies
+  after w bodies stands = subst (λ (o : Outcome). StandsFor k.path.half o.world bodies) (step_tick w by short)
       (called.meets w bodies stands).stands
 
-  time : h.path.clock ≡ p.world.clock
+  time : h.path.half.clock ≡ p.world.clock
   time = p.stands.parts.others.clock
 
-  told : k.answer.brief ≡ brief.Ticked (h.path.clock + by)
-  told = ticked_only k.answer.brief k.answer.pairs k.answer.ids (h.path.clock + by)
+  told : k.answer.brief ≡ brief.Ticked (h.path.half.clock + by)
+  told = ticked_only k.answer.brief k.answer.pairs k.answer.ids (h.path.half.clock + by)
       ((called.meets p.world p.bodies p.stands).reply
       ∙ ap (λ (o : Outcome). o.reply) (step_tick p.world by short)
       ∙ ap (λ (n : ℕ). reply.Ticked (n + by)) (sym time))
@@ -112,27 +112,30 @@ module _ (h k : Held) (by : ℕ) (shown : Reply) (p : IsPath h.path) (short : by
   ticked = record {
     stands = after;
     clock = (after p.world p.bodies p.stands).parts.others.clock ∙ ap (λ (n : ℕ). n + by) (sym time);
-    small = λ low small. small_kept h.path k.path p.world p.bodies p.bodies (p.world.clock + by) p.stands
-        (after p.world p.bodies p.stands) (subst (λ (n : ℕ). n + by < 2 ^ 62) time low) small;
+    small = λ low small. small_kept h.path.half k.path.half p.world p.bodies p.bodies (p.world.clock + by)
+        p.stands (after p.world p.bodies p.stands) (subst (λ (n : ℕ). n + by < 2 ^ 62) time low) small;
+    addresses = called.addresses;
     path = called.path;
     shows = called.shows ∙ ap numbers_of told;
   }
 
 -- h was moved some of the way: what is left of it
 pub record IsOnTheWay (h k : Held) (left now : ℕ) : Type 0 where
-  pub sum : k.path.clock + left ≡ now
-  pub small : IsSmall k.path
-  pub path : IsPath k.path
-  pub stands : (w : World) (bodies : ℕ → FrameValue) → StandsFor h.path w bodies →
-      StandsFor k.path (at_time w k.path.clock) bodies
+  pub sum : k.path.half.clock + left ≡ now
+  pub small : IsSmall k.path.half
+  pub path : IsPath k.path.half
+  pub addresses : k.path.addresses ≡ h.path.addresses
+  pub stands : (w : World) (bodies : ℕ → FrameValue) → StandsFor h.path.half w bodies →
+      StandsFor k.path.half (at_time w k.path.half.clock) bodies
 
-pub begun : (h : Held) (now : ℕ) → h.path.clock ≤ now → IsSmall h.path → IsPath h.path →
-    IsOnTheWay h h (now - h.path.clock) now
+pub begun : (h : Held) (now : ℕ) → h.path.half.clock ≤ now → IsSmall h.path.half → IsPath h.path.half →
+    IsOnTheWay h h (now - h.path.half.clock) now
 begun h now later small path = record {
   sum = omega (arith, later);
   small = small;
   path = path;
-  stands = λ w bodies stands. subst (λ (n : ℕ). StandsFor h.path (at_time w n) bodies)
+  addresses = refl;
+  stands = λ w bodies stands. subst (λ (n : ℕ). StandsFor h.path.half (at_time w n) bodies)
       (sym stands.parts.others.clock) stands;
 }
 
@@ -142,15 +145,17 @@ further h k m left now by shown way short near ticked = record {
   sum = omega (arith, way.sum, short, ticked.clock);
   small = ticked.small (omega (arith, way.sum, short, near)) way.small;
   path = ticked.path;
-  stands = λ w bodies stands. subst (λ (n : ℕ). StandsFor m.path (at_time w n) bodies) (sym ticked.clock)
-      (ticked.stands (at_time w k.path.clock) bodies (way.stands w bodies stands));
+  addresses = ticked.addresses ∙ way.addresses;
+  stands = λ w bodies stands. subst (λ (n : ℕ). StandsFor m.path.half (at_time w n) bodies) (sym ticked.clock)
+      (ticked.stands (at_time w k.path.half.clock) bodies (way.stands w bodies stands));
 }
 
 pub arrived : (h k m : Held) (left now : ℕ) (shown : Reply) → IsOnTheWay h k left now →
     IsTicked k left m shown → IsMovedTo h now m shown
 arrived h k m left now shown way ticked = record {
-  stands = λ w bodies stands. subst (λ (n : ℕ). StandsFor m.path (at_time w n) bodies) way.sum
-      (ticked.stands (at_time w k.path.clock) bodies (way.stands w bodies stands));
+  stands = λ w bodies stands. subst (λ (n : ℕ). StandsFor m.path.half (at_time w n) bodies) way.sum
+      (ticked.stands (at_time w k.path.half.clock) bodies (way.stands w bodies stands));
   path = ticked.path;
+  addresses = ticked.addresses ∙ way.addresses;
   shows = ticked.shows ∙ ap (λ (n : ℕ). numbers_of (brief.Ticked n)) way.sum;
 }

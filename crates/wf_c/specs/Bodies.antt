@@ -62,11 +62,12 @@ pub record IsUntouched {X : Type 0} (old new : X) (before shown : Reply) (code :
 
 -- What a call that brings frame f leaves of h, and what the caller's struct then shows.
 pub record IsGivenToC (h : Held) (f : FrameValue) (k : Held) (shown : Reply) : Type 0 where
-  pub meets : (w : World) (bodies : ℕ → FrameValue) → StandsFor h.path w bodies →
-      Meets w (bodies_after h.path (Give f) (reply_of k.answer) bodies) (enqueue_of f) k.path
+  pub meets : (w : World) (bodies : ℕ → FrameValue) → StandsFor h.path.half w bodies →
+      Meets w (bodies_after h.path.half (Give f) (reply_of k.answer) bodies) (enqueue_of f) k.path.half
       (reply_of k.answer)
   pub refused : changes_nothing (reply_of k.answer) ≡ true → k.path ≡ h.path
-  pub path : IsPath k.path
+  pub addresses : k.path.addresses ≡ h.path.addresses
+  pub path : IsPath k.path.half
   pub shows : shown ≡ numbers_of k.answer.brief
 
 -- ---- frames that are taken back
@@ -109,5 +110,5 @@ ShowsBack (Some f) was before taken buffer = ShowsFrame f taken before buffer
 pub record IsReapedFromC (h k : Held) (shown : Reply) (was : Taken) (before : List ℕ)
     (taken : Taken) (buffer : List ℕ) : Type 0 where
   pub called : IsCalled h Reap k shown
-  pub back : (w : World) (bodies : ℕ → FrameValue) → StandsFor h.path w bodies →
+  pub back : (w : World) (bodies : ℕ → FrameValue) → StandsFor h.path.half w bodies →
       ShowsBack (frame_given_back bodies (Call Reap) (reply_of k.answer)) was before taken buffer

@@ -6,6 +6,7 @@ use Rattle.wf_frame.specs.declared.notes.Ask.{Ask}
 use Rattle.wf_frame.specs.declared.notes.Note.TheVariants.{Asked}
 use Rattle.wf_def_world.specs.World.{World}
 use Rattle.wf_send_half_refines.specs.Standing.{StandsFor, Meets}
+use Rattle.wf_path.specs.Addresses.{Addresses, made_up}
 use Rattle.wf_path.specs.Jobs.{changes_nothing}
 use Rattle.wf_path.specs.Paths.{IsPath, IsSmall}
 use Rattle.wf_c.specs.Numbers.{numbers_of}
@@ -15,12 +16,17 @@ use Rattle.wf_c.specs.declared.reply.Reply.{Reply}
 -- what the handle holds stands for world w
 abbrev pub HoldsFor : Option Held → World → (ℕ → FrameValue) → Type 0
 HoldsFor None w bodies = ⊥
-HoldsFor (Some h) w bodies = StandsFor h.path w bodies
+HoldsFor (Some h) w bodies = StandsFor h.path.half w bodies
 
 -- the handle holds a path whose counts and sums are below 2^62
 abbrev pub HoldsSmall : Option Held → Type 0
 HoldsSmall None = ⊥
-HoldsSmall (Some h) = IsSmall h.path
+HoldsSmall (Some h) = IsSmall h.path.half
+
+-- the addresses of the path that the handle holds; the made-up ones where it holds none
+abbrev pub addresses_held : Option Held → Addresses
+addresses_held None = made_up
+addresses_held (Some h) = h.path.addresses
 
 -- the handle holds something before and after, and R says what became of it
 abbrev pub Becomes : (Held → Held → Type 0) → Option Held → Option Held → Type 0
@@ -29,12 +35,14 @@ Becomes R _ _ = ⊥
 
 -- What a call that brings no frame leaves of h, and what the caller's struct then shows.
 --
---   meets    for each world that the path stood for, it is the machine's step, with the machine's reply
---   refused  a refused call changes nothing, but for a pull that finds nobody ready
---   shows    the struct shows the reply
+--   meets      for each world that the path stood for, it is the machine's step, with the machine's reply
+--   refused    a refused call changes nothing, but for a pull that finds nobody ready
+--   addresses  they stay
+--   shows      the struct shows the reply
 pub record IsCalled (h : Held) (ask : Ask) (k : Held) (shown : Reply) : Type 0 where
-  pub meets : (w : World) (bodies : ℕ → FrameValue) → StandsFor h.path w bodies →
-      Meets w bodies (Asked ask) k.path (reply_of k.answer)
+  pub meets : (w : World) (bodies : ℕ → FrameValue) → StandsFor h.path.half w bodies →
+      Meets w bodies (Asked ask) k.path.half (reply_of k.answer)
   pub refused : changes_nothing (reply_of k.answer) ≡ true → k.path ≡ h.path
-  pub path : IsPath k.path
+  pub addresses : k.path.addresses ≡ h.path.addresses
+  pub path : IsPath k.path.half
   pub shows : shown ≡ numbers_of k.answer.brief

@@ -16,29 +16,32 @@ at_time w clock = record w { clock = clock }
 
 -- What a tick that is not refused leaves of h, and what the caller's struct then shows.
 --
---   stands  it stands for the worlds that it stood for, at the later time
---   clock   its own clock is later by as much
---   small   its counts are small where the later time is
---   shows   the struct shows the time
+--   stands     it stands for the worlds that it stood for, at the later time
+--   clock      its own clock is later by as much
+--   small      its counts are small where the later time is
+--   addresses  they stay
+--   shows      the struct shows the time
 pub record IsTicked (h : Held) (by : ℕ) (k : Held) (shown : Reply) : Type 0 where
-  pub stands : (w : World) (bodies : ℕ → FrameValue) → StandsFor h.path w bodies →
-      StandsFor k.path (at_time w (w.clock + by)) bodies
-  pub clock : k.path.clock ≡ h.path.clock + by
-  pub small : h.path.clock + by < 2 ^ 62 → IsSmall h.path → IsSmall k.path
-  pub path : IsPath k.path
-  pub shows : shown ≡ numbers_of (Ticked (h.path.clock + by))
+  pub stands : (w : World) (bodies : ℕ → FrameValue) → StandsFor h.path.half w bodies →
+      StandsFor k.path.half (at_time w (w.clock + by)) bodies
+  pub clock : k.path.half.clock ≡ h.path.half.clock + by
+  pub small : h.path.half.clock + by < 2 ^ 62 → IsSmall h.path.half → IsSmall k.path.half
+  pub addresses : k.path.addresses ≡ h.path.addresses
+  pub path : IsPath k.path.half
+  pub shows : shown ≡ numbers_of (Ticked (h.path.half.clock + by))
 
 -- What moving the clock to a time leaves of h, and what the caller's struct then shows: the ticks answer as
 -- one.
 pub record IsMovedTo (h : Held) (now : ℕ) (k : Held) (shown : Reply) : Type 0 where
-  pub stands : (w : World) (bodies : ℕ → FrameValue) → StandsFor h.path w bodies →
-      StandsFor k.path (at_time w now) bodies
-  pub path : IsPath k.path
+  pub stands : (w : World) (bodies : ℕ → FrameValue) → StandsFor h.path.half w bodies →
+      StandsFor k.path.half (at_time w now) bodies
+  pub addresses : k.path.addresses ≡ h.path.addresses
+  pub path : IsPath k.path.half
   pub shows : shown ≡ numbers_of (Ticked now)
 
 -- The clock is moved to a time that is not before its own and below 2^62; else nothing changes, and the
 -- struct shows the refusal of a tick.
 pub record IsAdvanced (h : Held) (now : ℕ) (k : Held) (shown : Reply) : Type 0 where
-  pub moved : h.path.clock ≤ now → now < 2 ^ 62 → IsMovedTo h now k shown
-  pub earlier : now < h.path.clock → (k ≡ h) × (shown ≡ numbers_of (Refused BadTick))
+  pub moved : h.path.half.clock ≤ now → now < 2 ^ 62 → IsMovedTo h now k shown
+  pub earlier : now < h.path.half.clock → (k ≡ h) × (shown ≡ numbers_of (Refused BadTick))
   pub large : 2 ^ 62 ≤ now → (k ≡ h) × (shown ≡ numbers_of (Refused BadTick))

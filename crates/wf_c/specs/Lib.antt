@@ -1,3 +1,4 @@
+pub mod Addresses
 pub mod Bodies
 pub mod CallNumbers
 pub mod Calls

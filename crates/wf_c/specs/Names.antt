@@ -65,7 +65,7 @@ block_word = word_among block_rows
 abbrev pub own_rows : List (ℕ × List ℕ)
 own_rows =
     (0, codes "ok") ∷ (40, codes "no-memory") ∷ (41, codes "bad-length") ∷ (42, codes "small-buffer") ∷
-    (43, codes "bad-call") ∷ []
+    (43, codes "bad-call") ∷ (44, codes "bad-address") ∷ []
 
 abbrev pub own_word : ℕ → List ℕ
 own_word = word_among own_rows

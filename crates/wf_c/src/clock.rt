@@ -20,8 +20,8 @@ const LARGE: u64 = 1 << 62;
 impl Held {
     // The clock moves on to `now`, by as many ticks as it takes.
     fn move_to(&mut self, now: u64) -> Reply
-        requires small { IsSmall self.old.path }
-        requires later { self.old.path.clock ≤ now }
+        requires small { IsSmall self.old.path.half }
+        requires later { self.old.path.half.clock ≤ now }
         requires near { now < 2 ^ 62 }
         ensures { IsMovedTo self.old now self.new result }
     {
@@ -36,7 +36,7 @@ impl Held {
 
     // The clock moves on by this.
     fn tick(&mut self, by: u32) -> Reply
-        requires small { IsSmall self.old.path }
+        requires small { IsSmall self.old.path.half }
         requires short { by ≤ greatest_tick }
         ensures { IsTicked self.old by self.new result }
     {
@@ -46,7 +46,7 @@ impl Held {
 
     // The clock moves on to `now`, or it is refused.
     fn advance(&mut self, now: u64) -> Reply
-        requires small { IsSmall self.old.path }
+        requires small { IsSmall self.old.path.half }
         ensures { IsAdvanced self.old now self.new result }
     {
         if now < self.path.now() || LARGE <= now {

@@ -12,7 +12,7 @@ ghost use Rattle.wf_path.specs.Transmissions.{sent_of, id_sent, tag_sent, octets
 ghost use Rattle.wf_path.specs.Writing.{write_fault, write_header_fault};
 ghost use Rattle.wf_path.specs.Driver.{end_fault};
 ghost use Rattle.wf_path.specs.Paths.{IsSmall};
-ghost use Rattle.wf_c.specs.Calls.{Becomes, HoldsFor, HoldsSmall};
+ghost use Rattle.wf_c.specs.Calls.{Becomes, HoldsFor, HoldsSmall, addresses_held};
 ghost use Rattle.wf_c.specs.Ends.{IsExchangeEnded, end_code, id_code, needs, octets_code, sent_code, sent_shown, write_code};
 ghost use Rattle.wf_c.specs.Numbers.{named_air};
 
@@ -137,7 +137,7 @@ pub extern "C" fn wf_path_header(
     ensures code { (w : World) (bodies : ℕ → FrameValue) → HoldsFor path.old.value w bodies →
         result ≡ pos (write_code (write_header_fault w exchange index)) }
     ensures octets { (w : World) (bodies : ℕ → FrameValue) → HoldsFor path.old.value w bodies →
-        result ≡ pos 0 → header_sent w bodies exchange index ≡ Some out.new }
+        result ≡ pos 0 → header_sent (addresses_held path.old.value) w bodies exchange index ≡ Some out.new }
     ensures kept { (result ≡ pos 0) ⊎ (out.new ≡ out.old) }
     ensures unchanged { path.new.value ≡ path.old.value }
 {
@@ -162,15 +162,17 @@ pub extern "C" fn wf_path_mpdu(
 ) -> i32
     requires open { is_some path.old.value ≡ true }
     ensures code { (w : World) (bodies : ℕ → FrameValue) → HoldsFor path.old.value w bodies →
-        result ≡ pos (write_code (write_fault w bodies exchange index (length out.old))) }
+        result ≡ pos (write_code (write_fault (addresses_held path.old.value) w bodies exchange index
+        (length out.old))) }
     ensures octets { (w : World) (bodies : ℕ → FrameValue) → HoldsFor path.old.value w bodies →
         result ≡ pos 0 →
-        octets_sent w bodies exchange index ≡ Some (take size.new out.new) }
+        octets_sent (addresses_held path.old.value) w bodies exchange index ≡ Some (take size.new out.new) }
     ensures within { result ≡ pos 0 → size.new ≤ length out.new }
     ensures rest { result ≡ pos 0 → drop size.new out.new ≡ drop size.new out.old }
     ensures fault { (result ≡ pos 0) ⊎ (out.new ≡ out.old) }
     ensures need { (w : World) (bodies : ℕ → FrameValue) → HoldsFor path.old.value w bodies →
-        needs (write_fault w bodies exchange index (length out.old)) size.old size.new }
+        needs (write_fault (addresses_held path.old.value) w bodies exchange index (length out.old))
+        size.old size.new }
     ensures unchanged { path.new.value ≡ path.old.value }
 {
     match path.held().path.mpdu(exchange, index, out) {
@@ -200,7 +202,7 @@ pub(crate) fn named_air(air: u32) -> Option<u32>
 impl Held {
     // An exchange ends.
     fn end(&mut self, exchange: u64, heard: Option<(Seq12, Bits256)>, air: Option<u32>) -> Reply
-        requires small { IsSmall self.old.path }
+        requires small { IsSmall self.old.path.half }
         ensures { IsExchangeEnded self.old exchange heard air self.new result }
     {
         self.answer.brief = self.path.done_bits(exchange, heard, air);
@@ -209,8 +211,8 @@ impl Held {
 
     // Whether the end of an exchange may not name this airtime.
     fn is_bad_air(&self, air: Option<u32>) -> bool
-        ensures value { result ≡ is_bad_air self.now.path.config air }
-        ensures world { (w : World) (bodies : ℕ → FrameValue) → StandsFor self.now.path w bodies →
+        ensures value { result ≡ is_bad_air self.now.path.half.config air }
+        ensures world { (w : World) (bodies : ℕ → FrameValue) → StandsFor self.now.path.half w bodies →
             result ≡ is_bad_air w.config air }
     {
         match air {
@@ -221,13 +223,13 @@ impl Held {
 
     // An exchange ends by the octets of a BlockAck.
     fn end_by(&mut self, exchange: u64, octets: &[u8], air: Option<u32>) -> Result<Reply, DoneFault>
-        requires small { IsSmall self.old.path }
-        ensures fault { (w : World) (bodies : ℕ → FrameValue) → StandsFor self.old.path w bodies →
-            result_err result ≡ end_fault w exchange (Some octets.now) }
+        requires small { IsSmall self.old.path.half }
+        ensures fault { (w : World) (bodies : ℕ → FrameValue) → StandsFor self.old.path.half w bodies →
+            result_err result ≡ end_fault self.old.path.addresses w exchange (Some octets.now) }
         ensures unchanged { OnErr result (self.new.path ≡ self.old.path) }
         ensures ended { IfOk result (λ shown. IsExchangeEnded self.old exchange
             (Some (block_ack_in octets.now)) air self.new shown) }
-        ensures refused { is_bad_air self.old.path.config air ≡ true → self.new.path ≡ self.old.path }
+        ensures refused { is_bad_air self.old.path.half.config air ≡ true → self.new.path ≡ self.old.path }
     {
         self.answer.brief = self.path.done_bytes(exchange, Some(octets), air)?;
         Ok(Reply::of(self.answer.brief))
@@ -308,7 +310,7 @@ pub extern "C" fn wf_path_done_octets(
     requires open { is_some path.old.value ≡ true }
     requires small { HoldsSmall path.old.value }
     ensures code { (w : World) (bodies : ℕ → FrameValue) → HoldsFor path.old.value w bodies →
-        result ≡ pos (octets_code (end_fault w exchange (Some octets.now))
+        result ≡ pos (octets_code (end_fault (addresses_held path.old.value) w exchange (Some octets.now))
         (is_bad_air w.config (named_air air))) }
     ensures ended { (result ≡ pos 0 → Becomes
         (λ h k. IsExchangeEnded h exchange (Some

@@ -94,7 +94,7 @@ pub(crate) fn frame_of(alloc: Global, station: u16, packet: &Packet) -> Result<P
 impl Held {
     // A frame comes in. Where it is refused it is freed.
     fn give(&mut self, parcel: Parcel) -> Reply
-        requires small { IsSmall self.old.path }
+        requires small { IsSmall self.old.path.half }
         ensures { IsGivenToC self.old parcel self.new result }
     {
         let _ = self.path.call(Job::Give(parcel), &mut self.answer);
@@ -105,7 +105,7 @@ impl Held {
 impl Held {
     // Takes the first finished frame back.
     fn reap(&mut self, taken: &mut Taken, body: &mut [u8]) -> Reply
-        requires small { IsSmall self.old.path }
+        requires small { IsSmall self.old.path.half }
         ensures { IsReapedFromC self.old self.new result taken.old body.old taken.new body.new }
     {
         let back = self.path.call(Job::Call(Ask::Reap), &mut self.answer);

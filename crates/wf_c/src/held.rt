@@ -4,6 +4,7 @@ ghost use Rattle.std.specs.Prelude.{◌≡◌, ℕ, IfSome};
 ghost use Rattle.wf_frame.specs.Frames.{FrameValue};
 ghost use Rattle.wf_def_world.specs.World.{opening};
 ghost use Rattle.wf_send_half_refines.specs.Standing.{StandsFor};
+ghost use Rattle.wf_path.specs.Addresses.{made_up};
 ghost use Rattle.wf_path.specs.Jobs.{IsHeard};
 ghost use Rattle.wf_path.specs.Paths.{IsSmall};
 ghost use Rattle.wf_path.specs.declared.job.Job.TheVariants.{Call};
@@ -26,8 +27,9 @@ impl Held {
     // no memory.
     pub(crate) fn made(alloc: Global, config: Config) -> Option<Box<Held, Global>>
         ensures stands { IfSome result (λ made. (bodies : ℕ → FrameValue) →
-            StandsFor made.value.path (opening config) bodies) }
-        ensures small { IfSome result (λ made. IsSmall made.value.path) }
+            StandsFor made.value.path.half (opening config) bodies) }
+        ensures small { IfSome result (λ made. IsSmall made.value.path.half) }
+        ensures addresses { IfSome result (λ made. made.value.path.addresses ≡ made_up) }
     {
         match Path::new(alloc, config) {
             Ok(path) => Held::boxed(alloc, path),
@@ -49,7 +51,7 @@ impl Held {
     // Makes a call that brings no frame, but for a reap.
     pub(crate) fn ask(&mut self, ask: Ask) -> Reply
         requires heard { IsHeard (Call ask) }
-        requires small { IsSmall self.old.path }
+        requires small { IsSmall self.old.path.half }
         ensures { IsCalled self.old ask self.new result }
     {
         let _ = self.path.call(Job::Call(ask), &mut self.answer);

@@ -7,6 +7,7 @@
 //! without a frame is a struct of numbers, and so is an entry of its history.
 #![tactic(auto)]
 
+mod addresses;
 mod asks;
 mod cell;
 mod clock;
@@ -23,6 +24,7 @@ mod settings;
 mod slot;
 mod version;
 
+pub use addresses::{wf_path_address, wf_path_base, wf_path_set_address, wf_path_set_base};
 pub use asks::{
     wf_path_join, wf_path_leave, wf_path_poll, wf_path_pull, wf_path_rate, wf_path_rate_he,
     wf_path_rate_vht, wf_path_rx, wf_path_sleep, wf_path_tick, wf_path_wake,

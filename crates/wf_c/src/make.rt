@@ -3,7 +3,8 @@
 ghost use Rattle.std.specs.Prelude.{◌≡◌, ◌⊎◌, ℕ, None, true, is_some, pos};
 ghost use Rattle.wf_frame.specs.Frames.{FrameValue};
 ghost use Rattle.wf_def_world.specs.World.{opening};
-ghost use Rattle.wf_c.specs.Calls.{HoldsFor, HoldsSmall};
+ghost use Rattle.wf_path.specs.Addresses.{made_up};
+ghost use Rattle.wf_c.specs.Calls.{HoldsFor, HoldsSmall, addresses_held};
 ghost use Rattle.wf_c.specs.Making.{IsMadeCode, bad_place, config_of};
 
 use crate::held::Held;
@@ -17,9 +18,9 @@ pub(crate) const NO_MEMORY: i32 = 40;
 /// What is added to the number of a setting that is out of its range.
 pub(crate) const BAD_SETTING: i32 = 100;
 
-/// Makes a path of these settings in a handle that holds nothing: no station is live, and no frame was
-/// accepted. Gives 0, or 100 and the place of the first setting that is out of its range, or 40 where there
-/// is no memory; then the handle holds nothing still.
+/// Makes a path of these settings in a handle that holds nothing: no station is live, no frame was accepted,
+/// and the addresses are made up. Gives 0, or 100 and the place of the first setting that is out of its
+/// range, or 40 where there is no memory; then the handle holds nothing still.
 #[unsafe(no_mangle)]
 pub extern "C" fn wf_path_make(alloc: Global, path: &mut PathSlot, settings: &Settings) -> i32
     requires empty { path.old.value ≡ None }
@@ -27,6 +28,7 @@ pub extern "C" fn wf_path_make(alloc: Global, path: &mut PathSlot, settings: &Se
     ensures stands { result ≡ pos 0 → (bodies : ℕ → FrameValue) →
         HoldsFor path.new.value (opening (config_of settings.now)) bodies }
     ensures small { result ≡ pos 0 → HoldsSmall path.new.value }
+    ensures addresses { result ≡ pos 0 → addresses_held path.new.value ≡ made_up }
     ensures nothing { (result ≡ pos 0) ⊎ (path.new.value ≡ None) }
 {
     if let Some(place) = settings.fault() {

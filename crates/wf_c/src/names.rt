@@ -102,7 +102,7 @@ fn word_of_block(code: u32) -> &'static [u8]
     }
 }
 
-// The word of a code beside them, 0 and 40 to 43.
+// The word of a code beside them, 0 and 40 to 44.
 fn word_of_own(code: u32) -> &'static [u8]
     ensures word { result.now ≡ own_word code }
     ensures short { length result.now ≤ 15 }
@@ -113,6 +113,7 @@ fn word_of_own(code: u32) -> &'static [u8]
         41 => b"bad-length",
         42 => b"small-buffer",
         43 => b"bad-call",
+        44 => b"bad-address",
         _ => UNKNOWN,
     }
 }

@@ -124,10 +124,10 @@ pub extern "C" fn wf_path_tally(path: &mut PathSlot, tally: &mut Tally)
 impl Held {
     // The airtime of a station in a class. None where the station is not live.
     fn share(&self, station: u16, class: Class) -> Option<Share>
-        ensures live { (w : World) (bodies : ℕ → FrameValue) → StandsFor self.now.path w bodies →
+        ensures live { (w : World) (bodies : ℕ → FrameValue) → StandsFor self.now.path.half w bodies →
             is_some result ≡ is_live w station }
         ensures shown { IfSome result (λ shown. (w : World) (bodies : ℕ → FrameValue) →
-            StandsFor self.now.path w bodies → ShowsShare w station class shown) }
+            StandsFor self.now.path.half w bodies → ShowsShare w station class shown) }
     {
         if !self.path.live(station) {
             return None;
@@ -190,9 +190,9 @@ pub(crate) enum NoSession {
 impl Held {
     // Whether something is told of a station's TID: the TID is one, and the station live.
     fn find_session(&self, station: u16, tid: u8) -> Result<(), NoSession>
-        ensures live { IfOk result (λ _. IsLive self.now.path station) }
+        ensures live { IfOk result (λ _. IsLive self.now.path.half station) }
         ensures tid { IfOk result (λ _. tid < 8) }
-        ensures fault { (w : World) (bodies : ℕ → FrameValue) → StandsFor self.now.path w bodies →
+        ensures fault { (w : World) (bodies : ℕ → FrameValue) → StandsFor self.now.path.half w bodies →
             result_err result ≡ session_fault w station tid }
     {
         if 7 < tid {
@@ -207,8 +207,8 @@ impl Held {
     // How many frames of a live station's TID are in flow queues.
     fn queued(&self, station: u16, tid: u8) -> Result<u32, NoSession>
         ensures shown { IfOk result (λ count. (w : World) (bodies : ℕ → FrameValue) →
-            StandsFor self.now.path w bodies → count ≡ frames_queued w station tid) }
-        ensures fault { (w : World) (bodies : ℕ → FrameValue) → StandsFor self.now.path w bodies →
+            StandsFor self.now.path.half w bodies → count ≡ frames_queued w station tid) }
+        ensures fault { (w : World) (bodies : ℕ → FrameValue) → StandsFor self.now.path.half w bodies →
             result_err result ≡ session_fault w station tid }
     {
         self.find_session(station, tid)?;
@@ -218,9 +218,9 @@ impl Held {
     // How many numbers of a live station's TID wait to be sent.
     fn waiting(&self, station: u16, tid: u8) -> Result<u32, NoSession>
         ensures shown { IfOk result (λ count. (w : World) (bodies : ℕ → FrameValue) →
-            StandsFor self.now.path w bodies →
+            StandsFor self.now.path.half w bodies →
             count ≡ length (waiting_numbers (session w station tid))) }
-        ensures fault { (w : World) (bodies : ℕ → FrameValue) → StandsFor self.now.path w bodies →
+        ensures fault { (w : World) (bodies : ℕ → FrameValue) → StandsFor self.now.path.half w bodies →
             result_err result ≡ session_fault w station tid }
     {
         self.find_session(station, tid)?;

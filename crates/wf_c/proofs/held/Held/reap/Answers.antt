@@ -9,6 +9,7 @@ returns c = record {
   called = record {
     meets = c.call-back.ensures.meets;
     refused = c.call-back.ensures.refused;
+    addresses = c.call-back.ensures.addresses;
     path = c.call-back.ensures.path;
     shows = c.of.ensures;
   };
