@@ -56,7 +56,7 @@ receive-requires-clause-addresses c =
     let w : World = c.requires.world in let bodies : ℕ → FrameValue = c.requires.bodies in
     let i = c.requires.is_in in let done = c.requires.arrives in
     let v : EngineValue = record {
-      half = c.self.inside.path;
+      half = c.self.inside.path.half;
       peers = c.self.inside.peers;
       marks =
           c.self.inside.marks;
