@@ -1,6 +1,7 @@
 -- Laws of lines that are looked at octet by octet.
 use Rattle.std.proofs.Common.{◌≡◌, ◌≢◌, ℕ, suc, ◌+◌, ◌-◌, ◌<◌, ◌≤◌, List, [], ◌∷◌, ◌++◌, length, take, drop, get_or, Bool, true, false, cond, nat_eq, refl, sym, ap, ◌∙◌, arith, length-append, append_assoc}
 use Rattle.std.specs.Prelude.{Option, Some, None, nat_lt, slice_index, slice_range, ◌||◌}
+use Rattle.std.specs.List.{list_all}
 use Rattle.std.proofs.lemmas.Bool.{eq-eqb}
 use Rattle.std.proofs.lemmas.Bool.Decides.{nat_tests}
 use Rattle.std.proofs.lemmas.List.{drop_more, drop-drop, length-take, length-drop, drop-take, get_or-take, get_or-drop}
@@ -11,7 +12,7 @@ use Rattle.wf_trace.specs.declared.fault.FaultKind.TheVariants.{TooBig, LongLine
 use Rattle.wf_trace.specs.declared.fault.End.TheVariants.{Flaw}
 use Rattle.wf_trace.specs.declared.scanner.Found.{Found}
 use Rattle.wf_trace.specs.declared.scanner.Found.TheVariants as found
-use Rattle.wf_trace.specs.Lines.{Texts, longest_trace, longest_line, flaw, before_texts, texts_of}
+use Rattle.wf_trace.specs.Lines.{Texts, longest_trace, longest_line, is_printable, flaw, before_texts, texts_of}
 use Rattle.wf_trace.specs.Scanning.{Scanning, Finds, Keeps, LineEndsAt, lines_behind, has_end, begins_word}
 
 -- the first of a part of a list
@@ -23,6 +24,26 @@ waiting_first xs i j octet le fits some is =
     let one : j - i ≡ suc (j - (i + 1)) = omega arith in
     let inside : i < length xs = omega arith in
     rw (one, drop_more xs i octet inside, ← is) refl
+
+-- the first octet that waits
+pub first_seen : (xs : List ℕ) (from to octet : ℕ) → from < to → to ≤ length xs →
+    octet ≡ get_or xs from octet → slice_range xs from to ≡ octet ∷ slice_range xs (from + 1) to
+first_seen xs from to octet some within is =
+    waiting_first xs from to octet (omega arith) within
+    (omega (arith, some, within, length-take (to - from) (drop from xs), length-drop from xs)) is
+
+-- what contracts see of a scanner with these fields
+abbrev pub seen : ℕ → List ℕ → List ℕ → ℕ → ℕ → Scanning
+seen looked line buffer from to =
+    record { looked = looked; line = line; waiting = slice_range buffer from to }
+
+-- a line in which nothing is wrong
+pub flaw_none : (end : ℕ) (octets : List ℕ) → end ≤ longest_trace → length octets ≤ longest_line →
+    list_all is_printable octets ≡ true → flaw end octets ≡ None
+flaw_none end octets within short plain =
+    let first : nat_lt longest_trace end ≡ false = grind (arith, nat_tests) in
+    let second : nat_lt longest_line (length octets) ≡ false = grind (arith, nat_tests) in
+    rw (first, second, plain) refl
 
 -- a line that is too long for the trace, and one that is too long
 abbrev pub stops : FaultKind → Texts

@@ -1,8 +1,8 @@
 -- Laws of the words of a line.
-use Rattle.std.proofs.Common.{◌≡◌, ◌≢◌, ℕ, zero, suc, ◌<◌, ◌≤◌, List, [], ◌∷◌, length, take, drop, get_or, Bool, true, false, cond, nat_eq, refl, ◌∙◌, ap, add-zero, arith}
+use Rattle.std.proofs.Common.{◌≡◌, ◌≢◌, ℕ, zero, suc, ◌+◌, ◌-◌, ◌<◌, ◌≤◌, List, [], ◌∷◌, length, take, drop, get_or, Bool, true, false, cond, nat_eq, refl, sym, ◌∙◌, ap, add-zero, arith}
 use Rattle.std.specs.Prelude.{filter, not, ◌&&◌}
 use Rattle.std.proofs.lemmas.Bool.Decides.{nat_tests}
-use Rattle.std.proofs.lemmas.List.{length-drop, length-take-le, get_or-drop}
+use Rattle.std.proofs.lemmas.List.{length-drop, length-take-le, get_or-drop, drop-drop, take_all, drop_all}
 use Rattle.wf_trace.specs.Scanning.{begins_word}
 use Rattle.wf_trace.specs.Words.{parts, in_front, words, is_word, skipped}
 
@@ -49,10 +49,31 @@ words_first line n within some before found =
     rw (whole, behind.1) (first_word line (take n line) behind.0
     (omega (arith, length-take-le n line within)))
 
-pub some_octets : (line : List ℕ) (n : ℕ) → 0 < length line → get_or line 0 0 ≢ 32 →
-    (n < length line → get_or line n 0 ≡ 32) → 0 < n
-some_octets line zero some first found = absurd (first (found some))
-some_octets line (suc n) some first found = omega arith
+-- octets between two places of a line, of which nothing in front says anything, are its first word
+pub word_between : (line : List ℕ) (from to : ℕ) → words line ≡ words (drop from line) → from < to →
+    to < length line → ((k : ℕ) → from ≤ k → k < to → get_or line k 0 ≢ 32) → get_or line to 0 ≡ 32 →
+    words line ≡ take (to - from) (drop from line) ∷ words (drop to line)
+word_between line from to same some within before found =
+    let back : from + (to - from) ≡ to = omega (arith, some) in
+    let behind : drop (to - from) (drop from line) ≡ drop to line =
+    drop-drop (to - from) from line ∙ ap (λ (n : ℕ). drop n line) back in
+    same ∙ words_first (drop from line) (to - from) (omega (arith, within, length-drop from line))
+    (omega (arith, some)) (λ k below is. before (from + k) (omega arith) (omega (arith, below, some))
+    (sym (get_or-drop from line k 0) ∙ is))
+    (λ more. get_or-drop from line (to - from) 0 ∙ rw back found)
+    ∙ ap (λ (l : List ℕ). take (to - from) (drop from line) ∷ words l)
+    behind
+
+-- and those up to its end are its only word
+pub word_at_end : (line : List ℕ) (from : ℕ) → words line ≡ words (drop from line) → from < length line →
+    ((k : ℕ) → from ≤ k → k < length line → get_or line k 0 ≢ 32) → words line ≡ drop from line ∷ []
+word_at_end line from same some before =
+    let len : ℕ = length (drop from line) in
+    let is_len = length-drop from line in
+    same ∙ words_first (drop from line) len (omega arith) (omega (arith, is_len, some))
+    (λ k below is. before (from + k) (omega arith) (omega (arith, below, is_len, some))
+    (sym (get_or-drop from line k 0) ∙ is)) (λ more. absurd (omega (arith, more)))
+    ∙ rw (take_all len (drop from line) (omega arith), drop_all len (drop from line) (omega arith)) refl
 
 -- a line that begins with an octet of a word that is no # is not skipped
 pub says_something : (line : List ℕ) → begins_word line ≡ true → skipped (words line) ≡ false

@@ -1,53 +1,15 @@
 //! The arguments of a line.
 
-ghost use Rattle.std.specs.Prelude.{◌≡◌, ◌+◌, ◌<◌, ◌≤◌, ◌∷◌, [], List, length, IfOk};
-ghost use Rattle.wf_trace.specs.Words.{words, number_of, in_range};
+ghost use Rattle.std.specs.Prelude.{◌≡◌, ◌+◌, ◌<◌, ◌≤◌, ◌∷◌, [], List, length};
+ghost use Rattle.wf_trace.specs.Words.{words};
 ghost use Rattle.wf_frame.specs.declared.calls.Arg.{Arg as Kind};
 ghost use Rattle.wf_frame.specs.Calls.{args_of};
-ghost use Rattle.wf_trace.specs.Grammar.{octet_most, known_value, read_arg, absent_arg, result_seen, both, behind as behind_fault, read_args};
+ghost use Rattle.wf_trace.specs.Grammar.{known_value, read_arg, result_seen, behind as behind_fault, read_args};
 
 use crate::fault::{FaultKind, first_of};
 use crate::words::{in_range, next_word};
 use arrayvec::ArrayVec;
 use wf_frame::{Arg, CallForm, Class, GREATEST_BODY, RateFormat, Value};
-
-// A number from low to high.
-fn number_in(low: u32, high: u32, word: &[u8]) -> Result<u32, FaultKind>
-    ensures reads { result ≡ in_range low high (number_of word.now) }
-    ensures within { IfOk result (λ n. (low ≤ n) × (n ≤ high)) }
-{
-    in_range(low, high, word)
-}
-
-// A number of 16 bits, from low to high.
-fn short(low: u16, high: u16, word: &[u8]) -> Result<Value, FaultKind>
-    ensures { result ≡ result_seen Value.Short (in_range low high (number_of word.now)) }
-{
-    match number_in(u32::from(low), u32::from(high), word) {
-        Ok(number) => Ok(Value::Short(number as u16)),
-        Err(fault) => Err(fault),
-    }
-}
-
-// A number of 8 bits.
-fn octet(word: &[u8]) -> Result<Value, FaultKind>
-    ensures { result ≡ result_seen Value.Octet (in_range 0 octet_most (number_of word.now)) }
-{
-    match number_in(0, u32::from(u8::MAX), word) {
-        Ok(number) => Ok(Value::Octet(number as u8)),
-        Err(fault) => Err(fault),
-    }
-}
-
-// A number of 32 bits, from low to high.
-fn long(low: u32, high: u32, word: &[u8]) -> Result<Value, FaultKind>
-    ensures { result ≡ result_seen Value.Long (in_range low high (number_of word.now)) }
-{
-    match in_range(low, high, word) {
-        Ok(number) => Ok(Value::Long(number)),
-        Err(fault) => Err(fault),
-    }
-}
 
 // One of the words that an argument may be.
 fn known(arg: Arg, word: &[u8]) -> Option<Value>
@@ -78,36 +40,19 @@ fn read_one(arg: Arg, word: &[u8]) -> Result<Value, FaultKind>
     ensures { result ≡ read_arg arg word.now }
 {
     match arg {
-        Arg::Short => short(0, u16::MAX, word),
-        Arg::Octet | Arg::Weight => octet(word),
-        Arg::Long => long(0, u32::MAX, word),
-        Arg::Number { low, high } => long(low, high, word),
-        Arg::Length => short(1, GREATEST_BODY, word),
+        Arg::Short => Ok(Value::Short(in_range(0, u32::from(u16::MAX), word)? as u16)),
+        Arg::Octet | Arg::Weight => Ok(Value::Octet(in_range(0, u32::from(u8::MAX), word)? as u8)),
+        Arg::Long => Ok(Value::Long(in_range(0, u32::MAX, word)?)),
+        Arg::Number { low, high } => Ok(Value::Long(in_range(low, high, word)?)),
+        Arg::Length => Ok(Value::Short(in_range(1, u32::from(GREATEST_BODY), word)? as u16)),
         Arg::Class | Arg::Format | Arg::Guard | Arg::Heard | Arg::Air | Arg::End => known(
             arg, word,
         ).ok_or(FaultKind::Word),
     }
 }
 
-// The value of an argument that no word stands for.
-fn absent(arg: Arg) -> Result<Value, FaultKind>
-    ensures { result ≡ absent_arg arg }
-{
-    arg.default_value().ok_or(FaultKind::Count)
-}
-
-// The value of the next argument of a line, and what is behind it.
-fn next_arg(arg: Arg, line: &[u8]) -> (Result<Value, FaultKind>, &[u8])
-    ensures { (args : List Kind) → read_args (arg ∷ args) (words line.now)
-        ≡ both result.0 (read_args args (words result.1.now)) }
-{
-    match next_word(line) {
-        Some((word, rest)) => (read_one(arg, word), rest),
-        None => (absent(arg), line),
-    }
-}
-
 // Takes the next argument of a line: its value, or its fault. What is behind it is answered.
+#[tactic(auto, using(crate::proofs::ArgLaws::behind_other))]
 fn take<'a>(
     arg: Arg,
     line: &'a [u8],
@@ -120,7 +65,10 @@ fn take<'a>(
         ≡ behind_fault fault.new values.new.items (read_args args (words result.now)) }
     ensures len { length values.new.items ≤ length values.old.items + 1 }
 {
-    let (value, behind) = next_arg(arg, line);
+    let (value, behind) = match next_word(line) {
+        Some((word, rest)) => (read_one(arg, word), rest),
+        None => (arg.default_value().ok_or(FaultKind::Count), line),
+    };
     match value {
         Ok(value) => values.push(value),
         Err(other) => *fault = Some(first_of(*fault, other)),

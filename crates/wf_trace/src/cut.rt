@@ -46,7 +46,7 @@ impl Model for Cut {
 }
 
 impl Cut {
-    ghost use Rattle.wf_trace.specs.Cutting.{room, will_read as will_cut};
+    ghost use Rattle.wf_trace.specs.Cutting.{room};
     ghost use Rattle.wf_trace.specs.Pieces.{pieces, ending_piece};
     ghost use Rattle.wf_trace.specs.Numbering.{pieces_left, line_of, will_read, HasText, HasNoLine, OnText, Cuts};
 
@@ -94,32 +94,6 @@ impl Cut {
         piece
     }
 
-    // The next piece, of which the first octets may be looked at.
-    fn advance<S: Source>(&mut self, source: &mut S) -> Result<Piece, Failed>
-        requires { self.old.ended ≡ None }
-        ensures cuts { (octets : List ℕ) ×
-            Cuts self.old (S.left source.old) result self.new (S.left source.new) octets }
-        ensures text { OnText result (HasText self.new) }
-        ensures held { OnErr result (HasNoLine self.new) }
-        ensures progress { OnText result (room self.new.cutter < room self.old.cutter) }
-        ensures over { OnText result (IsSome self.new.cutter.ended → IsAtEnd (S.left source.new)) }
-        ensures sticky { IsSome self.old.cutter.ended → IsSome self.new.cutter.ended }
-        ensures quiet { will_cut self.old.cutter ≡ false → (source.new ≡ source.old) × IsOk result }
-        ensures cause { CountsFaults (S.faults source.old) (S.faults source.new) result }
-    {
-        'lines: loop {
-            match self.cutter.next(source) {
-                Ok(None) => {}
-                Ok(Some(end)) => return Ok(self.stop(end)),
-                Err(failed) => return Err(failed),
-            }
-            self.line += 1;
-            if !is_skipped(self.cutter.octets()) {
-                return Ok(Piece::Text { line: self.line });
-            }
-        }
-    }
-
     /// The next piece. After Ended or Bad every later call answers the same. Failed only where the source's
     /// faults rose; then the octets taken are kept, and a later call goes on from there. It takes no memory.
     pub fn next<S: Source>(&mut self, source: &mut S) -> Result<Piece, Failed>
@@ -138,6 +112,16 @@ impl Cut {
         if let Some(piece) = self.ended {
             return Ok(piece);
         }
-        self.advance(source)
+        'lines: loop {
+            match self.cutter.next(source) {
+                Ok(None) => {}
+                Ok(Some(end)) => return Ok(self.stop(end)),
+                Err(failed) => return Err(failed),
+            }
+            self.line += 1;
+            if !is_skipped(self.cutter.octets()) {
+                return Ok(Piece::Text { line: self.line });
+            }
+        }
     }
 }

@@ -1,37 +1,15 @@
 //! Lines of a source.
 
 ghost use Rattle.std.specs.Prelude.{◌≡◌, ◌<◌, ◌≤◌, ◌++◌, [], List, ℕ, true, false, MatchOption, IfNone, IfOk, IsOk, OnErr, Some, None, IsSome, Ok};
-ghost use Rattle.std.specs.List.{list_all};
 ghost use Rattle.std.specs.Io.KnownBytes.{IsAtEnd};
 ghost use Rattle.wf_io.specs.Faults.{CountsFaults};
-ghost use Rattle.wf_trace.specs.Lines.{flaw, is_printable};
+ghost use Rattle.wf_trace.specs.Lines.{flaw};
 
 use crate::fault::{End, FaultKind};
-use crate::scanner::{Found, LONGEST_LINE, Scanner};
+use crate::scanner::{Found, Scanner};
 use std::alloc::{AllocError, Global};
 use std::marker::Model;
-use wf_io::{Failed, MOST_OCTETS, Source};
-
-fn is_printable_line(octets: &[u8]) -> bool
-    ensures { result ≡ list_all is_printable octets.now }
-{
-    octets.iter().all(|octet| 32 <= *octet && *octet <= 126)
-}
-
-/// The first that is wrong with a line as octets, of which 161 are enough.
-fn flaw_of(end: u64, octets: &[u8]) -> Option<FaultKind>
-    ensures { result ≡ flaw end octets.now }
-{
-    if end > MOST_OCTETS {
-        Some(FaultKind::TooBig)
-    } else if octets.len() > LONGEST_LINE {
-        Some(FaultKind::LongLine)
-    } else if is_printable_line(octets) {
-        None
-    } else {
-        Some(FaultKind::NotAscii)
-    }
-}
+use wf_io::{Failed, Source};
 
 /// Cuts the octets of a source into lines.
 #[derive(Drop)]
@@ -89,7 +67,7 @@ impl Cutter {
             (λ kind. (result ≡ Some (End.Flaw kind))
             × (self.new ≡ record self.old { ended = Some (End.Flaw kind) })) }
     {
-        match flaw_of(self.scanner.looked(), self.scanner.line()) {
+        match self.scanner.flaw() {
             None => {
                 self.given = true;
                 None

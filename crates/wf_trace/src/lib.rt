@@ -22,4 +22,4 @@ pub use print::print_note;
 pub use reader::{Item, TraceReader};
 pub use values::{end_at, long_at};
 pub use wf_frame::{Arg, Value};
-pub use words::{in_range, is_plain_number, next_word, number};
+pub use words::{in_range, is_plain_number, next_word};

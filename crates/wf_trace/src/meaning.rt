@@ -5,7 +5,7 @@ ghost use Rattle.wf_trace.specs.Words.{words};
 ghost use Rattle.wf_trace.specs.Grammar.{call_form};
 ghost use Rattle.wf_frame.specs.Calls.{call_named};
 ghost use Rattle.wf_trace.specs.Notes.{called as called_by, read_call};
-ghost use Rattle.wf_trace.specs.Meanings.{allowed as allowed_call, caller_of, caller_first, meant, named as named_line, HasRoomForLine};
+ghost use Rattle.wf_trace.specs.Meanings.{allowed as allowed_call, caller_of, caller_first, meant, HasRoomForLine};
 
 use crate::args::read_form;
 use crate::fault::FaultKind;
@@ -69,17 +69,6 @@ fn done_form(line: &[u8]) -> CallForm
     }
 }
 
-// The form of a call's line with these words behind its name.
-fn form(call: CallForm, line: &[u8]) -> CallForm
-    ensures { result ≡ call_form call (words line.now) }
-{
-    match call {
-        CallForm::Rate => rate_form(line),
-        CallForm::Done => done_form(line),
-        _ => call,
-    }
-}
-
 // The call that a name and the words behind it name.
 fn call(name: &[u8], line: &[u8]) -> Result<Note, FaultKind>
     ensures { result ≡ called_by (call_named name.now) (words line.now) }
@@ -87,7 +76,11 @@ fn call(name: &[u8], line: &[u8]) -> Result<Note, FaultKind>
     let Some(call) = CallForm::named(name) else {
         return Err(FaultKind::Word);
     };
-    let form = form(call, line);
+    let form = match call {
+        CallForm::Rate => rate_form(line),
+        CallForm::Done => done_form(line),
+        _ => call,
+    };
     match read_form(form, line) {
         Ok(values) => Note::of_values(form, values.as_slice()).ok_or(FaultKind::Word),
         Err(fault) => Err(fault),
@@ -141,11 +134,20 @@ fn called(caller: &[u8], place: Option<Place>, line: &[u8]) -> Result<Meaning, F
     }
 }
 
-// What a line says whose first word names no caller.
-fn named(place: Option<Place>, word: &[u8], rest: &[u8]) -> Result<Meaning, FaultKind>
-    ensures says { result ≡ named_line place word.now (words rest.now) }
+/// What a line says in its place, or the fault that it is judged by.
+pub fn meaning_of(place: Option<Place>, line: &[u8]) -> Result<Meaning, FaultKind>
+    ensures says { result ≡ meant place (words line.now) }
     ensures room { HasRoomForLine result place }
 {
+    let Some((word, rest)) = next_word(line) else {
+        return Err(FaultKind::Word);
+    };
+    let Some((first, caller)) = word.split_first() else {
+        return Err(FaultKind::Word);
+    };
+    if *first == b'@' {
+        return called(caller, place, rest);
+    }
     if word == b"cell".as_slice() {
         return match (place, read_head(rest)) {
             (Some(_), _) => Err(FaultKind::Word),
@@ -163,22 +165,4 @@ fn named(place: Option<Place>, word: &[u8], rest: &[u8]) -> Result<Meaning, Faul
         };
     }
     allowed(0, place, call(word, rest))
-}
-
-/// What a line says in its place, or the fault that it is judged by.
-pub fn meaning_of(place: Option<Place>, line: &[u8]) -> Result<Meaning, FaultKind>
-    ensures says { result ≡ meant place (words line.now) }
-    ensures room { HasRoomForLine result place }
-{
-    let Some((word, rest)) = next_word(line) else {
-        return Err(FaultKind::Word);
-    };
-    let Some((first, caller)) = word.split_first() else {
-        return Err(FaultKind::Word);
-    };
-    if *first == b'@' {
-        called(caller, place, rest)
-    } else {
-        named(place, word, rest)
-    }
 }

@@ -1,10 +1,9 @@
 //! The reader of a trace.
 
-ghost use Rattle.std.specs.Prelude.{◌≡◌, ◌<◌, List, ℕ, Bool, false, Some, None, IfOk, IsOk, IsSomeAnd, IsSome, IfSome, OnErr, Ok};
+ghost use Rattle.std.specs.Prelude.{◌≡◌, List, ℕ, Bool, false, Some, None, IfOk, IsOk, IsSome, IfSome, OnErr, Ok};
 ghost use Rattle.std.specs.Io.KnownBytes.{IsAtEnd};
 ghost use Rattle.wf_io.specs.Faults.{CountsFaults};
 ghost use Rattle.wf_trace.specs.Reading.{missing as missing_behind};
-ghost use Rattle.wf_trace.specs.Reader.{next_place};
 
 use crate::cut::{Cut, Piece};
 use crate::fault::{Fault, FaultKind};
@@ -25,21 +24,6 @@ pub enum Item {
     Finish,
     /// The first fault.
     Bad(Fault),
-}
-
-// The place behind one call more.
-fn counted(place: Option<Place>) -> Option<Place>
-    requires { IsSomeAnd place (λ p. p.count < p.limit) }
-    ensures next { result ≡ next_place place }
-    ensures some { IsSome place × IsSome result }
-{
-    match place {
-        None => None,
-        Some(place) => Some(Place {
-            limit: place.limit,
-            count: place.count + 1,
-        }),
-    }
 }
 
 // What is missing where the input is over.
@@ -132,7 +116,9 @@ impl TraceReader {
                 Item::Head(config)
             }
             Ok(Meaning::Entry(caller, note)) => {
-                self.place = counted(self.place);
+                if let Some(place) = &mut self.place {
+                    place.count += 1;
+                }
                 Item::Entry(caller, note)
             }
             Ok(Meaning::Finish) => {

@@ -1,10 +1,12 @@
 //! Octets of a source, looked at one by one for the ends of lines.
 
-ghost use Rattle.std.specs.Prelude.{◌≡◌, ◌==◌, ◌+◌, ◌-◌, ◌<◌, ◌≤◌, [], ◌∷◌, length, drop, slice_index, false, IfNone, IfOk, OnErr, Some};
+ghost use Rattle.std.specs.Prelude.{◌≡◌, ◌+◌, ◌-◌, ◌<◌, ◌≤◌, [], ◌∷◌, length, drop, slice_index, false, IfNone, IfOk, OnErr, Some};
 ghost use Rattle.std.specs.Io.KnownBytes.{prepend_known, IsAtEnd};
 ghost use Rattle.wf_io.specs.Faults.{CountsFaults};
+ghost use Rattle.wf_trace.specs.Lines.{flaw};
 ghost use Rattle.wf_trace.specs.Scanning.{has_end, begins_word};
 
+use crate::fault::FaultKind;
 use arrayvec::ArrayVec;
 use std::alloc::{AllocError, Global};
 use std::marker::Model;
@@ -105,44 +107,20 @@ impl Scanner {
         self.line.as_slice()
     }
 
-    pub fn looked(&self) -> u64
-        ensures value { result ≡ self.now.looked }
-        ensures most { result ≤ longest_trace }
+    /// The first that is wrong with the line, where it has ended.
+    pub fn flaw(&self) -> Option<FaultKind>
+        ensures { result ≡ flaw self.now.looked self.now.line }
     {
-        self.looked
-    }
-
-    // Looks at the first octet that waits.
-    fn step(&mut self) -> Option<Found>
-        requires { 0 < length self.old.waiting }
-        ensures shorter { length self.new.waiting + 1 ≡ length self.old.waiting }
-        ensures looked { IfNone result (self.new.looked ≡ self.old.looked + 1) }
-        ensures grows { self.old.looked ≤ self.new.looked }
-        ensures line { result ≡ Some Found.Line → self.old.looked < self.new.looked }
-        ensures most { self.new.looked ≤ longest_trace }
-        ensures finds { Finds self.old result self.new }
-        ensures keeps { Keeps self.old result self.new }
-    {
-        let octet = self.buffer[self.from];
-        self.from += 1;
-        if self.looked == MOST_OCTETS {
-            return Some(Found::TooBig);
+        let line = self.line.as_slice();
+        if line.len() > LONGEST_LINE {
+            return Some(FaultKind::LongLine);
         }
-        self.looked += 1;
-        if octet == b'\n' {
-            return Some(Found::Line);
-        }
-        if self.line.len() <= LONGEST_LINE {
-            self.line.push(octet);
+        for octet in line {
+            if *octet < 32 || 126 < *octet {
+                return Some(FaultKind::NotAscii);
+            }
         }
         None
-    }
-
-    fn is_dry(&self) -> bool
-        ensures value { result ≡ (length self.now.waiting == 0) }
-        ensures most { self.now.looked ≤ longest_trace }
-    {
-        self.from == self.to
     }
 
     /// Whether a whole line waits, of which the first octet says that it is not skipped.
@@ -165,9 +143,18 @@ impl Scanner {
         ensures line { result ≡ Some Found.Line → self.old.looked < self.new.looked }
         ensures most { self.new.looked ≤ longest_trace }
     {
-        while !self.is_dry() {
-            if let Some(found) = self.step() {
-                return Some(found);
+        while self.from < self.to {
+            let octet = self.buffer[self.from];
+            self.from += 1;
+            if self.looked == MOST_OCTETS {
+                return Some(Found::TooBig);
+            }
+            self.looked += 1;
+            if octet == b'\n' {
+                return Some(Found::Line);
+            }
+            if self.line.len() <= LONGEST_LINE {
+                self.line.push(octet);
             }
         }
         None

@@ -2,7 +2,7 @@ use Rattle.std.proofs.Common.{◌≡◌, ◌≤◌, None}
 use Rattle.std.specs.Prelude.{IsSome}
 use Rattle.wf_trace.specs.Cutting.{room}
 use Rattle.wf_trace.proofs.CutLaws.{Kept, Still}
-use Rattle.wf_trace.proofs.cut.Cut.advance.Given as goal
+use Rattle.wf_trace.proofs.cut.Cut.next.Given as goal
 
 abbrev pub invariant-lines : goal.invariant-lines
 invariant-lines g l = Kept l.fn.self l.self (g.S.Source.left l.fn.source) (g.S.Source.left l.source)
