@@ -1,11 +1,10 @@
 //! Lines that wait to be written together.
 
-ghost use Rattle.std.specs.Prelude.{◌≡◌, ◌+◌, ◌<◌, ◌≤◌, ◌++◌, [], List, ℕ, length, IsTrue, IfOk, OnOk};
+ghost use Rattle.std.specs.Prelude.{◌≡◌, ◌++◌, [], List, ℕ, IsTrue, IfOk, OnOk};
 ghost use Rattle.std.specs.Io.KnownBytes.{append_known};
 ghost use Rattle.wf_io.specs.Faults.{CountsFaults};
 ghost use Rattle.wf_io.specs.Fronts.{HoldsFront};
 ghost use Rattle.wf_law_trace.specs.Leaving.{Leaves};
-ghost use Rattle.wf_run_replay.specs.Sending.{room};
 
 use std::alloc::{AllocError, Global};
 use std::marker::Model;
@@ -52,37 +51,8 @@ impl Outgoing {
         Ok(())
     }
 
-    // Makes room for a line, where it is not longer than all the room: else nothing waits.
-    fn make_room<K: Sink>(&mut self, len: usize, sink: &mut K) -> Result<(), Failed>
-        ensures fits { OnOk result (len ≤ room → length self.new + len ≤ room) }
-        ensures long { OnOk result (room < len → self.new ≡ []) }
-        ensures leaves { OnOk result (Leaves (K.held sink.old) (K.held sink.new) self.old self.new) }
-        ensures front { HoldsFront (K.held sink.old) (K.held sink.new) self.old }
-        ensures cause { CountsFaults (K.faults sink.old) (K.faults sink.new) result }
-    {
-        if len <= ROOM - self.octets.len() {
-            return Ok(());
-        }
-        self.send(sink)
-    }
-
-    // Adds a line behind what waits, some of which may be written.
-    fn add<K: Sink>(&mut self, line: &[u8], sink: &mut K) -> Result<(), Failed>
-        ensures leaves { OnOk result (Leaves (K.held sink.old) (K.held sink.new)
-            (self.old ++ line.now) self.new) }
-        ensures front { HoldsFront (K.held sink.old) (K.held sink.new) (self.old ++ line.now) }
-        ensures cause { CountsFaults (K.faults sink.old) (K.faults sink.new) result }
-    {
-        self.make_room(line.len(), sink)?;
-        if line.len() > ROOM {
-            return write_all(sink, line);
-        }
-        self.octets.extend_from_slice(line).unwrap();
-        Ok(())
-    }
-
-    /// Adds a line behind what waits, and writes it all where it is due. Where the line does not fit, what
-    /// waits is written before it. After a fault some octets, from the front of what waited and of the line,
+    /// Adds a line behind what waits, and writes it all where it is due. Where the line does not fit, it is
+    /// written behind what waits. After a fault some octets, from the front of what waited and of the line,
     /// have been written.
     pub fn put<K: Sink>(&mut self, line: &[u8], due: bool, sink: &mut K) -> Result<(), Failed>
         ensures leaves { OnOk result (Leaves (K.held sink.old) (K.held sink.new)
@@ -91,10 +61,11 @@ impl Outgoing {
         ensures front { HoldsFront (K.held sink.old) (K.held sink.new) (self.old ++ line.now) }
         ensures cause { CountsFaults (K.faults sink.old) (K.faults sink.new) result }
     {
-        self.add(line, sink)?;
-        if !due {
-            return Ok(());
+        if line.len() <= ROOM - self.octets.len() {
+            self.octets.extend_from_slice(line).unwrap();
+            return if due { self.send(sink) } else { Ok(()) };
         }
-        self.send(sink)
+        self.send(sink)?;
+        write_all(sink, line)
     }
 }

@@ -99,18 +99,6 @@ fn job_of(alloc: Global, note: Note) -> Result<Job, AllocError>
     }
 }
 
-// Makes a call of a trace to a cell. A frame that comes back is dropped.
-fn make(cell: &mut Cell, caller: u32, job: Job, answer: &mut Answer)
-    requires room { 0 < room_in cell.old.past }
-    requires samples { IsSampled cell.old }
-    requires frame { IfSome (frame_of job) IsSample }
-    ensures past { cell.new.past ≡ with_entry (by caller (note_of job)) cell.old.past }
-    ensures reply { reply_of answer.new ≡ (step (world_of cell.old.past) (note_of job)).reply }
-    ensures samples { IsSampled cell.new }
-{
-    let _ = cell.step(caller, job, answer);
-}
-
 impl Plays for Stage {
     ghost past = { λ s. s };
 
@@ -130,7 +118,7 @@ impl Plays for Stage {
         ensures reply { OnOk result (reply_of answer.new ≡ (step (world_of self.old) note).reply) }
     {
         let job = job_of(self.alloc, note)?;
-        make(&mut self.cell, caller, job, answer);
+        let _ = self.cell.step(caller, job, answer);
         Ok(())
     }
 
