@@ -270,8 +270,8 @@ module _ (x : TransmitValue) (r : Flags) (h : IsTracked x r) (c : Class) (b : Br
         (pull_met h.path.world h.path.bodies c u b pairs ids met) full is) ∙ same;
     addresses = addresses_are same;
     path = kept_path x u sent (Asked (Pull c)) (reply_with b pairs []) meets tt h.path;
-    rises = subst (λ (z : TransmitValue). RiseLittle z u) (half_is same) (rises_by x u h.path (sent h.path.bodies)
-        (Asked (Pull c)) (reply_with b pairs []) met);
+    rises = subst (λ (z : TransmitValue). RiseLittle z u) (half_is same) (rises_by x u h.path
+        (sent h.path.bodies) (Asked (Pull c)) (reply_with b pairs []) met);
   }
 
   -- a station sends

@@ -20,7 +20,8 @@ returns c = elim c.match-rate.branch [
       (Rate c.args.station c.args.rate)
       (reply.RateSet) c.rate.new.self w.in-Ok.ensures.meets
       c.self.inside.addresses c.args.self.now c.self.view_is c.match-rate.result
-      (λ pairs ids. ap (λ (b : Brief). reply_with b pairs ids) w.result-is) tt (λ _. refl) (λ e. absurd (cc e))
+      (λ pairs ids. ap (λ (b : Brief). reply_with b pairs ids) w.result-is) tt
+      (λ _. refl) (λ e. absurd (cc e))
   | in-Err w ↦ told_briefly c.self.inside.half c.self.inside.ready c.self.invariant
       (Rate c.args.station c.args.rate)
       (reply.Refused w.in-Err.reason) c.rate.new.self w.in-Err.ensures.meets

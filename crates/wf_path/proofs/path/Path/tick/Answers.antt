@@ -18,7 +18,8 @@ returns c = elim c.match-tick.branch [
   | in-Ok w ↦ told_briefly c.self.inside.half c.self.inside.ready c.self.invariant (Tick c.args.by)
       (reply.Ticked w.in-Ok.now) c.tick.new.self w.in-Ok.ensures.meets
       c.self.inside.addresses c.args.self.now c.self.view_is c.match-tick.result
-      (λ pairs ids. ap (λ (b : Brief). reply_with b pairs ids) w.result-is) tt (λ _. refl) (λ e. absurd (cc e))
+      (λ pairs ids. ap (λ (b : Brief). reply_with b pairs ids) w.result-is) tt
+      (λ _. refl) (λ e. absurd (cc e))
   | in-Err w ↦ told_briefly c.self.inside.half c.self.inside.ready c.self.invariant (Tick c.args.by)
       (reply.Refused w.in-Err.reason) c.tick.new.self w.in-Err.ensures.meets
       c.self.inside.addresses c.args.self.now c.self.view_is c.match-tick.result
