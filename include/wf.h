@@ -276,6 +276,7 @@ struct wf_taken {
   uint8_t source[6]; /* that of its packet, or 02:00:00:02:00:00 where that was six zeros */
   uint8_t tid;
   uint8_t fate;      /* enum wf_fate, never WF_HELD */
+  uint8_t attempts;  /* how often it was sent, at most the setting `attempts` */
 };
 
 /* The accepted frames by what became of them; the rest of them are inside. */

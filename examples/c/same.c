@@ -15,7 +15,7 @@
 #include "words.h"
 #include "wf.h"
 
-enum { STATIONS = 6, NUMBERS = 4096, OPEN = 32, CHARGE = 5000, TICK = 10000000 };
+enum { STATIONS = 6, NUMBERS = 4096, OPEN = 32, CHARGE = 5000, TICK = 10000000, ATTEMPTS = 4 };
 
 /* An open exchange. */
 struct exchange {
@@ -307,6 +307,18 @@ static void call_done(void) {
   if (wf_path_done_lost(&path, x.number, CHARGE + 1, &reply) != WF_NO_EXCHANGE) fail("an exchange that ends twice");
 }
 
+/* Whether a frame that is taken back was sent as often as its fate says: never where a queue dropped it, and as often as the setting says
+ * where it was dropped for its retries. */
+static int tries_fit(const struct wf_taken *taken) {
+  switch (taken->fate) {
+  case WF_OVERLIMIT:
+  case WF_CODEL: return taken->attempts == 0;
+  case WF_RETRIES: return taken->attempts == ATTEMPTS;
+  case WF_ACKED: return 0 < taken->attempts && taken->attempts <= ATTEMPTS;
+  default: return taken->attempts <= ATTEMPTS;
+  }
+}
+
 static void call_reap(void) {
   static uint8_t body[WF_GREATEST_BODY];
   struct wf_taken taken = {0};
@@ -323,6 +335,7 @@ static void call_reap(void) {
   if (taken.station >= STATIONS || taken.tid > 7 || taken.flow >= 20 || taken.length == 0) fail("a frame that never came");
   if (taken.tag != tag_of(taken.station, taken.tid, taken.flow, taken.length)) fail("another tag");
   if (!has_source(taken.flow, taken.source)) fail("another source");
+  if (!tries_fit(&taken)) fail("a frame that was sent more or less often");
   for (j = 0; wanted && j < taken.length; j++) {
     if (body[j] != (uint8_t)(taken.flow + j)) fail("another body");
   }
@@ -440,7 +453,7 @@ static void open_path(void) {
   settings.reserved[1] = 0;
   settings.limit = 40;
   settings.room = 400;
-  settings.attempts = 4;
+  settings.attempts = ATTEMPTS;
   settings.sleeping = 8;
   settings.calls = 4000000;
   settings.charge = 70000;

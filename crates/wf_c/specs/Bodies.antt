@@ -92,6 +92,7 @@ pub record IsAbout (f : FrameValue) (taken : Taken) : Type 0 where
   pub size : taken.length ≡ length f.body
   pub source : taken.source ≡ f.source
   pub fate : taken.fate ≡ fate_number f.fate
+  pub attempts : taken.attempts ≡ f.attempts
 
 -- The caller's struct shows frame f, and the front of a buffer with room its body; the rest of the buffer is
 -- as it was.

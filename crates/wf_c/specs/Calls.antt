@@ -7,8 +7,9 @@ use Rattle.wf_frame.specs.declared.notes.Note.TheVariants.{Asked}
 use Rattle.wf_def_world.specs.World.{World}
 use Rattle.wf_send_half_refines.specs.Standing.{StandsFor, Meets}
 use Rattle.wf_path.specs.Addresses.{Addresses, made_up}
-use Rattle.wf_path.specs.Jobs.{changes_nothing}
+use Rattle.wf_path.specs.Jobs.{bodies_after, changes_nothing}
 use Rattle.wf_path.specs.Paths.{IsPath, IsSmall}
+use Rattle.wf_path.specs.declared.job.Job.TheVariants.{Call}
 use Rattle.wf_c.specs.Numbers.{numbers_of}
 use Rattle.wf_c.specs.declared.held.Held.{Held}
 use Rattle.wf_c.specs.declared.reply.Reply.{Reply}
@@ -35,13 +36,15 @@ Becomes R _ _ = ⊥
 
 -- What a call that brings no frame leaves of h, and what the caller's struct then shows.
 --
---   meets      for each world that the path stood for, it is the machine's step, with the machine's reply
+--   meets      for each world that the path stood for, it is the machine's step, with the machine's reply; the
+--              frames that it sends have been sent once more
 --   refused    a refused call changes nothing, but for a pull that finds nobody ready
 --   addresses  they stay
 --   shows      the struct shows the reply
 pub record IsCalled (h : Held) (ask : Ask) (k : Held) (shown : Reply) : Type 0 where
   pub meets : (w : World) (bodies : ℕ → FrameValue) → StandsFor h.path.half w bodies →
-      Meets w bodies (Asked ask) k.path.half (reply_of k.answer)
+      Meets w (bodies_after h.path.half (Call ask) (reply_of k.answer) bodies) (Asked ask) k.path.half
+      (reply_of k.answer)
   pub refused : changes_nothing (reply_of k.answer) ≡ true → k.path ≡ h.path
   pub addresses : k.path.addresses ≡ h.path.addresses
   pub path : IsPath k.path.half

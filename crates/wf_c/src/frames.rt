@@ -146,6 +146,8 @@ pub struct Taken {
     pub tid: u8,
     /// What became of it: 1 to 5.
     pub fate: u8,
+    /// How often it was sent, at most 64.
+    pub attempts: u8,
 }
 
 impl Taken {
@@ -175,6 +177,7 @@ impl Taken {
             source: frame.source(),
             tid: frame.tid(),
             fate: number_of_fate(frame.fate()),
+            attempts: frame.attempts(),
         }
     }
 }
