@@ -78,9 +78,10 @@
 extern "C" {
 #endif
 
-/* What functions of type int32_t give back, but for wf_path_live. 0 is well. Each other number says why nothing has changed:
- * neither what the handle holds, nor the caller's structs and buffers but for `reply`, which shows the refusal, and for what a
- * function says itself. WF_IDLE may have changed something, and a refused call of a cell is an entry of its history. */
+/* What functions of type int32_t give back, but for wf_path_live and wf_path_can_pull. 0 is well. Each other number says why
+ * nothing has changed: neither what the handle holds, nor the caller's structs and buffers but for `reply`, which shows the
+ * refusal, and for what a function says itself. WF_IDLE may have changed something, and a refused call of a cell is an entry
+ * of its history. */
 enum wf_code {
   WF_OK = 0,
   /* refusals; `reply` then has kind WF_KIND_REFUSED */
