@@ -14,11 +14,11 @@
  * It comes from malloc, realloc and free of the program. They have to be of one allocator, and to align a block to each power
  * of two up to 16 that divides its size.
  *
- * Threads. A handle of a path may go from thread to thread, and many threads may share one under one lock of the caller's: that
- * it may is proved (Rust's `Send`). A handle of a cell stays on the thread that made it. No two calls on one handle at a time,
- * readers among themselves excepted: a reader is a function that takes a handle by a pointer to const. Two handles have nothing in
- * common. No function waits for another thread, and none may be called from a signal handler, nor in the child of a fork of a
- * process with threads. With threads of POSIX:
+ * Threads. A handle may go from thread to thread, and many threads may share one under one lock of the caller's: path and cell
+ * are proved to be what may be sent to another thread (Rust's `Send`). No two calls on one handle at a time, readers among
+ * themselves excepted: a reader is a function that takes a handle by a pointer to const. Two handles have nothing in common. No
+ * function waits for another thread, and none may be called from a signal handler, nor in the child of a fork of a process with
+ * threads. With threads of POSIX:
  *
  *     pthread_mutex_lock(&lock);
  *     code = wf_path_pull(&path, WF_BE, &reply, &frames);

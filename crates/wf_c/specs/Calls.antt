@@ -36,8 +36,8 @@ Becomes R _ _ = ⊥
 
 -- What a call that brings no frame leaves of h, and what the caller's struct then shows.
 --
---   meets      for each world that the path stood for, it is the machine's step, with the machine's reply; the
---              frames that it sends have been sent once more
+--   meets      for each world that the path stood for, it is the machine's step, with the machine's reply;
+--              the frames that it sends have been sent once more
 --   refused    a refused call changes nothing, but for a pull that finds nobody ready
 --   addresses  they stay
 --   shows      the struct shows the reply
