@@ -1,12 +1,12 @@
-//! A path of one station: what an exchange sends to it, and the BlockAck to that; and its addresses.
+//! A path of one station: what an exchange sends to it, and the BlockAck to that.
 
 ghost use Rattle.wf_path.specs.Jobs.{IsHeard};
 
 use std::alloc::Global;
 use std::test::Fail;
-use wf_frame::{Answer, Ask, Cause, Class, Config, Fate, Frame};
+use wf_frame::{Answer, Ask, Class, Config, Frame};
 use wf_octets_block::BlockFault;
-use wf_path::{BadAddress, DoneFault, Job, Path, PathFault, Sent};
+use wf_path::{DoneFault, Job, Path, PathFault, Sent};
 use wf_queue_chain::Parcel;
 
 /// Makes a call, whose answer is of no concern.
@@ -182,121 +182,5 @@ fn a_path_tells_what_it_has_to_send(rt: HostRuntime) -> Result<(), Fail> {
         let _ = path.done_bits(0, None, None);
     }
     assert_eq!(rt; standing(&path), (true, false, 0, 1));
-    Ok(())
-}
-
-/// Addresses of an access point and of a station as devices have them, and one of a group.
-const BASE: [u8; 6] = [0x00, 0x1b, 0x2c, 0x3d, 0x4e, 0x5f];
-
-const STATION: [u8; 6] = [0x00, 0x9a, 0x8b, 0x7c, 0x6d, 0x5e];
-
-const GROUP: [u8; 6] = [0x01, 0x00, 0x5e, 0x00, 0x00, 0xfb];
-
-/// The transmission between these: receiver and transmitter are theirs, and all else is as it was.
-const NAMED_FRAME: [u8; 30] = [
-    0x88, 0x02, 0x30, 0x00, 0x00, 0x9a, 0x8b, 0x7c, 0x6d, 0x5e, 0x00, 0x1b, 0x2c, 0x3d, 0x4e, 0x5f,
-    0x0a, 1, 2, 3, 4, 5, 0x40, 0x06, 0, 0, 7, 8, 9, 0xff,
-];
-
-/// The BlockAck from that station to that access point.
-const NAMED_ANSWER: [u8; 28] = [
-    0x94, 0, 0, 0, 0x00, 0x1b, 0x2c, 0x3d, 0x4e, 0x5f, 0x00, 0x9a, 0x8b, 0x7c, 0x6d, 0x5e, 0x04, 0,
-    0x40, 0x06, 1, 0, 0, 0, 0, 0, 0, 0,
-];
-
-/// The path with an open exchange, between these addresses.
-fn with_addresses(alloc: Global) -> Result<Path, Fail> {
-    let mut path = with_exchange(alloc)?;
-    path.set_base(BASE)?;
-    path.set_address(0, STATION)?;
-    Ok(path)
-}
-
-#[test]
-fn a_frame_goes_to_the_address_of_its_station(rt: HostRuntime) -> Result<(), Fail> {
-    let path = with_addresses(rt.alloc())?;
-    let mut out = [0xff; 30];
-    assert_eq!(rt; path.mpdu(0, 0, &mut out), Ok(29));
-    assert_eq!(rt; out, NAMED_FRAME);
-    let mut header = [0xff; 26];
-    assert!(rt; path.header(0, 0, &mut header) == Ok(()));
-    assert!(rt; NAMED_FRAME.starts_with(&header));
-    Ok(())
-}
-
-#[test]
-fn an_answer_is_from_the_address_of_its_station(rt: HostRuntime) -> Result<(), Fail> {
-    let mut path = with_addresses(rt.alloc())?;
-    if path.has_small_counts() {
-        let refused = path.done_bytes(0, Some(&ANSWER), None);
-        assert_eq!(rt; refused, Err(DoneFault::NotMine));
-    }
-    if path.has_small_counts() {
-        let ended = path.done_bytes(0, Some(&NAMED_ANSWER), None);
-        assert!(rt; ended.is_ok());
-    }
-    assert_eq!(rt; path.tally().acked, 1);
-    Ok(())
-}
-
-/// Takes the first finished frame: what became of it, and how often it was sent.
-fn reaped(path: &mut Path) -> Option<(Fate, u8)> {
-    if !path.has_small_counts() {
-        return None;
-    }
-    let parcel = path.call(Job::Call(Ask::Reap), &mut Answer::new())?;
-    Some((parcel.frame().fate(), parcel.frame().attempts()))
-}
-
-#[test]
-fn a_frame_tells_how_often_it_was_sent(rt: HostRuntime) -> Result<(), Fail> {
-    let mut path = with_exchange(rt.alloc())?;
-    if path.has_small_counts() {
-        let _ = path.done_bits(0, None, None);
-    }
-    call(&mut path, Job::Call(Ask::Pull { class: Class::Be }));
-    if path.has_small_counts() {
-        let _ = path.done_bytes(1, Some(&ANSWER), None);
-    }
-    assert_eq!(rt; reaped(&mut path), Some((Fate::Acked, 2)));
-    Ok(())
-}
-
-#[test]
-fn an_address_may_be_refused(rt: HostRuntime) -> Result<(), Fail> {
-    let mut path = with_exchange(rt.alloc())?;
-    assert_eq!(rt; path.set_address(1, GROUP), Err(BadAddress::NoStation));
-    assert_eq!(rt; path.set_address(0, GROUP), Err(BadAddress::Group));
-    assert_eq!(rt; path.set_base(GROUP), Err(BadAddress::Group));
-    assert_eq!(rt; path.base(), [2, 0, 0, 0, 0, 0]);
-    assert_eq!(rt;
-        (path.address(0), path.address(1)),
-        (Some([2, 0, 0, 1, 0, 0]), None)
-    );
-    Ok(())
-}
-
-#[test]
-fn a_station_that_leaves_keeps_its_address(rt: HostRuntime) -> Result<(), Fail> {
-    let mut path = with_addresses(rt.alloc())?;
-    call(&mut path, Job::Call(Ask::Leave { station: 0 }));
-    assert_eq!(rt; path.address(0), Some(STATION));
-    assert_eq!(rt; path.base(), BASE);
-    Ok(())
-}
-
-#[test]
-fn a_frame_that_is_dropped_tells_how_often_it_was_sent(rt: HostRuntime) -> Result<(), Fail> {
-    let mut path = with_exchange(rt.alloc())?;
-    if path.has_small_counts() {
-        let _ = path.done_bits(0, None, None);
-    }
-    let parcel = Parcel::new(rt.alloc(), Frame::sample(rt.alloc(), 0, 0, 7, 3)?).map_err(
-        |refused| refused.0,
-    )?;
-    call(&mut path, Job::Give(parcel));
-    call(&mut path, Job::Call(Ask::Leave { station: 0 }));
-    assert_eq!(rt; reaped(&mut path), Some((Fate::Dropped(Cause::Left), 1)));
-    assert_eq!(rt; reaped(&mut path), Some((Fate::Dropped(Cause::Left), 0)));
     Ok(())
 }
