@@ -39,8 +39,8 @@ use Rattle.wf_send_half_refines.specs.Half.{TransmitValue, is_ready_of}
 use Rattle.wf_send_half_refines.specs.Standing.{StandsFor, Meets, IsReached, open_of}
 use Rattle.wf_send_half_refines.proofs.Readers.{exchange_same}
 use Rattle.wf_send_half_refines.proofs.Whole.{arrive_stands, answer_stands}
-use Rattle.wf_send_half.proofs.Dones.{refused_done, ends_unknown}
-use Rattle.wf_path.proofs.Opened.{open_within, open_low}
+use Rattle.wf_send_half.proofs.Dones.{refused_done, ends_unknown, open_low}
+use Rattle.wf_path.proofs.Opened.{open_within}
 use Rattle.wf_path.specs.Addresses.{Addresses}
 use Rattle.wf_path.specs.Driver.{IsEnded}
 use Rattle.wf_path.specs.Flags.{Flags, flags_in, with_flag}

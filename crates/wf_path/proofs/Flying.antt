@@ -23,7 +23,7 @@ use Rattle.wf_send_half_refines.specs.Ending.{after_close, ending_of, IsLoose, I
 use Rattle.wf_send_half_refines.specs.Views.{Agreements}
 use Rattle.wf_send_half_refines.proofs.Endings.{closed_agreements}
 use Rattle.wf_send_half.specs.Half.{HasWorld}
-use Rattle.wf_send_half.proofs.Dones.{IsKnown, known_of, none_open}
+use Rattle.wf_send_half.proofs.Dones.{IsKnown, known_of, none_open, low_tid as low}
 use Rattle.wf_send_half.proofs.Ends.{IsData, sends as data_sent, begun}
 use Rattle.wf_octets_header.specs.Layout.{header_as_octets}
 use Rattle.wf_path.specs.Addresses.{Addresses}
@@ -33,7 +33,7 @@ use Rattle.std.specs.Option.{option_map_or}
 use Rattle.wf_path.specs.declared.faults.PathFault.TheVariants.{NoExchange, BadIndex}
 use Rattle.wf_octets_header.specs.declared.header.Header.{Header}
 use Rattle.wf_path.specs.Flights.{IsInFlight, Flies}
-use Rattle.wf_path.proofs.Opened.{live, low, within}
+use Rattle.wf_path.proofs.Opened.{live, within}
 
 -- ---- one of a list
 

@@ -1,5 +1,5 @@
 -- An open exchange, as the half keeps it and as the world has it.
-use Rattle.std.proofs.Common.{◌≡◌, refl, ap, sym, ◌∙◌, subst, arith, ℕ, ◌<◌, ◌==◌, Bool, true, false, List, Some, None, option_map}
+use Rattle.std.proofs.Common.{◌≡◌, refl, ap, sym, ◌∙◌, subst, arith, ℕ, ◌<◌, ◌==◌, Bool, true, List, Some, None, option_map}
 use Rattle.std.specs.Prelude.{find}
 use Rattle.std.specs.Option.{option_map_or}
 use Rattle.std.proofs.lemmas.List.{length-map}
@@ -12,33 +12,22 @@ use Rattle.wf_send_window.specs.Window.{on_air}
 use Rattle.wf_send_exchanges.specs.declared.opened.Open.{Open}
 use Rattle.wf_send_exchanges.specs.Exchanges.{transmissions_of, sending_is_request as asks_for}
 use Rattle.wf_send_half_refines.specs.Half.{TransmitValue}
-use Rattle.wf_send_half_refines.specs.Standing.{sending_of, numbers_on_air, StandsFor}
+use Rattle.wf_send_half_refines.specs.Standing.{sending_of, StandsFor}
 use Rattle.wf_send_half_refines.proofs.Endings.{open_live}
-use Rattle.wf_send_half_refines.proofs.Dones.{request_tid}
 use Rattle.wf_send_half_refines.specs.Pulling.{is_wide_of}
 use Rattle.wf_send_half_refines.proofs.Pulls.{wide_same}
 use Rattle.wf_send_half.specs.Half.{HasWorld}
-use Rattle.wf_send_half.proofs.Dones.{IsKnown, known_of, none_open}
-use Rattle.wf_send_half.proofs.Ends.{begun}
+use Rattle.wf_send_half.proofs.Dones.{IsKnown, known_of, none_open, low_tid}
 use Rattle.wf_path.specs.Transmissions.{sent_of}
 use Rattle.wf_path.specs.Addresses.{Addresses}
 use Rattle.wf_path.specs.Answers.{answer_fault, read_fault}
 use Rattle.wf_path.specs.declared.faults.DoneFault.TheVariants.{NoExchange}
 
--- its station is live and within the settings, and its TID is below 8
+-- its station is live and within the settings
 module _ (v : TransmitValue) (w : World) (bodies : ℕ → FrameValue) (h : StandsFor v w bodies) (e : ℕ)
     (x : Exchange) (known : exchange w e ≡ Some x) where
   pub live : is_live w x.station ≡ true
   live = open_live w h.reached e x known
-
-  pub low : x.tid < 8
-  low = by_content x.content refl
-    where
-      by_content : (c : Content) → x.content ≡ c → x.tid < 8
-      by_content (Frames mpdus) is = (begun v w bodies h e x known None (numbers_on_air mpdus)
-          (ap sending_of is)
-          (λ n. false)).tid
-      by_content (Request start) is = request_tid v w bodies h e x known start is
 
   pub within : x.station < v.config.stations
   within = omega (
@@ -57,10 +46,6 @@ module _ (v : TransmitValue) (some : HasWorld v) (e : ℕ) (o : Open)
   open_within = subst (λ (k : Open). k.station < v.config.stations) (sym it.same)
       (within v some.world some.bodies some.stands e it.exchange_is it.known)
 
-  pub open_low : o.tid < 8
-  open_low = subst (λ (k : Open). k.tid < 8) (sym it.same)
-      (low v some.world some.bodies some.stands e it.exchange_is it.known)
-
 -- ---- its answer
 
 module _ (v : TransmitValue) (w : World) (bodies : ℕ → FrameValue) (h : StandsFor v w bodies) (e : ℕ)
@@ -78,7 +63,7 @@ module _ (v : TransmitValue) (w : World) (bodies : ℕ → FrameValue) (h : Stan
       let x : Exchange = k.exchange_is in
       let same : is_wide_of v x.station x.tid ≡ is_wide w x.station x.tid =
       wide_same v w bodies x.station x.tid h.parts (live v w bodies h e x k.known)
-      (low v w bodies h e x k.known) in
+      (low_tid v w bodies h e x k.known) in
       ap (λ b. answer_fault a b o.station o.tid octets) told
       ∙ ap (λ (z : Open). answer_fault a (is_wide_of v z.station z.tid) z.station z.tid octets) k.same
       ∙ ap (λ b. answer_fault a b x.station x.tid octets) same

@@ -7,9 +7,11 @@ use Rattle.wf_frame.specs.declared.notes.ReplyNote.{ReplyNote}
 use Rattle.wf_frame.specs.declared.notes.ReplyNote.TheVariants.{Refused}
 use Rattle.wf_frame.specs.declared.notes.Refusal.TheVariants.{NoExchange, BadAir}
 use Rattle.wf_frame.specs.declared.settings.Config.{Config}
+use Rattle.wf_frame.specs.declared.classes.Class.{Class}
+use Rattle.wf_frame.specs.Classes.{class_of}
 use Rattle.wf_frame.specs.Frames.{FrameValue}
 use Rattle.wf_def_agreement.specs.Receiver.{Score, shows}
-use Rattle.wf_def_world.specs.World.{World, Exchange, Mpdu, exchange, is_live, is_wide}
+use Rattle.wf_def_world.specs.World.{World, Exchange, Mpdu, Content, Frames, Request, exchange, is_live, is_wide}
 use Rattle.wf_def_world.specs.CanSend.{is_request}
 use Rattle.wf_def_world.specs.Exchanges.{mpdus_of, is_acked, charge_of}
 use Rattle.wf_def_world.specs.Refusals.{refusal, is_bad_air}
@@ -25,10 +27,10 @@ use Rattle.wf_sched_stations_refines.specs.Standing.{SchedulerStandsFor as Turns
 use Rattle.wf_sched_stations_refines.proofs.Calls.{charge_fits}
 use Rattle.wf_law_driver.proofs.Opened.{found_number, first_refuses}
 use Rattle.wf_send_half_refines.specs.Half.{TransmitValue}
-use Rattle.wf_send_half_refines.specs.Standing.{open_of, Parts, StandsFor, Meets}
-use Rattle.wf_send_half_refines.specs.Changes.{after_listing}
+use Rattle.wf_send_half_refines.specs.Standing.{open_of, sending_of, numbers_on_air, Parts, StandsFor, Meets}
+use Rattle.wf_send_half_refines.specs.Changes.{after_listing_in}
 use Rattle.wf_send_half_refines.specs.Ending.{after_close}
-use Rattle.wf_send_half_refines.proofs.Dones.{done_meets}
+use Rattle.wf_send_half_refines.proofs.Dones.{done_meets, request_tid}
 use Rattle.wf_send_half_refines.proofs.Endings.{found, open_live}
 use Rattle.wf_send_half_refines.proofs.Meets.{refused_meets}
 use Rattle.wf_send_half_refines.proofs.Reached.{now_is, by_law}
@@ -36,6 +38,7 @@ use Rattle.wf_send_half_refines.proofs.Readers.{exchange_same}
 use Rattle.wf_send_half.specs.Bits.{is_shown, AreShown, NoneIsShown, GoesBy, IsClosed, IsChargeSmall, has_bad_air, end_refusal, ended_reply}
 use Rattle.wf_send_half.specs.Half.{HasWorld}
 use Rattle.wf_send_half.specs.declared.finish.Ended.{Ended}
+use Rattle.wf_send_half.proofs.Ends.{begun}
 use Rattle.std.proofs.lemmas.Bool.{and_parts, leb-true, not-false}
 use Rattle.wf_law_driver.proofs.Ended.{bad_lost, bad_heard}
 
@@ -50,6 +53,17 @@ known_by : (w : World) (e : ℕ) (o : Open) (found : Option Exchange) → exchan
     Some o ≡ option_map open_of found → IsKnown w e o
 known_by w e o None is h = absurd (cc h)
 known_by w e o (Some x) is h = record { exchange_is = x; known = is; same = cc h }
+
+-- its TID is below 8
+pub low_tid : (v : TransmitValue) (w : World) (bodies : ℕ → FrameValue) → StandsFor v w bodies → (e : ℕ)
+    (x : Exchange) → exchange w e ≡ Some x → x.tid < 8
+low_tid v w bodies h e x known = by_content x.content refl
+  where
+    by_content : (c : Content) → x.content ≡ c → x.tid < 8
+    by_content (Frames mpdus) is = (begun v w bodies h e x known None (numbers_on_air mpdus)
+        (ap sending_of is)
+        (λ n. false)).tid
+    by_content (Request start) is = request_tid v w bodies h e x known start is
 
 none_by : (found : Option Exchange) → None ≡ option_map open_of found → found ≡ None
 none_by None h = refl
@@ -178,6 +192,10 @@ module _ (v : TransmitValue) (some : HasWorld v) (e : ℕ) (o : Open)
     some.stands.parts.others.turns.live o.station station_live,
     ap (λ (k : Config). k.stations) some.stands.parts.others.config,
   )
+
+  pub open_low : o.tid < 8
+  open_low = subst (λ (k : Open). k.tid < 8) (sym it.same)
+      (low_tid v some.world some.bodies some.stands e it.exchange_is it.known)
 
   charge_few : (air : Option ℕ) → is_bad_air v.config air ≡ false → unwrap_or air o.charge < 2 ^ 32
   charge_few air fine =
@@ -322,14 +340,15 @@ module _ (v : TransmitValue) (w : World) (bodies : ℕ → FrameValue) (h : Stan
     (air : Option ℕ) (allowed : refusal w (Asked (Done e answered air)) ≡ None)
     (z y : TransmitValue) (ended : Ended) where
   pub done_whole : Parts z (done_outcome w x answered air).world bodies →
-      ended_reply ended ≡ (done_outcome w x answered air).reply → y ≡ after_listing z o.station →
+      ended_reply ended ≡ (done_outcome w x answered air).reply → (c : Class) → c ≡ class_of o.tid →
+      y ≡ after_listing_in z o.station c →
       Meets w bodies (Asked (Done e answered air)) y (ended_reply ended)
-  done_whole parts told listed =
-      let met : Meets w bodies (Asked (Done e answered air)) (after_listing z x.station)
-      (done_outcome w x answered air).reply =
+  done_whole parts told c of listed =
+      let after : TransmitValue = after_listing_in z x.station (class_of x.tid) in
+      let met : Meets w bodies (Asked (Done e answered air)) after (done_outcome w x answered air).reply =
       done_meets v z w bodies e answered air x h known allowed parts in
-      let is : y ≡ after_listing z x.station = listed ∙ ap (λ (k : Open). after_listing z k.station) same in
+      let is : y ≡ after = listed ∙ ap (after_listing_in z o.station) of
+      ∙ ap (λ (k : Open). after_listing_in z k.station (class_of k.tid)) same in
       subst (λ (k : TransmitValue). Meets w bodies (Asked (Done e answered air)) k (ended_reply ended))
       (sym is)
-      (subst (λ (r : ReplyNote). Meets w bodies (Asked (Done e answered air)) (after_listing z x.station) r)
-      (sym told) met)
+      (subst (λ (r : ReplyNote). Meets w bodies (Asked (Done e answered air)) after r) (sym told) met)

@@ -24,7 +24,7 @@ use Rattle.wf_queue_flows_refines.proofs.Readers.{same_total}
 use Rattle.wf_octets_tim.specs.Sleepers.{sleeper}
 use Rattle.wf_send_half_refines.specs.Half.{TransmitValue}
 use Rattle.wf_send_half_refines.specs.Standing.{StandsFor, Meets}
-use Rattle.wf_send_half_refines.specs.Changes.{after_listing, after_enqueue}
+use Rattle.wf_send_half_refines.specs.Changes.{after_listing_in, after_enqueue}
 use Rattle.wf_send_half_refines.specs.Counting.{with_overlimit}
 use Rattle.wf_send_half_refines.proofs.Dropping.{finished_known}
 use Rattle.wf_send_half_refines.proofs.Enqueues.{enqueue_meets}
@@ -134,32 +134,36 @@ enqueue_refused v w bodies h f r is = refused_call v w bodies (enqueue_of f) r
 
 -- x is what the fields of the half v are
 pub accepted_is : (v x : TransmitValue) → x ≡ v →
-    (f p : FrameValue) (s : ℕ) (flows : FlowsValue) (dropped : Option ℕ) (counts : Counts)
+    (f p : FrameValue) (s : ℕ) (c : Class) (flows : FlowsValue) (dropped : Option ℕ) (counts : Counts)
     (y : TransmitValue) →
-    p ≡ as_accepted x f → s ≡ f.station → flows ≡ after_put x.flows (tid_number p.station p.tid) p →
+    p ≡ as_accepted x f → s ≡ f.station → c ≡ class_of f.tid →
+    flows ≡ after_put x.flows (tid_number p.station p.tid) p →
     dropped ≡ dropped_for_limit x.flows → counts ≡ with_overlimit dropped (one_accepted x.tally) →
-    y ≡ after_listing (record x { inside = x.inside + 1; flows = flows; tally = counts }) s →
-    y ≡ after_listing (after_enqueue v (as_accepted v f)) f.station
-accepted_is v x same f p s flows dropped counts y marked to put loses counted listed =
+    y ≡ after_listing_in (record x { inside = x.inside + 1; flows = flows; tally = counts }) s c →
+    y ≡ after_listing_in (after_enqueue v (as_accepted v f)) f.station (class_of f.tid)
+accepted_is v x same f p s c flows dropped counts y marked to of put loses counted listed =
     listed
-    ∙ ap (λ (z : TransmitValue). after_listing z s)
+    ∙ ap (λ (z : TransmitValue). after_listing_in z s c)
     (ap₂ (λ (z : FlowsValue) (c : Counts). record x { inside = x.inside + 1; flows = z; tally = c }) put
     (counted ∙ ap (λ (o : Option ℕ). with_overlimit o (one_accepted x.tally)) loses))
-    ∙ ap₂ (λ (g : FrameValue) (k : ℕ). after_listing (after_enqueue x g) k) marked to
-    ∙ ap (λ (z : TransmitValue). after_listing (after_enqueue z (as_accepted z f)) f.station) same
+    ∙ ap₂ (λ (g : FrameValue) (k : ℕ). after_listing_in (after_enqueue x g) k c) marked to
+    ∙ ap (after_listing_in (after_enqueue x (as_accepted x f)) f.station) of
+    ∙ ap (λ (z : TransmitValue). after_listing_in (after_enqueue z (as_accepted z f)) f.station
+    (class_of f.tid)) same
 
 pub enqueue_done : (v : TransmitValue) (w : World) (bodies : ℕ → FrameValue) → StandsFor v w bodies →
     (f : FrameValue) (y : TransmitValue) (id : ℕ) (dropped : Option ℕ) →
-    y ≡ after_listing (after_enqueue v (as_accepted v f)) f.station → id ≡ v.tally.accepted →
+    y ≡ after_listing_in (after_enqueue v (as_accepted v f)) f.station (class_of f.tid) →
+    id ≡ v.tally.accepted →
     dropped ≡ dropped_for_limit v.flows → length f.source ≡ source_octets →
     (1 ≤ length f.body) × (length f.body ≤ greatest_body) →
     None ≡ refusal w (enqueue_of f) →
     Meets w (with_body bodies (as_accepted v f)) (enqueue_of f) y (Accepted id dropped)
 enqueue_done v w bodies h f y id dropped is next loses source len done =
-    met_by (after_listing (after_enqueue v (as_accepted v f)) f.station) y w
+    met_by (after_listing_in (after_enqueue v (as_accepted v f)) f.station (class_of f.tid)) y w
     (with_body bodies (as_accepted v f)) (enqueue_of f) (Accepted id dropped) is
     (subst (λ (x : ReplyNote). Meets w (with_body bodies (as_accepted v f)) (enqueue_of f)
-    (after_listing (after_enqueue v (as_accepted v f)) f.station) x)
+    (after_listing_in (after_enqueue v (as_accepted v f)) f.station (class_of f.tid)) x)
     (sym (ap₂ (λ (k : ℕ) (o : Option ℕ). Accepted k o) next loses))
     (enqueue_meets v w bodies h (as_accepted v f) (sym done) refl refl source refl len.0 len.1))
 

@@ -39,7 +39,7 @@ use Rattle.wf_send_stations.specs.Members.{member, with_upper}
 use Rattle.wf_send_window.specs.Windows.{window_of}
 use Rattle.wf_send_half_refines.specs.Half.{TransmitValue, can_send_of}
 use Rattle.wf_send_half_refines.specs.Standing.{IsMember, AreBoth, IsReached, Parts, StandsFor, Meets}
-use Rattle.wf_send_half_refines.specs.Changes.{after_listing}
+use Rattle.wf_send_half_refines.specs.Changes.{after_listing_in}
 use Rattle.wf_send_half_refines.specs.Filling.{IsTurned}
 use Rattle.wf_send_half_refines.specs.Pulling.{sending_tid_of, after_turn, open_next, after_sending}
 use Rattle.wf_send_half_refines.proofs.Asked.{turn_sends, full_refused, idle_refused, not_refused}
@@ -163,15 +163,16 @@ module _ (v u : TransmitValue) (w : World) (bodies : ℕ → FrameValue) (s : �
 
     module _ (z : TransmitValue) (charge : ℕ) (pairs : List (ℕ × ℕ)) where
       request_sent : (start : ℕ) → IsRequestDue y z s t charge start →
-          Meets w bodies (Asked (Pull c)) (after_listing (after_sending z s t c charge (Starts_at start)) s)
+          Meets w bodies (Asked (Pull c))
+          (after_listing_in (after_sending z s t c charge (Starts_at start)) s c)
           (Sends z.exchanges s t charge (Starts start) (open_next z s t c charge (Starts_at start)).more)
       request_sent start k =
           subst (λ (x : TransmitValue). Meets w bodies (Asked (Pull c))
-          (after_listing (after_sending x s t c charge (Starts_at start)) s)
+          (after_listing_in (after_sending x s t c charge (Starts_at start)) s c)
           (Sends x.exchanges s t charge (Starts start) (open_next x s t c charge (Starts_at start)).more))
           (sym k.same)
           (subst (λ (n : ℕ). Meets w bodies (Asked (Pull c))
-          (after_listing (after_sending y s t c charge (Starts_at n)) s)
+          (after_listing_in (after_sending y s t c charge (Starts_at n)) s c)
           (Sends y.exchanges s t charge (Starts n) (open_next y s t c charge (Starts_at n)).more))
           (sym k.start_is)
           (request_meets v w bodies h.stands c s h.passes h.won t
@@ -179,7 +180,7 @@ module _ (v u : TransmitValue) (w : World) (bodies : ℕ → FrameValue) (s : �
 
       data_sent : (numbers : List ℕ) → IsData y z s t charge pairs numbers →
           Meets w (with_all_sent pairs bodies) (Asked (Pull c))
-          (after_listing (after_sending z s t c charge (Data numbers)) s)
+          (after_listing_in (after_sending z s t c charge (Data numbers)) s c)
           (Sends z.exchanges s t charge (Mpdus pairs) (open_next z s t c charge (Data numbers)).more)
       data_sent numbers k =
           let quiet : request_due (session turned_world s t) ≡ false =
@@ -188,7 +189,7 @@ module _ (v u : TransmitValue) (w : World) (bodies : ℕ → FrameValue) (s : �
           let p : IsPreparedAs z (aggregate_of turned_world s t) bodies s t charge numbers pairs =
           k.prepared turned_world bodies (record { turned = turned_half; quiet = quiet }) in
           subst (λ (l : List (ℕ × ℕ)). Meets w (with_all_sent pairs bodies) (Asked (Pull c))
-          (after_listing (after_sending z s t c charge (Data numbers)) s)
+          (after_listing_in (after_sending z s t c charge (Data numbers)) s c)
           (Sends z.exchanges s t charge (Mpdus l) (open_next z s t c charge (Data numbers)).more))
           (sym p.pairs_are)
           (data_meets v w bodies h.stands c s h.passes h.won t (t_is ∙ tid_of)
@@ -198,14 +199,14 @@ module _ (v u : TransmitValue) (w : World) (bodies : ℕ → FrameValue) (s : �
       part_sent : (sending : Sending) → IsPreparedFor y z s t charge pairs sending →
           Meets w (bodies_sent (reply_with (Send z.exchanges s t charge (start_sent sending)
           (open_next z s t c charge sending).more) pairs []) bodies) (Asked (Pull c))
-          (after_listing (after_sending z s t c charge sending) s)
+          (after_listing_in (after_sending z s t c charge sending) s c)
           (reply_with (Send z.exchanges s t charge (start_sent sending)
           (open_next z s t c charge sending).more) pairs [])
       part_sent (Data numbers) k = data_sent numbers k
       part_sent (Starts_at start) k = request_sent start k
 
       pub pull_done : (sending : Sending) → IsPreparedFor y z s t charge pairs sending → (a : TransmitValue) →
-          a ≡ after_listing (after_sending z s t c charge sending) s →
+          a ≡ after_listing_in (after_sending z s t c charge sending) s c →
           (brief : Brief) → brief ≡ Send z.exchanges s t charge (start_sent sending)
           (open_next z s t c charge sending).more →
           Meets w (bodies_sent (reply_with brief pairs []) bodies) (Asked (Pull c)) a
@@ -214,7 +215,8 @@ module _ (v u : TransmitValue) (w : World) (bodies : ℕ → FrameValue) (s : �
           subst (λ (x : TransmitValue). Meets w (bodies_sent (reply_with brief pairs []) bodies)
           (Asked (Pull c)) x (reply_with brief pairs [])) (sym a_is)
           (subst (λ (b : Brief). Meets w (bodies_sent (reply_with b pairs []) bodies) (Asked (Pull c))
-          (after_listing (after_sending z s t c charge sending) s) (reply_with b pairs [])) (sym brief_is)
+          (after_listing_in (after_sending z s t c charge sending) s c) (reply_with b pairs []))
+          (sym brief_is)
           (part_sent sending k))
 
     -- its number is past all that are open

@@ -1,6 +1,7 @@
 //! Frames that come in.
 
 ghost use Rattle.std.specs.Prelude.{◌≡◌, ◌<◌, ◌≤◌, ◌^◌, ◌&&◌, nat_le, ℕ, true, length, option_map, Some, IfSome, IfOk, IfErr};
+ghost use Rattle.wf_frame.specs.Classes.{class_of};
 ghost use Rattle.wf_frame.specs.Frames.{FrameValue, source_octets};
 ghost use Rattle.wf_frame.specs.declared.classes.Fate.TheVariants.{Held};
 ghost use Rattle.wf_frame.specs.declared.notes.Note.TheVariants.{Enqueue};
@@ -12,7 +13,7 @@ ghost use Rattle.wf_send_stations.specs.Tally.{counts_of, one_accepted};
 ghost use Rattle.wf_queue_flows.specs.Flows.{dropped_for_limit, loses_next};
 ghost use Rattle.wf_queue_flows_refines.specs.Frames.{with_body};
 ghost use Rattle.wf_octets_tim.specs.Sleepers.{sleeper};
-ghost use Rattle.wf_send_half_refines.specs.Changes.{after_enqueue, after_listing};
+ghost use Rattle.wf_send_half_refines.specs.Changes.{after_enqueue, after_listing_in};
 ghost use Rattle.wf_send_half_refines.specs.Counting.{with_overlimit};
 ghost use Rattle.wf_send_half_refines.specs.Standing.{StandsFor, Meets};
 ghost use Rattle.wf_send_half.specs.Enqueues.{enqueue_of, as_accepted, queued_in_class_of};
@@ -95,8 +96,8 @@ impl Transmit {
         requires room { self.old.inside < self.old.config.room }
         requires small { self.old.tally.accepted < 2 ^ 62 }
         requires some { HasWorld self.old }
-        ensures accepted { self.new ≡ after_listing
-            (after_enqueue self.old (as_accepted self.old parcel)) parcel.station }
+        ensures accepted { self.new ≡ after_listing_in
+            (after_enqueue self.old (as_accepted self.old parcel)) parcel.station (class_of parcel.tid) }
         ensures source { length parcel.source ≡ source_octets }
         ensures length { (1 ≤ length parcel.body) × (length parcel.body ≤ greatest_body) }
         ensures id { result.0 ≡ self.old.tally.accepted }
@@ -108,12 +109,13 @@ impl Transmit {
         ensures only { (s t : ℕ) → t < 8 → loses_next self.old.flows s t ≡ true →
             option_map {U = ℕ × ℕ} (λ lost. (lost.station, lost.tid)) result.1 ≡ Some (s, t) }
     {
-        let station = parcel.frame().station();
+        let frame = parcel.frame();
+        let (station, class) = (frame.station(), Class::of_tid(frame.tid()));
         let id = self.tally.accepted;
         let dropped = self.flows.put(marked(parcel, id, self.clock), self.clock);
         self.inside += 1;
         count_accepted(&mut self.tally, dropped);
-        self.list(station);
+        self.list_in(station, class);
         (id, dropped)
     }
 

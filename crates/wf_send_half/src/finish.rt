@@ -19,7 +19,7 @@ ghost use Rattle.wf_frame.specs.declared.notes.Note.TheVariants.{Asked};
 ghost use Rattle.wf_send_half.specs.Counts.{AreCounted, HasFate};
 
 use crate::Transmit;
-use wf_frame::Refusal;
+use wf_frame::{Class, Refusal};
 use wf_octets_bits::Bits256;
 use wf_octets_seq12::Seq12;
 use wf_queue_chain::Parcel;
@@ -98,7 +98,7 @@ impl Transmit {
         self.sched.charge(open.station, open.class, charge);
         self.members.charge(open.station, open.class, charge);
         let ended = self.settle(&open, &heard);
-        self.list(open.station);
+        self.list_in(open.station, Class::of_tid(open.tid));
         Ok(ended)
     }
 

@@ -13,7 +13,7 @@ ghost use Rattle.wf_send_window.specs.Windows.{window_of};
 ghost use Rattle.wf_def_world.specs.World.{World, Mpdu};
 ghost use Rattle.wf_send_half_refines.specs.Half.{TransmitValue, some_wait};
 ghost use Rattle.wf_send_half_refines.specs.Standing.{StandsFor, Meets, numbers_on_air};
-ghost use Rattle.wf_send_half_refines.specs.Changes.{after_listing};
+ghost use Rattle.wf_send_half_refines.specs.Changes.{after_listing_in};
 ghost use Rattle.wf_send_half_refines.specs.Filling.{IsToFill, IsTakingOff};
 ghost use Rattle.wf_send_half_refines.specs.Pulling.{sending_tid_of, after_turn, has_more_of, open_next, after_sending};
 ghost use Rattle.wf_send_half.specs.Replies.{bodies_sent};
@@ -95,8 +95,8 @@ impl Transmit {
         requires small { self.old.exchanges < 2 ^ 62 }
         requires room { length self.old.opened < 32 }
         requires above { All (λ x. x.number < self.old.exchanges) self.old.opened }
-        ensures opened { self.new ≡ after_listing
-            (after_sending self.old station tid class prepared.charge prepared.sending) station }
+        ensures opened { self.new ≡ after_listing_in
+            (after_sending self.old station tid class prepared.charge prepared.sending) station class }
         ensures brief { result ≡ Send self.old.exchanges station tid prepared.charge
             (start_sent prepared.sending)
             (open_next self.old station tid class prepared.charge prepared.sending).more }
@@ -116,7 +116,7 @@ impl Transmit {
         });
         self.exchanges += 1;
         self.sleepers.spend(station);
-        self.list(station);
+        self.list_in(station, class);
         Brief::Send {
             exchange,
             station,

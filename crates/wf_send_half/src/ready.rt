@@ -1,6 +1,6 @@
 //! Who can send, and who is listed for it.
 
-ghost use Rattle.std.specs.Prelude.{◌≡◌, ◌<◌, ◌&&◌, ℕ, nat_lt, if◌then◌else◌};
+ghost use Rattle.std.specs.Prelude.{◌≡◌, ◌<◌, ◌&&◌, ℕ, nat_lt};
 ghost use Rattle.wf_frame.specs.Frames.{FrameValue};
 ghost use Rattle.wf_def_world.specs.World.{World};
 ghost use Rattle.wf_def_world.specs.CanSend.{is_ready, has_credit};
@@ -8,11 +8,10 @@ ghost use Rattle.wf_frame.specs.Classes.{tid_number};
 ghost use Rattle.wf_queue_flows.specs.Flows.{frames_of_tid};
 ghost use Rattle.wf_send_window.specs.Window.{can_take};
 ghost use Rattle.wf_octets_tim.specs.Sleepers.{sleeper};
-ghost use Rattle.wf_sched_stations_refines.specs.Standing.{with_listed};
 ghost use Rattle.wf_send_window.specs.Windows.{window_of};
 ghost use Rattle.wf_send_half_refines.specs.Half.{can_send_of, is_ready_of};
 ghost use Rattle.wf_send_half_refines.specs.Standing.{StandsFor};
-ghost use Rattle.wf_send_half_refines.specs.Changes.{after_listing};
+ghost use Rattle.wf_send_half_refines.specs.Changes.{after_listing, after_listing_in};
 ghost use Rattle.wf_send_half.specs.Half.{can_send_in_of};
 
 use crate::Transmit;
@@ -96,13 +95,11 @@ impl Transmit {
         self.list_in(station, Class::Vo);
     }
 
-    // Lists a station in a class where it is ready in it and unlisted.
+    // Lists a station in a class where it is ready in it and unlisted. That is enough after a call by which
+    // it gets ready in no other class.
     pub(crate) fn list_in(&mut self, station: u16, class: Class)
         requires within { station < self.old.config.stations }
-        ensures { self.new ≡ record self.old {
-          sched = if is_ready_of self.old class station
-              then with_listed self.old.sched station class else self.old.sched;
-        } }
+        ensures { self.new ≡ after_listing_in self.old station class }
     {
         if self.is_ready(station, class) {
             self.sched.list(station, class);

@@ -159,7 +159,7 @@ module _ (w : World) (e : ℕ) (x : Exchange) (heard : Bool) (air : Option ℕ) 
             (λ q _. ap (λ (z : Shelves). length (z.queues q).items) (shelves_ended air w x heard));
       }
 
-  own_ended : (c : Class) → (class_of x.tid ≡ c → ⊥) →
+  pub own_ended : (c : Class) → (class_of x.tid ≡ c → ⊥) →
       is_ready (done_outcome w x heard air).world c x.station ≡ is_ready w c x.station
   unfolding without_exchange
   own_ended c other =

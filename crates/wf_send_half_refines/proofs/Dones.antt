@@ -4,6 +4,7 @@ use Rattle.std.specs.List.{list_any}
 use Rattle.wf_frame.specs.declared.notes.Note.TheVariants.{Asked}
 use Rattle.wf_frame.specs.declared.notes.Ask.TheVariants.{Done}
 use Rattle.wf_frame.specs.declared.notes.ReplyNote.TheVariants.{Ended}
+use Rattle.wf_frame.specs.Classes.{class_of}
 use Rattle.wf_frame.specs.Frames.{FrameValue}
 use Rattle.wf_def_agreement.specs.Session.{Session, Slot, slot, is_acknowledged, is_waiting, is_failed, numbers_where}
 use Rattle.wf_def_world.specs.World.{World, Exchange, Mpdu, Content, Frames, Request, is_live, session, exchange, on_session, without_exchange}
@@ -19,12 +20,14 @@ use Rattle.wf_send_window.specs.Window.{WindowValue, WindowStandsFor as WindowSt
 use Rattle.wf_send_window.specs.Windows.{WindowsHaveRoom, with_window}
 use Rattle.wf_send_half_refines.specs.Half.{TransmitValue}
 use Rattle.wf_send_half_refines.specs.Standing.{open_of, Parts, StandsFor, Meets}
-use Rattle.wf_send_half_refines.specs.Changes.{after_listing}
+use Rattle.wf_send_half_refines.specs.Changes.{after_listing_in}
+use Rattle.wf_send_half_refines.specs.Readiness.{IsListedBut}
 use Rattle.wf_send_half_refines.specs.Ending.{after_close}
 use Rattle.wf_send_half_refines.specs.Views.{Agreements, agreements}
 use Rattle.wf_send_half_refines.proofs.Views.{agreements_on_tid, roster_session, ledger_session}
 use Rattle.wf_send_half_refines.proofs.Stands.{leaves_parts}
-use Rattle.wf_send_half_refines.proofs.Meets.{listed_meets}
+use Rattle.wf_send_half_refines.proofs.Meets.{listed_in_meets}
+use Rattle.wf_send_half_refines.proofs.OneClass.{done_listed}
 use Rattle.wf_send_half_refines.proofs.Moves.{session_parts}
 use Rattle.wf_send_half_refines.proofs.Endings.{closed_agreements, closed_parts, open_live, of_windows}
 
@@ -132,13 +135,18 @@ pub done_meets : (v z : TransmitValue) (w : World) (bodies : ℕ → FrameValue)
     (air : Option ℕ) (x : Exchange) → StandsFor v w bodies → exchange w e ≡ Some x →
     refusal w (Asked (Done e heard air)) ≡ None →
     Parts z (done_outcome w x heard air).world bodies →
-    Meets w bodies (Asked (Done e heard air)) (after_listing z x.station) (done_outcome w x heard air).reply
+    Meets w bodies (Asked (Done e heard air)) (after_listing_in z x.station (class_of x.tid))
+    (done_outcome w x heard air).reply
 unfolding outcome_of outcome_where_open
 done_meets v z w bodies e heard air x h known done parts =
     let outcome : outcome_where_open w (exchange w e) (λ y. done_outcome w y heard air)
     ≡ done_outcome w x heard air =
     ap (λ (o : Option Exchange). outcome_where_open w o (λ y. done_outcome w y heard air)) known in
-    subst (λ (o : Outcome). Meets w bodies (Asked (Done e heard air)) (after_listing z x.station) o.reply)
+    subst (λ (o : Outcome). Meets w bodies (Asked (Done e heard air))
+    (after_listing_in z x.station (class_of x.tid)) o.reply)
     outcome
-    (listed_meets z w bodies (Asked (Done e heard air)) h.reached tt tt done
-    (subst (λ (o : Outcome). Parts z o.world bodies) (sym outcome) parts) x.station (ap station_of known))
+    (listed_in_meets z w bodies (Asked (Done e heard air)) h.reached tt tt done
+    (subst (λ (o : Outcome). Parts z o.world bodies) (sym outcome) parts) x.station (class_of x.tid)
+    (ap station_of known)
+    (subst (λ (o : Outcome). IsListedBut o.world x.station (class_of x.tid)) (sym outcome)
+    (done_listed w e x heard air h.reached known)))

@@ -24,7 +24,7 @@ use Rattle.wf_law_runs.specs.Places.{KeepsPlaces}
 use Rattle.wf_law_runs.proofs.Deficits.KeptStep.{NoRow, no_row}
 use Rattle.wf_law_runs.proofs.Frames.Places.{place_law}
 use Rattle.wf_send_stations.specs.Tally.{Counts, one_accepted}
-use Rattle.wf_frame.specs.Classes.{tid_number}
+use Rattle.wf_frame.specs.Classes.{class_of, tid_number}
 use Rattle.wf_queue_flows.specs.Flows.{dropped_for_limit}
 use Rattle.wf_queue_flows_refines.specs.Frames.{with_body}
 use Rattle.wf_queue_flows_refines.proofs.Bodies.{body_other, frames_put}
@@ -35,13 +35,14 @@ use Rattle.wf_queue_flows_refines.proofs.Readers.{same_dropped}
 use Rattle.wf_sched_stations_refines.proofs.Unchanged.{enqueued_leaves}
 use Rattle.wf_send_half_refines.specs.Half.{TransmitValue}
 use Rattle.wf_send_half_refines.specs.Standing.{counts_in, Parts, IsReached, StandsFor, Meets}
-use Rattle.wf_send_half_refines.specs.Changes.{after_listing, after_enqueue}
+use Rattle.wf_send_half_refines.specs.Changes.{after_listing_in, after_enqueue}
 use Rattle.wf_send_half_refines.specs.Counting.{with_overlimit}
 use Rattle.wf_send_half_refines.specs.Views.{Roster, roster, Ledger, ledger}
 use Rattle.wf_send_half_refines.proofs.Views.{agreements_rest, roster_rest, ledger_queue, ledger_queues}
 use Rattle.wf_send_half_refines.proofs.Stands.{WindowsStand, StationsStand, Pieces, to_pieces, of_pieces}
 use Rattle.wf_send_half_refines.proofs.Reached.{by_law}
-use Rattle.wf_send_half_refines.proofs.Meets.{listed_meets}
+use Rattle.wf_send_half_refines.proofs.Meets.{listed_in_meets}
+use Rattle.wf_send_half_refines.proofs.OneClass.{enqueue_listed}
 use Rattle.wf_send_half_refines.proofs.Ledgers.{counts_by, ledger_limit}
 use Rattle.wf_send_half_refines.proofs.Known.{windows_known}
 
@@ -166,7 +167,8 @@ pub enqueue_meets : (v : TransmitValue) (w : World) (bodies : ℕ → FrameValue
     f.id ≡ v.tally.accepted → f.stamp ≡ v.clock → length f.source ≡ source_octets → f.fate ≡ Held →
     1 ≤ length f.body → length f.body ≤ greatest_body →
     Meets w (with_body bodies f) (Enqueue f.station f.tid f.flow (length f.body))
-    (after_listing (after_enqueue v f) f.station) (Accepted f.id (dropped_for_limit v.flows))
+    (after_listing_in (after_enqueue v f) f.station (class_of f.tid))
+    (Accepted f.id (dropped_for_limit v.flows))
 unfolding outcome_of
 enqueue_meets v w bodies h f done next stamp source fate some most =
     let rows : NoRow (refusals w (Enqueue f.station f.tid f.flow (length f.body))) =
@@ -176,9 +178,11 @@ enqueue_meets v w bodies h f done next stamp source fate some most =
     let low_t : f.tid < 8 = grind (arith, nat_tests) in
     let id : f.id ≡ accepted_count w = next ∙ ap (λ (c : Counts). c.accepted) h.parts.others.tally in
     subst (λ (x : ReplyNote). Meets w (with_body bodies f) (Enqueue f.station f.tid f.flow (length f.body))
-    (after_listing (after_enqueue v f) f.station) x)
+    (after_listing_in (after_enqueue v f) f.station (class_of f.tid)) x)
     (reply_put v.flows w f.station f.tid f h.parts.others.flows id)
-    (listed_meets (after_enqueue v f) w (with_body bodies f)
+    (listed_in_meets (after_enqueue v f) w (with_body bodies f)
     (Enqueue f.station f.tid f.flow (length f.body)) h.reached some most done
     (enqueue_parts v w bodies f (places_kept w h.reached)
-    (live_of (is_live w f.station) rows.1.1.0) low_s low_t next stamp source fate h.parts) f.station refl)
+    (live_of (is_live w f.station) rows.1.1.0) low_s low_t next stamp source fate h.parts) f.station
+    (class_of f.tid) refl
+    (enqueue_listed w f.station f.tid f.flow (length f.body) h.reached some most done))

@@ -1,16 +1,25 @@
--- The station that a call concerns is listed where it is ready.
-use Rattle.std.proofs.Common.{◌≡◌, refl, ap, ◌∙◌, ℕ, Bool, true, false, not, ◌&&◌, if◌then◌else◌, List, [], ◌∷◌, Some}
+-- The station that a call concerns is listed where it is ready: in all classes, or in one, where the others
+-- list it already.
+use Rattle.std.proofs.Common.{◌≡◌, refl, ap, sym, ◌∙◌, ℕ, Bool, true, false, not, ◌&&◌, if◌then◌else◌, List, [], ◌∷◌, Some}
+use Rattle.std.proofs.lemmas.List.{set-get_or}
 use Rattle.wf_frame.specs.declared.classes.Class.{Class}
-use Rattle.wf_frame.specs.Classes.{all_classes}
+use Rattle.wf_frame.specs.declared.classes.Class.TheVariants.{Bk, Be, Vi, Vo}
+use Rattle.wf_frame.specs.Classes.{class_number, all_classes}
 use Rattle.wf_frame.specs.Frames.{FrameValue}
 use Rattle.wf_def_rotation.specs.Rotation.{Rotation, has_key, with_new_key}
 use Rattle.wf_def_world.specs.World.{World, rotation, with_rotation}
 use Rattle.wf_def_world.specs.CanSend.{is_ready, with_listing_in, with_listings_in, with_listings_of}
+use Rattle.wf_law_runs.proofs.Deficits.Books.{same_number}
 use Rattle.wf_queue_flows_refines.proofs.Leaves.{rotation_alone}
+use Rattle.wf_sched_stations.specs.ClassRotas.{ClassRota, SchedValue, no_class_rota, class_rota, class_rotation, with_class_rota}
+use Rattle.wf_sched_stations.proofs.Views.{turns-with_other}
+use Rattle.wf_sched_stations_refines.specs.Standing.{with_listed, with_listed_where}
 use Rattle.wf_sched_stations_refines.proofs.Listings.{concerned_stands}
+use Rattle.wf_sched_stations_refines.proofs.Readings.{lists_same}
 use Rattle.wf_send_half_refines.specs.Half.{TransmitValue, is_ready_of}
 use Rattle.wf_send_half_refines.specs.Standing.{Parts}
-use Rattle.wf_send_half_refines.specs.Changes.{after_listing}
+use Rattle.wf_send_half_refines.specs.Changes.{after_listing, after_listing_in}
+use Rattle.wf_send_half_refines.specs.Readiness.{IsListedBut}
 use Rattle.wf_send_half_refines.specs.Views.{agreements, HasSameViews}
 use Rattle.wf_send_half_refines.proofs.Views.{roster_rotation, ledger_rotation}
 use Rattle.wf_send_half_refines.proofs.Stands.{same_views}
@@ -96,3 +105,79 @@ pub nobody_new : (w : World) (s : ℕ) → ((c : Class) → is_ready w c s ≡ t
     has_key (rotation w c) s ≡ true) → with_listings_of w (Some s) ≡ w
 unfolding with_listings_of
 nobody_new w s h = none_listed all_classes w s h
+
+-- ---- a station that all classes but one list already where it is ready
+
+if_true : {X : Type 0} (b : Bool) (x y : X) → b ≡ true → (if b then x else y) ≡ x
+if_true true x y e = refl
+if_true false x y e = absurd (cc e)
+
+module _ (ready : Class → Bool) (s : ℕ) where
+  -- the station is listed in a class, where it is ready
+  abbrev listed_in : Class → SchedValue → SchedValue
+  listed_in c v = if ready c then with_listed v s c else v
+
+  -- where it is ready, the class lists it
+  abbrev IsThere : SchedValue → Class → Type 0
+  IsThere v d = ready d ≡ true → has_key (class_rotation v d) s ≡ true
+
+  listed_again : (v : SchedValue) (d : Class) → has_key (class_rotation v d) s ≡ true → with_listed v s d ≡ v
+  listed_again v d here =
+      ap (with_class_rota v d) (if_true (has_key (class_rotation v d) s) (class_rota v d) _ here)
+      ∙ ap (λ (ts : List ClassRota). record v { classes = ts })
+      (set-get_or v.classes (class_number d) no_class_rota)
+
+  idle : (v : SchedValue) (d : Class) → IsThere v d → listed_in d v ≡ v
+  idle v d h = go (ready d) h
+    where
+      go : (b : Bool) → (b ≡ true → has_key (class_rotation v d) s ≡ true) →
+          (if b then with_listed v s d else v) ≡ v
+      go true h = listed_again v d (h refl)
+      go false h = refl
+
+  beside : (v : SchedValue) (c d : Class) → (d ≡ c → ⊥) → class_rotation (listed_in c v) d
+      ≡ class_rotation v d
+  beside v c d other = go (ready c)
+    where
+      go : (b : Bool) → class_rotation (if b then with_listed v s c else v) d ≡ class_rotation v d
+      go true = ap (λ (t : ClassRota). t.rotation)
+          (turns-with_other v c d _ (λ e. other (same_number d c e)))
+      go false = refl
+
+  -- a class before c, and one behind it
+  before : (v : SchedValue) (c : Class) → ((d : Class) → (d ≡ c → ⊥) → IsThere v d) → (d : Class) →
+      (d ≡ c → ⊥) → listed_in d v ≡ v
+  before v c h d other = idle v d (h d other)
+
+  behind : (v : SchedValue) (c : Class) → ((d : Class) → (d ≡ c → ⊥) → IsThere v d) → (d : Class) →
+      (d ≡ c → ⊥) → listed_in d (listed_in c v) ≡ listed_in c v
+  behind v c h d other = idle (listed_in c v) d
+      (λ r. ap (λ (x : Rotation). has_key x s) (beside v c d other) ∙ h d other r)
+
+  one_of_all : (v : SchedValue) (c : Class) → ((d : Class) → (d ≡ c → ⊥) → IsThere v d) →
+      with_listed_where ready s all_classes v ≡ listed_in c v
+  one_of_all v Bk h =
+      ap (λ (x : SchedValue). listed_in Vo (listed_in Vi x)) (behind v Bk h Be (λ e. cc e))
+      ∙ ap (λ (x : SchedValue). listed_in Vo x) (behind v Bk h Vi (λ e. cc e))
+      ∙ behind v Bk h Vo (λ e. cc e)
+  one_of_all v Be h =
+      ap (λ (x : SchedValue). listed_in Vo (listed_in Vi (listed_in Be x))) (before v Be h Bk (λ e. cc e))
+      ∙ ap (λ (x : SchedValue). listed_in Vo x) (behind v Be h Vi (λ e. cc e))
+      ∙ behind v Be h Vo (λ e. cc e)
+  one_of_all v Vi h =
+      ap (λ (x : SchedValue). listed_in Vo (listed_in Vi (listed_in Be x))) (before v Vi h Bk (λ e. cc e))
+      ∙ ap (λ (x : SchedValue). listed_in Vo (listed_in Vi x)) (before v Vi h Be (λ e. cc e))
+      ∙ behind v Vi h Vo (λ e. cc e)
+  one_of_all v Vo h =
+      ap (λ (x : SchedValue). listed_in Vo (listed_in Vi (listed_in Be x))) (before v Vo h Bk (λ e. cc e))
+      ∙ ap (λ (x : SchedValue). listed_in Vo (listed_in Vi x)) (before v Vo h Be (λ e. cc e))
+      ∙ ap (λ (x : SchedValue). listed_in Vo x) (before v Vo h Vi (λ e. cc e))
+
+-- listing it in the one class is listing it in all
+pub one_listing : (v : TransmitValue) (w : World) (bodies : ℕ → FrameValue) (s : ℕ) (c : Class) →
+    Parts v w bodies → IsListedBut w s c → after_listing v s ≡ after_listing_in v s c
+one_listing v w bodies s c h others =
+    ap (λ (z : SchedValue). record v { sched = z })
+    (one_of_all (λ d. is_ready_of v d s) s v.sched c
+    (λ d other r. lists_same v.sched w s d h.others.turns
+    ∙ others d other (sym (ready_same v w bodies d s h) ∙ r)))

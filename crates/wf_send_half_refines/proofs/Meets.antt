@@ -15,9 +15,10 @@ use Rattle.wf_def_world.specs.Step.{Outcome, outcome_of, concerned_station, afte
 use Rattle.wf_law_runs.specs.Queues.{HasLength, IsAtMost}
 use Rattle.wf_send_half_refines.specs.Half.{TransmitValue}
 use Rattle.wf_send_half_refines.specs.Standing.{Parts, IsReached, StandsFor, Meets}
-use Rattle.wf_send_half_refines.specs.Changes.{after_listing}
+use Rattle.wf_send_half_refines.specs.Changes.{after_listing, after_listing_in}
+use Rattle.wf_send_half_refines.specs.Readiness.{IsListedBut}
 use Rattle.wf_send_half_refines.proofs.Reached.{reached_step, step_done, step_refused, nothing_changed}
-use Rattle.wf_send_half_refines.proofs.Listings.{listing_parts, nobody_new}
+use Rattle.wf_send_half_refines.proofs.Listings.{listing_parts, nobody_new, one_listing}
 
 -- a step that leaves this and answers this
 by_step : (v : TransmitValue) (w : World) (bodies : ℕ → FrameValue) (note : Note) (o : Outcome) →
@@ -42,6 +43,14 @@ module _ (v : TransmitValue) (w : World) (bodies : ℕ → FrameValue) (note : N
       (subst (λ (o : Option ℕ). Parts (after_listing v s)
       (with_listings_of (outcome_of w note).world o) bodies) (sym e)
       (listing_parts v (outcome_of w note).world bodies s h)) (reached_step w note r some most)
+
+  -- in one class alone, where each other one lists it already where it is ready
+  pub listed_in_meets : (s : ℕ) (c : Class) → concerned_station w note ≡ Some s →
+      IsListedBut (outcome_of w note).world s c →
+      Meets w bodies note (after_listing_in v s c) (outcome_of w note).reply
+  listed_in_meets s c e others =
+      subst (λ (z : TransmitValue). Meets w bodies note z (outcome_of w note).reply)
+      (one_listing v (outcome_of w note).world bodies s c h others) (listed_meets s e)
 
   -- the call concerns no station
   pub unlisted_meets : concerned_station w note ≡ None → Meets w bodies note v (outcome_of w note).reply

@@ -1,8 +1,6 @@
 -- An enqueue leaves its own station's readiness in each class but that of its TID, and those in which the
--- limit drops a frame.
-use Rattle.std.proofs.Common.{◌≡◌, refl, ap, sym, ◌∙◌, subst, arith, ℕ, true, false, ◌&&◌, List, [], ◌∷◌, ◌++◌, length, Option, Some, None, option_map, pos, inl, inr}
-use Rattle.std.specs.Prelude.{◌==◌}
-use Rattle.std.specs.List.{list_any}
+-- limit drops a frame. In these it does not get ready.
+use Rattle.std.proofs.Common.{◌≡◌, refl, ap, sym, ◌∙◌, subst, arith, ℕ, true, false, List, [], ◌∷◌, ◌++◌, length, Option, Some, None, option_map, pos, inl, inr}
 use Rattle.std.proofs.lemmas.Bool.{cases_eq, not-false}
 use Rattle.wf_frame.specs.declared.classes.Class.{Class}
 use Rattle.wf_frame.specs.declared.classes.Class.TheVariants.{Bk, Be, Vi, Vo}
@@ -14,7 +12,7 @@ use Rattle.wf_def_codel.specs.Codel.{Item}
 use Rattle.wf_def_rotation.specs.Rotation.{Rotation, has_key, with_new_key}
 use Rattle.wf_def_world.specs.World.{World, Station, Queue, new_queue, tid_of, queue, is_live, on_queue, with_queues, on_tid, on_station, with_station, with_frame_finished, with_fate}
 use Rattle.wf_def_world.specs.FlowQueues.{is_at_limit, longest_queue, without_head, after_limit, queue_for, with_appended, with_listed_queue, after_put_in}
-use Rattle.wf_def_world.specs.CanSend.{is_request, may_receive, is_ready}
+use Rattle.wf_def_world.specs.CanSend.{may_receive, is_ready}
 use Rattle.wf_def_world.specs.Refusals.{refusal, refusals}
 use Rattle.wf_def_world.specs.Step.{Outcome, outcome_of, step, next_item, with_frame, enqueue_outcome}
 use Rattle.wf_law_rules.proofs.Lemmas.Numbers.{on_if}
@@ -37,8 +35,8 @@ use Rattle.wf_queue_flows_refines.proofs.Leaves.{listed_alone}
 use Rattle.wf_send_half_refines.specs.Standing.{IsReached}
 use Rattle.wf_send_half_refines.specs.Readiness.{loses_in}
 use Rattle.wf_send_half_refines.proofs.Reached.{by_law, reached_step, step_done}
-use Rattle.wf_send_half_refines.proofs.Steady.{receives}
-use Rattle.wf_send_half_refines.proofs.Spared.{IsSameTid, ready_same_by, queued_same, ready_stepped, ready_others, neither, long_after_limit, not_the_longest}
+use Rattle.wf_send_half_refines.proofs.Steady.{asks, receives}
+use Rattle.wf_send_half_refines.proofs.Spared.{IsSameTid, IsLessTid, ready_same_by, ready_less_by, queued_same, queued_less, ready_stepped, ready_others, neither, long_after_limit, not_the_longest}
 
 -- ---- which queues each TID lists
 
@@ -201,12 +199,26 @@ module _ (w : World) (s t flow len : ℕ) (live : is_live w s ≡ true) where
           long_after_limit w q (not_the_longest w s j q spared k),
         )
 
+    enqueued_request : (j : ℕ) → asks s j (enqueue_outcome w s t flow len).world.opened ≡ asks s j w.opened
+    enqueued_request j = ap (λ (z : Rest). asks s j z.opened) (rest_enqueued w s t flow len)
+
+    enqueued_less : (j : ℕ) → (j ≡ t → ⊥) → IsLessTid w (enqueue_outcome w s t flow len).world s j
+    enqueued_less j other = record {
+      session = ap (λ (z : Rest). z.sessions s j) (rest_enqueued w s t flow len);
+      request = enqueued_request j;
+      queued = queued_less w (enqueue_outcome w s t flow len).world s j (enqueued_lists j other)
+          (λ q k.
+          let same : length (queue (enqueue_outcome w s t flow len).world q).items
+          ≡ length (queue (after_limit w) q).items =
+          ap (λ (y : Queue). length y.items) (enqueued_elsewhere q (not_into j q other k)) in
+          omega (arith, same, ((less_within_limit Any w).queues q).short));
+    }
+
     enqueued_tid : (j : ℕ) → (j ≡ t → ⊥) → loses_next_in w s j ≡ false →
         IsSameTid w (enqueue_outcome w s t flow len).world s j
     enqueued_tid j other spared = record {
       session = ap (λ (z : Rest). z.sessions s j) (rest_enqueued w s t flow len);
-      request = ap (λ (z : Rest). list_any (λ x. (x.station == s) && ((x.tid == j) && is_request x.content))
-          z.opened) (rest_enqueued w s t flow len);
+      request = enqueued_request j;
       queued = queued_same w (enqueue_outcome w s t flow len).world s j (enqueued_lists j other)
           (λ q k. enqueued_long j q other spared k);
     }
@@ -250,6 +262,22 @@ own_enqueued w s t flow len r done row c other spared =
     (λ e. other (ap class_of (sym e) ∙ lower_class c)) parts.0)
     (enqueued_tid w s t flow len live r done (upper_tid c)
     (λ e. other (ap class_of (sym e) ∙ upper_class c)) parts.1)
+
+-- where the limit drops a frame, the station does not get ready either
+pub own_less : (w : World) (s t flow len : ℕ) → IsReached (step w (Enqueue s t flow len)).world →
+    refusal w (Enqueue s t flow len) ≡ None → (c : Class) → (class_of t ≡ c → ⊥) →
+    is_ready (outcome_of w (Enqueue s t flow len)).world c s ≡ true → is_ready w c s ≡ true
+unfolding outcome_of
+own_less w s t flow len r done c other =
+    let row : NoRow (refusals w (Enqueue s t flow len)) = no_row (refusals w (Enqueue s t flow len)) done in
+    let live : is_live w s ≡ true = not-false _ row.1.1.0 in
+    let v : World = (enqueue_outcome w s t flow len).world in
+    ready_less_by w v c s (rest_live w v s (rest_enqueued w s t flow len))
+    (receives_rest w v s c (rest_enqueued w s t flow len))
+    (enqueued_less w s t flow len live r done (lower_tid c)
+    (λ e. other (ap class_of (sym e) ∙ lower_class c)))
+    (enqueued_less w s t flow len live r done (upper_tid c)
+    (λ e. other (ap class_of (sym e) ∙ upper_class c)))
 
 pub ready_enqueued : (w : World) (s t flow len : ℕ) → IsReached w → HasLength (Enqueue s t flow len) →
     IsAtMost greatest_body (Enqueue s t flow len) → (i : ℕ) (c : Class) → (i ≡ s → class_of t ≡ c → ⊥) →

@@ -266,7 +266,7 @@ module _ (w : World) (d : Class) (i : ℕ) (r : IsReached w) (won : (picked_stat
       ∙ upper_class c)))
       ∙ ready_after_pick w d c i
 
-  whole_pulled : (c : Class) → (d ≡ c → ⊥) → is_ready (outcome_of w (Asked (Pull d))).world c i
+  pub whole_pulled : (c : Class) → (d ≡ c → ⊥) → is_ready (outcome_of w (Asked (Pull d))).world c i
       ≡ is_ready w c i
   unfolding outcome_of
   whole_pulled c other = ap (λ (u : World). is_ready u c i) whole ∙ own_pulled c other

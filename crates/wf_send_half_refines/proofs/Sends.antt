@@ -25,13 +25,14 @@ use Rattle.wf_send_window.proofs.Calls.{due_is}
 use Rattle.wf_send_window.specs.Windows.{window_of}
 use Rattle.wf_send_half_refines.specs.Half.{TransmitValue}
 use Rattle.wf_send_half_refines.specs.Standing.{numbers_on_air, sending_of, Parts, StandsFor, Meets}
-use Rattle.wf_send_half_refines.specs.Changes.{after_listing}
+use Rattle.wf_send_half_refines.specs.Changes.{after_listing_in}
 use Rattle.wf_send_half_refines.specs.Pulling.{sending_tid_of, after_turn, is_wide_of, open_next, after_sending}
 use Rattle.wf_send_half_refines.specs.Filling.{IsTakingOff, IsTurned, IsFilled}
 use Rattle.wf_send_half_refines.specs.Views.{Agreements}
 use Rattle.wf_send_half_refines.proofs.Views.{agreements_session, agreements_share}
 use Rattle.wf_send_half_refines.proofs.Flies.{off_ends}
-use Rattle.wf_send_half_refines.proofs.Meets.{listed_meets}
+use Rattle.wf_send_half_refines.proofs.Meets.{listed_in_meets}
+use Rattle.wf_send_half_refines.proofs.OneClass.{pull_listed}
 use Rattle.wf_send_half_refines.proofs.Pulls.{pick_parts, sending_same, sending_low, turn_parts, send_parts, send_reply, wide_same}
 
 -- ---- the station that is picked has its turn
@@ -115,8 +116,8 @@ module _ (v : TransmitValue) (w : World) (bodies : ℕ → FrameValue) (h : Stan
   sent_meets : (sent : ℕ → FrameValue) (p : Prepared) → prepared_exchange w1 s t ≡ p →
       (x : TransmitValue) → Parts x p.world sent →
       is_live p.world s ≡ true →
-      Meets w sent (Asked (Pull c)) (after_listing
-      (after_sending x s t c p.charge (sending_of p.content)) s)
+      Meets w sent (Asked (Pull c)) (after_listing_in
+      (after_sending x s t c p.charge (sending_of p.content)) s c)
       (Send x.exchanges s t p.charge (part_of p.content)
       (open_next x s t c p.charge (sending_of p.content)).more)
   sent_meets sent p is x parts live =
@@ -125,18 +126,18 @@ module _ (v : TransmitValue) (w : World) (bodies : ℕ → FrameValue) (h : Stan
       ∙ ap (λ (k : ℕ). send_outcome s k c (prepared_exchange (after_tid_turn (after_pick w c) s c k) s k))
       (sym t_is) ∙ ap (send_outcome s t c) is in
       let half : TransmitValue = after_sending x s t c p.charge (sending_of p.content) in
-      subst (λ (r : ReplyNote). Meets w sent (Asked (Pull c)) (after_listing half s) r)
+      subst (λ (r : ReplyNote). Meets w sent (Asked (Pull c)) (after_listing_in half s c) r)
       (ap (λ (o : Outcome). o.reply) all ∙ sym (send_reply x sent s t c p parts live))
-      (listed_meets half w sent (Asked (Pull c)) h.reached tt tt done
+      (listed_in_meets half w sent (Asked (Pull c)) h.reached tt tt done
       (subst (λ (o : Outcome). Parts half o.world sent) (sym all)
-      (send_parts x sent s t c p parts live)) s won)
+      (send_parts x sent s t c p parts live)) s c won (pull_listed w c s h.reached won))
 
   -- a request
   pub request_meets : (x : TransmitValue) → IsTurned x w1 bodies s t →
       is_some (window_of x.windows s t).due ≡ true → (charge : ℕ) →
       charge ≡ request_charge (is_wide_of x s t) →
-      Meets w bodies (Asked (Pull c)) (after_listing
-      (after_sending x s t c charge (Starts_at (window_of x.windows s t).start)) s)
+      Meets w bodies (Asked (Pull c)) (after_listing_in
+      (after_sending x s t c charge (Starts_at (window_of x.windows s t).start)) s c)
       (Send x.exchanges s t charge (Starts (window_of x.windows s t).start)
       (open_next x s t c charge (Starts_at (window_of x.windows s t).start)).more)
   request_meets x to due charge charge_is =
@@ -146,12 +147,12 @@ module _ (v : TransmitValue) (w : World) (bodies : ℕ → FrameValue) (h : Stan
       let meets = sent_meets bodies (prepared_request w1 s t) (due_prepared w1 s t is_due) x to.parts to.live
       in
       subst (λ (n : ℕ). Meets w bodies (Asked (Pull c))
-      (after_listing (after_sending x s t c n (Starts_at (window_of x.windows s t).start)) s)
+      (after_listing_in (after_sending x s t c n (Starts_at (window_of x.windows s t).start)) s c)
       (Send x.exchanges s t n (Starts (window_of x.windows s t).start)
       (open_next x s t c n (Starts_at (window_of x.windows s t).start)).more))
       (ap request_charge (sym (wide_same x w1 bodies s t to.parts to.live to.tid)) ∙ sym charge_is)
       (subst (λ (k : ℕ). Meets w bodies (Asked (Pull c))
-      (after_listing (after_sending x s t c (prepared_request w1 s t).charge (Starts_at k)) s)
+      (after_listing_in (after_sending x s t c (prepared_request w1 s t).charge (Starts_at k)) s c)
       (Send x.exchanges s t (prepared_request w1 s t).charge (Starts k)
       (open_next x s t c (prepared_request w1 s t).charge (Starts_at k)).more))
       (sym stands.start) meets)
@@ -160,8 +161,8 @@ module _ (v : TransmitValue) (w : World) (bodies : ℕ → FrameValue) (h : Stan
   data_sent : (a : Aggregate) → aggregate_of w1 s t ≡ a → request_due (session w1 s t) ≡ false →
       (x : TransmitValue) (sent : ℕ → FrameValue) → Parts x (prepared_data s t a).world sent →
       is_live (prepared_data s t a).world s ≡ true →
-      Meets w sent (Asked (Pull c)) (after_listing
-      (after_sending x s t c (aggregate_charge s t a) (Data (numbers_on_air a.mpdus))) s)
+      Meets w sent (Asked (Pull c)) (after_listing_in
+      (after_sending x s t c (aggregate_charge s t a) (Data (numbers_on_air a.mpdus))) s c)
       (Send x.exchanges s t (aggregate_charge s t a) (Mpdus (map (λ m. (m.id, m.number % 4096)) a.mpdus))
       (open_next x s t c (aggregate_charge s t a) (Data (numbers_on_air a.mpdus))).more)
   unfolding prepared_data
@@ -172,7 +173,7 @@ module _ (v : TransmitValue) (w : World) (bodies : ℕ → FrameValue) (h : Stan
       (x : TransmitValue) (u : World) (sent : ℕ → FrameValue) → IsTakingOff x u sent s t a.world.exchanges []
       (prepared_data s t a).world →
       (charge : ℕ) (numbers : List ℕ) → charge ≡ aggregate_charge s t a → numbers ≡ numbers_on_air a.mpdus →
-      Meets w sent (Asked (Pull c)) (after_listing (after_sending x s t c charge (Data numbers)) s)
+      Meets w sent (Asked (Pull c)) (after_listing_in (after_sending x s t c charge (Data numbers)) s c)
       (Send x.exchanges s t charge (Mpdus (map (λ m. (m.id, m.number % 4096)) a.mpdus))
       (open_next x s t c charge (Data numbers)).more)
   data_meets a is quiet x u sent left charge numbers charge_is numbers_is =
@@ -183,11 +184,11 @@ module _ (v : TransmitValue) (w : World) (bodies : ℕ → FrameValue) (h : Stan
       let meets = data_sent a is quiet x sent (off_ends x u sent s t a.world.exchanges
       (prepared_data s t a).world left) live in
       subst (λ (n : ℕ). Meets w sent (Asked (Pull c))
-      (after_listing (after_sending x s t c n (Data numbers)) s)
+      (after_listing_in (after_sending x s t c n (Data numbers)) s c)
       (Send x.exchanges s t n (Mpdus (map (λ m. (m.id, m.number % 4096)) a.mpdus))
       (open_next x s t c n (Data numbers)).more)) (sym charge_is)
       (subst (λ (ns : List ℕ). Meets w sent (Asked (Pull c))
-      (after_listing (after_sending x s t c (aggregate_charge s t a) (Data ns)) s)
+      (after_listing_in (after_sending x s t c (aggregate_charge s t a) (Data ns)) s c)
       (Send x.exchanges s t (aggregate_charge s t a) (Mpdus (map (λ m. (m.id, m.number % 4096)) a.mpdus))
       (open_next x s t c (aggregate_charge s t a) (Data ns)).more)) (sym numbers_is) meets)
 

@@ -1,7 +1,7 @@
 -- Of a station that a call does not concern, readiness is what it was in each class in which the limit drops
 -- none of its frames.
 use Rattle.std.proofs.Common.{◌≡◌, refl, ap, sym, ◌∙◌, subst, arith, ℕ, suc, ◌<◌, ◌≤◌, Bool, true, false, not, ◌&&◌, ◌||◌, if◌then◌else◌, nat_lt, List, [], ◌∷◌, ◌++◌, length, Option, Some, None, unwrap_or, option_map, inl, inr, sum_by, is_some, IfSome, pos}
-use Rattle.std.proofs.lemmas.Bool.{cases_eq, not-false}
+use Rattle.std.proofs.lemmas.Bool.{cases_eq, not-false, and_parts, ltb-true, lt-ltb}
 use Rattle.std.proofs.lemmas.List.{length-append}
 use Rattle.std.proofs.lemmas.List.Sums.{sum_by-cons}
 use Rattle.wf_frame.specs.declared.classes.Class.{Class}
@@ -18,7 +18,7 @@ use Rattle.wf_def_rotation.specs.Rotation.{Rotation, has_key, in_order}
 use Rattle.wf_def_agreement.specs.Session.{Session, waiting_numbers, request_due, has_room}
 use Rattle.wf_def_world.specs.World.{World, Station, Queue, Exchange, no_tid, no_station, new_queue, tid_of, session, queue, is_live, rotation, exchange, on_queue, with_rotation, on_station, with_station, on_share, with_frame_finished, with_fate, with_queues, on_tid}
 use Rattle.wf_def_world.specs.FlowQueues.{frames_queued, is_at_limit, longest_queue, without_head, after_limit, queue_for, with_appended, with_listed_queue, after_put_in}
-use Rattle.wf_def_world.specs.CanSend.{request_open, can_send, has_credit, may_receive, is_ready, with_listing_in, with_listings_in, with_listings_of}
+use Rattle.wf_def_world.specs.CanSend.{request_open, can_send, can_send_in, has_credit, may_receive, is_ready, with_listing_in, with_listings_in, with_listings_of}
 use Rattle.wf_def_world.specs.Exchanges.{after_pick, picked_station, station_need}
 use Rattle.wf_def_world.specs.Refusals.{refusal, refusals}
 use Rattle.wf_def_world.specs.Step.{Outcome, outcome_of, concerned_station, after_refusal, step, next_item, with_frame, enqueue_outcome, join_outcome, rate_outcome, tick_outcome, pull_outcome_for, pull_outcome, outcome_where_open, sleep_outcome, wake_outcome, poll_outcome, rx_outcome, reap_outcome, arrive_outcome, answer_outcome, done_outcome}
@@ -59,6 +59,53 @@ can_send_same w v s t h =
     ∙ ap (λ (b : Bool). sends_by (session w s t) b (frames_queued v s t)) h.request
     ∙ ap (λ (n : ℕ). sends_by (session w s t) (request_open w s t) n) h.queued
 
+-- What a TID sends by is the same in v as in w, but that fewer frames may be queued.
+pub record IsLessTid (w v : World) (s t : ℕ) : Type 0 where
+  pub session : session v s t ≡ session w s t
+  pub request : request_open v s t ≡ request_open w s t
+  pub queued : frames_queued v s t ≤ frames_queued w s t
+
+sends_more : (x : Session) (asked : Bool) (n m : ℕ) → n ≤ m → sends_by x asked n ≡ true →
+    sends_by x asked m ≡ true
+sends_more x asked n m h e = go (request_due x) (nat_lt 0 (length (waiting_numbers x))) (has_room x) e
+  where
+    go : (a b c : Bool) → (if a then not asked else b || (nat_lt 0 n && c)) ≡ true →
+        (if a then not asked else b || (nat_lt 0 m && c)) ≡ true
+    go true b c e = e
+    go false true c e = refl
+    go false false c e =
+        let parts = and_parts _ _ e in
+        let some : 0 < n = ltb-true _ _ parts.0 in
+        let more : nat_lt 0 m ≡ true = lt-ltb _ _ (omega arith) in
+        rw (more, parts.1) refl
+
+can_send_less : (w v : World) (s t : ℕ) → IsLessTid w v s t → can_send v s t ≡ true → can_send w s t ≡ true
+can_send_less w v s t h e = sends_more (session w s t) (request_open w s t) (frames_queued v s t)
+    (frames_queued w s t) h.queued
+    (sym (ap (λ (x : Session). sends_by x (request_open v s t) (frames_queued v s t)) h.session
+    ∙ ap (λ (b : Bool). sends_by (session w s t) b (frames_queued v s t)) h.request) ∙ e)
+
+either_less : (a b c d : Bool) → (a ≡ true → c ≡ true) → (b ≡ true → d ≡ true) → a || b ≡ true →
+    c || d ≡ true
+either_less true b c d h k e = ap (λ (z : Bool). z || d) (h refl)
+either_less false b true d h k e = refl
+either_less false b false d h k e = k e
+
+-- where fewer frames may be queued, nobody gets ready
+pub ready_less_by : (w v : World) (c : Class) (s : ℕ) → is_live v s ≡ is_live w s →
+    may_receive v s c ≡ may_receive w s c → IsLessTid w v s (lower_tid c) → IsLessTid w v s (upper_tid c) →
+    is_ready v c s ≡ true → is_ready w c s ≡ true
+ready_less_by w v c s live may lower upper h =
+    let parts = and_parts (is_live v s) _ h in
+    let more = and_parts (can_send_in v s c) (may_receive v s c) parts.1 in
+    let is : is_live w s ≡ true = sym live ∙ parts.0 in
+    let sends_there : can_send_in w s c ≡ true =
+    either_less (can_send v s (lower_tid c)) (can_send v s (upper_tid c)) (can_send w s (lower_tid c))
+    (can_send w s (upper_tid c)) (can_send_less w v s (lower_tid c) lower)
+    (can_send_less w v s (upper_tid c) upper) more.0 in
+    let receives_there : may_receive w s c ≡ true = sym may ∙ more.1 in
+    rw (is, sends_there, receives_there) refl
+
 -- ready, by whether the station is live, its two TIDs can send, and it may receive
 abbrev ready_by : Bool → Bool → Bool → Bool → Bool
 ready_by live lower upper may = live && ((lower || upper) && may)
@@ -97,6 +144,27 @@ queued_same w v s t lists long =
     ap (λ (r : Rotation). sum_by (λ q. length (queue v q).items) (in_order r)) lists
     ∙ sum_same (λ q. length (queue v q).items) (λ q. length (queue w q).items)
     (in_order (tid_of w s t).queues) long
+
+sum_less : (f g : ℕ → ℕ) (qs : List ℕ) → ((q : ℕ) → 0 < on qs q → f q ≤ g q) → sum_by f qs ≤ sum_by g qs
+sum_less f g [] h = omega arith
+sum_less f g (q ∷ qs) h =
+    omega (
+      arith,
+      sum_by-cons f q qs,
+      sum_by-cons g q qs,
+      h q (omega (arith, on-cons_same q qs)),
+      sum_less f g qs (λ p k. h p (omega (arith, on-cons q p qs))),
+    )
+
+-- the same queues are listed, none longer than before
+pub queued_less : (w v : World) (s t : ℕ) → (tid_of v s t).queues ≡ (tid_of w s t).queues →
+    ((q : ℕ) → Lists w s t q → length (queue v q).items ≤ length (queue w q).items) →
+    frames_queued v s t ≤ frames_queued w s t
+queued_less w v s t lists long =
+    subst (λ (r : Rotation). sum_by (λ q. length (queue v q).items) (in_order r) ≤ frames_queued w s t)
+    (sym lists)
+    (sum_less (λ q. length (queue v q).items) (λ q. length (queue w q).items)
+    (in_order (tid_of w s t).queues) long)
 
 -- ---- a call that concerns another station
 

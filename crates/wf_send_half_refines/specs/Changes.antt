@@ -1,11 +1,12 @@
 -- Changes of a transmit half.
-use Rattle.std.specs.Prelude.{◌≡◌, ◌≢◌, ◌<◌, ℕ, ◌+◌, List, length}
+use Rattle.std.specs.Prelude.{◌≡◌, ◌≢◌, ◌<◌, ℕ, ◌+◌, if◌then◌else◌, List, length}
 use Rattle.wf_frame.specs.Classes.{all_classes, tid_number}
+use Rattle.wf_frame.specs.declared.classes.Class.{Class}
 use Rattle.wf_frame.specs.Frames.{FrameValue}
 use Rattle.wf_def_agreement.specs.Session.{new_session}
 use Rattle.wf_send_stations.specs.Tally.{one_accepted}
 use Rattle.wf_queue_flows.specs.Flows.{dropped_for_limit, after_put}
-use Rattle.wf_sched_stations_refines.specs.Standing.{with_listed_where}
+use Rattle.wf_sched_stations_refines.specs.Standing.{with_listed, with_listed_where}
 use Rattle.wf_send_window.specs.Window.{WindowValue, WindowStandsFor}
 use Rattle.wf_send_window.specs.Windows.{WindowsHaveRoom, window_of}
 use Rattle.wf_send_half_refines.specs.Counting.{with_overlimit}
@@ -15,6 +16,11 @@ use Rattle.wf_send_half_refines.specs.Half.{TransmitValue, is_ready_of}
 abbrev pub after_listing : TransmitValue → ℕ → TransmitValue
 after_listing v s =
     record v { sched = with_listed_where (λ c. is_ready_of v c s) s all_classes v.sched }
+
+-- a station is listed in one class, where it is ready in it
+abbrev pub after_listing_in : TransmitValue → ℕ → Class → TransmitValue
+after_listing_in v s c =
+    record v { sched = if is_ready_of v c s then with_listed v.sched s c else v.sched }
 
 -- the eight windows of a station begin new sessions, from this number on; the others stay
 pub record AreReset (before after : List WindowValue) (s first size : ℕ) : Type 0 where

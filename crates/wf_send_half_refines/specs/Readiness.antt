@@ -1,11 +1,13 @@
--- Which call changes who is ready.
-use Rattle.std.specs.Prelude.{ℕ, Bool, true, false, ◌||◌}
+-- Which call changes who is ready, and who is listed then.
+use Rattle.std.specs.Prelude.{◌≡◌, ℕ, Bool, true, false, ◌||◌}
 use Rattle.wf_frame.specs.declared.classes.Class.{Class}
 use Rattle.wf_frame.specs.declared.notes.Ask.TheVariants.{Rate, Tick, Arrive, Answer, Rx, Reap}
 use Rattle.wf_frame.specs.declared.notes.Note.{Note}
 use Rattle.wf_frame.specs.declared.notes.Note.TheVariants.{Enqueue, Asked}
 use Rattle.wf_frame.specs.Classes.{lower_tid, upper_tid}
-use Rattle.wf_def_world.specs.World.{World}
+use Rattle.wf_def_rotation.specs.Rotation.{has_key}
+use Rattle.wf_def_world.specs.World.{World, rotation}
+use Rattle.wf_def_world.specs.CanSend.{is_ready}
 use Rattle.wf_queue_flows_refines.specs.Frames.{loses_next_in}
 
 -- whether the call drops a frame of a station in a class for the limit, where it is not refused
@@ -24,3 +26,7 @@ leaves_ready (Asked (Answer exchange)) = true
 leaves_ready (Asked (Rx station class air)) = true
 leaves_ready (Asked Reap) = true
 leaves_ready _ = false
+
+-- each class in which a station is ready lists it, but maybe class c
+abbrev pub IsListedBut : World → ℕ → Class → Type 0
+IsListedBut w s c = (d : Class) → (d ≡ c → ⊥) → is_ready w d s ≡ true → has_key (rotation w d) s ≡ true

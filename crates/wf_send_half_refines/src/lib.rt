@@ -69,14 +69,14 @@ ghost use Rattle.wf_send_stations.specs.Members.{member, on_member, new_member, 
 ghost use Rattle.wf_octets_tim.specs.Sleepers.{sleeper, with_sleeper, awake};
 ghost use Rattle.wf_send_half_refines.specs.Half.{TransmitValue, opening_half, some_wait, can_send_of, is_ready_of};
 ghost use Rattle.wf_send_half_refines.specs.Standing.{open_of, counts_in, HasWindows, Parts, IsReached, StandsFor, Meets, sending_of, numbers_on_air};
-ghost use Rattle.wf_send_half_refines.specs.Changes.{after_listing, AreReset, after_enqueue};
+ghost use Rattle.wf_send_half_refines.specs.Changes.{after_listing, after_listing_in, AreReset, after_enqueue};
 ghost use Rattle.wf_send_half_refines.specs.Counting.{with_overlimit};
 ghost use Rattle.wf_send_half_refines.specs.Ending.{after_close, after_finish, after_answer, IsEnding, state_left};
 ghost use Rattle.wf_send_half_refines.specs.Leaving.{after_expelled, after_tid_purged, after_leave, IsLeaving, IsExpelling, IsExpelled};
 ghost use Rattle.wf_send_half_refines.specs.Pulling.{sending_tid_of, after_turn, is_wide_of, open_next, after_sending};
 ghost use Rattle.wf_send_half_refines.specs.Filling.{AreWaiting, IsTakingOff, IsUnderway, with_one_fresh, IsFilling, IsFilled, after_giving, fresh_mpdu, room_for, IsToFill, IsChoosing, IsTurned};
 ghost use Rattle.wf_send_half_refines.specs.Views.{agreements, roster, ledger, HasSameViews, KeepsView, KeepsSums};
-ghost use Rattle.wf_send_half_refines.specs.Readiness.{loses_in, leaves_ready};
+ghost use Rattle.wf_send_half_refines.specs.Readiness.{loses_in, leaves_ready, IsListedBut};
 
 pub mod bodies;
 
@@ -217,6 +217,22 @@ pub fn the_end_of_a_call()
         has_key (rotation w c) s ≡ true }
 {}
 
+/// It is enough to list a station in one class where each other class in which it is ready lists it already.
+/// So it is after an enqueue, a pull and a Done, for the class of the frame's TID, the pull's, and the class
+/// of the exchange's TID: in no other one does their station get ready, nor is it taken off the lists.
+pub fn one_class_is_enough()
+    ensures listing { (v : TransmitValue) (w : World) (bodies : ℕ → FrameValue) (s : ℕ) (c : Class) →
+        Parts v w bodies → IsListedBut w s c → after_listing v s ≡ after_listing_in v s c }
+    ensures enqueue { (w : World) (s t flow len : ℕ) → IsReached w → HasLength (Enqueue s t flow len) →
+        IsAtMost greatest_body (Enqueue s t flow len) → refusal w (Enqueue s t flow len) ≡ None →
+        IsListedBut (outcome_of w (Enqueue s t flow len)).world s (class_of t) }
+    ensures pull { (w : World) (c : Class) (s : ℕ) → IsReached w → (picked_station w c).winner ≡ Some s →
+        IsListedBut (outcome_of w (Asked (Pull c))).world s c }
+    ensures done { (w : World) (e : ℕ) (x : Exchange) (heard : Bool) (air : Option ℕ) → IsReached w →
+        exchange w e ≡ Some x →
+        IsListedBut (done_outcome w x heard air).world x.station (class_of x.tid) }
+{}
+
 /// The calls that move no frame, but for a reap: where the machine does not refuse one, the half that is
 /// changed like this stands for the step, and the reply is the step's. Tick and Reap concern no station; a
 /// rate and a receive charge leave who is ready, so they list nobody.
@@ -298,7 +314,8 @@ pub fn an_enqueue()
         f.id ≡ v.tally.accepted → f.stamp ≡ v.clock → length f.source ≡ source_octets → f.fate ≡ Held →
         1 ≤ length f.body → length f.body ≤ greatest_body →
         Meets w (with_body bodies f) (Enqueue f.station f.tid f.flow (length f.body))
-        (after_listing (after_enqueue v f) f.station) (Accepted f.id (dropped_for_limit v.flows)) }
+        (after_listing_in (after_enqueue v f) f.station (class_of f.tid))
+        (Accepted f.id (dropped_for_limit v.flows)) }
 {}
 
 /// An exchange of data ends: it is closed and charged, and then its numbers are settled, in order. `begins`
@@ -365,7 +382,8 @@ pub fn an_exchange_of_a_request_ends()
 {}
 
 /// A whole Done: where the parts stand for what it makes of the world, the station of the exchange is listed
-/// where it is ready. That station is live. The reply counts the numbers of the exchange by their states.
+/// in the class of its TID, where it is ready in it. That station is live. The reply counts the numbers of
+/// the exchange by their states.
 pub fn a_done()
     ensures live { (w : World) → IsReached w → (e : ℕ) (x : Exchange) → exchange w e ≡ Some x →
         is_live w x.station ≡ true }
@@ -373,7 +391,7 @@ pub fn a_done()
         (air : Option ℕ) (x : Exchange) → StandsFor v w bodies →
         exchange w e ≡ Some x →
         refusal w (Asked (Done e heard air)) ≡ None → Parts z (done_outcome w x heard air).world bodies →
-        Meets w bodies (Asked (Done e heard air)) (after_listing z x.station)
+        Meets w bodies (Asked (Done e heard air)) (after_listing_in z x.station (class_of x.tid))
         (done_outcome w x heard air).reply }
     ensures reply { (w : World) (x : Exchange) (heard : Bool) (air : Option ℕ) →
         (done_outcome w x heard air).reply ≡ Ended
@@ -713,8 +731,8 @@ pub fn a_pull()
         (x : TransmitValue) → IsTurned x (after_tid_turn (after_pick w c) s c t) bodies s t →
         is_some (window_of x.windows s t).due ≡ true →
         (charge : ℕ) → charge ≡ request_charge (is_wide_of x s t) →
-        Meets w bodies (Asked (Pull c)) (after_listing
-        (after_sending x s t c charge (Starts_at (window_of x.windows s t).start)) s)
+        Meets w bodies (Asked (Pull c)) (after_listing_in
+        (after_sending x s t c charge (Starts_at (window_of x.windows s t).start)) s c)
         (Send x.exchanges s t charge (Starts (window_of x.windows s t).start)
         (open_next x s t c charge (Starts_at (window_of x.windows s t).start)).more) }
     ensures charge { (v : TransmitValue) (bodies : ℕ → FrameValue) (s t : ℕ) (room : RoomValue)
@@ -730,7 +748,7 @@ pub fn a_pull()
         (x : TransmitValue) (u : World) (sent : ℕ → FrameValue) →
         IsTakingOff x u sent s t a.world.exchanges [] (prepared_data s t a).world →
         (charge : ℕ) (numbers : List ℕ) → charge ≡ aggregate_charge s t a → numbers ≡ numbers_on_air a.mpdus →
-        Meets w sent (Asked (Pull c)) (after_listing (after_sending x s t c charge (Data numbers)) s)
+        Meets w sent (Asked (Pull c)) (after_listing_in (after_sending x s t c charge (Data numbers)) s c)
         (Send x.exchanges s t charge (Mpdus (map (λ m. (m.id, m.number % 4096)) a.mpdus))
         (open_next x s t c charge (Data numbers)).more) }
 {}

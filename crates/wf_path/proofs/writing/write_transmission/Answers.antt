@@ -6,7 +6,7 @@ use Rattle.wf_send_exchanges.specs.declared.opened.Open.{Open}
 use Rattle.wf_send_exchanges.specs.declared.opened.Sending.{Sending}
 use Rattle.wf_send_exchanges.specs.Exchanges.{number_carried}
 use Rattle.wf_path.specs.Transmissions.{bar_of}
-use Rattle.wf_path.proofs.Opened.{open_low}
+use Rattle.wf_send_half.proofs.Dones.{open_low}
 use Rattle.wf_path.proofs.Flying.{some_flies}
 use Rattle.wf_path.proofs.Written.{take_whole, where_ok, not_open, past_last, data_sent, data_fault, request_sent, request_fault}
 use Rattle.wf_path.proofs.writing.write_transmission.Goals as goal

@@ -1,6 +1,7 @@
 use Rattle.std.proofs.Common.{◌≡◌, ◌<◌, ◌∙◌, ℕ, true, Some, sym, ap, subst}
 use Rattle.std.specs.Prelude.{IfSome, option_map}
 use Rattle.wf_queue_flows.specs.Flows.{loses_next}
+use Rattle.wf_frame.specs.Classes.{class_of}
 use Rattle.wf_frame.specs.Frames.{FrameValue}
 use Rattle.wf_send_half_refines.specs.Half.{TransmitValue}
 use Rattle.wf_send_half.specs.Half.{HasWorld}
@@ -16,10 +17,13 @@ put-dropped-requires-clause-room c =
 pub returns-clause-accepted : goal.returns-clause-accepted
 returns-clause-accepted c =
     accepted_is c.args.self.now (view_of c.self.inside) c.self.view_is c.args.parcel c.marked.result
-    c.station-station.result c.put-dropped.new.self (option_map (λ l. l.id) c.put-dropped.result) _
-    c.list.new.self
-    c.marked.ensures.marked (c.station-station.ensures ∙ ap (λ (f : FrameValue). f.station) c.frame.ensures)
-    c.put-dropped.ensures.put c.put-dropped.ensures.dropped c.count_accepted.ensures c.list.ensures
+    c.station-station.result c.of_tid-class.result c.put-dropped.new.self
+    (option_map (λ l. l.id) c.put-dropped.result) _ c.list_in.new.self
+    c.marked.ensures.marked
+    (c.station-station.ensures ∙ ap (λ (f : FrameValue). f.station) c.frame-frame.ensures)
+    (c.of_tid-class.ensures
+    ∙ ap class_of (c.tid.ensures ∙ ap (λ (f : FrameValue). f.tid) c.frame-frame.ensures))
+    c.put-dropped.ensures.put c.put-dropped.ensures.dropped c.count_accepted.ensures c.list_in.ensures
 
 pub returns-clause-station : goal.returns-clause-station
 returns-clause-station c = subst (λ (z : TransmitValue).

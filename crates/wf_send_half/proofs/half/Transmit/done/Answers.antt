@@ -1,4 +1,4 @@
-use Rattle.std.proofs.Common.{◌≡◌, refl, sym, ap, ◌∙◌, subst, arith, Option, Some, true, false, List, ℕ, ◌==◌, is_none}
+use Rattle.std.proofs.Common.{◌≡◌, sym, ap, ◌∙◌, subst, arith, Option, Some, true, false, List, ℕ, ◌==◌, is_none}
 use Rattle.std.specs.Prelude.{find, IfSome}
 use Rattle.wf_frame.specs.declared.settings.Config.{Config}
 use Rattle.wf_frame.specs.declared.notes.Note.TheVariants.{Asked}
@@ -14,7 +14,7 @@ use Rattle.wf_send_half.specs.Bits.{IsChargeSmall, end_refusal, GoesBy, count_sh
 use Rattle.wf_send_half.specs.Half.{HasWorld}
 use Rattle.wf_send_half.proofs.Calls.{view_of}
 use Rattle.wf_send_half.proofs.Worlds.{kept_world, met_by}
-use Rattle.wf_send_half.proofs.Dones.{IsKnown, known_of, refused_done, ends_unknown, ends_well, bad_of, fine_then, bad_meets_lost, bad_meets_heard, at_charge, within_turns, within_members, charge_low, charge_small, closes, closed_now, unopened, where_none, from_none, where_some, within_config, goes_lost, goes_shown, goes_unshown, done_whole}
+use Rattle.wf_send_half.proofs.Dones.{IsKnown, known_of, refused_done, ends_unknown, ends_well, bad_of, fine_then, bad_meets_lost, bad_meets_heard, at_charge, within_turns, within_members, charge_low, charge_small, closes, closed_now, unopened, where_none, from_none, where_some, within_config, open_low, goes_lost, goes_shown, goes_unshown, done_whole}
 use Rattle.wf_send_half.proofs.half.Transmit.done.Goals as goal
 use Rattle.wf_def_world.specs.Refusals.{is_bad_air}
 
@@ -112,8 +112,12 @@ settle-ended-requires c = record {
       c.in-Some.ensures.rest c.charge.ensures c.charge-2.ensures);
 }
 
-pub list-requires : goal.list-requires
-list-requires c = record {
+pub of_tid-requires : goal.of_tid-requires
+of_tid-requires c = open_low (view_of c.self.inside) (subst HasWorld (sym c.self.view_is) c.requires.some)
+    c.args.exchange c.in-Some.open c.in-Some.ensures.taken
+
+pub list_in-requires : goal.list_in-requires
+list_in-requires c = record {
   within = omega (
     arith,
     within_config (view_of c.self.inside)
@@ -144,14 +148,14 @@ returns-clause-lost c = where_none _ c.args.heard (λ none w bodies h.
     (sym none) (goes_lost w y) in
     done_whole (view_of c.self.inside) w bodies at c.args.exchange y k.known c.in-Some.open k.same false
     c.args.air
-    (may_end_lost w c.args.exchange y c.args.air k.known fine) c.settle-ended.new.self c.list.new.self
+    (may_end_lost w c.args.exchange y c.args.air k.known fine) c.settle-ended.new.self c.list_in.new.self
     c.settle-ended.result
     (c.settle-ended.ensures.settled
     (view_of c.self.inside) w bodies c.args.exchange y false c.args.air at k.known
     k.same
     closed goes) (c.settle-ended.ensures.reply
     (view_of c.self.inside) w bodies c.args.exchange y false c.args.air at k.known k.same closed goes)
-    c.list.ensures)
+    c.of_tid.result c.of_tid.ensures c.list_in.ensures)
 
 pub returns-clause-shown : goal.returns-clause-shown
 returns-clause-shown c = where_some _ c.args.heard (λ score is w bodies x b h known kept shown.
@@ -177,12 +181,12 @@ returns-clause-shown c = where_some _ c.args.heard (λ score is w bodies x b h k
     c.args.air
     (may_end_heard w c.args.exchange y b c.args.air k.known
     (ap (λ (z : Exchange). z.answer) (sym it) ∙ kept) fine)
-    c.settle-ended.new.self c.list.new.self c.settle-ended.result
+    c.settle-ended.new.self c.list_in.new.self c.settle-ended.result
     (c.settle-ended.ensures.settled
     (view_of c.self.inside) w bodies c.args.exchange y true c.args.air at k.known k.same
     closed goes) (c.settle-ended.ensures.reply
     (view_of c.self.inside) w bodies c.args.exchange y true c.args.air at k.known k.same closed goes)
-    c.list.ensures)
+    c.of_tid.result c.of_tid.ensures c.list_in.ensures)
 
 pub returns-clause-none_shown : goal.returns-clause-none_shown
 returns-clause-none_shown c w bodies x h known data_is none =
@@ -206,14 +210,14 @@ returns-clause-none_shown c w bodies x h known data_is none =
     (goes_unshown w x c.args.heard data_is none) in
     done_whole (view_of c.self.inside) w bodies at c.args.exchange y k.known c.in-Some.open k.same false
     c.args.air
-    (may_end_lost w c.args.exchange y c.args.air k.known fine) c.settle-ended.new.self c.list.new.self
+    (may_end_lost w c.args.exchange y c.args.air k.known fine) c.settle-ended.new.self c.list_in.new.self
     c.settle-ended.result
     (c.settle-ended.ensures.settled
     (view_of c.self.inside) w bodies c.args.exchange y false c.args.air at k.known
     k.same
     closed goes) (c.settle-ended.ensures.reply
     (view_of c.self.inside) w bodies c.args.exchange y false c.args.air at k.known k.same closed goes)
-    c.list.ensures
+    c.of_tid.result c.of_tid.ensures c.list_in.ensures
 
 pub returns-clause-found : goal.returns-clause-found
 returns-clause-found c = sym (ap (λ (z : TransmitValue). is_none (end_refusal z c.args.exchange c.args.air))
