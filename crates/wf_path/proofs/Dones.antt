@@ -199,17 +199,23 @@ module _ (x : TransmitValue) (r : Flags) (h : IsTracked x r) (u : TransmitValue)
     low : o.station < x.config.stations
     low = open_within x (has_world x h.path) e o is
 
-    pub open_low_after : o.station < u.config.stations
+    open_low_after : o.station < u.config.stations
     open_low_after = subst (λ (z : Config). o.station < z.stations) config low
 
     pub open_room : (c : Class) → o.station < length (flags_in r c)
     open_room c = omega (arith, low, (h.flags c).stations)
 
-    pub tracked_ended : (c : Class) → c ≡ class_of o.tid → (z : Flags) →
-        z ≡ with_flag r c o.station (is_ready_of u c o.station) → IsTracked u z
-    tracked_ended c class z set = subst (IsTracked u) (sym set)
+    pub tracked_ended : (c : Class) → c ≡ class_of o.tid → (b : Bool) →
+        IfSome (find (λ y. y.number == e) x.opened) (λ y. b ≡ is_ready_of u (class_of y.tid) y.station) →
+        (z : Flags) → z ≡ with_flag r c o.station b → IsTracked u z
+    tracked_ended c class b told z set = subst (IsTracked u) (sym (set ∙ ap (with_flag r c o.station)
+        (own ∙ ap (λ (k : Class). is_ready_of u k o.station) (sym class))))
         (record { path = ended_path; flags = set_alone u r o.station c nearly_ended open_low_after })
       where
+        own : b ≡ is_ready_of u (class_of o.tid) o.station
+        own = subst (λ (k : Option Open). IfSome k (λ y. b ≡ is_ready_of u (class_of y.tid) y.station))
+            (sym is) told
+
         out_of : (i : ℕ) (d : Class) → ((i ≡ o.station) × (d ≡ c) → ⊥) →
             IfSome (find (λ y. y.number == e) x.opened) (λ y. i ≡ y.station → class_of y.tid ≡ d → ⊥)
         out_of i d out = subst (λ (k : Option Open). IfSome k (λ y. i ≡ y.station → class_of y.tid ≡ d → ⊥))

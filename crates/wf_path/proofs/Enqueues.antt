@@ -1,6 +1,6 @@
 -- A frame that comes into a path: the flag of its station, and that of the station that loses a frame to the
 -- limit.
-use Rattle.std.proofs.Common.{◌≡◌, refl, ap, sym, ◌∙◌, subst, arith, ℕ, ◌<◌, ◌≤◌, Bool, true, false, ◌||◌, length, Option, Some, None, ◌⊎◌, inl, inr}
+use Rattle.std.proofs.Common.{◌≡◌, refl, ap, ap₂, sym, ◌∙◌, subst, arith, ℕ, ◌<◌, ◌≤◌, Bool, true, false, ◌||◌, length, Option, Some, None, ◌⊎◌, inl, inr}
 use Rattle.std.specs.Prelude.{nat_lt}
 use Rattle.std.proofs.lemmas.Bool.Decides.{nat_tests}
 use Rattle.wf_frame.specs.Classes.{class_of, lower_tid, upper_tid}
@@ -137,6 +137,13 @@ few_octets g f n same count most = omega (arith, ap (λ (x : FrameValue). length
 
 tid_of_none : (t : ℕ) → nat_lt greatest_tid t ≡ false → t < 8
 tid_of_none t e = grind (arith, nat_tests, e)
+
+-- the flag of its station is set as the half u has it
+pub flag_told : (u : TransmitValue) (r z : Flags) (f : FrameValue) (c : Class) (t s : ℕ) → c ≡ class_of t →
+    t ≡ f.tid → s ≡ f.station → (b : Bool) → b ≡ is_ready_of u (class_of f.tid) f.station →
+    z ≡ with_flag r c s b → z ≡ with_flag r c s (is_ready_of u c s)
+flag_told u r z f c t s of tid station b told set = set
+    ∙ ap (with_flag r c s) (told ∙ sym (ap₂ (is_ready_of u) (of ∙ ap class_of tid) station))
 
 -- x are the fields of a path, and u what they are once it has accepted f
 module _ (x : TransmitValue) (r : Flags) (h : IsTracked x r) (f : FrameValue) (reply : ReplyNote)

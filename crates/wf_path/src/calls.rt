@@ -20,6 +20,7 @@ use crate::{Job, Path};
 use wf_frame::{Answer, Ask, AskedRate, Brief, Class, Pairs, Refusal};
 use wf_queue_chain::Parcel;
 use wf_queue_flows::Lost;
+use wf_send_half::Admission;
 
 impl Path {
     /// Makes a call, which is none of Arrive, Answer and Done, and answers it. A frame comes back exactly
@@ -97,10 +98,14 @@ impl Path {
         let frame = parcel.frame();
         let (station, tid, _octets) = (frame.station(), frame.tid(), frame.len());
         let accepted = self.half.enqueue(parcel)?;
-        let (id, loser) = accepted;
+        let Admission {
+            id,
+            lost: loser,
+            is_ready,
+        } = accepted;
         let dropped = id_of(loser);
         let class = Class::of_tid(tid);
-        self.ready.set(&self.half, station, class);
+        self.ready.set(station, class, is_ready);
         if let Some(lost) = loser {
             let other = Class::of_tid(lost.tid);
             self.ready
@@ -159,11 +164,11 @@ impl Path {
         requires small { IsSmall self.old.half }
         ensures { IsAnswered self.old (Pull class) self.new result pairs.new }
     {
-        let brief = self.half.pull(class, self.ready.of(class), pairs);
-        if let Brief::Send { station, .. } = brief {
-            self.ready.set(&self.half, station, class);
+        let pulled = self.half.pull(class, self.ready.of(class), pairs);
+        if let Brief::Send { station, .. } = pulled.brief {
+            self.ready.set(station, class, pulled.is_ready);
         }
-        brief
+        pulled.brief
     }
 
     fn tick(&mut self, by: u32) -> Brief

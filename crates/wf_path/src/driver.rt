@@ -41,8 +41,9 @@ impl Path {
         };
         let (station, tid) = (open.station, open.tid);
         match self.half.done(exchange, heard, air) {
-            Ok(ended) => {
-                self.ready.set(&self.half, station, Class::of_tid(tid));
+            Ok(closed) => {
+                self.ready.set(station, Class::of_tid(tid), closed.is_ready);
+                let ended = closed.ended;
                 Brief::Ended {
                     acked: ended.acked,
                     waiting: ended.waiting,

@@ -60,14 +60,13 @@ impl Ready {
         self.of(class).iter().any(|up| *up)
     }
 
-    // Sets the flag of a station in a class as the half has it.
-    pub(crate) fn set(&mut self, half: &Transmit, station: u16, class: Class)
-        requires within { station < half.now.config.stations }
+    // Sets the flag of a station in a class.
+    pub(crate) fn set(&mut self, station: u16, class: Class, is_ready: bool)
         requires room { station < length (flags_in self.old class) }
-        ensures { self.new ≡ with_flag self.old class station (is_ready_of half.now class station) }
+        ensures { self.new ≡ with_flag self.old class station is_ready }
     {
         let flags = &mut self.flags[class.number()];
-        flags[usize::from(station)] = half.is_ready(station, class);
+        flags[usize::from(station)] = is_ready;
     }
 
     // Sets the flag of a station in a class as the half has it, unless it is one that is known to be so.
@@ -87,7 +86,7 @@ impl Ready {
         if station == known.0 && class == known.1 {
             return;
         }
-        self.set(half, station, class);
+        self.set(station, class, half.is_ready(station, class));
     }
 
     // Sets the four flags of a station as the half has them.
@@ -96,9 +95,9 @@ impl Ready {
         requires room { FlagsHaveRoom self.old station }
         ensures { self.new ≡ with_flags self.old half.now station }
     {
-        self.set(half, station, Class::Bk);
-        self.set(half, station, Class::Be);
-        self.set(half, station, Class::Vi);
-        self.set(half, station, Class::Vo);
+        self.set(station, Class::Bk, half.is_ready(station, Class::Bk));
+        self.set(station, Class::Be, half.is_ready(station, Class::Be));
+        self.set(station, Class::Vi, half.is_ready(station, Class::Vi));
+        self.set(station, Class::Vo, half.is_ready(station, Class::Vo));
     }
 }

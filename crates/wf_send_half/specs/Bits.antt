@@ -24,6 +24,7 @@ use Rattle.wf_send_half_refines.specs.Half.{TransmitValue}
 use Rattle.wf_send_half_refines.specs.Standing.{numbers_on_air, open_of, StandsFor}
 use Rattle.wf_send_half_refines.specs.Ending.{after_close, IsEnding}
 use Rattle.wf_send_half_refines.specs.Pulling.{is_wide_of}
+use Rattle.wf_send_half.specs.declared.finish.Closed.{Closed}
 use Rattle.wf_send_half.specs.declared.finish.Ended.{Ended}
 use Rattle.wf_def_world.specs.Refusals.{is_bad_air}
 use Rattle.wf_frame.specs.declared.notes.Refusal.{Refusal}
@@ -137,3 +138,7 @@ all_ended x = x.acked + x.waiting + x.failed
 -- the reply of a Done
 abbrev pub ended_reply : Ended → ReplyNote
 ended_reply x = Ends x.acked x.waiting x.failed
+
+-- the same of what is told of the exchange that ended
+abbrev pub closed_reply : Closed → ReplyNote
+closed_reply x = ended_reply x.ended

@@ -3,6 +3,7 @@ use Rattle.std.specs.Prelude.{◌≡◌, ℕ, ◌%◌, ◌≤◌, Bool, true, fa
 use Rattle.wf_frame.specs.declared.classes.Class.{Class}
 use Rattle.wf_frame.specs.declared.notes.Ask.TheVariants.{Pull}
 use Rattle.wf_frame.specs.declared.notes.Note.TheVariants.{Asked}
+use Rattle.wf_frame.specs.declared.answers.Brief.TheVariants.{Send}
 use Rattle.wf_frame.specs.Frames.{FrameValue}
 use Rattle.wf_def_air.specs.Airtime.{Rate, request_charge}
 use Rattle.wf_def_codel.specs.Codel.{Params}
@@ -28,6 +29,7 @@ use Rattle.wf_send_window.specs.Windows.{WindowsHaveRoom, window_of, with_window
 use Rattle.wf_send_half_refines.specs.Half.{TransmitValue, is_ready_of}
 use Rattle.wf_send_half_refines.specs.Standing.{StandsFor, numbers_on_air}
 use Rattle.wf_send_half_refines.specs.Pulling.{is_wide_of}
+use Rattle.wf_send_half.specs.declared.pull.Pulled.{Pulled}
 use Rattle.wf_send_half_refines.specs.Filling.{IsTurned, IsToFill, IsFilling, IsTakingOff, after_take, after_giving}
 
 -- the most frames of one aggregate of a station: one where it sleeps
@@ -158,6 +160,11 @@ IsPrepared v w bodies s t = IsPreparedAs v (aggregate_of w s t) bodies s t
 pub record TellsWhoIsReady (v : TransmitValue) (c : Class) (ready : List Bool) : Type 0 where
   pub stations : length ready ≡ v.config.stations
   pub tells : (s : ℕ) → has_key (class_rotation v.sched c) s ≡ true → entry ready s ≡ is_ready_of v c s
+
+-- where a station sends, it is told whether it is ready then in the class
+abbrev pub IsSenderTold : TransmitValue → Class → Pulled → Type 0
+IsSenderTold v c p = (e s t air : ℕ) (request : Option ℕ) (more : Bool) →
+    p.brief ≡ Send e s t air request more → p.is_ready ≡ is_ready_of v c s
 
 -- u is v once a pull has picked station s in a class, where v stands for w
 pub record IsPickedInClass (v u : TransmitValue) (w : World) (bodies : ℕ → FrameValue) (s : ℕ)

@@ -13,6 +13,7 @@ ghost use Rattle.wf_send_stations.specs.Tally.{counts_of, one_accepted};
 ghost use Rattle.wf_queue_flows.specs.Flows.{dropped_for_limit, loses_next};
 ghost use Rattle.wf_queue_flows_refines.specs.Frames.{with_body};
 ghost use Rattle.wf_octets_tim.specs.Sleepers.{sleeper};
+ghost use Rattle.wf_send_half_refines.specs.Half.{is_ready_of};
 ghost use Rattle.wf_send_half_refines.specs.Changes.{after_enqueue, after_listing_in};
 ghost use Rattle.wf_send_half_refines.specs.Counting.{with_overlimit};
 ghost use Rattle.wf_send_half_refines.specs.Standing.{StandsFor, Meets};
@@ -29,6 +30,17 @@ use wf_send_stations::Tally;
 
 /// The greatest traffic identifier that has queues (IEEE 802.11-2012, 8.2.4.5.2).
 const GREATEST_TID: u8 = 7;
+
+/// What becomes of a frame that is accepted.
+#[derive(Clone, Copy, Debug, PartialEq, Eq)]
+pub struct Admission {
+    /// Its id.
+    pub id: u64,
+    /// The frame that is dropped for the limit, if any: the head of the longest queue.
+    pub lost: Option<Lost>,
+    /// Whether its station is ready now in the class of its TID.
+    pub is_ready: bool,
+}
 
 // The parcel, once its frame is marked with this id and stamp, not sent, and held. Like every frame, it has
 // a source of six octets and a body of 1 to 2304.
@@ -57,24 +69,25 @@ fn count_accepted(tally: &mut Tally, dropped: Option<Lost>)
 }
 
 impl Transmit {
-    /// Accepts a frame, and gives its id and the frame that is dropped for the limit, if any, with its
-    /// station and its TID: where the queues hold `limit` frames, the head of the longest. Refused as
+    /// Accepts a frame. Where the queues hold `limit` frames, the head of the longest is dropped. Refused as
     /// BadStation, BadTid, NoStation, Room where `room` frames are inside, or Sleeping where `sleeping`
     /// frames of its class are queued for a station that sleeps; then the frame is handed back.
-    pub fn enqueue(&mut self, parcel: Parcel) -> Result<(u64, Option<Lost>), (Refusal, Parcel)>
+    pub fn enqueue(&mut self, parcel: Parcel) -> Result<Admission, (Refusal, Parcel)>
         requires some { HasWorld self.old }
         requires small { self.old.tally.accepted < 2 ^ 62 }
         ensures meets { IfOk result (λ given. (w : World) (bodies : ℕ → FrameValue) →
             StandsFor self.old w bodies →
             Meets w (with_body bodies (as_accepted self.old parcel)) (enqueue_of parcel) self.new
-            (Accepted given.0 (option_map (λ lost. lost.id) given.1))) }
+            (Accepted given.id (option_map (λ lost. lost.id) given.lost))) }
         ensures station { IfOk result (λ given.
-            IfSome given.1 (λ lost. lost.station < self.old.flows.stations)) }
-        ensures tid { IfOk result (λ given. IfSome given.1 (λ lost. lost.tid < 8)) }
+            IfSome given.lost (λ lost. lost.station < self.old.flows.stations)) }
+        ensures tid { IfOk result (λ given. IfSome given.lost (λ lost. lost.tid < 8)) }
         ensures loses { IfOk result (λ given.
-            IfSome given.1 (λ lost. loses_next self.old.flows lost.station lost.tid ≡ true)) }
+            IfSome given.lost (λ lost. loses_next self.old.flows lost.station lost.tid ≡ true)) }
         ensures only { IfOk result (λ given. (s t : ℕ) → t < 8 → loses_next self.old.flows s t ≡ true →
-            option_map {U = ℕ × ℕ} (λ lost. (lost.station, lost.tid)) given.1 ≡ Some (s, t)) }
+            option_map {U = ℕ × ℕ} (λ lost. (lost.station, lost.tid)) given.lost ≡ Some (s, t)) }
+        ensures ready { IfOk result (λ given.
+            given.is_ready ≡ is_ready_of self.new (class_of parcel.tid) parcel.station) }
         ensures refuses { IfErr result (λ given. (w : World) (bodies : ℕ → FrameValue) →
             StandsFor self.old w bodies →
             Meets w bodies (enqueue_of parcel) self.new (Refused given.0)) }
@@ -90,7 +103,7 @@ impl Transmit {
     }
 
     // Accepts a frame that is not refused.
-    fn accept(&mut self, parcel: Parcel) -> (u64, Option<Lost>)
+    fn accept(&mut self, parcel: Parcel) -> Admission
         requires within { parcel.station < self.old.config.stations }
         requires tid { parcel.tid < 8 }
         requires room { self.old.inside < self.old.config.room }
@@ -100,23 +113,24 @@ impl Transmit {
             (after_enqueue self.old (as_accepted self.old parcel)) parcel.station (class_of parcel.tid) }
         ensures source { length parcel.source ≡ source_octets }
         ensures length { (1 ≤ length parcel.body) × (length parcel.body ≤ greatest_body) }
-        ensures id { result.0 ≡ self.old.tally.accepted }
-        ensures dropped { option_map (λ lost. lost.id) result.1 ≡ dropped_for_limit self.old.flows }
-        ensures station { IfSome result.1 (λ lost. lost.station < self.old.flows.stations) }
-        ensures tid { IfSome result.1 (λ lost. lost.tid < 8) }
-        ensures loses { IfSome result.1 (λ lost.
+        ensures id { result.id ≡ self.old.tally.accepted }
+        ensures dropped { option_map (λ lost. lost.id) result.lost ≡ dropped_for_limit self.old.flows }
+        ensures station { IfSome result.lost (λ lost. lost.station < self.old.flows.stations) }
+        ensures tid { IfSome result.lost (λ lost. lost.tid < 8) }
+        ensures loses { IfSome result.lost (λ lost.
             loses_next self.old.flows lost.station lost.tid ≡ true) }
         ensures only { (s t : ℕ) → t < 8 → loses_next self.old.flows s t ≡ true →
-            option_map {U = ℕ × ℕ} (λ lost. (lost.station, lost.tid)) result.1 ≡ Some (s, t) }
+            option_map {U = ℕ × ℕ} (λ lost. (lost.station, lost.tid)) result.lost ≡ Some (s, t) }
+        ensures ready { result.is_ready ≡ is_ready_of self.new (class_of parcel.tid) parcel.station }
     {
         let frame = parcel.frame();
         let (station, class) = (frame.station(), Class::of_tid(frame.tid()));
         let id = self.tally.accepted;
-        let dropped = self.flows.put(marked(parcel, id, self.clock), self.clock);
+        let lost = self.flows.put(marked(parcel, id, self.clock), self.clock);
         self.inside += 1;
-        count_accepted(&mut self.tally, dropped);
-        self.list_in(station, class);
-        (id, dropped)
+        count_accepted(&mut self.tally, lost);
+        let is_ready = self.list_in(station, class);
+        Admission { id, lost, is_ready }
     }
 
     // A frame that comes in, whatever its flow and its length.

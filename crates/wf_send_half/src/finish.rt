@@ -1,16 +1,17 @@
 //! The end of an exchange.
 
 ghost use Rattle.std.specs.Prelude.{◌≡◌, ◌≢◌, ◌<◌, ◌==◌, ℕ, Bool, true, false, Some, length, find, is_ok, is_none, is_some, Option, IfOk, IfErr, IfNone, IfSome, List};
+ghost use Rattle.wf_frame.specs.Classes.{class_of};
 ghost use Rattle.wf_frame.specs.Frames.{FrameValue};
 ghost use Rattle.wf_frame.specs.declared.classes.Fate.TheVariants.{Held};
 ghost use Rattle.wf_def_world.specs.World.{World, Mpdu, Exchange, exchange as exchange_in};
 ghost use Rattle.wf_def_world.specs.CanSend.{is_request};
 ghost use Rattle.wf_def_world.specs.Exchanges.{charge_of};
 ghost use Rattle.wf_def_world.specs.Step.{done_outcome};
-ghost use Rattle.wf_send_half_refines.specs.Half.{TransmitValue};
+ghost use Rattle.wf_send_half_refines.specs.Half.{TransmitValue, is_ready_of};
 ghost use Rattle.wf_send_half_refines.specs.Standing.{StandsFor, Meets, Parts, numbers_on_air, open_of};
 ghost use Rattle.wf_send_half_refines.specs.Ending.{IsEnding, after_close, after_finish, after_answer};
-ghost use Rattle.wf_send_half.specs.Bits.{is_shown, has_bad_air, end_refusal, CanFinish, IsToSettle, IsClosed, GoesBy, with_one_more, all_ended, ended_reply, IsChargeSmall, AreShown, NoneIsShown, count_shown, count_shown_of};
+ghost use Rattle.wf_send_half.specs.Bits.{is_shown, has_bad_air, end_refusal, CanFinish, IsToSettle, IsClosed, GoesBy, with_one_more, all_ended, ended_reply, closed_reply, IsChargeSmall, AreShown, NoneIsShown, count_shown, count_shown_of};
 ghost use Rattle.wf_send_half.specs.Half.{HasWorld};
 ghost use Rattle.wf_send_half.specs.Replies.{reply_of_result};
 ghost use Rattle.wf_def_agreement.specs.Receiver.{Score};
@@ -42,6 +43,14 @@ pub struct Ended {
     pub failed: u16,
 }
 
+/// An exchange that ended.
+#[derive(Clone, Copy, Debug, PartialEq, Eq)]
+pub struct Closed {
+    pub ended: Ended,
+    /// Whether its station is ready now in the class of its TID.
+    pub is_ready: bool,
+}
+
 // Whether what was heard shows a number.
 fn is_shown(wide: bool, heard: &Option<(Seq12, Bits256)>, number: Seq12) -> bool
     ensures { result ≡ is_shown wide heard.now number }
@@ -68,24 +77,26 @@ impl Transmit {
         exchange: u64,
         heard: Option<(Seq12, Bits256)>,
         air: Option<u32>,
-    ) -> Result<Ended, Refusal>
+    ) -> Result<Closed, Refusal>
         requires some { HasWorld self.old }
         requires small { IsChargeSmall self.old exchange }
         ensures lost { IfNone heard ((w : World) (bodies : ℕ → FrameValue) → StandsFor self.old w bodies →
-            Meets w bodies (Asked (Done exchange false air)) self.new (reply_of_result ended_reply result)) }
+            Meets w bodies (Asked (Done exchange false air)) self.new (reply_of_result closed_reply result)) }
         ensures shown { IfSome heard (λ score. (w : World) (bodies : ℕ → FrameValue) (x : Exchange)
             (b : Score) → StandsFor self.old w bodies →
             exchange_in w exchange ≡ Some x → x.answer ≡ Some b → AreShown w x b (Some score) →
-            Meets w bodies (Asked (Done exchange true air)) self.new (reply_of_result ended_reply result)) }
+            Meets w bodies (Asked (Done exchange true air)) self.new (reply_of_result closed_reply result)) }
         ensures none_shown { (w : World) (bodies : ℕ → FrameValue) (x : Exchange) →
             StandsFor self.old w bodies →
             exchange_in w exchange ≡ Some x → is_request x.content ≡ false → NoneIsShown w x heard →
-            Meets w bodies (Asked (Done exchange false air)) self.new (reply_of_result ended_reply result) }
+            Meets w bodies (Asked (Done exchange false air)) self.new (reply_of_result closed_reply result) }
         ensures found { is_ok result ≡ is_none (end_refusal self.old exchange air) }
         ensures refused { IfErr result (λ reason. (end_refusal self.old exchange air ≡ Some reason) ×
             (self.new ≡ self.old)) }
-        ensures acked { IfOk result (λ ended. IfSome (find (λ x. x.number == exchange) self.old.opened) (λ x.
-            ended.acked ≡ count_shown_of self.old heard x)) }
+        ensures acked { IfOk result (λ closed. IfSome (find (λ x. x.number == exchange) self.old.opened) (λ x.
+            closed.ended.acked ≡ count_shown_of self.old heard x)) }
+        ensures ready { IfOk result (λ closed. IfSome (find (λ x. x.number == exchange) self.old.opened) (λ x.
+            closed.is_ready ≡ is_ready_of self.new (class_of x.tid) x.station)) }
         ensures kept { IfNone heard (HasWorld self.new) }
     {
         if self.has_bad_air(exchange, air) {
@@ -98,8 +109,8 @@ impl Transmit {
         self.sched.charge(open.station, open.class, charge);
         self.members.charge(open.station, open.class, charge);
         let ended = self.settle(&open, &heard);
-        self.list_in(open.station, Class::of_tid(open.tid));
-        Ok(ended)
+        let is_ready = self.list_in(open.station, Class::of_tid(open.tid));
+        Ok(Closed { ended, is_ready })
     }
 
     // Whether an exchange is open, and its end may not name this airtime.

@@ -19,5 +19,7 @@ mod refuse;
 mod stations;
 pub mod unheard;
 
-pub use finish::Ended;
+pub use enqueue::Admission;
+pub use finish::{Closed, Ended};
 pub use half::Transmit;
+pub use pull::Pulled;

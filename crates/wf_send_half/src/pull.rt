@@ -11,19 +11,28 @@ ghost use Rattle.wf_frame.specs.declared.notes.Refusal.TheVariants.{Full};
 ghost use Rattle.wf_queue_flows.specs.Flows.{frames_of_tid};
 ghost use Rattle.wf_send_window.specs.Windows.{window_of};
 ghost use Rattle.wf_def_world.specs.World.{World, Mpdu};
-ghost use Rattle.wf_send_half_refines.specs.Half.{TransmitValue, some_wait};
+ghost use Rattle.wf_send_half_refines.specs.Half.{TransmitValue, some_wait, is_ready_of};
 ghost use Rattle.wf_send_half_refines.specs.Standing.{StandsFor, Meets, numbers_on_air};
 ghost use Rattle.wf_send_half_refines.specs.Changes.{after_listing_in};
 ghost use Rattle.wf_send_half_refines.specs.Filling.{IsToFill, IsTakingOff};
 ghost use Rattle.wf_send_half_refines.specs.Pulling.{sending_tid_of, after_turn, has_more_of, open_next, after_sending};
 ghost use Rattle.wf_send_half.specs.Replies.{bodies_sent};
 ghost use Rattle.wf_send_half.specs.Half.{HasWorld, IsLive};
-ghost use Rattle.wf_send_half.specs.Pulls.{TellsWhoIsReady, IsPickedInClass, HasPick, IsExponentSmall, IsSameButFrames, HasTakingOff, IsFlying, HasToPrepare, HasToSend, IsPrepared, IsPreparedFor, start_sent};
+ghost use Rattle.wf_send_half.specs.Pulls.{IsSenderTold, TellsWhoIsReady, IsPickedInClass, HasPick, IsExponentSmall, IsSameButFrames, HasTakingOff, IsFlying, HasToPrepare, HasToSend, IsPrepared, IsPreparedFor, start_sent};
 
 use crate::Transmit;
 use wf_air_time::request_charge;
 use wf_frame::{Brief, Class, Pairs, Refusal};
 use wf_send_exchanges::{Numbers, Open, Sending};
+
+/// What a pull comes to.
+#[derive(Clone, Copy, Debug, PartialEq, Eq)]
+pub struct Pulled {
+    /// The answer.
+    pub brief: Brief,
+    /// Whether the station that sends, if one does, is ready in the class again.
+    pub is_ready: bool,
+}
 
 /// What an exchange sends, and its charge in microseconds.
 #[derive(Drop)]
@@ -48,32 +57,39 @@ impl Transmit {
     /// one of its TIDs: a request, or an aggregate, whose frames are written to `pairs`, each by its id and
     /// its sequence number, and count that they are sent once more. Refused as Full where as many exchanges
     /// of the class are open as the setting `inflight` allows, or as Idle where no listed station is ready.
-    pub fn pull(&mut self, class: Class, ready: &[bool], pairs: &mut Pairs) -> Brief
+    pub fn pull(&mut self, class: Class, ready: &[bool], pairs: &mut Pairs) -> Pulled
         requires some { HasWorld self.old }
         requires told { TellsWhoIsReady self.old class ready.now }
         requires clock { self.old.clock < 2 ^ 62 }
         requires exchanges { self.old.exchanges < 2 ^ 62 }
         ensures meets { (w : World) (bodies : ℕ → FrameValue) → StandsFor self.old w bodies →
-            Meets w (bodies_sent (reply_with result pairs.new []) bodies) (Asked (Pull class)) self.new
-            (reply_with result pairs.new []) }
+            Meets w (bodies_sent (reply_with result.brief pairs.new []) bodies) (Asked (Pull class)) self.new
+            (reply_with result.brief pairs.new []) }
+        ensures ready { IsSenderTold self.new class result }
         ensures full { nat_le self.old.config.inflight
             (count_by (λ x. same_class x.class class) self.old.opened) ≡ true →
-            (result ≡ Refused (Full (count_by (λ x. same_class x.class class) self.old.opened))) ×
+            (result.brief ≡ Refused (Full (count_by (λ x. same_class x.class class) self.old.opened))) ×
             (self.new ≡ self.old) }
         ensures kept { HasWorld self.new }
     {
         let count = self.opened.of_class(class);
         if self.config.inflight <= count {
-            return Brief::Refused(Refusal::Full { count });
+            return Pulled {
+                brief: Brief::Refused(Refusal::Full { count }),
+                is_ready: false,
+            };
         }
         match self.sched.pick(class, ready) {
             Some(station) => self.send(station, class, pairs),
-            None => Brief::Refused(Refusal::Idle),
+            None => Pulled {
+                brief: Brief::Refused(Refusal::Idle),
+                is_ready: false,
+            },
         }
     }
 
     // Sends what is due of a station that was picked.
-    fn send(&mut self, station: u16, class: Class, pairs: &mut Pairs) -> Brief
+    fn send(&mut self, station: u16, class: Class, pairs: &mut Pairs) -> Pulled
         requires within { station < self.old.config.stations }
         requires clock { self.old.clock < 2 ^ 62 }
         requires exchanges { self.old.exchanges < 2 ^ 62 }
@@ -81,8 +97,9 @@ impl Transmit {
         requires picked { HasPick self.old station class }
         ensures meets { (v : TransmitValue) (w : World) (bodies : ℕ → FrameValue) →
             IsPickedInClass v self.old w bodies station class →
-            Meets w (bodies_sent (reply_with result pairs.new []) bodies) (Asked (Pull class)) self.new
-            (reply_with result pairs.new []) }
+            Meets w (bodies_sent (reply_with result.brief pairs.new []) bodies) (Asked (Pull class)) self.new
+            (reply_with result.brief pairs.new []) }
+        ensures ready { IsSenderTold self.new class result }
     {
         let tid = self.take_turn(station, class);
         let prepared = self.prepare(station, tid, pairs);
@@ -90,16 +107,17 @@ impl Transmit {
     }
 
     // Opens an exchange, which uses up the credit of its station.
-    fn put_on_air(&mut self, station: u16, tid: u8, class: Class, prepared: Prepared) -> Brief
+    fn put_on_air(&mut self, station: u16, tid: u8, class: Class, prepared: Prepared) -> Pulled
         requires within { station < self.old.config.stations }
         requires small { self.old.exchanges < 2 ^ 62 }
         requires room { length self.old.opened < 32 }
         requires above { All (λ x. x.number < self.old.exchanges) self.old.opened }
         ensures opened { self.new ≡ after_listing_in
             (after_sending self.old station tid class prepared.charge prepared.sending) station class }
-        ensures brief { result ≡ Send self.old.exchanges station tid prepared.charge
+        ensures brief { result.brief ≡ Send self.old.exchanges station tid prepared.charge
             (start_sent prepared.sending)
             (open_next self.old station tid class prepared.charge prepared.sending).more }
+        ensures ready { result.is_ready ≡ is_ready_of self.new class station }
     {
         let exchange = self.exchanges;
         let Prepared { sending, charge } = prepared;
@@ -116,15 +134,16 @@ impl Transmit {
         });
         self.exchanges += 1;
         self.sleepers.spend(station);
-        self.list_in(station, class);
-        Brief::Send {
+        let is_ready = self.list_in(station, class);
+        let brief = Brief::Send {
             exchange,
             station,
             tid,
             air: charge,
             request,
             more,
-        }
+        };
+        Pulled { brief, is_ready }
     }
 
     // Whether a number waits or a frame is queued on some TID of a station.

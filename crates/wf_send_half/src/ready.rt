@@ -95,14 +95,17 @@ impl Transmit {
         self.list_in(station, Class::Vo);
     }
 
-    // Lists a station in a class where it is ready in it and unlisted. That is enough after a call by which
-    // it gets ready in no other class.
-    pub(crate) fn list_in(&mut self, station: u16, class: Class)
+    // Lists a station in a class where it is ready in it and unlisted, and tells whether it is ready in it.
+    // That is enough after a call by which it gets ready in no other class.
+    pub(crate) fn list_in(&mut self, station: u16, class: Class) -> bool
         requires within { station < self.old.config.stations }
-        ensures { self.new ≡ after_listing_in self.old station class }
+        ensures listed { self.new ≡ after_listing_in self.old station class }
+        ensures ready { result ≡ is_ready_of self.new class station }
     {
-        if self.is_ready(station, class) {
+        let is_ready = self.is_ready(station, class);
+        if is_ready {
             self.sched.list(station, class);
         }
+        is_ready
     }
 }

@@ -2,7 +2,7 @@ use Rattle.std.proofs.Common.{◌≡◌, refl, subst, ℕ, ◌==◌, ap, is_none
 use Rattle.std.specs.Prelude.{find, IfSome, Ok, Err}
 use Rattle.wf_frame.specs.declared.answers.Brief.TheVariants as brief
 use Rattle.wf_send_half.specs.Bits.{count_shown_of}
-use Rattle.wf_path.proofs.Dones.{charge_small, open_tid, open_low_after, open_room, tracked_ended, is_ended, nothing_ended}
+use Rattle.wf_path.proofs.Dones.{charge_small, open_tid, open_room, tracked_ended, is_ended, nothing_ended}
 use Rattle.wf_path.proofs.Values.{half_is}
 use Rattle.wf_path.proofs.path.Path.done_bits.Goals as goal
 
@@ -17,7 +17,7 @@ done-requires-clause-small c = charge_small c.args.self.now.half c.self.inside.h
 
 pub of_tid-requires : goal.of_tid-requires
 of_tid-requires c = open_tid c.self.inside.half c.self.inside.ready c.self.invariant c.done.new.self
-    c.args.exchange c.args.heard c.args.air (Ok c.in-Ok.ended)
+    c.args.exchange c.args.heard c.args.air (Ok c.in-Ok.closed.ended)
     (record {
       lost = c.in-Ok.ensures.lost;
       shown = c.in-Ok.ensures.shown;
@@ -28,35 +28,24 @@ of_tid-requires c = open_tid c.self.inside.half c.self.inside.ready c.self.invar
     })
     c.in-Some.open.now c.in-Some.ensures
 
-pub set-requires-clause-within : goal.set-requires-clause-within
-set-requires-clause-within c = open_low_after c.self.inside.half c.self.inside.ready c.self.invariant
-    c.done.new.self c.args.exchange c.args.heard c.args.air (Ok c.in-Ok.ended)
-    (record {
-      lost = c.in-Ok.ensures.lost;
-      shown = c.in-Ok.ensures.shown;
-      none_shown =
-          c.in-Ok.ensures.none_shown;
-      found = c.in-Ok.ensures.found;
-      refused = c.in-Ok.ensures.refused;
-    })
-    c.in-Some.open.now c.in-Some.ensures
-
-pub set-requires-clause-room : goal.set-requires-clause-room
-set-requires-clause-room c = open_room c.self.inside.half c.self.inside.ready c.self.invariant c.done.new.self
-    c.args.exchange c.args.heard c.args.air (Ok c.in-Ok.ended)
-    (record {
-      lost = c.in-Ok.ensures.lost;
-      shown = c.in-Ok.ensures.shown;
-      none_shown =
-          c.in-Ok.ensures.none_shown;
-      found = c.in-Ok.ensures.found;
-      refused = c.in-Ok.ensures.refused;
-    })
-    c.in-Some.open.now c.in-Some.ensures c.of_tid.result
+pub set-requires : goal.set-requires
+set-requires c = record {
+  room = open_room c.self.inside.half c.self.inside.ready c.self.invariant c.done.new.self
+      c.args.exchange c.args.heard c.args.air (Ok c.in-Ok.closed.ended)
+      (record {
+        lost = c.in-Ok.ensures.lost;
+        shown = c.in-Ok.ensures.shown;
+        none_shown =
+            c.in-Ok.ensures.none_shown;
+        found = c.in-Ok.ensures.found;
+        refused = c.in-Ok.ensures.refused;
+      })
+      c.in-Some.open.now c.in-Some.ensures c.of_tid.result;
+}
 
 pub invariant_of-self : goal.invariant_of-self
 invariant_of-self c = tracked_ended c.self.inside.half c.self.inside.ready c.self.invariant c.done.new.self
-    c.args.exchange c.args.heard c.args.air (Ok c.in-Ok.ended)
+    c.args.exchange c.args.heard c.args.air (Ok c.in-Ok.closed.ended)
     (record {
       lost = c.in-Ok.ensures.lost;
       shown = c.in-Ok.ensures.shown;
@@ -65,12 +54,13 @@ invariant_of-self c = tracked_ended c.self.inside.half c.self.inside.ready c.sel
       found = c.in-Ok.ensures.found;
       refused = c.in-Ok.ensures.refused;
     })
-    c.in-Some.open.now c.in-Some.ensures c.of_tid.result c.of_tid.ensures c.set.new.self c.set.ensures
+    c.in-Some.open.now c.in-Some.ensures c.of_tid.result c.of_tid.ensures
+    c.in-Ok.closed.is_ready c.in-Ok.ensures.ready c.set.new.self c.set.ensures
 
 pub returns-in-Ok : goal.returns-in-Ok
 returns-in-Ok c =
     is_ended c.self.inside.half c.self.inside.ready c.self.invariant c.done.new.self c.args.exchange
-    c.args.heard c.args.air (Ok c.in-Ok.ended) (record {
+    c.args.heard c.args.air (Ok c.in-Ok.closed.ended) (record {
       lost = c.in-Ok.ensures.lost;
       shown = c.in-Ok.ensures.shown;
       none_shown = c.in-Ok.ensures.none_shown;
@@ -78,12 +68,12 @@ returns-in-Ok c =
       refused =
           c.in-Ok.ensures.refused;
     })
-    c.self.inside.addresses c.args.self.now c.self.view_is (brief.Ended c.in-Ok.ended.acked
-    c.in-Ok.ended.waiting
-    c.in-Ok.ended.failed) (λ pairs ids. refl)
+    c.self.inside.addresses c.args.self.now c.self.view_is (brief.Ended c.in-Ok.closed.ended.acked
+    c.in-Ok.closed.ended.waiting
+    c.in-Ok.closed.ended.failed) (λ pairs ids. refl)
     (λ a i f is. subst (λ (n : ℕ). IfSome (find (λ y. y.number == c.args.exchange) c.self.inside.half.opened)
     (λ y. n ≡ count_shown_of c.self.inside.half c.args.heard y))
-    (let k : c.in-Ok.ended.acked ≡ a = cc is in k) c.in-Ok.ensures.acked)
+    (let k : c.in-Ok.closed.ended.acked ≡ a = cc is in k) c.in-Ok.ensures.acked)
     (λ why is. absurd (cc (c.in-Ok.ensures.found, ap is_none is)))
 
 pub returns-in-Err : goal.returns-in-Err

@@ -9,7 +9,7 @@ use Rattle.wf_queue_flows_refines.specs.Frames.{with_body}
 use Rattle.wf_send_half.specs.Enqueues.{enqueue_of, as_accepted}
 use Rattle.wf_send_half_refines.specs.Half.{TransmitValue}
 use Rattle.wf_path.specs.Paths.{PathValue, IsPath, RiseLittle}
-use Rattle.wf_path.proofs.Enqueues.{some_octets, few_octets, accepted_tid, accepted_within, accepted_room, accepted_path, loser_within, loser_room, tracked_alone, tracked_both}
+use Rattle.wf_path.proofs.Enqueues.{some_octets, few_octets, accepted_tid, flag_told, accepted_room, accepted_path, loser_within, loser_room, tracked_alone, tracked_both}
 use Rattle.wf_path.proofs.Flags.{flag_twice}
 use Rattle.wf_path.proofs.Rises.{rises_by, no_rise}
 use Rattle.wf_path.proofs.Values.{half_is}
@@ -20,30 +20,24 @@ pub of_tid-class-requires : goal.of_tid-class-requires
 of_tid-class-requires c =
     subst (λ (t : ℕ). t < 8) (sym (c.tid-tid.ensures ∙ ap (λ (f : FrameValue). f.tid) c.frame-frame.ensures))
     (accepted_tid c.self.inside.half c.self.inside.ready c.self.invariant c.args.parcel
-    (Accepted c.in_ok-accepted.accepted.0 (option_map (λ l. l.id) c.in_ok-accepted.accepted.1))
+    (Accepted c.in_ok-accepted.accepted.id (option_map (λ l. l.id) c.in_ok-accepted.accepted.lost))
     (λ bodies. with_body bodies (as_accepted c.self.inside.half c.args.parcel)) c.enqueue.new.self
     c.in_ok-accepted.ensures.meets (λ why e. cc e))
 
-pub set-requires-clause-within : goal.set-requires-clause-within
-set-requires-clause-within c = accepted_within c.self.inside.half c.self.inside.ready c.self.invariant
-    c.args.parcel
-    (Accepted c.in_ok-accepted.accepted.0 (option_map (λ l. l.id) c.in_ok-accepted.accepted.1))
-    (λ bodies. with_body bodies (as_accepted c.self.inside.half c.args.parcel)) c.enqueue.new.self
-    c.in_ok-accepted.ensures.meets (λ why e. cc e) c.station-station.result
-    (c.station-station.ensures ∙ ap (λ (f : FrameValue). f.station) c.frame-frame.ensures)
-
-pub set-requires-clause-room : goal.set-requires-clause-room
-set-requires-clause-room c = accepted_room c.self.inside.half c.self.inside.ready c.self.invariant
-    c.args.parcel
-    (Accepted c.in_ok-accepted.accepted.0 (option_map (λ l. l.id) c.in_ok-accepted.accepted.1))
-    (λ bodies. with_body bodies (as_accepted c.self.inside.half c.args.parcel)) c.enqueue.new.self
-    c.in_ok-accepted.ensures.meets (λ why e. cc e) c.station-station.result c.of_tid-class.result
-    (c.station-station.ensures ∙ ap (λ (f : FrameValue). f.station) c.frame-frame.ensures)
+pub set-requires : goal.set-requires
+set-requires c = record {
+  room = accepted_room c.self.inside.half c.self.inside.ready c.self.invariant
+      c.args.parcel
+      (Accepted c.in_ok-accepted.accepted.id (option_map (λ l. l.id) c.in_ok-accepted.accepted.lost))
+      (λ bodies. with_body bodies (as_accepted c.self.inside.half c.args.parcel)) c.enqueue.new.self
+      c.in_ok-accepted.ensures.meets (λ why e. cc e) c.station-station.result c.of_tid-class.result
+      (c.station-station.ensures ∙ ap (λ (f : FrameValue). f.station) c.frame-frame.ensures);
+}
 
 pub set_other-requires-clause-within : goal.set_other-requires-clause-within
 set_other-requires-clause-within c = loser_within c.self.inside.half c.self.inside.ready c.self.invariant
     c.args.parcel
-    (Accepted c.in_ok-accepted.accepted.0 (option_map (λ l. l.id) c.in_ok-accepted.accepted.1))
+    (Accepted c.in_ok-accepted.accepted.id (option_map (λ l. l.id) c.in_ok-accepted.accepted.lost))
     (λ bodies. with_body bodies (as_accepted c.self.inside.half c.args.parcel)) c.enqueue.new.self
     c.in_ok-accepted.ensures.meets (λ why e. cc e) c.in-Some.lost.station
     (subst (λ (o : Option Lost). IfSome o (λ l. l.station < c.self.inside.half.flows.stations)) c.in-Some.is
@@ -52,7 +46,7 @@ set_other-requires-clause-within c = loser_within c.self.inside.half c.self.insi
 pub set_other-requires-clause-room : goal.set_other-requires-clause-room
 set_other-requires-clause-room c =
     loser_room c.self.inside.half c.self.inside.ready c.self.invariant c.args.parcel
-    (Accepted c.in_ok-accepted.accepted.0 (option_map (λ l. l.id) c.in_ok-accepted.accepted.1))
+    (Accepted c.in_ok-accepted.accepted.id (option_map (λ l. l.id) c.in_ok-accepted.accepted.lost))
     (λ bodies. with_body bodies (as_accepted c.self.inside.half c.args.parcel)) c.enqueue.new.self
     c.in_ok-accepted.ensures.meets (λ why e. cc e) c.set.new.self c.of_tid-class.result
     c.station-station.result
@@ -62,12 +56,16 @@ set_other-requires-clause-room c =
 
 pub set_other-requires-clause-known : goal.set_other-requires-clause-known
 set_other-requires-clause-known c = flag_twice c.self.inside.ready c.set.new.self c.of_tid-class.result
-    c.station-station.result _ c.set.ensures
+    c.station-station.result _ (flag_told c.enqueue.new.self c.self.inside.ready
+    c.set.new.self c.args.parcel c.of_tid-class.result c.tid-tid.result c.station-station.result
+    c.of_tid-class.ensures (c.tid-tid.ensures ∙ ap (λ (f : FrameValue). f.tid) c.frame-frame.ensures)
+    (c.station-station.ensures ∙ ap (λ (f : FrameValue). f.station) c.frame-frame.ensures)
+    c.in_ok-accepted.accepted.is_ready c.in_ok-accepted.ensures.ready c.set.ensures)
 
 pub invariant_of-self-in-Some : goal.invariant_of-self-in-Some
 invariant_of-self-in-Some c =
     tracked_both c.self.inside.half c.self.inside.ready c.self.invariant c.args.parcel
-    (Accepted c.in_ok-accepted.accepted.0 (option_map (λ l. l.id) c.in_ok-accepted.accepted.1))
+    (Accepted c.in_ok-accepted.accepted.id (option_map (λ l. l.id) c.in_ok-accepted.accepted.lost))
     (λ bodies. with_body bodies (as_accepted c.self.inside.half c.args.parcel)) c.enqueue.new.self
     c.in_ok-accepted.ensures.meets (λ why e. cc e) c.of_tid-class.result c.tid-tid.result
     c.station-station.result c.of_tid-class.ensures
@@ -77,17 +75,22 @@ invariant_of-self-in-Some c =
     c.len-octets.ensures.exact c.len-octets.ensures.some)
     (few_octets c.frame-frame.result.now c.args.parcel c.len-octets.result c.frame-frame.ensures
     c.len-octets.ensures.exact c.len-octets.ensures.most)
-    (option_map {U = ℕ × ℕ} (λ l. (l.station, l.tid)) c.in_ok-accepted.accepted.1)
+    (option_map {U = ℕ × ℕ} (λ l. (l.station, l.tid)) c.in_ok-accepted.accepted.lost)
     c.in_ok-accepted.ensures.only c.in-Some.lost.station c.in-Some.lost.tid
     (ap (λ (o : Option Lost). option_map {U = ℕ × ℕ} (λ l. (l.station, l.tid)) o) c.in-Some.is)
     (subst (λ (o : Option Lost). IfSome o (λ l. l.station < c.self.inside.half.flows.stations)) c.in-Some.is
     c.in_ok-accepted.ensures.station) c.of_tid-other.result
-    c.of_tid-other.ensures c.set.new.self c.set_other.new.self c.set.ensures c.set_other.ensures
+    c.of_tid-other.ensures c.set.new.self c.set_other.new.self
+    (flag_told c.enqueue.new.self c.self.inside.ready
+    c.set.new.self c.args.parcel c.of_tid-class.result c.tid-tid.result c.station-station.result
+    c.of_tid-class.ensures (c.tid-tid.ensures ∙ ap (λ (f : FrameValue). f.tid) c.frame-frame.ensures)
+    (c.station-station.ensures ∙ ap (λ (f : FrameValue). f.station) c.frame-frame.ensures)
+    c.in_ok-accepted.accepted.is_ready c.in_ok-accepted.ensures.ready c.set.ensures) c.set_other.ensures
 
 pub invariant_of-self-in_default : goal.invariant_of-self-in_default
 invariant_of-self-in_default c =
     tracked_alone c.self.inside.half c.self.inside.ready c.self.invariant c.args.parcel
-    (Accepted c.in_ok-accepted.accepted.0 (option_map (λ l. l.id) c.in_ok-accepted.accepted.1))
+    (Accepted c.in_ok-accepted.accepted.id (option_map (λ l. l.id) c.in_ok-accepted.accepted.lost))
     (λ bodies. with_body bodies (as_accepted c.self.inside.half c.args.parcel)) c.enqueue.new.self
     c.in_ok-accepted.ensures.meets (λ why e. cc e) c.of_tid-class.result c.tid-tid.result
     c.station-station.result c.of_tid-class.ensures
@@ -97,22 +100,26 @@ invariant_of-self-in_default c =
     c.len-octets.ensures.exact c.len-octets.ensures.some)
     (few_octets c.frame-frame.result.now c.args.parcel c.len-octets.result c.frame-frame.ensures
     c.len-octets.ensures.exact c.len-octets.ensures.most)
-    (option_map {U = ℕ × ℕ} (λ l. (l.station, l.tid)) c.in_ok-accepted.accepted.1)
+    (option_map {U = ℕ × ℕ} (λ l. (l.station, l.tid)) c.in_ok-accepted.accepted.lost)
     c.in_ok-accepted.ensures.only
     (ap (λ (o : Option Lost). option_map {U = ℕ × ℕ} (λ l. (l.station, l.tid)) o) c.in_default.is)
-    c.set.new.self c.set.ensures
+    c.set.new.self (flag_told c.enqueue.new.self c.self.inside.ready
+    c.set.new.self c.args.parcel c.of_tid-class.result c.tid-tid.result c.station-station.result
+    c.of_tid-class.ensures (c.tid-tid.ensures ∙ ap (λ (f : FrameValue). f.tid) c.frame-frame.ensures)
+    (c.station-station.ensures ∙ ap (λ (f : FrameValue). f.station) c.frame-frame.ensures)
+    c.in_ok-accepted.accepted.is_ready c.in_ok-accepted.ensures.ready c.set.ensures)
 
 pub returns-clause-path : goal.returns-clause-path
 returns-clause-path c = elim c.match-loser.branch [
   | in-Some w ↦ subst (λ (p : PathValue). IsPath p.half) (sym w.self-is) (accepted_path c.self.inside.half
       c.self.inside.ready
       c.self.invariant c.args.parcel
-      (Accepted c.in_ok-accepted.accepted.0 (option_map (λ l. l.id) c.in_ok-accepted.accepted.1))
+      (Accepted c.in_ok-accepted.accepted.id (option_map (λ l. l.id) c.in_ok-accepted.accepted.lost))
       (λ bodies. with_body bodies (as_accepted c.self.inside.half c.args.parcel)) c.enqueue.new.self
       c.in_ok-accepted.ensures.meets (λ why e. cc e))
   | in_default w ↦ subst (λ (p : PathValue). IsPath p.half) (sym w.self-is)
       (accepted_path c.self.inside.half c.self.inside.ready c.self.invariant c.args.parcel
-      (Accepted c.in_ok-accepted.accepted.0 (option_map (λ l. l.id) c.in_ok-accepted.accepted.1))
+      (Accepted c.in_ok-accepted.accepted.id (option_map (λ l. l.id) c.in_ok-accepted.accepted.lost))
       (λ bodies. with_body bodies (as_accepted c.self.inside.half c.args.parcel)) c.enqueue.new.self
       c.in_ok-accepted.ensures.meets (λ why e. cc e))
 ]
@@ -124,7 +131,7 @@ returns-clause-rises c =
     (rises_by c.self.inside.half c.enqueue.new.self c.self.invariant.path
     (with_body c.self.invariant.path.bodies (as_accepted c.self.inside.half c.args.parcel))
     (enqueue_of c.args.parcel)
-    (Accepted c.in_ok-accepted.accepted.0 (option_map (λ l. l.id) c.in_ok-accepted.accepted.1))
+    (Accepted c.in_ok-accepted.accepted.id (option_map (λ l. l.id) c.in_ok-accepted.accepted.lost))
     (c.in_ok-accepted.ensures.meets c.self.invariant.path.world c.self.invariant.path.bodies
     c.self.invariant.path.stands)) in
     elim c.match-loser.branch [
@@ -140,12 +147,12 @@ pub returns-clause-meets : goal.returns-clause-meets
 returns-clause-meets c =
     let P : TransmitValue → TransmitValue → Type 0 = λ x y. (w : World) (bodies : ℕ → FrameValue) →
     StandsFor x w bodies → Meets w (with_body bodies (as_accepted x c.args.parcel))
-    (enqueue_of c.args.parcel) y (Accepted c.in_ok-accepted.accepted.0 c.id_of-dropped.result) in
+    (enqueue_of c.args.parcel) y (Accepted c.in_ok-accepted.accepted.id c.id_of-dropped.result) in
     let met : P c.args.self.now.half c.enqueue.new.self =
     subst (λ (x : TransmitValue). P x c.enqueue.new.self) (half_is c.self.view_is)
     (λ w bodies h. subst (λ (o : Option ℕ). Meets w
     (with_body bodies (as_accepted c.self.inside.half c.args.parcel)) (enqueue_of c.args.parcel)
-    c.enqueue.new.self (Accepted c.in_ok-accepted.accepted.0 o)) (sym c.id_of-dropped.ensures)
+    c.enqueue.new.self (Accepted c.in_ok-accepted.accepted.id o)) (sym c.id_of-dropped.ensures)
     (c.in_ok-accepted.ensures.meets w bodies h)) in
     elim c.match-loser.branch [
       | in-Some w ↦ subst (λ (p : PathValue). P c.args.self.now.half p.half) (sym w.self-is) met

@@ -1,3 +1,5 @@
+use Rattle.wf_frame.specs.Classes.{class_of}
+use Rattle.wf_frame.specs.declared.classes.Class.{Class}
 use Rattle.std.proofs.Common.{◌≡◌, sym, ap, ◌∙◌, subst, arith, Option, Some, true, false, List, ℕ, ◌==◌, is_none}
 use Rattle.std.specs.Prelude.{find, IfSome}
 use Rattle.wf_frame.specs.declared.settings.Config.{Config}
@@ -7,7 +9,7 @@ use Rattle.wf_frame.specs.declared.notes.Refusal.TheVariants.{NoExchange}
 use Rattle.wf_frame.specs.declared.notes.ReplyNote.TheVariants.{Refused}
 use Rattle.wf_def_world.specs.World.{Exchange}
 use Rattle.wf_send_exchanges.specs.declared.opened.Open.{Open}
-use Rattle.wf_send_half_refines.specs.Half.{TransmitValue}
+use Rattle.wf_send_half_refines.specs.Half.{TransmitValue, is_ready_of}
 use Rattle.wf_send_half_refines.specs.Standing.{StandsFor}
 use Rattle.wf_law_driver.proofs.Ended.{may_end_lost, may_end_heard}
 use Rattle.wf_send_half.specs.Bits.{IsChargeSmall, end_refusal, GoesBy, count_shown_of}
@@ -116,8 +118,8 @@ pub of_tid-requires : goal.of_tid-requires
 of_tid-requires c = open_low (view_of c.self.inside) (subst HasWorld (sym c.self.view_is) c.requires.some)
     c.args.exchange c.in-Some.open c.in-Some.ensures.taken
 
-pub list_in-requires : goal.list_in-requires
-list_in-requires c = record {
+pub list_in-is_ready-requires : goal.list_in-is_ready-requires
+list_in-is_ready-requires c = record {
   within = omega (
     arith,
     within_config (view_of c.self.inside)
@@ -148,14 +150,14 @@ returns-clause-lost c = where_none _ c.args.heard (λ none w bodies h.
     (sym none) (goes_lost w y) in
     done_whole (view_of c.self.inside) w bodies at c.args.exchange y k.known c.in-Some.open k.same false
     c.args.air
-    (may_end_lost w c.args.exchange y c.args.air k.known fine) c.settle-ended.new.self c.list_in.new.self
-    c.settle-ended.result
+    (may_end_lost w c.args.exchange y c.args.air k.known fine) c.settle-ended.new.self
+    c.list_in-is_ready.new.self c.settle-ended.result
     (c.settle-ended.ensures.settled
     (view_of c.self.inside) w bodies c.args.exchange y false c.args.air at k.known
     k.same
     closed goes) (c.settle-ended.ensures.reply
     (view_of c.self.inside) w bodies c.args.exchange y false c.args.air at k.known k.same closed goes)
-    c.of_tid.result c.of_tid.ensures c.list_in.ensures)
+    c.of_tid.result c.of_tid.ensures c.list_in-is_ready.ensures.listed)
 
 pub returns-clause-shown : goal.returns-clause-shown
 returns-clause-shown c = where_some _ c.args.heard (λ score is w bodies x b h known kept shown.
@@ -181,12 +183,12 @@ returns-clause-shown c = where_some _ c.args.heard (λ score is w bodies x b h k
     c.args.air
     (may_end_heard w c.args.exchange y b c.args.air k.known
     (ap (λ (z : Exchange). z.answer) (sym it) ∙ kept) fine)
-    c.settle-ended.new.self c.list_in.new.self c.settle-ended.result
+    c.settle-ended.new.self c.list_in-is_ready.new.self c.settle-ended.result
     (c.settle-ended.ensures.settled
     (view_of c.self.inside) w bodies c.args.exchange y true c.args.air at k.known k.same
     closed goes) (c.settle-ended.ensures.reply
     (view_of c.self.inside) w bodies c.args.exchange y true c.args.air at k.known k.same closed goes)
-    c.of_tid.result c.of_tid.ensures c.list_in.ensures)
+    c.of_tid.result c.of_tid.ensures c.list_in-is_ready.ensures.listed)
 
 pub returns-clause-none_shown : goal.returns-clause-none_shown
 returns-clause-none_shown c w bodies x h known data_is none =
@@ -210,14 +212,14 @@ returns-clause-none_shown c w bodies x h known data_is none =
     (goes_unshown w x c.args.heard data_is none) in
     done_whole (view_of c.self.inside) w bodies at c.args.exchange y k.known c.in-Some.open k.same false
     c.args.air
-    (may_end_lost w c.args.exchange y c.args.air k.known fine) c.settle-ended.new.self c.list_in.new.self
-    c.settle-ended.result
+    (may_end_lost w c.args.exchange y c.args.air k.known fine) c.settle-ended.new.self
+    c.list_in-is_ready.new.self c.settle-ended.result
     (c.settle-ended.ensures.settled
     (view_of c.self.inside) w bodies c.args.exchange y false c.args.air at k.known
     k.same
     closed goes) (c.settle-ended.ensures.reply
     (view_of c.self.inside) w bodies c.args.exchange y false c.args.air at k.known k.same closed goes)
-    c.of_tid.result c.of_tid.ensures c.list_in.ensures
+    c.of_tid.result c.of_tid.ensures c.list_in-is_ready.ensures.listed
 
 pub returns-clause-found : goal.returns-clause-found
 returns-clause-found c = sym (ap (λ (z : TransmitValue). is_none (end_refusal z c.args.exchange c.args.air))
@@ -235,6 +237,16 @@ returns-clause-acked c =
     (subst (λ (o : Option Open). IfSome o (λ (k : Open). c.settle-ended.result.acked
     ≡ count_shown_of (view_of c.self.inside) c.args.heard k)) c.in-Some.ensures.taken
     c.settle-ended.ensures.acked)
+
+pub returns-clause-ready : goal.returns-clause-ready
+returns-clause-ready c =
+    let IsTold : Open → Type 0 = λ (k : Open). c.list_in-is_ready.result
+    ≡ is_ready_of c.list_in-is_ready.new.self (class_of k.tid) k.station in
+    subst (λ (z : TransmitValue). IfSome (find (λ (k : Open). k.number == c.args.exchange) z.opened) IsTold)
+    c.self.view_is
+    (subst (λ (o : Option Open). IfSome o IsTold) c.in-Some.ensures.taken
+    (c.list_in-is_ready.ensures.ready
+    ∙ ap (λ (k : Class). is_ready_of c.list_in-is_ready.new.self k c.in-Some.open.station) c.of_tid.ensures))
 
 pub returns-clause-kept : goal.returns-clause-kept
 returns-clause-kept c = where_none _ c.args.heard (λ none.

@@ -44,7 +44,7 @@ returns-in-Some-clause-meets c w bodies h =
 
 pub returns-in-Some-clause-kept : goal.returns-in-Some-clause-kept
 returns-in-Some-clause-kept c = kept_with c.args.self.now _ (Asked (Pull c.args.class)) _
-    (bodies_sent (reply_with c.send.result c.send.new.pairs [])) (returns-in-Some-clause-meets c)
+    (bodies_sent (reply_with c.send.result.brief c.send.new.pairs [])) (returns-in-Some-clause-meets c)
     c.requires.some
 
 pub returns-in-None-clause-meets : goal.returns-in-None-clause-meets

@@ -1,3 +1,5 @@
+use Rattle.std.proofs.Common.{◌∙◌, ap}
+use Rattle.wf_send_half_refines.specs.Half.{is_ready_of}
 use Rattle.wf_send_half.proofs.Pulling.{live_picked, live_turned, exponent_turned, to_prepare, opens_next, pull_done}
 use Rattle.wf_send_half.proofs.half.Transmit.send.Goals as goal
 
@@ -42,5 +44,7 @@ returns c = record {
       c.take_turn-tid.ensures.tid c.take_turn-tid.new.self c.take_turn-tid.ensures.turned
       c.prepare-prepared.new.self c.prepare-prepared.result.charge c.prepare-prepared.new.pairs
       c.prepare-prepared.result.sending c.prepare-prepared.ensures.prepared
-      c.put_on_air.new.self c.put_on_air.ensures.opened c.put_on_air.result c.put_on_air.ensures.brief;
+      c.put_on_air.new.self c.put_on_air.ensures.opened c.put_on_air.result.brief c.put_on_air.ensures.brief;
+  ready = λ e s t air request more is. c.put_on_air.ensures.ready
+      ∙ ap (is_ready_of c.put_on_air.new.self c.args.class) (cc (is, c.put_on_air.ensures.brief));
 }
