@@ -6,8 +6,7 @@ ghost use Rattle.wf_frame.specs.Classes.{tid_number};
 ghost use Rattle.wf_queue_flows.specs.Flows.{frames_of_tid};
 ghost use Rattle.wf_air_fit.specs.Rooms.{RoomStandsFor as RoomStandsFor};
 ghost use Rattle.wf_send_window.specs.Window.{can_take};
-ghost use Rattle.wf_def_air.specs.Airtime.{data_charge};
-ghost use Rattle.wf_def_air.specs.Fit.{fits, aggregate_octets};
+ghost use Rattle.wf_def_air.specs.Fit.{fits};
 ghost use Rattle.wf_def_lists.specs.Lengths.{greatest_body};
 ghost use Rattle.wf_send_window.specs.Windows.{window_of};
 ghost use Rattle.wf_def_world.specs.World.{World};
@@ -15,13 +14,12 @@ ghost use Rattle.wf_def_world.specs.Exchanges.{Aggregate as Filled, aggregate_of
 ghost use Rattle.wf_send_half_refines.specs.Filling.{IsToFill, IsChoosing, IsFilled};
 ghost use Rattle.wf_send_half_refines.specs.Pulling.{is_wide_of};
 ghost use Rattle.wf_send_half.specs.Half.{IsLive};
-ghost use Rattle.wf_send_half.specs.Pulls.{most_of, IsExponentSmall, IsSameButFrames, HasTurn, HasToFill, AggregateGoesOn, HasFilling, HasLens, IsTaken, IsGivenNumber};
+ghost use Rattle.wf_send_half.specs.Pulls.{most_of, IsExponentSmall, IsSameButFrames, HasTurn, HasToFill, AggregateGoesOn, HasFilling, HasLens, IsGivenNumber};
 
 use crate::Transmit;
 use wf_air_fit::Room;
 use wf_frame::{Cause, Fate};
 use wf_octets_seq12::Seq12;
-use wf_queue_chain::Parcel;
 use wf_queue_codel::Params;
 use wf_queue_flows::Taken;
 use wf_send_exchanges::Numbers;
@@ -30,7 +28,7 @@ use wf_send_exchanges::Numbers;
 #[derive(Drop)]
 pub(crate) struct Aggregate {
     pub(crate) numbers: Numbers,
-    room: Room,
+    pub(crate) room: Room,
 }
 
 impl Aggregate {
@@ -58,39 +56,11 @@ impl Aggregate {
         }
         fits
     }
-
-    /// What an exchange of it is charged, in microseconds.
-    pub(crate) fn air(&self) -> u32
-        requires { 1 ≤ self.now.room.count }
-        ensures { (lens : List ℕ) → RoomStandsFor self.now.room lens →
-            result ≡ data_charge self.now.room.rate (aggregate_octets lens) self.now.room.wide }
-    {
-        self.room.air()
-    }
 }
 
 impl Transmit {
-    // Takes a queued frame of a TID, and counts those that CoDel drops.
-    fn take(&mut self, station: u16, tid: u8) -> Parcel
-        requires within { station < self.old.config.stations }
-        requires tid { tid < 8 }
-        requires live { IsLive self.old station }
-        requires small { self.old.clock < 2 ^ 62 }
-        requires queued { 0 < frames_of_tid self.old.flows (tid_number station tid) }
-        requires turned { HasTurn self.old station tid }
-        ensures { IsTaken self.old self.new station tid result }
-    {
-        let params = Params::of(self.members.rate(station));
-        let Some(taken) = self.flows.take(station, tid, self.clock, params) else {
-            unreachable!()
-        };
-        let Taken { parcel, dropped } = taken;
-        self.tally.settle_all(Fate::Dropped(Cause::Codel), dropped);
-        parcel
-    }
-
-    // Takes a queued frame of a TID and gives it the next fresh number; the number and the length of its
-    // body.
+    // Takes a queued frame of a TID, counts those that CoDel drops, and gives it the next fresh number; the
+    // number and the length of its body.
     fn give_fresh(&mut self, station: u16, tid: u8) -> (Seq12, u16)
         requires within { station < self.old.config.stations }
         requires tid { tid < 8 }
@@ -102,7 +72,12 @@ impl Transmit {
         ensures given { IsGivenNumber self.old self.new station tid result.0 result.1 }
         ensures len { (1 ≤ result.1) × (result.1 ≤ greatest_body) }
     {
-        let parcel = self.take(station, tid);
+        let params = Params::of(self.members.rate(station));
+        let Some(taken) = self.flows.take(station, tid, self.clock, params) else {
+            unreachable!()
+        };
+        let Taken { parcel, dropped } = taken;
+        self.tally.settle_all(Fate::Dropped(Cause::Codel), dropped);
         let len = parcel.frame().len();
         match self.windows.give(station, tid, parcel) {
             Ok(number) => (number, len),

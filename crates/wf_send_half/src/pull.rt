@@ -253,7 +253,7 @@ impl Transmit {
         ensures same { IsSameButFrames self.old self.new }
     {
         let aggregate = self.fill(station, tid);
-        let charge = aggregate.air();
+        let charge = aggregate.room.air();
         let numbers = aggregate.numbers;
         self.fly_all(station, tid, &numbers, pairs);
         (numbers, charge)

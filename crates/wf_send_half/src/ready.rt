@@ -26,14 +26,6 @@ impl Transmit {
         ensures world { (w : World) (bodies : ℕ → FrameValue) → StandsFor self.now w bodies →
             result ≡ is_ready w class station }
     {
-        self.finds_ready(station, class)
-    }
-
-    // The same, of the half alone.
-    fn finds_ready(&self, station: u16, class: Class) -> bool
-        requires { station < self.now.config.stations }
-        ensures { result ≡ is_ready_of self.now class station }
-    {
         self.members.is_live(station)
             && self.can_send_in(station, class)
             && (!self.sleepers.asleep(station) || self.has_credit(station, class))

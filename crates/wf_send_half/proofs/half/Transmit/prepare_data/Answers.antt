@@ -15,7 +15,7 @@ returns-clause-prepared c w bodies to =
     (c.fly_all.ensures.flown a.world bodies a.mpdus (prepared_data s t a).world
     (filled_off c.fill-aggregate.new.self bodies s t c.fill-aggregate.result.room
     c.fill-aggregate.result.numbers a filled) filled.on_air)
-    c.air-charge.ensures
+    c.air-charge.ensures.exact
 
 pub fly_all-requires-clause-off : goal.fly_all-requires-clause-off
 fly_all-requires-clause-off c =
