@@ -104,5 +104,14 @@ fn is_from(addresses: &AddressBook, station: u16, ba: &WideBa) -> bool
     ensures { result ≡ (bytes_eq ba.now.ra addresses.now.base
         && bytes_eq ba.now.ta (address_in addresses.now station)) }
 {
-    ba.ra == addresses.base() && ba.ta == addresses.of(station)
+    is_same(&ba.ra, &addresses.base()) && is_same(&ba.ta, &addresses.of(station))
+}
+
+/// Whether two addresses are one. It is asked of each BlockAck, and so goes over the octets itself.
+fn is_same(one: &[u8; 6], other: &[u8; 6]) -> bool
+    ensures { result ≡ bytes_eq one.now other.now }
+{
+    one.iter()
+        .zip(other.iter())
+        .all(|(octet, another)| octet == another)
 }
