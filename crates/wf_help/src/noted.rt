@@ -1,25 +1,20 @@
 //! A source and a sink that note what a fault is told by: the lines read last, and the line written last.
 
 use arrayvec::ArrayVec;
+use std::mem;
 use wf_io::{Failed, Sink, Source};
 
-// The octets that were taken last, and what stands before them: the number of lines that ended, and the line
-// that has begun, up to 161 octets of it.
+/// The most octets of a block.
+const BLOCK: usize = 4096;
+
+// The octets that were taken last, in two blocks: together they have the last 4096 octets at least. And what
+// stands before them: the number of lines that ended, and the line that has begun, up to 161 octets of it.
 #[derive(Drop)]
 struct Window {
     ended: u64,
     begun: ArrayVec<u8, 161>,
-    block: ArrayVec<u8, 4096>,
-}
-
-// Takes an octet to the line that has begun, of which so many ended before.
-fn take(octet: u8, ended: &mut u64, begun: &mut ArrayVec<u8, 161>) {
-    if octet == b'\n' {
-        *ended = ended.saturating_add(1);
-        begun.clear();
-    } else if !begun.is_full() {
-        begun.push(octet);
-    }
+    older: ArrayVec<u8, 4096>,
+    newer: ArrayVec<u8, 4096>,
 }
 
 impl Window {
@@ -27,36 +22,50 @@ impl Window {
         Window {
             ended: 0,
             begun: ArrayVec::new(),
-            block: ArrayVec::new(),
+            older: ArrayVec::new(),
+            newer: ArrayVec::new(),
         }
     }
 
-    // Puts the block before itself.
+    // Puts the older block before both, and begins a new one.
     fn pass(&mut self) {
-        for octet in self.block.as_slice() {
-            take(*octet, &mut self.ended, &mut self.begun);
+        let older = mem::replace(
+            &mut self.older,
+            mem::replace(&mut self.newer, ArrayVec::new()),
+        );
+        let octets = older.as_slice();
+        let ended = octets.iter().filter(|octet| **octet == b'\n').count();
+        self.ended = self.ended.saturating_add(ended as u64);
+        let mut begun = octets;
+        if let Some(last) = octets.iter().rposition(|octet| *octet == b'\n') {
+            self.begun.clear();
+            begun = &octets[last + 1..];
         }
-        self.block.clear();
+        let count = begun.len().min(self.begun.remaining_capacity());
+        let _ = self.begun.try_extend_from_slice(&begun[..count]);
     }
 
     // Notes octets that were taken.
     fn note(&mut self, octets: &[u8]) {
-        self.pass();
-        for octet in octets {
-            if self.block.is_full() {
+        for piece in octets.chunks(BLOCK) {
+            if self.newer.remaining_capacity() < piece.len() {
                 self.pass();
             }
-            let _ = self.block.try_push(*octet);
+            let _ = self.newer.try_extend_from_slice(piece);
         }
     }
 
     // The line of this number, if it is still known.
     fn line(&mut self, number: u64) -> Option<&[u8]> {
-        for octet in self.block.as_slice() {
-            if *octet == b'\n' && self.ended.saturating_add(1) == number {
+        for octet in self.older.as_slice().iter().chain(self.newer.as_slice()) {
+            if *octet != b'\n' {
+                let _ = self.begun.try_push(*octet);
+            } else if self.ended.saturating_add(1) == number {
                 break;
+            } else {
+                self.ended = self.ended.saturating_add(1);
+                self.begun.clear();
             }
-            take(*octet, &mut self.ended, &mut self.begun);
         }
         if self.ended.saturating_add(1) == number {
             Some(self.begun.as_slice())
