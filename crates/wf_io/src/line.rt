@@ -5,6 +5,7 @@ ghost use Rattle.std.specs.Fmt.{signed_decimal};
 ghost use Rattle.std.specs.List.{join_with_byte};
 
 use arrayvec::ArrayVec;
+use itoa::Buffer;
 use std::marker::Model;
 
 /// A word of a line.
@@ -56,23 +57,7 @@ impl Line {
         ensures octets { self.new ≡ self.old ++ octets.now }
         ensures len { length self.new ≡ length self.old + length octets.now }
     {
-        for octet in octets {
-            self.push(*octet);
-        }
-    }
-
-    // Appends a number digit by digit, the last one at the end.
-    #[tactic(auto, using(std::proofs::lemmas::Fmt::decimal_step, std::proofs::lemmas::Fmt::decimal_digit))]
-    fn push_digits(&mut self, number: u64)
-        requires { length self.old + length (decimal number) ≤ 8192 }
-        ensures { self.new ≡ self.old ++ decimal number }
-    {
-        if number < 10 {
-            self.push(b'0' + number as u8);
-        } else {
-            self.push_digits(number / 10);
-            self.push(b'0' + (number % 10) as u8);
-        }
+        self.buffer.try_extend_from_slice(octets).unwrap();
     }
 
     /// Appends a number in decimal digits, at most 20.
@@ -81,7 +66,8 @@ impl Line {
         ensures digits { self.new ≡ self.old ++ decimal number }
         ensures len { length self.new ≤ length self.old + 20 }
     {
-        self.push_digits(number);
+        let mut digits = Buffer::new();
+        self.push_all(digits.format(number).as_bytes());
     }
 
     /// Appends a number in decimal digits, with `-` in front where it is below 0: at most 21 octets.
