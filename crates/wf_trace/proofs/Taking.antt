@@ -1,15 +1,16 @@
 -- What was taken from a source while no line ended, and what comes of it.
-use Rattle.std.proofs.Common.{◌≡◌, ℕ, List, [], ◌++◌, Bool, true, false, refl, sym, ◌∙◌, ap, subst, append_assoc}
-use Rattle.std.specs.Prelude.{Option, Some, None, Ok, Err, MatchOption, IsSome}
+use Rattle.std.proofs.Common.{◌≡◌, ◌≢◌, ◌==◌, ◌&&◌, ◌||◌, not, nat_eq, arith, ℕ, length, List, [], ◌∷◌, ◌++◌, Bool, true, false, refl, sym, ◌∙◌, ap, subst, append_assoc}
+use Rattle.std.specs.Prelude.{Option, Some, None, Ok, Err, MatchOption, IsSome, is_some}
 use Rattle.std.specs.Io.KnownBytes.{prepend_known, IsAtEnd}
+use Rattle.std.proofs.lemmas.Bool.Decides.{nat_tests}
 use Rattle.wf_trace.specs.declared.fault.FaultKind.{FaultKind}
 use Rattle.wf_trace.specs.declared.fault.FaultKind.TheVariants.{TooBig}
 use Rattle.wf_trace.specs.declared.fault.End.{End}
 use Rattle.wf_trace.specs.declared.fault.End.TheVariants.{Flaw}
-use Rattle.wf_trace.specs.declared.scanner.Found.TheVariants as found
+use Rattle.wf_trace.specs.declared.cutter.Found.TheVariants as found
 use Rattle.wf_trace.specs.Lines.{before_texts, flaw, texts_of}
-use Rattle.wf_trace.specs.Scanning.{Scanning, Finds, Keeps, lines_behind, texts_from, texts_behind, has_end, begins_word}
-use Rattle.wf_trace.specs.Cutting.{Cutting, TakesPieces, Fits, Follows, to_come}
+use Rattle.wf_trace.specs.Scanning.{Scanning, Finds, Keeps, lines_behind, texts_from, texts_behind, has_end, begins_word, holds_text}
+use Rattle.wf_trace.specs.Cutting.{Cutting, TakesPieces, Fits, Follows, to_come, will_read_of}
 
 -- Octets were taken, and the texts to come stayed.
 pub record Took (first now : Scanning) (left left_now : Option (List ℕ)) : Type 0 where
@@ -157,3 +158,45 @@ pub still_begins : {S : Type 0} (first now : Cutting) (s t : Scanning) (source s
 still_begins first now s t source source_now still is keeps ends begins =
     keeps (ap (λ (u : Scanning). begins_word (u.line ++ u.waiting)) is
     ∙ ap (λ (c : Cutting). begins_word (c.scanner.line ++ c.scanner.waiting)) (still ends).0 ∙ begins)
+
+-- whether a call reads, where the end is not known and a line was given
+pub reads_given : (e : Option End) (given : Bool) (waiting : List ℕ) → false ≡ is_some e → given ≡ true →
+    will_read_of e given waiting ≡ not (holds_text waiting)
+reads_given None given waiting none is = rw is refl
+reads_given (Some end) given waiting none is = absurd (cc)
+
+pub not_equal : (a b : ℕ) → a ≢ b → nat_eq a b ≡ false
+not_equal a b other = grind (arith, nat_tests)
+
+-- and where a whole line waits, by its first octet
+pub reads_first : (e : Option End) (given : Bool) (waiting : List ℕ) (octet : ℕ) (rest : List ℕ) →
+    false ≡ is_some e → given ≡ true → has_end waiting ≡ true → waiting ≡ octet ∷ rest →
+    will_read_of e given waiting ≡ (octet == 10 || (octet == 32 || octet == 35))
+reads_first e given waiting octet rest none is ends begins =
+    let first : has_end (octet ∷ rest) ≡ true = ap has_end (sym begins) ∙ ends in
+    rw (reads_given e given waiting none is, begins, first) (parts (octet == 10) (octet == 32) (octet == 35))
+  where
+    parts : (a b c : Bool) → not (not a && not b && not c) ≡ (a || (b || c))
+    parts true b c = refl
+    parts false true c = refl
+    parts false false true = refl
+    parts false false false = refl
+
+-- a rest of the input in which something is wrong
+pub wrong_rest : (f : Option FaultKind) (end : Option End) (old new : Cutting) →
+    flaw old.scanner.looked old.scanner.line ≡ f → MatchOption f ((end ≡ None)
+    × (new ≡ record old { given = true })) (λ kind. (end ≡ Some (Flaw kind))
+    × (new ≡ record old { ended = Some (Flaw kind) })) → is_some end ≡ true → old.ended ≡ None →
+    old.given ≡ false → old.scanner.waiting ≡ [] → false ≡ (length old.scanner.line == 0) →
+    (new.scanner.looked ≡ old.scanner.looked)
+    × Follows (Ok end) new (to_come old true []) (to_come new true [])
+wrong_rest None end old new is said some open_ fresh dry begun =
+    absurd (let none = rw (said.0) at some in cc)
+wrong_rest (Some kind) end old new is said some open_ fresh dry begun =
+    rw (said.0, said.1) (refl, (refl, rw (open_, fresh, dry) (rest old.scanner.line is begun)))
+  where
+    rest : (line : List ℕ) → flaw old.scanner.looked line ≡ Some kind → false ≡ (length line == 0) →
+        texts_of true (lines_behind true old.scanner.looked line [])
+        ≡ record { texts = []; ending = Some (Flaw kind) }
+    rest [] is begun = absurd (cc)
+    rest (octet ∷ line) is begun = rw is refl

@@ -76,24 +76,6 @@ fn take<'a>(
     behind
 }
 
-// What was read of a line whose arguments were all taken: no word may be left.
-fn finish(
-    values: ArrayVec<Value, 6>,
-    fault: Option<FaultKind>,
-    rest: &[u8],
-) -> Result<ArrayVec<Value, 6>, FaultKind>
-    ensures { result_seen (λ read. read.items) result
-        ≡ behind_fault fault values.items (read_args [] (words rest.now)) }
-{
-    if next_word(rest).is_some() {
-        return Err(first_of(fault, FaultKind::Count));
-    }
-    match fault {
-        None => Ok(values),
-        Some(fault) => Err(fault),
-    }
-}
-
 /// The values of a line's arguments, or the fault that it is judged by.
 pub fn read_all(args: &[Arg], line: &[u8]) -> Result<ArrayVec<Value, 6>, FaultKind>
     requires { length args.now ≤ 6 }
@@ -105,7 +87,11 @@ pub fn read_all(args: &[Arg], line: &[u8]) -> Result<ArrayVec<Value, 6>, FaultKi
     for arg in args {
         rest = take(*arg, rest, &mut values, &mut fault);
     }
-    finish(values, fault, rest)
+    match (next_word(rest), fault) {
+        (Some(_), fault) => Err(first_of(fault, FaultKind::Count)),
+        (None, Some(fault)) => Err(fault),
+        (None, None) => Ok(values),
+    }
 }
 
 /// The values of the arguments of a call's line in this form, or the fault that it is judged by.
@@ -118,5 +104,9 @@ pub fn read_form(form: CallForm, line: &[u8]) -> Result<ArrayVec<Value, 6>, Faul
     for argument in form.arguments() {
         rest = take(argument.kind(), rest, &mut values, &mut fault);
     }
-    finish(values, fault, rest)
+    match (next_word(rest), fault) {
+        (Some(_), fault) => Err(first_of(fault, FaultKind::Count)),
+        (None, Some(fault)) => Err(fault),
+        (None, None) => Ok(values),
+    }
 }

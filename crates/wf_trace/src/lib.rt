@@ -10,7 +10,6 @@ mod fault;
 mod meaning;
 mod print;
 mod reader;
-mod scanner;
 mod settings;
 mod values;
 mod words;

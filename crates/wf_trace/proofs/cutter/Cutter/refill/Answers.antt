@@ -1,7 +1,7 @@
 use Rattle.std.proofs.Common.{arith}
 use Rattle.std.proofs.lemmas.Grind.{common_steps}
 use Rattle.wf_trace.proofs.ScanLaws.{ends_at}
-use Rattle.wf_trace.proofs.scanner.Scanner.refill.Goals as goal
+use Rattle.wf_trace.proofs.cutter.Cutter.refill.Goals as goal
 
 pub invariant_of-self-2 : goal.invariant_of-self-2
 invariant_of-self-2 g c = (

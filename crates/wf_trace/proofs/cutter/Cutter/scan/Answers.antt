@@ -1,8 +1,8 @@
 use Rattle.std.proofs.Common.{◌+◌, [], ◌∷◌, ◌++◌, arith, Some, None}
 use Rattle.std.specs.Prelude.{slice_range}
-use Rattle.wf_trace.specs.declared.scanner.Found.TheVariants as found
+use Rattle.wf_trace.specs.declared.cutter.Found.TheVariants as found
 use Rattle.wf_trace.proofs.ScanLaws.{seen, first_seen, finds_big, finds_line, finds_more, finds_long, finds_on, keeps_line, keeps_more, keeps_long, keeps_on}
-use Rattle.wf_trace.proofs.scanner.Scanner.scan.Goals as goal
+use Rattle.wf_trace.proofs.cutter.Cutter.scan.Goals as goal
 
 pub returns-then-self-eq-MOST_OCTETS-clause-finds : goal.returns-then-self-eq-MOST_OCTETS-clause-finds
 returns-then-self-eq-MOST_OCTETS-clause-finds c =
@@ -11,7 +11,7 @@ returns-then-self-eq-MOST_OCTETS-clause-finds c =
     let new = seen 0 [] [] 0 0 in
     let waits = first_seen s.buffer.items s.from s.to c.index-octet.result.now c.loop-self-test.true
     c.loop-self.invariant.5 c.index-octet.ensures in
-    finds_on c.args.self.now at new (Some found.TooBig) c.loop-self.invariant.0
+    finds_on c.args.self.now.scanner at new (Some found.TooBig) c.loop-self.invariant.0
     (finds_big at c.index-octet.result.now (slice_range s.buffer.items (s.from + 1) s.to) new waits
     c.if-self-eq-MOST_OCTETS.true)
 
@@ -22,7 +22,7 @@ returns-then-octet-eq10-clause-finds c =
     let waits = first_seen s.buffer.items s.from s.to c.index-octet.result.now c.loop-self-test.true
     c.loop-self.invariant.5 c.index-octet.ensures in
     let rest = slice_range s.buffer.items (s.from + 1) s.to in
-    finds_on c.args.self.now at (seen (s.looked + 1) s.line.items s.buffer.items (s.from + 1) s.to)
+    finds_on c.args.self.now.scanner at (seen (s.looked + 1) s.line.items s.buffer.items (s.from + 1) s.to)
     (Some found.Line) c.loop-self.invariant.0
     (finds_line at c.index-octet.result.now rest waits c.if-octet-eq10.true)
 
@@ -32,7 +32,7 @@ returns-then-octet-eq10-clause-keeps c =
     let at = seen s.looked s.line.items s.buffer.items s.from s.to in
     let waits = first_seen s.buffer.items s.from s.to c.index-octet.result.now c.loop-self-test.true
     c.loop-self.invariant.5 c.index-octet.ensures in
-    keeps_on c.args.self.now at (seen (s.looked + 1) s.line.items s.buffer.items (s.from + 1) s.to)
+    keeps_on c.args.self.now.scanner at (seen (s.looked + 1) s.line.items s.buffer.items (s.from + 1) s.to)
     (Some found.Line) c.loop-self.invariant.1
     (keeps_line at c.index-octet.result.now (slice_range s.buffer.items (s.from + 1) s.to) waits
     c.if-octet-eq10.true)
@@ -47,9 +47,9 @@ loop-self-preserved-then-len-le-LONGEST_LINE c =
     let line = s.line.items ++ c.index-octet.result.now ∷ [] in
     let next = seen (s.looked + 1) line s.buffer.items (s.from + 1) s.to in
     rw (c.push.ensures.items) (
-      finds_on c.args.self.now at next None c.loop-self.invariant.0
+      finds_on c.args.self.now.scanner at next None c.loop-self.invariant.0
           (finds_more at c.index-octet.result.now rest waits c.if-octet-eq10.false),
-      keeps_on c.args.self.now at next None c.loop-self.invariant.1
+      keeps_on c.args.self.now.scanner at next None c.loop-self.invariant.1
           (keeps_more at c.index-octet.result.now rest waits c.if-octet-eq10.false),
       omega (arith, c.loop-self.invariant.2, c.loop-self-test.true),
       omega (arith, c.loop-self.invariant.3),
@@ -58,6 +58,8 @@ loop-self-preserved-then-len-le-LONGEST_LINE c =
       c.loop-self.invariant.6,
       omega (arith, c.loop-self.invariant.7, c.if-self-eq-MOST_OCTETS.false),
       c.loop-self.invariant.8,
+      c.loop-self.invariant.9,
+      c.loop-self.invariant.10,
     )
 
 pub loop-self-preserved : goal.loop-self-preserved
@@ -68,10 +70,10 @@ loop-self-preserved c =
     c.loop-self.invariant.5 c.index-octet.ensures in
     let rest = slice_range s.buffer.items (s.from + 1) s.to in
     let next = seen (s.looked + 1) s.line.items s.buffer.items (s.from + 1) s.to in (
-      finds_on c.args.self.now at next None c.loop-self.invariant.0
+      finds_on c.args.self.now.scanner at next None c.loop-self.invariant.0
           (finds_long at c.index-octet.result.now rest waits c.if-octet-eq10.false
           (omega (arith, c.if-len-le-LONGEST_LINE.false, c.len.ensures.value))),
-      keeps_on c.args.self.now at next None c.loop-self.invariant.1
+      keeps_on c.args.self.now.scanner at next None c.loop-self.invariant.1
           (keeps_long at c.index-octet.result.now rest waits c.if-octet-eq10.false
           (omega (arith, c.if-len-le-LONGEST_LINE.false, c.len.ensures.value))),
       omega (arith, c.loop-self.invariant.2, c.loop-self-test.true),
@@ -81,4 +83,6 @@ loop-self-preserved c =
       c.loop-self.invariant.6,
       omega (arith, c.loop-self.invariant.7, c.if-self-eq-MOST_OCTETS.false),
       c.loop-self.invariant.8,
+      c.loop-self.invariant.9,
+      c.loop-self.invariant.10,
     )
