@@ -24,9 +24,9 @@ use Rattle.wf_cell.proofs.Runs.{world_then, has_lengths, config_after, small_of,
 
 -- ---- a new cell
 
-pub new_cell : (p : Past) (engine : EngineValue) (bodies : ℕ → FrameValue) → p.history ≡ [] →
-    EngineIsIn engine (opening p.config) bodies → IsCell p engine 0 None
-new_cell p engine bodies none is =
+pub new_cell : (p : Past) (engine : EngineValue) (bodies : ℕ → FrameValue) (left : ℕ) → p.history ≡ [] →
+    EngineIsIn engine (opening p.config) bodies → left ≡ p.config.calls → IsCell p engine left None
+new_cell p engine bodies left none is all =
     let empty : p ≡ record { config = p.config; history = [] } =
     ap (λ (h : List Entry). let q : Past = record { config = p.config; history = h } in q) none in
     record {
@@ -34,8 +34,7 @@ new_cell p engine bodies none is =
       is_in = subst (λ (w : World). EngineIsIn engine w bodies)
           (sym (ap world_of empty ∙ opening_is p.config)) is;
       lengths = subst HasLengths (sym none) (tt, tt);
-      few = omega (arith, ap length none);
-      counted = sym (ap length none);
+      counted = omega (arith, ap length none, all);
       latest = sym (ap (λ (h : List Entry). slice_get h (length h - 1)) none);
     }
 
@@ -51,8 +50,8 @@ last_of h e =
     let place : length (h ++ e ∷ []) - 1 ≡ length h = omega (arith, length-append h (e ∷ [])) in
     rw place (at_end h e)
 
-module _ (p : Past) (engine : EngineValue) (calls : ℕ) (last : Option Entry)
-    (is : IsCell p engine calls last) where
+module _ (p : Past) (engine : EngineValue) (left : ℕ) (last : Option Entry)
+    (is : IsCell p engine left last) where
   pub range_of : IsInRange p.config
   range_of = subst IsInRange (config_after p.history (opening p.config)) is.is_in.half.reached.in_range
 
@@ -63,11 +62,11 @@ module _ (p : Past) (engine : EngineValue) (calls : ℕ) (last : Option Entry)
   has_world = record { world = world_of p; bodies = is.bodies; is_in = is.is_in }
 
   pub is_small : IsSmall engine.half
-  is_small = small_of engine.half p is.bodies range_of is.is_in.half (omega (arith, is.few, range_of.calls.1))
+  is_small = small_of engine.half p is.bodies range_of is.is_in.half (omega (arith, is.counted, range_of.calls.1))
 
 -- after a call, where there was room
-module _ (p : Past) (engine : EngineValue) (calls : ℕ) (last : Option Entry)
-    (is : IsCell p engine calls last)
+module _ (p : Past) (engine : EngineValue) (left : ℕ) (last : Option Entry)
+    (is : IsCell p engine left last)
     (own : p.config ≡ engine.half.config) (room : 0 < room_in p) (caller : ℕ) (job : Job)
     (after : EngineValue)
     (answered : ReplyNote) (given : Option FrameValue)
@@ -104,18 +103,17 @@ module _ (p : Past) (engine : EngineValue) (calls : ℕ) (last : Option Entry)
       (sym world_next)
       (done (world_of p) bodies (record { half = stands; hears = is.is_in.hears })).is_in.half
 
-  pub next_cell : (history : List Entry) (count : ℕ) (newest : Option Entry) →
-      history ≡ p.history ++ by caller (note_of job) ∷ [] → count ≡ calls + 1 →
+  pub next_cell : (history : List Entry) (fewer : ℕ) (newest : Option Entry) →
+      history ≡ p.history ++ by caller (note_of job) ∷ [] → fewer + 1 ≡ left →
       newest ≡ Some (by caller (note_of job)) → HasLength (note_of job) →
       IsAtMost greatest_body (note_of job) →
-      IsCell (record { config = after.half.config; history = history }) after count newest
-  next_cell history count newest grown more latest some most =
-      subst (λ (q : Past). IsCell q after count newest) (sym (past_grown history grown)) (record {
+      IsCell (record { config = after.half.config; history = history }) after fewer newest
+  next_cell history fewer newest grown one latest some most =
+      subst (λ (q : Past). IsCell q after fewer newest) (sym (past_grown history grown)) (record {
         bodies = bodies_after engine.half job answered is.bodies;
         is_in = subst (λ (w : World). EngineIsIn after w (bodies_after engine.half job answered is.bodies))
             (sym world_next) stepped.is_in;
         lengths = has_lengths p.history (by caller (note_of job)) is.lengths some most;
-        few = omega (arith, room, length-append p.history (by caller (note_of job) ∷ []));
-        counted = omega (arith, more, is.counted, length-append p.history (by caller (note_of job) ∷ []));
+        counted = omega (arith, one, is.counted, length-append p.history (by caller (note_of job) ∷ []));
         latest = latest ∙ sym (last_of p.history (by caller (note_of job)));
       })

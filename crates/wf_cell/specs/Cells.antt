@@ -1,5 +1,5 @@
 -- A cell as its callers see it, and what is true of every one.
-use Rattle.std.specs.Prelude.{ℕ, ◌≡◌, ◌-◌, ◌≤◌, Bool, true, false, [], ◌∷◌, ◌++◌, Option, length, slice_get}
+use Rattle.std.specs.Prelude.{ℕ, ◌≡◌, ◌+◌, ◌-◌, Bool, true, false, [], ◌∷◌, ◌++◌, Option, length, slice_get}
 use Rattle.wf_frame.specs.Frames.{FrameValue}
 use Rattle.wf_frame.specs.declared.notes.Ask.TheVariants.{Arrive, Answer}
 use Rattle.wf_def_world.specs.Run.{Entry, Past, world_of}
@@ -28,11 +28,10 @@ is_received (Call (Answer exchange)) = true
 is_received job = false
 
 -- A cell stands for the final world of its own history, whose frames have 1 to 2304 octets each; the history
--- is at most as long as the setting `calls` says, and the cell has its length and its last entry.
-pub record IsCell (past : Past) (engine : EngineValue) (calls : ℕ) (last : Option Entry) : Type 0 where
+-- is at most as long as the setting `calls` says, and the cell has how many entries are left and the last one.
+pub record IsCell (past : Past) (engine : EngineValue) (left : ℕ) (last : Option Entry) : Type 0 where
   pub bodies : ℕ → FrameValue
   pub is_in : EngineIsIn engine (world_of past) bodies
   pub lengths : HasLengths past.history
-  pub few : length past.history ≤ past.config.calls
-  pub counted : calls ≡ length past.history
+  pub counted : length past.history + left ≡ past.config.calls
   pub latest : last ≡ slice_get past.history (length past.history - 1)

@@ -30,17 +30,17 @@ use wf_machine::History;
 use wf_path::{Job, NewFault, Path};
 use wf_queue_chain::Parcel;
 
-/// A cell: the transmit path of an access point, the receive halves of its stations, and how many calls were
-/// made. A contract sees the whole history of the calls and what the path keeps; the type keeps that they
+/// A cell: the transmit path of an access point, the receive halves of its stations, and how many calls may
+/// still be made. A contract sees the whole history of the calls and what the path keeps; the type keeps that they
 /// agree with the machine's run of that history (`wf_def_world`). The history takes no memory: of its entries
 /// the cell has the last alone (a `Record` of wf_record has all). Only `new` and `of` take memory, and as
 /// much for a history of any length.
 #[derive(Drop)]
 pub struct Cell {
     engine: Engine,
-    /// How many calls were made.
-    calls: u32,
-    /// The last of them.
+    /// How many calls may still be made.
+    left: u32,
+    /// The last one that was.
     last: Option<(u32, Note)>,
     past: History<Note>,
 }
@@ -58,7 +58,7 @@ impl Model for Cell {
     ghost invariant = { λ c. IsCell (record {
       config = c.engine.half.config;
       history = c.past;
-    }) c.engine c.calls c.last };
+    }) c.engine c.left c.last };
 }
 
 impl Cell {
@@ -89,7 +89,7 @@ impl Cell {
         let past = History::new();
         Ok(Cell {
             engine,
-            calls: 0,
+            left: config.calls,
             last: None,
             past,
         })
@@ -147,7 +147,7 @@ impl Cell {
         let note = job.note();
         self.past.push(caller, &note);
         self.last = Some((caller, note));
-        self.calls += 1;
+        self.left -= 1;
         self.engine.step(job, answer)
     }
 
@@ -156,7 +156,7 @@ impl Cell {
         ensures count { result ≡ length self.now.past.history }
         ensures most { result ≤ self.now.past.config.calls }
     {
-        u64::from(self.calls)
+        u64::from(self.engine.path.config().calls) - u64::from(self.left)
     }
 
     /// The last entry of the history, if any: its caller and its call.
@@ -170,7 +170,7 @@ impl Cell {
     pub fn room(&self) -> u64
         ensures { result ≡ room_in self.now.past }
     {
-        u64::from(self.engine.path.config().calls) - u64::from(self.calls)
+        u64::from(self.left)
     }
 
     /// The settings.

@@ -1,4 +1,4 @@
-use Rattle.std.proofs.Common.{◌≡◌, ap₂, sym, subst, List}
+use Rattle.std.proofs.Common.{◌≡◌, ap, ap₂, sym, subst, List}
 use Rattle.wf_frame.specs.declared.settings.Config.{Config}
 use Rattle.wf_def_world.specs.World.{opening}
 use Rattle.wf_def_world.specs.Run.{Entry, Past}
@@ -16,7 +16,7 @@ invariant_of-result c =
     subst (λ (k : Config). EngineIsIn engine (opening k) no_frames) (sym same)
     (c.in_ok-engine.ensures no_frames) in
     new_cell (record { config = engine.half.config; history = c.new-past.result }) engine no_frames
-    c.new-past.ensures is_in
+    c.args.config.calls c.new-past.ensures is_in (ap (λ (k : Config). k.calls) (sym same))
 
 pub returns-clause-past : goal.returns-clause-past
 returns-clause-past c =

@@ -1,5 +1,5 @@
 use Rattle.std.proofs.Common.{IfSome, Some, ◌≡◌, ap, sym, ◌∙◌, subst, ◌<◌, List, [], ◌∷◌, ◌++◌, refl, arith}
-use Rattle.std.specs.Prelude.{◌+◌}
+use Rattle.std.specs.Prelude.{◌+◌, ◌-◌}
 use Rattle.wf_frame.specs.Answers.{reply_of}
 use Rattle.wf_frame.specs.declared.notes.Note.{Note}
 use Rattle.wf_frame.specs.declared.notes.ReplyNote.{ReplyNote}
@@ -25,7 +25,7 @@ returns-then-room-eq0-clause-laws c =
     let engine : EngineValue = c.self.inside.engine in
     let p : Past = record { config = engine.half.config; history = c.self.inside.past } in
     subst (λ (u : CellValue). Laws u.past.config u.past.history) c.self.view_is
-    (all_laws p engine c.self.inside.calls c.self.inside.last c.self.invariant)
+    (all_laws p engine c.self.inside.left c.self.inside.last c.self.invariant)
 
 pub returns-then-room-eq0-clause-lengths : goal.returns-then-room-eq0-clause-lengths
 returns-then-room-eq0-clause-lengths c =
@@ -35,7 +35,7 @@ pub step-requires-clause-small : goal.step-requires-clause-small
 step-requires-clause-small c =
     let engine : EngineValue = c.self.inside.engine in
     let p : Past = record { config = engine.half.config; history = c.self.inside.past } in
-    is_small p engine c.self.inside.calls c.self.inside.last c.self.invariant
+    is_small p engine c.self.inside.left c.self.inside.last c.self.invariant
 
 pub invariant_of-self : goal.invariant_of-self
 invariant_of-self c =
@@ -49,10 +49,10 @@ invariant_of-self c =
     let history : List Entry = c.push.new.self in
     let grown : history ≡ p.history ++ e ∷ [] = c.push.ensures
     ∙ ap (λ (n : Note). p.history ++ by c.args.caller n ∷ []) c.note-note.ensures.value in
-    next_cell p engine c.self.inside.calls c.self.inside.last c.self.invariant refl room c.args.caller
+    next_cell p engine c.self.inside.left c.self.inside.last c.self.invariant refl room c.args.caller
     c.args.job
-    c.step.new.self answered c.step.result c.step.ensures.done history (c.self.inside.calls + 1)
-    (Some (by c.args.caller c.note-note.result)) grown refl
+    c.step.new.self answered c.step.result c.step.ensures.done history (c.self.inside.left - 1)
+    (Some (by c.args.caller c.note-note.result)) grown (omega (arith, c.self.invariant.counted, room))
     (ap (λ (n : Note). Some (by c.args.caller n)) c.note-note.ensures.value)
     (subst HasLength c.note-note.ensures.value c.note-note.ensures.some)
     (subst (IsAtMost greatest_body) c.note-note.ensures.value c.note-note.ensures.most)
@@ -69,7 +69,7 @@ returns-clause-past c = λ some.
     let history : List Entry = c.push.new.self in
     let grown : history ≡ p.history ++ e ∷ [] = c.push.ensures
     ∙ ap (λ (n : Note). p.history ++ by c.args.caller n ∷ []) c.note-note.ensures.value in
-    past_grown p engine c.self.inside.calls c.self.inside.last c.self.invariant refl room c.args.caller
+    past_grown p engine c.self.inside.left c.self.inside.last c.self.invariant refl room c.args.caller
     c.args.job
     c.step.new.self answered c.step.result c.step.ensures.done history grown
     ∙ ap (λ (u : CellValue). with_entry e u.past) c.self.view_is
@@ -83,7 +83,7 @@ returns-clause-bodies c = λ some id.
     let left : c.room.result ≡ room_in p = c.room.ensures
     ∙ ap (λ (u : CellValue). room_in u.past) (sym c.self.view_is) in
     let room : 0 < room_in p = omega (arith, left, c.if-room-eq0.false) in
-    let after = stepped p engine c.self.inside.calls c.self.inside.last is refl room c.args.caller c.args.job
+    let after = stepped p engine c.self.inside.left c.self.inside.last is refl room c.args.caller c.args.job
     c.step.new.self answered c.step.result c.step.ensures.done in
     subst (λ (u : CellValue). body_of c.step.new.self.half id ≡ body_after u.half answered c.args.job id)
     c.self.view_is
@@ -99,7 +99,7 @@ returns-clause-reaped c = λ some id fate told.
     let left : c.room.result ≡ room_in p = c.room.ensures
     ∙ ap (λ (u : CellValue). room_in u.past) (sym c.self.view_is) in
     let room : 0 < room_in p = omega (arith, left, c.if-room-eq0.false) in
-    let after = stepped p engine c.self.inside.calls c.self.inside.last is refl room c.args.caller c.args.job
+    let after = stepped p engine c.self.inside.left c.self.inside.last is refl room c.args.caller c.args.job
     c.step.new.self answered c.step.result c.step.ensures.done in
     subst (λ (u : CellValue). IfSome c.step.result (λ f. body_of u.half id ≡ Some f.body)) c.self.view_is
     (reaped_body engine.half (world_of p) is.bodies c.args.job answered c.step.result is.is_in.half
@@ -117,10 +117,10 @@ returns-clause-right c = λ some.
     subst (λ (u : CellValue). IsRight u.past.config u.past.history c.args.job answered c.step.result)
     c.self.view_is
     (is_right engine.half p is.bodies c.args.job answered c.step.result is.is_in.half
-    (replied p engine c.self.inside.calls c.self.inside.last is refl room c.args.caller c.args.job
+    (replied p engine c.self.inside.left c.self.inside.last is refl room c.args.caller c.args.job
     c.step.new.self
     answered c.step.result c.step.ensures.done)
-    (came_back p engine c.self.inside.calls c.self.inside.last is refl room c.args.caller c.args.job
+    (came_back p engine c.self.inside.left c.self.inside.last is refl room c.args.caller c.args.job
     c.step.new.self answered c.step.result c.step.ensures.done is.bodies is.is_in.half))
 
 pub returns-clause-stands : goal.returns-clause-stands
@@ -143,15 +143,15 @@ returns-clause-stands c = λ some bodies stands.
     (bodies_after u.half c.args.job answered bodies)) c.self.view_is
     (subst (λ (q : Past). StandsFor after.half (world_of q)
     (bodies_after engine.half c.args.job answered bodies))
-    (sym (past_grown p engine c.self.inside.calls c.self.inside.last c.self.invariant refl room c.args.caller
+    (sym (past_grown p engine c.self.inside.left c.self.inside.last c.self.invariant refl room c.args.caller
     c.args.job after answered c.step.result c.step.ensures.done history grown))
-    (still_stands p engine c.self.inside.calls c.self.inside.last c.self.invariant refl room c.args.caller
+    (still_stands p engine c.self.inside.left c.self.inside.last c.self.invariant refl room c.args.caller
     c.args.job after answered c.step.result c.step.ensures.done bodies before))
 
 pub returns-clause-laws : goal.returns-clause-laws
 returns-clause-laws c =
     all_laws (record { config = c.step.new.self.half.config; history = c.push.new.self })
-    c.step.new.self (c.self.inside.calls + 1) (Some (by c.args.caller c.note-note.result))
+    c.step.new.self (c.self.inside.left - 1) (Some (by c.args.caller c.note-note.result))
     (invariant_of-self c)
 
 pub returns-clause-lengths : goal.returns-clause-lengths
