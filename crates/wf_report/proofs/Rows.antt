@@ -21,12 +21,20 @@ more_spaced f xs i x front is =
 pub four : (out a b c d : List ℕ) → (((out ++ a) ++ b) ++ c) ++ d ≡ out ++ (((a ++ b) ++ c) ++ d)
 four out a b c d = simp append_assoc
 
-pub joined_three : (word : List ℕ) (head part more : List (List ℕ)) →
+joined_three : (word : List ℕ) (head part more : List (List ℕ)) →
     ((word ++ spaced head) ++ spaced part) ++ spaced more
     ≡ join_with_byte 32 (word ∷ (head ++ (part ++ more)))
 joined_three word head part more =
     rw (join-spaced word (head ++ (part ++ more)), spaced-append head (part ++ more), spaced-append part more)
     (simp append_assoc)
+
+-- the same as a line
+pub line_of_three : (word : List ℕ) (head part more : List (List ℕ)) →
+    ((word ++ spaced head) ++ spaced part) ++ (spaced more ++ 10 ∷ [])
+    ≡ join_with_byte 32 (word ∷ (head ++ (part ++ more))) ++ 10 ∷ []
+line_of_three word head part more =
+    sym (append_assoc ((word ++ spaced head) ++ spaced part) (spaced more) (10 ∷ []))
+    ∙ ap (λ l. l ++ 10 ∷ []) (joined_three word head part more)
 
 pub joined_last : (out word : List ℕ) (head : List (List ℕ)) (last : List ℕ) →
     ((out ++ (word ++ spaced head)) ++ 32 ∷ []) ++ last ≡ out

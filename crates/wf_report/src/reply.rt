@@ -1,47 +1,27 @@
 //! The answer line of an answer.
 
 ghost use Rattle.std.specs.Prelude.{◌≡◌, ◌+◌, ◌≤◌, ◌++◌, ◌∷◌, [], length, map, decimal, sum_by, codes, slice_index, ◌*◌, if◌then◌else◌, true};
-ghost use Rattle.std.specs.List.{join_with_byte};
 ghost use Rattle.wf_io.specs.Words.{words_text, width_of, spaced};
-ghost use Rattle.wf_def_world.specs.Text.{answer_line, reply_words, refusal_words, told_words, part_words, score_digits};
+ghost use Rattle.wf_def_world.specs.Text.{answer_line, part_words, score_digits};
 ghost use Rattle.wf_frame.specs.Answers.{part_sent, reply_of};
-ghost use Rattle.wf_frame.specs.declared.notes.ReplyNote.TheVariants.{Accepted, Reaped};
-ghost use Rattle.wf_frame.specs.Refusals.{number_told};
+ghost use Rattle.wf_frame.specs.declared.notes.ReplyNote.TheVariants.{Accepted, Ended, Reaped, Refused};
+ghost use Rattle.wf_frame.specs.Words.{line};
 ghost use Rattle.wf_report.specs.Replies.{pair_text};
 
 use crate::parts::{fate_name, push_hex};
 use wf_frame::{Answer, Brief, Fate, Ids, Pairs, Refusal};
 use wf_io::{Line, Word};
 
-// A word, and words behind it.
-fn start(out: &mut Line, word: &'static [u8], words: &[Word])
-    requires { length out.old + length word.now + sum_by (λ w. width_of w + 1) words.now ≤ 8192 }
-    ensures text { out.new ≡ out.old ++ (word.now ++ spaced (map words_text words.now)) }
-    ensures len { length out.new ≤ length out.old + length word.now + sum_by (λ w. width_of w + 1) words.now }
-{
-    out.push_all(word);
-    out.push_words(words);
-}
-
-// The number that a refusal tells, where it tells one.
-fn push_number_told(out: &mut Line, refusal: Refusal)
-    requires { length out.old + 22 ≤ 8192 }
-    ensures text { out.new ≡ out.old ++ spaced (told_words (number_told refusal)) }
-    ensures len { length out.new ≤ length out.old + 22 }
-{
-    if let Some(number) = refusal.number_told() {
-        out.push_words(&[Word::Signed(number)]);
-    }
-}
-
-// A refusal.
+// The line of a refusal, with the number that it tells, where it tells one.
 fn push_refusal(out: &mut Line, refusal: Refusal)
-    requires { length out.old + 60 ≤ 8192 }
-    ensures text { out.new ≡ out.old ++ join_with_byte 32 (codes "refused" ∷ refusal_words refusal) }
-    ensures len { length out.new ≤ length out.old + 60 }
+    requires { out.old ≡ [] }
+    ensures { out.new ≡ answer_line (Refused refusal) }
 {
-    start(out, b"refused", &[Word::Text(refusal.word())]);
-    push_number_told(out, refusal);
+    let word = Word::Text(refusal.word());
+    match refusal.number_told() {
+        None => out.push_line(b"refused", &[word]),
+        Some(number) => out.push_line(b"refused", &[word, Word::Signed(number)]),
+    }
 }
 
 // The frames of an aggregate, each with its sequence number.
@@ -97,14 +77,15 @@ fn push_part(out: &mut Line, request: Option<u16>, pairs: &Pairs)
     }
 }
 
-// The More Data bit, as a word where it is set.
+// The More Data bit, as a word where it is set, and the end of the line.
 fn push_more(out: &mut Line, more: bool)
     requires { length out.old ≤ 7200 }
-    ensures text { out.new ≡ out.old ++ spaced (if more then codes "more" ∷ [] else []) }
-    ensures len { length out.new ≤ length out.old + 5 }
+    ensures { out.new ≡ out.old ++ (spaced (if more then codes "more" ∷ [] else []) ++ 10 ∷ []) }
 {
     if more {
-        out.push_words(&[Word::Text(b"more")]);
+        out.push_all(b" more\n");
+    } else {
+        out.push(b'\n');
     }
 }
 
@@ -135,66 +116,49 @@ fn push_bits(out: &mut Line, words: &[u64; 4], wide: bool)
     }
 }
 
-// A block acknowledgement: its start and its bits.
+// The line of a block acknowledgement: its start and its bits.
 fn push_answer(out: &mut Line, first: u16, words: &[u64; 4], wide: bool)
-    requires { length out.old ≤ 60 }
-    ensures text { out.new ≡ out.old ++ join_with_byte 32 (codes "ba" ∷ decimal first
+    requires { out.old ≡ [] }
+    ensures { out.new ≡ line (codes "ba" ∷ decimal first
         ∷ score_digits (slice_index words.now 0) (slice_index words.now 1) (slice_index words.now 2)
         (slice_index words.now 3) wide ∷ []) }
-    ensures len { length out.new ≤ 200 }
 {
-    start(out, b"ba", &[Word::Number(u64::from(first))]);
+    out.push_all(b"ba");
+    out.push_words(&[Word::Number(u64::from(first))]);
     out.push(b' ');
     push_bits(out, words, wide);
+    out.push(b'\n');
 }
 
-// How an exchange ended.
+// The line of an end: how many frames were acknowledged, wait for another transmission, and failed.
 fn push_ended(out: &mut Line, acked: u16, waiting: u16, failed: u16)
-    requires { length out.old ≤ 60 }
-    ensures text { out.new ≡ out.old ++ join_with_byte 32
-        (codes "done" ∷ codes "acked" ∷ decimal acked ∷ codes "waiting" ∷ decimal waiting ∷ codes "failed"
-        ∷ decimal failed ∷ []) }
-    ensures len { length out.new ≤ length out.old + 100 }
+    requires { out.old ≡ [] }
+    ensures { out.new ≡ answer_line (Ended acked waiting failed) }
 {
-    let (acked, waiting, failed) = (u64::from(acked), u64::from(waiting), u64::from(failed));
-    start(
-        out,
+    out.push_line(
         b"done",
         &[
             Word::Text(b"acked"),
-            Word::Number(acked),
+            Word::Number(u64::from(acked)),
             Word::Text(b"waiting"),
-            Word::Number(waiting),
+            Word::Number(u64::from(waiting)),
             Word::Text(b"failed"),
-            Word::Number(failed),
+            Word::Number(u64::from(failed)),
         ],
     );
 }
 
-/// Writes the line of an answer, with its octet 10, to an empty line.
-pub fn print_reply(answer: &Answer, out: &mut Line)
-    requires { out.old ≡ [] }
-    ensures { out.new ≡ answer_line (reply_of answer.now) }
-{
-    push_reply(answer, out);
-    out.push(b'\n');
-}
-
-// A frame that was accepted, and the one that was dropped for it.
+// The line of a frame that was accepted, and of the one that was dropped for it.
 fn push_accepted(out: &mut Line, id: u64, dropped: Option<u64>)
     requires { out.old ≡ [] }
-    ensures text { out.new ≡ join_with_byte 32 (reply_words (Accepted id dropped)) }
-    ensures len { length out.new ≤ 100 }
+    ensures { out.new ≡ answer_line (Accepted id dropped) }
 {
+    let id = Word::Number(id);
     match dropped {
-        None => start(out, b"accepted", &[Word::Number(id)]),
+        None => out.push_line(b"accepted", &[id]),
         Some(dropped) => {
-            let words = [
-                Word::Number(id),
-                Word::Text(b"dropped"),
-                Word::Number(dropped),
-            ];
-            start(out, b"accepted", &words);
+            let words = [id, Word::Text(b"dropped"), Word::Number(dropped)];
+            out.push_line(b"accepted", &words);
         }
     }
 }
@@ -216,40 +180,38 @@ fn push_exchange(out: &mut Line, exchange: u64, station: u16, tid: u8, air: u32)
         Word::Text(b"air"),
         Word::Number(u64::from(air)),
     ];
-    start(out, b"send", &words);
+    out.push_all(b"send");
+    out.push_words(&words);
 }
 
-// The frames that a receiver passed up.
-fn push_released(out: &mut Line, ids: &Ids)
-    requires { out.old ≡ [] }
-    ensures text { out.new ≡ join_with_byte 32 (codes "released" ∷ map decimal ids.now) }
-    ensures len { length out.new ≤ 5400 }
-{
-    start(out, b"released", &[]);
-    push_ids(out, ids);
-}
-
-// A frame that was reaped, and its fate.
+// The line of a frame that was reaped, and of its fate.
 fn push_reaped(out: &mut Line, id: u64, fate: Fate)
     requires { out.old ≡ [] }
-    ensures text { out.new ≡ join_with_byte 32 (reply_words (Reaped id fate)) }
-    ensures len { length out.new ≤ 100 }
+    ensures { out.new ≡ answer_line (Reaped id fate) }
 {
-    let words = [Word::Number(id), Word::Text(fate_name(fate))];
-    start(out, b"reaped", &words);
+    out.push_line(b"reaped", &[Word::Number(id), Word::Text(fate_name(fate))]);
 }
 
-// The words of an answer.
-fn push_reply(answer: &Answer, out: &mut Line)
+// The line of the frames that a receiver passed up.
+fn push_released(out: &mut Line, ids: &Ids)
     requires { out.old ≡ [] }
-    ensures text { out.new ≡ join_with_byte 32 (reply_words (reply_of answer.now)) }
-    ensures len { length out.new ≤ 8000 }
+    ensures { out.new ≡ line (codes "released" ∷ map decimal ids.now) }
+{
+    out.push_all(b"released");
+    push_ids(out, ids);
+    out.push(b'\n');
+}
+
+/// Writes the line of an answer, with its octet 10, to an empty line.
+pub fn print_reply(answer: &Answer, out: &mut Line)
+    requires { out.old ≡ [] }
+    ensures { out.new ≡ answer_line (reply_of answer.now) }
 {
     match answer.brief {
-        Brief::Joined => start(out, b"joined", &[]),
-        Brief::Gone { dropped } => start(out, b"left", &[Word::Number(u64::from(dropped))]),
-        Brief::RateSet => start(out, b"set", &[]),
-        Brief::Ticked { now } => start(out, b"now", &[Word::Number(now)]),
+        Brief::Joined => out.push_line(b"joined", &[]),
+        Brief::Gone { dropped } => out.push_line(b"left", &[Word::Number(u64::from(dropped))]),
+        Brief::RateSet => out.push_line(b"set", &[]),
+        Brief::Ticked { now } => out.push_line(b"now", &[Word::Number(now)]),
         Brief::Accepted { id, dropped } => push_accepted(out, id, dropped),
         Brief::Send {
             exchange,
@@ -265,22 +227,22 @@ fn push_reply(answer: &Answer, out: &mut Line)
         }
         Brief::Released => push_released(out, &answer.ids),
         Brief::Ba {
-            start: first,
+            start,
             b0,
             b1,
             b2,
             b3,
             wide,
-        } => push_answer(out, first, &[b0, b1, b2, b3], wide),
+        } => push_answer(out, start, &[b0, b1, b2, b3], wide),
         Brief::Ended {
             acked,
             waiting,
             failed,
         } => push_ended(out, acked, waiting, failed),
-        Brief::Slept => start(out, b"slept", &[]),
-        Brief::Woken => start(out, b"woken", &[]),
-        Brief::Credited { class } => start(out, b"polled", &[Word::Text(class.word())]),
-        Brief::Charged { deficit } => start(out, b"charged", &[Word::Signed(deficit)]),
+        Brief::Slept => out.push_line(b"slept", &[]),
+        Brief::Woken => out.push_line(b"woken", &[]),
+        Brief::Credited { class } => out.push_line(b"polled", &[Word::Text(class.word())]),
+        Brief::Charged { deficit } => out.push_line(b"charged", &[Word::Signed(deficit)]),
         Brief::Reaped { id, fate } => push_reaped(out, id, fate),
         Brief::Refused(refusal) => push_refusal(out, refusal),
     }
