@@ -6,6 +6,7 @@ import tempfile
 import unittest
 
 TOP = pathlib.Path(__file__).resolve().parent.parent.parent
+TEXTS = pathlib.Path("crates/wf_help/src/texts.rt")
 # A tool of Python that prints the words which it is given.
 TOLD = "import sys\nprint('install', *[word.rpartition('/')[2] for word in sys.argv[1:]])\n"
 PROGRAM = "#!/bin/sh\necho program \"$@\"\n"
@@ -16,11 +17,12 @@ class Words(unittest.TestCase):
         room = tempfile.TemporaryDirectory()
         self.addCleanup(room.cleanup)
         self.top = pathlib.Path(room.name)
-        for name in ("crates/wf/out", "crates/wf_c/out", "tools", "bin"):
+        for name in ("crates/wf/out", "crates/wf_c/out", TEXTS.parent, "tools", "bin"):
             (self.top / name).mkdir(parents=True)
         for name in ("crates.txt", "HANDLES"):
             (self.top / name).touch()
         shutil.copy(TOP / "wf", self.top)
+        shutil.copy(TOP / TEXTS, self.top / TEXTS)
         self.tool("tools/install", TOLD)
         self.tool("bin/rt", "")
 
@@ -71,11 +73,19 @@ class Words(unittest.TestCase):
                 self.assertEqual(self.asked(word, *words), ("", f"usage: ./wf {usage[word]}\n", 1), (word, words))
 
     def test_which_program_answers(self):
-        self.assertEqual(self.asked("which"), ("", "", 1))
+        told, why, status = self.asked("which")
+        self.assertEqual((told, status), ("", 1))
+        self.assertIn("no program is built", why)
         self.is_built(".unproved")
         self.assertEqual(self.asked("which"), (f"unproved {self.top}/crates/wf/out/wf.unproved\n", "", 0))
         self.is_built("")
         self.assertEqual(self.asked("which"), (f"proved {self.top}/crates/wf/out/wf\n", "", 0))
+
+    def test_words_that_are_no_command_are_refused_before_anything_is_compiled(self):
+        for words in (["bild"], ["soak"], ["soak", "1"], ["live", "1", "2"], ["replay", "name"], ["help", "nobody"]):
+            told, why, status = self.asked(*words)
+            self.assertEqual((told, status), ("", 1), words)
+            self.assertRegex(why, "^wf: (.*\n)+usage: wf replay")
 
     def test_all_other_words_go_to_the_program(self):
         self.is_built("")
