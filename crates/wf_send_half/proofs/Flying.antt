@@ -1,5 +1,5 @@
 -- The numbers of an aggregate take off, one after the other.
-use Rattle.std.proofs.Common.{◌≡◌, refl, ap, ap₂, sym, ◌∙◌, subst, arith, ℕ, zero, suc, ◌+◌, ◌%◌, ◌≤◌, List, [], ◌∷◌, ◌++◌, length, length-append, take, drop, Some}
+use Rattle.std.proofs.Common.{◌≡◌, refl, ap, ap₂, sym, ◌∙◌, subst, arith, ℕ, zero, suc, ◌+◌, ◌%◌, ◌≤◌, Bool, false, is_some, List, [], ◌∷◌, ◌++◌, length, length-append, take, drop, Some}
 use Rattle.std.proofs.lemmas.List.{map-append, length-map, length-take}
 use Rattle.std.specs.Prelude.{slice_get}
 use Rattle.wf_frame.specs.Frames.{FrameValue}
@@ -11,14 +11,15 @@ use Rattle.wf_send_window.proofs.Sending.{all_sent_then}
 use Rattle.wf_send_window.specs.Windows.{WindowsHaveRoom, window_of, with_window}
 use Rattle.wf_send_half_refines.specs.Half.{TransmitValue}
 use Rattle.wf_send_half_refines.specs.Standing.{numbers_on_air}
-use Rattle.wf_send_half_refines.specs.Filling.{IsTakingOff, IsFilled}
+use Rattle.wf_send_half_refines.specs.Filling.{IsTakingOff, IsFilled, IsToFill}
 use Rattle.wf_def_air.specs.Airtime.{data_charge}
 use Rattle.wf_def_air.specs.Fit.{aggregate_octets}
 use Rattle.wf_air_fit.specs.Rooms.{RoomValue, RoomStandsFor as RoomStandsFor}
 use Rattle.wf_def_world.specs.Exchanges.{Aggregate, aggregate_of, prepared_data, lens_of}
 use Rattle.wf_send_half_refines.proofs.Sends.{filled_charge}
 use Rattle.wf_send_half_refines.proofs.Flies.{off_begins, off_number, off_waits, off_frame, off_own, off_next}
-use Rattle.wf_send_half.specs.Pulls.{IsFlying, pairs_of, IsPreparedAs, IsPrepared}
+use Rattle.wf_send_window.proofs.Calls.{due_is}
+use Rattle.wf_send_half.specs.Pulls.{IsFlying, pairs_of, IsPreparedAs, IsPrepared, HasToPrepare}
 
 -- the transmission at place i sends this number
 record IsAt (mpdus : List Mpdu) (i number : ℕ) : Type 0 where
@@ -167,3 +168,21 @@ module _ (v : TransmitValue) (bodies : ℕ → FrameValue) (s t : ℕ) (room : R
           numbers_are = h.on_air;
           pairs_are = flying.pairs_are ∙ ap pairs_of (take_all a.mpdus);
         })
+
+-- ---- what is prepared is an aggregate
+
+-- no request is due where the half found none; x is what the fields of the half v are
+pub quiet_now : (x v : TransmitValue) → x ≡ v → (z : WindowValue) (s t : ℕ) → z ≡ window_of x.windows s t →
+    (due : Bool) → due ≡ is_some z.due → due ≡ false → is_some (window_of v.windows s t).due ≡ false
+quiet_now x v same z s t at due read none =
+    ap (λ (y : TransmitValue). is_some (window_of y.windows s t).due) (sym same)
+    ∙ ap (λ (y : WindowValue). is_some y.due) (sym at) ∙ sym read ∙ none
+
+-- so it is to fill an aggregate
+pub to_fill : (v : TransmitValue) (s t : ℕ) (h : HasToPrepare v s t) →
+    is_some (window_of v.windows s t).due ≡ false → IsToFill v h.world h.bodies s t
+to_fill v s t h quiet = record {
+  turned = h.turned;
+  quiet = sym (due_is (window_of v.windows s t) (session h.world s t) h.bodies
+      (h.turned.parts.windows.all.stands s t h.turned.live h.turned.tid)) ∙ quiet;
+}

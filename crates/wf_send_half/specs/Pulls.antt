@@ -132,13 +132,6 @@ pub record IsFlying (v : TransmitValue) (bodies : ℕ → FrameValue) (s t e : �
 
 -- ---- what is sent
 
--- in some world the half is to fill an aggregate, which is to have some number
-pub record HasToSend (v : TransmitValue) (s t : ℕ) : Type 0 where
-  pub world : World
-  pub bodies : ℕ → FrameValue
-  pub to_fill : IsToFill v world bodies s t
-  pub some : 1 ≤ length (aggregate_of world s t).mpdus
-
 -- the numbers of this aggregate have taken off, and their frames have counted it
 pub record IsPreparedAs (v : TransmitValue) (a : Aggregate) (bodies : ℕ → FrameValue) (s t charge : ℕ)
     (numbers : List ℕ) (pairs : List (ℕ × ℕ)) : Type 0 where
@@ -174,13 +167,6 @@ pub record IsPickedInClass (v u : TransmitValue) (w : World) (bodies : ℕ → F
   pub won : (picked_station w c).winner ≡ Some s
   pub picked : HasPickedInClass w c v.sched u.sched
   pub others : u ≡ record v { sched = u.sched }
-
--- some half has picked station s in a class, and is u then
-pub record HasPick (u : TransmitValue) (s : ℕ) (c : Class) : Type 0 where
-  pub before : TransmitValue
-  pub world : World
-  pub bodies : ℕ → FrameValue
-  pub is : IsPickedInClass before u world bodies s c
 
 -- in some world TID t of station s has had its turn; where no request is due, its aggregate is to have some
 -- number

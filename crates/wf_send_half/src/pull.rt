@@ -11,14 +11,14 @@ ghost use Rattle.wf_frame.specs.declared.notes.Refusal.TheVariants.{Full};
 ghost use Rattle.wf_queue_flows.specs.Flows.{frames_of_tid};
 ghost use Rattle.wf_send_window.specs.Windows.{window_of};
 ghost use Rattle.wf_def_world.specs.World.{World, Mpdu};
-ghost use Rattle.wf_send_half_refines.specs.Half.{TransmitValue, some_wait, is_ready_of};
+ghost use Rattle.wf_send_half_refines.specs.Half.{some_wait, is_ready_of};
 ghost use Rattle.wf_send_half_refines.specs.Standing.{StandsFor, Meets, numbers_on_air};
 ghost use Rattle.wf_send_half_refines.specs.Changes.{after_listing_in};
-ghost use Rattle.wf_send_half_refines.specs.Filling.{IsToFill, IsTakingOff};
+ghost use Rattle.wf_send_half_refines.specs.Filling.{IsTakingOff};
 ghost use Rattle.wf_send_half_refines.specs.Pulling.{sending_tid_of, after_turn, has_more_of, open_next, after_sending};
 ghost use Rattle.wf_send_half.specs.Replies.{bodies_sent};
 ghost use Rattle.wf_send_half.specs.Half.{HasWorld, IsLive};
-ghost use Rattle.wf_send_half.specs.Pulls.{IsSenderTold, TellsWhoIsReady, IsPickedInClass, HasPick, IsExponentSmall, IsSameButFrames, HasTakingOff, IsFlying, HasToPrepare, HasToSend, IsPrepared, IsPreparedFor, start_sent};
+ghost use Rattle.wf_send_half.specs.Pulls.{IsSenderTold, TellsWhoIsReady, IsExponentSmall, IsSameButFrames, HasTakingOff, IsFlying, HasToPrepare, IsPreparedFor, start_sent};
 
 use crate::Transmit;
 use wf_air_time::request_charge;
@@ -34,21 +34,12 @@ pub struct Pulled {
     pub is_ready: bool,
 }
 
-/// What an exchange sends, and its charge in microseconds.
+/// What an exchange sends, its charge in microseconds, and its start where it is a request.
 #[derive(Drop)]
 pub(crate) struct Prepared {
     sending: Sending,
     charge: u32,
-}
-
-// The start of what is sent, where that is a request.
-fn request_in(sending: &Sending) -> Option<u16>
-    ensures { result ≡ start_sent sending.now }
-{
-    match sending {
-        Sending::Data(_) => None,
-        Sending::Request(start) => Some(start.raw()),
-    }
+    request: Option<u16>,
 }
 
 impl Transmit {
@@ -80,30 +71,16 @@ impl Transmit {
             };
         }
         match self.sched.pick(class, ready) {
-            Some(station) => self.send(station, class, pairs),
+            Some(station) => {
+                let tid = self.take_turn(station, class);
+                let prepared = self.prepare(station, tid, pairs);
+                self.put_on_air(station, tid, class, prepared)
+            }
             None => Pulled {
                 brief: Brief::Refused(Refusal::Idle),
                 is_ready: false,
             },
         }
-    }
-
-    // Sends what is due of a station that was picked.
-    fn send(&mut self, station: u16, class: Class, pairs: &mut Pairs) -> Pulled
-        requires within { station < self.old.config.stations }
-        requires clock { self.old.clock < 2 ^ 62 }
-        requires exchanges { self.old.exchanges < 2 ^ 62 }
-        requires room { length self.old.opened < 32 }
-        requires picked { HasPick self.old station class }
-        ensures meets { (v : TransmitValue) (w : World) (bodies : ℕ → FrameValue) →
-            IsPickedInClass v self.old w bodies station class →
-            Meets w (bodies_sent (reply_with result.brief pairs.new []) bodies) (Asked (Pull class)) self.new
-            (reply_with result.brief pairs.new []) }
-        ensures ready { IsSenderTold self.new class result }
-    {
-        let tid = self.take_turn(station, class);
-        let prepared = self.prepare(station, tid, pairs);
-        self.put_on_air(station, tid, class, prepared)
     }
 
     // Opens an exchange, which uses up the credit of its station.
@@ -112,6 +89,7 @@ impl Transmit {
         requires small { self.old.exchanges < 2 ^ 62 }
         requires room { length self.old.opened < 32 }
         requires above { All (λ x. x.number < self.old.exchanges) self.old.opened }
+        requires request { prepared.request ≡ start_sent prepared.sending }
         ensures opened { self.new ≡ after_listing_in
             (after_sending self.old station tid class prepared.charge prepared.sending) station class }
         ensures brief { result.brief ≡ Send self.old.exchanges station tid prepared.charge
@@ -120,8 +98,11 @@ impl Transmit {
         ensures ready { result.is_ready ≡ is_ready_of self.new class station }
     {
         let exchange = self.exchanges;
-        let Prepared { sending, charge } = prepared;
-        let request = request_in(&sending);
+        let Prepared {
+            sending,
+            charge,
+            request,
+        } = prepared;
         let more = self.sleepers.asleep(station) && request.is_none() && self.has_more(station);
         self.opened.push(Open {
             number: exchange,
@@ -181,18 +162,25 @@ impl Transmit {
         requires due { HasToPrepare self.old station tid }
         ensures prepared { IsPreparedFor self.old self.new station tid result.charge pairs.new result.sending }
         ensures same { IsSameButFrames self.old self.new }
+        ensures request { result.request ≡ start_sent result.sending }
     {
         let window = self.windows.at(station, tid);
         if window.bar_due() {
+            let start = window.start();
             return Prepared {
-                sending: Sending::Request(window.start()),
+                sending: Sending::Request(start),
                 charge: request_charge(self.is_wide(station, tid)),
+                request: Some(start.raw()),
             };
         }
-        let (numbers, charge) = self.prepare_data(station, tid, pairs);
+        let aggregate = self.fill(station, tid);
+        let charge = aggregate.room.air();
+        let numbers = aggregate.numbers;
+        self.fly_all(station, tid, &numbers, pairs);
         Prepared {
             sending: Sending::Data(numbers),
             charge,
+            request: None,
         }
     }
 
@@ -238,24 +226,5 @@ impl Transmit {
             self.windows.fly(station, tid, number, self.exchanges);
             pairs.push((id, number.raw()));
         }
-    }
-
-    // The numbers of an aggregate, which fly from then on, and its charge.
-    fn prepare_data(&mut self, station: u16, tid: u8, pairs: &mut Pairs) -> (Numbers, u32)
-        requires within { station < self.old.config.stations }
-        requires tid { tid < 8 }
-        requires live { IsLive self.old station }
-        requires small { self.old.clock < 2 ^ 62 }
-        requires exponent { IsExponentSmall self.old station }
-        requires sends { HasToSend self.old station tid }
-        ensures prepared { (w : World) (bodies : ℕ → FrameValue) → IsToFill self.old w bodies station tid →
-            IsPrepared self.new w bodies station tid result.1 result.0 pairs.new }
-        ensures same { IsSameButFrames self.old self.new }
-    {
-        let aggregate = self.fill(station, tid);
-        let charge = aggregate.room.air();
-        let numbers = aggregate.numbers;
-        self.fly_all(station, tid, &numbers, pairs);
-        (numbers, charge)
     }
 }
