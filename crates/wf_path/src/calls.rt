@@ -1,6 +1,6 @@
 //! The calls of a path, but for the end of an exchange.
 
-ghost use Rattle.std.specs.Prelude.{◌≡◌, ℕ, true, List, Option, option_map, IfSome, IfNone, IfOk, IfErr};
+ghost use Rattle.std.specs.Prelude.{◌≡◌, ℕ, true, List, Option, IfSome, IfNone, IfOk, IfErr};
 ghost use Rattle.wf_frame.specs.Frames.{FrameValue};
 ghost use Rattle.wf_frame.specs.Answers.{reply_of, reply_with};
 ghost use Rattle.wf_frame.specs.declared.notes.Ask.TheVariants.{Join, Leave, Rate, Tick, Pull, Sleep, Wake, Poll, Rx, Reap};
@@ -19,7 +19,6 @@ ghost use Rattle.wf_path.specs.Paths.{IsPath, IsSmall, RiseLittle, IsAnswered, I
 use crate::{Job, Path};
 use wf_frame::{Answer, Ask, AskedRate, Brief, Class, Pairs, Refusal};
 use wf_queue_chain::Parcel;
-use wf_queue_flows::Lost;
 use wf_send_half::Admission;
 
 impl Path {
@@ -41,7 +40,16 @@ impl Path {
         ensures rises { RiseLittle self.old.half self.new.half }
     {
         match job {
-            Job::Give(parcel) => self.give(parcel, answer),
+            Job::Give(parcel) => match self.enqueue(parcel) {
+                Ok((id, dropped)) => {
+                    answer.brief = Brief::Accepted { id, dropped };
+                    None
+                }
+                Err((reason, parcel)) => {
+                    answer.brief = Brief::Refused(reason);
+                    Some(parcel)
+                }
+            },
             Job::Call(Ask::Reap) => {
                 let reaped = self.reap();
                 answer.brief = reaped_brief(&reaped);
@@ -50,31 +58,6 @@ impl Path {
             Job::Call(ask) => {
                 answer.brief = self.ask(ask, &mut answer.pairs);
                 None
-            }
-        }
-    }
-
-    // A frame comes in.
-    fn give(&mut self, parcel: Parcel, answer: &mut Answer) -> Option<Parcel>
-        requires small { IsSmall self.old.half }
-        ensures meets { (w : World) (bodies : ℕ → FrameValue) → StandsFor self.old.half w bodies →
-            Meets w (bodies_after self.old.half (Job.Give parcel) (reply_of answer.new) bodies)
-            (enqueue_of parcel) self.new.half (reply_of answer.new) }
-        ensures parcel { (bodies : ℕ → FrameValue) →
-            result ≡ frame_given_back bodies (Job.Give parcel) (reply_of answer.new) }
-        ensures refused { changes_nothing (reply_of answer.new) ≡ true → self.new ≡ self.old }
-        ensures addresses { self.new.addresses ≡ self.old.addresses }
-        ensures path { IsPath self.new.half }
-        ensures rises { RiseLittle self.old.half self.new.half }
-    {
-        match self.enqueue(parcel) {
-            Ok((id, dropped)) => {
-                answer.brief = Brief::Accepted { id, dropped };
-                None
-            }
-            Err((reason, parcel)) => {
-                answer.brief = Brief::Refused(reason);
-                Some(parcel)
             }
         }
     }
@@ -98,20 +81,16 @@ impl Path {
         let frame = parcel.frame();
         let (station, tid, _octets) = (frame.station(), frame.tid(), frame.len());
         let accepted = self.half.enqueue(parcel)?;
-        let Admission {
-            id,
-            lost: loser,
-            is_ready,
-        } = accepted;
-        let dropped = id_of(loser);
+        let Admission { id, lost, is_ready } = accepted;
         let class = Class::of_tid(tid);
         self.ready.set(station, class, is_ready);
-        if let Some(lost) = loser {
-            let other = Class::of_tid(lost.tid);
-            self.ready
-                .set_other(&self.half, lost.station, other, (station, class));
-        }
-        Ok((id, dropped))
+        let Some(lost) = lost else {
+            return Ok((id, None));
+        };
+        let other = Class::of_tid(lost.tid);
+        self.ready
+            .set_other(&self.half, lost.station, other, (station, class));
+        Ok((id, Some(lost.id)))
     }
 
     // Takes the first finished frame.
@@ -258,16 +237,6 @@ impl Path {
             }
             Err(reason) => Brief::Refused(reason),
         }
-    }
-}
-
-// The id of the frame that was dropped for the limit, if any.
-fn id_of(loser: Option<Lost>) -> Option<u64>
-    ensures { result ≡ option_map (λ lost. lost.id) loser }
-{
-    match loser {
-        None => None,
-        Some(lost) => Some(lost.id),
     }
 }
 

@@ -1,14 +1,5 @@
-use Rattle.std.proofs.Common.{◌≡◌, sym, subst}
-use Rattle.wf_frame.specs.Answers.{reply_of}
-use Rattle.wf_path.specs.Jobs.{frame_given_back}
-use Rattle.wf_path.specs.declared.job.Job.{Job}
 use Rattle.wf_path.proofs.Jobs.{none_back, asked_meets, unheard_after}
 use Rattle.wf_path.proofs.path.Path.call.Goals as goal
-
-pub returns-in-Give-clause-parcel : goal.returns-in-Give-clause-parcel
-returns-in-Give-clause-parcel c w bodies h = subst
-    (λ (job : Job). ◌≡◌ c.give.result (frame_given_back bodies job (reply_of c.give.new.answer)))
-    (sym c.in-Give.is) (c.give.ensures.parcel bodies)
 
 pub returns-in-Call : goal.returns-in-Call
 returns-in-Call c = record {
@@ -23,8 +14,11 @@ returns-in-Call c = record {
   rises = c.ask-answer.ensures.answered.rises;
 }
 
-pub returns-in-Give-clause-unheard : goal.returns-in-Give-clause-unheard
-returns-in-Give-clause-unheard c = unheard_after c.args.self.now.half c.args.job c.requires.heard
-
 pub returns-in-Call-Reap-clause-unheard : goal.returns-in-Call-Reap-clause-unheard
 returns-in-Call-Reap-clause-unheard c = unheard_after c.args.self.now.half c.args.job c.requires.heard
+
+pub returns-in-Ok-clause-unheard : goal.returns-in-Ok-clause-unheard
+returns-in-Ok-clause-unheard c = unheard_after c.args.self.now.half c.args.job c.requires.heard
+
+pub returns-in-Err-clause-unheard : goal.returns-in-Err-clause-unheard
+returns-in-Err-clause-unheard c = unheard_after c.args.self.now.half c.args.job c.requires.heard

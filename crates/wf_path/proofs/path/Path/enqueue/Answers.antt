@@ -1,4 +1,4 @@
-use Rattle.std.proofs.Common.{sym, ◌∙◌, ap, subst, ℕ, ◌<◌, Option}
+use Rattle.std.proofs.Common.{sym, ◌∙◌, ap, subst, ℕ, ◌<◌, Option, Some}
 use Rattle.std.specs.Prelude.{option_map, IfSome}
 use Rattle.wf_queue_flows.specs.declared.flows.Lost.{Lost}
 use Rattle.wf_def_world.specs.World.{World}
@@ -8,13 +8,12 @@ use Rattle.wf_frame.specs.declared.notes.ReplyNote.TheVariants.{Accepted}
 use Rattle.wf_queue_flows_refines.specs.Frames.{with_body}
 use Rattle.wf_send_half.specs.Enqueues.{enqueue_of, as_accepted}
 use Rattle.wf_send_half_refines.specs.Half.{TransmitValue}
-use Rattle.wf_path.specs.Paths.{PathValue, IsPath, RiseLittle}
+use Rattle.wf_path.specs.Paths.{RiseLittle}
 use Rattle.wf_path.proofs.Enqueues.{some_octets, few_octets, accepted_tid, flag_told, accepted_room, accepted_path, loser_within, loser_room, tracked_alone, tracked_both}
 use Rattle.wf_path.proofs.Flags.{flag_twice}
 use Rattle.wf_path.proofs.Rises.{rises_by, no_rise}
 use Rattle.wf_path.proofs.Values.{half_is}
 use Rattle.wf_path.proofs.path.Path.enqueue.Goals as goal
-use Rattle.wf_path.proofs.path.Path.enqueue.Goals.{in-Some, in_default}
 
 pub of_tid-class-requires : goal.of_tid-class-requires
 of_tid-class-requires c =
@@ -62,8 +61,8 @@ set_other-requires-clause-known c = flag_twice c.self.inside.ready c.set.new.sel
     (c.station-station.ensures ∙ ap (λ (f : FrameValue). f.station) c.frame-frame.ensures)
     c.in_ok-accepted.accepted.is_ready c.in_ok-accepted.ensures.ready c.set.ensures)
 
-pub invariant_of-self-in-Some : goal.invariant_of-self-in-Some
-invariant_of-self-in-Some c =
+pub invariant_of-self-2 : goal.invariant_of-self-2
+invariant_of-self-2 c =
     tracked_both c.self.inside.half c.self.inside.ready c.self.invariant c.args.parcel
     (Accepted c.in_ok-accepted.accepted.id (option_map (λ l. l.id) c.in_ok-accepted.accepted.lost))
     (λ bodies. with_body bodies (as_accepted c.self.inside.half c.args.parcel)) c.enqueue.new.self
@@ -109,52 +108,49 @@ invariant_of-self-in_default c =
     (c.station-station.ensures ∙ ap (λ (f : FrameValue). f.station) c.frame-frame.ensures)
     c.in_ok-accepted.accepted.is_ready c.in_ok-accepted.ensures.ready c.set.ensures)
 
-pub returns-clause-path : goal.returns-clause-path
-returns-clause-path c = elim c.match-loser.branch [
-  | in-Some w ↦ subst (λ (p : PathValue). IsPath p.half) (sym w.self-is) (accepted_path c.self.inside.half
-      c.self.inside.ready
-      c.self.invariant c.args.parcel
-      (Accepted c.in_ok-accepted.accepted.id (option_map (λ l. l.id) c.in_ok-accepted.accepted.lost))
-      (λ bodies. with_body bodies (as_accepted c.self.inside.half c.args.parcel)) c.enqueue.new.self
-      c.in_ok-accepted.ensures.meets (λ why e. cc e))
-  | in_default w ↦ subst (λ (p : PathValue). IsPath p.half) (sym w.self-is)
-      (accepted_path c.self.inside.half c.self.inside.ready c.self.invariant c.args.parcel
-      (Accepted c.in_ok-accepted.accepted.id (option_map (λ l. l.id) c.in_ok-accepted.accepted.lost))
-      (λ bodies. with_body bodies (as_accepted c.self.inside.half c.args.parcel)) c.enqueue.new.self
-      c.in_ok-accepted.ensures.meets (λ why e. cc e))
-]
+pub returns-in_default-clause-path : goal.returns-in_default-clause-path
+returns-in_default-clause-path c = accepted_path c.self.inside.half c.self.inside.ready
+    c.self.invariant c.args.parcel
+    (Accepted c.in_ok-accepted.accepted.id (option_map (λ l. l.id) c.in_ok-accepted.accepted.lost))
+    (λ bodies. with_body bodies (as_accepted c.self.inside.half c.args.parcel)) c.enqueue.new.self
+    c.in_ok-accepted.ensures.meets (λ why e. cc e)
 
-pub returns-clause-rises : goal.returns-clause-rises
-returns-clause-rises c =
-    let rise : RiseLittle c.args.self.now.half c.enqueue.new.self =
+pub returns-in_default-clause-rises : goal.returns-in_default-clause-rises
+returns-in_default-clause-rises c =
     subst (λ (z : TransmitValue). RiseLittle z c.enqueue.new.self) (half_is c.self.view_is)
     (rises_by c.self.inside.half c.enqueue.new.self c.self.invariant.path
     (with_body c.self.invariant.path.bodies (as_accepted c.self.inside.half c.args.parcel))
     (enqueue_of c.args.parcel)
     (Accepted c.in_ok-accepted.accepted.id (option_map (λ l. l.id) c.in_ok-accepted.accepted.lost))
     (c.in_ok-accepted.ensures.meets c.self.invariant.path.world c.self.invariant.path.bodies
-    c.self.invariant.path.stands)) in
-    elim c.match-loser.branch [
-      | in-Some w ↦ subst (λ (p : PathValue). RiseLittle c.args.self.now.half p.half) (sym w.self-is) rise
-      | in_default w ↦ subst (λ (p : PathValue). RiseLittle c.args.self.now.half p.half) (sym w.self-is) rise
-    ]
+    c.self.invariant.path.stands))
+
+pub returns-clause-path : goal.returns-clause-path
+returns-clause-path c = accepted_path c.self.inside.half c.self.inside.ready
+    c.self.invariant c.args.parcel
+    (Accepted c.in_ok-accepted.accepted.id (option_map (λ l. l.id) c.in_ok-accepted.accepted.lost))
+    (λ bodies. with_body bodies (as_accepted c.self.inside.half c.args.parcel)) c.enqueue.new.self
+    c.in_ok-accepted.ensures.meets (λ why e. cc e)
+
+pub returns-clause-rises : goal.returns-clause-rises
+returns-clause-rises c =
+    subst (λ (z : TransmitValue). RiseLittle z c.enqueue.new.self) (half_is c.self.view_is)
+    (rises_by c.self.inside.half c.enqueue.new.self c.self.invariant.path
+    (with_body c.self.invariant.path.bodies (as_accepted c.self.inside.half c.args.parcel))
+    (enqueue_of c.args.parcel)
+    (Accepted c.in_ok-accepted.accepted.id (option_map (λ l. l.id) c.in_ok-accepted.accepted.lost))
+    (c.in_ok-accepted.ensures.meets c.self.invariant.path.world c.self.invariant.path.bodies
+    c.self.invariant.path.stands))
+
+pub returns-clause-meets : goal.returns-clause-meets
+returns-clause-meets c =
+    let Met : TransmitValue → Option Lost → Type 0 = λ x o. (w : World) (bodies : ℕ → FrameValue) →
+    StandsFor x w bodies → Meets w (with_body bodies (as_accepted x c.args.parcel))
+    (enqueue_of c.args.parcel) c.enqueue.new.self
+    (Accepted c.in_ok-accepted.accepted.id (option_map (λ l. l.id) o)) in
+    subst (λ (x : TransmitValue). Met x (Some c.in-Some.lost)) (half_is c.self.view_is)
+    (subst (λ (o : Option Lost). Met c.self.inside.half o) c.in-Some.is c.in_ok-accepted.ensures.meets)
 
 pub returns-in_err-accepted-clause-rises : goal.returns-in_err-accepted-clause-rises
 returns-in_err-accepted-clause-rises c = subst (RiseLittle c.args.self.now.half)
     (sym (c.in_err-accepted.ensures.refused ∙ half_is c.self.view_is)) (no_rise c.args.self.now.half)
-
-pub returns-clause-meets : goal.returns-clause-meets
-returns-clause-meets c =
-    let P : TransmitValue → TransmitValue → Type 0 = λ x y. (w : World) (bodies : ℕ → FrameValue) →
-    StandsFor x w bodies → Meets w (with_body bodies (as_accepted x c.args.parcel))
-    (enqueue_of c.args.parcel) y (Accepted c.in_ok-accepted.accepted.id c.id_of-dropped.result) in
-    let met : P c.args.self.now.half c.enqueue.new.self =
-    subst (λ (x : TransmitValue). P x c.enqueue.new.self) (half_is c.self.view_is)
-    (λ w bodies h. subst (λ (o : Option ℕ). Meets w
-    (with_body bodies (as_accepted c.self.inside.half c.args.parcel)) (enqueue_of c.args.parcel)
-    c.enqueue.new.self (Accepted c.in_ok-accepted.accepted.id o)) (sym c.id_of-dropped.ensures)
-    (c.in_ok-accepted.ensures.meets w bodies h)) in
-    elim c.match-loser.branch [
-      | in-Some w ↦ subst (λ (p : PathValue). P c.args.self.now.half p.half) (sym w.self-is) met
-      | in_default w ↦ subst (λ (p : PathValue). P c.args.self.now.half p.half) (sym w.self-is) met
-    ]
