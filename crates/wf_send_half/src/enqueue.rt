@@ -1,6 +1,6 @@
 //! Frames that come in.
 
-ghost use Rattle.std.specs.Prelude.{◌≡◌, ◌<◌, ◌≤◌, ◌^◌, ◌&&◌, nat_le, ℕ, true, length, option_map, Some, IfSome, IfOk, IfErr};
+ghost use Rattle.std.specs.Prelude.{◌≡◌, ◌<◌, ◌≤◌, ◌^◌, ℕ, true, length, option_map, Some, IfSome, IfOk, IfErr};
 ghost use Rattle.wf_frame.specs.Classes.{class_of};
 ghost use Rattle.wf_frame.specs.Frames.{FrameValue, source_octets};
 ghost use Rattle.wf_frame.specs.declared.classes.Fate.TheVariants.{Held};
@@ -12,7 +12,6 @@ ghost use Rattle.wf_def_world.specs.Refusals.{refusal};
 ghost use Rattle.wf_send_stations.specs.Tally.{counts_of, one_accepted};
 ghost use Rattle.wf_queue_flows.specs.Flows.{dropped_for_limit, loses_next};
 ghost use Rattle.wf_queue_flows_refines.specs.Frames.{with_body};
-ghost use Rattle.wf_octets_tim.specs.Sleepers.{sleeper};
 ghost use Rattle.wf_send_half_refines.specs.Half.{is_ready_of};
 ghost use Rattle.wf_send_half_refines.specs.Changes.{after_enqueue, after_listing_in};
 ghost use Rattle.wf_send_half_refines.specs.Counting.{with_overlimit};
@@ -147,20 +146,11 @@ impl Transmit {
         self.live(station)?;
         let inside = self.inside;
         refuse_where(self.config.room <= inside, Refusal::Room { inside })?;
+        if !self.sleepers.asleep(station) {
+            return Ok(());
+        }
         let queued = self.queued_in(station, Class::of_tid(tid));
-        refuse_where(
-            self.sleeps_full(station, queued),
-            Refusal::Sleeping { queued },
-        )
-    }
-
-    // Whether a station sleeps, and so many frames are as many as may be queued for it in a class.
-    fn sleeps_full(&self, station: u16, queued: u32) -> bool
-        requires { station < self.now.config.stations }
-        ensures { result ≡ ((sleeper self.now.sleepers station).asleep
-            && nat_le self.now.config.sleeping queued) }
-    {
-        self.sleepers.asleep(station) && self.config.sleeping <= queued
+        refuse_where(self.config.sleeping <= queued, Refusal::Sleeping { queued })
     }
 
     // How many frames are queued for a station in a class.

@@ -122,26 +122,7 @@ impl Transmit {
             IsFilled self.new bodies station tid result.room result.numbers (aggregate_of w station tid) }
         ensures same { IsSameButFrames self.old self.new }
     {
-        let mut aggregate = self.new_aggregate(station, tid);
-        if self.add_waiting(station, tid, &mut aggregate) {
-            self.add_fresh(station, tid, &mut aggregate);
-        }
-        aggregate
-    }
-
-    // An aggregate of no frame.
-    fn new_aggregate(&self, station: u16, tid: u8) -> Aggregate
-        requires within { station < self.now.config.stations }
-        requires tid { tid < 8 }
-        requires live { IsLive self.now station }
-        requires exponent { IsExponentSmall self.now station }
-        requires to_fill { HasToFill self.now station tid }
-        ensures begins { (w : World) (bodies : ℕ → FrameValue) → IsToFill self.now w bodies station tid →
-            IsChoosing result.room result.numbers
-            (window_of self.now.windows station tid).start w station tid }
-        ensures most { result.room.agg ≡ most_of self.now station }
-    {
-        Aggregate {
+        let mut aggregate = Aggregate {
             numbers: Numbers::new(),
             room: Room::new(
                 self.members.rate(station),
@@ -150,7 +131,11 @@ impl Transmit {
                 self.config.cap,
                 self.is_wide(station, tid),
             ),
+        };
+        if self.add_waiting(station, tid, &mut aggregate) {
+            self.add_fresh(station, tid, &mut aggregate);
         }
+        aggregate
     }
 
     // Adds the waiting numbers up to the first that does not fit; true where all fit.

@@ -1,7 +1,10 @@
-use Rattle.std.proofs.Common.{◌∙◌, refl, sym, subst}
+use Rattle.std.proofs.Common.{◌∙◌, refl, ap, sym, subst, ℕ, Bool, false, ◌&&◌, None}
+use Rattle.std.specs.Prelude.{nat_le}
 use Rattle.std.proofs.lemmas.Result.{err_from_is_err_and}
+use Rattle.wf_frame.specs.Classes.{class_of}
 use Rattle.wf_send_half_refines.specs.Half.{TransmitValue}
 use Rattle.wf_send_half_refines.specs.Standing.{StandsFor}
+use Rattle.wf_send_half.specs.Enqueues.{queued_in_class_of}
 use Rattle.wf_send_half.proofs.Rows.{row_refuses, row_passes, out_of_range, in_range, not_there, there, live_of}
 use Rattle.wf_send_half.proofs.Calls.{view_of}
 use Rattle.wf_send_half.proofs.Enqueues.{room_row, sleeping_last}
@@ -40,12 +43,34 @@ returns-in_err-refuse_where-2-clause-refused c w bodies flow len h =
     ∙ sym (row_passes _ _ _ _ refl c.in_ok-refuse_where.ensures.refused)
     ∙ sym (in_range c.args.self.now w bodies h c.args.station _ c.in_ok-in_range.ensures.refused))
 
+pub returns-then-not-asleep-clause-refused : goal.returns-then-not-asleep-clause-refused
+returns-then-not-asleep-clause-refused c w bodies flow len h =
+    let v : TransmitValue = view_of c.self.inside in
+    let k : StandsFor v w bodies =
+    subst (λ (z : TransmitValue). StandsFor z w bodies) (sym c.self.view_is) h in
+    let n : ℕ = queued_in_class_of v c.args.station (class_of c.args.tid) in
+    sleeping_last v w bodies k None false n c.args.station c.args.tid (class_of c.args.tid) refl
+    (ap (λ (b : Bool). b && nat_le v.config.sleeping n) (sym c.if-not-asleep.true ∙ c.asleep.ensures)) refl
+    refl
+    (live_of c.args.self.now w bodies h c.args.station c.in_ok-live.ensures.live)
+    ∙ sym (row_passes _ _ _ _ refl c.in_ok-refuse_where-2.ensures.refused)
+    ∙ sym (room_row (view_of c.self.inside) w bodies k _)
+    ∙ sym (there c.args.self.now w bodies h c.args.station _ c.in_ok-live.ensures.refused)
+    ∙ sym (row_passes _ _ _ _ refl c.in_ok-refuse_where.ensures.refused)
+    ∙ sym (in_range c.args.self.now w bodies h c.args.station _ c.in_ok-in_range.ensures.refused)
+
 pub returns-clause-refused : goal.returns-clause-refused
 returns-clause-refused c w bodies flow len h =
-    let k : StandsFor (view_of c.self.inside) w bodies =
+    let v : TransmitValue = view_of c.self.inside in
+    let k : StandsFor v w bodies =
     subst (λ (z : TransmitValue). StandsFor z w bodies) (sym c.self.view_is) h in
-    sleeping_last c.args.self.now w bodies h _ _ _ c.args.station c.args.tid _
-    c.refuse_where-3.ensures.refused c.sleeps_full.ensures c.queued_in-queued.ensures c.of_tid.ensures
+    sleeping_last v w bodies k _ _ _ c.args.station c.args.tid _
+    c.refuse_where-3.ensures.refused
+    (ap (λ (b : Bool). b && nat_le v.config.sleeping c.queued_in-queued.result)
+    (sym c.if-not-asleep.false ∙ c.asleep.ensures))
+    (c.queued_in-queued.ensures
+    ∙ ap (λ (z : TransmitValue). queued_in_class_of z c.args.station c.of_tid.result) (sym c.self.view_is))
+    c.of_tid.ensures
     (live_of c.args.self.now w bodies h c.args.station c.in_ok-live.ensures.live)
     ∙ sym (row_passes _ _ _ _ refl c.in_ok-refuse_where-2.ensures.refused)
     ∙ sym (room_row (view_of c.self.inside) w bodies k _)

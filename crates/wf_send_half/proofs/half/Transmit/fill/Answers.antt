@@ -1,6 +1,51 @@
-use Rattle.std.proofs.Common.{refl}
+use Rattle.std.proofs.Common.{◌≡◌, refl, ap, ap₂, sym, ◌∙◌, subst, ℕ, ◌≤◌, Bool, List, Option, Some, None, option_map}
+use Rattle.std.specs.Prelude.{IfSome}
 use Rattle.wf_def_world.specs.Exchanges.{aggregate_of}
+use Rattle.wf_air_fit.specs.Rooms.{RoomValue, empty_room}
+use Rattle.wf_send_stations.specs.declared.members.Member.{Member}
+use Rattle.wf_send_stations.specs.Members.{member}
+use Rattle.wf_send_window.specs.Windows.{window_of}
+use Rattle.wf_send_half_refines.specs.Half.{TransmitValue}
+use Rattle.wf_send_half_refines.specs.Filling.{IsToFill, IsChoosing, room_for}
+use Rattle.wf_send_half_refines.proofs.Asked.{room_read}
+use Rattle.wf_send_half_refines.proofs.Fills.{choosing_begins}
+use Rattle.wf_send_half_refines.specs.Pulling.{is_wide_of}
+use Rattle.wf_send_half.specs.Pulls.{most_of}
+use Rattle.wf_send_half.proofs.Calls.{view_of}
 use Rattle.wf_send_half.proofs.half.Transmit.fill.Goals as goal
+
+small : (o : Option Member) (n : ℕ) → option_map (λ m. m.exponent) o ≡ Some n →
+    IfSome o (λ m. m.exponent ≤ 3) → n ≤ 3
+small None n e h = absurd (cc e)
+small (Some m) n e h = let same : m.exponent ≡ n = cc e in subst (λ (k : ℕ). k ≤ 3) same h
+
+pub new-requires-2-clause-exponent_in : goal.new-requires-2-clause-exponent_in
+new-requires-2-clause-exponent_in c =
+    let x : TransmitValue = view_of c.self.inside in
+    small (member x.members c.args.station) c.exponent.result c.exponent.ensures
+    (subst (λ (z : TransmitValue). IfSome (member z.members c.args.station) (λ m. m.exponent ≤ 3))
+    (sym c.self.view_is) c.requires.exponent)
+
+pub add_waiting-requires-clause-begins : goal.add_waiting-requires-clause-begins
+add_waiting-requires-clause-begins c w bodies to =
+    let x : TransmitValue = view_of c.self.inside in
+    let at : IsToFill x w bodies c.args.station c.args.tid =
+    subst (λ (z : TransmitValue). IsToFill z w bodies c.args.station c.args.tid)
+    (sym c.self.view_is) to in
+    subst (λ (z : TransmitValue). IsChoosing c.new-2.result c.new.result
+    (window_of z.windows c.args.station c.args.tid).start w c.args.station c.args.tid) c.self.view_is
+    (subst (λ (r : RoomValue). IsChoosing r c.new.result
+    (window_of x.windows c.args.station c.args.tid).start w c.args.station c.args.tid)
+    (sym (c.new-2.ensures.made
+    ∙ ap₂ (λ (n : ℕ) (b : Bool). empty_room c.rate.result c.exponent.result n x.config.cap b)
+    (c.most_frames.ensures.most ∙ ap (λ (z : TransmitValue). most_of z c.args.station)
+    (sym c.self.view_is)) (c.is_wide.ensures ∙ ap
+    (λ (z : TransmitValue). is_wide_of z c.args.station c.args.tid) (sym c.self.view_is))
+    ∙ room_read x w bodies c.args.station at.turned.parts at.turned.live c.rate.result c.rate.ensures
+    c.args.tid c.exponent.result at.turned.tid c.exponent.ensures))
+    (subst (λ (ns : List ℕ). IsChoosing (room_for w c.args.station c.args.tid) ns
+    (window_of x.windows c.args.station c.args.tid).start w c.args.station c.args.tid) (sym c.new.ensures)
+    (choosing_begins x w bodies c.args.station c.args.tid at)))
 
 pub returns-then-add_waiting-clause-filled : goal.returns-then-add_waiting-clause-filled
 returns-then-add_waiting-clause-filled c w bodies to =
