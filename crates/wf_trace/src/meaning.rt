@@ -1,11 +1,9 @@
 //! What a line says in its place.
 
-ghost use Rattle.std.specs.Prelude.{◌≡◌};
+ghost use Rattle.std.specs.Prelude.{◌≡◌, ◌∷◌};
 ghost use Rattle.wf_trace.specs.Words.{words};
 ghost use Rattle.wf_trace.specs.Grammar.{call_form};
-ghost use Rattle.wf_frame.specs.Calls.{call_named};
-ghost use Rattle.wf_trace.specs.Notes.{called as called_by, read_call};
-ghost use Rattle.wf_trace.specs.Meanings.{allowed as allowed_call, caller_of, caller_first, meant, HasRoomForLine};
+ghost use Rattle.wf_trace.specs.Meanings.{entry_of, caller_of, caller_first, meant, HasRoomForLine};
 
 use crate::args::read_form;
 use crate::fault::FaultKind;
@@ -69,9 +67,15 @@ fn done_form(line: &[u8]) -> CallForm
     }
 }
 
-// The call that a name and the words behind it name.
-fn call(name: &[u8], line: &[u8]) -> Result<Note, FaultKind>
-    ensures { result ≡ called_by (call_named name.now) (words line.now) }
+// The call of this caller that a name and the words behind it name, where one may stand.
+fn call(
+    caller: u32,
+    place: Option<Place>,
+    name: &[u8],
+    line: &[u8],
+) -> Result<Meaning, FaultKind>
+    ensures says { result ≡ entry_of caller place (name.now ∷ words line.now) }
+    ensures room { HasRoomForLine result place }
 {
     let Some(call) = CallForm::named(name) else {
         return Err(FaultKind::Word);
@@ -81,40 +85,26 @@ fn call(name: &[u8], line: &[u8]) -> Result<Note, FaultKind>
         CallForm::Done => done_form(line),
         _ => call,
     };
-    match read_form(form, line) {
-        Ok(values) => Note::of_values(form, values.as_slice()).ok_or(FaultKind::Word),
-        Err(fault) => Err(fault),
+    let values = read_form(form, line)?;
+    let Some(note) = Note::of_values(form, values.as_slice()) else {
+        return Err(FaultKind::Word);
+    };
+    let Some(place) = place else {
+        return Err(FaultKind::NoHead);
+    };
+    if place.limit <= place.count {
+        return Err(FaultKind::TooLong);
     }
+    Ok(Meaning::Entry(caller, note))
 }
 
-// A call of this caller, where one may stand.
-fn allowed(
-    caller: u32,
-    place: Option<Place>,
-    read: Result<Note, FaultKind>,
-) -> Result<Meaning, FaultKind>
-    ensures says { result ≡ allowed_call caller place read }
+// The same of the words behind that of the caller.
+fn behind_caller(caller: u32, place: Option<Place>, line: &[u8]) -> Result<Meaning, FaultKind>
+    ensures says { result ≡ entry_of caller place (words line.now) }
     ensures room { HasRoomForLine result place }
 {
-    match (read, place) {
-        (Err(fault), _) => Err(fault),
-        (Ok(_), None) => Err(FaultKind::NoHead),
-        (Ok(note), Some(place)) => {
-            if place.limit <= place.count {
-                Err(FaultKind::TooLong)
-            } else {
-                Ok(Meaning::Entry(caller, note))
-            }
-        }
-    }
-}
-
-// The call behind the word of its caller.
-fn behind_caller(line: &[u8]) -> Result<Note, FaultKind>
-    ensures { result ≡ read_call (words line.now) }
-{
     match next_word(line) {
-        Some((name, rest)) => call(name, rest),
+        Some((name, rest)) => call(caller, place, name, rest),
         None => Err(FaultKind::Word),
     }
 }
@@ -124,10 +114,9 @@ fn called(caller: &[u8], place: Option<Place>, line: &[u8]) -> Result<Meaning, F
     ensures says { result ≡ caller_first (caller_of caller.now) place (words line.now) }
     ensures room { HasRoomForLine result place }
 {
-    let read = behind_caller(line);
     match in_range(0, GREATEST_CALLER, caller) {
-        Ok(caller) => allowed(caller, place, read),
-        Err(fault) => match allowed(0, place, read) {
+        Ok(caller) => behind_caller(caller, place, line),
+        Err(fault) => match behind_caller(0, place, line) {
             Ok(_) => Err(fault),
             Err(other) => Err(fault.earlier(other)),
         },
@@ -164,5 +153,5 @@ pub fn meaning_of(place: Option<Place>, line: &[u8]) -> Result<Meaning, FaultKin
             Ok(Meaning::Finish)
         };
     }
-    allowed(0, place, call(word, rest))
+    call(0, place, word, rest)
 }
