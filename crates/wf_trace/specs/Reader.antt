@@ -85,13 +85,6 @@ Goes (Ok Finish) old new = Unit {0}
 Goes (Ok (Bad fault)) old new = Unit {0}
 Goes (Err failed) old new = new.place ≡ old.place
 
--- the place before and after an item
-abbrev pub Places : Item → Option Place → Reader → Type 0
-Places (Head config) old new = (old ≡ None) × IsSome new.place × (new.ended ≡ None)
-Places (Entry caller note) old new = IsSome old × IsSome new.place × (new.ended ≡ None)
-Places Finish old new = Unit {0}
-Places (Bad fault) old new = Unit {0}
-
 -- some line says this in its place
 abbrev pub IsLine : Option Place → Meaning → Type 0
 IsLine place meaning = (ws : List (List ℕ)) × (meant place ws ≡ Ok meaning)

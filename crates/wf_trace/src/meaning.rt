@@ -68,12 +68,7 @@ fn done_form(line: &[u8]) -> CallForm
 }
 
 // The call of this caller that a name and the words behind it name, where one may stand.
-fn call(
-    caller: u32,
-    place: Option<Place>,
-    name: &[u8],
-    line: &[u8],
-) -> Result<Meaning, FaultKind>
+fn call(caller: u32, place: Option<Place>, name: &[u8], line: &[u8]) -> Result<Meaning, FaultKind>
     ensures says { result ≡ entry_of caller place (name.now ∷ words line.now) }
     ensures room { HasRoomForLine result place }
 {

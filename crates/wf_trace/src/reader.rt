@@ -56,12 +56,8 @@ impl Model for TraceReader {
 }
 
 impl TraceReader {
-    ghost use Rattle.wf_trace.specs.Pieces.{Pieces};
-    ghost use Rattle.wf_trace.specs.Numbering.{HasText, line_of};
-    ghost use Rattle.wf_trace.specs.Words.{words};
-    ghost use Rattle.wf_trace.specs.Meanings.{meant};
     ghost use Rattle.wf_trace.specs.Reading.{reading};
-    ghost use Rattle.wf_trace.specs.Reader.{Reads, IsHeld, IsPlaced, Goes, Places, GivesItem, rest, rest_of, said, read_lines, will_read};
+    ghost use Rattle.wf_trace.specs.Reader.{Reads, IsHeld, IsPlaced, Goes, rest, will_read};
 
     /// A reader at the front of a trace. It takes its buffer of 4096 octets here, and no memory later.
     pub fn new(alloc: Global) -> Result<Self, AllocError>
@@ -95,40 +91,6 @@ impl TraceReader {
         item
     }
 
-    // What the line says that was just cut.
-    fn say(&mut self, line: u64) -> Item
-        requires going { self.old.ended ≡ None }
-        requires text { HasText self.old.cut }
-        ensures says { (p : Pieces) → GivesItem (Ok result) self.new
-            (said (meant self.old.place (words (line_of self.old.cut))) self.old.place line
-            (λ next. read_lines p.lines p.ending next))
-            (rest_of self.new.ended self.new.place p) }
-        ensures stays { self.new.cut ≡ self.old.cut }
-        ensures places { Places result self.old.place self.new }
-        ensures placed { IsPlaced (Ok result) self.old.place self.new.place }
-    {
-        match meaning_of(self.place, self.cut.octets()) {
-            Ok(Meaning::Head(config)) => {
-                self.place = Some(Place {
-                    limit: config.calls,
-                    count: 0,
-                });
-                Item::Head(config)
-            }
-            Ok(Meaning::Entry(caller, note)) => {
-                if let Some(place) = &mut self.place {
-                    place.count += 1;
-                }
-                Item::Entry(caller, note)
-            }
-            Ok(Meaning::Finish) => {
-                self.ended = Some(Item::Finish);
-                Item::Finish
-            }
-            Err(kind) => self.stop(Fault { line, kind }),
-        }
-    }
-
     /// The next item. After Finish or Bad every later call answers the same. Failed only where the source's
     /// faults rose; then the octets taken are kept, and a later call goes on from there. It takes no memory.
     pub fn next<S: Source>(&mut self, source: &mut S) -> Result<Item, Failed>
@@ -148,14 +110,34 @@ impl TraceReader {
         if let Some(item) = self.ended {
             return Ok(item);
         }
-        match self.cut.next(source) {
-            Ok(Piece::Text { line }) => return Ok(self.say(line)),
+        let line = match self.cut.next(source) {
+            Ok(Piece::Text { line }) => line,
             Ok(Piece::Ended { line }) => {
                 let kind = missing(self.place);
                 return Ok(self.stop(Fault { line, kind }));
             }
             Ok(Piece::Bad(fault)) => return Ok(self.stop(fault)),
             Err(failed) => return Err(failed),
+        };
+        match meaning_of(self.place, self.cut.octets()) {
+            Ok(Meaning::Head(config)) => {
+                self.place = Some(Place {
+                    limit: config.calls,
+                    count: 0,
+                });
+                Ok(Item::Head(config))
+            }
+            Ok(Meaning::Entry(caller, note)) => {
+                if let Some(place) = &mut self.place {
+                    place.count += 1;
+                }
+                Ok(Item::Entry(caller, note))
+            }
+            Ok(Meaning::Finish) => {
+                self.ended = Some(Item::Finish);
+                Ok(Item::Finish)
+            }
+            Err(kind) => Ok(self.stop(Fault { line, kind })),
         }
     }
 }
