@@ -140,7 +140,7 @@ impl Cell {
         ensures laws { Laws self.new.past.config self.new.past.history }
         ensures lengths { HasLengths self.new.past.history }
     {
-        if self.room() == 0 {
+        if self.left == 0 {
             answer.brief = Brief::Refused(Refusal::HistoryFull);
             return job.parcel();
         }

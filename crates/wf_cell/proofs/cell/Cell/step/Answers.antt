@@ -20,15 +20,15 @@ use Rattle.wf_cell.proofs.Rights.{is_right}
 use Rattle.wf_cell.proofs.Steps.{all_laws, is_small, stepped, replied, came_back, past_grown, still_stands, next_cell}
 use Rattle.wf_cell.proofs.cell.Cell.step.Goals as goal
 
-pub returns-then-room-eq0-clause-laws : goal.returns-then-room-eq0-clause-laws
-returns-then-room-eq0-clause-laws c =
+pub returns-then-self-eq0-clause-laws : goal.returns-then-self-eq0-clause-laws
+returns-then-self-eq0-clause-laws c =
     let engine : EngineValue = c.self.inside.engine in
     let p : Past = record { config = engine.half.config; history = c.self.inside.past } in
     subst (λ (u : CellValue). Laws u.past.config u.past.history) c.self.view_is
     (all_laws p engine c.self.inside.left c.self.inside.last c.self.invariant)
 
-pub returns-then-room-eq0-clause-lengths : goal.returns-then-room-eq0-clause-lengths
-returns-then-room-eq0-clause-lengths c =
+pub returns-then-self-eq0-clause-lengths : goal.returns-then-self-eq0-clause-lengths
+returns-then-self-eq0-clause-lengths c =
     subst (λ (u : CellValue). HasLengths u.past.history) c.self.view_is c.self.invariant.lengths
 
 pub step-requires-clause-small : goal.step-requires-clause-small
@@ -43,9 +43,7 @@ invariant_of-self c =
     let p : Past = record { config = engine.half.config; history = c.self.inside.past } in
     let e : Entry = by c.args.caller (note_of c.args.job) in
     let answered : ReplyNote = reply_of c.step.new.answer in
-    let left : c.room.result ≡ room_in p = c.room.ensures
-    ∙ ap (λ (u : CellValue). room_in u.past) (sym c.self.view_is) in
-    let room : 0 < room_in p = omega (arith, left, c.if-room-eq0.false) in
+    let room : 0 < room_in p = omega (arith, c.self.invariant.counted, c.if-self-eq0.false) in
     let history : List Entry = c.push.new.self in
     let grown : history ≡ p.history ++ e ∷ [] = c.push.ensures
     ∙ ap (λ (n : Note). p.history ++ by c.args.caller n ∷ []) c.note-note.ensures.value in
@@ -63,9 +61,7 @@ returns-clause-past c = λ some.
     let p : Past = record { config = engine.half.config; history = c.self.inside.past } in
     let e : Entry = by c.args.caller (note_of c.args.job) in
     let answered : ReplyNote = reply_of c.step.new.answer in
-    let left : c.room.result ≡ room_in p = c.room.ensures
-    ∙ ap (λ (u : CellValue). room_in u.past) (sym c.self.view_is) in
-    let room : 0 < room_in p = omega (arith, left, c.if-room-eq0.false) in
+    let room : 0 < room_in p = omega (arith, c.self.invariant.counted, c.if-self-eq0.false) in
     let history : List Entry = c.push.new.self in
     let grown : history ≡ p.history ++ e ∷ [] = c.push.ensures
     ∙ ap (λ (n : Note). p.history ++ by c.args.caller n ∷ []) c.note-note.ensures.value in
@@ -80,9 +76,7 @@ returns-clause-bodies c = λ some id.
     let p : Past = record { config = engine.half.config; history = c.self.inside.past } in
     let is = c.self.invariant in
     let answered : ReplyNote = reply_of c.step.new.answer in
-    let left : c.room.result ≡ room_in p = c.room.ensures
-    ∙ ap (λ (u : CellValue). room_in u.past) (sym c.self.view_is) in
-    let room : 0 < room_in p = omega (arith, left, c.if-room-eq0.false) in
+    let room : 0 < room_in p = omega (arith, c.self.invariant.counted, c.if-self-eq0.false) in
     let after = stepped p engine c.self.inside.left c.self.inside.last is refl room c.args.caller c.args.job
     c.step.new.self answered c.step.result c.step.ensures.done in
     subst (λ (u : CellValue). body_of c.step.new.self.half id ≡ body_after u.half answered c.args.job id)
@@ -96,9 +90,7 @@ returns-clause-reaped c = λ some id fate told.
     let p : Past = record { config = engine.half.config; history = c.self.inside.past } in
     let is = c.self.invariant in
     let answered : ReplyNote = reply_of c.step.new.answer in
-    let left : c.room.result ≡ room_in p = c.room.ensures
-    ∙ ap (λ (u : CellValue). room_in u.past) (sym c.self.view_is) in
-    let room : 0 < room_in p = omega (arith, left, c.if-room-eq0.false) in
+    let room : 0 < room_in p = omega (arith, c.self.invariant.counted, c.if-self-eq0.false) in
     let after = stepped p engine c.self.inside.left c.self.inside.last is refl room c.args.caller c.args.job
     c.step.new.self answered c.step.result c.step.ensures.done in
     subst (λ (u : CellValue). IfSome c.step.result (λ f. body_of u.half id ≡ Some f.body)) c.self.view_is
@@ -111,9 +103,7 @@ returns-clause-right c = λ some.
     let p : Past = record { config = engine.half.config; history = c.self.inside.past } in
     let is = c.self.invariant in
     let answered : ReplyNote = reply_of c.step.new.answer in
-    let left : c.room.result ≡ room_in p = c.room.ensures
-    ∙ ap (λ (u : CellValue). room_in u.past) (sym c.self.view_is) in
-    let room : 0 < room_in p = omega (arith, left, c.if-room-eq0.false) in
+    let room : 0 < room_in p = omega (arith, c.self.invariant.counted, c.if-self-eq0.false) in
     subst (λ (u : CellValue). IsRight u.past.config u.past.history c.args.job answered c.step.result)
     c.self.view_is
     (is_right engine.half p is.bodies c.args.job answered c.step.result is.is_in.half
@@ -129,9 +119,7 @@ returns-clause-stands c = λ some bodies stands.
     let p : Past = record { config = engine.half.config; history = c.self.inside.past } in
     let e : Entry = by c.args.caller (note_of c.args.job) in
     let answered : ReplyNote = reply_of c.step.new.answer in
-    let left : c.room.result ≡ room_in p = c.room.ensures
-    ∙ ap (λ (u : CellValue). room_in u.past) (sym c.self.view_is) in
-    let room : 0 < room_in p = omega (arith, left, c.if-room-eq0.false) in
+    let room : 0 < room_in p = omega (arith, c.self.invariant.counted, c.if-self-eq0.false) in
     let history : List Entry = c.push.new.self in
     let grown : history ≡ p.history ++ e ∷ [] = c.push.ensures
     ∙ ap (λ (n : Note). p.history ++ by c.args.caller n ∷ []) c.note-note.ensures.value in
