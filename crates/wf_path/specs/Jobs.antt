@@ -33,9 +33,10 @@ IsHeard (Call (Answer exchange)) = ⊥
 IsHeard (Call (Done exchange heard air)) = ⊥
 IsHeard job = Unit {0}
 
--- the calls whose answer is a brief alone, or with the frames of an aggregate: none of exchanges that are
--- open, and no reap
+-- the calls whose answer is a brief alone: no pull, which tells of its frames too, none of exchanges that
+-- are open, and no reap
 abbrev pub IsBrief : Ask → Type 0
+IsBrief (Pull class) = ⊥
 IsBrief (Arrive exchange index) = ⊥
 IsBrief (Answer exchange) = ⊥
 IsBrief (Done exchange heard air) = ⊥

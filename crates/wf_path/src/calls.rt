@@ -55,8 +55,12 @@ impl Path {
                 answer.brief = reaped_brief(&reaped);
                 reaped
             }
+            Job::Call(Ask::Pull { class }) => {
+                answer.brief = self.pull(class, &mut answer.pairs);
+                None
+            }
             Job::Call(ask) => {
-                answer.brief = self.ask(ask, &mut answer.pairs);
+                answer.brief = self.ask(ask);
                 None
             }
         }
@@ -107,11 +111,11 @@ impl Path {
         self.half.reap()
     }
 
-    // Makes a call whose answer is a brief, with the frames of an aggregate.
-    fn ask(&mut self, ask: Ask, pairs: &mut Pairs) -> Brief
+    // Makes a call whose answer is a brief alone.
+    fn ask(&mut self, ask: Ask) -> Brief
         requires brief { IsBrief ask }
         requires small { IsSmall self.old.half }
-        ensures answered { IsAnswered self.old ask self.new result pairs.new }
+        ensures answered { IsToldBriefly self.old ask self.new result }
         ensures brief { IsBrief ask }
     {
         match ask {
@@ -125,7 +129,6 @@ impl Path {
             Ask::Leave { station } => self.leave(station),
             Ask::Rate { station, rate } => self.rate(station, rate),
             Ask::Tick { by } => self.tick(by),
-            Ask::Pull { class } => self.pull(class, pairs),
             Ask::Sleep { station } => self.sleep(station),
             Ask::Wake { station } => self.wake(station),
             Ask::Poll { station } => self.poll(station),
@@ -134,8 +137,11 @@ impl Path {
                 class,
                 air,
             } => self.receive(station, class, air),
-            Ask::Arrive { .. } | Ask::Answer { .. } | Ask::Done { .. } | Ask::Reap =>
-                unreachable!(),
+            Ask::Pull { .. }
+            | Ask::Arrive { .. }
+            | Ask::Answer { .. }
+            | Ask::Done { .. }
+            | Ask::Reap => unreachable!(),
         }
     }
 
