@@ -1,7 +1,6 @@
 //! What a capture tells of a trace.
 
 use wf_captures::{write_head, write_packets};
-use wf_cell::Cell;
 use wf_frame::Answer;
 use wf_io::{Failed, Sink};
 use wf_run_replay::{Plays, Tells};
@@ -24,14 +23,14 @@ impl Tells for Packets {
         write_head(sink)
     }
 
-    fn tell_call<K: Sink>(
+    fn tell_call<M: Plays, K: Sink>(
         &mut self,
-        cell: &Cell,
+        stage: &M,
         answer: &Answer,
         _due: bool,
         sink: &mut K,
     ) -> Result<(), Failed> {
-        write_packets(cell, answer, sink)
+        write_packets(stage.cell(), answer, sink)
     }
 
     fn tell_end<M: Plays, K: Sink>(

@@ -9,7 +9,6 @@ ghost use Rattle.wf_run_replay.specs.Running.{closing_of};
 use crate::outgoing::Outgoing;
 use crate::{Plays, Tells};
 use std::alloc::{AllocError, Global};
-use wf_cell::Cell;
 use wf_frame::Answer;
 use wf_io::{Failed, Line, Sink};
 use wf_report::{print_reply, summary};
@@ -58,9 +57,9 @@ impl Tells for AnswerLines {
         Ok(())
     }
 
-    fn tell_call<K: Sink>(
+    fn tell_call<M: Plays, K: Sink>(
         &mut self,
-        _cell: &Cell,
+        _stage: &M,
         answer: &Answer,
         due: bool,
         sink: &mut K,

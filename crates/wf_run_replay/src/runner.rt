@@ -8,7 +8,7 @@ ghost use Rattle.wf_def_lists.specs.Lengths.{greatest_body};
 ghost use Rattle.wf_io.specs.Fronts.{HoldsFront};
 ghost use Rattle.wf_script.specs.Ends.{CommandEnds};
 ghost use Rattle.wf_trace.specs.declared.reader.Item.TheVariants as item;
-ghost use Rattle.wf_def_world.specs.Run.{by, world_of};
+ghost use Rattle.wf_def_world.specs.Run.{by};
 ghost use Rattle.wf_law_trace.specs.Endings.{TraceAnswered};
 ghost use Rattle.wf_law_trace.specs.Leaving.{Leaves};
 ghost use Rattle.wf_law_trace.specs.Outcomes.{TraceOutcome};
@@ -22,40 +22,8 @@ use wf_io::{Sink, Source, Status};
 use wf_script::Unanswered;
 use wf_trace::{Item, TraceReader};
 
-// Makes a call, and tells of it. Where there was no memory for its frame, nothing was told.
-fn call<T: Tells, M: Plays, K: Sink>(
-    teller: &mut T,
-    stage: &mut M,
-    caller: u32,
-    note: Note,
-    answer: &mut Answer,
-    due: bool,
-    sink: &mut K,
-) -> Result<(), Unanswered>
-    requires room { 0 < room_in (M.past stage.old) }
-    requires some { HasLength note }
-    requires most { IsAtMost greatest_body note }
-    ensures past { OnOk result (M.past stage.new ≡ with_entry (by caller note) (M.past stage.old)) }
-    ensures leaves { OnOk result (Leaves (K.held sink.old) (K.held sink.new)
-        (T.waiting teller.old ++ T.telling.call (world_of (M.past stage.old)) note)
-        (T.waiting teller.new)) }
-    ensures none { OnOk result (IsTrue due → T.waiting teller.new ≡ []) }
-    ensures front { HoldsFront (K.held sink.old) (K.held sink.new)
-        (T.waiting teller.old ++ T.telling.call (world_of (M.past stage.old)) note) }
-    ensures cause { result ≡ Err Unanswered.Sink → HasRisen (K.faults sink.old) (K.faults sink.new) }
-    ensures quiet { result ≢ Err Unanswered.Sink → K.faults sink.new ≡ K.faults sink.old }
-{
-    match stage.call(caller, note, answer) {
-        Ok(()) => {}
-        Err(_) => return Err(Unanswered::Memory),
-    }
-    match teller.tell_call(stage.cell(), answer, due, sink) {
-        Ok(()) => Ok(()),
-        Err(_) => Err(Unanswered::Sink),
-    }
-}
-
-// The same on the stage that a trace's head opened.
+// Makes a call on the stage that a trace's head opened, and tells of it. Where there was no memory for its
+// frame, nothing was told.
 fn make<T: Tells, M: Plays, K: Sink>(
     teller: &mut T,
     stage: &mut Option<M>,
@@ -80,9 +48,16 @@ fn make<T: Tells, M: Plays, K: Sink>(
     ensures cause { result ≡ Err Unanswered.Sink → HasRisen (K.faults sink.old) (K.faults sink.new) }
     ensures quiet { result ≢ Err Unanswered.Sink → K.faults sink.new ≡ K.faults sink.old }
 {
-    match stage {
-        Some(stage) => call(teller, stage, caller, note, answer, due, sink),
-        None => unreachable!(),
+    let Some(stage) = stage else {
+        unreachable!();
+    };
+    match stage.call(caller, note, answer) {
+        Ok(()) => {}
+        Err(_) => return Err(Unanswered::Memory),
+    }
+    match teller.tell_call(stage, answer, due, sink) {
+        Ok(()) => Ok(()),
+        Err(_) => Err(Unanswered::Sink),
     }
 }
 

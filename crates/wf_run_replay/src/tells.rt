@@ -2,7 +2,6 @@
 
 ghost use Rattle.std.specs.Prelude.{◌≡◌, ◌++◌, [], List, ℕ, Option, Some, IsTrue, OnOk, option_map};
 ghost use Rattle.std.specs.Io.KnownBytes.{append_known};
-ghost use Rattle.wf_captures.specs.Samples.{IsSampled};
 ghost use Rattle.wf_cell.specs.Cells.{with_entry};
 ghost use Rattle.wf_frame.specs.Answers.{reply_of};
 ghost use Rattle.wf_frame.specs.declared.notes.Note.{Note};
@@ -17,7 +16,6 @@ ghost use Rattle.wf_law_trace.specs.Tellings.{Telling};
 ghost use Rattle.wf_run_replay.specs.Running.{told_at_end};
 
 use crate::Plays;
-use wf_cell::Cell;
 use wf_frame::Answer;
 use wf_io::{Failed, Sink};
 use wf_trace::Fault;
@@ -39,23 +37,22 @@ pub trait Tells {
         ensures front { HoldsFront (K.held sink.old) (K.held sink.new) telling.front }
         ensures cause { CountsFaults (K.faults sink.old) (K.faults sink.new) result };
 
-    /// Tells of a call, by the cell behind it and its answer, and writes all that waits where that is due.
-    fn tell_call<K: Sink>(
+    /// Tells of a call, by the stage behind it and its answer, and writes all that waits where that is due.
+    fn tell_call<M: Plays, K: Sink>(
         &mut self,
-        cell: &Cell,
+        stage: &M,
         answer: &Answer,
         due: bool,
         sink: &mut K,
     ) -> Result<(), Failed>
-        requires samples { IsSampled cell.now }
         ensures leaves { OnOk result ((past : Past) (caller : ℕ) (note : Note) →
-            cell.now.past ≡ with_entry (by caller note) past →
+            M.past stage.now ≡ with_entry (by caller note) past →
             reply_of answer.now ≡ (step (world_of past) note).reply →
             Leaves (K.held sink.old) (K.held sink.new)
             (waiting self.old ++ telling.call (world_of past) note) (waiting self.new)) }
         ensures none { OnOk result (IsTrue due → waiting self.new ≡ []) }
         ensures front { (past : Past) (caller : ℕ) (note : Note) →
-            cell.now.past ≡ with_entry (by caller note) past →
+            M.past stage.now ≡ with_entry (by caller note) past →
             reply_of answer.now ≡ (step (world_of past) note).reply →
             HoldsFront (K.held sink.old) (K.held sink.new)
             (waiting self.old ++ telling.call (world_of past) note) }
