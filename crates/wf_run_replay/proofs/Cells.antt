@@ -104,13 +104,22 @@ some_is P None all x is = absurd (cc)
 some_is P (Some y) all x is = let same : y ≡ x = cc in subst P same all
 
 -- a frame of a trace has the length that its line names
-pub frame_named : (f : FrameValue) (station tid flow len : ℕ) →
+frame_named : (f : FrameValue) (station tid flow len : ℕ) →
     f ≡ new_frame station tid flow (sample_body flow len) → note_of (Give f) ≡ Enqueue station tid flow len
 frame_named f station tid flow len is =
     ap (λ (x : FrameValue). note_of (Give x)) is ∙ ap (λ (n : ℕ). Enqueue station tid flow n)
     (length_sample flow len)
 
 -- and the body that the calls of a trace bring
-pub sample_named : (f : FrameValue) (station tid flow len : ℕ) →
+sample_named : (f : FrameValue) (station tid flow len : ℕ) →
     f ≡ new_frame station tid flow (sample_body flow len) → IsSample f
 sample_named f station tid flow len is = subst IsSample (sym is) (is_sample station tid flow len)
+
+-- so it is the call that the line names
+pub call_named : (f : FrameValue) (note : Note) (station tid flow len : ℕ) →
+    note ≡ Enqueue station tid flow len → f ≡ new_frame station tid flow (sample_body flow len) →
+    (note_of (Give f) ≡ note) × IsSample f
+call_named f note station tid flow len named is = (
+  frame_named f station tid flow len is ∙ sym named,
+  sample_named f station tid flow len is,
+)

@@ -1,12 +1,11 @@
 //! What a trace is played on.
 
-ghost use Rattle.std.specs.Prelude.{◌≡◌, ◌<◌, [], IfOk, IfSome, OnOk};
-ghost use Rattle.wf_captures.specs.Samples.{IsSample, IsSampled};
+ghost use Rattle.std.specs.Prelude.{◌≡◌, ◌<◌, [], IfOk, OnOk};
+ghost use Rattle.wf_captures.specs.Samples.{IsSampled};
 ghost use Rattle.wf_cell.specs.Cells.{room_in, with_entry};
 ghost use Rattle.wf_frame.specs.Answers.{reply_of};
 ghost use Rattle.wf_frame.specs.Settings.{IsInRange};
 ghost use Rattle.wf_law_runs.specs.Queues.{HasLength, IsAtMost};
-ghost use Rattle.wf_path.specs.Jobs.{frame_of, note_of};
 ghost use Rattle.wf_def_lists.specs.Lengths.{greatest_body};
 ghost use Rattle.wf_def_world.specs.Run.{Past, by, world_of};
 ghost use Rattle.wf_def_world.specs.Step.{step};
@@ -75,30 +74,6 @@ fn cell_for(alloc: Global, config: Config) -> Result<Cell, AllocError>
     }
 }
 
-// The call that a line names, with the frame that it brings.
-fn job_of(alloc: Global, note: Note) -> Result<Job, AllocError>
-    requires some { HasLength note }
-    requires most { IsAtMost greatest_body note }
-    ensures note { IfOk result (λ job. note_of job ≡ note) }
-    ensures frame { IfOk result (λ job. IfSome (frame_of job) IsSample) }
-{
-    match note {
-        Note::Enqueue {
-            station,
-            tid,
-            flow,
-            len,
-        } => {
-            let frame = Frame::sample(alloc, station, tid, flow, len)?;
-            match Parcel::new(alloc, frame) {
-                Ok(parcel) => Ok(Job::Give(parcel)),
-                Err((refused, _)) => Err(refused),
-            }
-        }
-        Note::Asked(ask) => Ok(Job::Call(ask)),
-    }
-}
-
 impl Plays for Stage {
     ghost past = { λ s. s };
 
@@ -117,7 +92,21 @@ impl Plays for Stage {
         ensures past { OnOk result (self.new ≡ with_entry (by caller note) self.old) }
         ensures reply { OnOk result (reply_of answer.new ≡ (step (world_of self.old) note).reply) }
     {
-        let job = job_of(self.alloc, note)?;
+        let job = match note {
+            Note::Asked(ask) => Job::Call(ask),
+            Note::Enqueue {
+                station,
+                tid,
+                flow,
+                len,
+            } => {
+                let frame = Frame::sample(self.alloc, station, tid, flow, len)?;
+                match Parcel::new(self.alloc, frame) {
+                    Ok(parcel) => Job::Give(parcel),
+                    Err((refused, _)) => return Err(refused),
+                }
+            }
+        };
         let _ = self.cell.step(caller, job, answer);
         Ok(())
     }
