@@ -62,7 +62,8 @@ module _ (p : Past) (engine : EngineValue) (left : ℕ) (last : Option Entry)
   has_world = record { world = world_of p; bodies = is.bodies; is_in = is.is_in }
 
   pub is_small : IsSmall engine.half
-  is_small = small_of engine.half p is.bodies range_of is.is_in.half (omega (arith, is.counted, range_of.calls.1))
+  is_small =
+      small_of engine.half p is.bodies range_of is.is_in.half (omega (arith, is.counted, range_of.calls.1))
 
 -- after a call, where there was room
 module _ (p : Past) (engine : EngineValue) (left : ℕ) (last : Option Entry)

@@ -27,8 +27,8 @@ is_received (Call (Arrive exchange index)) = true
 is_received (Call (Answer exchange)) = true
 is_received job = false
 
--- A cell stands for the final world of its own history, whose frames have 1 to 2304 octets each; the history
--- is at most as long as the setting `calls` says, and the cell has how many entries are left and the last one.
+-- A cell stands for the final world of its own history, whose frames have 1 to 2304 octets each; the cell has
+-- how many entries the setting `calls` leaves for the history, and the last one that it has.
 pub record IsCell (past : Past) (engine : EngineValue) (left : ℕ) (last : Option Entry) : Type 0 where
   pub bodies : ℕ → FrameValue
   pub is_in : EngineIsIn engine (world_of past) bodies

@@ -1,7 +1,7 @@
 //! The answer line of an answer.
 
-ghost use Rattle.std.specs.Prelude.{◌≡◌, ◌+◌, ◌≤◌, ◌++◌, ◌∷◌, [], length, map, decimal, sum_by, codes, slice_index, ◌*◌, if◌then◌else◌, true};
-ghost use Rattle.wf_io.specs.Words.{words_text, width_of, spaced};
+ghost use Rattle.std.specs.Prelude.{◌≡◌, ◌+◌, ◌≤◌, ◌++◌, ◌∷◌, [], length, map, decimal, codes, slice_index, ◌*◌, if◌then◌else◌, true};
+ghost use Rattle.wf_io.specs.Words.{spaced};
 ghost use Rattle.wf_def_world.specs.Text.{answer_line, part_words, score_digits};
 ghost use Rattle.wf_frame.specs.Answers.{part_sent, reply_of};
 ghost use Rattle.wf_frame.specs.declared.notes.ReplyNote.TheVariants.{Accepted, Ended, Reaped, Refused};

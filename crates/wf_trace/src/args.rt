@@ -1,6 +1,6 @@
 //! The arguments of a line.
 
-ghost use Rattle.std.specs.Prelude.{◌≡◌, ◌+◌, ◌<◌, ◌≤◌, ◌∷◌, [], List, length};
+ghost use Rattle.std.specs.Prelude.{◌≡◌, ◌+◌, ◌<◌, ◌≤◌, ◌∷◌, List, length};
 ghost use Rattle.wf_trace.specs.Words.{words};
 ghost use Rattle.wf_frame.specs.declared.calls.Arg.{Arg as Kind};
 ghost use Rattle.wf_frame.specs.Calls.{args_of};

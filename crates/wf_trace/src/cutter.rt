@@ -43,8 +43,8 @@ fn lines_len(octets: &[u8]) -> usize
 /// Cuts the octets of a source into lines.
 #[derive(Drop)]
 pub struct Cutter {
-    /// The octets that were taken at the last read: those from `from` up to `to` wait to be looked at, and the
-    /// last end of a line among them stands in front of `ends`.
+    /// The octets that were taken at the last read. Those from `from` up to `to` wait to be looked at, and
+    /// of all the last end of a line stands in front of `ends`.
     buffer: Vec<u8>,
     from: usize,
     to: usize,

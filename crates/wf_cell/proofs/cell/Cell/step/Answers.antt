@@ -1,5 +1,5 @@
 use Rattle.std.proofs.Common.{IfSome, Some, ◌≡◌, ap, sym, ◌∙◌, subst, ◌<◌, List, [], ◌∷◌, ◌++◌, refl, arith}
-use Rattle.std.specs.Prelude.{◌+◌, ◌-◌}
+use Rattle.std.specs.Prelude.{◌-◌}
 use Rattle.wf_frame.specs.Answers.{reply_of}
 use Rattle.wf_frame.specs.declared.notes.Note.{Note}
 use Rattle.wf_frame.specs.declared.notes.ReplyNote.{ReplyNote}

@@ -8,10 +8,10 @@ lines-preserved g c = (
   took_refill _ _ _ _ _ _ (took_scan _ _ _ _ _ c.lines.invariant.0 c.in-None.ensures.finds)
       c.in-None.ensures.dry c.in_ok-refill.ensures.octets
       (ap (λ (k : Cutting). k.scanner) c.in_ok-refill.ensures.same),
-  ap (λ (k : Cutting). k.given) c.in_ok-refill.ensures.same ∙ ap (λ (k : Cutting). k.given) c.scan.ensures.stays
-      ∙ c.lines.invariant.1,
-  ap (λ (k : Cutting). k.ended) c.in_ok-refill.ensures.same ∙ ap (λ (k : Cutting). k.ended) c.scan.ensures.stays
-      ∙ c.lines.invariant.2,
+  ap (λ (k : Cutting). k.given) c.in_ok-refill.ensures.same
+      ∙ ap (λ (k : Cutting). k.given) c.scan.ensures.stays ∙ c.lines.invariant.1,
+  ap (λ (k : Cutting). k.ended) c.in_ok-refill.ensures.same
+      ∙ ap (λ (k : Cutting). k.ended) c.scan.ensures.stays ∙ c.lines.invariant.2,
   rw (c.in_ok-refill.ensures.same) (omega (arith, c.lines.invariant.3, c.scan.ensures.grows)),
   c.in_ok-refill.ensures.cause.quiet ∙ c.lines.invariant.4,
   (λ ends. absurd (still_ends _ _ c.lines.self.scanner c.scan.new.self.scanner _ _ c.lines.invariant.5 refl

@@ -5,4 +5,5 @@ use Rattle.wf_trace.proofs.cutter.Cutter.judge.Given as goal
 
 abbrev pub invariant-loop-octet : goal.invariant-loop-octet
 invariant-loop-octet l =
-    list_all is_printable l.fn.self.scanner.line ≡ list_all is_printable (drop l.octet-index l.fn.self.scanner.line)
+    list_all is_printable l.fn.self.scanner.line
+    ≡ list_all is_printable (drop l.octet-index l.fn.self.scanner.line)

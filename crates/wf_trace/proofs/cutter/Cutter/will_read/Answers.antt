@@ -21,7 +21,8 @@ returns-then-first-eq32 c =
           (end_waits c.self.inside.buffer.items c.self.inside.ends c.self.inside.from c.self.inside.to
           c.self.invariant.4 c.if-self.false c.self.invariant.1)
           (first_of_line c.self.inside.buffer.items c.self.inside.ends c.self.inside.from c.self.inside.to
-          c.index-first.result.now c.self.invariant.4 c.if-self.false c.self.invariant.1 c.index-first.ensures),
+          c.index-first.result.now c.self.invariant.4 c.if-self.false c.self.invariant.1
+          c.index-first.ensures),
     )
     (elim c.if-first-eq10.branch [
       | then-first-eq10 w ↦ rw (w.t-12-is, w.if-first-eq10.true) refl
@@ -40,7 +41,8 @@ returns-else-first-eq32 c =
           (end_waits c.self.inside.buffer.items c.self.inside.ends c.self.inside.from c.self.inside.to
           c.self.invariant.4 c.if-self.false c.self.invariant.1)
           (first_of_line c.self.inside.buffer.items c.self.inside.ends c.self.inside.from c.self.inside.to
-          c.index-first.result.now c.self.invariant.4 c.if-self.false c.self.invariant.1 c.index-first.ensures),
+          c.index-first.result.now c.self.invariant.4 c.if-self.false c.self.invariant.1
+          c.index-first.ensures),
     )
     (rw (
       not_equal c.index-first.result.now 10 c.if-first-eq32.false.0,
