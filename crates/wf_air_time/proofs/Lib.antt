@@ -1,2 +1,3 @@
 mod Ceilings
 mod Bounds
+mod Times

@@ -1,10 +1,11 @@
 -- Which rates there are in code, and what they come to at most.
-use Rattle.std.specs.Prelude.{ℕ, true}
+use Rattle.std.specs.Prelude.{◌≡◌, refl, ℕ, ◌+◌, ◌*◌, true}
 use Rattle.wf_def_lists.specs.Lengths.{greatest_body}
 use Rattle.wf_def_lists.specs.Bounds.{greatest_exponent}
 use Rattle.wf_def_air.specs.Fit.{subframe_octets, most_octets}
-use Rattle.wf_def_air.specs.Airtime.{Rate, Ht, Vht, He}
+use Rattle.wf_def_air.specs.Airtime.{Rate, Ht, Vht, He, service_bits, tail_bits, bits, encoders, symbol_tenths, preamble_tenths, kbps}
 use Rattle.wf_air_time.specs.declared.Format.{Format}
+use Rattle.wf_air_time.specs.declared.Timing.{Timing}
 use Rattle.wf_air_time.specs.declared.Format.TheVariants.{Ht as OfHt, Vht as OfVht, He as OfHe}
 
 -- the rate that a format with its numbers is
@@ -18,6 +19,30 @@ abbrev pub format_of : Rate → Format
 format_of (Ht mcs mhz short) = OfHt mcs mhz short
 format_of (Vht mcs mhz short streams) = OfVht mcs mhz short streams
 format_of (He mcs mhz guard streams) = OfHe mcs mhz guard streams
+
+-- a format is that of its rate
+pub same_format : (f : Format) → format_of (rate_of f) ≡ f
+same_format (OfHt mcs mhz short) = refl
+same_format (OfVht mcs mhz short streams) = refl
+same_format (OfHe mcs mhz guard streams) = refl
+
+-- of what a payload's time is a whole number, in tenths of a microsecond: of symbols of the long
+-- guard interval of HT and VHT, of tenths of HE
+abbrev pub unit_tenths : Rate → ℕ
+unit_tenths (Ht mcs mhz short) = 40
+unit_tenths (Vht mcs mhz short streams) = 40
+unit_tenths (He mcs mhz guard streams) = 1
+
+-- what a rate's durations are made of
+abbrev pub timing_of : Rate → Timing
+timing_of r = record {
+  bits = bits r;
+  service_and_tails = service_bits + tail_bits * encoders r;
+  symbol = symbol_tenths r;
+  preamble = preamble_tenths r;
+  unit = unit_tenths r;
+  kbps = kbps r;
+}
 
 -- the least data rate in kbit/s, that of HT and VHT with MCS 0 on 20 MHz, and the greatest, that of
 -- HE with MCS 11 on 160 MHz and eight streams

@@ -7,8 +7,8 @@
 ghost use Rattle.std.specs.Prelude.{◌≡◌, ◌+◌, ◌/◌, ◌==◌, ◌≤◌, ◌<◌, if◌then◌else◌, true, false, IfOk, IfErr};
 ghost use Rattle.wf_def_lists.specs.Table.{has};
 ghost use Rattle.wf_def_air.specs.Fit.{least_exponent};
-ghost use Rattle.wf_def_air.specs.Airtime.{Ht, Vht, He, is_rate, lowest_rate, carriers_of_312, carriers_of_78, vht_encoders, is_wide_width, are_streams, streams_left_out, streams, modulation, carriers, bits, symbol_tenths, kbps, encoders, symbols, preamble_tenths, payload_tenths, data_time, control_time, answer_time, longest_answer, data_charge, request_charge};
-ghost use Rattle.wf_air_time.specs.Rates.{least_kbps, most_kbps, longest_aggregate, longest_single, longest_time, longest_single_time};
+ghost use Rattle.wf_def_air.specs.Airtime.{Ht, Vht, He, IsRate, is_rate, lowest_rate, carriers_of_312, carriers_of_78, vht_encoders, is_wide_width, are_streams, streams_left_out, streams, modulation, carriers, bits, symbol_tenths, kbps, encoders, preamble_tenths, data_time, answer_time, longest_answer, data_charge, request_charge};
+ghost use Rattle.wf_air_time.specs.Rates.{rate_of, unit_tenths, timing_of, least_kbps, most_kbps, longest_aggregate, longest_single, longest_time, longest_single_time};
 
 use std::marker::Model;
 use thiserror::Error;
@@ -44,6 +44,9 @@ const LONG_SYMBOL: u32 = 40;
 /// A symbol of HE without its guard interval, in tenths of a microsecond.
 const HE_SYMBOL: u32 = 128;
 
+/// The tenths in a microsecond.
+const TENTHS: u32 = 10;
+
 /// The preamble up to its long training fields, in tenths of a microsecond: of HT (20.3.7); of VHT
 /// with VHT-SIG-B behind them (21.3.2), and of HE.
 const HT_PREAMBLE: u32 = 320;
@@ -65,24 +68,20 @@ const TRAINING_FIELDS: [u32; 8] = [1, 2, 4, 4, 6, 6, 8, 8];
 /// The OFDM preamble and SIGNAL field of a control frame, in microseconds (18.4.3).
 const CONTROL_PREAMBLE_TIME: u32 = 20;
 
-/// An OFDM symbol, in microseconds (18.4.3).
+/// An OFDM symbol, in microseconds (18.4.3). It has 96 data bits at 24 Mbit/s (18.3.2.3).
 const CONTROL_SYMBOL_TIME: u32 = 4;
 
-/// The data bits in an OFDM symbol at 24 Mbit/s (18.3.2.3).
-const CONTROL_BITS: u32 = 96;
+/// How long a BlockAckReq takes, in microseconds: its 24 octets with the check sequence (8.3.1.8),
+/// the SERVICE field and a tail are 214 bits, in three symbols.
+const REQUEST_TIME: u32 = CONTROL_PREAMBLE_TIME + 3 * CONTROL_SYMBOL_TIME;
 
-/// The octets of a frame check sequence (8.2.4.8).
-const CHECK_OCTETS: u32 = 4;
+/// How long a BlockAck takes, in microseconds: its 32 octets with the check sequence (8.3.1.9) make
+/// 278 bits, in three symbols.
+const ANSWER_TIME: u32 = CONTROL_PREAMBLE_TIME + 3 * CONTROL_SYMBOL_TIME;
 
-/// The octets of a BlockAckReq without its check sequence (8.3.1.8).
-const REQUEST_OCTETS: u32 = 20;
-
-/// The octets of a BlockAck without its check sequence (8.3.1.9).
-const BLOCK_ACK_OCTETS: u32 = 28;
-
-/// The octets of a wide session's BlockAck without its check sequence: this project's own, with a
-/// bitmap of 32 octets.
-const WIDE_BLOCK_ACK_OCTETS: u32 = 52;
+/// How long a wide session's BlockAck takes, in microseconds: this project's own, whose bitmap has
+/// 32 octets, is 56 octets, which make 470 bits, in five symbols.
+const WIDE_ANSWER_TIME: u32 = CONTROL_PREAMBLE_TIME + 5 * CONTROL_SYMBOL_TIME;
 
 /// The pause between a frame and its answer at 5 GHz, in microseconds (18.4.4).
 const SIFS: u32 = 16;
@@ -109,23 +108,47 @@ enum Format {
     },
 }
 
+/// What a rate's durations are made of, worked out once.
+#[derive(Clone, Copy, Debug, PartialEq, Eq)]
+struct Timing {
+    /// The data bits of a symbol; a fraction falls away.
+    bits: u32,
+    /// The SERVICE field and the tail of each encoder, in bits.
+    service_and_tails: u32,
+    /// A symbol with its guard interval, in tenths of a microsecond.
+    symbol: u32,
+    /// The preamble, in tenths of a microsecond.
+    preamble: u32,
+    /// Of what the payload's time is a whole number, in tenths of a microsecond: of symbols of the
+    /// long guard interval of HT and VHT, of tenths of HE.
+    unit: u32,
+    /// The data rate in kbit/s, rounded down.
+    kbps: u32,
+}
+
 /// A rate of HT with one or two spatial streams, or one of VHT or HE with one to eight.
 #[derive(Clone, Copy, Debug, PartialEq, Eq)]
 pub struct Rate {
     format: Format,
+    timing: Timing,
 }
 
 impl Model for Rate {
+    ghost use Rattle.std.specs.Prelude.{◌≡◌};
+    ghost use Rattle.std.proofs.Common.{sym};
     ghost use Rattle.wf_def_air.specs.Airtime.{Rate as RateValue, IsRate};
-    ghost use Rattle.wf_air_time.specs.Rates.{rate_of, format_of};
+    ghost use Rattle.wf_air_time.specs.Rates.{rate_of, format_of, same_format, timing_of};
 
     ghost Value = { RateValue };
 
     ghost view = { λ r. rate_of r.format };
 
-    ghost invariant = { λ r. IsRate (rate_of r.format) };
+    // the timing is that of the format
+    ghost invariant = { λ r. IsRate (rate_of r.format) × (r.timing ≡ timing_of (rate_of r.format)) };
 
-    ghost inverse = { λ v. record { format = format_of v } };
+    ghost inverse = { λ v. record { format = format_of v; timing = timing_of v } };
+
+    ghost inverse_ok = { λ r h i. record { format = same_format r.format i; timing = sym h.1 i } };
 }
 
 /// There is no such rate: an MCS above the format's greatest, a channel width or a guard interval
@@ -203,7 +226,155 @@ fn vht_encoders(mcs: u8, mhz: u8, streams: u8, bits: u32) -> u32
     }
 }
 
+// A long training field of HE by the guard interval in nanoseconds, in tenths of a microsecond.
+fn he_training(guard: u16) -> u32
+    requires { guard ≤ 3200 }
+    ensures exact { result ≡ (if guard == 3200 then 128 else 64) + guard / 100 }
+    ensures most { result ≤ 160 }
+{
+    let field = if guard == 3200 {
+        LONG_HE_TRAINING
+    } else {
+        SHORT_HE_TRAINING
+    };
+    field + u32::from(guard / 100)
+}
+
+impl Format {
+    // Spatial streams.
+    fn streams(self) -> u32
+        requires { IsRate (rate_of self) }
+        ensures exact { result ≡ streams (rate_of self) }
+        ensures least { 1 ≤ result }
+        ensures most { result ≤ 8 }
+    {
+        match self {
+            Format::Ht { mcs, .. } => 1 + u32::from(mcs / 8),
+            Format::Vht { streams, .. } | Format::He { streams, .. } => u32::from(streams),
+        }
+    }
+
+    // The place of its modulation and code in the table.
+    fn modulation(self) -> usize
+        requires { IsRate (rate_of self) }
+        ensures exact { result ≡ modulation (rate_of self) }
+        ensures most { result < 12 }
+    {
+        match self {
+            Format::Ht { mcs, .. } => usize::from(mcs % 8),
+            Format::Vht { mcs, .. } | Format::He { mcs, .. } => usize::from(mcs),
+        }
+    }
+
+    // Data carriers.
+    fn carriers(self) -> u32
+        requires { IsRate (rate_of self) }
+        ensures exact { result ≡ carriers (rate_of self) }
+        ensures most { result ≤ 1960 }
+    {
+        match self {
+            Format::Ht { mhz, .. } | Format::Vht { mhz, .. } => carriers_of_312(mhz),
+            Format::He { mhz, .. } => carriers_of_78(mhz),
+        }
+    }
+
+    // Data bits in a symbol; a fraction falls away.
+    #[tactic(auto, using(crate::proofs::Bounds::bits_least))]
+    fn bits(self) -> u32
+        requires { IsRate (rate_of self) }
+        ensures exact { result ≡ bits (rate_of self) }
+        ensures least { 26 ≤ result }
+        ensures most { result ≤ 130666 }
+    {
+        self.carriers() * self.streams() * BITS_OF_TWELVE[self.modulation()] / 12
+    }
+
+    // Encoders, each with a tail.
+    fn encoders(self) -> u32
+        requires { IsRate (rate_of self) }
+        ensures exact { result ≡ encoders (rate_of self) }
+        ensures most { result ≤ 15 }
+    {
+        match self {
+            Format::Vht {
+                mcs,
+                mhz,
+                streams,
+                ..
+            } => vht_encoders(mcs, mhz, streams, self.bits()),
+            Format::Ht { .. } | Format::He { .. } => 1,
+        }
+    }
+
+    // A symbol's time with its guard interval, in tenths of a microsecond.
+    fn symbol(self) -> u32
+        requires { IsRate (rate_of self) }
+        ensures exact { result ≡ symbol_tenths (rate_of self) }
+        ensures least { 36 ≤ result }
+        ensures most { result ≤ 160 }
+    {
+        match self {
+            Format::Ht { short, .. } | Format::Vht { short, .. } => {
+                if short { SHORT_SYMBOL } else { LONG_SYMBOL }
+            }
+            Format::He { guard, .. } => HE_SYMBOL + u32::from(guard / 100),
+        }
+    }
+
+    // The preamble's time, in tenths of a microsecond.
+    fn preamble(self) -> u32
+        requires { IsRate (rate_of self) }
+        ensures exact { result ≡ preamble_tenths (rate_of self) }
+        ensures most { result ≤ 1640 }
+    {
+        let fields = TRAINING_FIELDS[self.streams() as usize - 1];
+        match self {
+            Format::Ht { .. } => HT_PREAMBLE + TRAINING * fields,
+            Format::Vht { .. } => LONG_PREAMBLE + TRAINING * fields,
+            Format::He { guard, .. } => LONG_PREAMBLE + he_training(guard) * fields,
+        }
+    }
+
+    // Of what the payload's time is a whole number, in tenths of a microsecond.
+    fn unit(self) -> u32
+        ensures { result ≡ unit_tenths (rate_of self) }
+    {
+        match self {
+            Format::Ht { .. } | Format::Vht { .. } => LONG_SYMBOL,
+            Format::He { .. } => 1,
+        }
+    }
+
+    // What its durations are made of.
+    fn timing(self) -> Timing
+        requires { IsRate (rate_of self) }
+        ensures { result ≡ timing_of (rate_of self) }
+    {
+        let bits = self.bits();
+        let symbol = self.symbol();
+        Timing {
+            bits,
+            service_and_tails: SERVICE_BITS + TAIL_BITS * self.encoders(),
+            symbol,
+            preamble: self.preamble(),
+            unit: self.unit(),
+            kbps: 10_000 * bits / symbol,
+        }
+    }
+}
+
 impl Rate {
+    // The rate of a format with its numbers.
+    fn of(format: Format) -> Rate
+        requires { IsRate (rate_of format) }
+        ensures { result ≡ rate_of format }
+    {
+        Rate {
+            format,
+            timing: format.timing(),
+        }
+    }
+
     /// The rate of HT of an MCS, 0 to 15, a channel width of 20 or 40 MHz and a short (400 ns) or
     /// long (800 ns) guard interval (20.6).
     pub fn ht(mcs: u8, mhz: u8, short: bool) -> Result<Rate, BadRate>
@@ -214,9 +385,7 @@ impl Rate {
         if mcs > GREATEST_HT_MCS || (mhz != 20 && mhz != 40) {
             return Err(BadRate);
         }
-        Ok(Rate {
-            format: Format::Ht { mcs, mhz, short },
-        })
+        Ok(Rate::of(Format::Ht { mcs, mhz, short }))
     }
 
     /// The rate of VHT of an MCS, 0 to 9, a channel width of 20, 40, 80 or 160 MHz, a short (400
@@ -234,14 +403,12 @@ impl Rate {
         {
             return Err(BadRate);
         }
-        Ok(Rate {
-            format: Format::Vht {
-                mcs,
-                mhz,
-                short,
-                streams,
-            },
-        })
+        Ok(Rate::of(Format::Vht {
+            mcs,
+            mhz,
+            short,
+            streams,
+        }))
     }
 
     /// The rate of HE of an MCS, 0 to 11, a channel width of 20, 40, 80 or 160 MHz, a guard
@@ -258,27 +425,23 @@ impl Rate {
         {
             return Err(BadRate);
         }
-        Ok(Rate {
-            format: Format::He {
-                mcs,
-                mhz,
-                guard,
-                streams,
-            },
-        })
+        Ok(Rate::of(Format::He {
+            mcs,
+            mhz,
+            guard,
+            streams,
+        }))
     }
 
     /// The most robust rate: HT MCS 0, 20 MHz, long guard interval.
     pub fn lowest() -> Rate
         ensures { result ≡ lowest_rate }
     {
-        Rate {
-            format: Format::Ht {
-                mcs: 0,
-                mhz: 20,
-                short: false,
-            },
-        }
+        Rate::of(Format::Ht {
+            mcs: 0,
+            mhz: 20,
+            short: false,
+        })
     }
 
     /// To what a receiver's maximum A-MPDU length exponent is added: 13 of HT (8.4.2.58.3), and 17
@@ -295,63 +458,6 @@ impl Rate {
         }
     }
 
-    // Spatial streams.
-    fn streams(self) -> u32
-        ensures exact { result ≡ streams self }
-        ensures least { 1 ≤ result }
-        ensures most { result ≤ 8 }
-    {
-        match self.format {
-            Format::Ht { mcs, .. } => 1 + u32::from(mcs / 8),
-            Format::Vht { streams, .. } | Format::He { streams, .. } => u32::from(streams),
-        }
-    }
-
-    // The place of its modulation and code in the table.
-    fn modulation(self) -> usize
-        ensures exact { result ≡ modulation self }
-        ensures most { result < 12 }
-    {
-        match self.format {
-            Format::Ht { mcs, .. } => usize::from(mcs % 8),
-            Format::Vht { mcs, .. } | Format::He { mcs, .. } => usize::from(mcs),
-        }
-    }
-
-    // Data carriers.
-    fn carriers(self) -> u32
-        ensures exact { result ≡ carriers self }
-        ensures most { result ≤ 1960 }
-    {
-        match self.format {
-            Format::Ht { mhz, .. } | Format::Vht { mhz, .. } => carriers_of_312(mhz),
-            Format::He { mhz, .. } => carriers_of_78(mhz),
-        }
-    }
-
-    // Data bits in a symbol; a fraction falls away.
-    fn bits(self) -> u32
-        ensures exact { result ≡ bits self }
-        ensures least { 26 ≤ result }
-        ensures most { result ≤ 130666 }
-    {
-        self.carriers() * self.streams() * BITS_OF_TWELVE[self.modulation()] / 12
-    }
-
-    // A symbol's time with its guard interval, in tenths of a microsecond.
-    fn symbol(self) -> u32
-        ensures exact { result ≡ symbol_tenths self }
-        ensures least { 36 ≤ result }
-        ensures most { result ≤ 160 }
-    {
-        match self.format {
-            Format::Ht { short, .. } | Format::Vht { short, .. } => {
-                if short { SHORT_SYMBOL } else { LONG_SYMBOL }
-            }
-            Format::He { guard, .. } => HE_SYMBOL + u32::from(guard / 100),
-        }
-    }
-
     /// The data rate in kbit/s, rounded down. Below 12,000 is MCS 0 on 20 MHz with one stream of
     /// each format.
     #[tactic(auto, using(crate::proofs::Bounds::kbps_least, crate::proofs::Bounds::kbps_most))]
@@ -360,80 +466,22 @@ impl Rate {
         ensures least { least_kbps ≤ result }
         ensures most { result ≤ most_kbps }
     {
-        // (what is a rate is known where a field is looked at)
-        let _ = &self.format;
-        10_000 * self.bits() / self.symbol()
-    }
-
-    // Encoders, each with a tail.
-    fn encoders(self) -> u32
-        ensures exact { result ≡ encoders self }
-        ensures most { result ≤ 15 }
-    {
-        match self.format {
-            Format::Vht {
-                mcs,
-                mhz,
-                streams,
-                ..
-            } => vht_encoders(mcs, mhz, streams, self.bits()),
-            Format::Ht { .. } | Format::He { .. } => 1,
-        }
-    }
-
-    // Symbols of this many octets with the SERVICE field and the tails, the last one begun counting
-    // whole.
-    #[tactic(auto, using(crate::proofs::Ceilings::same_ceiling))]
-    fn symbols(self, octets: u32) -> u32
-        requires { octets ≤ longest_aggregate }
-        ensures exact { result ≡ symbols self octets }
-        ensures most { result ≤ 322643 }
-    {
-        let tails = TAIL_BITS * self.encoders();
-        (8 * octets + (SERVICE_BITS + tails)).div_ceil(self.bits())
-    }
-
-    // The preamble's time, in tenths of a microsecond.
-    fn preamble(self) -> u32
-        ensures exact { result ≡ preamble_tenths self }
-        ensures most { result ≤ 1640 }
-    {
-        let fields = TRAINING_FIELDS[self.streams() as usize - 1];
-        match self.format {
-            Format::Ht { .. } => HT_PREAMBLE + TRAINING * fields,
-            Format::Vht { .. } => LONG_PREAMBLE + TRAINING * fields,
-            Format::He { guard, .. } => LONG_PREAMBLE + he_training(guard) * fields,
-        }
-    }
-
-    // The payload's time, in tenths of a microsecond. Of HT and VHT it ends with a whole symbol of
-    // the long guard interval.
-    #[tactic(auto, using(crate::proofs::Ceilings::same_ceiling))]
-    fn payload(self, octets: u32) -> u32
-        requires { octets ≤ longest_aggregate }
-        ensures exact { result ≡ payload_tenths self octets }
-        ensures most { result ≤ 51700000 }
-    {
-        let payload = self.symbol() * self.symbols(octets);
-        match self.format {
-            Format::Ht { .. } | Format::Vht { .. } => payload.div_ceil(LONG_SYMBOL) * LONG_SYMBOL,
-            Format::He { .. } => payload,
-        }
+        self.timing.kbps
     }
 
     /// How long an aggregate of this many octets takes: preamble and payload (TXTIME: 20.4.3,
     /// 21.4.3, 27.4.3). One of HE is rounded up to whole microseconds. An aggregate of one frame
     /// takes at most 3000 microseconds.
-    #[tactic(auto, using(crate::proofs::Ceilings::same_ceiling, crate::proofs::Bounds::time_most, crate::proofs::Bounds::time_single))]
     pub fn data_time(self, octets: u32) -> u32
         requires { octets ≤ longest_aggregate }
         ensures exact { result ≡ data_time self octets }
         ensures most { result ≤ longest_time }
         ensures single { octets ≤ longest_single → result ≤ longest_single_time }
     {
-        // (what is a rate is known where a field is looked at)
-        let _ = &self.format;
-        (self.preamble() + self.payload(octets)).div_ceil(10)
+        let timing = self.timing;
+        let symbols = (8 * octets + timing.service_and_tails).div_ceil(timing.bits);
+        let payload = (timing.symbol * symbols).div_ceil(timing.unit) * timing.unit;
+        (timing.preamble + payload).div_ceil(TENTHS)
     }
 
     /// What a data exchange is charged, in microseconds: its data time, SIFS and the BlockAck,
@@ -447,41 +495,12 @@ impl Rate {
     }
 }
 
-// A long training field of HE by the guard interval in nanoseconds, in tenths of a microsecond.
-fn he_training(guard: u16) -> u32
-    requires { guard ≤ 3200 }
-    ensures exact { result ≡ (if guard == 3200 then 128 else 64) + guard / 100 }
-    ensures most { result ≤ 160 }
-{
-    let field = if guard == 3200 {
-        LONG_HE_TRAINING
-    } else {
-        SHORT_HE_TRAINING
-    };
-    field + u32::from(guard / 100)
-}
-
-// How long a control frame of this many octets takes at 24 Mbit/s (18.4.3).
-#[tactic(auto, using(crate::proofs::Ceilings::same_ceiling))]
-fn control_time(octets: u32) -> u32
-    requires { octets ≤ longest_aggregate }
-    ensures { result ≡ control_time octets }
-{
-    let symbols = (8 * octets + (SERVICE_BITS + TAIL_BITS)).div_ceil(CONTROL_BITS);
-    CONTROL_PREAMBLE_TIME + CONTROL_SYMBOL_TIME * symbols
-}
-
-// How long a BlockAck takes, with its check sequence.
+// How long a BlockAck takes.
 fn answer_time(wide: bool) -> u32
     ensures exact { result ≡ answer_time wide }
     ensures most { result ≤ answer_time true }
 {
-    let octets = if wide {
-        WIDE_BLOCK_ACK_OCTETS
-    } else {
-        BLOCK_ACK_OCTETS
-    };
-    control_time(octets + CHECK_OCTETS)
+    if wide { WIDE_ANSWER_TIME } else { ANSWER_TIME }
 }
 
 /// What an exchange of a BlockAckReq is charged, in microseconds: the request, SIFS and its
@@ -489,5 +508,5 @@ fn answer_time(wide: bool) -> u32
 pub fn request_charge(wide: bool) -> u32
     ensures { result ≡ request_charge wide }
 {
-    control_time(REQUEST_OCTETS + CHECK_OCTETS) + SIFS + answer_time(wide)
+    REQUEST_TIME + SIFS + answer_time(wide)
 }
