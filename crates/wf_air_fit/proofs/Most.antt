@@ -1,27 +1,26 @@
 -- The most octets of an aggregate, for each format and each exponent that a station may state.
-use Rattle.std.proofs.Common.{◌≡◌, refl, ℕ, zero, suc, ◌+◌, ◌-◌, ◌*◌, ◌%◌, ◌^◌, ◌≤◌, arith, lit≤}
+use Rattle.std.proofs.Common.{ℕ, zero, suc, ◌+◌, ◌-◌, ◌^◌, ◌≤◌, arith, lit≤}
 use Rattle.wf_def_air.specs.Airtime.{Rate, Ht, Vht, He}
 use Rattle.wf_def_air.specs.Fit.{least_exponent, most_octets}
 use Rattle.wf_air_time.specs.Rates.{longest_aggregate, longest_single}
 
--- what the code works out lies between, and is no other number of 32 bits
+-- what the code works out lies between
 pub record IsMost (base x : ℕ) : Type 0 where
   pub least : longest_single ≤ 2 ^ (base + x) - 1
   pub most : 2 ^ (base + x) - 1 ≤ longest_aggregate
-  pub same : 1 * 2 ^ (base + x) % 4294967296 - 1 ≡ 2 ^ (base + x) - 1
 
 short : (x : ℕ) → x ≤ 3 → IsMost 13 x
-short zero h = record { least = lit≤ tt; most = lit≤ tt; same = refl }
-short (suc zero) h = record { least = lit≤ tt; most = lit≤ tt; same = refl }
-short (suc (suc zero)) h = record { least = lit≤ tt; most = lit≤ tt; same = refl }
-short (suc (suc (suc zero))) h = record { least = lit≤ tt; most = lit≤ tt; same = refl }
+short zero h = record { least = lit≤ tt; most = lit≤ tt }
+short (suc zero) h = record { least = lit≤ tt; most = lit≤ tt }
+short (suc (suc zero)) h = record { least = lit≤ tt; most = lit≤ tt }
+short (suc (suc (suc zero))) h = record { least = lit≤ tt; most = lit≤ tt }
 short (suc (suc (suc (suc x)))) h = absurd (omega (arith, h))
 
 long : (x : ℕ) → x ≤ 3 → IsMost 17 x
-long zero h = record { least = lit≤ tt; most = lit≤ tt; same = refl }
-long (suc zero) h = record { least = lit≤ tt; most = lit≤ tt; same = refl }
-long (suc (suc zero)) h = record { least = lit≤ tt; most = lit≤ tt; same = refl }
-long (suc (suc (suc zero))) h = record { least = lit≤ tt; most = lit≤ tt; same = refl }
+long zero h = record { least = lit≤ tt; most = lit≤ tt }
+long (suc zero) h = record { least = lit≤ tt; most = lit≤ tt }
+long (suc (suc zero)) h = record { least = lit≤ tt; most = lit≤ tt }
+long (suc (suc (suc zero))) h = record { least = lit≤ tt; most = lit≤ tt }
 long (suc (suc (suc (suc x)))) h = absurd (omega (arith, h))
 
 pub most_is : (r : Rate) (x : ℕ) → x ≤ 3 → IsMost (least_exponent r) x

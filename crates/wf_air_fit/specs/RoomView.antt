@@ -22,6 +22,7 @@ pub record IsRoom (r : Inside) : Type 0 where
   pub exponent_in : r.exponent ≤ 3
   pub agg_in : 1 ≤ r.agg
   pub cap_in : 3000 ≤ r.cap
+  pub limit : r.most_octets ≡ most_octets r.rate r.exponent
   pub count_in : r.count ≤ r.agg
   pub octets_in : r.octets ≤ most_octets r.rate r.exponent
   pub empty : r.count ≡ 0 → r.octets ≡ 0

@@ -2,12 +2,11 @@
 //! (the length limit). Lengths are octets, times whole microseconds.
 #![tactic(auto)]
 
-ghost use Rattle.std.specs.Prelude.{◌≡◌, ◌+◌, ◌-◌, ◌<◌, ◌≤◌, ◌++◌, [], ◌∷◌, ℕ, List, length, nat_lt, ◌&&◌, IsTrue, IsFalse};
+ghost use Rattle.std.specs.Prelude.{◌≡◌, ◌+◌, ◌-◌, ◌≤◌, ◌++◌, [], ◌∷◌, ℕ, List, length, IsTrue, IsFalse};
 ghost use Rattle.wf_def_lists.specs.Lengths.{greatest_body};
 ghost use Rattle.wf_def_air.specs.Airtime.{data_charge, longest_answer};
-ghost use Rattle.wf_def_air.specs.Fit.{most_octets, aggregate_octets, fits};
-ghost use Rattle.wf_air_time.specs.Rates.{longest_aggregate, longest_single};
-ghost use Rattle.wf_air_fit.specs.Rooms.{empty_room, is_short, RoomStandsFor};
+ghost use Rattle.wf_def_air.specs.Fit.{aggregate_octets, fits};
+ghost use Rattle.wf_air_fit.specs.Rooms.{empty_room, RoomStandsFor};
 
 use std::marker::Model;
 use wf_air_time::Rate;
@@ -35,6 +34,8 @@ pub struct Room {
     agg: u16,
     cap: u32,
     wide: bool,
+    /// What the receiver takes at most (8.4.2.58.3).
+    most_octets: u32,
     count: u16,
     octets: u32,
 }
@@ -69,6 +70,7 @@ impl Room {
             agg,
             cap,
             wide,
+            most_octets: (1 << (rate.least_exponent() + exponent)) - 1,
             count: 0,
             octets: 0,
         }
@@ -87,38 +89,15 @@ impl Room {
         ensures first { self.old.count ≡ 0 → IsTrue result }
     {
         let octets = self.octets.next_multiple_of(PADDING) + OVERHEAD + u32::from(len);
-        if !self.has_room_for(octets) {
+        if self.count >= self.agg
+            || octets > self.most_octets
+            || self.rate.data_time(octets) > self.cap
+        {
             return false;
         }
         self.count += 1;
         self.octets = octets;
         true
-    }
-
-    // Whether one frame more fits, with which the aggregate has so many octets.
-    fn has_room_for(&self, octets: u32) -> bool
-        ensures exact { result ≡ (nat_lt self.now.count self.now.agg && is_short self.now octets) }
-        ensures first { self.now.count ≡ 0 → octets ≤ longest_single → IsTrue result }
-    {
-        self.count < self.agg && self.is_short(octets)
-    }
-
-    // Whether an aggregate of so many octets is within the length and the time. A single frame
-    // always is.
-    fn is_short(&self, octets: u32) -> bool
-        ensures exact { result ≡ is_short self.now octets }
-        ensures single { octets ≤ longest_single → IsTrue result }
-    {
-        octets <= self.most_octets() && self.rate.data_time(octets) <= self.cap
-    }
-
-    // The most octets of an aggregate (8.4.2.58.3).
-    fn most_octets(&self) -> u32
-        ensures exact { result ≡ most_octets self.now.rate self.now.exponent }
-        ensures least { longest_single ≤ result }
-        ensures most { result ≤ longest_aggregate }
-    {
-        (1 << (self.rate.least_exponent() + self.exponent)) - 1
     }
 
     /// How many frames it has, at most `agg`.
