@@ -1,9 +1,9 @@
 //! Sources and sinks of the command `frames` that fail. What is listed of captures, and their faults,
 //! are rows of checks/worked.d.
 
-use crate::commands::{Command, played};
+use crate::alike::same;
+use crate::commands::{Command, Row, comes_in_pieces, reads_fail, writes_fail};
 use std::test::Fail;
-use wf_io::Status;
 
 /// A capture of a BlockAck and of an Ack, the high octet of each number first.
 const CAPTURE: [u8; 94] = [
@@ -16,25 +16,23 @@ const CAPTURE: [u8; 94] = [
 /// What is listed of it.
 const LISTED: &[u8] = b"5 7 len 28 ba tid 0 start 100\n5 8 len 10 other\npackets 2\n";
 
+const LIST: Row<'_> = Row {
+    command: Command::Frames,
+    input: &CAPTURE,
+    text: LISTED,
+};
+
 #[test]
 fn reads_of_any_size_give_the_same_list(rt: HostRuntime) -> Result<(), Fail> {
-    for piece in [1, 7, 4096] {
-        let (status, written) = played(&rt, Command::Frames, &CAPTURE, piece, &[], &[])?;
-        assert!(rt; status == Status::Done);
-        assert_eq!(rt; written.as_slice(), LISTED);
-    }
+    comes_in_pieces(&rt, rt.alloc(), LIST)?;
     Ok(())
 }
 
+/// Headers and packets are read apart: 24, 16, 28, 16 and 10 octets, and then the end. And each line is
+/// written apart.
 #[test]
 fn a_source_and_a_sink_that_fail_at_each_call(rt: HostRuntime) -> Result<(), Fail> {
-    for call in 0..16 {
-        let (status, written) = played(&rt, Command::Frames, &CAPTURE, 8, &[call], &[])?;
-        assert!(rt; LISTED.starts_with(written.as_slice()));
-        assert!(rt; status == Status::ReadFault || written.len() == LISTED.len());
-        let (status, written) = played(&rt, Command::Frames, &CAPTURE, 8, &[], &[call])?;
-        assert!(rt; LISTED.starts_with(written.as_slice()));
-        assert!(rt; status == Status::WriteFault || written.len() == LISTED.len());
-    }
+    same(&rt, reads_fail(rt.alloc(), LIST, 8)?, Some(14));
+    same(&rt, writes_fail(rt.alloc(), LIST, 8)?, Some(9));
     Ok(())
 }

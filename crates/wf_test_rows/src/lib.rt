@@ -3,9 +3,17 @@
 #![tactic(auto)]
 
 #[cfg(test)]
+mod addresses;
+#[cfg(test)]
+mod alike;
+#[cfg(test)]
+mod attempts;
+#[cfg(test)]
 mod captures;
 #[cfg(test)]
 mod commands;
+#[cfg(test)]
+mod driven;
 #[cfg(test)]
 mod exchanges;
 #[cfg(test)]

@@ -1,8 +1,12 @@
 //! The command `live`, whose workers meet at a turnstile that counts.
 
+use crate::alike::same;
+use std::alloc::{AllocError, Global};
+use std::sync::Wait;
 use std::sync::atomic::{AtomicU64, Ordering};
 use std::test::Fail;
 use std::thread;
+use std::thread::Threads;
 use wf_gate::Turnstile;
 use wf_io::{Given, Kept};
 use wf_run::{Status, run};
@@ -20,6 +24,14 @@ struct Meeting {
     drivers_out: AtomicU64,
     /// How often one waited in vain.
     missed: AtomicU64,
+}
+
+/// What it counted: calls that were begun and calls that were ended, and waits in vain.
+#[derive(Clone, Copy, Debug, PartialEq, Eq)]
+struct Counts {
+    sender: (u64, u64),
+    drivers: (u64, u64),
+    missed: u64,
 }
 
 impl Meeting {
@@ -42,6 +54,15 @@ impl Meeting {
             thread::yield_now();
         }
         self.missed.fetch_add(1, Ordering::SeqCst);
+    }
+
+    fn counts(&self) -> Counts {
+        let read = |count: &AtomicU64| count.load(Ordering::SeqCst);
+        Counts {
+            sender: (read(&self.sender_in), read(&self.sender_out)),
+            drivers: (read(&self.drivers_in), read(&self.drivers_out)),
+            missed: read(&self.missed),
+        }
     }
 }
 
@@ -73,25 +94,40 @@ const SUMMARY: &[u8] = b"now 1\n\
       sta 0 vi charged 1496 rx 0 deficit 4\n\
       tim 050400010000\n";
 
+/// Runs the command with one sender and one frame. Gives how it ends and what it writes.
+fn lived<R: Threads + Wait + Sync>(
+    rt: &R,
+    alloc: Global,
+    meeting: &Meeting,
+) -> Result<(Status, Vec<u8>), AllocError> {
+    let mut words = Vec::new(alloc);
+    for word in ["live", "7", "1", "1"] {
+        words.push(word.to_string(alloc)?)?;
+    }
+    let mut source = Given::new(Vec::new(alloc), 16, Vec::new(alloc));
+    let mut sink = Kept::new(alloc, 65_536, 4096, Vec::new(alloc))?;
+    let status = run(rt, alloc, &words, &mut source, &mut sink, meeting);
+    Ok((status, sink.octets().to_vec(alloc)?))
+}
+
+/// How many lines of a trace name a number.
+fn named_in(trace: &[u8]) -> u64 {
+    trace.iter().filter(|octet| **octet == b'@').count() as u64
+}
+
 /// The lines of the trace that name a number are the drivers', and two that open the station. Each of the
 /// two ends of an exchange may be tried in vain, and is called again.
 #[test]
 fn workers_meet(rt: HostRuntime) -> Result<(), Fail> {
     let meeting = Meeting::new();
-    let mut source = Given::new(Vec::new(rt.alloc()), 16, Vec::new(rt.alloc()));
-    let mut sink = Kept::new(rt.alloc(), 65_536, 4096, Vec::new(rt.alloc()))?;
-    let mut words = Vec::new(rt.alloc());
-    for word in ["live", "7", "1", "1"] {
-        words.push(word.to_string(rt.alloc())?)?;
-    }
-    assert!(rt; run(&rt, rt.alloc(), &words, &mut source, &mut sink, &meeting) == Status::Done);
-    assert_eq!(rt; meeting.missed.load(Ordering::SeqCst), 0);
-    assert!(rt; sink.octets().ends_with(SUMMARY));
-    assert_eq!(rt; meeting.sender_in.load(Ordering::SeqCst), 2);
-    assert_eq!(rt; meeting.sender_out.load(Ordering::SeqCst), 2);
-    let named = sink.octets().iter().filter(|octet| **octet == b'@').count() as u64;
-    let calls = meeting.drivers_in.load(Ordering::SeqCst);
-    assert!(rt; calls <= named && named - calls <= 2);
-    assert_eq!(rt; meeting.drivers_out.load(Ordering::SeqCst), calls);
+    let (status, written) = lived(&rt, rt.alloc(), &meeting)?;
+    same(&rt, status, Status::Done);
+    same(&rt, written.ends_with(SUMMARY), true);
+    let counts = meeting.counts();
+    same(&rt, (counts.missed, counts.sender), (0, (2, 2)));
+    let (begun, ended) = counts.drivers;
+    let named = named_in(&written);
+    same(&rt, begun, ended);
+    same(&rt, begun <= named && named - begun <= 2, true);
     Ok(())
 }

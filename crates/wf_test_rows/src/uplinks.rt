@@ -1,14 +1,14 @@
 //! Sources and sinks that fail, and lines that are no event. The worked scripts are rows of
 //! checks/worked.d.
 
-use crate::commands::{Command, played};
+use crate::alike::same;
+use crate::commands::{Command, Row, reads_fail, writes_fail};
 use std::test::Fail;
-use wf_io::Status;
 use wf_run_uplink::event_from;
 use wf_trace::FaultKind;
 
 /// A hole that is given up.
-const HOLE: &[u8] = b"open 0 64 10\n\
+const EVENTS: &[u8] = b"open 0 64 10\n\
       frame 88013000020000000000020000010000020000020000b000000000\n\
       tick 99999\n\
       tick 1\n\
@@ -16,7 +16,7 @@ const HOLE: &[u8] = b"open 0 64 10\n\
       end\n";
 
 /// What is answered to it.
-const HOLE_TEXT: &[u8] = b"opened\n\
+const ANSWERS: &[u8] = b"opened\n\
       up sta 0 tid 0 air 132\n\
       now 99999\n\
       now 100000\n\
@@ -24,16 +24,17 @@ const HOLE_TEXT: &[u8] = b"opened\n\
       up sta 0 tid 0 air 132 old\n\
       frames 2 up 1 old 1 held 0 missing 1\n";
 
+const HOLE: Row<'_> = Row {
+    command: Command::Uplink,
+    input: EVENTS,
+    text: ANSWERS,
+};
+
+/// The script has 153 octets, and each line of the answers is written apart.
 #[test]
 fn a_source_and_a_sink_that_fail_at_each_call(rt: HostRuntime) -> Result<(), Fail> {
-    for call in 0..9 {
-        let (status, written) = played(&rt, Command::Uplink, HOLE, 40, &[call], &[])?;
-        assert!(rt; HOLE_TEXT.starts_with(written.as_slice()));
-        assert!(rt; status == Status::ReadFault || written.len() == HOLE_TEXT.len());
-        let (status, written) = played(&rt, Command::Uplink, HOLE, 40, &[], &[call])?;
-        assert!(rt; HOLE_TEXT.starts_with(written.as_slice()));
-        assert!(rt; status == Status::WriteFault || written.len() == HOLE_TEXT.len());
-    }
+    same(&rt, reads_fail(rt.alloc(), HOLE, 40)?, Some(4));
+    same(&rt, writes_fail(rt.alloc(), HOLE, 40)?, Some(7));
     Ok(())
 }
 
@@ -69,13 +70,14 @@ const FAULTS: [(&[u8], FaultKind); 24] = [
     ),
 ];
 
+/// What is wrong with a line, or nothing where it is an event.
+fn fault_of(line: &[u8]) -> Option<FaultKind> {
+    event_from(line).err()
+}
+
 #[test]
-fn lines_with_a_fault(rt: HostRuntime) -> Result<(), Fail> {
-    for (line, kind) in FAULTS {
-        match event_from(line) {
-            Ok(_) => assert!(rt; false),
-            Err(other) => assert!(rt; other == kind),
-        }
+fn lines_with_a_fault(rt: HostRuntime) {
+    for (line, fault) in FAULTS {
+        same(&rt, fault_of(line), Some(fault));
     }
-    Ok(())
 }

@@ -1,6 +1,6 @@
 use Rattle.std.proofs.Common.{rules, ◌≡◌, ap, length}
 use Rattle.wf_gate.proofs.Clients.{pair_new}
-use Rattle.wf_test_rows.proofs.gates.open_pair.Goals as goal
+use Rattle.wf_test_rows.proofs.gates.pair.open_pair.Goals as goal
 
 pub returns : goal.returns
 returns g c =

@@ -1,6 +1,6 @@
 use Rattle.std.proofs.Common.{◌≡◌, ℕ, List, ◌++◌, take}
 use Rattle.wf_gate.specs.Seats.{IsOf, StandsWithCalls}
-use Rattle.wf_test_rows.proofs.gates.send_all.Given as goal
+use Rattle.wf_test_rows.proofs.gates.threads.send_all.Given as goal
 
 abbrev pub invariant-loop-tick : goal.invariant-loop-tick
 invariant-loop-tick g l = record {

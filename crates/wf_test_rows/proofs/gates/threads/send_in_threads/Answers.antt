@@ -1,6 +1,6 @@
 use Rattle.std.proofs.Common.{rules}
 use Rattle.wf_gate.proofs.Clients.{all_again}
-use Rattle.wf_test_rows.proofs.gates.send_in_threads.Goals as goal
+use Rattle.wf_test_rows.proofs.gates.threads.send_in_threads.Goals as goal
 
 pub returns-clause-all : goal.returns-clause-all
 returns-clause-all g c =

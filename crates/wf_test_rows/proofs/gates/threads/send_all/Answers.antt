@@ -2,7 +2,7 @@ use Rattle.std.proofs.Common.{rules, refl, ap, ◌∙◌, sym, take, subst, ◌+
 use Rattle.std.proofs.lemmas.List.{take_more, append-nil, append_assoc}
 use Rattle.wf_gate.specs.Seats.{StandsWithCalls}
 use Rattle.wf_gate.proofs.Clients.{calls_more}
-use Rattle.wf_test_rows.proofs.gates.send_all.Goals as goal
+use Rattle.wf_test_rows.proofs.gates.threads.send_all.Goals as goal
 
 pub loop-tick-init : goal.loop-tick-init
 loop-tick-init g c =

@@ -1,0 +1,38 @@
+//! The two seats of a gate.
+
+ghost use Rattle.std.specs.Prelude.{◌≤◌, sum, IfOk, IfSome};
+ghost use Rattle.wf_gate.specs.Pairs.{IsPair};
+
+use std::alloc::{AllocError, Global};
+use wf_gate::{Gate, Machine, Seat};
+
+/// A gate of two seats, and these in the order of their numbers.
+pub(crate) fn open_pair<M: Machine + Drop>(
+    alloc: Global,
+    machine: M,
+    quotas: [u32; 2],
+) -> Result<Option<(Gate<M>, Seat<M>, Seat<M>)>, AllocError>
+    requires { sum quotas ≤ M.room machine }
+    ensures { IfOk result (λ r. IfSome r (λ p. IsPair p.0 p.1 p.2)) }
+{
+    let (gate, mut seats) = Gate::new(alloc, machine, &quotas)?;
+    let (Some(one), Some(zero)) = (seats.pop(), seats.pop()) else {
+        return Ok(None);
+    };
+    Ok(Some((gate, zero, one)))
+}
+
+/// Closes such a gate.
+pub(crate) fn close_pair<M: Machine + Drop>(
+    alloc: Global,
+    gate: Gate<M>,
+    zero: Seat<M>,
+    one: Seat<M>,
+) -> Result<M, AllocError>
+    requires { IsPair gate zero one }
+{
+    let mut seats = Vec::with_capacity(alloc, 2)?;
+    seats.push_reserved(zero);
+    seats.push_reserved(one);
+    Ok(gate.close(seats))
+}
