@@ -22,28 +22,52 @@ const EDGES: [((u8, u8, bool), u8, u32, bool, u16, u16, u16, u32); 9] = [
     ((7, 20, true), 3, 5400, false, 19, 2304, 1588, 5448),
 ];
 
+/// A room for 256 frames of an aggregate, where there is one.
+fn room_of((mcs, mhz, short): (u8, u8, bool), exponent: u8, cap: u32, wide: bool) -> Option<Room> {
+    let rate = Rate::ht(mcs, mhz, short).ok()?;
+    if exponent <= 3 && cap >= 3000 {
+        Some(Room::new(rate, exponent, 256, cap, wide))
+    } else {
+        None
+    }
+}
+
+/// Whether a frame of so many octets, 1 to 2304, fits. If so, it is added.
+fn takes(room: &mut Room, octets: u16) -> bool {
+    octets >= 1 && octets <= 2304 && room.add(octets)
+}
+
+/// How many frames of so many octets are added, of at most so many.
+fn taken(room: &mut Room, octets: u16, most: u16) -> u16 {
+    for count in 0..most {
+        if octets < 1 || octets > 2304 || !room.add(octets) {
+            return count;
+        }
+    }
+    most
+}
+
+/// How many frames there are, and the charge, where there is one.
+fn filled(room: &Room) -> (u16, Option<u32>) {
+    if room.count() >= 1 {
+        (room.count(), Some(room.air()))
+    } else {
+        (0, None)
+    }
+}
+
 #[test]
 fn full_at_its_edges(rt: HostRuntime) {
-    for (place, ((mcs, mhz, short), exponent, cap, wide, long, next, last, air)) in EDGES
-        .iter()
-        .enumerate()
-    {
-        let rate = Rate::ht(*mcs, *mhz, *short).expect(&rt, "a rate");
-        assert!(rt; *exponent <= 3 && *cap >= 3000);
-        assert!(rt; *next >= 1 && *next <= 2304 && *last >= 1 && *last < 2304);
-        let mut room = Room::new(rate, *exponent, 256, *cap, *wide);
-        for _ in 0..*long {
-            assert!(rt; room.add(2304), "at {place}");
-        }
-        assert!(rt; room.add(*next), "at {place}");
-        assert!(rt; !room.add(*last + 1), "at {place}");
-        assert!(rt; room.add(*last), "at {place}");
-        assert!(rt; room.count() >= 1);
-        same(
-            &rt,
-            (place, room.count(), room.air()),
-            (place, *long + 2, *air),
-        );
+    for (place, (rate, exponent, cap, wide, long, next, last, air)) in EDGES.iter().enumerate() {
+        let mut room = room_of(*rate, *exponent, *cap, *wide).expect(&rt, "a room");
+        same(&rt, (place, taken(&mut room, 2304, *long)), (place, *long));
+        let fits = [
+            takes(&mut room, *next),
+            takes(&mut room, last.saturating_add(1)),
+            takes(&mut room, *last),
+        ];
+        same(&rt, (place, fits), (place, [true, false, true]));
+        same(&rt, filled(&room), (long.saturating_add(2), Some(*air)));
     }
 }
 
@@ -53,11 +77,7 @@ fn count_is_limited(rt: HostRuntime) {
     // 56
     let rate = Rate::ht(7, 20, false).expect(&rt, "a rate");
     let mut room = Room::new(rate, 3, 70, 4000, true);
-    same(&rt, room.count(), 0);
-    for _ in 0..70 {
-        assert!(rt; room.add(64));
-    }
-    assert!(rt; !room.add(64));
-    assert!(rt; room.count() >= 1);
-    same(&rt, (room.count(), room.air()), (70, 956));
+    same(&rt, filled(&room), (0, None));
+    same(&rt, taken(&mut room, 64, 71), 70);
+    same(&rt, filled(&room), (70, Some(956)));
 }

@@ -1,7 +1,7 @@
 //! Headers as other programs write them, and each fault.
 
 use crate::alike::same;
-use std::alloc::AllocError;
+use std::alloc::{AllocError, Global};
 use wf_io::Kept;
 use wf_pcap::*;
 
@@ -29,30 +29,39 @@ const BIG: Form = Form {
     nanos: true,
 };
 
+/// What a sink holds behind a file header and a packet at time 0; or nothing where it failed.
+fn captured(alloc: Global, packet: &[u8]) -> Result<Option<Vec<u8>>, AllocError> {
+    let mut sink = Kept::new(alloc, 2000, 7, Vec::new(alloc))?;
+    if write_head(&mut sink).is_err() || !writes(&mut sink, 0, packet) {
+        return Ok(None);
+    }
+    Ok(Some(sink.octets().to_vec(alloc)?))
+}
+
+/// Whether a packet of 1 to 65,535 octets at a time in microseconds is written.
+fn writes(sink: &mut Kept, at: u64, packet: &[u8]) -> bool {
+    packet.len() >= 1 && packet.len() <= 65_535 && write_packet(sink, at, packet).is_ok()
+}
+
 #[test]
 fn a_capture_of_one_frame_begins_so(rt: HostRuntime) -> Result<(), AllocError> {
-    let mut frame = [0; 1526];
-    frame[0] = 0x88;
-    frame[1] = 2;
-    let failing = vec![in rt.alloc();]?;
-    let mut sink = Kept::new(rt.alloc(), 2000, 7, failing)?;
-    assert!(rt; write_head(&mut sink).is_ok());
-    assert!(rt; write_packet(&mut sink, 0, &frame).is_ok());
-    assert_eq!(rt; sink.octets().len(), 1566);
-    same(&rt, &sink.octets()[..24], HEAD.as_slice());
-    same(&rt, &sink.octets()[24..40], PACKET.as_slice());
-    same(&rt, &sink.octets()[40..42], [0x88, 2].as_slice());
+    let mut frame = [0x88, 2].to_vec(rt.alloc())?;
+    frame.resize(1526, 0)?;
+    let octets = captured(rt.alloc(), &frame)?.expect(&rt, "a capture");
+    same(&rt, octets.len(), 1566);
+    same(&rt, octets.starts_with(&HEAD), true);
+    same(&rt, octets.get(24..40), Some(PACKET.as_slice()));
+    same(&rt, octets.ends_with(&frame), true);
     Ok(())
 }
 
 #[test]
 fn a_packet_has_its_time(rt: HostRuntime) -> Result<(), AllocError> {
-    let failing = vec![in rt.alloc();]?;
-    let mut sink = Kept::new(rt.alloc(), 18, 18, failing)?;
-    assert!(rt; write_packet(&mut sink, 3_000_005, &[0xd4, 0]).is_ok());
+    let mut sink = Kept::new(rt.alloc(), 18, 18, Vec::new(rt.alloc()))?;
+    same(&rt, writes(&mut sink, 3_000_005, &[0xd4, 0]), true);
     let octets = [3, 0, 0, 0, 5, 0, 0, 0, 2, 0, 0, 0, 2, 0, 0, 0, 0xd4, 0];
     same(&rt, sink.octets(), octets.as_slice());
-    assert!(rt; write_packet(&mut sink, 0, &[0xd4, 0]).is_err());
+    same(&rt, writes(&mut sink, 0, &[0xd4, 0]), false);
     Ok(())
 }
 
