@@ -23,7 +23,7 @@ mod Listings
 pub mod Meets
 mod Moves
 mod Numbered
-pub mod OneClass
+mod OneClass
 pub mod Opening
 pub mod Openings
 pub mod OwnClass
