@@ -74,6 +74,17 @@ pub fn law()
     ensures { Law }
 {}
 """
+MORE = """pub fn more()
+    ensures seen { true }
+    ensures held { IsOf }
+    ensures kept { true }
+{}
+
+pub trait Machine {
+    fn step(&mut self)
+        ensures past { true };
+}
+"""
 SPECS = """pub record Law (h : History) : Type 0 where
   pub near : ⊤
 
@@ -88,79 +99,140 @@ IsSized = IsOf
 abbrev pub Lone : Type 0
 Lone = ⊤
 """
-ROWS = "| Claim | Crate | Function | Clauses | File |\n|---|---|---|---|---|\n"
 
 
 class Claims(unittest.TestCase):
-    """What a row may cite, in a tree of one crate."""
+    """What a place may cite, in a tree of one crate."""
 
     def setUp(self):
         room = tempfile.TemporaryDirectory()
         self.addCleanup(room.cleanup)
         self.top = pathlib.Path(room.name)
-        for name, text in {"src/gate.rt": SOURCE, "specs/Seats.antt": SPECS}.items():
+        for name, text in {"src/gate.rt": SOURCE, "src/more.rt": MORE, "specs/Seats.antt": SPECS}.items():
             path = self.top / "crates" / "wf_gate" / name
             path.parent.mkdir(parents=True, exist_ok=True)
             path.write_text(text, encoding="utf-8")
 
-    def faults(self, *rows):
-        """What is wrong with a page of these rows."""
-        return claims.check(ROWS + "".join(f"| claim | {it} |\n" for it in rows), claims.Tree(self.top))[0]
+    def looked(self, page):
+        """What a look at a page finds: faults, claims and files."""
+        return claims.check(page, claims.Tree(self.top))
+
+    def faults(self, *places):
+        """What is wrong with a page that has one claim, of these places."""
+        return self.looked("# Page\n\n## Part\n\n- claim\n" + "".join(f"  - {it}\n" for it in places))[0]
 
     def test_what_is_there_is_well(self):
         self.assertEqual(self.faults(
-            "wf_gate | `Gate::call` | `seen`, `spent` | gate.rt",
-            "wf_gate | `Machine::step`, `Machine::step` | `past` | gate.rt",
-            "wf_gate | `GateDesk::left` | `left` | gate.rt",
-            "wf_gate | `Gate` | `invariant`: `IsOf` | gate.rt",
-            "wf_gate | `law` | unnamed: `Law.near` | gate.rt",
+            "wf_gate, gate.rt: `Gate::call` ensures `seen`, `spent`",
+            "wf_gate, gate.rt: `Machine::step`, `Machine::step` ensure `past`",
+            "wf_gate, gate.rt: `GateDesk::left` ensures `left`",
+            "wf_gate, gate.rt: `Gate` keeps `invariant`: `IsOf`",
+            "wf_gate, gate.rt: `law` ensures an unnamed clause: `Law.near`",
+            "wf_gate, more.rt: `more` ensures `held`: `IsOf`; `kept`",
         ), [])
 
     def test_a_condition_is_no_promise(self):
-        self.assertIn("has no clause own", self.faults("wf_gate | `Gate::call` | `own` | gate.rt")[0])
+        self.assertIn("has no clause own", self.faults("wf_gate, gate.rt: `Gate::call` ensures `own`")[0])
 
     def test_what_stands_in_a_body_is_no_clause(self):
-        self.assertIn("has no clause hidden", self.faults("wf_gate | `Gate::call` | `hidden` | gate.rt")[0])
+        self.assertIn("has no clause hidden", self.faults("wf_gate, gate.rt: `Gate::call` ensures `hidden`")[0])
 
     def test_a_private_function_carries_no_claim(self):
-        self.assertIn("no public function Gate::private", self.faults("wf_gate | `Gate::private` | `secret` | gate.rt")[0])
+        faults = self.faults("wf_gate, gate.rt: `Gate::private` ensures `secret`")
+        self.assertIn("no public function Gate::private", faults[0])
 
     def test_each_function_needs_each_clause(self):
-        self.assertEqual(len(self.faults("wf_gate | `Gate::call`, `Machine::step` | `seen` | gate.rt")), 1)
+        self.assertEqual(
+            self.faults("wf_gate, gate.rt: `Gate::call`, `Machine::step` ensure `seen`"),
+            ["line 6: Machine::step of wf_gate has no clause seen"],
+        )
 
     def test_an_unnamed_clause_is_asked_for_by_its_word(self):
-        self.assertIn("(unnamed)", self.faults("wf_gate | `Gate::call` | unnamed | gate.rt")[0])
+        self.assertIn("(unnamed)", self.faults("wf_gate, gate.rt: `Gate::call` ensures an unnamed clause")[0])
 
-    def test_a_wrong_crate_function_definition_field_or_file(self):
-        for row, said in {
-            "wf_none | `law` | unnamed | gate.rt": "no crate wf_none",
-            "wf_gate | `flaw` | unnamed | gate.rt": "no public function flaw",
-            "wf_gate | `law` | unnamed: `Lore` | gate.rt": "no definition Lore",
-            "wf_gate | `law` | unnamed: `Law.far` | gate.rt": "no definition Law.far",
-            "wf_gate | `law` | unnamed | lib.rt": "its files are gate.rt, and not lib.rt",
-            "wf_gate | `law` | | gate.rt": "no clause",
+    def test_a_wrong_crate_function_clause_definition_field_or_file(self):
+        for place, said in {
+            "wf_none, gate.rt: `law` ensures an unnamed clause": "no crate wf_none",
+            "wf_gate, gate.rt: `flaw` ensures an unnamed clause": "no public function flaw",
+            "wf_gate, gate.rt: `GateDesk::left` ensures `right`": "GateDesk::left of wf_gate has no clause right",
+            "wf_gate, gate.rt: `law` ensures an unnamed clause: `Lore`": "no definition Lore",
+            "wf_gate, gate.rt: `law` ensures an unnamed clause: `Law.far`": "no definition Law.far",
+            "wf_gate, lib.rt: `law` ensures an unnamed clause": "it names lib.rt, and its functions stand in gate.rt",
+            "wf_gate, gate.rt: `law` ensures `Law`": "no clause",
         }.items():
-            self.assertIn(said, "\n".join(self.faults(row)))
+            self.assertIn(said, "\n".join(self.faults(place)))
+
+    def test_a_place_has_one_file(self):
+        place = "wf_gate, gate.rt: `Gate::call`, `more` ensure `seen`"
+        self.assertEqual(self.faults(place), ["line 6: it names gate.rt, and its functions stand in gate.rt, more.rt"])
+
+    def test_functions_of_one_name_are_told_apart_by_their_file(self):
+        self.assertEqual(self.faults(
+            "wf_gate, gate.rt: `Machine::step` ensures `past`",
+            "wf_gate, more.rt: `Machine::step` ensures `past`",
+        ), [])
 
     def test_a_definition_of_which_the_clause_does_not_speak(self):
-        self.assertEqual(self.faults("wf_gate | `law` | unnamed: `IsOf` | gate.rt"), ["line 3: its clauses do not speak of IsOf"])
-        self.assertEqual(self.faults("wf_gate | `Gate` | `invariant`: `Lone` | gate.rt"), ["line 3: its clauses do not speak of Lone"])
+        for place, said in {
+            "wf_gate, gate.rt: `law` ensures an unnamed clause: `IsOf`": "its clauses do not speak of IsOf",
+            "wf_gate, gate.rt: `Gate` keeps `invariant`: `Lone`": "its clauses do not speak of Lone",
+        }.items():
+            self.assertEqual(self.faults(place), [f"line 6: {said}"])
 
-    def test_a_row_of_other_cells(self):
-        self.assertIn("4 cells", self.faults("wf_gate | `law` | unnamed")[0])
+    def test_what_is_no_place(self):
+        for place in (
+            "wf_gate, gate.rt: `law`",
+            "wf_gate, gate.rt: ensures an unnamed clause",
+            "wf_gate: `law` ensures an unnamed clause",
+            "wf_gate, gate.rt: `law` ensures what it says",
+            "wf_gate, gate.rt: `Gate::call` ensures `seen`, spent",
+            "wf_gate, gate.rt: `Gate::call` ensures `seen`,",
+        ):
+            self.assertEqual(len(self.faults(place)), 1, place)
+            self.assertIn("line 6: not the form of a place", self.faults(place)[0])
+
+    def test_a_claim_without_a_place(self):
+        self.assertEqual(self.faults(), ["line 5: a claim without a place"])
+        page = "## Part\n\n- one\n  of two lines\n- two\n  - wf_gate, gate.rt: `law` ensures an unnamed clause\n\n- three\n"
+        faults, counted, files = self.looked(page)
+        self.assertEqual(faults, ["line 3: a claim without a place", "line 8: a claim without a place"])
+        self.assertEqual((counted, files), (3, {6: ["gate.rt"]}))
+
+    def test_a_wrapped_place_is_read_to_its_end(self):
+        for wrapped in (
+            "wf_gate, gate.rt: `Gate::call` ensures `seen`,\n    `lost`",
+            "wf_gate, gate.rt: `Gate::call`\n    ensures\n    `seen`, `lost`",
+            "wf_gate, gate.rt: `Gate::call` ensures `seen`,\n`lost`",
+        ):
+            self.assertEqual(self.faults(wrapped), ["line 6: Gate::call of wf_gate has no clause lost"])
+            self.assertEqual(self.faults(wrapped.replace("lost", "spent")), [])
+
+    def test_lists_that_make_no_claims_need_no_places(self):
+        lists = [f"## {name}\n\n- words\n  - more\n" for name in sorted(claims.NO_CLAIMS)]
+        self.assertEqual(self.looked("# Page\n\n- words\n\n" + "".join(lists)), ([], 0, {}))
 
     def test_a_crate_that_only_the_text_names(self):
-        page = "Of wf_gate and of wf_gone, in `wf_def_*`."
-        self.assertEqual(claims.check(page, claims.Tree(self.top))[0], ["no crate wf_gone"])
+        self.assertEqual(self.looked("Of wf_gate and of wf_gone, in `wf_def_*`.")[0], ["no crate wf_gone"])
 
-    def test_files_are_put_in(self):
+    def written(self, place):
+        """The status and the words of a run with --write, and what it left of a page of this place."""
         page = self.top / "docs" / "PROOFS.md"
         page.parent.mkdir()
-        page.write_text(f"{ROWS}| a | wf_gate | `law` | unnamed | old.rt |\n\nText.\n", encoding="utf-8")
+        page.write_text(f"## Part\n\n- a\n  - {place}\n\nText.\n", encoding="utf-8")
         with contextlib.redirect_stdout(io.StringIO()) as said:
             status = claims.main([str(self.top), "--write"])
-        self.assertEqual((status, said.getvalue()), (0, "claims: 1 rows, 0 faults\n"))
-        self.assertIn("| a | wf_gate | `law` | unnamed | gate.rt |\n\nText.\n", page.read_text(encoding="utf-8"))
+        return status, said.getvalue(), page.read_text(encoding="utf-8")
+
+    def test_files_are_put_in(self):
+        status, said, page = self.written("wf_gate, old.rt: `law` ensures\n    an unnamed clause")
+        self.assertEqual((status, said), (0, "claims: 1 claims, 1 places, 0 faults\n"))
+        self.assertEqual(page, "## Part\n\n- a\n  - wf_gate, gate.rt: `law` ensures\n    an unnamed clause\n\nText.\n")
+
+    def test_no_file_is_put_in_where_there_are_two(self):
+        place = "wf_gate, old.rt: `Gate::call`, `more` ensure `seen`"
+        status, _, page = self.written(place)
+        self.assertEqual(status, 1)
+        self.assertIn(place, page)
 
 
 if __name__ == "__main__":
