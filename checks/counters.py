@@ -9,7 +9,9 @@ WIDE, WIDEST = 110, 160
 LONGEST_BODY = 40
 DEFINED = re.compile(r"(?:[a-z]+ )*pub (?:record |data |codata )?([^\s:(]+)")
 LOOK_IN = re.compile(r"\s*(?:pub )?(?:ghost )?use (?:denote\.)?Rattle\.(\w+)\.proofs\.([\w.-]+?)(?:\.\{| as |;|$)")
-ROW = re.compile(r"^\|\s*`?(\w+)`?\s*\|\s*`?(?:proofs[/.])?([\w./-]+)`?\s*\|", re.M)
+# Between two such lines docs/ARCHITECTURE.md lists the modules of proofs that are made for other crates.
+MODULES = "<!-- modules -->"
+MODULE = re.compile(r"^- (\w+), proofs/([\w/]+):", re.M)
 
 
 def place(source, number, what=None):
@@ -143,7 +145,7 @@ ALL = [
 
 
 def modules_for_others(page):
-    """The proof modules that a page names as made for other crates: rows `| crate | module | what it has |` between two lines
-    <!-- modules -->."""
-    page = page.partition("<!-- modules -->")[2].partition("<!--")[0]
-    return {(crate, module.replace("/", ".").strip(".")) for crate, module in ROW.findall(page)}
+    """The proof modules that a page lists as made for other crates: items `- crate, proofs/Module: what it has`
+    between its two lines MODULES."""
+    listed = page.partition(MODULES)[2].partition(MODULES)[0]
+    return {(crate, module.replace("/", ".")) for crate, module in MODULE.findall(listed)}

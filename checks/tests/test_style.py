@@ -60,7 +60,14 @@ class Names(unittest.TestCase):
 
 
 class LookIns(unittest.TestCase):
-    PAGE = "| low | Other | no |\n<!-- modules -->\n| crate | module | what it has |\n| low | `proofs/Kept/Books` | books |\n<!-- modules -->\n| low | Other | no |\n"
+    PAGE = """- low, proofs/Other: no
+<!-- modules -->
+- low, proofs/Kept/Books: books, and
+  what low, proofs/Other: has
+- low, proofs/Shown:
+<!-- modules -->
+- low, proofs/Other: no
+"""
 
     def look_ins(self, line):
         modules = counters.modules_for_others(self.PAGE)
@@ -70,6 +77,7 @@ class LookIns(unittest.TestCase):
         self.assertEqual(self.look_ins("use Rattle.low.proofs.Kept.Books.{x}"), [])
         self.assertEqual(self.look_ins("use Rattle.low.proofs.Kept.Books.Deep.{x}"), [])
         self.assertEqual(self.look_ins("ghost use Rattle.low.proofs.Kept.{x};"), ["low, proofs/Kept"])
+        self.assertEqual(self.look_ins("use Rattle.low.proofs.Shown.{x}"), [])
         self.assertEqual(self.look_ins("use Rattle.low.proofs.Other.{x}"), ["low, proofs/Other"])
         self.assertEqual(self.look_ins("use Rattle.high.proofs.Own.{x}"), [])
         self.assertEqual(self.look_ins("use Rattle.std.proofs.Common.{x}"), [])
