@@ -117,21 +117,12 @@ kind_read kind.Heard word v is = word_kind value.Heard (IsOfKind kind.Heard) _ v
 kind_read kind.End word v is = word_kind value.End (IsOfKind kind.End) _ v (λ x. tt) is
 kind_read kind.Air word v is = air_kind (bytes_eq air_word word) v is
 
+-- only a weight may be left out
 kind_absent : (arg : Arg) (v : Value) → absent_arg arg ≡ Ok v → IsOfKind arg v
 kind_absent kind.Weight v is =
     let same : value.Octet 1 ≡ v = cc in
     let small : 1 < 2 ^ 8 = omega arith in subst (IsOfKind kind.Weight) same small
-kind_absent kind.Short v is = absurd (cc)
-kind_absent kind.Octet v is = absurd (cc)
-kind_absent kind.Long v is = absurd (cc)
-kind_absent kind.Length v is = absurd (cc)
-kind_absent kind.Class v is = absurd (cc)
-kind_absent kind.Format v is = absurd (cc)
-kind_absent kind.Guard v is = absurd (cc)
-kind_absent kind.Heard v is = absurd (cc)
-kind_absent kind.Air v is = absurd (cc)
-kind_absent kind.End v is = absurd (cc)
-kind_absent (kind.Number low high) v is = absurd (cc)
+kind_absent arg v is = absurd (cc)
 
 -- the values of a line that was read are of the kinds of its arguments
 pub kinds_read : (args : List Arg) (words : List (List ℕ)) (values : List Value) →
