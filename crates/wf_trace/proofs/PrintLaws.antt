@@ -170,24 +170,10 @@ number_plain n small =
       all_weaker is_digit is_mark digit_mark (decimal n) (digits_decimal own n fits),
     )
 
-name_plain : (c : CallForm) → IsPlain (call_word c)
+-- the word of a call is plain; the last line stands for each other form
+name_plain : (form : CallForm) → IsPlain (call_word form)
 name_plain call.Join = (refl, refl)
-name_plain call.Leave = (refl, refl)
-name_plain call.Rate = (refl, refl)
-name_plain call.RateVht = (refl, refl)
-name_plain call.RateHe = (refl, refl)
-name_plain call.Tick = (refl, refl)
-name_plain call.Enqueue = (refl, refl)
-name_plain call.Pull = (refl, refl)
-name_plain call.Arrive = (refl, refl)
-name_plain call.Answer = (refl, refl)
-name_plain call.Done = (refl, refl)
-name_plain call.DoneAir = (refl, refl)
-name_plain call.Sleep = (refl, refl)
-name_plain call.Wake = (refl, refl)
-name_plain call.Poll = (refl, refl)
-name_plain call.Rx = (refl, refl)
-name_plain call.Reap = (refl, refl)
+name_plain form = (refl, refl)
 
 -- ---- each value of a call is read again from its word
 
@@ -479,27 +465,12 @@ printable-joined (word ∷ next ∷ others) are =
     all_append is_printable word (32 ∷ join_with_byte 32 (next ∷ others))
     (all_weaker is_mark is_printable mark_printable word are.0.1) (printable-joined (next ∷ others) are.1)
 
--- a line that begins with the word of a call is an entry
+-- a line that begins with the word of a call is an entry; the last line stands for each other form
 form_line : (form : CallForm) (texts : List (List ℕ)) (place : Place) →
     meant (Some place) (call_word form ∷ texts)
     ≡ entry_of 0 (Some place) (call_word form ∷ texts)
 form_line call.Join texts place = refl
-form_line call.Leave texts place = refl
-form_line call.Rate texts place = refl
-form_line call.RateVht texts place = refl
-form_line call.RateHe texts place = refl
-form_line call.Tick texts place = refl
-form_line call.Enqueue texts place = refl
-form_line call.Pull texts place = refl
-form_line call.Arrive texts place = refl
-form_line call.Answer texts place = refl
-form_line call.Done texts place = refl
-form_line call.DoneAir texts place = refl
-form_line call.Sleep texts place = refl
-form_line call.Wake texts place = refl
-form_line call.Poll texts place = refl
-form_line call.Rx texts place = refl
-form_line call.Reap texts place = refl
+form_line form texts place = refl
 
 entry_read : (caller : ℕ) (note : Note) (place : Place) → NumbersAreInRange note → place.count < place.limit →
     entry_of caller (Some place) (note_words note) ≡ Ok (Entry caller note)
@@ -574,24 +545,10 @@ values_short (a ∷ args) (v ∷ values) told =
     (length args) told.0.short (values_short args values told.1) in
     let few = both.1 in (both.0, omega arith)
 
+-- the last line stands for each other form
 short_name : (form : CallForm) → (length (call_word form) ≤ 10) × (length (args_of form) ≤ 6)
 short_name call.Join = (omega arith, omega arith)
-short_name call.Leave = (omega arith, omega arith)
-short_name call.Rate = (omega arith, omega arith)
-short_name call.RateVht = (omega arith, omega arith)
-short_name call.RateHe = (omega arith, omega arith)
-short_name call.Tick = (omega arith, omega arith)
-short_name call.Enqueue = (omega arith, omega arith)
-short_name call.Pull = (omega arith, omega arith)
-short_name call.Arrive = (omega arith, omega arith)
-short_name call.Answer = (omega arith, omega arith)
-short_name call.Done = (omega arith, omega arith)
-short_name call.DoneAir = (omega arith, omega arith)
-short_name call.Sleep = (omega arith, omega arith)
-short_name call.Wake = (omega arith, omega arith)
-short_name call.Poll = (omega arith, omega arith)
-short_name call.Rx = (omega arith, omega arith)
-short_name call.Reap = (omega arith, omega arith)
+short_name form = (omega arith, omega arith)
 
 short_caller : (caller : ℕ) (others : List (List ℕ)) → caller < 2 ^ 16 → AreShort others → length others ≤ 7 →
     AreShort (caller_words caller ++ others) × (length (caller_words caller ++ others) ≤ 8)
