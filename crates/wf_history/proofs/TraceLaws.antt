@@ -85,25 +85,10 @@ read_line closed at end line place text behind plain short is inside kept =
 not_zero : (n : ℕ) → nat_eq (suc n) 0 ≡ false
 not_zero n = grind (arith, nat_tests)
 
--- its first octet is no space and no #
+-- its first octet is no space and no #; the last line stands for each other form
 begins_form : (form : CallForm) (others : List ℕ) → begins_word (call_word form ++ others) ≡ true
 begins_form call.Join others = refl
-begins_form call.Leave others = refl
-begins_form call.Rate others = refl
-begins_form call.RateVht others = refl
-begins_form call.RateHe others = refl
-begins_form call.Tick others = refl
-begins_form call.Enqueue others = refl
-begins_form call.Pull others = refl
-begins_form call.Arrive others = refl
-begins_form call.Answer others = refl
-begins_form call.Done others = refl
-begins_form call.DoneAir others = refl
-begins_form call.Sleep others = refl
-begins_form call.Wake others = refl
-begins_form call.Poll others = refl
-begins_form call.Rx others = refl
-begins_form call.Reap others = refl
+begins_form form others = refl
 
 begins_note : (note : Note) → begins_word (join_with_byte 32 (note_words note)) ≡ true
 begins_note note =
