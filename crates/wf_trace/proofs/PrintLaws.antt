@@ -1,6 +1,6 @@
 -- What is printed is read again.
 use Rattle.std.proofs.Common.{◌≡◌, ℕ, zero, suc, ◌+◌, ◌*◌, ◌^◌, ◌<◌, ◌≤◌, List, [], ◌∷◌, ◌++◌, length, length-append, drop, get_or, Bool, true, false, not, nat_eq, nat_le, ◌&&◌, ◌||◌, refl, sym, ◌∙◌, ap, append_assoc, arith, rules}
-use Rattle.std.specs.Prelude.{Option, Some, None, Ok, filter, map, if◌then◌else◌}
+use Rattle.std.specs.Prelude.{Some, None, Ok, filter, map, if◌then◌else◌}
 use Rattle.std.proofs.lemmas.List.{drop_more}
 use Rattle.std.specs.List.{list_all, join_with_byte}
 use Rattle.std.specs.Fmt.{decimal}
@@ -12,7 +12,6 @@ use Rattle.wf_frame.specs.declared.classes.Class.TheVariants.{Bk, Be, Vi, Vo}
 use Rattle.wf_frame.specs.declared.notes.Note.{Note}
 use Rattle.wf_frame.specs.declared.notes.Note.TheVariants.{Enqueue, Asked}
 use Rattle.wf_frame.specs.declared.notes.Ask.TheVariants.{Join, Leave, Rate, Tick, Pull, Arrive, Answer, Done, Sleep, Wake, Poll, Rx, Reap}
-use Rattle.wf_frame.specs.declared.notes.AskedRate.{AskedRate}
 use Rattle.wf_frame.specs.declared.notes.AskedRate.TheVariants.{Ht, Vht, He}
 use Rattle.wf_frame.specs.Classes.{class_word}
 use Rattle.wf_def_lists.specs.Lengths.{greatest_body}
@@ -26,15 +25,16 @@ use Rattle.wf_frame.specs.declared.calls.RateFormat.TheVariants as format
 use Rattle.wf_frame.specs.declared.calls.Arg.{Arg}
 use Rattle.wf_frame.specs.declared.calls.Arg.TheVariants as arg
 use Rattle.wf_frame.specs.declared.calls.Value.{Value}
-use Rattle.wf_frame.specs.declared.calls.Value.TheVariants.{Short, Octet, Long, Class as TheClass, Format, Guard, Heard, Air}
+use Rattle.wf_frame.specs.declared.calls.Value.TheVariants.{Short, Octet, Long, Class as TheClass, Format, Guard, Heard, Air, End}
 use Rattle.wf_trace.specs.declared.meaning.Place.{Place}
 use Rattle.wf_trace.specs.declared.meaning.Meaning.TheVariants.{Entry}
 use Rattle.wf_trace.specs.Lines.{is_printable}
 use Rattle.wf_trace.specs.Words.{words, parts, in_front, is_word, is_number, number_of, in_range}
 use Rattle.wf_frame.specs.declared.calls.Argument.{Argument}
-use Rattle.wf_frame.specs.Calls.{args_of, call_word, default_of, format_word, format_named, note_form, argument_kind, note_values}
+use Rattle.wf_frame.specs.declared.calls.Argument.TheVariants as argument
+use Rattle.wf_frame.specs.Calls.{arguments_of, args_of, call_word, default_of, format_word, format_named, note_form, argument_kind, note_values, IsOfKind, AreOfKinds}
 use Rattle.wf_frame.proofs.TableLaws.{made_again}
-use Rattle.wf_trace.specs.Grammar.{read_arg, read_args, guard_word, heard_word}
+use Rattle.wf_trace.specs.Grammar.{read_arg, read_args, guard_word, heard_word, long_most}
 use Rattle.wf_trace.specs.Notes.{in_form, read_call}
 use Rattle.wf_trace.specs.Meanings.{meant, entry_of}
 use Rattle.wf_trace.specs.Printing.{is_left_out, value_word, words_of_value, words_of_values, note_words, caller_words, note_text, NumbersAreInRange}
@@ -235,65 +235,56 @@ heard_told false = record { read = refl; plain = (refl, refl); short = omega ari
 air_told : IsTold arg.Air Air
 air_told = record { read = refl; plain = (refl, refl); short = omega arith }
 
-rate_told : (station : ℕ) (rate : AskedRate) → NumbersAreInRange (Asked (Rate station rate)) →
-    AreTold (args_of (note_form (Asked (Rate station rate)))) (note_values (Asked (Rate station rate)))
-rate_told station (Ht mcs mhz short) r =
-    (short_told station r.0, (octet_told mcs r.1.0, (octet_told mhz r.1.1.0, (guard_told short, tt))))
-rate_told station (Vht mcs mhz short streams) r = (
-  short_told station r.0,
-  (
-    format_told format.Vht,
-    (
-      octet_told mcs r.1.1.0,
-      (octet_told mhz r.1.1.1.0, (guard_told short, (octet_told streams r.1.1.1.1.1.0, tt))),
-    ),
-  ),
-)
-rate_told station (He mcs mhz guard streams) r = (
-  short_told station r.0,
-  (
-    format_told format.He,
-    (
-      octet_told mcs r.1.1.0,
-      (octet_told mhz r.1.1.1.0, (short_told guard r.1.1.1.1.0, (octet_told streams r.1.1.1.1.1.0, tt))),
-    ),
-  ),
-)
+end_told : (b : Bool) → IsTold arg.End (End b)
+end_told true = record { read = refl; plain = (refl, refl); short = omega arith }
+end_told false = record { read = refl; plain = (refl, refl); short = omega arith }
 
-end_told : (exchange : ℕ) (heard : Bool) (air : Option ℕ) → NumbersAreInRange (Asked (Done exchange
-    heard air)) →
-    AreTold (args_of (note_form (Asked (Done exchange heard air)))) (note_values (Asked (Done
-    exchange heard air)))
-end_told exchange heard None r = (long_told exchange r.0, (heard_told heard, tt))
-end_told exchange heard (Some air) r =
-    (long_told exchange r.0, (heard_told heard, (air_told, (long_told air r.1.1.1.0, tt))))
+number_told : (low high n : ℕ) → (low ≤ n) × (n ≤ high) → n < 2 ^ 32 → IsTold (arg.Number low high) (Long n)
+number_told low high n within small = record {
+  read = rw (number_read low high n within.0 within.1 small) refl;
+  plain = number_plain n small;
+  short = number_short n small;
+}
+
+-- no number of this kind has more than 32 bits
+abbrev is_small : Arg → Bool
+is_small (arg.Number low high) = nat_le high long_most
+is_small _ = true
+
+-- each value of a kind is told; values of other kinds are none of it
+kind_told : (a : Arg) (v : Value) → is_small a ≡ true → IsOfKind a v → IsTold a v
+kind_told arg.Short (Short n) small is = short_told n is
+kind_told arg.Octet (Octet n) small is = octet_told n is
+kind_told arg.Long (Long n) small is = long_told n is
+kind_told arg.Length (Short n) small is = length_told n is
+kind_told arg.Weight (Octet n) small is = weight_told n is
+kind_told arg.Class (TheClass c) small is = class_told c
+kind_told arg.Format (Format f) small is = format_told f
+kind_told arg.Guard (Guard b) small is = guard_told b
+kind_told arg.Heard (Heard b) small is = heard_told b
+kind_told arg.Air Air small is = air_told
+kind_told arg.End (End b) small is = end_told b
+kind_told (arg.Number low high) (Long n) small is =
+    let most : high ≤ 4294967295 = grind (arith, nat_tests) in
+    let below : n ≤ high = is.1 in number_told low high n is (omega arith)
+kind_told a v small is = absurd is
+
+-- so it is with each argument of a call; the last line stands for each other argument
+argument_small : (a : Argument) → is_small (argument_kind a) ≡ true
+argument_small argument.Station = refl
+argument_small a = refl
+
+values_told : (arguments : List Argument) (values : List Value) →
+    AreOfKinds (map argument_kind arguments) values → AreTold (map argument_kind arguments) values
+values_told [] [] are = tt
+values_told [] (v ∷ values) are = absurd are
+values_told (a ∷ arguments) [] are = absurd are
+values_told (a ∷ arguments) (v ∷ values) are =
+    (kind_told (argument_kind a) v (argument_small a) are.0, values_told arguments values are.1)
 
 -- each value of a call is told
 pub note_told : (note : Note) → NumbersAreInRange note → AreTold (args_of (note_form note)) (note_values note)
-note_told (Enqueue station tid flow len) r = (
-  short_told station r.0,
-  (octet_told tid r.1.0, (long_told flow r.1.1.0, (length_told len r.1.1.1.0, tt))),
-)
-note_told (Asked (Join station window start exponent weight)) r = (
-  short_told station r.0,
-  (
-    short_told window r.1.0,
-    (short_told start r.1.1.0, (octet_told exponent r.1.1.1.0, (weight_told weight r.1.1.1.1.0, tt))),
-  ),
-)
-note_told (Asked (Leave station)) r = (short_told station r.0, tt)
-note_told (Asked (Rate station rate)) r = rate_told station rate r
-note_told (Asked (Tick by)) r = (long_told by r.0, tt)
-note_told (Asked (Pull class)) r = (class_told class, tt)
-note_told (Asked (Arrive exchange index)) r = (long_told exchange r.0, (short_told index r.1.0, tt))
-note_told (Asked (Answer exchange)) r = (long_told exchange r.0, tt)
-note_told (Asked (Done exchange heard air)) r = end_told exchange heard air r
-note_told (Asked (Sleep station)) r = (short_told station r.0, tt)
-note_told (Asked (Wake station)) r = (short_told station r.0, tt)
-note_told (Asked (Poll station)) r = (short_told station r.0, tt)
-note_told (Asked (Rx station class air)) r =
-    (short_told station r.0, (class_told class, (long_told air r.1.1.0, tt)))
-note_told (Asked Reap) r = tt
+note_told note r = values_told (arguments_of (note_form note)) (note_values note) r
 
 -- ---- the values of all arguments are read from their words
 
