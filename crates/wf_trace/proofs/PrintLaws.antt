@@ -1,6 +1,6 @@
 -- What is printed is read again.
 use Rattle.std.proofs.Common.{◌≡◌, ℕ, zero, suc, ◌+◌, ◌*◌, ◌^◌, ◌<◌, ◌≤◌, List, [], ◌∷◌, ◌++◌, length, length-append, drop, get_or, Bool, true, false, not, nat_eq, nat_le, ◌&&◌, ◌||◌, refl, sym, ◌∙◌, ap, append_assoc, arith, rules}
-use Rattle.std.specs.Prelude.{Some, None, Ok, filter, map, if◌then◌else◌}
+use Rattle.std.specs.Prelude.{Option, Some, None, is_none, Ok, filter, map, if◌then◌else◌}
 use Rattle.std.proofs.lemmas.List.{drop_more}
 use Rattle.std.specs.List.{list_all, join_with_byte}
 use Rattle.std.specs.Fmt.{decimal}
@@ -10,9 +10,9 @@ use Rattle.std.proofs.lemmas.Fmt.{digits_decimal, digits_value-decimal, decimal_
 use Rattle.wf_frame.specs.declared.classes.Class.{Class}
 use Rattle.wf_frame.specs.declared.classes.Class.TheVariants.{Bk, Be, Vi, Vo}
 use Rattle.wf_frame.specs.declared.notes.Note.{Note}
-use Rattle.wf_frame.specs.declared.notes.Note.TheVariants.{Enqueue, Asked}
-use Rattle.wf_frame.specs.declared.notes.Ask.TheVariants.{Join, Leave, Rate, Tick, Pull, Arrive, Answer, Done, Sleep, Wake, Poll, Rx, Reap}
-use Rattle.wf_frame.specs.declared.notes.AskedRate.TheVariants.{Ht, Vht, He}
+use Rattle.wf_frame.specs.declared.notes.Note.TheVariants.{Asked}
+use Rattle.wf_frame.specs.declared.notes.Ask.TheVariants.{Rate, Done}
+use Rattle.wf_frame.specs.declared.notes.AskedRate.TheVariants.{Ht}
 use Rattle.wf_frame.specs.Classes.{class_word}
 use Rattle.wf_def_lists.specs.Lengths.{greatest_body}
 use Rattle.wf_io.specs.Digits.{is_digit, value_from}
@@ -108,9 +108,6 @@ digits_format (octet ∷ digits) all =
 
 number_format : (n : ℕ) → n < 2 ^ 8 → format_named (decimal n) ≡ None
 number_format n small = digits_format (decimal n) (digits_decimal own n (omega arith))
-
-not_one : (n : ℕ) → nat_eq (suc (suc n)) 1 ≡ false
-not_one n = grind (arith, nat_tests)
 
 len_read : (len : ℕ) → 1 ≤ len → len ≤ greatest_body → read_arg arg.Length (decimal len) ≡ Ok (Short len)
 len_read len some most = rw (number_read 1 greatest_body len some most (omega arith)) refl
@@ -301,17 +298,30 @@ told_plainly : (a : Arg) (args : List Arg) (texts : List (List ℕ)) (v : Value)
 told_plainly a args texts v values none told others = rw none (read_cons a args (value_word v)
     texts v values told.read others)
 
--- a weight behind the others
-weight_last : (n : ℕ) → n < 2 ^ 8 →
-    read_args (arg.Weight ∷ []) (words_of_values (arg.Weight ∷ []) (Octet n ∷ [])) ≡ Ok (Octet n ∷ [])
-weight_last zero small = let one = decimal_digit 0 (omega arith) in rw one refl
-weight_last (suc zero) small = refl
-weight_last (suc (suc n)) small = rw (not_one n, octet_read (suc (suc n)) small) refl
+-- a value whose word is left out is the default of its argument
+left_out : (usual : Option Value) (v : Value) → is_left_out usual v ≡ true → usual ≡ Some v
+left_out (Some (Octet usual)) (Octet n) out = let same : n ≡ usual = grind (arith, nat_tests) in rw same refl
+left_out usual v out = absurd (cc)
 
--- no argument has a default
-abbrev HaveNoDefault : List Arg → Type 0
-HaveNoDefault [] = Unit {0}
-HaveNoDefault (a ∷ args) = (default_of a ≡ None) × HaveNoDefault args
+-- the last argument, which may be left out
+told_last : (a : Arg) (v : Value) (out : Bool) → is_left_out (default_of a) v ≡ out → IsTold a v →
+    read_args (a ∷ []) ((if out then [] else value_word v ∷ []) ++ []) ≡ Ok (v ∷ [])
+told_last a v true out told = rw (left_out (default_of a) v out) refl
+told_last a v false out told = read_cons a [] (value_word v) [] v [] told.read refl
+
+-- only the last of arguments has a default, if any
+abbrev is_default_last : List Arg → Bool
+is_default_last (a ∷ b ∷ args) = is_none (default_of a) && is_default_last (b ∷ args)
+is_default_last _ = true
+
+-- so it is with those of each call; the last line stands for each other form
+default_last : (form : CallForm) → is_default_last (args_of form) ≡ true
+default_last call.Join = refl
+default_last form = refl
+
+no_default : (usual : Option Value) → is_none usual ≡ true → usual ≡ None
+no_default None is = refl
+no_default (Some v) is = absurd (cc)
 
 -- the words of the values that are told are plain, and at most as many as there are arguments
 plain_or_out : (b : Bool) (word : List ℕ) (texts : List (List ℕ)) → IsPlain word → ArePlain texts →
@@ -336,75 +346,30 @@ note_plain note r = (
 
 -- ---- the words of a call name it
 
-texts_read : (args : List Arg) (values : List Value) → HaveNoDefault args → AreTold args values →
+texts_read : (args : List Arg) (values : List Value) → is_default_last args ≡ true → AreTold args values →
     read_args args (words_of_values args values) ≡ Ok values
-texts_read [] [] none told = refl
-texts_read [] (v ∷ values) none told = absurd told
-texts_read (a ∷ args) [] none told = absurd told
-texts_read (a ∷ args) (v ∷ values) none told =
-    told_plainly a args (words_of_values args values) v values none.0 told.0 (texts_read args
-    values none.1 told.1)
+texts_read [] [] last told = refl
+texts_read [] (v ∷ values) last told = absurd told
+texts_read (a ∷ args) [] last told = absurd told
+texts_read (a ∷ []) (v ∷ []) last told = told_last a v (is_left_out (default_of a) v) refl told.0
+texts_read (a ∷ []) (v ∷ w ∷ values) last told = absurd told.1
+texts_read (a ∷ b ∷ args) (v ∷ values) last told =
+    let both = split_and (is_none (default_of a)) (is_default_last (b ∷ args)) last in
+    told_plainly a (b ∷ args) (words_of_values (b ∷ args) values) v values
+    (no_default (default_of a) both.0) told.0 (texts_read (b ∷ args) values both.1 told.1)
 
-named_read : (note : Note) → read_call (note_words note)
-    ≡ in_form (note_form note) (words_of_values (args_of (note_form note)) (note_values note)) →
-    read_args (args_of (note_form note)) (words_of_values (args_of (note_form note)) (note_values note))
-    ≡ Ok (note_values note) → read_call (note_words note) ≡ Ok note
-named_read note named read = named ∙ rw (read, made_again note) refl
-
-join_read : (station window start exponent weight : ℕ) →
-    NumbersAreInRange (Asked (Join station window start exponent weight)) →
-    read_args (args_of call.Join) (words_of_values (args_of call.Join)
-    (note_values (Asked (Join station window start exponent weight))))
-    ≡ Ok (note_values (Asked (Join station window start exponent weight)))
-join_read station window start exponent weight r = rw (
-  short_read station r.0,
-  short_read window r.1.0,
-  short_read start r.1.1.0,
-  octet_read exponent r.1.1.1.0,
-  weight_last weight r.1.1.1.1.0,
-) refl
-
-plain_read : (note : Note) → HaveNoDefault (args_of (note_form note)) → NumbersAreInRange note →
-    read_call (note_words note)
-    ≡ in_form (note_form note) (words_of_values (args_of (note_form note)) (note_values note)) →
-    read_call (note_words note) ≡ Ok note
-plain_read note none r named = named_read note named
-    (texts_read (args_of (note_form note)) (note_values note) none (note_told note r))
+-- a rate that names no format has a number in its place; the last line stands for each other call
+form_read : (note : Note) → NumbersAreInRange note → read_call (note_words note)
+    ≡ in_form (note_form note) (words_of_values (args_of (note_form note)) (note_values note))
+form_read (Asked (Rate station (Ht mcs mhz short))) r = rw (number_format mcs r.1.0) refl
+form_read (Asked (Done exchange heard None)) r = refl
+form_read note r = refl
 
 note_read : (note : Note) → NumbersAreInRange note → read_call (note_words note) ≡ Ok note
-note_read (Enqueue station tid flow len) r = plain_read (Enqueue station tid flow len) (
-  refl,
-  (refl, (refl, (refl, tt))),
-) r refl
-note_read (Asked (Join station window start exponent weight)) r =
-    named_read (Asked (Join station window start exponent weight)) refl
-    (join_read station window start exponent weight r)
-note_read (Asked (Leave station)) r = plain_read (Asked (Leave station)) (refl, tt) r refl
-note_read (Asked (Rate station (Ht mcs mhz short))) r = plain_read (Asked (Rate station (Ht mcs mhz
-    short))) (refl, (refl, (refl, (refl, tt)))) r (rw (number_format mcs r.1.0) refl)
-note_read (Asked (Rate station (Vht mcs mhz short streams))) r = plain_read (Asked (Rate station
-    (Vht mcs mhz short streams))) (refl, (refl, (refl, (refl, (refl, (refl, tt)))))) r refl
-note_read (Asked (Rate station (He mcs mhz guard streams))) r = plain_read (Asked (Rate station (He
-    mcs mhz guard streams))) (refl, (refl, (refl, (refl, (refl, (refl, tt)))))) r refl
-note_read (Asked (Tick by)) r = plain_read (Asked (Tick by)) (refl, tt) r refl
-note_read (Asked (Pull class)) r = plain_read (Asked (Pull class)) (refl, tt) r refl
-note_read (Asked (Arrive exchange index)) r = plain_read (Asked (Arrive exchange index)) (
-  refl,
-  (refl, tt),
-) r refl
-note_read (Asked (Answer exchange)) r = plain_read (Asked (Answer exchange)) (refl, tt) r refl
-note_read (Asked (Done exchange heard None)) r = plain_read (Asked (Done exchange heard None))
-    (refl, (refl, tt)) r refl
-note_read (Asked (Done exchange heard (Some air))) r = plain_read (Asked (Done exchange heard (Some
-    air))) (refl, (refl, (refl, (refl, tt)))) r refl
-note_read (Asked (Sleep station)) r = plain_read (Asked (Sleep station)) (refl, tt) r refl
-note_read (Asked (Wake station)) r = plain_read (Asked (Wake station)) (refl, tt) r refl
-note_read (Asked (Poll station)) r = plain_read (Asked (Poll station)) (refl, tt) r refl
-note_read (Asked (Rx station class air)) r = plain_read (Asked (Rx station class air)) (
-  refl,
-  (refl, (refl, tt)),
-) r refl
-note_read (Asked Reap) r = refl
+note_read note r =
+    let read = texts_read (args_of (note_form note)) (note_values note) (default_last (note_form note))
+    (note_told note r) in
+    form_read note r ∙ rw (read, made_again note) refl
 
 not_zero : (n : ℕ) → nat_eq (suc n) 0 ≡ false
 not_zero n = grind (arith, nat_tests)
