@@ -3,7 +3,7 @@ use Rattle.std.proofs.Common.{◌≡◌, ◌∙◌, ◌↔◌, ℕ, zero, suc, �
 use Rattle.wf_frame.specs.declared.settings.Config.{Config}
 use Rattle.wf_frame.specs.declared.settings.Field.{Field}
 use Rattle.wf_frame.specs.declared.settings.Field.TheVariants.{Stations, Flows, Limit, Room, FlowQuantum, Quantum, Inflight, Attempts, Agg, Cap, Sleeping, Calls, Charge}
-use Rattle.wf_frame.specs.Settings.{fields, is_in_range, first_out_of_range, IsInRange}
+use Rattle.wf_frame.specs.Settings.{fields, lowest_of, greatest_of, value_of, with_value, is_in_range, first_out_of_range, IsInRange}
 
 -- nothing is found behind an item that passes
 past : {X : Type 0} (p : X → Bool) (x : X) (xs : List X) (b : Bool) → p x ≡ b → find p (x ∷ xs) ≡ None →
@@ -31,6 +31,65 @@ within : (least value greatest : ℕ) → (least ≤ value) × (value ≤ greate
     not (nat_le least value && nat_le value greatest) ≡ false
 within least value greatest h = grind (arith, h.0, h.1)
 
+-- the value of a setting is in its range
+abbrev IsBounded : Config → Field → Type 0
+IsBounded c field = (lowest_of field ≤ value_of c field) × (value_of c field ≤ greatest_of field)
+
+each_bounded : (c : Config) → IsInRange c → (field : Field) → IsBounded c field
+each_bounded c h Stations = h.stations
+each_bounded c h Flows = h.flows
+each_bounded c h Limit = h.limit
+each_bounded c h Room = h.room
+each_bounded c h FlowQuantum = h.flow_quantum
+each_bounded c h Quantum = h.quantum
+each_bounded c h Inflight = h.inflight
+each_bounded c h Attempts = h.attempts
+each_bounded c h Agg = h.agg
+each_bounded c h Cap = h.cap
+each_bounded c h Sleeping = h.sleeping
+each_bounded c h Calls = h.calls
+each_bounded c h Charge = h.charge
+
+all_bounded : (c : Config) → ((field : Field) → IsBounded c field) → IsInRange c
+all_bounded c each = record {
+  stations = each Stations;
+  flows = each Flows;
+  limit = each Limit;
+  room = each Room;
+  flow_quantum = each FlowQuantum;
+  quantum = each Quantum;
+  inflight = each Inflight;
+  attempts = each Attempts;
+  agg = each Agg;
+  cap = each Cap;
+  sleeping = each Sleeping;
+  calls = each Calls;
+  charge = each Charge;
+}
+
+-- a setting given anew is in its range, and the others stay
+bounded_anew : (c : Config) (field other : Field) (value : ℕ) → IsInRange c →
+    (lowest_of field ≤ value) × (value ≤ greatest_of field) → IsBounded (with_value c field value) other
+bounded_anew c Stations Stations value h b = b
+bounded_anew c Flows Flows value h b = b
+bounded_anew c Limit Limit value h b = b
+bounded_anew c Room Room value h b = b
+bounded_anew c FlowQuantum FlowQuantum value h b = b
+bounded_anew c Quantum Quantum value h b = b
+bounded_anew c Inflight Inflight value h b = b
+bounded_anew c Attempts Attempts value h b = b
+bounded_anew c Agg Agg value h b = b
+bounded_anew c Cap Cap value h b = b
+bounded_anew c Sleeping Sleeping value h b = b
+bounded_anew c Calls Calls value h b = b
+bounded_anew c Charge Charge value h b = b
+bounded_anew c field other value h b = each_bounded c h other
+
+pub set_in_range : (c : Config) (field : Field) (value : ℕ) → IsInRange c → (lowest_of field ≤ value) ×
+    (value ≤ greatest_of field) → IsInRange (with_value c field value)
+set_in_range c field value h b =
+    all_bounded (with_value c field value) (λ other. bounded_anew c field other value h b)
+
 pub in_range : (c : Config) → first_out_of_range c ≡ None → IsInRange c
 in_range c none =
     let holds = none_passes (λ field. not (is_in_range c field)) fields none in
@@ -51,19 +110,8 @@ in_range c none =
     }
 
 each_holds : (c : Config) → IsInRange c → (field : Field) → not (is_in_range c field) ≡ false
-each_holds c h Stations = within _ _ _ h.stations
-each_holds c h Flows = within _ _ _ h.flows
-each_holds c h Limit = within _ _ _ h.limit
-each_holds c h Room = within _ _ _ h.room
-each_holds c h FlowQuantum = within _ _ _ h.flow_quantum
-each_holds c h Quantum = within _ _ _ h.quantum
-each_holds c h Inflight = within _ _ _ h.inflight
-each_holds c h Attempts = within _ _ _ h.attempts
-each_holds c h Agg = within _ _ _ h.agg
-each_holds c h Cap = within _ _ _ h.cap
-each_holds c h Sleeping = within _ _ _ h.sleeping
-each_holds c h Calls = within _ _ _ h.calls
-each_holds c h Charge = within _ _ _ h.charge
+each_holds c h field = let b = each_bounded c h field in
+    within (lowest_of field) (value_of c field) (greatest_of field) b
 
 pub checked : (c : Config) → (first_out_of_range c ≡ None) ↔ IsInRange c
 checked c = (in_range c, λ h. none_found (λ field. not (is_in_range c field)) fields (each_holds c h))

@@ -3,10 +3,9 @@ use Rattle.std.proofs.Common.{◌≡◌, ℕ, ◌≤◌, nat_le, Bool, true, fal
 use Rattle.std.specs.Str.{bytes_eq}
 use Rattle.wf_frame.specs.declared.settings.Config.{Config}
 use Rattle.wf_frame.specs.declared.settings.Field.{Field}
-use Rattle.wf_frame.specs.declared.settings.Field.TheVariants.{Stations, Flows, Limit, Room, FlowQuantum, Quantum, Inflight, Attempts, Agg, Cap, Sleeping, Calls, Charge}
 use Rattle.wf_frame.specs.Settings.{standard, lowest_of, greatest_of, with_value, IsInRange}
 use Rattle.wf_def_lists.specs.Lengths.{greatest_body}
-use Rattle.wf_frame.proofs.Ranges.{in_range as standard_in_range}
+use Rattle.wf_frame.proofs.Ranges.{in_range as standard_in_range, set_in_range}
 use Rattle.wf_frame.specs.declared.calls.Value.{Value}
 use Rattle.wf_trace.specs.declared.cut.Piece.{Piece}
 use Rattle.wf_trace.specs.declared.cut.Piece.TheVariants as piece
@@ -26,7 +25,6 @@ use Rattle.wf_frame.proofs.TableLaws.{IsSized as HasSize, enqueue_sized}
 use Rattle.wf_trace.specs.Grammar.{call_form, read_args}
 use Rattle.wf_trace.specs.Notes.{made, noted, called, read_call}
 use Rattle.wf_trace.proofs.ArgLaws.{kinds_read}
-use Rattle.wf_def_lists.specs.Lengths.{greatest_body}
 use Rattle.wf_trace.specs.Pieces.{Numbered, pieces}
 use Rattle.wf_trace.specs.Words.{words, number_of, in_range}
 use Rattle.wf_trace.specs.Settings.{worse, placed, set_one, read_words, value_read, was_seen, named_field, split_once, field_number}
@@ -53,219 +51,6 @@ read_between : (low high value : ℕ) (read : Option ℕ) → in_range low high 
 read_between low high value None e = absurd (cc)
 read_between low high value (Some v) e = between low high value v (nat_le low v && nat_le v high) refl e
 
-setting_in : (c : Config) (field : Field) (value : ℕ) → IsInRange c → (lowest_of field ≤ value) ×
-    (value ≤ greatest_of field) → IsInRange (with_value c field value)
-setting_in c Stations value r b = record {
-  stations = b;
-  flows = r.flows;
-  limit = r.limit;
-  room = r.room;
-  flow_quantum = r.flow_quantum;
-  quantum = r.quantum;
-  inflight = r.inflight;
-  attempts = r.attempts;
-  agg =
-      r.agg;
-  cap = r.cap;
-  sleeping = r.sleeping;
-  calls = r.calls;
-  charge = r.charge;
-}
-setting_in c Flows value r b = record {
-  stations = r.stations;
-  flows = b;
-  limit = r.limit;
-  room = r.room;
-  flow_quantum = r.flow_quantum;
-  quantum = r.quantum;
-  inflight = r.inflight;
-  attempts = r.attempts;
-  agg =
-      r.agg;
-  cap = r.cap;
-  sleeping = r.sleeping;
-  calls = r.calls;
-  charge = r.charge;
-}
-setting_in c Limit value r b = record {
-  stations = r.stations;
-  flows = r.flows;
-  limit = b;
-  room = r.room;
-  flow_quantum = r.flow_quantum;
-  quantum = r.quantum;
-  inflight = r.inflight;
-  attempts = r.attempts;
-  agg =
-      r.agg;
-  cap = r.cap;
-  sleeping = r.sleeping;
-  calls = r.calls;
-  charge = r.charge;
-}
-setting_in c Room value r b = record {
-  stations = r.stations;
-  flows = r.flows;
-  limit = r.limit;
-  room = b;
-  flow_quantum = r.flow_quantum;
-  quantum = r.quantum;
-  inflight = r.inflight;
-  attempts = r.attempts;
-  agg =
-      r.agg;
-  cap = r.cap;
-  sleeping = r.sleeping;
-  calls = r.calls;
-  charge = r.charge;
-}
-setting_in c FlowQuantum value r b = record {
-  stations = r.stations;
-  flows = r.flows;
-  limit = r.limit;
-  room =
-      r.room;
-  flow_quantum = b;
-  quantum = r.quantum;
-  inflight = r.inflight;
-  attempts = r.attempts;
-  agg = r.agg;
-  cap = r.cap;
-  sleeping = r.sleeping;
-  calls = r.calls;
-  charge = r.charge;
-}
-setting_in c Quantum value r b = record {
-  stations = r.stations;
-  flows = r.flows;
-  limit = r.limit;
-  room =
-      r.room;
-  flow_quantum = r.flow_quantum;
-  quantum = b;
-  inflight = r.inflight;
-  attempts = r.attempts;
-  agg =
-      r.agg;
-  cap = r.cap;
-  sleeping = r.sleeping;
-  calls = r.calls;
-  charge = r.charge;
-}
-setting_in c Inflight value r b = record {
-  stations = r.stations;
-  flows = r.flows;
-  limit = r.limit;
-  room =
-      r.room;
-  flow_quantum = r.flow_quantum;
-  quantum = r.quantum;
-  inflight = b;
-  attempts = r.attempts;
-  agg =
-      r.agg;
-  cap = r.cap;
-  sleeping = r.sleeping;
-  calls = r.calls;
-  charge = r.charge;
-}
-setting_in c Attempts value r b = record {
-  stations = r.stations;
-  flows = r.flows;
-  limit = r.limit;
-  room =
-      r.room;
-  flow_quantum = r.flow_quantum;
-  quantum = r.quantum;
-  inflight = r.inflight;
-  attempts = b;
-  agg =
-      r.agg;
-  cap = r.cap;
-  sleeping = r.sleeping;
-  calls = r.calls;
-  charge = r.charge;
-}
-setting_in c Agg value r b = record {
-  stations = r.stations;
-  flows = r.flows;
-  limit = r.limit;
-  room = r.room;
-  flow_quantum = r.flow_quantum;
-  quantum = r.quantum;
-  inflight = r.inflight;
-  attempts = r.attempts;
-  agg = b;
-  cap = r.cap;
-  sleeping = r.sleeping;
-  calls = r.calls;
-  charge = r.charge;
-}
-setting_in c Cap value r b = record {
-  stations = r.stations;
-  flows = r.flows;
-  limit = r.limit;
-  room = r.room;
-  flow_quantum = r.flow_quantum;
-  quantum = r.quantum;
-  inflight = r.inflight;
-  attempts = r.attempts;
-  agg =
-      r.agg;
-  cap = b;
-  sleeping = r.sleeping;
-  calls = r.calls;
-  charge = r.charge;
-}
-setting_in c Sleeping value r b = record {
-  stations = r.stations;
-  flows = r.flows;
-  limit = r.limit;
-  room =
-      r.room;
-  flow_quantum = r.flow_quantum;
-  quantum = r.quantum;
-  inflight = r.inflight;
-  attempts = r.attempts;
-  agg = r.agg;
-  cap = r.cap;
-  sleeping = b;
-  calls = r.calls;
-  charge = r.charge;
-}
-setting_in c Calls value r b = record {
-  stations = r.stations;
-  flows = r.flows;
-  limit = r.limit;
-  room =
-      r.room;
-  flow_quantum = r.flow_quantum;
-  quantum = r.quantum;
-  inflight = r.inflight;
-  attempts = r.attempts;
-  agg = r.agg;
-  cap = r.cap;
-  sleeping = r.sleeping;
-  calls = b;
-  charge = r.charge;
-}
-setting_in c Charge value r b = record {
-  stations = r.stations;
-  flows = r.flows;
-  limit = r.limit;
-  room =
-      r.room;
-  flow_quantum = r.flow_quantum;
-  quantum = r.quantum;
-  inflight = r.inflight;
-  attempts = r.attempts;
-  agg = r.agg;
-  cap = r.cap;
-  sleeping = r.sleeping;
-  calls = r.calls;
-  charge = b;
-}
-
 -- ---- the head
 
 never_worse : (fault : FaultKind) (read : Result Config FaultKind) (c : Config) → worse fault read ≡ Ok c →
@@ -282,7 +67,7 @@ placed_in : (field : Field) (config c : Config) (others : Config → Result Conf
     → value_read field text ≡ value → Keeps others → IsInRange config →
     placed value field config others ≡ Ok c → IsInRange c
 placed_in field config c others (Ok value) text is keeps r e =
-    keeps (with_value config field value) c (setting_in config field value r
+    keeps (with_value config field value) c (set_in_range config field value r
     (read_between (lowest_of field) (greatest_of field) value (number_of text) is)) e
 placed_in field config c others (Err fault) text is keeps r e = never_worse fault (others config) c e
 
