@@ -1,5 +1,5 @@
 -- The settings that a trace's head names are in their ranges, and so are the lengths of its frames.
-use Rattle.std.proofs.Common.{◌≡◌, ℕ, ◌≤◌, nat_le, Bool, true, false, ◌&&◌, ◌==◌, List, [], ◌∷◌, ◌++◌, Option, Some, None, Result, Ok, Err, refl, subst, arith, codes, replicate, if◌then◌else◌, slice_set, option_map}
+use Rattle.std.proofs.Common.{◌≡◌, ℕ, ◌≤◌, nat_le, Bool, true, false, ◌&&◌, ◌==◌, List, [], ◌∷◌, ◌++◌, Option, Some, None, Result, Ok, Err, refl, subst, arith, codes, replicate, if◌then◌else◌, slice_set}
 use Rattle.std.specs.Str.{bytes_eq}
 use Rattle.wf_frame.specs.declared.settings.Config.{Config}
 use Rattle.wf_frame.specs.declared.settings.Field.{Field}
@@ -17,11 +17,9 @@ use Rattle.wf_trace.specs.declared.meaning.Place.{Place}
 use Rattle.wf_trace.specs.declared.reader.Item.{Item}
 use Rattle.wf_trace.specs.declared.reader.Item.TheVariants as item
 use Rattle.wf_frame.specs.declared.calls.CallForm.{CallForm}
-use Rattle.wf_frame.specs.declared.calls.CallForm.TheVariants as call
-use Rattle.wf_frame.specs.declared.notes.Ask.{Ask}
 use Rattle.wf_frame.specs.declared.notes.Note.TheVariants.{Enqueue, Asked}
-use Rattle.wf_frame.specs.Calls.{args_of, ask_of, call_named, enqueued}
-use Rattle.wf_frame.proofs.TableLaws.{IsSized as HasSize, enqueue_sized}
+use Rattle.wf_frame.specs.Calls.{args_of, call_named, note_made}
+use Rattle.wf_frame.proofs.TableLaws.{IsSized as HasSize, made_sized as note_sized}
 use Rattle.wf_trace.specs.Grammar.{call_form, read_args}
 use Rattle.wf_trace.specs.Notes.{made, noted, called, read_call}
 use Rattle.wf_trace.proofs.ArgLaws.{kinds_read}
@@ -111,36 +109,16 @@ abbrev IsSizedCall : Result Note FaultKind → Type 0
 IsSizedCall (Ok note) = IsSized note
 IsSizedCall (Err fault) = Unit {0}
 
-frame_sized : (frame : Option Note) → HasSize frame → IsSizedCall (made frame)
-frame_sized None is = tt
-frame_sized (Some (Enqueue station tid flow len)) is = is
-frame_sized (Some (Asked ask)) is = (tt, tt)
-
-ask_sized : (ask : Option Ask) → IsSizedCall (made (option_map Asked ask))
-ask_sized None = tt
-ask_sized (Some ask) = (tt, tt)
+made_sized : (note : Option Note) → HasSize note → IsSizedCall (made note)
+made_sized None is = tt
+made_sized (Some (Enqueue station tid flow len)) is = is
+made_sized (Some (Asked ask)) is = (tt, tt)
 
 noted_sized : (c : CallForm) (ws : List (List ℕ)) (read : Result (List Value) FaultKind) →
     read_args (args_of c) ws ≡ read → IsSizedCall (noted c read)
+noted_sized c ws (Ok values) is = made_sized (note_made c values) (note_sized c values (kinds_read
+    (args_of c) ws values is))
 noted_sized c ws (Err fault) is = tt
-noted_sized call.Enqueue ws (Ok values) is = frame_sized (enqueued values) (enqueue_sized values
-    (kinds_read (args_of call.Enqueue) ws values is))
-noted_sized call.Join ws (Ok values) is = ask_sized (ask_of call.Join values)
-noted_sized call.Leave ws (Ok values) is = ask_sized (ask_of call.Leave values)
-noted_sized call.Rate ws (Ok values) is = ask_sized (ask_of call.Rate values)
-noted_sized call.RateVht ws (Ok values) is = ask_sized (ask_of call.RateVht values)
-noted_sized call.RateHe ws (Ok values) is = ask_sized (ask_of call.RateHe values)
-noted_sized call.Tick ws (Ok values) is = ask_sized (ask_of call.Tick values)
-noted_sized call.Pull ws (Ok values) is = ask_sized (ask_of call.Pull values)
-noted_sized call.Arrive ws (Ok values) is = ask_sized (ask_of call.Arrive values)
-noted_sized call.Answer ws (Ok values) is = ask_sized (ask_of call.Answer values)
-noted_sized call.Done ws (Ok values) is = ask_sized (ask_of call.Done values)
-noted_sized call.DoneAir ws (Ok values) is = ask_sized (ask_of call.DoneAir values)
-noted_sized call.Sleep ws (Ok values) is = ask_sized (ask_of call.Sleep values)
-noted_sized call.Wake ws (Ok values) is = ask_sized (ask_of call.Wake values)
-noted_sized call.Poll ws (Ok values) is = ask_sized (ask_of call.Poll values)
-noted_sized call.Rx ws (Ok values) is = ask_sized (ask_of call.Rx values)
-noted_sized call.Reap ws (Ok values) is = ask_sized (ask_of call.Reap values)
 
 called_sized : (c : Option CallForm) (ws : List (List ℕ)) → IsSizedCall (called c ws)
 called_sized None ws = tt
