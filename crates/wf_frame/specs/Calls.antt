@@ -104,7 +104,7 @@ argument_kind argument.Tid = kind.Octet
 argument_kind argument.Flow = kind.Long
 argument_kind argument.Length = kind.Length
 argument_kind argument.Class = kind.Class
-argument_kind argument.Exchange = kind.Long
+argument_kind argument.Exchange = kind.Exchange
 argument_kind argument.Index = kind.Short
 argument_kind argument.Heard = kind.Heard
 argument_kind argument.Measured = kind.Air
@@ -196,9 +196,10 @@ note_values (Asked (Leave station)) = value.Short station ∷ []
 note_values (Asked (Rate station rate)) = value.Short station ∷ values_of_rate rate
 note_values (Asked (Tick by)) = value.Long by ∷ []
 note_values (Asked (Pull class)) = value.Class class ∷ []
-note_values (Asked (Arrive exchange index)) = value.Long exchange ∷ value.Short index ∷ []
-note_values (Asked (Answer exchange)) = value.Long exchange ∷ []
-note_values (Asked (Done exchange heard air)) = value.Long exchange ∷ value.Heard heard ∷ values_of_air air
+note_values (Asked (Arrive exchange index)) = value.Exchange exchange ∷ value.Short index ∷ []
+note_values (Asked (Answer exchange)) = value.Exchange exchange ∷ []
+note_values (Asked (Done exchange heard air)) =
+    value.Exchange exchange ∷ value.Heard heard ∷ values_of_air air
 note_values (Asked (Sleep station)) = value.Short station ∷ []
 note_values (Asked (Wake station)) = value.Short station ∷ []
 note_values (Asked (Poll station)) = value.Short station ∷ []
@@ -224,10 +225,10 @@ ask_of form.RateHe (value.Short station ∷ value.Format format.He ∷ value.Oct
     ∷ value.Short guard ∷ value.Octet streams ∷ []) = Some (Rate station (He mcs mhz guard streams))
 ask_of form.Tick (value.Long by ∷ []) = Some (Tick by)
 ask_of form.Pull (value.Class class ∷ []) = Some (Pull class)
-ask_of form.Arrive (value.Long exchange ∷ value.Short index ∷ []) = Some (Arrive exchange index)
-ask_of form.Answer (value.Long exchange ∷ []) = Some (Answer exchange)
-ask_of form.Done (value.Long exchange ∷ value.Heard heard ∷ []) = Some (Done exchange heard None)
-ask_of form.DoneAir (value.Long exchange ∷ value.Heard heard ∷ value.Air ∷ value.Long air ∷ []) =
+ask_of form.Arrive (value.Exchange exchange ∷ value.Short index ∷ []) = Some (Arrive exchange index)
+ask_of form.Answer (value.Exchange exchange ∷ []) = Some (Answer exchange)
+ask_of form.Done (value.Exchange exchange ∷ value.Heard heard ∷ []) = Some (Done exchange heard None)
+ask_of form.DoneAir (value.Exchange exchange ∷ value.Heard heard ∷ value.Air ∷ value.Long air ∷ []) =
     Some (Done exchange heard (Some air))
 ask_of form.Sleep (value.Short station ∷ []) = Some (Sleep station)
 ask_of form.Wake (value.Short station ∷ []) = Some (Wake station)
@@ -248,6 +249,7 @@ abbrev pub IsOfKind : Arg → Value → Type 0
 IsOfKind kind.Short (value.Short n) = n < 2 ^ 16
 IsOfKind kind.Octet (value.Octet n) = n < 2 ^ 8
 IsOfKind kind.Long (value.Long n) = n < 2 ^ 32
+IsOfKind kind.Exchange (value.Exchange n) = n < 2 ^ 32
 IsOfKind kind.Length (value.Short n) = (1 ≤ n) × (n ≤ greatest_body)
 IsOfKind kind.Weight (value.Octet n) = n < 2 ^ 8
 IsOfKind kind.Class (value.Class c) = Unit {0}
@@ -265,11 +267,10 @@ AreOfKinds [] [] = Unit {0}
 AreOfKinds (arg ∷ args) (v ∷ values) = IsOfKind arg v × AreOfKinds args values
 AreOfKinds _ _ = ⊥
 
--- a line has room for the value of an argument: an exchange number has at most 32 bits, and a
--- length is 1 to 2304
--- octets; the types of Rust bound all other values
+-- a line has room for the value of an argument: an exchange number has at most 32 bits, and a length is 1 to
+-- 2304 octets; the types of Rust bound all other values
 abbrev pub FitsLine : Argument → Value → Type 0
-FitsLine argument.Exchange (value.Long n) = n < 2 ^ 32
+FitsLine argument.Exchange (value.Exchange n) = n < 2 ^ 32
 FitsLine argument.Length (value.Short n) = (1 ≤ n) × (n ≤ greatest_body)
 FitsLine _ _ = Unit {0}
 

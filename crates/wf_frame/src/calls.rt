@@ -96,6 +96,8 @@ pub enum Arg {
     Octet,
     /// A number 0 to 4294967295.
     Long,
+    /// The number of an exchange, of which a line names 0 to 4294967295.
+    Exchange,
     /// The length of a frame: 1 to 2304 octets.
     Length,
     /// A weight, 0 to 255, which is 1 where it is left out.
@@ -122,6 +124,8 @@ pub enum Value {
     Short(u16),
     Octet(u8),
     Long(u32),
+    /// The number of an exchange.
+    Exchange(u64),
     Class(Class),
     Format(RateFormat),
     /// The guard interval is the short one.
@@ -323,7 +327,8 @@ impl Argument {
             | Argument::Mhz
             | Argument::Streams
             | Argument::Tid => Arg::Octet,
-            Argument::By | Argument::Flow | Argument::Exchange | Argument::Air => Arg::Long,
+            Argument::By | Argument::Flow | Argument::Air => Arg::Long,
+            Argument::Exchange => Arg::Exchange,
             Argument::Weight => Arg::Weight,
             Argument::Length => Arg::Length,
             Argument::Class => Arg::Class,

@@ -20,12 +20,11 @@ impl Note {
         }
     }
 
-    /// The values of its arguments, in order. An exchange number must be below 2^32, and a length 1 to 2304
-    /// octets: a line names no other.
+    /// The values of its arguments, in order: they make the call again. A line names an exchange number below
+    /// 2^32, and a length of 1 to 2304 octets.
     pub fn values(&self) -> ArrayVec<Value, 6>
-        requires { IsPrintable self.now }
         ensures values { result.items ≡ note_values self.now }
-        ensures range { NumbersAreInRange self.now }
+        ensures range { IsPrintable self.now → NumbersAreInRange self.now }
         ensures back { note_made (note_form self.now) (note_values self.now) ≡ Some self.now }
     {
         match self {
@@ -71,8 +70,8 @@ impl Note {
             (CallForm::Tick, [Value::Long(by)]) => asked(Ask::Tick { by: *by }),
             (CallForm::Pull, [Value::Class(class)]) => asked(Ask::Pull { class: *class }),
             (CallForm::Arrive, _) => arrive(values),
-            (CallForm::Answer, [Value::Long(exchange)]) => asked(Ask::Answer {
-                exchange: u64::from(*exchange),
+            (CallForm::Answer, [Value::Exchange(exchange)]) => asked(Ask::Answer {
+                exchange: *exchange,
             }),
             (CallForm::Done, _) => done(values),
             (CallForm::DoneAir, _) => done_air(values),
@@ -111,9 +110,8 @@ impl Ask {
 
     // The values of its arguments, in order.
     fn values(self) -> ArrayVec<Value, 6>
-        requires { IsPrintable (Asked self) }
         ensures values { result.items ≡ note_values (Asked self) }
-        ensures range { NumbersAreInRange (Asked self) }
+        ensures range { IsPrintable (Asked self) → NumbersAreInRange (Asked self) }
     {
         match self {
             Ask::Join {
@@ -137,9 +135,9 @@ impl Ask {
             Ask::Tick { by } => listed(&[Value::Long(by)]),
             Ask::Pull { class } => listed(&[Value::Class(class)]),
             Ask::Arrive { exchange, index } => {
-                listed(&[Value::Long(exchange as u32), Value::Short(index)])
+                listed(&[Value::Exchange(exchange), Value::Short(index)])
             }
-            Ask::Answer { exchange } => listed(&[Value::Long(exchange as u32)]),
+            Ask::Answer { exchange } => listed(&[Value::Exchange(exchange)]),
             Ask::Done {
                 exchange,
                 heard,
@@ -222,14 +220,14 @@ fn listed(values: &[Value]) -> ArrayVec<Value, 6>
 
 // The values of an end of an exchange, whose airtime stands where it is named.
 fn end_values(exchange: u64, heard: bool, air: Option<u32>) -> ArrayVec<Value, 6>
-    requires { IsPrintable (Asked (Done exchange heard air)) }
     ensures values { result.items ≡ note_values (Asked (Done exchange heard air)) }
-    ensures range { NumbersAreInRange (Asked (Done exchange heard air)) }
+    ensures range { IsPrintable (Asked (Done exchange heard air)) →
+        NumbersAreInRange (Asked (Done exchange heard air)) }
 {
     match air {
-        None => listed(&[Value::Long(exchange as u32), Value::Heard(heard)]),
+        None => listed(&[Value::Exchange(exchange), Value::Heard(heard)]),
         Some(air) => listed(&[
-            Value::Long(exchange as u32),
+            Value::Exchange(exchange),
             Value::Heard(heard),
             Value::Air,
             Value::Long(air),
@@ -252,11 +250,11 @@ fn rated(station: u16, rate: AskedRate) -> Note
 }
 
 // An end of an exchange.
-fn ended(exchange: u32, heard: bool, air: Option<u32>) -> Note
+fn ended(exchange: u64, heard: bool, air: Option<u32>) -> Note
     ensures { result ≡ Asked (Done exchange heard air) }
 {
     Note::Asked(Ask::Done {
-        exchange: u64::from(exchange),
+        exchange,
         heard,
         air,
     })
@@ -364,11 +362,11 @@ fn he(values: &[Value]) -> Option<Note>
 fn arrive(values: &[Value]) -> Option<Note>
     ensures { result ≡ note_made CallForm.Arrive values.now }
 {
-    let [Value::Long(exchange), Value::Short(index)] = values else {
+    let [Value::Exchange(exchange), Value::Short(index)] = values else {
         return None;
     };
     Some(Note::Asked(Ask::Arrive {
-        exchange: u64::from(*exchange),
+        exchange: *exchange,
         index: *index,
     }))
 }
@@ -377,7 +375,7 @@ fn arrive(values: &[Value]) -> Option<Note>
 fn done(values: &[Value]) -> Option<Note>
     ensures { result ≡ note_made CallForm.Done values.now }
 {
-    let [Value::Long(exchange), Value::Heard(heard)] = values else {
+    let [Value::Exchange(exchange), Value::Heard(heard)] = values else {
         return None;
     };
     Some(ended(*exchange, *heard, None))
@@ -388,7 +386,7 @@ fn done_air(values: &[Value]) -> Option<Note>
     ensures { result ≡ note_made CallForm.DoneAir values.now }
 {
     let [
-        Value::Long(exchange),
+        Value::Exchange(exchange),
         Value::Heard(heard),
         Value::Air,
         Value::Long(air),

@@ -194,8 +194,8 @@ fn rate_args(form: &'static [u8]) -> &'static [Arg] {
 
 fn done_args(form: &'static [u8]) -> &'static [Arg] {
     match name_of(form, 2) {
-        b"air" => &[Arg::Long, Arg::Heard, Arg::Air, Arg::Long],
-        _ => &[Arg::Long, Arg::Heard],
+        b"air" => &[Arg::Exchange, Arg::Heard, Arg::Air, Arg::Long],
+        _ => &[Arg::Exchange, Arg::Heard],
     }
 }
 
@@ -204,10 +204,11 @@ fn trace_args(form: &'static [u8]) -> &'static [Arg] {
         b"join" => &[Arg::Short, Arg::Short, Arg::Short, Arg::Octet, Arg::Weight],
         b"leave" | b"sleep" | b"wake" | b"poll" => &[Arg::Short],
         b"rate" => rate_args(form),
-        b"tick" | b"answer" => &[Arg::Long],
+        b"tick" => &[Arg::Long],
         b"enq" => &[Arg::Short, Arg::Octet, Arg::Long, Arg::Length],
         b"pull" => &[Arg::Class],
-        b"arrive" => &[Arg::Long, Arg::Short],
+        b"arrive" => &[Arg::Exchange, Arg::Short],
+        b"answer" => &[Arg::Exchange],
         b"done" => done_args(form),
         b"rx" => &[Arg::Short, Arg::Class, Arg::Long],
         _ => &[],
@@ -235,7 +236,7 @@ pub fn say_wanted(arg: Arg, out: &mut Line) {
     match arg {
         Arg::Short => say(&[b"0 to 65535"], out),
         Arg::Octet | Arg::Weight => say(&[b"0 to 255"], out),
-        Arg::Long => say(&[b"0 to 4294967295"], out),
+        Arg::Long | Arg::Exchange => say(&[b"0 to 4294967295"], out),
         Arg::Length => say(&[b"1 to 2304"], out),
         Arg::Class => say(&[b"bk, be, vi or vo"], out),
         Arg::Format => say(&[b"vht or he"], out),

@@ -101,6 +101,9 @@ kind_read kind.Octet word v is =
     number_kind 0 255 value.Octet (IsOfKind kind.Octet) (number_of word) v (λ n low high. omega arith) is
 kind_read kind.Long word v is =
     number_kind 0 4294967295 value.Long (IsOfKind kind.Long) (number_of word) v (λ n low high. omega arith) is
+kind_read kind.Exchange word v is =
+    number_kind 0 4294967295 value.Exchange (IsOfKind kind.Exchange) (number_of word) v
+    (λ n low high. omega arith) is
 kind_read kind.Length word v is =
     number_kind 1 greatest_body value.Short (IsOfKind kind.Length) (number_of word) v
     (λ n low high. (low, high)) is

@@ -25,7 +25,7 @@ use Rattle.wf_frame.specs.declared.calls.RateFormat.TheVariants as format
 use Rattle.wf_frame.specs.declared.calls.Arg.{Arg}
 use Rattle.wf_frame.specs.declared.calls.Arg.TheVariants as arg
 use Rattle.wf_frame.specs.declared.calls.Value.{Value}
-use Rattle.wf_frame.specs.declared.calls.Value.TheVariants.{Short, Octet, Long, Class as TheClass, Format, Guard, Heard, Air, End}
+use Rattle.wf_frame.specs.declared.calls.Value.TheVariants.{Short, Octet, Long, Exchange, Class as TheClass, Format, Guard, Heard, Air, End}
 use Rattle.wf_trace.specs.declared.meaning.Place.{Place}
 use Rattle.wf_trace.specs.declared.meaning.Meaning.TheVariants.{Entry}
 use Rattle.wf_trace.specs.Lines.{is_printable}
@@ -79,6 +79,9 @@ octet_read n small = rw (number_read 0 255 n (omega arith) (omega arith) (omega 
 
 long_read : (n : ℕ) → n < 2 ^ 32 → read_arg arg.Long (decimal n) ≡ Ok (Long n)
 long_read n small = rw (number_read 0 4294967295 n (omega arith) (omega arith) small) refl
+
+exchange_read : (n : ℕ) → n < 2 ^ 32 → read_arg arg.Exchange (decimal n) ≡ Ok (Exchange n)
+exchange_read n small = rw (number_read 0 4294967295 n (omega arith) (omega arith) small) refl
 
 class_read : (c : Class) → read_arg arg.Class (class_word c) ≡ Ok (TheClass c)
 class_read Bk = refl
@@ -205,6 +208,10 @@ long_told : (n : ℕ) → n < 2 ^ 32 → IsTold arg.Long (Long n)
 long_told n small =
     record { read = long_read n small; plain = number_plain n small; short = number_short n small }
 
+exchange_told : (n : ℕ) → n < 2 ^ 32 → IsTold arg.Exchange (Exchange n)
+exchange_told n small =
+    record { read = exchange_read n small; plain = number_plain n small; short = number_short n small }
+
 length_told : (n : ℕ) → (1 ≤ n) × (n ≤ greatest_body) → IsTold arg.Length (Short n)
 length_told n within =
     let most : n ≤ greatest_body = within.1 in
@@ -253,6 +260,7 @@ kind_told : (a : Arg) (v : Value) → is_small a ≡ true → IsOfKind a v → I
 kind_told arg.Short (Short n) small is = short_told n is
 kind_told arg.Octet (Octet n) small is = octet_told n is
 kind_told arg.Long (Long n) small is = long_told n is
+kind_told arg.Exchange (Exchange n) small is = exchange_told n is
 kind_told arg.Length (Short n) small is = length_told n is
 kind_told arg.Weight (Octet n) small is = weight_told n is
 kind_told arg.Class (TheClass c) small is = class_told c

@@ -16,6 +16,7 @@ abbrev pub value_word : Value → List ℕ
 value_word (value.Short n) = decimal n
 value_word (value.Octet n) = decimal n
 value_word (value.Long n) = decimal n
+value_word (value.Exchange n) = decimal n
 value_word (value.Class class) = class_word class
 value_word (value.Format format) = format_word format
 value_word (value.Guard short) = guard_word short

@@ -49,6 +49,7 @@ fn word_of(value: Value) -> Word
         Value::Short(number) => Word::Number(u64::from(number)),
         Value::Octet(number) => Word::Number(u64::from(number)),
         Value::Long(number) => Word::Number(u64::from(number)),
+        Value::Exchange(number) => Word::Number(number),
         Value::Class(class) => Word::Text(class.word()),
         Value::Format(format) => Word::Text(format.word()),
         Value::Guard(short) => Word::Text(guard_word(short)),
