@@ -1,6 +1,6 @@
 -- The table of calls: for each form of a call's line its number, its word and its arguments; and the values
 -- of these for each call.
-use Rattle.std.specs.Prelude.{ℕ, ◌<◌, ◌≤◌, ◌^◌, List, [], ◌∷◌, map, codes, Option, Some, None, find, option_map}
+use Rattle.std.specs.Prelude.{ℕ, ◌==◌, ◌<◌, ◌≤◌, ◌^◌, List, [], ◌∷◌, map, codes, Option, Some, None, find, option_map}
 use Rattle.std.specs.Str.{bytes_eq}
 use Rattle.wf_frame.specs.declared.calls.CallForm.{CallForm}
 use Rattle.wf_frame.specs.declared.calls.CallForm.TheVariants as form
@@ -132,6 +132,10 @@ calls =
 -- the call that a word names
 abbrev pub call_named : List ℕ → Option CallForm
 call_named word = find (λ call. bytes_eq (call_word call) word) calls
+
+-- the call with a number
+abbrev pub call_numbered : ℕ → Option CallForm
+call_numbered number = find (λ call. form_number call == number) calls
 
 -- the word of a format
 abbrev pub format_word : RateFormat → List ℕ

@@ -1,7 +1,7 @@
 //! The table of calls: for each form of a call's line its number, its word and its arguments.
 
 ghost use Rattle.std.specs.Prelude.{◌≡◌, ◌<◌, ◌≤◌, length};
-ghost use Rattle.wf_frame.specs.Calls.{form_number, call_word, call_named, arguments_of, argument_kind, default_of, format_word as word_of_format, format_named};
+ghost use Rattle.wf_frame.specs.Calls.{form_number, call_word, call_named, call_numbered, arguments_of, argument_kind, default_of, format_word as word_of_format, format_named};
 
 use crate::Class;
 
@@ -207,6 +207,13 @@ impl CallForm {
             CallForm::Rx => 12,
             CallForm::Reap => 13,
         }
+    }
+
+    /// The call with a number, in its first form. None where it is that of no call.
+    pub fn numbered(number: u8) -> Option<CallForm>
+        ensures { result ≡ call_numbered number }
+    {
+        CALLS.iter().copied().find(|call| call.number() == number)
     }
 
     /// The word that its line begins with.
