@@ -1,4 +1,4 @@
-mod CallKinds
+mod CallRows
 mod CellSlots
 mod Ended
 mod Filled

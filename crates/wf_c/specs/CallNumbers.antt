@@ -1,13 +1,20 @@
--- What the fields of a call show.
-use Rattle.std.specs.Prelude.{ℕ, ◌==◌, Option, Some, None, option_map, if◌then◌else◌}
+-- What the fields of a call show, by the table of calls: each argument stands in a field of its own.
+use Rattle.std.specs.Prelude.{ℕ, ◌==◌, List, ◌∷◌, Option, Some, None, map, option_and_then, if◌then◌else◌}
+use Rattle.wf_frame.specs.Calls.{form_number, call_numbered, arguments_of, form_of_end, note_form, note_values, note_made}
 use Rattle.wf_frame.specs.Classes.{all_classes, class_among, class_number}
+use Rattle.wf_frame.specs.declared.calls.Argument.{Argument}
+use Rattle.wf_frame.specs.declared.calls.Argument.TheVariants as argument
+use Rattle.wf_frame.specs.declared.calls.CallForm.{CallForm}
+use Rattle.wf_frame.specs.declared.calls.CallForm.TheVariants as form
+use Rattle.wf_frame.specs.declared.calls.RateFormat.{RateFormat}
+use Rattle.wf_frame.specs.declared.calls.RateFormat.TheVariants as format
+use Rattle.wf_frame.specs.declared.calls.Value.{Value}
+use Rattle.wf_frame.specs.declared.calls.Value.TheVariants as value
 use Rattle.wf_frame.specs.declared.notes.Ask.{Ask}
-use Rattle.wf_frame.specs.declared.notes.Ask.TheVariants.{Join, Leave, Rate, Tick, Pull, Arrive, Answer, Done, Sleep, Wake, Poll, Rx, Reap}
-use Rattle.wf_frame.specs.declared.notes.AskedRate.{AskedRate}
-use Rattle.wf_frame.specs.declared.notes.AskedRate.TheVariants.{Ht, Vht, He}
+use Rattle.wf_frame.specs.declared.notes.Ask.TheVariants.{Reap}
 use Rattle.wf_frame.specs.declared.notes.Note.{Note}
 use Rattle.wf_frame.specs.declared.notes.Note.TheVariants.{Enqueue, Asked}
-use Rattle.wf_c.specs.Numbers.{flag_of, is_up, named_air, air_number}
+use Rattle.wf_c.specs.Numbers.{flag_of, is_up, named_air}
 use Rattle.wf_c.specs.declared.cell.calls.CallNumbers.{CallNumbers}
 
 -- nothing is shown
@@ -36,82 +43,110 @@ blank_call = record {
   heard = 0;
 }
 
--- the fields of a call for a rate: the form is 0 for HT, 1 for VHT and 2 for HE
-abbrev pub numbers_of_rate : ℕ → AskedRate → CallNumbers
-numbers_of_rate station (Ht mcs mhz short) =
-    record blank_call { kind = 2; station = station; form = 0; mcs = mcs; mhz = mhz; short = flag_of short }
-numbers_of_rate station (Vht mcs mhz short streams) =
-    record blank_call {
-      kind = 2;
-      station = station;
-      form = 1;
-      mcs = mcs;
-      mhz = mhz;
-      short = flag_of short;
-      streams = streams;
-    }
-numbers_of_rate station (He mcs mhz guard streams) =
-    record blank_call {
-      kind = 2;
-      station = station;
-      form = 2;
-      mcs = mcs;
-      mhz = mhz;
-      guard = guard;
-      streams = streams;
-    }
+-- ---- the fields of arguments
 
--- The fields of a call, which has the number of the answer that it may have. A Done that names the airtime 0
+-- the number of a format; 0 is that of HT, which no argument names
+abbrev pub format_number : RateFormat → ℕ
+format_number format.Vht = 1
+format_number format.He = 2
+
+-- the format of a number
+abbrev pub format_shown : ℕ → RateFormat
+format_shown n = if n == 1 then format.Vht else format.He
+
+-- the value of an argument that the fields show
+abbrev pub value_in : CallNumbers → Argument → Value
+value_in c argument.Station = value.Short c.station
+value_in c argument.Window = value.Short c.window
+value_in c argument.Start = value.Short c.start
+value_in c argument.Exponent = value.Octet c.exponent
+value_in c argument.Weight = value.Octet c.weight
+value_in c argument.Format = value.Format (format_shown c.form)
+value_in c argument.Mcs = value.Octet c.mcs
+value_in c argument.Mhz = value.Octet c.mhz
+value_in c argument.Guard = value.Guard (is_up c.short)
+value_in c argument.Nanoseconds = value.Short c.guard
+value_in c argument.Streams = value.Octet c.streams
+value_in c argument.By = value.Long c.by
+value_in c argument.Tid = value.Octet c.tid
+value_in c argument.Flow = value.Long c.flow
+value_in c argument.Length = value.Short c.length
+value_in c argument.Class = value.Class (class_among all_classes c.class)
+value_in c argument.Exchange = value.Exchange c.exchange
+value_in c argument.Index = value.Short c.index
+value_in c argument.Heard = value.Heard (is_up c.heard)
+value_in c argument.Measured = value.Air
+value_in c argument.Air = value.Long c.air
+
+-- the fields, where they show this value of an argument
+abbrev pub with_argument : CallNumbers → Argument → Value → CallNumbers
+with_argument c argument.Station (value.Short n) = record c { station = n }
+with_argument c argument.Window (value.Short n) = record c { window = n }
+with_argument c argument.Start (value.Short n) = record c { start = n }
+with_argument c argument.Exponent (value.Octet n) = record c { exponent = n }
+with_argument c argument.Weight (value.Octet n) = record c { weight = n }
+with_argument c argument.Format (value.Format f) = record c { form = format_number f }
+with_argument c argument.Mcs (value.Octet n) = record c { mcs = n }
+with_argument c argument.Mhz (value.Octet n) = record c { mhz = n }
+with_argument c argument.Guard (value.Guard short) = record c { short = flag_of short }
+with_argument c argument.Nanoseconds (value.Short n) = record c { guard = n }
+with_argument c argument.Streams (value.Octet n) = record c { streams = n }
+with_argument c argument.By (value.Long n) = record c { by = n }
+with_argument c argument.Tid (value.Octet n) = record c { tid = n }
+with_argument c argument.Flow (value.Long n) = record c { flow = n }
+with_argument c argument.Length (value.Short n) = record c { length = n }
+with_argument c argument.Class (value.Class class) = record c { class = class_number class }
+with_argument c argument.Exchange (value.Exchange n) = record c { exchange = n }
+with_argument c argument.Index (value.Short n) = record c { index = n }
+with_argument c argument.Heard (value.Heard heard) = record c { heard = flag_of heard }
+with_argument c argument.Air (value.Long n) = record c { air = n }
+with_argument c _ _ = c
+
+-- the same of several arguments
+abbrev pub with_arguments : CallNumbers → List Argument → List Value → CallNumbers
+with_arguments c (a ∷ arguments) (v ∷ values) = with_arguments (with_argument c a v) arguments values
+with_arguments c _ _ = c
+
+-- ---- the fields of a call
+
+-- The fields of a call: those of its arguments, and the number of its form. A Done that names the airtime 0
 -- has those of one that names none: no numbers show it, so no history of a cell in C has it.
 abbrev pub numbers_of_call : Note → CallNumbers
-numbers_of_call (Enqueue station tid flow len) =
-    record blank_call { kind = 4; station = station; tid = tid; flow = flow; length = len }
-numbers_of_call (Asked (Join station window start exponent weight)) =
-    record blank_call {
-      kind = 0;
-      station = station;
-      window = window;
-      start = start;
-      exponent = exponent;
-      weight = weight;
+numbers_of_call note =
+    record (with_arguments blank_call (arguments_of (note_form note)) (note_values note)) {
+      kind = form_number (note_form note);
     }
-numbers_of_call (Asked (Leave station)) = record blank_call { kind = 1; station = station }
-numbers_of_call (Asked (Rate station rate)) = numbers_of_rate station rate
-numbers_of_call (Asked (Tick by)) = record blank_call { kind = 3; by = by }
-numbers_of_call (Asked (Pull class)) = record blank_call { kind = 5; class = class_number class }
-numbers_of_call (Asked (Arrive exchange index)) =
-    record blank_call { kind = 6; exchange = exchange; index = index }
-numbers_of_call (Asked (Answer exchange)) = record blank_call { kind = 7; exchange = exchange }
-numbers_of_call (Asked (Done exchange heard air)) =
-    record blank_call { kind = 8; exchange = exchange; heard = flag_of heard; air = air_number air }
-numbers_of_call (Asked (Sleep station)) = record blank_call { kind = 9; station = station }
-numbers_of_call (Asked (Wake station)) = record blank_call { kind = 10; station = station }
-numbers_of_call (Asked (Poll station)) = record blank_call { kind = 11; station = station }
-numbers_of_call (Asked (Rx station class air)) =
-    record blank_call { kind = 12; station = station; class = class_number class; air = air }
-numbers_of_call (Asked Reap) = record blank_call { kind = 13 }
 
--- the rate that the fields show, where the form is that of a format
-abbrev pub rate_shown : CallNumbers → Option AskedRate
-rate_shown c =
-    if c.form == 0 then Some (Ht c.mcs c.mhz (is_up c.short))
-    else (if c.form == 1 then Some (Vht c.mcs c.mhz (is_up c.short) c.streams)
-    else (if c.form == 2 then Some (He c.mcs c.mhz c.guard c.streams)
+-- ---- the call of fields
+
+-- the form of a rate by the number of its format
+abbrev pub form_of_format : ℕ → Option CallForm
+form_of_format n =
+    if n == 0 then Some form.Rate
+    else (if n == 1 then Some form.RateVht
+    else (if n == 2 then Some form.RateHe
     else None))
+
+-- the form of a call that the fields show: a rate's by the format, an end's by whether an airtime is named
+abbrev pub form_of_fields : CallNumbers → CallForm → Option CallForm
+form_of_fields c form.Rate = form_of_format c.form
+form_of_fields c form.Done = Some (form_of_end (named_air c.air))
+form_of_fields c call = Some call
+
+-- the form that the fields show
+abbrev pub form_shown : CallNumbers → Option CallForm
+form_shown c = option_and_then (form_of_fields c) (call_numbered c.kind)
+
+-- the call of a form, with the values that the fields show
+abbrev pub note_in : CallNumbers → CallForm → Option Note
+note_in c f = note_made f (map (value_in c) (arguments_of f))
+
+-- a call that brings no frame and takes none
+abbrev pub without_frame : Note → Option Ask
+without_frame (Enqueue station tid flow len) = None
+without_frame (Asked Reap) = None
+without_frame (Asked ask) = Some ask
 
 -- the call that the fields show, where it brings no frame and takes none
 unfoldable pub asked : CallNumbers → Option Ask
-asked c =
-    if c.kind == 0 then Some (Join c.station c.window c.start c.exponent c.weight)
-    else (if c.kind == 1 then Some (Leave c.station)
-    else (if c.kind == 2 then option_map (Rate c.station) (rate_shown c)
-    else (if c.kind == 3 then Some (Tick c.by)
-    else (if c.kind == 5 then Some (Pull (class_among all_classes c.class))
-    else (if c.kind == 6 then Some (Arrive c.exchange c.index)
-    else (if c.kind == 7 then Some (Answer c.exchange)
-    else (if c.kind == 8 then Some (Done c.exchange (is_up c.heard) (named_air c.air))
-    else (if c.kind == 9 then Some (Sleep c.station)
-    else (if c.kind == 10 then Some (Wake c.station)
-    else (if c.kind == 11 then Some (Poll c.station)
-    else (if c.kind == 12 then Some (Rx c.station (class_among all_classes c.class) c.air)
-    else None)))))))))))
+asked c = option_and_then without_frame (option_and_then (note_in c) (form_shown c))

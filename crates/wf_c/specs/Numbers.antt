@@ -33,11 +33,6 @@ flag_of true = 1
 abbrev pub named_air : ℕ → Option ℕ
 named_air n = if n == 0 then None else Some n
 
--- the number of an airtime that may be named
-abbrev pub air_number : Option ℕ → ℕ
-air_number None = 0
-air_number (Some air) = air
-
 -- ---- answers
 
 -- nothing is shown

@@ -1,15 +1,15 @@
 //! A call of a cell, as numbers in a struct of the caller's.
 
-ghost use Rattle.std.specs.Prelude.{◌≡◌, option_map};
-ghost use Rattle.wf_frame.specs.declared.notes.Ask.TheVariants.{Done, Join, Rate, Rx};
-ghost use Rattle.wf_frame.specs.declared.notes.Note.TheVariants.{Asked};
-ghost use Rattle.wf_frame.specs.Calls.{form_number, note_form};
-ghost use Rattle.wf_c.specs.CallNumbers.{asked, blank_call, numbers_of_call, numbers_of_rate, rate_shown};
+ghost use Rattle.std.specs.Prelude.{◌≡◌, length, map};
+ghost use Rattle.wf_frame.specs.Calls.{arguments_of, form_number, form_of_end, note_form};
+ghost use Rattle.wf_c.specs.CallNumbers.{asked, blank_call, form_shown, format_number, format_shown, note_in, numbers_of_call, form_of_format, value_in, with_argument, with_arguments, without_frame};
+ghost use Rattle.wf_c.specs.Numbers.{named_air as air_named};
 
 use crate::asks::class_of_number;
 use crate::exchanges::named_air;
 use crate::reply::number_of_class;
-use wf_frame::{Ask, AskedRate, Class, Note};
+use arrayvec::ArrayVec;
+use wf_frame::{Argument, Ask, CallForm, Note, RateFormat, Value};
 
 /// A call. `kind` says which one, and which other fields mean something; those are 0 that mean nothing.
 #[repr(C)]
@@ -60,7 +60,7 @@ pub struct CallNumbers {
     pub heard: u8,
 }
 
-/// The call of no kind of its own.
+// Nothing is shown.
 const BLANK: CallNumbers = CallNumbers {
     exchange: 0,
     flow: 0,
@@ -85,265 +85,178 @@ const BLANK: CallNumbers = CallNumbers {
     heard: 0,
 };
 
-// A call of a kind that says no more.
-fn of_kind(kind: u8) -> CallNumbers
-    ensures { result ≡ record blank_call { kind = kind } }
+// The number of a format; 0 is that of HT, which no argument names.
+fn number_of_format(format: RateFormat) -> u8
+    ensures { result ≡ format_number format }
 {
-    CallNumbers { kind, ..BLANK }
+    match format {
+        RateFormat::Vht => 1,
+        RateFormat::He => 2,
+    }
+}
+
+// The format of a number.
+fn format_of_number(number: u8) -> RateFormat
+    ensures { result ≡ format_shown number }
+{
+    if number == 1 {
+        RateFormat::Vht
+    } else {
+        RateFormat::He
+    }
+}
+
+// The form of a rate by the number of its format.
+fn form_of_rate(number: u8) -> Option<CallForm>
+    ensures { result ≡ form_of_format number }
+{
+    match number {
+        0 => Some(CallForm::Rate),
+        1 => Some(CallForm::RateVht),
+        2 => Some(CallForm::RateHe),
+        _ => None,
+    }
+}
+
+// The form of an end by the number of the airtime that it names, if any.
+fn form_of_end(air: u32) -> CallForm
+    ensures { result ≡ form_of_end (air_named air) }
+{
+    match named_air(air) {
+        None => CallForm::Done,
+        Some(_) => CallForm::DoneAir,
+    }
 }
 
 impl CallNumbers {
+    // The value of an argument that the numbers show.
+    fn value(&self, argument: Argument) -> Value
+        ensures { result ≡ value_in self.now argument }
+    {
+        match argument {
+            Argument::Station => Value::Short(self.station),
+            Argument::Window => Value::Short(self.window),
+            Argument::Start => Value::Short(self.start),
+            Argument::Exponent => Value::Octet(self.exponent),
+            Argument::Weight => Value::Octet(self.weight),
+            Argument::Format => Value::Format(format_of_number(self.form)),
+            Argument::Mcs => Value::Octet(self.mcs),
+            Argument::Mhz => Value::Octet(self.mhz),
+            Argument::Guard => Value::Guard(self.short != 0),
+            Argument::Nanoseconds => Value::Short(self.guard),
+            Argument::Streams => Value::Octet(self.streams),
+            Argument::By => Value::Long(self.by),
+            Argument::Tid => Value::Octet(self.tid),
+            Argument::Flow => Value::Long(self.flow),
+            Argument::Length => Value::Short(self.length),
+            Argument::Class => Value::Class(class_of_number(self.class)),
+            Argument::Exchange => Value::Exchange(self.exchange),
+            Argument::Index => Value::Short(self.index),
+            Argument::Heard => Value::Heard(self.heard != 0),
+            Argument::Measured => Value::Air,
+            Argument::Air => Value::Long(self.air),
+        }
+    }
+
+    // Shows a value of an argument.
+    fn show(&mut self, argument: Argument, value: Value)
+        ensures { self.new ≡ with_argument self.old argument value }
+    {
+        match (argument, value) {
+            (Argument::Station, Value::Short(number)) => self.station = number,
+            (Argument::Window, Value::Short(number)) => self.window = number,
+            (Argument::Start, Value::Short(number)) => self.start = number,
+            (Argument::Exponent, Value::Octet(number)) => self.exponent = number,
+            (Argument::Weight, Value::Octet(number)) => self.weight = number,
+            (Argument::Format, Value::Format(format)) => self.form = number_of_format(format),
+            (Argument::Mcs, Value::Octet(number)) => self.mcs = number,
+            (Argument::Mhz, Value::Octet(number)) => self.mhz = number,
+            (Argument::Guard, Value::Guard(short)) => self.short = u8::from(short),
+            (Argument::Nanoseconds, Value::Short(number)) => self.guard = number,
+            (Argument::Streams, Value::Octet(number)) => self.streams = number,
+            (Argument::By, Value::Long(number)) => self.by = number,
+            (Argument::Tid, Value::Octet(number)) => self.tid = number,
+            (Argument::Flow, Value::Long(number)) => self.flow = number,
+            (Argument::Length, Value::Short(number)) => self.length = number,
+            (Argument::Class, Value::Class(class)) => self.class = number_of_class(class),
+            (Argument::Exchange, Value::Exchange(number)) => self.exchange = number,
+            (Argument::Index, Value::Short(number)) => self.index = number,
+            (Argument::Heard, Value::Heard(heard)) => self.heard = u8::from(heard),
+            (Argument::Air, Value::Long(number)) => self.air = number,
+            _ => {}
+        }
+    }
+
+    // The form that the numbers show.
+    fn form(&self) -> Option<CallForm>
+        ensures { result ≡ form_shown self.now }
+    {
+        match CallForm::numbered(self.kind)? {
+            CallForm::Rate => form_of_rate(self.form),
+            CallForm::Done => Some(form_of_end(self.air)),
+            call => Some(call),
+        }
+    }
+
+    // The values of a form's arguments that the numbers show.
+    fn values(&self, form: CallForm) -> ArrayVec<Value, 6>
+        ensures { result.items ≡ map (value_in self.now) (arguments_of form) }
+    {
+        let mut values = ArrayVec::new();
+        for argument in form.arguments() {
+            values.push(self.value(*argument));
+        }
+        values
+    }
+
+    // The call of a form, with the values that the numbers show.
+    fn note(&self, form: CallForm) -> Option<Note>
+        ensures { result ≡ note_in self.now form }
+    {
+        Note::of_values(form, self.values(form).as_slice())
+    }
+
     // The call that the numbers show, where it brings no frame and takes none.
     #[tactic(auto, unfolding(crate::specs::CallNumbers::asked))]
     pub(crate) fn asked(&self) -> Option<Ask>
         ensures { result ≡ asked self.now }
     {
-        match self.kind {
-            0 => Some(self.join()),
-            1 => Some(Ask::Leave {
-                station: self.station,
-            }),
-            2 => self.rate(),
-            3 => Some(Ask::Tick { by: self.by }),
-            5 => Some(Ask::Pull {
-                class: class_of_number(self.class),
-            }),
-            6 => Some(Ask::Arrive {
-                exchange: self.exchange,
-                index: self.index,
-            }),
-            7 => Some(Ask::Answer {
-                exchange: self.exchange,
-            }),
-            8 => Some(Ask::Done {
-                exchange: self.exchange,
-                heard: self.heard != 0,
-                air: named_air(self.air),
-            }),
-            9 => Some(Ask::Sleep {
-                station: self.station,
-            }),
-            10 => Some(Ask::Wake {
-                station: self.station,
-            }),
-            11 => Some(Ask::Poll {
-                station: self.station,
-            }),
-            12 => Some(Ask::Rx {
-                station: self.station,
-                class: class_of_number(self.class),
-                air: self.air,
-            }),
-            _ => None,
-        }
+        let form = self.form()?;
+        without_frame(self.note(form)?)
     }
 
-    // A station joins.
-    fn join(&self) -> Ask
-        ensures { result ≡ Join self.now.station self.now.window self.now.start self.now.exponent
-            self.now.weight }
-    {
-        Ask::Join {
-            station: self.station,
-            window: self.window,
-            start: self.start,
-            exponent: self.exponent,
-            weight: self.weight,
-        }
-    }
-
-    // A station is sent to at another rate, where the numbers show one.
-    fn rate(&self) -> Option<Ask>
-        ensures { result ≡ option_map (Rate self.now.station) (rate_shown self.now) }
-    {
-        let rate = self.rate_shown()?;
-        Some(Ask::Rate {
-            station: self.station,
-            rate,
-        })
-    }
-
-    // The rate that the numbers show, where the form is that of a format.
-    fn rate_shown(&self) -> Option<AskedRate>
-        ensures { result ≡ rate_shown self.now }
-    {
-        let (mcs, mhz, streams) = (self.mcs, self.mhz, self.streams);
-        let short = self.short != 0;
-        match self.form {
-            0 => Some(AskedRate::Ht { mcs, mhz, short }),
-            1 => Some(AskedRate::Vht {
-                mcs,
-                mhz,
-                short,
-                streams,
-            }),
-            2 => Some(AskedRate::He {
-                mcs,
-                mhz,
-                guard: self.guard,
-                streams,
-            }),
-            _ => None,
-        }
-    }
-
-    // The numbers of a call: its kind is its number in the table of calls.
-    #[tactic(auto, using(crate::proofs::CallKinds::kind_of_call))]
+    // The numbers of a call: those of its arguments, and its number in the table of calls.
     pub(crate) fn of(note: Note) -> CallNumbers
         ensures fields { result ≡ numbers_of_call note }
         ensures kind { result.kind ≡ form_number (note_form note) }
     {
-        match note {
-            Note::Enqueue {
-                station,
-                tid,
-                flow,
-                len,
-            } => CallNumbers {
-                station,
-                tid,
-                flow,
-                length: len,
-                ..of_kind(4)
-            },
-            Note::Asked(ask) => CallNumbers::of_ask(ask),
-        }
-    }
-
-    // The numbers of a call that brings no frame.
-    fn of_ask(ask: Ask) -> CallNumbers
-        ensures { result ≡ numbers_of_call (Asked ask) }
-    {
-        match ask {
-            Ask::Join {
-                station,
-                window,
-                start,
-                exponent,
-                weight,
-            } => of_join(station, window, start, exponent, weight),
-            Ask::Leave { station } => of_station(1, station),
-            Ask::Rate { station, rate } => of_rate(station, rate),
-            Ask::Tick { by } => CallNumbers { by, ..of_kind(3) },
-            Ask::Pull { class } => CallNumbers {
-                class: number_of_class(class),
-                ..of_kind(5)
-            },
-            Ask::Arrive { exchange, index } => CallNumbers {
-                index,
-                ..of_exchange(6, exchange)
-            },
-            Ask::Answer { exchange } => of_exchange(7, exchange),
-            Ask::Done {
-                exchange,
-                heard,
-                air,
-            } => of_end(exchange, heard, air),
-            Ask::Sleep { station } => of_station(9, station),
-            Ask::Wake { station } => of_station(10, station),
-            Ask::Poll { station } => of_station(11, station),
-            Ask::Rx {
-                station,
-                class,
-                air,
-            } => of_airtime(station, class, air),
-            Ask::Reap => of_kind(13),
+        let form = note.form();
+        let values = note.values();
+        CallNumbers {
+            kind: form.number(),
+            ..of_values(form.arguments(), values.as_slice())
         }
     }
 }
 
-// A station joins.
-fn of_join(station: u16, window: u16, start: u16, exponent: u8, weight: u8) -> CallNumbers
-    ensures { result ≡ numbers_of_call (Asked (Join station window start exponent weight)) }
+// A call that brings no frame and takes none.
+fn without_frame(note: Note) -> Option<Ask>
+    ensures { result ≡ without_frame note }
 {
-    CallNumbers {
-        window,
-        start,
-        exponent,
-        weight,
-        ..of_station(0, station)
+    match note {
+        Note::Enqueue { .. } | Note::Asked(Ask::Reap) => None,
+        Note::Asked(ask) => Some(ask),
     }
 }
 
-// A station is sent to at another rate.
-fn of_rate(station: u16, rate: AskedRate) -> CallNumbers
-    ensures { result ≡ numbers_of_rate station rate }
+// The numbers that show these values of arguments, of a call of no kind.
+fn of_values(arguments: &[Argument], values: &[Value]) -> CallNumbers
+    requires same { length arguments.now ≡ length values.now }
+    ensures { result ≡ with_arguments blank_call arguments.now values.now }
 {
-    match rate {
-        AskedRate::Ht { mcs, mhz, short } => CallNumbers {
-            form: 0,
-            mcs,
-            mhz,
-            short: u8::from(short),
-            ..of_station(2, station)
-        },
-        AskedRate::Vht {
-            mcs,
-            mhz,
-            short,
-            streams,
-        } => CallNumbers {
-            form: 1,
-            mcs,
-            mhz,
-            short: u8::from(short),
-            streams,
-            ..of_station(2, station)
-        },
-        AskedRate::He {
-            mcs,
-            mhz,
-            guard,
-            streams,
-        } => CallNumbers {
-            form: 2,
-            mcs,
-            mhz,
-            guard,
-            streams,
-            ..of_station(2, station)
-        },
+    let mut numbers = BLANK;
+    for i in 0..values.len() {
+        numbers.show(arguments[i], values[i]);
     }
-}
-
-// An exchange ends.
-fn of_end(exchange: u64, heard: bool, air: Option<u32>) -> CallNumbers
-    ensures { result ≡ numbers_of_call (Asked (Done exchange heard air)) }
-{
-    CallNumbers {
-        heard: u8::from(heard),
-        air: air.unwrap_or(0),
-        ..of_exchange(8, exchange)
-    }
-}
-
-// A station used airtime to send.
-fn of_airtime(station: u16, class: Class, air: u32) -> CallNumbers
-    ensures { result ≡ numbers_of_call (Asked (Rx station class air)) }
-{
-    CallNumbers {
-        class: number_of_class(class),
-        air,
-        ..of_station(12, station)
-    }
-}
-
-// A call of a kind that names a station.
-fn of_station(kind: u8, station: u16) -> CallNumbers
-    ensures { result ≡ record blank_call { kind = kind; station = station } }
-{
-    CallNumbers {
-        station,
-        ..of_kind(kind)
-    }
-}
-
-// A call of a kind that names an exchange.
-fn of_exchange(kind: u8, exchange: u64) -> CallNumbers
-    ensures { result ≡ record blank_call { kind = kind; exchange = exchange } }
-{
-    CallNumbers {
-        exchange,
-        ..of_kind(kind)
-    }
+    numbers
 }

@@ -1,0 +1,170 @@
+-- Worked rows: the fields of a call of each form, and the call of fields of each kind.
+use Rattle.std.proofs.Common.{◌≡◌, ℕ, ◌<◌, nat_eq, Bool, false, refl, arith}
+use Rattle.std.specs.Prelude.{Some, None}
+use Rattle.std.proofs.lemmas.Bool.Decides.{nat_tests}
+use Rattle.wf_frame.specs.Calls.{call_numbered}
+use Rattle.wf_frame.specs.Classes.{all_classes, class_among, class_number}
+use Rattle.wf_frame.specs.declared.classes.Class.{Class}
+use Rattle.wf_frame.specs.declared.notes.Note.TheVariants.{Enqueue, Asked}
+use Rattle.wf_frame.specs.declared.notes.Ask.TheVariants.{Join, Leave, Rate, Tick, Pull, Arrive, Answer, Done, Sleep, Wake, Poll, Rx, Reap}
+use Rattle.wf_frame.specs.declared.notes.AskedRate.TheVariants.{Ht, Vht, He}
+use Rattle.wf_c.specs.CallNumbers.{blank_call, numbers_of_call, asked}
+use Rattle.wf_c.specs.Numbers.{flag_of, is_up}
+use Rattle.wf_c.specs.declared.cell.calls.CallNumbers.{CallNumbers}
+
+-- ---- the fields of a call
+
+pub fields_of_join : (station window start exponent weight : ℕ) →
+    numbers_of_call (Asked (Join station window start exponent weight))
+    ≡ record blank_call {
+      kind = 0;
+      station = station;
+      window = window;
+      start = start;
+      exponent = exponent;
+      weight = weight;
+    }
+fields_of_join station window start exponent weight = refl
+
+pub fields_of_leave : (station : ℕ) →
+    numbers_of_call (Asked (Leave station)) ≡ record blank_call { kind = 1; station = station }
+fields_of_leave station = refl
+
+pub fields_of_ht : (station mcs mhz : ℕ) (short : Bool) →
+    numbers_of_call (Asked (Rate station (Ht mcs mhz short)))
+    ≡ record blank_call { kind = 2; station = station; form = 0; mcs = mcs; mhz = mhz; short = flag_of short }
+fields_of_ht station mcs mhz short = refl
+
+pub fields_of_vht : (station mcs mhz : ℕ) (short : Bool) (streams : ℕ) →
+    numbers_of_call (Asked (Rate station (Vht mcs mhz short streams)))
+    ≡ record blank_call {
+      kind = 2;
+      station = station;
+      form = 1;
+      mcs = mcs;
+      mhz = mhz;
+      short = flag_of short;
+      streams = streams;
+    }
+fields_of_vht station mcs mhz short streams = refl
+
+pub fields_of_he : (station mcs mhz guard streams : ℕ) →
+    numbers_of_call (Asked (Rate station (He mcs mhz guard streams)))
+    ≡ record blank_call {
+      kind = 2;
+      station = station;
+      form = 2;
+      mcs = mcs;
+      mhz = mhz;
+      guard = guard;
+      streams = streams;
+    }
+fields_of_he station mcs mhz guard streams = refl
+
+pub fields_of_tick : (by : ℕ) → numbers_of_call (Asked (Tick by)) ≡ record blank_call { kind = 3; by = by }
+fields_of_tick by = refl
+
+pub fields_of_enqueue : (station tid flow len : ℕ) →
+    numbers_of_call (Enqueue station tid flow len)
+    ≡ record blank_call { kind = 4; station = station; tid = tid; flow = flow; length = len }
+fields_of_enqueue station tid flow len = refl
+
+pub fields_of_pull : (class : Class) →
+    numbers_of_call (Asked (Pull class)) ≡ record blank_call { kind = 5; class = class_number class }
+fields_of_pull class = refl
+
+pub fields_of_arrive : (exchange index : ℕ) →
+    numbers_of_call (Asked (Arrive exchange index))
+    ≡ record blank_call { kind = 6; exchange = exchange; index = index }
+fields_of_arrive exchange index = refl
+
+pub fields_of_answer : (exchange : ℕ) →
+    numbers_of_call (Asked (Answer exchange)) ≡ record blank_call { kind = 7; exchange = exchange }
+fields_of_answer exchange = refl
+
+pub fields_of_done : (exchange : ℕ) (heard : Bool) →
+    numbers_of_call (Asked (Done exchange heard None))
+    ≡ record blank_call { kind = 8; exchange = exchange; heard = flag_of heard; air = 0 }
+fields_of_done exchange heard = refl
+
+pub fields_of_done_air : (exchange : ℕ) (heard : Bool) (air : ℕ) →
+    numbers_of_call (Asked (Done exchange heard (Some air)))
+    ≡ record blank_call { kind = 8; exchange = exchange; heard = flag_of heard; air = air }
+fields_of_done_air exchange heard air = refl
+
+pub fields_of_sleep : (station : ℕ) →
+    numbers_of_call (Asked (Sleep station)) ≡ record blank_call { kind = 9; station = station }
+fields_of_sleep station = refl
+
+pub fields_of_wake : (station : ℕ) →
+    numbers_of_call (Asked (Wake station)) ≡ record blank_call { kind = 10; station = station }
+fields_of_wake station = refl
+
+pub fields_of_poll : (station : ℕ) →
+    numbers_of_call (Asked (Poll station)) ≡ record blank_call { kind = 11; station = station }
+fields_of_poll station = refl
+
+pub fields_of_rx : (station : ℕ) (class : Class) (air : ℕ) →
+    numbers_of_call (Asked (Rx station class air))
+    ≡ record blank_call { kind = 12; station = station; class = class_number class; air = air }
+fields_of_rx station class air = refl
+
+pub fields_of_reap : numbers_of_call (Asked Reap) ≡ record blank_call { kind = 13 }
+fields_of_reap = refl
+
+-- ---- the call of fields
+
+-- what fields show by their kind, and some by what another says
+pub record Rows (c : CallNumbers) : Type 0 where
+  pub join : asked (record c { kind = 0 }) ≡ Some (Join c.station c.window c.start c.exponent c.weight)
+  pub leave : asked (record c { kind = 1 }) ≡ Some (Leave c.station)
+  pub ht : asked (record c { kind = 2; form = 0 }) ≡ Some (Rate c.station (Ht c.mcs c.mhz (is_up c.short)))
+  pub vht : asked (record c { kind = 2; form = 1 })
+      ≡ Some (Rate c.station (Vht c.mcs c.mhz (is_up c.short) c.streams))
+  pub he : asked (record c { kind = 2; form = 2 }) ≡ Some (Rate c.station (He c.mcs c.mhz c.guard c.streams))
+  pub no_rate : (n : ℕ) → 2 < n → asked (record c { kind = 2; form = n }) ≡ None
+  pub tick : asked (record c { kind = 3 }) ≡ Some (Tick c.by)
+  pub enqueue : asked (record c { kind = 4 }) ≡ None
+  pub pull : asked (record c { kind = 5 }) ≡ Some (Pull (class_among all_classes c.class))
+  pub arrive : asked (record c { kind = 6 }) ≡ Some (Arrive c.exchange c.index)
+  pub answer : asked (record c { kind = 7 }) ≡ Some (Answer c.exchange)
+  pub done : asked (record c { kind = 8; air = 0 }) ≡ Some (Done c.exchange (is_up c.heard) None)
+  pub done_air : (n : ℕ) → 0 < n →
+      asked (record c { kind = 8; air = n }) ≡ Some (Done c.exchange (is_up c.heard) (Some n))
+  pub sleep : asked (record c { kind = 9 }) ≡ Some (Sleep c.station)
+  pub wake : asked (record c { kind = 10 }) ≡ Some (Wake c.station)
+  pub poll : asked (record c { kind = 11 }) ≡ Some (Poll c.station)
+  pub rx : asked (record c { kind = 12 }) ≡ Some (Rx c.station (class_among all_classes c.class) c.air)
+  pub reap : asked (record c { kind = 13 }) ≡ None
+  pub no_call : (n : ℕ) → 13 < n → asked (record c { kind = n }) ≡ None
+
+above : (n k : ℕ) → k < n → nat_eq n k ≡ false
+above n k less = grind (arith, nat_tests)
+
+none_numbered : (n : ℕ) → 13 < n → call_numbered n ≡ None
+none_numbered n less = grind (arith, nat_tests)
+
+pub rows : (c : CallNumbers) → Rows c
+unfolding asked
+rows c = record {
+  join = refl;
+  leave = refl;
+  ht = refl;
+  vht = refl;
+  he = refl;
+  no_rate = λ n less.
+      rw (above n 0 (omega (arith, less)), above n 1 (omega (arith, less)), above n 2 less) refl;
+  tick = refl;
+  enqueue = refl;
+  pull = refl;
+  arrive = refl;
+  answer = refl;
+  done = refl;
+  done_air = λ n some. rw (above n 0 some) refl;
+  sleep = refl;
+  wake = refl;
+  poll = refl;
+  rx = refl;
+  reap = refl;
+  no_call = λ n less. rw (none_numbered n less) refl;
+}
