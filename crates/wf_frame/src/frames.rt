@@ -15,11 +15,13 @@ pub const GREATEST_BODY: u16 = 2304;
 /// The greatest number of attempts that a frame counts, above every number that the settings allow.
 const GREATEST_ATTEMPTS: u8 = 255;
 
+const MADE_UP_SOURCE: [u8; 6] = [0x02, 0, 0, 0x02, 0, 0];
+
 /// The source that a frame has as it is made, `02 00 00 02 00 00`.
 pub fn source_address() -> [u8; 6]
     ensures { result ≡ made_up_source }
 {
-    [0x02, 0, 0, 0x02, 0, 0]
+    MADE_UP_SOURCE
 }
 
 /// A frame: its body of 1 to 2304 octets, where it comes from and goes, what its owner finds it again by, and
@@ -82,7 +84,7 @@ impl Frame {
             station,
             tid,
             flow,
-            source: source_address(),
+            source: MADE_UP_SOURCE,
             tag: 0,
             attempts: 0,
             fate: Fate::Held,
@@ -113,7 +115,7 @@ impl Frame {
             station,
             tid,
             flow,
-            source: source_address(),
+            source: MADE_UP_SOURCE,
             tag: 0,
             attempts: 0,
             fate: Fate::Held,

@@ -34,4 +34,4 @@ returns c =
     (omega (arith, c.loop-octet-test.false, c.loop-octet.auto.octet-items)))
     ∙ c.loop-octet.invariant.1
     ∙ ap (λ (k : ℕ). sample_body c.args.flow k) ended in
-    rw (c.source_address.ensures, filled) refl
+    rw filled refl
