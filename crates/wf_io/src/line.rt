@@ -66,6 +66,10 @@ impl Line {
         ensures digits { self.new ≡ self.old ++ decimal number }
         ensures len { length self.new ≤ length self.old + 20 }
     {
+        if number < 10 {
+            self.push(b'0' + number as u8);
+            return;
+        }
         let mut digits = Buffer::new();
         self.push_all(digits.format(number).as_bytes());
     }
