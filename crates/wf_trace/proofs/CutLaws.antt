@@ -1,6 +1,6 @@
 -- What was taken from a source while no piece came, and what comes of it.
 use Rattle.std.proofs.Common.{◌≡◌, ℕ, ◌+◌, List, [], ◌++◌, Bool, true, false, refl, sym, ◌∙◌, ap, subst, append_assoc}
-use Rattle.std.specs.Prelude.{Option, Some, None, Ok, Err, IsSome}
+use Rattle.std.specs.Prelude.{Option, Some, None, Ok, Err, IsSome, is_some}
 use Rattle.std.specs.Io.KnownBytes.{prepend_known}
 use Rattle.wf_io.specs.declared.source.Failed.{Failed}
 use Rattle.wf_trace.specs.declared.fault.End.{End}
@@ -12,7 +12,7 @@ use Rattle.wf_trace.specs.Scanning.{lines_behind, begins_word}
 use Rattle.wf_trace.specs.Words.{words, skipped}
 use Rattle.wf_trace.specs.Cutting.{Cutting, TakesPieces, Fits, will_read as will_cut}
 use Rattle.wf_trace.specs.Pieces.{Pieces, ending_piece, pieces_from, pieces}
-use Rattle.wf_trace.specs.Numbering.{Numbering, Cuts, GivesPiece, pieces_left, pieces_left_of, IsLastPiece}
+use Rattle.wf_trace.specs.Numbering.{Numbering, Cuts, GivesPiece, pieces_left, pieces_left_of, will_read_of, IsLastPiece}
 use Rattle.wf_trace.proofs.Parted.{lines_parted}
 use Rattle.wf_trace.proofs.WordLaws.{says_something}
 use Rattle.wf_trace.proofs.Taking.{prepend_known-nil, prepend_known-append}
@@ -30,6 +30,37 @@ kept_none c left = record { octets = []; taken = prepend_known-nil left; same = 
 -- a cutter that is under way
 abbrev pub at : Cutting → ℕ → Numbering
 at cutter line = record { cutter = cutter; line = line; ended = None }
+
+-- whether a call reads, where the end was not told yet
+pub reads_open : (p : Option Piece) (cutter : Cutting) → false ≡ is_some p →
+    will_read_of p cutter ≡ will_cut cutter
+reads_open None cutter none = refl
+reads_open (Some piece) cutter none = absurd (cc)
+
+-- a call of the cutter of lines that left the rest as it was
+pub at_now : (now new : Numbering) → now.ended ≡ None → new ≡ record now { cutter = new.cutter } →
+    new ≡ at new.cutter now.line
+at_now now new open_ stays = stays ∙ ap (λ (e : Option Piece). let n : Numbering =
+    record { cutter = new.cutter; line = now.line; ended = e } in n) open_
+
+-- and the line that it cut was counted
+pub counted : (now new seen : Numbering) → now.ended ≡ None → new ≡ record now { cutter = new.cutter } →
+    seen ≡ new → record seen { line = seen.line + 1 } ≡ at new.cutter (now.line + 1)
+counted now new seen open_ stays is = ap (λ (k : Numbering). let n : Numbering =
+    record { cutter = k.cutter; line = k.line + 1; ended = k.ended } in n) (is ∙ at_now now new open_ stays)
+
+-- and the end that it found was told
+pub told : (now new after : Numbering) (piece : Piece) → new ≡ record now { cutter = new.cutter } →
+    after ≡ record new { ended = Some piece } →
+    after ≡ record { cutter = new.cutter; line = now.line; ended = Some piece }
+told now new after piece stays is = is ∙ ap (λ (k : Numbering). let n : Numbering =
+    record { cutter = k.cutter; line = k.line; ended = Some piece } in n) stays
+
+-- what was kept by a cutter that is under way
+pub kept_open : (first now : Numbering) (left left_now : Option (List ℕ)) → now.ended ≡ None →
+    Kept first now left left_now → Kept first (at now.cutter now.line) left left_now
+kept_open first now left left_now open_ kept = subst (λ (e : Option Piece). let n : Numbering =
+    record { cutter = now.cutter; line = now.line; ended = e } in Kept first n left left_now) open_ kept
 
 -- what may be spoken of after a call could be spoken of before it
 pub fits_back : (old new : Option End) (left_now left_new : Option (List ℕ)) (octets : List ℕ) (closed : Bool)

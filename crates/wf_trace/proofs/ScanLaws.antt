@@ -10,8 +10,8 @@ use Rattle.std.proofs.Math.Seq.{take-add}
 use Rattle.wf_trace.specs.declared.fault.FaultKind.{FaultKind}
 use Rattle.wf_trace.specs.declared.fault.FaultKind.TheVariants.{TooBig, LongLine}
 use Rattle.wf_trace.specs.declared.fault.End.TheVariants.{Flaw}
-use Rattle.wf_trace.specs.declared.cutter.Found.{Found}
-use Rattle.wf_trace.specs.declared.cutter.Found.TheVariants as found
+use Rattle.wf_trace.specs.declared.cut.Found.{Found}
+use Rattle.wf_trace.specs.declared.cut.Found.TheVariants as found
 use Rattle.wf_trace.specs.Lines.{Texts, longest_trace, longest_line, is_printable, flaw, before_texts, texts_of}
 use Rattle.wf_trace.specs.Scanning.{Scanning, Finds, Keeps, LineEndsAt, lines_behind, has_end, begins_word}
 

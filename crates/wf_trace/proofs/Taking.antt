@@ -1,5 +1,5 @@
 -- What was taken from a source while no line ended, and what comes of it.
-use Rattle.std.proofs.Common.{◌≡◌, ◌≢◌, ◌==◌, ◌&&◌, ◌||◌, not, nat_eq, arith, ℕ, length, List, [], ◌∷◌, ◌++◌, Bool, true, false, refl, sym, ◌∙◌, ap, subst, append_assoc}
+use Rattle.std.proofs.Common.{◌≡◌, ◌≢◌, ◌==◌, ◌&&◌, ◌||◌, not, nat_eq, arith, ℕ, ◌+◌, ◌-◌, ◌≤◌, length, List, [], ◌∷◌, ◌++◌, Bool, true, false, refl, sym, ◌∙◌, ap, subst, append_assoc}
 use Rattle.std.specs.Prelude.{Option, Some, None, Ok, Err, MatchOption, IsSome, is_some}
 use Rattle.std.specs.Io.KnownBytes.{prepend_known, IsAtEnd}
 use Rattle.std.proofs.lemmas.Bool.Decides.{nat_tests}
@@ -7,10 +7,10 @@ use Rattle.wf_trace.specs.declared.fault.FaultKind.{FaultKind}
 use Rattle.wf_trace.specs.declared.fault.FaultKind.TheVariants.{TooBig}
 use Rattle.wf_trace.specs.declared.fault.End.{End}
 use Rattle.wf_trace.specs.declared.fault.End.TheVariants.{Flaw}
-use Rattle.wf_trace.specs.declared.cutter.Found.TheVariants as found
-use Rattle.wf_trace.specs.Lines.{before_texts, flaw, texts_of}
+use Rattle.wf_trace.specs.declared.cut.Found.TheVariants as found
+use Rattle.wf_trace.specs.Lines.{longest_trace, before_texts, flaw, texts_of}
 use Rattle.wf_trace.specs.Scanning.{Scanning, Finds, Keeps, lines_behind, texts_from, texts_behind, has_end, begins_word, holds_text}
-use Rattle.wf_trace.specs.Cutting.{Cutting, TakesPieces, Fits, Follows, to_come, will_read_of}
+use Rattle.wf_trace.specs.Cutting.{Cutting, TakesPieces, Fits, Follows, to_come, room_of, will_read_of}
 
 -- Octets were taken, and the texts to come stayed.
 pub record Took (first now : Scanning) (left left_now : Option (List ℕ)) : Type 0 where
@@ -200,3 +200,12 @@ wrong_rest (Some kind) end old new is said some open_ fresh dry begun =
         ≡ record { texts = []; ending = Some (Flaw kind) }
     rest [] is begun = absurd (cc)
     rest (octet ∷ line) is begun = rw is refl
+
+-- with an octet looked at, or the end known, no more octets may be looked at than before
+pub room_less : (looked : ℕ) (end : Option End) → room_of (looked + 1) end ≤ room_of looked end
+room_less looked None = omega arith
+room_less looked (Some end) = omega arith
+
+pub room_ends : (looked : ℕ) (end : Option End) → longest_trace - looked ≤ room_of looked end
+room_ends looked None = omega arith
+room_ends looked (Some end) = omega arith

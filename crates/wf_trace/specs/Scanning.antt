@@ -3,8 +3,8 @@ use Rattle.std.specs.Prelude.{◌≡◌, ℕ, ◌+◌, ◌-◌, ◌<◌, ◌≤�
 use Rattle.std.specs.List.{list_any}
 use Rattle.wf_trace.specs.declared.fault.FaultKind.TheVariants.{TooBig}
 use Rattle.wf_trace.specs.declared.fault.End.TheVariants.{Flaw}
-use Rattle.wf_trace.specs.declared.cutter.Found.{Found}
-use Rattle.wf_trace.specs.declared.cutter.Found.TheVariants as found
+use Rattle.wf_trace.specs.declared.cut.Found.{Found}
+use Rattle.wf_trace.specs.declared.cut.Found.TheVariants as found
 use Rattle.wf_trace.specs.Lines.{Line, Texts, texts_of, before_texts, flaw}
 
 -- how many octets were looked at, the begun line up to 161 octets, and the octets that were taken and not

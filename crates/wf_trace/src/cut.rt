@@ -1,15 +1,22 @@
 //! The lines of a source that are not skipped, with their numbers.
 
-ghost use Rattle.std.specs.Prelude.{◌≡◌, ◌<◌, ◌≤◌, List, ℕ, Bool, false, Some, None, IfOk, IsOk, IfSome, IsSome, OnErr, Ok};
-ghost use Rattle.std.specs.Io.KnownBytes.{IsAtEnd};
+ghost use Rattle.std.specs.Prelude.{◌≡◌, ◌+◌, ◌-◌, ◌<◌, ◌≤◌, ◌++◌, [], List, ℕ, Bool, length, drop, slice_index, true, false, MatchOption, IfNone, IfOk, IsOk, IfSome, OnErr, Some, None, IsSome, Ok};
+ghost use Rattle.std.specs.Io.KnownBytes.{prepend_known, IsAtEnd};
 ghost use Rattle.wf_io.specs.Faults.{CountsFaults};
+ghost use Rattle.wf_trace.specs.Lines.{flaw};
+ghost use Rattle.wf_trace.specs.Scanning.{has_end};
 
-use crate::cutter::Cutter;
-use crate::fault::{End, Fault};
+use crate::fault::{End, Fault, FaultKind};
 use crate::words::is_skipped;
+use arrayvec::ArrayVec;
 use std::alloc::{AllocError, Global};
 use std::marker::Model;
-use wf_io::{Failed, Source};
+use wf_io::{Failed, MOST_OCTETS, Source};
+
+/// The most octets of a line, without its octet 10.
+const LONGEST_LINE: usize = 160;
+
+const BUFFER: usize = 4096;
 
 /// What comes next of an input.
 #[derive(Clone, Copy, Debug, PartialEq, Eq)]
@@ -22,31 +29,87 @@ pub enum Piece {
     Bad(Fault),
 }
 
+/// What was found among the octets that wait.
+#[derive(Clone, Copy, Debug, PartialEq, Eq)]
+pub enum Found {
+    Line,
+    TooBig,
+}
+
+// How many octets stand up to the last end of a line, with it.
+fn lines_len(octets: &[u8]) -> usize
+    ensures within { result ≤ length octets.now }
+    ensures behind { has_end (drop result octets.now) ≡ false }
+    ensures end { 0 < result → slice_index octets.now (result - 1) ≡ 10 }
+{
+    let mut len = octets.len();
+    while len > 0 {
+        if octets[len - 1] == b'\n' {
+            return len;
+        }
+        len -= 1;
+    }
+    0
+}
+
 /// Cuts the octets of a source into lines, and gives those that are not skipped.
 ///
 /// A line is skipped that has no words, or whose first octet that is no space is `#`.
 #[derive(Drop)]
 pub struct Cut {
-    cutter: Cutter,
-    line: u64,
+    /// The octets that were taken at the last read. Those from `from` up to `to` wait to be looked at, and
+    /// of all the last end of a line stands in front of `ends`.
+    buffer: Vec<u8>,
+    from: usize,
+    to: usize,
+    ends: usize,
+    /// The line that has begun, up to 161 octets of it.
+    text: ArrayVec<u8, 161>,
+    /// How many octets were looked at.
+    looked: u64,
+    /// The line that has begun has ended, and was given.
+    given: bool,
+    /// Why no line is cut any more.
+    end: Option<End>,
+    /// How many lines were cut.
+    count: u64,
+    /// The piece that told the end.
     ended: Option<Piece>,
 }
 
 impl Model for Cut {
-    ghost use Rattle.std.specs.Prelude.{◌≤◌, ◌+◌};
+    ghost use Rattle.std.specs.Prelude.{◌≡◌, ◌≤◌, ◌+◌, length, slice_range};
     ghost use Rattle.wf_trace.specs.Lines.{longest_trace};
-    ghost use Rattle.wf_trace.specs.Cutting.{room};
+    ghost use Rattle.wf_trace.specs.Scanning.{buffer_size, LineEndsAt};
+    ghost use Rattle.wf_trace.specs.Cutting.{room_of};
     ghost use Rattle.wf_trace.specs.Numbering.{Numbering, IsLastPiece};
 
     ghost Value = { Numbering };
 
-    ghost view = { λ c. record { cutter = c.cutter; line = c.line + 1; ended = c.ended } };
+    ghost view = { λ c. record {
+      cutter = record {
+        scanner = record {
+          looked = c.looked;
+          line = c.text.items;
+          waiting = slice_range c.buffer.items c.from c.to;
+        };
+        given = c.given;
+        ended = c.end;
+      };
+      line = c.count + 1;
+      ended = c.ended;
+    } };
 
-    ghost invariant = { λ c. (c.line + room c.cutter ≤ longest_trace + 1) × IsLastPiece c.ended };
+    ghost invariant = { λ c. (c.from ≤ c.to) × (c.to ≤ length c.buffer.items)
+        × (length c.buffer.items ≡ buffer_size) × (c.looked ≤ longest_trace)
+        × LineEndsAt c.buffer.items c.ends c.to
+        × (c.count + room_of c.looked c.end ≤ longest_trace + 1) × IsLastPiece c.ended };
 }
 
 impl Cut {
-    ghost use Rattle.wf_trace.specs.Cutting.{room};
+    ghost use Rattle.wf_trace.specs.Lines.{longest_trace};
+    ghost use Rattle.wf_trace.specs.Scanning.{has_end, begins_word, Finds, Keeps};
+    ghost use Rattle.wf_trace.specs.Cutting.{TakesPieces, Follows, to_come, room, will_read as will_cut};
     ghost use Rattle.wf_trace.specs.Pieces.{pieces, ending_piece};
     ghost use Rattle.wf_trace.specs.Numbering.{pieces_left, line_of, will_read, HasText, HasNoLine, OnText, Cuts};
 
@@ -56,10 +119,17 @@ impl Cut {
             (closed : Bool) (octets : List ℕ) → pieces_left c closed octets ≡ pieces closed octets) }
         ensures fresh { IfOk result (λ c. c.ended ≡ None) }
     {
-        let cutter = Cutter::new(alloc)?;
+        let buffer = vec![in alloc; 0; BUFFER]?;
         Ok(Cut {
-            cutter,
-            line: 0,
+            buffer,
+            from: 0,
+            to: 0,
+            ends: 0,
+            text: ArrayVec::new(),
+            looked: 0,
+            given: false,
+            end: None,
+            count: 0,
             ended: None,
         })
     }
@@ -69,7 +139,7 @@ impl Cut {
         requires { HasText self.now }
         ensures { result.now ≡ line_of self.now }
     {
-        self.cutter.octets()
+        self.text.as_slice()
     }
 
     /// Whether the next call of `next` may read the source. It answers without a read where the end is known,
@@ -77,7 +147,195 @@ impl Cut {
     pub fn will_read(&self) -> bool
         ensures { result ≡ will_read self.now }
     {
-        self.ended.is_none() && self.cutter.will_read()
+        if self.ended.is_some() {
+            return false;
+        }
+        if self.end.is_some() {
+            return false;
+        }
+        if !self.given {
+            return true;
+        }
+        if self.from >= self.ends {
+            return true;
+        }
+        let first = self.buffer[self.from];
+        first == b'\n' || first == b' ' || first == b'#'
+    }
+
+    // No line comes any more, as this is wrong with the begun one.
+    fn fail(&mut self, kind: FaultKind) -> Option<End>
+        ensures end { result ≡ Some (End.Flaw kind) }
+        ensures stays { self.new ≡ record self.old {
+          cutter = record self.old.cutter { ended = Some (End.Flaw kind) };
+        } }
+    {
+        self.end = Some(End::Flaw(kind));
+        self.end
+    }
+
+    // Gives the begun line, which has ended, or the first that is wrong with it.
+    fn judge(&mut self) -> Option<End>
+        ensures judged { MatchOption (flaw self.old.cutter.scanner.looked self.old.cutter.scanner.line)
+            ((result ≡ None) × (self.new.cutter ≡ record self.old.cutter { given = true }))
+            (λ kind. (result ≡ Some (End.Flaw kind))
+            × (self.new.cutter ≡ record self.old.cutter { ended = Some (End.Flaw kind) })) }
+        ensures stays { self.new ≡ record self.old { cutter = self.new.cutter } }
+    {
+        if self.text.len() > LONGEST_LINE {
+            return self.fail(FaultKind::LongLine);
+        }
+        for octet in self.text.as_slice() {
+            if *octet < 32 || 126 < *octet {
+                return self.fail(FaultKind::NotAscii);
+            }
+        }
+        self.given = true;
+        None
+    }
+
+    // Gives the rest of the input as a line, or that it is over.
+    fn finish(&mut self) -> Option<End>
+        requires going { self.old.cutter.ended ≡ None }
+        requires fresh { self.old.cutter.given ≡ false }
+        requires dry { self.old.cutter.scanner.waiting ≡ [] }
+        ensures ended { IsSome self.new.cutter.ended }
+        ensures looked { self.new.cutter.scanner.looked ≡ self.old.cutter.scanner.looked }
+        ensures given { IfNone result (self.new.cutter.given ≡ true) }
+        ensures follows { Follows (Ok result) self.new.cutter
+            (to_come self.old.cutter true []) (to_come self.new.cutter true []) }
+        ensures stays { self.new ≡ record self.old { cutter = self.new.cutter } }
+    {
+        if self.text.is_empty() {
+            self.end = Some(End::Over);
+            return Some(End::Over);
+        }
+        let flaw = self.judge();
+        if flaw.is_none() {
+            self.end = Some(End::Over);
+        }
+        flaw
+    }
+
+    // Looks at the octets that wait, up to the end of a line.
+    fn scan(&mut self) -> Option<Found>
+        ensures finds { Finds self.old.cutter.scanner result self.new.cutter.scanner }
+        ensures keeps { Keeps self.old.cutter.scanner result self.new.cutter.scanner }
+        ensures dry { IfNone result (self.new.cutter.scanner.waiting ≡ []) }
+        ensures looked { IfNone result (self.new.cutter.scanner.looked
+            ≡ self.old.cutter.scanner.looked + length self.old.cutter.scanner.waiting) }
+        ensures grows { self.old.cutter.scanner.looked ≤ self.new.cutter.scanner.looked }
+        ensures line { result ≡ Some Found.Line →
+            self.old.cutter.scanner.looked < self.new.cutter.scanner.looked }
+        ensures stays { self.new ≡ record self.old {
+          cutter = record self.old.cutter { scanner = self.new.cutter.scanner };
+        } }
+        ensures most { self.new.cutter.scanner.looked ≤ longest_trace }
+    {
+        while self.from < self.to {
+            let octet = self.buffer[self.from];
+            self.from += 1;
+            if self.looked == MOST_OCTETS {
+                return Some(Found::TooBig);
+            }
+            self.looked += 1;
+            if octet == b'\n' {
+                return Some(Found::Line);
+            }
+            if self.text.len() <= LONGEST_LINE {
+                self.text.push(octet);
+            }
+        }
+        None
+    }
+
+    // Takes octets from the source. Without any, the input has ended.
+    fn refill<S: Source>(&mut self, source: &mut S) -> Result<usize, Failed>
+        requires { self.old.cutter.scanner.waiting ≡ [] }
+        ensures same { self.new.cutter ≡ record self.old.cutter {
+          scanner = record self.old.cutter.scanner { waiting = self.new.cutter.scanner.waiting };
+        } }
+        ensures stays { self.new ≡ record self.old { cutter = self.new.cutter } }
+        ensures octets { S.left source.old
+            ≡ prepend_known self.new.cutter.scanner.waiting (S.left source.new) }
+        ensures count { IfOk result (λ n. n ≡ length self.new.cutter.scanner.waiting) }
+        ensures end { IfOk result (λ n. n ≡ 0 → IsAtEnd (S.left source.old)) }
+        ensures failed { OnErr result (self.new.cutter.scanner.waiting ≡ []) }
+        ensures cause { CountsFaults (S.faults source.old) (S.faults source.new) result }
+    {
+        self.from = 0;
+        self.to = 0;
+        self.ends = 0;
+        self.to = source.read(&mut self.buffer)?;
+        self.ends = lines_len(&self.buffer[..self.to]);
+        Ok(self.to)
+    }
+
+    // The next line of which the first octets may be looked at.
+    fn advance<S: Source>(&mut self, source: &mut S) -> Result<Option<End>, Failed>
+        requires going { self.old.cutter.ended ≡ None }
+        requires fresh { self.old.cutter.given ≡ false }
+        ensures takes { (octets : List ℕ) ×
+            TakesPieces self.old.cutter (S.left source.old) result self.new.cutter (S.left source.new)
+            octets }
+        ensures held { OnErr result
+            ((self.new.cutter.scanner.waiting ≡ []) × (self.new.cutter.given ≡ false)
+            × (self.new.cutter.ended ≡ None)) }
+        ensures given { result ≡ Ok None → self.new.cutter.given ≡ true }
+        ensures progress { result ≡ Ok None → room self.new.cutter < room self.old.cutter }
+        ensures grows { room self.new.cutter ≤ room self.old.cutter }
+        ensures over { result ≡ Ok None → IsSome self.new.cutter.ended → IsAtEnd (S.left source.new) }
+        ensures quiet { has_end self.old.cutter.scanner.waiting ≡ true →
+            (source.new ≡ source.old) × IsOk result }
+        ensures word { has_end self.old.cutter.scanner.waiting ≡ true →
+            begins_word (self.old.cutter.scanner.line ++ self.old.cutter.scanner.waiting) ≡ true →
+            result ≡ Ok None → begins_word self.new.cutter.scanner.line ≡ true }
+        ensures stays { self.new ≡ record self.old { cutter = self.new.cutter } }
+        ensures cause { CountsFaults (S.faults source.old) (S.faults source.new) result }
+    {
+        'lines: loop {
+            match self.scan() {
+                Some(Found::Line) => return Ok(self.judge()),
+                Some(Found::TooBig) => {
+                    self.end = Some(End::Flaw(FaultKind::TooBig));
+                    return Ok(Some(End::Flaw(FaultKind::TooBig)));
+                }
+                None => {}
+            }
+            if self.refill(source)? == 0 {
+                return Ok(self.finish());
+            }
+        }
+    }
+
+    // Cuts the next line. Else why no more comes, which is then answered again at each call. After a failure
+    // the octets taken are kept.
+    fn cut<S: Source>(&mut self, source: &mut S) -> Result<Option<End>, Failed>
+        ensures takes { (octets : List ℕ) ×
+            TakesPieces self.old.cutter (S.left source.old) result self.new.cutter (S.left source.new)
+            octets }
+        ensures held { OnErr result
+            ((self.new.cutter.scanner.waiting ≡ []) × (self.new.cutter.given ≡ false)
+            × (self.new.cutter.ended ≡ None)) }
+        ensures given { result ≡ Ok None → self.new.cutter.given ≡ true }
+        ensures progress { result ≡ Ok None → room self.new.cutter < room self.old.cutter }
+        ensures grows { room self.new.cutter ≤ room self.old.cutter }
+        ensures over { result ≡ Ok None → IsSome self.new.cutter.ended → IsAtEnd (S.left source.new) }
+        ensures sticky { IsSome self.old.cutter.ended → IsSome self.new.cutter.ended }
+        ensures quiet { will_cut self.old.cutter ≡ false → (source.new ≡ source.old) × IsOk result }
+        ensures word { will_cut self.old.cutter ≡ false → result ≡ Ok None →
+            begins_word self.new.cutter.scanner.line ≡ true }
+        ensures stays { self.new ≡ record self.old { cutter = self.new.cutter } }
+        ensures cause { CountsFaults (S.faults source.old) (S.faults source.new) result }
+    {
+        if let Some(end) = self.end {
+            return Ok(Some(end));
+        }
+        if self.given {
+            self.text.clear();
+            self.given = false;
+        }
+        self.advance(source)
     }
 
     // No further line comes.
@@ -85,7 +343,7 @@ impl Cut {
         ensures piece { Some result ≡ ending_piece self.old.line (Some end) }
         ensures stays { self.new ≡ record self.old { ended = Some result } }
     {
-        let line = self.line + 1;
+        let line = self.count + 1;
         let piece = match end {
             End::Over => Piece::Ended { line },
             End::Flaw(kind) => Piece::Bad(Fault { line, kind }),
@@ -113,14 +371,14 @@ impl Cut {
             return Ok(piece);
         }
         'lines: loop {
-            match self.cutter.next(source) {
+            match self.cut(source) {
                 Ok(None) => {}
                 Ok(Some(end)) => return Ok(self.stop(end)),
                 Err(failed) => return Err(failed),
             }
-            self.line += 1;
-            if !is_skipped(self.cutter.octets()) {
-                return Ok(Piece::Text { line: self.line });
+            self.count += 1;
+            if !is_skipped(self.text.as_slice()) {
+                return Ok(Piece::Text { line: self.count });
             }
         }
     }

@@ -5,7 +5,6 @@
 
 mod args;
 mod cut;
-mod cutter;
 mod fault;
 mod meaning;
 mod print;

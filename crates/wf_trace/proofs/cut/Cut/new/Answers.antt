@@ -2,4 +2,4 @@ use Rattle.wf_trace.proofs.CutLaws.{pieces_whole}
 use Rattle.wf_trace.proofs.cut.Cut.new.Goals as goal
 
 pub returns-clause-pieces : goal.returns-clause-pieces
-returns-clause-pieces c = rw (c.in_ok-cutter.ensures) pieces_whole
+returns-clause-pieces c = rw (c.new.ensures) pieces_whole

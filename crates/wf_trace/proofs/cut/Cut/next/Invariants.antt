@@ -1,5 +1,6 @@
-use Rattle.std.proofs.Common.{◌≡◌, ◌≤◌, None}
+use Rattle.std.proofs.Common.{◌≡◌, ◌+◌, ◌≤◌, None}
 use Rattle.std.specs.Prelude.{IsSome}
+use Rattle.wf_trace.specs.Lines.{longest_trace}
 use Rattle.wf_trace.specs.Cutting.{room}
 use Rattle.wf_trace.proofs.CutLaws.{Kept, Still}
 use Rattle.wf_trace.proofs.cut.Cut.next.Given as goal
@@ -11,6 +12,7 @@ invariant-lines g l = Kept l.fn.self l.self (g.S.Source.left l.fn.source) (g.S.S
     × (room l.self.cutter ≤ room l.fn.self.cutter)
     × (g.S.Source.faults l.source ≡ g.S.Source.faults l.fn.source)
     × Still l.fn.self l.self l.fn.source l.source
+    × (l.self.line + room l.self.cutter ≤ longest_trace + 2)
 
 abbrev pub decreases-lines : goal.decreases-lines
 decreases-lines g l = room l.self.cutter

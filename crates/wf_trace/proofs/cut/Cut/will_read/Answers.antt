@@ -1,13 +1,15 @@
 use Rattle.std.proofs.Common.{refl, inl, inr}
 use Rattle.wf_trace.proofs.ScanLaws.{no_end_waits, end_waits, first_of_line}
 use Rattle.wf_trace.proofs.Taking.{reads_given, reads_first, not_equal}
-use Rattle.wf_trace.proofs.cutter.Cutter.will_read.Goals as goal
-use Rattle.wf_trace.proofs.cutter.Cutter.will_read.Goals.{then-first-eq10, else-first-eq10}
+use Rattle.wf_trace.proofs.CutLaws.{reads_open}
+use Rattle.wf_trace.proofs.cut.Cut.will_read.Goals as goal
+use Rattle.wf_trace.proofs.cut.Cut.will_read.Goals.{then-first-eq10, else-first-eq10}
 
 pub returns-then-self : goal.returns-then-self
 returns-then-self c = rw (
   ← c.self.view_is,
-  reads_given c.self.inside.ended c.self.inside.given _ c.if-is_some.ensures c.if-not-self.false,
+  reads_open c.self.inside.ended _ c.if-is_some.ensures,
+  reads_given c.self.inside.end c.self.inside.given _ c.if-is_some-2.ensures c.if-not-self.false,
   no_end_waits c.self.inside.buffer.items c.self.inside.ends
       c.self.inside.from c.self.inside.to c.self.invariant.4 c.if-self.true c.self.invariant.0,
 ) refl
@@ -16,7 +18,8 @@ pub returns-then-first-eq32 : goal.returns-then-first-eq32
 returns-then-first-eq32 c =
     rw (
       ← c.self.view_is,
-      reads_first c.self.inside.ended c.self.inside.given _ c.index-first.result.now _ c.if-is_some.ensures
+      reads_open c.self.inside.ended _ c.if-is_some.ensures,
+      reads_first c.self.inside.end c.self.inside.given _ c.index-first.result.now _ c.if-is_some-2.ensures
           c.if-not-self.false
           (end_waits c.self.inside.buffer.items c.self.inside.ends c.self.inside.from c.self.inside.to
           c.self.invariant.4 c.if-self.false c.self.invariant.1)
@@ -25,10 +28,10 @@ returns-then-first-eq32 c =
           c.index-first.ensures),
     )
     (elim c.if-first-eq10.branch [
-      | then-first-eq10 w ↦ rw (w.t-12-is, w.if-first-eq10.true) refl
+      | then-first-eq10 w ↦ rw (w.t-14-is, w.if-first-eq10.true) refl
       | else-first-eq10 w ↦ elim c.if-first-eq32.either [
         | inl ten ↦ absurd (w.if-first-eq10.false ten)
-        | inr space ↦ rw (w.t-12-is, space.1) refl
+        | inr space ↦ rw (w.t-14-is, space.1) refl
       ]
     ])
 
@@ -36,7 +39,8 @@ pub returns-else-first-eq32 : goal.returns-else-first-eq32
 returns-else-first-eq32 c =
     rw (
       ← c.self.view_is,
-      reads_first c.self.inside.ended c.self.inside.given _ c.index-first.result.now _ c.if-is_some.ensures
+      reads_open c.self.inside.ended _ c.if-is_some.ensures,
+      reads_first c.self.inside.end c.self.inside.given _ c.index-first.result.now _ c.if-is_some-2.ensures
           c.if-not-self.false
           (end_waits c.self.inside.buffer.items c.self.inside.ends c.self.inside.from c.self.inside.to
           c.self.invariant.4 c.if-self.false c.self.invariant.1)

@@ -1,9 +1,9 @@
 use Rattle.std.proofs.Common.{◌≡◌, drop}
 use Rattle.std.specs.List.{list_all}
 use Rattle.wf_trace.specs.Lines.{is_printable}
-use Rattle.wf_trace.proofs.cutter.Cutter.judge.Given as goal
+use Rattle.wf_trace.proofs.cut.Cut.judge.Given as goal
 
 abbrev pub invariant-loop-octet : goal.invariant-loop-octet
 invariant-loop-octet l =
-    list_all is_printable l.fn.self.scanner.line
-    ≡ list_all is_printable (drop l.octet-index l.fn.self.scanner.line)
+    list_all is_printable l.fn.self.cutter.scanner.line
+    ≡ list_all is_printable (drop l.octet-index l.fn.self.cutter.scanner.line)
