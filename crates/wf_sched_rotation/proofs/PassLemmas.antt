@@ -1,6 +1,6 @@
 -- One more key of a pass.
-use Rattle.std.proofs.Common.{◌≡◌, ℕ, ◌+◌, ◌-◌, ◌*◌, ◌<◌, ◌≤◌, min, Bool, true, false, cond, ltb, ◌&&◌, List, [], ◌∷◌, ◌++◌, length, get_or, take, drop, set, Option, Some, None, refl, sym, ap, ◌∙◌, subst, inl, inr, arith, length-append, append_assoc, length-set}
-use Rattle.std.specs.Prelude.{ℤ, pos, IfSome}
+use Rattle.std.proofs.Common.{◌≡◌, ℕ, ◌+◌, ◌-◌, ◌*◌, ◌<◌, ◌≤◌, min, Bool, true, false, cond, ltb, ◌&&◌, List, [], ◌∷◌, ◌++◌, length, get_or, take, drop, set, Option, Some, refl, sym, ap, ◌∙◌, subst, inl, inr, arith, length-append, append_assoc, length-set}
+use Rattle.std.specs.Prelude.{ℤ, pos}
 use Rattle.std.specs.List.{filter}
 use Rattle.std.proofs.lemmas.Int.{ints}
 use Rattle.std.proofs.lemmas.List.{append-nil, take-append-drop, take_more, drop_more, drop_all, get_or_append_left, get_or-append_right, get_or-set_same, get_or-set_other, set-get_or, set-set}
@@ -16,7 +16,6 @@ use Rattle.wf_sched_rotation.specs.declared.Side.TheVariants.{New, Old}
 use Rattle.wf_sched_rotation.specs.declared.pass.Course.{Course}
 use Rattle.wf_sched_rotation.specs.declared.pass.Course.TheVariants.{Nobody, AtOnce, Later}
 use Rattle.wf_sched_rotation.specs.declared.pass.Share.{Share}
-use Rattle.wf_sched_rotation.proofs.ListsLemmas.{taken_below}
 use Rattle.wf_law_rules.proofs.Lemmas.Counts.{on-nil, on-cons_same, on-cons_other, on-append}
 
 -- a key, where it is kept
@@ -370,11 +369,6 @@ last_more stay xs i place last low is = elim (cases_lt i place) [
       let next : min (i + 1) place ≡ place = omega arith in
       rw (le-ltb i place after, and_false (stay (get_or xs i 0)), is, here, next) refl
 ]
-
-pub first_below : (q : AllLists) (l : ℕ) (s : Side) (o : Option ℕ) → AreDisjoint q →
-    o ≡ first_of (keys_at q.lists l s) → IfSome o (λ key. key < q.keys)
-first_below q l s None apart is = tt
-first_below q l s (Some key) apart is = taken_below q l s key apart (sym is)
 
 none_passed : (course : Course) (x : Rotation) (stay : ℕ → Bool) → lists_after course x stay 0 ≡ x
 none_passed course x stay =

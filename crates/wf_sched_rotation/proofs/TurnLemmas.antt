@@ -1,16 +1,17 @@
 -- One turn of the loop: what it leaves, and that the pick stays the same.
-use Rattle.std.proofs.Common.{◌≡◌, ℕ, ◌*◌, ◌<◌, ◌≤◌, ◌==◌, Bool, true, false, if◌then◌else◌, List, [], ◌∷◌, ◌++◌, length, set, Option, Some, None, refl, sym, ap, ◌∙◌, subst, inl, inr, arith, length-append, length-set}
-use Rattle.std.specs.Prelude.{ℤ, pos, ◌+ℤ◌, ◌≤ℤ◌, int_le, IfSome}
+use Rattle.std.proofs.Common.{◌≡◌, ℕ, zero, suc, ◌*◌, ◌<◌, ◌≤◌, ◌==◌, Bool, true, false, if◌then◌else◌, List, [], ◌∷◌, ◌++◌, length, set, Option, Some, None, refl, sym, ap, ◌∙◌, subst, inl, inr, arith, length-append, length-set}
+use Rattle.std.specs.Prelude.{ℤ, pos, negsuc, ◌+ℤ◌, ◌≤ℤ◌, int_le, IfSome}
+use Rattle.std.proofs.lemmas.Int.{ints}
 use Rattle.std.proofs.Math.Path.{fun_ext}
 use Rattle.std.proofs.lemmas.List.{get_or-set_same, get_or-set_other, set-get_or, set-set}
-use Rattle.std.proofs.lemmas.Bool.{cases_eq}
+use Rattle.std.proofs.lemmas.Bool.{cases_eq, cond-true, cond-false}
 use Rattle.wf_def_rotation.specs.Rotation.{Rotation, Picked, no_keys, has_key, in_order}
 use Rattle.wf_def_rotation.specs.Loop.{Turn, Empty, Wins, Again, Standing, turn, turn_at, with_quantum_paid, pick_by_deficits, deficit_after, onward, LoopEnds, PickGives, MeetsTurn}
 use Rattle.wf_def_lists.specs.Lists.{on, IsOnce}
-use Rattle.wf_sched_rotation.specs.Lists.{AreDisjoint, lists_at, keys_at, first_of, keys_behind}
+use Rattle.wf_sched_rotation.specs.Lists.{AreDisjoint, lists_at, side_of, keys_at, first_of, keys_behind}
 use Rattle.wf_sched_rotation.specs.Rotas.{Rotas, deficit_at, quantum_at, need_at, is_ready, picked_at}
 use Rattle.wf_sched_rotation.specs.Pass.{passed_first, WasPickedFrom}
-use Rattle.wf_sched_rotation.specs.Turns.{standing, first_turn, HasTurned, key_paid, after_turn_of, IsSamePick}
+use Rattle.wf_sched_rotation.specs.Turns.{standing, first_turn, next_of, next_up, HasTurned, key_paid, is_new, after_turn_of, IsSamePick}
 use Rattle.wf_sched_rotation.specs.declared.Side.{Side}
 use Rattle.wf_sched_rotation.specs.declared.Side.TheVariants.{New, Old}
 use Rattle.wf_law_rules.proofs.Lemmas.Counts.{on-cons_same, on-cons_other, on-hasnot, listed-some}
@@ -25,6 +26,45 @@ use Rattle.wf_sched_rotation.proofs.RangeLemmas.{quanta_low, capped}
 
 abbrev two : List ℕ → List ℕ → Rotation
 two news olds = record { new = news; old = olds }
+
+abbrev on_new : Option (Side × ℕ) → Bool
+on_new None = false
+on_new (Some next) = is_new next.0
+
+abbrev key_of : Option (Side × ℕ) → Option ℕ
+key_of None = None
+key_of (Some next) = Some next.1
+
+-- the key that is next is the first of its list
+first_next : (news olds : List ℕ) (side : Side) (key : ℕ) → next_of news olds ≡ Some (side, key) →
+    first_of (side_of (two news olds) side) ≡ Some key
+first_next [] [] side key e = absurd (cc e)
+first_next [] (k ∷ ks) New key e = let clash : false ≡ true = ap on_new e in absurd (cc clash)
+first_next [] (k ∷ ks) Old key e = ap key_of e
+first_next (k ∷ ks) olds New key e = ap key_of e
+first_next (k ∷ ks) olds Old key e = let clash : true ≡ false = ap on_new e in absurd (cc clash)
+
+-- where the key that is next stands on old, new is empty
+empty_next : (news olds : List ℕ) (key : ℕ) → next_of news olds ≡ Some (Old, key) → first_of news ≡ None
+empty_next [] olds key e = refl
+empty_next (k ∷ ks) olds key e = let clash : true ≡ false = ap on_new e in absurd (cc clash)
+
+pub owing : (d : ℤ) → int_le d (pos 0) ≡ true → d ≤ℤ pos 0
+owing (pos zero) h = omega (arith, ints)
+owing (pos (suc n)) h = absurd (not_below n h)
+  where
+    not_below : (n : ℕ) → int_le (pos (suc n)) (pos 0) ≡ true → ⊥
+    not_below n h = grind arith
+owing (negsuc n) h = omega (arith, ints)
+
+pub not_new : (side : Side) → (side ≡ New → ⊥) → false ≡ is_new side
+not_new New h = absurd (h refl)
+not_new Old h = refl
+
+pub next_first : (r : Rotation) (side : Side) (key : ℕ) → next_up r ≡ Some (side, key) →
+    first_of (side_of r side) ≡ Some key
+next_first r New key is = first_next r.new r.old New key is
+next_first r Old key is = first_next r.new r.old Old key is
 
 module _ (v : Rotas) (ready : List Bool) (list key : ℕ) (low : list < length v.lists)
     (below : key < length v.deficits) where
@@ -120,7 +160,7 @@ module _ (v : Rotas) (ready : List Bool) (list key : ℕ) (low : list < length v
       }
 
   -- the first key of new has its turn
-  pub turned_new : first_of (keys_at v.lists list New) ≡ Some key →
+  turned_new : first_of (keys_at v.lists list New) ≡ Some key →
       HasTurned v list (first_turn v ready list) (after_turn_of v list New key (is_ready ready key))
   turned_new first = new_turned (keys_behind (lists_at v.lists list).new) (lists_at v.lists list).old
       (ap (λ (keys : List ℕ). two keys (lists_at v.lists list).old)
@@ -131,13 +171,53 @@ module _ (v : Rotas) (ready : List Bool) (list key : ℕ) (low : list < length v
   no_first (k ∷ ks) h = absurd (cc h)
 
   -- with new empty, the first key of old has its turn
-  pub turned_old : first_of (keys_at v.lists list New) ≡ None →
+  turned_old : first_of (keys_at v.lists list New) ≡ None →
       first_of (keys_at v.lists list Old) ≡ Some key →
       HasTurned v list (first_turn v ready list) (after_turn_of v list Old key (is_ready ready key))
   turned_old none first = old_turned (keys_behind (lists_at v.lists list).old)
       (ap (two (lists_at v.lists list).new) (first_is (lists_at v.lists list).old key first)
       ∙ ap (λ (keys : List ℕ). two keys (key ∷ keys_behind (lists_at v.lists list).old))
       (no_first (lists_at v.lists list).new none))
+
+  -- the key that is next has its turn
+  pub turned_next : (side : Side) → next_up (lists_at v.lists list) ≡ Some (side, key) →
+      HasTurned v list (first_turn v ready list) (after_turn_of v list side key (is_ready ready key))
+  turned_next New is = turned_new (next_first (lists_at v.lists list) New key is)
+  turned_next Old is = turned_old
+      (empty_next (lists_at v.lists list).new (lists_at v.lists list).old key is)
+      (next_first (lists_at v.lists list) Old key is)
+
+  -- with no deficit above 0 it is paid, and goes last on old
+  pub turn_paid : (side : Side) (after : Rotas) → next_up (lists_at v.lists list) ≡ Some (side, key) →
+      int_le (deficit_at v.deficits key) (pos 0) ≡ true →
+      after ≡ record v { lists = passed_first v.lists list side key true; deficits = key_paid v key } →
+      HasTurned v list (first_turn v ready list) after
+  turn_paid side after is owes after_is =
+      subst (λ (w : Rotas). HasTurned v list (first_turn v ready list) w)
+      (cond-true (int_le (deficit_at v.deficits key) (pos 0)) _ _ owes ∙ sym after_is)
+      (turned_next side is)
+
+  -- else it wins where it is ready
+  pub turn_won : (side : Side) → next_up (lists_at v.lists list) ≡ Some (side, key) →
+      int_le (deficit_at v.deficits key) (pos 0) ≡ false → is_ready ready key ≡ true →
+      HasTurned v list (first_turn v ready list) v
+  turn_won side is rich rdy =
+      subst (λ (w : Rotas). HasTurned v list (first_turn v ready list) w)
+      (cond-false (int_le (deficit_at v.deficits key) (pos 0)) _ _ rich
+      ∙ cond-true (is_ready ready key) _ _ rdy) (turned_next side is)
+
+  -- where it is not ready, it moves from new to old, or leaves old
+  pub turn_passed : (side : Side) (after : Rotas) (stays : Bool) →
+      next_up (lists_at v.lists list) ≡ Some (side, key) →
+      int_le (deficit_at v.deficits key) (pos 0) ≡ false → is_ready ready key ≡ false → stays ≡ is_new side →
+      after ≡ record v { lists = passed_first v.lists list side key stays } →
+      HasTurned v list (first_turn v ready list) after
+  turn_passed side after stays is rich idle stays_is after_is =
+      subst (λ (w : Rotas). HasTurned v list (first_turn v ready list) w)
+      (cond-false (int_le (deficit_at v.deficits key) (pos 0)) _ _ rich
+      ∙ cond-false (is_ready ready key) _ _ idle
+      ∙ ap (λ (b : Bool). let w : Rotas = record v { lists = passed_first v.lists list side key b } in w)
+      (sym stays_is) ∙ sym after_is) (turned_next side is)
 
 -- ---- the pick before and after a turn
 

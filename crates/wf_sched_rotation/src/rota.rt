@@ -1,9 +1,9 @@
 ghost use Rattle.std.specs.Prelude.{◌≡◌, ℕ, ◌+◌, ◌-◌, ◌*◌, ◌^◌, ◌<◌, ◌≤◌, Bool, true, List, [], ◌∷◌, ◌++◌, length, map, replicate, slice_set, IfOk, IfSome, IfNone, Some, pos, negsuc, ◌+ℤ◌, ◌-ℤ◌, ◌≤ℤ◌};
 ghost use Rattle.wf_def_rotation.specs.Rotation.{no_keys, with_new_key, without_key, has_key, in_order};
 ghost use Rattle.wf_sched_rotation.specs.Rotas.{Rotas, deficit_at, quantum_at, need_at, is_ready, IsUnlisted, picked_at};
-ghost use Rattle.wf_sched_rotation.specs.Lists.{lists_at, keys_at, with_keys, has_on, first_of, keys_behind, IsOff, AreDisjoint};
+ghost use Rattle.wf_sched_rotation.specs.Lists.{lists_at, keys_at, with_keys, has_on, first_of, AreDisjoint};
 ghost use Rattle.wf_sched_rotation.specs.Looks.{most_turns};
-ghost use Rattle.wf_sched_rotation.specs.Turns.{end_of, after_turn_of, first_turn, HasTurned, EndsAs};
+ghost use Rattle.wf_sched_rotation.specs.Turns.{first_turn, next_up, HasTurned, EndsAs};
 ghost use Rattle.wf_sched_rotation.specs.Scan.{IsFound, IsRoundOn, IsWon};
 ghost use Rattle.wf_sched_rotation.specs.declared.Side.TheVariants.{Old};
 ghost use Rattle.wf_sched_rotation.specs.Pass.{raised, passed_first, passed_olds, way, SharesAre, HasPassed, WasPickedFrom, passed_key, last_after, last_before};
@@ -103,7 +103,11 @@ impl Rota {
           lists = slice_set self.old.lists list (with_new_key (lists_at self.old.lists list) key);
         } }
     {
-        self.put_on(list, Side::New, key);
+        self.links.put_last(list, Side::New, key);
+        self.homes[key as usize] = Some(Home {
+            list,
+            side: Side::New,
+        });
     }
 
     /// Sets the deficit of a key to its quantum, and puts the key last on the new list of a rotation.
@@ -193,15 +197,21 @@ impl Rota {
         if least < keys { Some(least) } else { None }
     }
 
-    /// The first key of a list.
-    fn first(&self, list: u32, side: Side) -> Option<u32>
+    /// The key whose turn it is, with its list: the first key of new, or where new is empty that of old.
+    fn next_up(&self, list: u32) -> Option<(Side, u32)>
         requires { list < length self.now.lists }
-        ensures key { result ≡ first_of (keys_at self.now.lists list side) }
-        ensures below { IfSome result (λ key. key < length self.now.deficits) }
+        ensures next { result ≡ next_up (lists_at self.now.lists list) }
+        ensures below { IfSome result (λ next. next.1 < length self.now.deficits) }
         ensures disjoint { AreDisjoint (record { lists = self.now.lists; keys = length self.now.deficits }) }
         ensures positive { (key : ℕ) → 1 ≤ quantum_at self.now.quanta key }
     {
-        self.links.first(list, side)
+        match self.links.first(list, Side::New) {
+            Some(key) => Some((Side::New, key)),
+            None => match self.links.first(list, Side::Old) {
+                Some(key) => Some((Side::Old, key)),
+                None => None,
+            },
+        }
     }
 
     /// How many quanta lift the deficit of a key above 0.
@@ -258,31 +268,24 @@ impl Rota {
         found
     }
 
-    /// Takes the first key off a list.
-    fn take_out(&mut self, list: u32, side: Side, key: u32)
+    /// Takes the first key off a list, and puts it last on old where it stays.
+    fn move_first(&mut self, list: u32, side: Side, key: u32, stays: bool)
         requires in_lists { list < length self.old.lists }
         requires first { first_of (keys_at self.old.lists list side) ≡ Some key }
-        ensures taken { self.new ≡ record self.old {
-          lists = with_keys self.old.lists list side (keys_behind (keys_at self.old.lists list side));
+        ensures moved { self.new ≡ record self.old {
+          lists = passed_first self.old.lists list side key stays;
         } }
-        ensures off { IsOff self.new.lists key }
         ensures below { key < length self.old.deficits }
     {
         self.links.take_first(list, side);
         self.homes[key as usize] = None;
-    }
-
-    /// Puts a key that is on no list last on one.
-    fn put_on(&mut self, list: u32, side: Side, key: u32)
-        requires in_lists { list < length self.old.lists }
-        requires in_keys { key < length self.old.deficits }
-        requires off { IsOff self.old.lists key }
-        ensures { self.new ≡ record self.old {
-          lists = with_keys self.old.lists list side (keys_at self.old.lists list side ++ key ∷ []);
-        } }
-    {
-        self.links.put_last(list, side, key);
-        self.homes[key as usize] = Some(Home { list, side });
+        if stays {
+            self.links.put_last(list, Side::Old, key);
+            self.homes[key as usize] = Some(Home {
+                list,
+                side: Side::Old,
+            });
+        }
     }
 
     /// Lifts the deficit of a key by a quantum in each visit, until it is above 0.
@@ -308,11 +311,8 @@ impl Rota {
           quanta = self.old.quanta;
         } }
     {
-        self.take_out(list, side, key);
+        self.move_first(list, side, key, share.stays);
         self.raise(key, share.visits);
-        if share.stays {
-            self.put_on(list, Side::Old, key);
-        }
     }
 
     /// Passes the first key of a list by its share of this course, and gives the last key so far that stays
@@ -335,7 +335,7 @@ impl Rota {
         ensures last { (key : ℕ) → first_of (keys_at self.old.lists list side) ≡ Some key →
             result ≡ last_after course side i (need_at self.old key) (is_ready ready.now key) key last }
     {
-        match self.first(list, side) {
+        match self.links.first(list, side) {
             None => last,
             Some(key) => {
                 let need = self.need(key);
@@ -476,53 +476,6 @@ impl Rota {
         }
     }
 
-    /// Gives one quantum to a key whose deficit is not above 0.
-    fn give_quantum(&mut self, key: u32)
-        requires in_keys { key < length self.old.deficits }
-        requires owes { deficit_at self.old.deficits key ≤ℤ pos 0 }
-        ensures { self.new ≡ record self.old {
-          deficits = slice_set self.old.deficits key
-              (deficit_at self.old.deficits key +ℤ pos (quantum_at self.old.quanta key));
-        } }
-    {
-        let at = key as usize;
-        self.deficits[at] += i64::from(self.quanta[at]);
-    }
-
-    /// Takes the first key off a list, and puts it last on old.
-    fn move_first(&mut self, list: u32, side: Side, key: u32)
-        requires in_lists { list < length self.old.lists }
-        requires first { first_of (keys_at self.old.lists list side) ≡ Some key }
-        ensures { self.new ≡ record self.old { lists = passed_first self.old.lists list side key true } }
-    {
-        self.take_out(list, side, key);
-        self.put_on(list, Side::Old, key);
-    }
-
-    /// The turn of a key that is the first of its list.
-    fn turn_of(&mut self, list: u32, side: Side, key: u32, ready: &[bool]) -> TurnEnd
-        requires in_lists { list < length self.old.lists }
-        requires ready { length ready.now ≡ length self.old.deficits }
-        requires below { key < length self.old.deficits }
-        requires first { first_of (keys_at self.old.lists list side) ≡ Some key }
-        ensures end { result ≡ end_of (deficit_at self.old.deficits key) (is_ready ready.now key) key }
-        ensures after { self.new ≡ after_turn_of self.old list side key (is_ready ready.now key) }
-    {
-        if self.deficit(key) <= 0 {
-            self.give_quantum(key);
-            self.move_first(list, side, key);
-            TurnEnd::GoesOn
-        } else if ready[key as usize] {
-            TurnEnd::Done(Some(key))
-        } else {
-            match side {
-                Side::New => self.move_first(list, side, key),
-                Side::Old => self.take_out(list, side, key),
-            }
-            TurnEnd::GoesOn
-        }
-    }
-
     /// One turn of the loop of algorithm 3. It looks at the first key of new, or where new is empty at the
     /// first of old. With no deficit above 0 the key gets a quantum and goes last on old. Else it wins
     /// where it is ready; where it is not, it moves from new to old, or leaves the rotation from old.
@@ -534,12 +487,19 @@ impl Rota {
         ensures disjoint { AreDisjoint (record { lists = self.old.lists; keys = length self.old.deficits }) }
         ensures positive { (key : ℕ) → 1 ≤ quantum_at self.old.quanta key }
     {
-        match self.first(list, Side::New) {
-            Some(key) => self.turn_of(list, Side::New, key, ready),
-            None => match self.first(list, Side::Old) {
-                Some(key) => self.turn_of(list, Side::Old, key, ready),
-                None => TurnEnd::Done(None),
-            },
+        let Some((side, key)) = self.next_up(list) else {
+            return TurnEnd::Done(None);
+        };
+        let at = key as usize;
+        if self.deficits[at] <= 0 {
+            self.deficits[at] += i64::from(self.quanta[at]);
+            self.move_first(list, side, key, true);
+            TurnEnd::GoesOn
+        } else if ready[at] {
+            TurnEnd::Done(Some(key))
+        } else {
+            self.move_first(list, side, key, matches!(side, Side::New));
+            TurnEnd::GoesOn
         }
     }
 
