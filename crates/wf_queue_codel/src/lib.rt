@@ -44,6 +44,13 @@ pub fn root_step(interval: u32, count: u32) -> u64
     (interval as u64 * interval as u64 / count as u64).isqrt()
 }
 
+/// What CoDel looks at: when a frame was queued, and how many octets stand behind it.
+#[derive(Clone, Copy, Debug, PartialEq, Eq)]
+pub struct Sight {
+    pub stamp: u64,
+    pub left: u64,
+}
+
 /// A queue of frames in order, and a place for those that are thrown away.
 pub trait Lane {
     /// A frame as the lane holds it.
@@ -76,13 +83,10 @@ pub trait Lane {
         ensures thrown { thrown self.new ≡ thrown self.old }
         ensures same { same self.old self.new };
 
-    /// When the item was queued.
-    fn stamp(item: &Self::Item) -> u64
-        ensures { result ≡ (look item.now).stamp };
-
-    /// The octets of the items still in the lane.
-    fn left(&self) -> u64
-        ensures { result ≡ octets (map look (rest self.now)) };
+    /// When the item was queued, and the octets of the items still in the lane.
+    fn sight(&self, item: &Self::Item) -> Sight
+        ensures stamp { result.stamp ≡ (look item.now).stamp }
+        ensures left { result.left ≡ octets (map look (rest self.now)) };
 
     /// Throws an item away, last behind those thrown away before; one may be discarded for each that was
     /// popped.
@@ -153,12 +157,13 @@ impl Model for Codel {
 }
 
 // What a look makes of `first_above`, and whether it is ok.
-fn look(first_above: u64, now: u64, params: Params, stamp: u64, left: u64) -> (u64, bool)
+fn look(first_above: u64, now: u64, params: Params, sight: Sight) -> (u64, bool)
     requires { now < 2 ^ 62 }
-    ensures above { result.0 ≡ (look_by (params_of params) now first_above stamp left).first_above }
-    ensures ok { result.1 ≡ (look_by (params_of params) now first_above stamp left).ok }
+    ensures above { result.0 ≡
+        (look_by (params_of params) now first_above sight.stamp sight.left).first_above }
+    ensures ok { result.1 ≡ (look_by (params_of params) now first_above sight.stamp sight.left).ok }
 {
-    if now.saturating_sub(stamp) < params.target as u64 || left <= MAX_PACKET {
+    if now.saturating_sub(sight.stamp) < params.target as u64 || sight.left <= MAX_PACKET {
         return (0, false);
     }
     if first_above == 0 {
@@ -259,7 +264,7 @@ impl Codel {
         let mut item = first;
         let mut due = self.drop_next;
         'looks: loop {
-            let (above, ok) = look(self.first_above, now, params, L::stamp(&item), lane.left());
+            let (above, ok) = look(self.first_above, now, params, lane.sight(&item));
             self.first_above = above;
             if !ok {
                 self.dropping = false;
@@ -302,7 +307,7 @@ impl Codel {
         ensures same { L.same lane.old lane.new }
         ensures spare { L.spare lane.new + (if is_some result then 0 else 1) ≡ L.spare lane.old }
     {
-        let (above, ok) = look(self.first_above, now, params, L::stamp(&first), lane.left());
+        let (above, ok) = look(self.first_above, now, params, lane.sight(&first));
         self.first_above = above;
         if !ok {
             return Some(first);
@@ -314,7 +319,7 @@ impl Codel {
                 None
             }
             Some(second) => {
-                let (above, _) = look(above, now, params, L::stamp(&second), lane.left());
+                let (above, _) = look(above, now, params, lane.sight(&second));
                 self.start(now, params, above);
                 Some(second)
             }

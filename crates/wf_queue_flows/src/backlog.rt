@@ -2,7 +2,7 @@
 
 ghost use Rattle.std.specs.Prelude.{◌≡◌, ◌+◌, ◌<◌, ◌≤◌, ◌↔◌, [], ◌∷◌, ◌++◌, length, replicate, is_some, if◌then◌else◌, IfOk, IfNone, IfSome, IsNone, MatchOption};
 ghost use Rattle.wf_def_codel.specs.Codel.{new_codel};
-ghost use Rattle.wf_queue_flows.specs.Backlog.{frames_at, in_queues, held_in_backlog, spare_of, first_id, frame_with_fate, with_frames, after_head_drop, after_flush, flags, queue_octets, IsLongest};
+ghost use Rattle.wf_queue_flows.specs.Backlog.{frames_at, in_queues, held_in_backlog, spare_of, first_id, frame_with_fate, with_frames, after_head_drop, after_flush, flags, IsLongest};
 ghost use Rattle.wf_queue_flows.specs.Flows.{longest_queue};
 
 use std::alloc::{AllocError, Global};
@@ -19,7 +19,7 @@ use wf_queue_counted::Peak;
 pub struct Backlog {
     queues: Vec<Chain>,
     /// The sum of the body lengths of each queue's frames, in octets.
-    octets: Vec<u64>,
+    pub(crate) octets: Vec<u64>,
     /// The same octets, of which the greatest is known.
     longest: Peak,
     /// Whether each queue has frames.
@@ -196,14 +196,6 @@ impl Backlog {
             (λ _. held_in_backlog self.new + 1 ≡ held_in_backlog self.old) }
     {
         self.finished.pop_front()
-    }
-
-    /// The sum of the body lengths of a queue's frames, in octets.
-    pub(crate) fn octets(&self, q: u32) -> u64
-        requires { q < length self.now.queues }
-        ensures { result ≡ queue_octets (frames_at self.now q) }
-    {
-        self.octets[q as usize]
     }
 
     /// How many frames a queue has.

@@ -7,7 +7,7 @@ ghost use Rattle.wf_queue_flows.specs.Backlog.{frames_at, held_in_backlog, item_
 use crate::backlog::{Backlog, Taken, settle};
 use wf_frame::{Cause, Fate};
 use wf_queue_chain::Parcel;
-use wf_queue_codel::{Lane, Params};
+use wf_queue_codel::{Lane, Params, Sight};
 
 /// One queue of a backlog. What it discards goes last on the finished list, as dropped by CoDel.
 #[derive(Drop)]
@@ -49,14 +49,12 @@ impl<'a> Lane for OneQueue<'a> {
         self.backlog.pop(self.queue)
     }
 
-    fn stamp(item: &Parcel) -> u64
-        ensures { result ≡ (item_of item.now).stamp }
-    {
-        item.frame().stamp()
-    }
-
-    fn left(&self) -> u64 {
-        self.backlog.octets(self.queue)
+    fn sight(&self, item: &Parcel) -> Sight {
+        let backlog: &Backlog = self.backlog;
+        Sight {
+            stamp: item.frame().stamp(),
+            left: backlog.octets[self.queue as usize],
+        }
     }
 
     fn discard(&mut self, item: Parcel) {

@@ -7,23 +7,28 @@ use Rattle.wf_queue_codel.proofs.Codel.begin.Goals as goal
 pub returns-then-not-ok-clause-taken : goal.returns-then-not-ok-clause-taken
 returns-then-not-ok-clause-taken g c =
     rw (← c.self.view_is) (takes-none g.L.Lane.look g.L.Lane.tossed (params_of c.args.params) c.args.now
-    (codel_state_of c.self.inside) _ c.args.first _ c.stamp.result c.left.result c.look-above.result.0
+    (codel_state_of c.self.inside) _ c.args.first _ c.sight.result.stamp c.sight.result.left
+    c.look-above.result.0
     c.look-above.result.1
-    c.stamp.ensures c.left.ensures c.look-above.ensures.above c.look-above.ensures.ok c.if-not-ok.true)
+    c.sight.ensures.stamp c.sight.ensures.left c.look-above.ensures.above c.look-above.ensures.ok
+    c.if-not-ok.true)
 
 pub returns-then-not-ok-clause-state : goal.returns-then-not-ok-clause-state
 returns-then-not-ok-clause-state g c =
     rw (← c.self.view_is) (state-kept g.L.Lane.look g.L.Lane.tossed (params_of c.args.params) c.args.now
-    (codel_state_of c.self.inside) (g.L.Lane.thrown c.args.lane.now) c.args.first _ c.stamp.result
-    c.left.result c.look-above.result.0 c.look-above.result.1
-    c.stamp.ensures c.left.ensures c.look-above.ensures.above c.look-above.ensures.ok c.if-not-ok.true)
+    (codel_state_of c.self.inside) (g.L.Lane.thrown c.args.lane.now) c.args.first _ c.sight.result.stamp
+    c.sight.result.left c.look-above.result.0 c.look-above.result.1
+    c.sight.ensures.stamp c.sight.ensures.left c.look-above.ensures.above c.look-above.ensures.ok
+    c.if-not-ok.true)
 
 pub returns-in-Some-clause-taken : goal.returns-in-Some-clause-taken
 returns-in-Some-clause-taken g c =
     rw (← c.self.view_is) (takes-one g.L.Lane.look g.L.Lane.tossed (params_of c.args.params) c.args.now
-    (codel_state_of c.self.inside) _ c.args.first _ c.stamp.result c.left.result c.look-above.result.0
+    (codel_state_of c.self.inside) _ c.args.first _ c.sight.result.stamp c.sight.result.left
+    c.look-above.result.0
     c.look-above.result.1
-    c.stamp.ensures c.left.ensures c.look-above.ensures.above c.look-above.ensures.ok _ _ _ c.if-not-ok.false
+    c.sight.ensures.stamp c.sight.ensures.left c.look-above.ensures.above c.look-above.ensures.ok _ _ _
+    c.if-not-ok.false
     (sym c.discard.ensures.rest ∙ c.in-Some.ensures.first)
     (c.in-Some.ensures.thrown ∙ c.discard.ensures.thrown))
 
@@ -32,9 +37,11 @@ returns-in-Some-clause-state g c =
     rw (← c.self.view_is) (c.start-in-Some.ensures
     ∙ state-started g.L.Lane.look g.L.Lane.tossed (params_of c.args.params) c.args.now
     (codel_state_of c.self.inside) (g.L.Lane.thrown c.args.lane.now) c.args.first
-    (g.L.Lane.rest c.args.lane.now) c.stamp.result c.left.result c.look-above.result.0
+    (g.L.Lane.rest c.args.lane.now) c.sight.result.stamp c.sight.result.left c.look-above.result.0
     c.look-above.result.1
-    c.stamp.ensures c.left.ensures c.look-above.ensures.above c.look-above.ensures.ok c.in-Some.second _
-    c.stamp-in-Some.result c.left-in-Some.result _ c.if-not-ok.false
-    (sym c.discard.ensures.rest ∙ c.in-Some.ensures.first) c.stamp-in-Some.ensures c.left-in-Some.ensures
+    c.sight.ensures.stamp c.sight.ensures.left c.look-above.ensures.above c.look-above.ensures.ok
+    c.in-Some.second _
+    c.sight-in-Some.result.stamp c.sight-in-Some.result.left _ c.if-not-ok.false
+    (sym c.discard.ensures.rest ∙ c.in-Some.ensures.first) c.sight-in-Some.ensures.stamp
+    c.sight-in-Some.ensures.left
     c.look-above-in-Some.ensures.above)
