@@ -1,10 +1,9 @@
 -- The settings stay, whatever goes in and out.
-use Rattle.std.proofs.Common.{◌≡◌, ℕ, List, [], ◌∷◌, Option, Some, None, refl, ap, ◌∙◌}
+use Rattle.std.proofs.Common.{◌≡◌, ℕ, List, [], ◌∷◌, refl, ap, ◌∙◌}
 use Rattle.std.proofs.lemmas.Bool.{cond_both}
 use Rattle.wf_frame.specs.Frames.{FrameValue}
-use Rattle.wf_def_codel.specs.Codel.{Params}
 use Rattle.wf_queue_flows.specs.Backlog.{BacklogValue, after_flush}
-use Rattle.wf_queue_flows.specs.Flows.{flows_at_limit, FlowsValue, SettingsValue, settings, is_listed, after_limit, queue_for, with_listed_queue, after_put, pick_of_tid, after_pick, taken_from_picked, taken_for_tid, queues_of, all_flushed, after_purge}
+use Rattle.wf_queue_flows.specs.Flows.{flows_at_limit, FlowsValue, SettingsValue, settings, is_listed, after_limit, queue_for, with_listed_queue, after_put, queues_of, all_flushed, after_purge}
 
 settings_within : (v : FlowsValue) → settings (after_limit v) ≡ settings v
 unfolding after_limit
@@ -17,15 +16,6 @@ settings_listed v i q = cond_both (is_listed v i q) v _ (λ w. settings w ≡ se
 pub settings_put : (v : FlowsValue) (i : ℕ) (f : FrameValue) → settings (after_put v i f) ≡ settings v
 unfolding after_put
 settings_put v i f = settings_listed _ i (queue_for (after_limit v) i f.flow) ∙ settings_within v
-
-pub settings_take : (v : FlowsValue) (i clock : ℕ) (p : Params) →
-    settings (taken_for_tid v i clock p).flows ≡ settings v
-unfolding taken_for_tid after_pick
-settings_take v i clock p = go (pick_of_tid v i).winner
-  where
-    go : (o : Option ℕ) → settings (taken_from_picked (after_pick v i) o clock p).flows ≡ settings v
-    go None = refl
-    go (Some q) = refl
 
 room_flushed : (b : BacklogValue) (qs : List ℕ) → (all_flushed b qs).room ≡ b.room
 unfolding all_flushed

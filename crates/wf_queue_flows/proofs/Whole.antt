@@ -1,14 +1,14 @@
 -- The parts of each call make the whole of its definition.
-use Rattle.std.proofs.Common.{◌≡◌, ℕ, ◌<◌, ◌≤◌, true, false, List, [], ◌∷◌, Option, Some, None, length, refl, sym, ap, ◌∙◌, subst, arith}
-use Rattle.std.specs.Prelude.{◌↔◌, IfSome, OnSome, IsSome, option_map}
+use Rattle.std.proofs.Common.{◌≡◌, ℕ, ◌<◌, ◌≤◌, true, false, List, [], ◌∷◌, Option, Some, None, length, set, refl, sym, ap, ◌∙◌, subst, arith}
+use Rattle.std.specs.Prelude.{pos, ◌-ℤ◌, ◌↔◌, OnSome, IsSome, option_map}
 use Rattle.std.proofs.lemmas.Bool.{both_ways, le-leb, lt-leb, cond-true, cond-false}
 use Rattle.wf_frame.specs.Frames.{FrameValue}
 use Rattle.wf_def_codel.specs.Codel.{Params}
 use Rattle.wf_sched_rotation.specs.Lists.{on_at}
-use Rattle.wf_queue_flows.specs.Backlog.{frames_at, in_queues, first_id, after_head_drop, IsLongest}
-use Rattle.wf_queue_flows.specs.declared.backlog.Taken.{Taken}
+use Rattle.wf_sched_rotation.specs.Rotas.{Rotas, deficit_at}
+use Rattle.wf_queue_flows.specs.Backlog.{BacklogValue, frames_at, in_queues, first_id, after_head_drop, given_at, backlog_after_take, IsLongest}
 use Rattle.wf_queue_flows.specs.declared.flows.Lost.{Lost}
-use Rattle.wf_queue_flows.specs.Flows.{FlowsValue, flows_at_limit, longest_queue, after_limit, dropped_for_limit, queue_for, with_listed_queue, with_appended, after_put_in, after_put, pick_of_tid, after_pick, TakenFromFlows, TakeGives, taken_from_picked, taken_for_tid, AreListedOnce}
+use Rattle.wf_queue_flows.specs.Flows.{FlowsValue, flows_at_limit, longest_queue, after_limit, dropped_for_limit, queue_for, with_listed_queue, with_appended, after_put_in, after_put, pick_of_tid, after_pick, TakeGives, taken_by_codel, taken_from_picked, taken_for_tid, AreListedOnce}
 use Rattle.wf_queue_flows.specs.Kept.{AreFlowsKept}
 use Rattle.wf_queue_flows.proofs.Owners.{on-listed, listed-on}
 use Rattle.wf_queue_flows.proofs.Puts.{put_is}
@@ -112,19 +112,29 @@ put_parts now a b c i q f limited chosen listed pushed =
     ∙ ap (λ (k : ℕ). after_put_in a i k f) chosen
     ∙ ap (λ (w : FlowsValue). after_put_in w i (queue_for w i f.flow) f) limited
 
+-- a frame that CoDel gave is what the take gives, once its length has left the deficit
+pub picked_gives : (v : FlowsValue) (q len clock : ℕ) (p : Params) (f : FrameValue) (after : BacklogValue)
+    (paid : Rotas) → Some f ≡ given_at p clock v.backlog q → after ≡ backlog_after_take p clock v.backlog q →
+    len ≡ length f.body →
+    paid ≡ record v.rotas {
+      deficits = set v.rotas.deficits q (deficit_at v.rotas.deficits q -ℤ pos len);
+    } →
+    TakeGives (record v { backlog = after; rotas = paid }) f (taken_from_picked v (Some q) clock p)
+picked_gives v q len clock p f after paid given took length_is paid_is =
+    subst (λ (o : Option FrameValue). TakeGives (record v { backlog = after; rotas = paid }) f
+    (taken_by_codel v q clock p o)) given (
+      ap (λ (b : BacklogValue). let w : FlowsValue = record v { backlog = b; rotas = paid } in w) took
+          ∙ ap (λ (r : Rotas). let w : FlowsValue =
+          record v { backlog = backlog_after_take p clock v.backlog q; rotas = r } in w)
+          (paid_is ∙ ap (λ (n : ℕ). let r : Rotas = record v.rotas {
+            deficits = set v.rotas.deficits q (deficit_at v.rotas.deficits q -ℤ pos n);
+          } in r) length_is),
+      refl,
+    )
+
 pub take_parts : (now a : FlowsValue) (i q clock : ℕ) (p : Params) → a ≡ after_pick now i →
     Some q ≡ (pick_of_tid now i).winner → taken_from_picked a (Some q) clock p ≡ taken_for_tid now i clock p
 unfolding taken_for_tid
 take_parts now a i q clock p after winner =
     ap (λ (w : FlowsValue). taken_from_picked w (Some q) clock p) after
     ∙ ap (λ (o : Option ℕ). taken_from_picked (after_pick now i) o clock p) winner
-
-pub gives_as : (o : Option Taken) (after : FlowsValue) (t u : TakenFromFlows) → t ≡ u →
-    IfSome o (λ g. TakeGives after g.parcel t) → IfSome o (λ g. TakeGives after g.parcel u)
-gives_as o after t u e = λ h. subst (λ (x : TakenFromFlows). IfSome o (λ g. TakeGives after g.parcel x)) e h
-
--- a take that gives a frame leaves what its definition says
-pub gives_flows : (o : Option Taken) (after : FlowsValue) (t : TakenFromFlows) → IsSome o →
-    IfSome o (λ g. TakeGives after g.parcel t) → after ≡ t.flows
-gives_flows None after t is h = absurd (both_ways false refl is)
-gives_flows (Some g) after t is h = h.0

@@ -1,12 +1,11 @@
 //! Putting frames into the flow queues, and taking them out.
 
-ghost use Rattle.std.specs.Prelude.{◌≡◌, ℕ, ◌+◌, ◌<◌, ◌≤◌, ◌^◌, ◌↔◌, true, [], ◌∷◌, ◌++◌, length, pos, ◌<ℤ◌, IfOk, IfSome, IfNone, OnSome, IsSome, MatchOption, Some, None, option_map};
+ghost use Rattle.std.specs.Prelude.{◌≡◌, ℕ, ◌+◌, ◌<◌, ◌≤◌, ◌^◌, ◌↔◌, true, [], ◌∷◌, ◌++◌, IfOk, IfSome, IfNone, OnSome, IsSome, MatchOption, Some, None, option_map};
 ghost use Rattle.wf_frame.specs.Settings.{first_out_of_range};
 ghost use Rattle.wf_queue_codel.specs.Params.{params_of};
-ghost use Rattle.wf_sched_rotation.specs.Rotas.{deficit_at};
 ghost use Rattle.wf_queue_flows.specs.Backlog.{frames_at, in_queues, held_in_backlog, first_id, after_head_drop, IsLongest};
 ghost use Rattle.wf_frame.specs.Classes.{tid_number};
-ghost use Rattle.wf_queue_flows.specs.Flows.{settings, tids, queues, is_listed, frames_of_tid, longest_queue, loses_next, after_limit, dropped_for_limit, is_listed_by_another, queue_for, with_listed_queue, with_appended, after_put, pick_of_tid, after_pick, taken_from_picked, taken_for_tid, after_purge, empty_flows, AreListedOnce, TakeGives};
+ghost use Rattle.wf_queue_flows.specs.Flows.{settings, tids, queues, is_listed, frames_of_tid, longest_queue, loses_next, after_limit, dropped_for_limit, is_listed_by_another, queue_for, with_listed_queue, with_appended, after_put, taken_for_tid, after_purge, empty_flows, AreListedOnce, TakeGives};
 ghost use Rattle.wf_queue_flows.specs.Kept.{CanList, without_queue};
 
 use crate::backlog::{Backlog, Taken};
@@ -162,8 +161,12 @@ impl Flows {
         if self.queued[list as usize] == 0 {
             return None;
         }
-        let q = self.pick(list)?;
-        self.take_from(list, q, now, params)
+        let q = self.rota.pick_uncounted(list, self.waiting.ready())?;
+        let taken = self.waiting.take(q, now, params)?;
+        let left = self.queued[list as usize] - taken.dropped - 1;
+        self.queued[list as usize] = left;
+        self.rota.charge(q, u32::from(taken.parcel.frame().len()));
+        Some(taken)
     }
 
     /// Drops all frames of a TID as its station leaves, and gives their count. They go last on the finished
@@ -314,43 +317,6 @@ impl Flows {
     {
         self.waiting.push(q, parcel);
         self.queued[list as usize] += 1;
-    }
-
-    // Picks a queue of a TID.
-    fn pick(&mut self, list: u32) -> Option<u32>
-        requires { list < tids self.old }
-        ensures picked { self.new ≡ after_pick self.old list }
-        ensures waiting { frames_of_tid self.new list ≡ frames_of_tid self.old list }
-        ensures stations { self.new.stations ≡ self.old.stations }
-        ensures backlog { self.new.backlog ≡ self.old.backlog }
-        ensures winner { result ≡ (pick_of_tid self.old list).winner }
-        ensures none { IfNone result (frames_of_tid self.old list ≡ 0) }
-        ensures listed { IfSome result (λ q. is_listed self.new list q ≡ true) }
-        ensures positive { IfSome result (λ q. pos 0 <ℤ deficit_at self.new.rotas.deficits q) }
-        ensures frames { IfSome result (λ q. 0 < length (frames_at self.new.backlog q)) }
-    {
-        self.rota.pick_uncounted(list, self.waiting.ready())
-    }
-
-    // Takes a frame out of a queue that was picked, and subtracts its length from the queue's deficit.
-    fn take_from(&mut self, list: u32, q: u32, now: u64, params: Params) -> Option<Taken>
-        requires list { list < tids self.old }
-        requires listed { is_listed self.old list q ≡ true }
-        requires positive { pos 0 <ℤ deficit_at self.old.rotas.deficits q }
-        requires frames { 0 < length (frames_at self.old.backlog q) }
-        requires time { now < 2 ^ 62 }
-        ensures some { IsSome result }
-        ensures held { held_in_backlog self.new.backlog + 1 ≡ held_in_backlog self.old.backlog }
-        ensures taken { IfSome result (λ t. TakeGives self.new t.parcel
-            (taken_from_picked self.old (Some q) now (params_of params))) }
-        ensures dropped { IfSome result (λ t. frames_of_tid self.new list + t.dropped + 1
-            ≡ frames_of_tid self.old list) }
-    {
-        let taken = self.waiting.take(q, now, params)?;
-        let left = self.queued[list as usize] - taken.dropped - 1;
-        self.queued[list as usize] = left;
-        self.rota.charge(q, u32::from(taken.parcel.frame().len()));
-        Some(taken)
     }
 
     // Drops the frames of a queue that a TID lists, and takes the queue off its rotation.

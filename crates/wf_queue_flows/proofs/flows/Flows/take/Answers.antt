@@ -1,29 +1,169 @@
-use Rattle.std.proofs.Common.{◌≡◌, ℕ, ◌+◌, ◌∙◌, sym, ap, subst}
-use Rattle.std.specs.Prelude.{IfSome}
+use Rattle.std.proofs.Common.{◌≡◌, ℕ, ◌+◌, ◌*◌, ◌<◌, ◌≤◌, ◌∙◌, true, Option, Some, None, length, refl, sym, ap, subst, arith}
+use Rattle.std.specs.Prelude.{pos, ◌<ℤ◌, IfSome, IfNone}
+use Rattle.std.proofs.lemmas.List.{get_or_read}
 use Rattle.wf_queue_codel.specs.Params.{params_of}
-use Rattle.wf_frame.specs.Classes.{tid_number}
-use Rattle.wf_queue_flows.specs.Flows.{settings, frames_of_tid, taken_for_tid}
-use Rattle.wf_queue_flows.proofs.Whole.{take_parts, gives_as, gives_flows}
-use Rattle.wf_queue_flows.proofs.Settings.{settings_take}
+use Rattle.wf_sched_rotation.specs.Rotas.{Rotas, deficit_at}
+use Rattle.wf_queue_flows.specs.Flows.{FlowsValue, TakenFromFlows, tids, is_listed, after_pick, frames_of_tid, pick_of_tid, taken_for_tid, TakeGives}
+use Rattle.wf_queue_flows.specs.Kept.{AreFlowsKept, IsPickOfOne}
+use Rattle.wf_queue_flows.proofs.Keeps.{frames_counted}
+use Rattle.wf_queue_flows.proofs.Picking.{pick_low, pick_keeps, pick_is, pick_winner, pick_none, pick_listed, pick_positive}
+use Rattle.wf_queue_flows.proofs.Moves.{take_fits, take_keeps, take_counts}
+use Rattle.wf_queue_flows.proofs.Whole.{take_parts, picked_gives}
 use Rattle.wf_queue_flows.proofs.flows.Flows.take.Goals as goal
+use Rattle.wf_queue_flows.proofs.flows.Flows.take.Goals.{After-pick_uncounted}
+
+-- the pick, in the words of what the flow queues keep
+as_pick : (c : After-pick_uncounted) → IsPickOfOne c.self.inside.rota c.ready.result.now
+    c.tid_number-list.result c.pick_uncounted.new.self c.pick_uncounted.result
+as_pick c = record {
+  winner_is = c.pick_uncounted.ensures.winner;
+  lists = c.pick_uncounted.ensures.lists;
+  deficits = c.pick_uncounted.ensures.deficits;
+  keys = c.pick_uncounted.ensures.keys;
+  quanta = c.pick_uncounted.ensures.quanta;
+  listed = c.pick_uncounted.ensures.listed;
+  is_ready = c.pick_uncounted.ensures.is_ready;
+}
+
+-- the flow queues before the take and once a queue is picked
+abbrev before : After-pick_uncounted → FlowsValue
+before c = record {
+  flows = c.self.inside.flows;
+  stations = c.self.inside.stations;
+  limit = c.self.inside.limit;
+  flow_quantum = c.self.inside.flow_quantum;
+  backlog = c.self.inside.waiting;
+  rotas = c.self.inside.rota;
+}
+
+abbrev picked : After-pick_uncounted → FlowsValue
+picked c = record (before c) { rotas = c.pick_uncounted.new.self }
+
+low_now : (c : After-pick_uncounted) → c.tid_number-list.result < tids c.args.self.now
+low_now c = omega (arith, c.tid_number-list.ensures, c.requires.station, c.requires.tid)
+
+low : (c : After-pick_uncounted) → c.tid_number-list.result < 8 * c.self.inside.stations
+low c = pick_low (before c) _ c.tid_number-list.result c.self.view_is (low_now c)
+
+kept_picked : (c : After-pick_uncounted) → AreFlowsKept (picked c) c.self.inside.queued.items
+kept_picked c = pick_keeps (before c) _ c.self.invariant c.ready.result.now c.ready.ensures
+    c.tid_number-list.result (low c) c.pick_uncounted.new.self c.pick_uncounted.result (as_pick c)
+
+picked_is : (c : After-pick_uncounted) → picked c ≡ after_pick c.args.self.now c.tid_number-list.result
+picked_is c = pick_is (before c) _ c.self.invariant c.ready.result.now c.ready.ensures
+    c.tid_number-list.result (low c) c.pick_uncounted.new.self c.pick_uncounted.result (as_pick c)
+    ∙ ap (λ (w : FlowsValue). after_pick w c.tid_number-list.result) c.self.view_is
+
+winner_is : (c : After-pick_uncounted) (q : ℕ) → c.pick_uncounted.result ≡ Some q →
+    Some q ≡ (pick_of_tid c.args.self.now c.tid_number-list.result).winner
+winner_is c q was = sym was
+    ∙ pick_winner (before c) _ c.self.invariant c.ready.result.now c.ready.ensures c.tid_number-list.result
+    (low c) c.pick_uncounted.new.self c.pick_uncounted.result (as_pick c)
+    ∙ ap (λ (w : FlowsValue). (pick_of_tid w c.tid_number-list.result).winner) c.self.view_is
+
+listed : (c : After-pick_uncounted) (q : ℕ) → c.pick_uncounted.result ≡ Some q →
+    is_listed (picked c) c.tid_number-list.result q ≡ true
+listed c q was = subst (λ (o : Option ℕ).
+    IfSome o (λ k. is_listed (picked c) c.tid_number-list.result k ≡ true)) was
+    (pick_listed (before c) _ c.self.invariant c.ready.result.now c.ready.ensures c.tid_number-list.result
+    (low c) c.pick_uncounted.new.self c.pick_uncounted.result (as_pick c))
+
+positive : (c : After-pick_uncounted) (q : ℕ) → c.pick_uncounted.result ≡ Some q →
+    pos 0 <ℤ deficit_at c.pick_uncounted.new.self.deficits q
+positive c q was = subst (λ (o : Option ℕ).
+    IfSome o (λ k. pos 0 <ℤ deficit_at c.pick_uncounted.new.self.deficits k)) was
+    (pick_positive (before c) _ c.self.invariant c.ready.result.now c.ready.ensures c.tid_number-list.result
+    (low c) c.pick_uncounted.new.self c.pick_uncounted.result (as_pick c))
+
+-- the pick moves no frame
+counted : (c : After-pick_uncounted) → frames_of_tid (picked c) c.tid_number-list.result
+    ≡ frames_of_tid c.args.self.now c.tid_number-list.result
+counted c = sym (frames_counted _ _ _ c.tid_number-list.result refl (kept_picked c) (low c))
+    ∙ frames_counted _ _ _ c.tid_number-list.result c.self.view_is c.self.invariant (low_now c)
+
+none_waits : (c : After-pick_uncounted) → c.pick_uncounted.result ≡ None →
+    frames_of_tid c.args.self.now c.tid_number-list.result ≡ 0
+none_waits c was = subst (λ (w : FlowsValue). frames_of_tid w c.tid_number-list.result ≡ 0) c.self.view_is
+    (subst (λ (o : Option ℕ). IfNone o (frames_of_tid (before c) c.tid_number-list.result ≡ 0)) was
+    (pick_none (before c) _ c.self.invariant c.ready.result.now c.ready.ensures c.tid_number-list.result
+    (low c) c.pick_uncounted.new.self c.pick_uncounted.result (as_pick c)))
+
+if_none : {X P : Type 0} (o : Option X) → P → IfNone o P
+if_none None p = p
+if_none (Some x) p = tt
+
+pub invariant_of-self : goal.invariant_of-self
+invariant_of-self c = kept_picked (goal.at.invariant_of-self c).After-pick_uncounted
+
+pub returns-in_err-q-clause-none : goal.returns-in_err-q-clause-none
+returns-in_err-q-clause-none c = if_none _
+    (subst (λ (i : ℕ). frames_of_tid c.args.self.now i ≡ 0) c.tid_number-list.ensures
+    (none_waits (goal.at.returns-in_err-q-clause-none c).After-pick_uncounted c.in_err-q.was))
+
+pub returns-in_err-q-clause-unchanged : goal.returns-in_err-q-clause-unchanged
+returns-in_err-q-clause-unchanged c =
+    let at = (goal.at.returns-in_err-q-clause-unchanged c).After-pick_uncounted in
+    absurd (omega (
+      arith,
+      c.if-index-eq0.false,
+      get_or_read c.self.inside.queued.items c.tid_number-list.result c.index.result.now
+          (omega (arith, c.self.invariant.sized.tids, low at)) c.index.ensures 0,
+      frames_counted _ _ _ c.tid_number-list.result c.self.view_is c.self.invariant (low_now at),
+      none_waits at c.in_err-q.was,
+    ))
+
+pub overflow_sub-left : goal.overflow_sub-left
+overflow_sub-left c =
+    let at = (goal.at.overflow_sub-left c).After-pick_uncounted in
+    let most = take_fits (picked at) _ _ refl (kept_picked at) c.tid_number-list.result c.in_ok-q.q
+    c.index-2.result.now c.in_ok-taken.taken.dropped c.args.now (params_of c.args.params)
+    c.in_ok-taken.taken.parcel (low at) (listed at c.in_ok-q.q c.in_ok-q.was) c.index-2.ensures
+    c.in_ok-taken.ensures.dropped c.in_ok-taken.ensures.given in
+    omega arith
+
+pub overflow_sub-left-2 : goal.overflow_sub-left-2
+overflow_sub-left-2 c =
+    let at = (goal.at.overflow_sub-left-2 c).After-pick_uncounted in
+    let most = take_fits (picked at) _ _ refl (kept_picked at) c.tid_number-list.result c.in_ok-q.q
+    c.index-2.result.now c.in_ok-taken.taken.dropped c.args.now (params_of c.args.params)
+    c.in_ok-taken.taken.parcel (low at) (listed at c.in_ok-q.q c.in_ok-q.was) c.index-2.ensures
+    c.in_ok-taken.ensures.dropped c.in_ok-taken.ensures.given in
+    omega arith
+
+pub invariant_of-self-2 : goal.invariant_of-self-2
+invariant_of-self-2 c =
+    let at = (goal.at.invariant_of-self-2 c).After-pick_uncounted in
+    let few : c.from.result ≤ 2304 = omega (arith, c.from.ensures, c.len.ensures.most) in
+    take_keeps (picked at) _ _ refl (kept_picked at) c.tid_number-list.result c.in_ok-q.q
+    c.index-2.result.now c.in_ok-taken.taken.dropped c.from.result c.args.now (params_of c.args.params)
+    c.in_ok-taken.taken.parcel c.take.new.self c.charge.new.self (low at)
+    (listed at c.in_ok-q.q c.in_ok-q.was) c.index-2.ensures c.in_ok-taken.ensures.dropped
+    c.in_ok-taken.ensures.given c.in_ok-taken.ensures.taken (positive at c.in_ok-q.q c.in_ok-q.was) few
+    c.charge.ensures
 
 pub returns-clause-taken : goal.returns-clause-taken
 returns-clause-taken c =
-    let whole = take_parts c.args.self.now c.pick.new.self c.tid_number-list.result c.in_ok-q.q c.args.now
-    (params_of c.args.params) c.pick.ensures.picked (sym c.in_ok-q.was ∙ c.pick.ensures.winner)
+    let at = (goal.at.returns-clause-taken c).After-pick_uncounted in
+    subst (λ (t : TakenFromFlows). TakeGives
+    (record (before at) { backlog = c.take.new.self; rotas = c.charge.new.self })
+    c.in_ok-taken.taken.parcel t)
+    (take_parts c.args.self.now (picked at) c.tid_number-list.result c.in_ok-q.q c.args.now
+    (params_of c.args.params) (picked_is at) (winner_is at c.in_ok-q.q c.in_ok-q.was)
     ∙ ap (λ n. taken_for_tid c.args.self.now n c.args.now (params_of c.args.params))
-    c.tid_number-list.ensures in
-    gives_as c.take_from.result c.take_from.new.self _ _ whole c.take_from.ensures.taken
-
-pub returns-clause-settings : goal.returns-clause-settings
-returns-clause-settings c =
-    ap settings (gives_flows c.take_from.result c.take_from.new.self _ c.take_from.ensures.some
-    (returns-clause-taken c)) ∙ settings_take c.args.self.now
-    (tid_number c.args.station c.args.tid) c.args.now (params_of c.args.params)
+    c.tid_number-list.ensures)
+    (picked_gives (picked at) c.in_ok-q.q c.from.result c.args.now (params_of c.args.params)
+    c.in_ok-taken.taken.parcel c.take.new.self c.charge.new.self c.in_ok-taken.ensures.given
+    c.in_ok-taken.ensures.taken
+    (c.from.ensures ∙ c.len.ensures.exact ∙ ap (λ f. length f.body) c.frame.ensures) c.charge.ensures)
 
 pub returns-clause-dropped : goal.returns-clause-dropped
 returns-clause-dropped c =
-    subst (λ (i : ℕ). IfSome c.take_from.result (λ t. frames_of_tid c.take_from.new.self i + t.dropped + 1
-    ≡ frames_of_tid c.args.self.now i)) c.tid_number-list.ensures
-    (subst (λ (n : ℕ). IfSome c.take_from.result (λ t. frames_of_tid c.take_from.new.self
-    c.tid_number-list.result + t.dropped + 1 ≡ n)) c.pick.ensures.waiting c.take_from.ensures.dropped)
+    let at = (goal.at.returns-clause-dropped c).After-pick_uncounted in
+    subst (λ (i : ℕ). frames_of_tid
+    (record (before at) { backlog = c.take.new.self; rotas = c.charge.new.self }) i
+    + c.in_ok-taken.taken.dropped + 1 ≡ frames_of_tid c.args.self.now i) c.tid_number-list.ensures
+    (take_counts (picked at) _ _ refl (kept_picked at) c.tid_number-list.result c.in_ok-q.q
+    c.in_ok-taken.taken.dropped c.args.now (params_of c.args.params) c.in_ok-taken.taken.parcel
+    c.take.new.self c.charge.new.self (low at) (listed at c.in_ok-q.q c.in_ok-q.was)
+    c.in_ok-taken.ensures.dropped c.in_ok-taken.ensures.given c.in_ok-taken.ensures.taken
+    (ap (λ (r : Rotas). r.lists) c.charge.ensures) ∙ counted at)
