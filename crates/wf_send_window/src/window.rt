@@ -5,13 +5,13 @@
 
 ghost use Rattle.std.specs.Prelude.{count_by, ◌≡◌, ℕ, ◌+◌, ◌%◌, ◌<◌, ◌≤◌, true, false, [], length, max, is_ok, is_some, unwrap_or, option_map, slice_index_or, slice_set, nat_lt, IfOk, IfErr, IfSome, IfNone};
 ghost use Rattle.std.specs.List.{list_any};
-ghost use Rattle.wf_frame.specs.Frames.{FrameValue, sent_again};
+ghost use Rattle.wf_frame.specs.Frames.{FrameValue};
 ghost use Rattle.wf_frame.specs.declared.classes.Fate.TheVariants.{Dropped};
 ghost use Rattle.wf_frame.specs.declared.classes.Cause.TheVariants.{Left};
 ghost use Rattle.wf_def_agreement.specs.Session.{Session, State, slot, new_session, with_number_given, with_state, start_of, next_number, request_due, is_settled, waiting_numbers};
 ghost use Rattle.wf_octets_seq12.specs.Distance.{distance};
 ghost use Rattle.wf_send_window.specs.Places.{state_of_place, front, rest, next_since, since_failed};
-ghost use Rattle.wf_send_window.specs.Window.{fresh_window, WindowStandsFor, IsNumber, may_give, waiting_from, on_air, session_settled, place_at, state_at, attempts_of, is_flying, holds_parcel, HasOwnFrame, HasFrame, waits, some_fly, can_take};
+ghost use Rattle.wf_send_window.specs.Window.{fresh_window, WindowStandsFor, IsNumber, may_give, waiting_from, on_air, session_settled, place_at, state_at, attempts_of, is_flying, holds_parcel, HasOwnFrame, waits, some_fly, can_take};
 ghost use Rattle.wf_send_window.specs.Sent.{with_one_sent};
 ghost use Rattle.wf_send_window.specs.Answers.{settling_answer, with_fate};
 
@@ -102,17 +102,6 @@ fn advance(ring: &mut Ring, due: Option<u16>) -> (u16, Option<u16>)
     (moved, distance)
 }
 
-fn frame_in(place: &Option<Place>) -> &Frame
-    requires { holds_parcel (state_of_place place.now) ≡ true }
-    ensures { HasFrame place.now result.now }
-{
-    match place {
-        Some(Place::Waiting { parcel, .. }) => parcel.frame(),
-        Some(Place::Flying { parcel, .. }) => parcel.frame(),
-        _ => unreachable!(),
-    }
-}
-
 fn attempts_in(place: &Option<Place>) -> u8
     requires { holds_parcel (state_of_place place.now) ≡ true }
     ensures { result ≡ attempts_of place.now }
@@ -122,24 +111,6 @@ fn attempts_in(place: &Option<Place>) -> u8
         Some(Place::Flying { attempts, .. }) => *attempts,
         _ => unreachable!(),
     }
-}
-
-// The first waiting place from the given one on.
-fn first_waiting(ring: &Ring, from: usize) -> Option<usize>
-    requires { from ≤ length ring.now.items }
-    ensures found { IfSome result (λ i. (from ≤ i) × (i < length ring.now.items) ×
-        (waits (slice_index_or ring.now.items i None) ≡ true)) }
-    ensures before { IfSome result (λ i. (k : ℕ) → from ≤ k → k < i →
-        waits (slice_index_or ring.now.items k None) ≡ false) }
-    ensures none { IfNone result ((k : ℕ) → from ≤ k → k < length ring.now.items →
-        waits (slice_index_or ring.now.items k None) ≡ false) }
-{
-    for i in from..ring.len() {
-        if is_waiting(ring.at(i)) {
-            return Some(i);
-        }
-    }
-    None
 }
 
 // Takes the parcel of a waiting place, which is then settled.
@@ -159,14 +130,6 @@ fn finished(mut parcel: Parcel, fate: Fate) -> Parcel
     ensures { result ≡ with_fate fate parcel }
 {
     parcel.frame_mut().settle(fate);
-    parcel
-}
-
-// The parcel, once its frame has counted that it is sent.
-fn sent(mut parcel: Parcel) -> Parcel
-    ensures { result ≡ sent_again parcel }
-{
-    parcel.frame_mut().send();
     parcel
 }
 
@@ -295,13 +258,20 @@ impl Window {
         ensures capacity { self.new.capacity ≡ self.old.capacity }
     {
         let i = usize::from(seq.ahead(self.start));
-        let Some(Place::Waiting { parcel, attempts }) = self.ring.replace(i, None) else {
+        let Some(
+            Place::Waiting {
+                mut parcel,
+                attempts,
+            },
+        ) = self.ring.replace(i, None)
+        else {
             unreachable!()
         };
+        parcel.frame_mut().send();
         let _ = self.ring.replace(
             i,
             Some(Place::Flying {
-                parcel: sent(parcel),
+                parcel,
                 attempts,
                 exchange,
             }),
@@ -381,10 +351,12 @@ impl Window {
             from ≡ n % 4096 → start_of s ≤ n → n ≤ next_number s →
             result ≡ option_map on_air (waiting_from s n) }
     {
-        match first_waiting(&self.ring, usize::from(from.ahead(self.start))) {
-            Some(i) => Some(self.start.plus(i as u16)),
-            None => None,
+        for i in usize::from(from.ahead(self.start))..self.ring.len() {
+            if is_waiting(self.ring.at(i)) {
+                return Some(self.start.plus(i as u16));
+            }
         }
+        None
     }
 
     /// The frame of a number that waits or flies.
@@ -393,7 +365,11 @@ impl Window {
         ensures { (s : Session) (bodies : ℕ → FrameValue) (n : ℕ) → WindowStandsFor self.now s bodies →
             IsNumber s n seq → result.now ≡ bodies (slot s n).id }
     {
-        frame_in(self.ring.at(usize::from(seq.ahead(self.start))))
+        match self.ring.at(usize::from(seq.ahead(self.start))) {
+            Some(Place::Waiting { parcel, .. }) => parcel.frame(),
+            Some(Place::Flying { parcel, .. }) => parcel.frame(),
+            _ => unreachable!(),
+        }
     }
 
     /// How often a number that waits or flies was sent in vain.

@@ -1,5 +1,5 @@
 use Rattle.std.proofs.Common.{◌∙◌, ap, sym, Some, None, ◌≡◌, get_or, set}
-use Rattle.wf_frame.specs.Frames.{FrameValue}
+use Rattle.wf_frame.specs.Frames.{FrameValue, sent_again}
 use Rattle.wf_send_window.specs.Ring.{RingValue}
 use Rattle.wf_send_window.specs.declared.place.Place.{Place}
 use Rattle.wf_send_window.specs.declared.place.Place.TheVariants.{Waiting as Waits, Flying as Flies}
@@ -17,5 +17,6 @@ returns-clause-stands c s bodies n stands number own =
     c.self.view_is c.from-i.result c.args.seq
     (c.from-i.ensures ∙ c.ahead.ensures.number) c.args.exchange w.attempts w.parcel found
     w.ensures.changed (c.replace-2.ensures.changed ∙ ap (λ (f : FrameValue). with_items r
-    (set r.items c.from-i.result (Some (Flies f w.attempts c.args.exchange)))) c.sent.ensures)
+    (set r.items c.from-i.result (Some (Flies f w.attempts c.args.exchange))))
+    (c.send.ensures ∙ ap sent_again c.frame_mut.ensures.value))
     s bodies n stands number own

@@ -1,4 +1,4 @@
-use Rattle.std.proofs.Common.{◌≡◌, ℕ, None, Option, get_or, ap, ◌∙◌, subst}
+use Rattle.std.proofs.Common.{◌≡◌, ℕ, None, Some, Option, get_or, ap, sym, ◌∙◌, subst, arith}
 use Rattle.wf_def_agreement.specs.Session.{slot}
 use Rattle.wf_send_window.specs.declared.place.Place.{Place}
 use Rattle.wf_send_window.specs.Places.{slot_place}
@@ -7,13 +7,30 @@ use Rattle.wf_send_window.proofs.Laws.{place_is}
 use Rattle.wf_send_window.proofs.Finding.{frame_held}
 use Rattle.wf_send_window.proofs.window.Window.frame.Goals as goal
 
-pub returns : goal.returns
-returns c s bodies n stands number =
+pub returns-in-Some-Waiting : goal.returns-in-Some-Waiting
+returns-in-Some-Waiting c s bodies n stands number =
     let q = c.self.inside in
+    let w = c.in-Some-Waiting in
     let same : c.at.result.now ≡ slot_place bodies (slot s n) =
     c.at.ensures
     ∙ ap (λ (k : ℕ). get_or q.ring.items k None) (c.from.ensures ∙ c.ahead.ensures.number)
-    ∙ ap (λ (w : WindowValue). place_at w c.args.seq) c.self.view_is
+    ∙ ap (λ (v : WindowValue). place_at v c.args.seq) c.self.view_is
     ∙ place_is _ s bodies stands n c.args.seq number in
-    let P : Option Place → Type 0 = λ p. HasFrame p c.frame_in.result.now in
-    frame_held bodies (slot s n) c.frame_in.result.now (subst P same c.frame_in.ensures)
+    let found : c.at.result.now ≡ Some (Place.Waiting w.parcel w.field-0-1) = grind arith in
+    let P : Option Place → Type 0 = λ p. HasFrame p c.frame.result.now in
+    frame_held bodies (slot s n) c.frame.result.now (subst P same
+    (subst P (sym found) c.frame.ensures))
+
+pub returns-in-Some-Flying : goal.returns-in-Some-Flying
+returns-in-Some-Flying c s bodies n stands number =
+    let q = c.self.inside in
+    let w = c.in-Some-Flying in
+    let same : c.at.result.now ≡ slot_place bodies (slot s n) =
+    c.at.ensures
+    ∙ ap (λ (k : ℕ). get_or q.ring.items k None) (c.from.ensures ∙ c.ahead.ensures.number)
+    ∙ ap (λ (v : WindowValue). place_at v c.args.seq) c.self.view_is
+    ∙ place_is _ s bodies stands n c.args.seq number in
+    let found : c.at.result.now ≡ Some (Place.Flying w.parcel w.field-0-1 w.field-0-2) = grind arith in
+    let P : Option Place → Type 0 = λ p. HasFrame p c.frame-in-Some-Flying.result.now in
+    frame_held bodies (slot s n) c.frame-in-Some-Flying.result.now (subst P same
+    (subst P (sym found) c.frame-in-Some-Flying.ensures))
