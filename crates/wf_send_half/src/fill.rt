@@ -72,7 +72,7 @@ impl Transmit {
         ensures given { IsGivenNumber self.old self.new station tid result.0 result.1 }
         ensures len { (1 ≤ result.1) × (result.1 ≤ greatest_body) }
     {
-        let params = Params::of(self.members.rate(station));
+        let params = Params::of(self.members.member(station).rate);
         let Some(taken) = self.flows.take(station, tid, self.clock, params) else {
             unreachable!()
         };
@@ -122,11 +122,12 @@ impl Transmit {
             IsFilled self.new bodies station tid result.room result.numbers (aggregate_of w station tid) }
         ensures same { IsSameButFrames self.old self.new }
     {
+        let member = self.members.member(station);
         let mut aggregate = Aggregate {
             numbers: Numbers::new(),
             room: Room::new(
-                self.members.rate(station),
-                self.members.exponent(station),
+                member.rate,
+                member.exponent,
                 self.most_frames(station),
                 self.config.cap,
                 self.is_wide(station, tid),

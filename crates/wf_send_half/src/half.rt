@@ -184,7 +184,7 @@ impl Transmit {
         ensures world { (w : World) (bodies : ℕ → FrameValue) → StandsFor self.now w bodies →
             result ≡ (share w station class).charged }
     {
-        self.members.charged(station, class)
+        self.members.member(station).charged[class.number()]
     }
 
     /// The airtime that a live station itself used in a class since its join, in microseconds.
@@ -195,6 +195,6 @@ impl Transmit {
         ensures world { (w : World) (bodies : ℕ → FrameValue) → StandsFor self.now w bodies →
             result ≡ (share w station class).received }
     {
-        self.members.received(station, class)
+        self.members.member(station).received[class.number()]
     }
 }

@@ -194,7 +194,8 @@ impl Transmit {
         ensures turned { self.new ≡ after_turn self.old station class result }
     {
         let [lower, upper] = class.tids();
-        let (first, other) = if self.members.is_upper(station, class) {
+        let member = self.members.member(station);
+        let (first, other) = if member.upper[class.number()] {
             (upper, lower)
         } else {
             (lower, upper)

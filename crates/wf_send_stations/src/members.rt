@@ -1,6 +1,6 @@
 //! The stations, by number.
 
-ghost use Rattle.std.specs.Prelude.{◌≡◌, ◌<◌, ◌≤◌, ◌^◌, true, Some, None, is_some, option_map, IfOk, IfSome, length, replicate, slice_set};
+ghost use Rattle.std.specs.Prelude.{◌≡◌, ◌<◌, ◌≤◌, ◌^◌, true, Some, None, is_some, IfOk, IfSome, length, replicate, slice_set};
 
 use std::alloc::{AllocError, Global};
 use std::marker::Model;
@@ -39,7 +39,7 @@ impl Model for Members {
 }
 
 impl Members {
-    ghost use Rattle.wf_send_stations.specs.Members.{new_member, member, on_member, with_rate, upper_in, with_upper, charged_in, with_charge, received_in, with_receipt};
+    ghost use Rattle.wf_send_stations.specs.Members.{new_member, member, on_member, with_rate, with_upper, charged_in, with_charge, received_in, with_receipt};
 
     /// So many stations, none of which is live.
     pub fn new(alloc: Global, stations: u32) -> Result<Members, AllocError>
@@ -82,13 +82,16 @@ impl Members {
         self.stations[usize::from(station)].is_some()
     }
 
-    /// The rate of a live station.
-    pub fn rate(&self, station: u16) -> Rate
+    /// What is kept of a live station.
+    pub fn member(&self, station: u16) -> &Member
         requires within { station < length self.now }
         requires live { is_some (member self.now station) ≡ true }
-        ensures { option_map (λ m. m.rate) (member self.now station) ≡ Some result }
+        ensures { member self.now station ≡ Some result.now }
     {
-        self.member(station).rate
+        match &self.stations[usize::from(station)] {
+            Some(member) => member,
+            None => unreachable!(),
+        }
     }
 
     /// Sets the rate of a station. Where it is not live, nothing changes.
@@ -99,24 +102,6 @@ impl Members {
         if let Some(member) = &mut self.stations[usize::from(station)] {
             member.rate = rate;
         }
-    }
-
-    /// The maximum A-MPDU length exponent of a live station.
-    pub fn exponent(&self, station: u16) -> u8
-        requires within { station < length self.now }
-        requires live { is_some (member self.now station) ≡ true }
-        ensures { option_map (λ m. m.exponent) (member self.now station) ≡ Some result }
-    {
-        self.member(station).exponent
-    }
-
-    /// Whether it is the turn of the upper of a class's two TIDs, of a live station.
-    pub fn is_upper(&self, station: u16, class: Class) -> bool
-        requires within { station < length self.now }
-        requires live { is_some (member self.now station) ≡ true }
-        ensures { option_map (λ m. upper_in m class) (member self.now station) ≡ Some result }
-    {
-        self.member(station).upper[class.number()]
     }
 
     /// Gives the turn in a class to the upper TID, or to the lower. Where the station is not live, nothing
@@ -130,15 +115,6 @@ impl Members {
         }
     }
 
-    /// The airtime of the exchanges of a live station in a class since its join, in microseconds.
-    pub fn charged(&self, station: u16, class: Class) -> u64
-        requires within { station < length self.now }
-        requires live { is_some (member self.now station) ≡ true }
-        ensures { option_map (λ m. charged_in m class) (member self.now station) ≡ Some result }
-    {
-        self.member(station).charged[class.number()]
-    }
-
     /// An exchange of a station took so many microseconds. Where it is not live, nothing changes.
     pub fn charge(&mut self, station: u16, class: Class, air: u32)
         requires within { station < length self.old }
@@ -150,15 +126,6 @@ impl Members {
         }
     }
 
-    /// The airtime that a live station used itself in a class since its join, in microseconds.
-    pub fn received(&self, station: u16, class: Class) -> u64
-        requires within { station < length self.now }
-        requires live { is_some (member self.now station) ≡ true }
-        ensures { option_map (λ m. received_in m class) (member self.now station) ≡ Some result }
-    {
-        self.member(station).received[class.number()]
-    }
-
     /// A station used so many microseconds itself. Where it is not live, nothing changes.
     pub fn receive(&mut self, station: u16, class: Class, air: u32)
         requires within { station < length self.old }
@@ -167,18 +134,6 @@ impl Members {
     {
         if let Some(member) = &mut self.stations[usize::from(station)] {
             member.received[class.number()] += u64::from(air);
-        }
-    }
-
-    // What is kept of a live station.
-    fn member(&self, station: u16) -> &Member
-        requires within { station < length self.now }
-        requires live { is_some (member self.now station) ≡ true }
-        ensures { member self.now station ≡ Some result.now }
-    {
-        match &self.stations[usize::from(station)] {
-            Some(member) => member,
-            None => unreachable!(),
         }
     }
 }

@@ -16,19 +16,15 @@ fn a_station_joins_and_leaves(rt: HostRuntime) -> Result<(), AllocError> {
     members.charge(2, Class::Be, 45);
     members.receive(2, Class::Vo, 70);
     same(&rt, (members.is_live(2), members.is_live(1)), (true, false));
-    same(&rt, members.rate(2), Rate::lowest());
-    same(&rt, members.exponent(2), 3);
-    let upper = (
-        members.is_upper(2, Class::Vi),
-        members.is_upper(2, Class::Vo),
-    );
-    same(&rt, upper, (true, false));
-    same(&rt, members.charged(2, Class::Be), 345);
-    same(&rt, members.charged(2, Class::Vo), 0);
-    same(&rt, members.received(2, Class::Vo), 70);
+    let member = members.member(2);
+    same(&rt, member.rate, Rate::lowest());
+    same(&rt, member.exponent, 3);
+    same(&rt, member.upper, [false, false, true, false]);
+    same(&rt, member.charged, [0, 345, 0, 0]);
+    same(&rt, member.received, [0, 0, 0, 70]);
     if let Ok(rate) = Rate::ht(7, 40, true) {
         members.set_rate(2, rate);
-        same(&rt, members.rate(2).kbps(), 150_000);
+        same(&rt, members.member(2).rate.kbps(), 150_000);
     }
     members.leave(2);
     same(&rt, members.is_live(2), false);

@@ -22,7 +22,8 @@ small (Some m) n e h = let same : m.exponent ≡ n = cc e in subst (λ (k : ℕ)
 pub new-requires-2-clause-exponent_in : goal.new-requires-2-clause-exponent_in
 new-requires-2-clause-exponent_in c =
     let x : TransmitValue = view_of c.self.inside in
-    small (member x.members c.args.station) c.exponent.result c.exponent.ensures
+    small (member x.members c.args.station) c.member-member.result.now.exponent
+    (ap (option_map (λ (m : Member). m.exponent)) c.member-member.ensures)
     (subst (λ (z : TransmitValue). IfSome (member z.members c.args.station) (λ m. m.exponent ≤ 3))
     (sym c.self.view_is) c.requires.exponent)
 
@@ -37,12 +38,15 @@ add_waiting-requires-clause-begins c w bodies to =
     (subst (λ (r : RoomValue). IsChoosing r c.new.result
     (window_of x.windows c.args.station c.args.tid).start w c.args.station c.args.tid)
     (sym (c.new-2.ensures.made
-    ∙ ap₂ (λ (n : ℕ) (b : Bool). empty_room c.rate.result c.exponent.result n x.config.cap b)
+    ∙ ap₂ (λ (n : ℕ) (b : Bool). empty_room c.member-member.result.now.rate
+    c.member-member.result.now.exponent n x.config.cap b)
     (c.most_frames.ensures.most ∙ ap (λ (z : TransmitValue). most_of z c.args.station)
     (sym c.self.view_is)) (c.is_wide.ensures ∙ ap
     (λ (z : TransmitValue). is_wide_of z c.args.station c.args.tid) (sym c.self.view_is))
-    ∙ room_read x w bodies c.args.station at.turned.parts at.turned.live c.rate.result c.rate.ensures
-    c.args.tid c.exponent.result at.turned.tid c.exponent.ensures))
+    ∙ room_read x w bodies c.args.station at.turned.parts at.turned.live c.member-member.result.now.rate
+    (ap (option_map (λ (m : Member). m.rate)) c.member-member.ensures) c.args.tid
+    c.member-member.result.now.exponent at.turned.tid
+    (ap (option_map (λ (m : Member). m.exponent)) c.member-member.ensures)))
     (subst (λ (ns : List ℕ). IsChoosing (room_for w c.args.station c.args.tid) ns
     (window_of x.windows c.args.station c.args.tid).start w c.args.station c.args.tid) (sym c.new.ensures)
     (choosing_begins x w bodies c.args.station c.args.tid at)))

@@ -1,5 +1,6 @@
-use Rattle.std.proofs.Common.{ap, sym, ◌∙◌, subst, arith, length}
+use Rattle.std.proofs.Common.{option_map, ap, sym, ◌∙◌, subst, arith, length}
 use Rattle.wf_frame.specs.Frames.{FrameValue}
+use Rattle.wf_send_stations.specs.declared.members.Member.{Member}
 use Rattle.wf_send_half_refines.specs.Half.{TransmitValue}
 use Rattle.wf_send_half_refines.specs.Filling.{IsTurned}
 use Rattle.wf_send_half_refines.proofs.Asked.{params_read}
@@ -17,7 +18,7 @@ settle_all-requires-clause-held c =
     subst (λ (z : TransmitValue). IsTurned z h.world h.bodies c.args.station c.args.tid)
     (sym c.self.view_is) h.turned in
     let right = c.of-params.ensures ∙ params_read x h.world h.bodies c.args.station at.parts at.live
-    c.rate.result c.rate.ensures in
+    c.member.result.now.rate (ap (option_map (λ (m : Member). m.rate)) c.member.ensures) in
     omega (
       arith,
       c.in-Some.ensures.dropped,
@@ -34,7 +35,7 @@ returns-clause-given c =
     subst (λ (z : TransmitValue). IsTurned z h.world h.bodies c.args.station c.args.tid)
     (sym c.self.view_is) h.turned in
     let right = c.of-params.ensures ∙ params_read x h.world h.bodies c.args.station at.parts at.live
-    c.rate.result c.rate.ensures in
+    c.member.result.now.rate (ap (option_map (λ (m : Member). m.rate)) c.member.ensures) in
     let counted = counted_drops x h.world h.bodies c.args.station c.args.tid at _ right c.take.new.self
     c.in-Some.taken.parcel c.in-Some.ensures.taken in
     let y : TransmitValue = view_of
@@ -43,8 +44,8 @@ returns-clause-given c =
     (subst (λ (z : TransmitValue). IsTaken z y c.args.station c.args.tid c.in-Some.taken.parcel)
     c.self.view_is
     (took x c.args.station c.args.tid _ (record {
-      rate = c.rate.result;
-      is_rate = c.rate.ensures;
+      rate = c.member.result.now.rate;
+      is_rate = ap (option_map (λ (m : Member). m.rate)) c.member.ensures;
       is =
           c.of-params.ensures;
     }) c.take.new.self c.in-Some.taken.parcel c.in-Some.ensures.taken _
