@@ -1,22 +1,19 @@
 //! Filling an aggregate.
 
-ghost use Rattle.std.specs.Prelude.{◌≡◌, ◌<◌, ◌≤◌, ◌^◌, ◌++◌, ◌∷◌, ◌&&◌, ℕ, List, true, [], nat_lt, length, IsTrue, IsFalse};
+ghost use Rattle.std.specs.Prelude.{◌≡◌, ◌<◌, ◌≤◌, ◌^◌, ◌++◌, ◌∷◌, ℕ, List, [], length, IsTrue, IsFalse};
 ghost use Rattle.wf_frame.specs.Frames.{FrameValue};
-ghost use Rattle.wf_frame.specs.Classes.{tid_number};
-ghost use Rattle.wf_queue_flows.specs.Flows.{frames_of_tid};
 ghost use Rattle.wf_air_fit.specs.Rooms.{RoomStandsFor as RoomStandsFor};
-ghost use Rattle.wf_send_window.specs.Window.{can_take};
 ghost use Rattle.wf_def_air.specs.Fit.{fits};
 ghost use Rattle.wf_def_lists.specs.Lengths.{greatest_body};
 ghost use Rattle.wf_send_window.specs.Windows.{window_of};
 ghost use Rattle.wf_def_world.specs.World.{World};
 ghost use Rattle.wf_def_world.specs.Exchanges.{Aggregate as Filled, aggregate_of};
 ghost use Rattle.wf_send_half_refines.specs.Filling.{IsToFill, IsChoosing, IsFilled};
-ghost use Rattle.wf_send_half_refines.specs.Pulling.{is_wide_of};
 ghost use Rattle.wf_send_half.specs.Half.{IsLive};
-ghost use Rattle.wf_send_half.specs.Pulls.{most_of, IsExponentSmall, IsSameButFrames, HasTurn, HasToFill, AggregateGoesOn, HasFilling, HasLens, IsGivenNumber};
+ghost use Rattle.wf_send_half.specs.Pulls.{most_of, IsExponentSmall, IsSameButFrames, HasToFill, AggregateGoesOn, HasFilling, HasLens};
 
 use crate::Transmit;
+use crate::finish::NARROW;
 use wf_air_fit::Room;
 use wf_frame::{Cause, Fate};
 use wf_octets_seq12::Seq12;
@@ -59,32 +56,6 @@ impl Aggregate {
 }
 
 impl Transmit {
-    // Takes a queued frame of a TID, counts those that CoDel drops, and gives it the next fresh number; the
-    // number and the length of its body.
-    fn give_fresh(&mut self, station: u16, tid: u8) -> (Seq12, u16)
-        requires within { station < self.old.config.stations }
-        requires tid { tid < 8 }
-        requires live { IsLive self.old station }
-        requires small { self.old.clock < 2 ^ 62 }
-        requires gives { (nat_lt 0 (frames_of_tid self.old.flows (tid_number station tid))
-            && can_take (window_of self.old.windows station tid)) ≡ true }
-        requires turned { HasTurn self.old station tid }
-        ensures given { IsGivenNumber self.old self.new station tid result.0 result.1 }
-        ensures len { (1 ≤ result.1) × (result.1 ≤ greatest_body) }
-    {
-        let params = Params::of(self.members.member(station).rate);
-        let Some(taken) = self.flows.take(station, tid, self.clock, params) else {
-            unreachable!()
-        };
-        let Taken { parcel, dropped } = taken;
-        self.tally.settle_all(Fate::Dropped(Cause::Codel), dropped);
-        let len = parcel.frame().len();
-        match self.windows.give(station, tid, parcel) {
-            Ok(number) => (number, len),
-            Err(_) => unreachable!(),
-        }
-    }
-
     // The most frames of one aggregate of a station: one where it sleeps.
     fn most_frames(&self, station: u16) -> u16
         requires within { station < self.now.config.stations }
@@ -96,15 +67,6 @@ impl Transmit {
         } else {
             self.config.agg as u16
         }
-    }
-
-    /// Whether the window of a TID is above 64 numbers.
-    pub(crate) fn is_wide(&self, station: u16, tid: u8) -> bool
-        requires within { station < self.now.config.stations }
-        requires tid { tid < 8 }
-        ensures { result ≡ is_wide_of self.now station tid }
-    {
-        self.windows.at(station, tid).size() > 64
     }
 }
 
@@ -130,7 +92,7 @@ impl Transmit {
                 member.exponent,
                 self.most_frames(station),
                 self.config.cap,
-                self.is_wide(station, tid),
+                self.windows.at(station, tid).size() > NARROW,
             ),
         };
         if self.add_waiting(station, tid, &mut aggregate) {
@@ -169,7 +131,8 @@ impl Transmit {
         true
     }
 
-    // Adds fresh frames while there is room for one; one that does not fit keeps its number and waits.
+    // Adds fresh frames while there is room for one: each is taken out of its queue, those that CoDel drops
+    // before it are counted, and it gets the next number. One that does not fit waits with its number.
     fn add_fresh(&mut self, station: u16, tid: u8, aggregate: &mut Aggregate)
         requires within { station < self.old.config.stations }
         requires tid { tid < 8 }
@@ -183,8 +146,17 @@ impl Transmit {
         ensures same { IsSameButFrames self.old self.new }
     {
         let most = self.most_frames(station);
+        let params = Params::of(self.members.member(station).rate);
         'fresh: while aggregate.numbers.len() < most && self.can_give(station, tid) {
-            let (number, len) = self.give_fresh(station, tid);
+            let Some(taken) = self.flows.take(station, tid, self.clock, params) else {
+                unreachable!()
+            };
+            let Taken { parcel, dropped } = taken;
+            self.tally.settle_all(Fate::Dropped(Cause::Codel), dropped);
+            let len = parcel.frame().len();
+            let Ok(number) = self.windows.give(station, tid, parcel) else {
+                unreachable!()
+            };
             if !aggregate.add(number, len) {
                 return;
             }

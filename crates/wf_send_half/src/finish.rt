@@ -28,7 +28,7 @@ use wf_send_exchanges::{Numbers, Open, Sending};
 use wf_send_window::Settled;
 
 /// How many numbers a BlockAck tells of, from its start on.
-const NARROW: u16 = 64;
+pub(crate) const NARROW: u16 = 64;
 
 const WIDE: u16 = 256;
 

@@ -21,6 +21,7 @@ ghost use Rattle.wf_send_half.specs.Half.{HasWorld, IsLive};
 ghost use Rattle.wf_send_half.specs.Pulls.{IsSenderTold, TellsWhoIsReady, IsExponentSmall, IsSameButFrames, HasTakingOff, IsFlying, HasToPrepare, IsPreparedFor, start_sent};
 
 use crate::Transmit;
+use crate::finish::NARROW;
 use wf_air_time::request_charge;
 use wf_frame::{Brief, Class, Pairs, Refusal};
 use wf_send_exchanges::{Numbers, Open, Sending};
@@ -169,7 +170,7 @@ impl Transmit {
             let start = window.start();
             return Prepared {
                 sending: Sending::Request(start),
-                charge: request_charge(self.is_wide(station, tid)),
+                charge: request_charge(window.size() > NARROW),
                 request: Some(start.raw()),
             };
         }

@@ -1,13 +1,34 @@
-use Rattle.std.proofs.Common.{refl, ap, sym, ◌∙◌, arith, ℕ, ◌∷◌, [], length, length-append}
+use Rattle.std.proofs.Common.{refl, ap, sym, ◌∙◌, arith, ℕ, ◌∷◌, [], length, length-append, Option, option_map}
+use Rattle.wf_frame.specs.Frames.{FrameValue}
+use Rattle.wf_def_air.specs.Airtime.{Rate}
+use Rattle.wf_queue_codel.specs.Params.{params_of}
+use Rattle.wf_send_stations.specs.declared.members.Member.{Member}
+use Rattle.wf_send_stations.specs.Members.{member}
+use Rattle.wf_send_half_refines.specs.Half.{TransmitValue}
 use Rattle.wf_send_half_refines.proofs.Gives.{full_fills, filled_idle}
+use Rattle.wf_send_half.specs.Pulls.{HasTurn, IsParamsOf, IsGivenNumber}
+use Rattle.wf_send_half.proofs.Calls.{view_of}
 use Rattle.wf_send_half.proofs.Filling.{filling_lens, goes_on_fresh, ends_fresh, same_agg, turn_of, same_given}
+use Rattle.wf_send_half.proofs.Giving.{drops_held, gave_fresh}
 use Rattle.wf_send_half.proofs.half.Transmit.add_fresh.Goals as goal
 
-pub give_fresh-number-requires-clause-turned : goal.give_fresh-number-requires-clause-turned
-give_fresh-number-requires-clause-turned c =
+pub settle_all-requires-clause-held : goal.settle_all-requires-clause-held
+settle_all-requires-clause-held c =
     let h = c.requires.filling in
-    turn_of c.fresh.self h.bodies c.args.station c.args.tid c.fresh.aggregate.room c.fresh.aggregate.numbers
-    h.after (c.fresh.invariant.on h.bodies h.after h.goes_on)
+    let v : TransmitValue = c.fresh.self in
+    let x : TransmitValue = view_of c.self-in-fresh.inside in
+    let turn : HasTurn v c.args.station c.args.tid =
+    turn_of v h.bodies c.args.station c.args.tid c.fresh.aggregate.room c.fresh.aggregate.numbers h.after
+    (c.fresh.invariant.on h.bodies h.after h.goes_on) in
+    let F : TransmitValue → Option Rate = λ z. option_map (λ m. m.rate) (member z.members c.args.station) in
+    let read : IsParamsOf v c.args.station (params_of c.of-params.result) = record {
+      rate = c.member.result.now.rate;
+      is_rate = ap F c.fresh.invariant.same ∙ ap F (sym c.self.view_is)
+          ∙ ap (option_map (λ (m : Member). m.rate)) c.member.ensures;
+      is = c.of-params.ensures;
+    } in
+    drops_held x v c.self-in-fresh.view_is c.args.station c.args.tid turn _ read c.take.new.self
+    c.in-Some.taken.parcel c.in-Some.ensures.taken c.in-Some.taken.dropped c.in-Some.ensures.dropped
 
 pub add-requires-clause-lens : goal.add-requires-clause-lens
 add-requires-clause-lens c =
@@ -17,40 +38,118 @@ add-requires-clause-lens c =
     (omega (arith, c.fresh.invariant.most, c.most_frames-most.ensures.few))
 
 pub returns-then-not-add-clause-filled : goal.returns-then-not-add-clause-filled
-returns-then-not-add-clause-filled c bodies after h =
+returns-then-not-add-clause-filled c bodies after k =
+    let h = c.requires.filling in
+    let v : TransmitValue = c.fresh.self in
+    let x : TransmitValue = view_of c.self-in-fresh.inside in
+    let turn : HasTurn v c.args.station c.args.tid =
+    turn_of v h.bodies c.args.station c.args.tid c.fresh.aggregate.room c.fresh.aggregate.numbers h.after
+    (c.fresh.invariant.on h.bodies h.after h.goes_on) in
+    let F : TransmitValue → Option Rate = λ z. option_map (λ m. m.rate) (member z.members c.args.station) in
+    let read : IsParamsOf v c.args.station (params_of c.of-params.result) = record {
+      rate = c.member.result.now.rate;
+      is_rate = ap F c.fresh.invariant.same ∙ ap F (sym c.self.view_is)
+          ∙ ap (option_map (λ (m : Member). m.rate)) c.member.ensures;
+      is = c.of-params.ensures;
+    } in
+    let u : TransmitValue = view_of (record c.self-in-fresh.inside {
+      flows = c.take.new.self;
+      windows = c.give.new.self;
+      tally = c.settle_all.new.self;
+    }) in
+    let given : IsGivenNumber v u c.args.station c.args.tid c.in-Ok.number c.len-len.result =
+    gave_fresh x v c.self-in-fresh.view_is c.args.station c.args.tid turn _ read c.take.new.self
+    c.in-Some.taken.parcel c.in-Some.ensures.taken c.in-Some.taken.dropped c.in-Some.ensures.dropped _
+    c.settle_all.ensures.counted c.give.new.self c.in-Ok.ensures.others c.in-Ok.ensures.room c.in-Ok.number
+    c.len-len.result (c.len-len.ensures.exact ∙ ap (λ (g : FrameValue). length g.body) c.frame.ensures)
+    c.in-Ok.ensures.given in
     rw (c.if-not-add.ensures.refused refl)
     (ends_fresh c.fresh.self bodies c.args.station c.args.tid c.fresh.aggregate.room c.fresh.aggregate.numbers
-    after (c.fresh.invariant.on bodies after h)
+    after (c.fresh.invariant.on bodies after k)
     (omega (arith, c.fresh.invariant.most, c.len.ensures.count, c.fresh-test.true))
-    (sym c.if-can_give.ensures.value) c.give_fresh-number.new.self c.give_fresh-number.result.0
-    c.give_fresh-number.result.1 c.give_fresh-number.ensures.given c.if-not-add.ensures.exact)
+    (sym c.if-can_give.ensures.value) u c.in-Ok.number
+    c.len-len.result given c.if-not-add.ensures.exact)
+
+pub returns-then-not-add-clause-same : goal.returns-then-not-add-clause-same
+returns-then-not-add-clause-same c =
+    let h = c.requires.filling in
+    let v : TransmitValue = c.fresh.self in
+    let x : TransmitValue = view_of c.self-in-fresh.inside in
+    let turn : HasTurn v c.args.station c.args.tid =
+    turn_of v h.bodies c.args.station c.args.tid c.fresh.aggregate.room c.fresh.aggregate.numbers h.after
+    (c.fresh.invariant.on h.bodies h.after h.goes_on) in
+    let F : TransmitValue → Option Rate = λ z. option_map (λ m. m.rate) (member z.members c.args.station) in
+    let read : IsParamsOf v c.args.station (params_of c.of-params.result) = record {
+      rate = c.member.result.now.rate;
+      is_rate = ap F c.fresh.invariant.same ∙ ap F (sym c.self.view_is)
+          ∙ ap (option_map (λ (m : Member). m.rate)) c.member.ensures;
+      is = c.of-params.ensures;
+    } in
+    let u : TransmitValue = view_of (record c.self-in-fresh.inside {
+      flows = c.take.new.self;
+      windows = c.give.new.self;
+      tally = c.settle_all.new.self;
+    }) in
+    let given : IsGivenNumber v u c.args.station c.args.tid c.in-Ok.number c.len-len.result =
+    gave_fresh x v c.self-in-fresh.view_is c.args.station c.args.tid turn _ read c.take.new.self
+    c.in-Some.taken.parcel c.in-Some.ensures.taken c.in-Some.taken.dropped c.in-Some.ensures.dropped _
+    c.settle_all.ensures.counted c.give.new.self c.in-Ok.ensures.others c.in-Ok.ensures.room c.in-Ok.number
+    c.len-len.result (c.len-len.ensures.exact ∙ ap (λ (g : FrameValue). length g.body) c.frame.ensures)
+    c.in-Ok.ensures.given in
+    same_given c.args.self.now c.fresh.self u c.args.station c.args.tid c.in-Ok.number c.len-len.result
+    c.fresh.invariant.same given
 
 pub fresh-smaller : goal.fresh-smaller
 fresh-smaller c =
     omega (
       arith,
       ap (length {A = ℕ}) (c.if-not-add.ensures.added refl),
-      length-append c.fresh.aggregate.numbers (c.give_fresh-number.result.0 ∷ []),
+      length-append c.fresh.aggregate.numbers (c.in-Ok.number ∷ []),
       c.if-not-add.ensures.few refl,
     )
 
 pub fresh-preserved : goal.fresh-preserved
-fresh-preserved c = record {
-  on = λ bodies after h.
-      rw (c.if-not-add.ensures.added refl)
-      (goes_on_fresh c.fresh.self bodies c.args.station c.args.tid c.fresh.aggregate.room
-      c.fresh.aggregate.numbers after (c.fresh.invariant.on bodies after h)
-      (omega (arith, c.fresh.invariant.most, c.len.ensures.count, c.fresh-test.true))
-      (sym c.if-can_give.ensures.value) c.give_fresh-number.new.self c.give_fresh-number.result.0
-      c.give_fresh-number.result.1 c.give_fresh-number.ensures.given
-      c.add.new.self.room c.if-not-add.ensures.exact
-      (λ ls k. c.if-not-add.ensures.taken ls k refl) c.if-not-add.ensures.kept);
-  same = same_given c.args.self.now c.fresh.self c.give_fresh-number.new.self c.args.station c.args.tid
-      c.give_fresh-number.result.0 c.give_fresh-number.result.1 c.fresh.invariant.same
-      c.give_fresh-number.ensures.given;
-  most = same_agg c.fresh.aggregate.room c.add.new.self.room c.if-not-add.ensures.kept
-      ∙ c.fresh.invariant.most;
-}
+fresh-preserved c =
+    let h = c.requires.filling in
+    let v : TransmitValue = c.fresh.self in
+    let x : TransmitValue = view_of c.self-in-fresh.inside in
+    let turn : HasTurn v c.args.station c.args.tid =
+    turn_of v h.bodies c.args.station c.args.tid c.fresh.aggregate.room c.fresh.aggregate.numbers h.after
+    (c.fresh.invariant.on h.bodies h.after h.goes_on) in
+    let F : TransmitValue → Option Rate = λ z. option_map (λ m. m.rate) (member z.members c.args.station) in
+    let read : IsParamsOf v c.args.station (params_of c.of-params.result) = record {
+      rate = c.member.result.now.rate;
+      is_rate = ap F c.fresh.invariant.same ∙ ap F (sym c.self.view_is)
+          ∙ ap (option_map (λ (m : Member). m.rate)) c.member.ensures;
+      is = c.of-params.ensures;
+    } in
+    let u : TransmitValue = view_of (record c.self-in-fresh.inside {
+      flows = c.take.new.self;
+      windows = c.give.new.self;
+      tally = c.settle_all.new.self;
+    }) in
+    let given : IsGivenNumber v u c.args.station c.args.tid c.in-Ok.number c.len-len.result =
+    gave_fresh x v c.self-in-fresh.view_is c.args.station c.args.tid turn _ read c.take.new.self
+    c.in-Some.taken.parcel c.in-Some.ensures.taken c.in-Some.taken.dropped c.in-Some.ensures.dropped _
+    c.settle_all.ensures.counted c.give.new.self c.in-Ok.ensures.others c.in-Ok.ensures.room c.in-Ok.number
+    c.len-len.result (c.len-len.ensures.exact ∙ ap (λ (g : FrameValue). length g.body) c.frame.ensures)
+    c.in-Ok.ensures.given in
+    record {
+      on = λ bodies after k.
+          rw (c.if-not-add.ensures.added refl)
+          (goes_on_fresh c.fresh.self bodies c.args.station c.args.tid c.fresh.aggregate.room
+          c.fresh.aggregate.numbers after (c.fresh.invariant.on bodies after k)
+          (omega (arith, c.fresh.invariant.most, c.len.ensures.count, c.fresh-test.true))
+          (sym c.if-can_give.ensures.value) u c.in-Ok.number
+          c.len-len.result given
+          c.add.new.self.room c.if-not-add.ensures.exact
+          (λ ls k. c.if-not-add.ensures.taken ls k refl) c.if-not-add.ensures.kept);
+      same = same_given c.args.self.now c.fresh.self u c.args.station c.args.tid
+          c.in-Ok.number c.len-len.result c.fresh.invariant.same
+          given;
+      most = same_agg c.fresh.aggregate.room c.add.new.self.room c.if-not-add.ensures.kept
+          ∙ c.fresh.invariant.most;
+    }
 
 pub returns-else-can_give-clause-filled : goal.returns-else-can_give-clause-filled
 returns-else-can_give-clause-filled c bodies after h =

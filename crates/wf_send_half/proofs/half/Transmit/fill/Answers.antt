@@ -1,15 +1,15 @@
 use Rattle.std.proofs.Common.{◌≡◌, refl, ap, ap₂, sym, ◌∙◌, subst, ℕ, ◌≤◌, Bool, List, Option, Some, None, option_map}
-use Rattle.std.specs.Prelude.{IfSome}
+use Rattle.std.specs.Prelude.{IfSome, nat_lt}
 use Rattle.wf_def_world.specs.Exchanges.{aggregate_of}
 use Rattle.wf_air_fit.specs.Rooms.{RoomValue, empty_room}
 use Rattle.wf_send_stations.specs.declared.members.Member.{Member}
 use Rattle.wf_send_stations.specs.Members.{member}
+use Rattle.wf_send_window.specs.Window.{WindowValue}
 use Rattle.wf_send_window.specs.Windows.{window_of}
 use Rattle.wf_send_half_refines.specs.Half.{TransmitValue}
 use Rattle.wf_send_half_refines.specs.Filling.{IsToFill, IsChoosing, room_for}
 use Rattle.wf_send_half_refines.proofs.Asked.{room_read}
 use Rattle.wf_send_half_refines.proofs.Fills.{choosing_begins}
-use Rattle.wf_send_half_refines.specs.Pulling.{is_wide_of}
 use Rattle.wf_send_half.specs.Pulls.{most_of}
 use Rattle.wf_send_half.proofs.Calls.{view_of}
 use Rattle.wf_send_half.proofs.half.Transmit.fill.Goals as goal
@@ -41,8 +41,8 @@ add_waiting-requires-clause-begins c w bodies to =
     ∙ ap₂ (λ (n : ℕ) (b : Bool). empty_room c.member-member.result.now.rate
     c.member-member.result.now.exponent n x.config.cap b)
     (c.most_frames.ensures.most ∙ ap (λ (z : TransmitValue). most_of z c.args.station)
-    (sym c.self.view_is)) (c.is_wide.ensures ∙ ap
-    (λ (z : TransmitValue). is_wide_of z c.args.station c.args.tid) (sym c.self.view_is))
+    (sym c.self.view_is)) (ap (λ (n : ℕ). nat_lt 64 n)
+    (c.size.ensures.shown ∙ ap (λ (z : WindowValue). z.size) c.at.ensures))
     ∙ room_read x w bodies c.args.station at.turned.parts at.turned.live c.member-member.result.now.rate
     (ap (option_map (λ (m : Member). m.rate)) c.member-member.ensures) c.args.tid
     c.member-member.result.now.exponent at.turned.tid
