@@ -27,11 +27,21 @@ use wf_send_stations::Tally;
 /// addresses, which stay at each call but `set_base` and `set_address`. Only `new` takes memory.
 ///
 /// It keeps by class which stations are ready, so that a pull asks nobody.
-#[derive(Drop)]
 pub struct Path {
     pub(crate) half: Transmit,
     pub(crate) ready: Ready,
     pub(crate) addresses: AddressBook,
+}
+
+// By hand, so that whoever lets a path go proves one call and not the drop of each list in it.
+impl Drop for Path {
+    fn drop(self) {
+        let Path {
+            half: _half,
+            ready: _ready,
+            addresses: _addresses,
+        } = self;
+    }
 }
 
 impl Model for Path {
