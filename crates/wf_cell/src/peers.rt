@@ -21,7 +21,7 @@ use wf_send_exchanges::widened;
 const WIDE: usize = 52;
 
 /// What a station's BlockAck says.
-#[derive(Clone, Copy, Debug)]
+#[derive(Clone, Copy)]
 pub(crate) struct BlockAck {
     /// The first number that it tells of.
     pub(crate) start: Seq12,

@@ -9,7 +9,7 @@ use itoa::Buffer;
 use std::marker::Model;
 
 /// A word of a line.
-#[derive(Clone, Copy, Debug, PartialEq, Eq)]
+#[derive(Clone, Copy)]
 pub enum Word {
     /// A word as it stands.
     Text(&'static [u8]),

@@ -106,7 +106,7 @@ pub trait Lane {
 
 /// How long a frame may wait (the target), and for how long frames have to wait longer before one is dropped
 /// (the interval).
-#[derive(Clone, Copy, Debug, PartialEq, Eq)]
+#[derive(Clone, Copy)]
 pub struct Params {
     pub target: u32,
     pub interval: u32,
@@ -133,7 +133,7 @@ impl Params {
 }
 
 /// The state of CoDel on one lane.
-#[derive(Clone, Copy, Debug)]
+#[derive(Clone, Copy)]
 pub struct Codel {
     first_above: u64,
     drop_next: u64,

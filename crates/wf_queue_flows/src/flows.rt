@@ -17,7 +17,7 @@ use wf_queue_codel::Params;
 use wf_sched_rotation::Rota;
 
 /// A frame that was dropped for the limit, and whose it was.
-#[derive(Clone, Copy, Debug, PartialEq, Eq)]
+#[derive(Clone, Copy)]
 pub struct Lost {
     pub id: u64,
     pub station: u16,

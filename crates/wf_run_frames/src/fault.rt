@@ -7,7 +7,7 @@ ghost use Rattle.wf_run_frames.specs.Lines.{kind_word};
 use wf_pcap::PcapFault;
 
 /// The kinds of faults of a capture.
-#[derive(Clone, Copy, Debug, PartialEq, Eq)]
+#[derive(Clone, Copy)]
 pub enum FaultKind {
     /// The input ends inside a header or a packet.
     Short,
@@ -24,7 +24,7 @@ pub enum FaultKind {
 }
 
 /// The first fault of a capture.
-#[derive(Clone, Copy, Debug, PartialEq, Eq)]
+#[derive(Clone, Copy)]
 pub struct Fault {
     /// The number of the packet, counted from 1; 0 is the file header.
     pub packet: u64,

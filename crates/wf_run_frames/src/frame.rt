@@ -14,7 +14,7 @@ use wf_octets_block::{decode_ba, decode_bar, decode_wide};
 use wf_octets_header::{Kind, decode};
 
 /// What is told of a frame.
-#[derive(Clone, Copy, Debug, PartialEq, Eq)]
+#[derive(Clone, Copy)]
 pub enum Frame {
     /// QoS Data: its traffic identifier and its sequence number.
     Data { tid: u8, seq: u16 },

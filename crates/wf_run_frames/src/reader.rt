@@ -12,7 +12,7 @@ use wf_io::{Failed, MOST_OCTETS, Source};
 use wf_pcap::{Form, PACKET_HEAD, Packet, PcapFault, read_packet};
 
 /// What comes next of a capture.
-#[derive(Clone, Copy, Debug, PartialEq, Eq)]
+#[derive(Clone, Copy)]
 pub enum Next {
     /// A packet, by its header.
     Packet(Packet),

@@ -1,5 +1,5 @@
 /// Why an event does not happen.
-#[derive(Clone, Copy, Debug, PartialEq, Eq)]
+#[derive(Clone, Copy)]
 pub enum Refusal {
     /// All 255 tokens were asked with.
     Spent,

@@ -6,7 +6,7 @@ ghost use Rattle.wf_run_session.specs.Lines.{session_word, verb_named, session_a
 use wf_trace::Arg;
 
 /// The words that name an event.
-#[derive(Clone, Copy, Debug, PartialEq, Eq)]
+#[derive(Clone, Copy)]
 pub enum Verb {
     Ask,
     Again,

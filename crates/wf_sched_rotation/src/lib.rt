@@ -15,7 +15,7 @@ mod scan;
 pub use rota::Rota;
 
 /// One of the two lists of a rotation.
-#[derive(Clone, Copy, Debug, PartialEq, Eq)]
+#[derive(Clone, Copy)]
 pub enum Side {
     /// The list of keys that were listed since they were last looked at.
     New,

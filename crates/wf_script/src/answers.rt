@@ -12,7 +12,7 @@ use wf_io::{Failed, Line, Sink};
 use wf_trace::FaultKind;
 
 /// Why an answer was not written whole.
-#[derive(Clone, Copy, Debug, PartialEq, Eq)]
+#[derive(Clone, Copy)]
 pub enum Unanswered {
     /// The sink failed.
     Sink,

@@ -3,7 +3,7 @@
 use wf_trace::Fault;
 
 /// How a script ends.
-#[derive(Clone, Copy, Debug, PartialEq, Eq)]
+#[derive(Clone, Copy)]
 pub enum Ending {
     /// With the line `end`.
     Finish,

@@ -15,7 +15,7 @@ use wf_io::{Failed, Source};
 use wf_trace::{Cut, Fault, FaultKind, Piece, next_word};
 
 /// What comes next of a script.
-#[derive(Clone, Copy, Debug, PartialEq, Eq)]
+#[derive(Clone, Copy)]
 pub enum Item<E> {
     /// An event.
     Event(E),

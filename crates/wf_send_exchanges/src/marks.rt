@@ -11,7 +11,7 @@ use wf_octets_bits::Bits256;
 use wf_octets_seq12::Seq12;
 
 /// What is kept of an open exchange.
-#[derive(Clone, Copy, Debug)]
+#[derive(Clone, Copy)]
 pub struct Mark {
     /// The number of the exchange.
     pub number: u64,

@@ -31,7 +31,7 @@ use wf_send_stations::Tally;
 const GREATEST_TID: u8 = 7;
 
 /// What becomes of a frame that is accepted.
-#[derive(Clone, Copy, Debug, PartialEq, Eq)]
+#[derive(Clone, Copy)]
 pub struct Admission {
     /// Its id.
     pub id: u64,

@@ -33,7 +33,7 @@ pub(crate) const NARROW: u16 = 64;
 const WIDE: u16 = 256;
 
 /// What became of the frames of an exchange that ended. They are at most 256.
-#[derive(Clone, Copy, Debug, PartialEq, Eq)]
+#[derive(Clone, Copy)]
 pub struct Ended {
     /// Those that were acknowledged.
     pub acked: u16,
@@ -44,7 +44,7 @@ pub struct Ended {
 }
 
 /// An exchange that ended.
-#[derive(Clone, Copy, Debug, PartialEq, Eq)]
+#[derive(Clone, Copy)]
 pub struct Closed {
     pub ended: Ended,
     /// Whether its station is ready now in the class of its TID.

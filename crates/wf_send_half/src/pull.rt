@@ -27,7 +27,7 @@ use wf_frame::{Brief, Class, Pairs, Refusal};
 use wf_send_exchanges::{Numbers, Open, Sending};
 
 /// What a pull comes to.
-#[derive(Clone, Copy, Debug, PartialEq, Eq)]
+#[derive(Clone, Copy)]
 pub struct Pulled {
     /// The answer.
     pub brief: Brief,

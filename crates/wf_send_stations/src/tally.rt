@@ -6,7 +6,7 @@ ghost use Rattle.wf_frame.specs.declared.classes.Fate.TheVariants.{Held};
 use wf_frame::{Cause, Fate};
 
 /// Counts of frames. Every accepted frame is acknowledged, dropped for one cause, or still held.
-#[derive(Clone, Copy, Debug, PartialEq, Eq)]
+#[derive(Clone, Copy)]
 pub struct Tally {
     /// All accepted frames.
     pub accepted: u64,

@@ -19,7 +19,7 @@ const LONGEST_LINE: usize = 160;
 const BUFFER: usize = 4096;
 
 /// What comes next of an input.
-#[derive(Clone, Copy, Debug, PartialEq, Eq)]
+#[derive(Clone, Copy)]
 pub enum Piece {
     /// A line that is not skipped: its number, counted from 1. `Cut::octets` has its octets.
     Text { line: u64 },
@@ -30,7 +30,7 @@ pub enum Piece {
 }
 
 /// What was found among the octets that wait.
-#[derive(Clone, Copy, Debug, PartialEq, Eq)]
+#[derive(Clone, Copy)]
 pub enum Found {
     Line,
     TooBig,

@@ -12,7 +12,7 @@ use crate::words::{in_range, next_word};
 use wf_frame::{CallForm, Config, Note, RateFormat};
 
 /// What a line says: it is the head, a call of a caller, or the end.
-#[derive(Clone, Copy, Debug, PartialEq, Eq)]
+#[derive(Clone, Copy)]
 pub enum Meaning {
     Head(Config),
     Entry(u32, Note),
@@ -20,7 +20,7 @@ pub enum Meaning {
 }
 
 /// Where a line stands behind the head: how many calls the head allows, and how many stood before.
-#[derive(Clone, Copy, Debug, PartialEq, Eq)]
+#[derive(Clone, Copy)]
 pub struct Place {
     pub limit: u32,
     pub count: u32,
