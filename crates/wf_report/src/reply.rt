@@ -24,6 +24,18 @@ fn push_refusal(out: &mut Line, refusal: Refusal)
     }
 }
 
+// The line of a word and of a number.
+fn push_numbered(out: &mut Line, word: &'static [u8], number: u64)
+    requires empty { out.old ≡ [] }
+    requires short { length word.now ≤ 8 }
+    ensures { out.new ≡ line (word.now ∷ decimal number ∷ []) }
+{
+    out.push_all(word);
+    out.push(b' ');
+    out.push_number(number);
+    out.push(b'\n');
+}
+
 // The frames of an aggregate, each with its sequence number.
 fn push_pairs(out: &mut Line, pairs: &Pairs)
     requires { length out.old ≤ 200 }
@@ -148,18 +160,21 @@ fn push_ended(out: &mut Line, acked: u16, waiting: u16, failed: u16)
     );
 }
 
-// The line of a frame that was accepted, and of the one that was dropped for it.
+// The line of a frame that was accepted, and of the one that was dropped for it, if any.
 fn push_accepted(out: &mut Line, id: u64, dropped: Option<u64>)
     requires { out.old ≡ [] }
     ensures { out.new ≡ answer_line (Accepted id dropped) }
 {
-    let id = Word::Number(id);
     match dropped {
-        None => out.push_line(b"accepted", &[id]),
-        Some(dropped) => {
-            let words = [id, Word::Text(b"dropped"), Word::Number(dropped)];
-            out.push_line(b"accepted", &words);
-        }
+        None => push_numbered(out, b"accepted", id),
+        Some(dropped) => out.push_line(
+            b"accepted",
+            &[
+                Word::Number(id),
+                Word::Text(b"dropped"),
+                Word::Number(dropped),
+            ],
+        ),
     }
 }
 
@@ -209,9 +224,9 @@ pub fn print_reply(answer: &Answer, out: &mut Line)
 {
     match answer.brief {
         Brief::Joined => out.push_line(b"joined", &[]),
-        Brief::Gone { dropped } => out.push_line(b"left", &[Word::Number(u64::from(dropped))]),
+        Brief::Gone { dropped } => push_numbered(out, b"left", u64::from(dropped)),
         Brief::RateSet => out.push_line(b"set", &[]),
-        Brief::Ticked { now } => out.push_line(b"now", &[Word::Number(now)]),
+        Brief::Ticked { now } => push_numbered(out, b"now", now),
         Brief::Accepted { id, dropped } => push_accepted(out, id, dropped),
         Brief::Send {
             exchange,
