@@ -12,7 +12,7 @@ ghost use Rattle.wf_octets_seq12.specs.Distance.{distance, TwelveBitsStandFor};
 use std::marker::Model;
 
 /// A number 0 to 4095. It stands for each whole number that it is modulo 4096.
-#[derive(Clone, Copy, Debug, PartialEq, Eq)]
+#[derive(Clone, Copy, Debug, Default, PartialEq, Eq)]
 pub struct Seq12 {
     number: u16,
 }

@@ -55,7 +55,7 @@ pub(crate) fn write_transmission(
     }
     match &open.sending {
         Sending::Data(numbers) => {
-            let seq = numbers.at(index);
+            let seq = numbers.at(usize::from(index));
             let mut header = [0; HEADER];
             encode(&header_of(half, addresses, open, index, seq), &mut header);
             write_parts(&header, frame_of(half, open, index, seq).body(), out)

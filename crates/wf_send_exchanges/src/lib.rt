@@ -5,10 +5,8 @@
 
 mod marks;
 mod narrow;
-mod numbers;
 mod opened;
 
 pub use marks::{Mark, Marks};
 pub use narrow::widened;
-pub use numbers::Numbers;
-pub use opened::{MOST_OPEN, Open, Opened, Sending};
+pub use opened::{MOST_OPEN, Numbers, Open, Opened, Sending};

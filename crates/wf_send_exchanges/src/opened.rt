@@ -4,14 +4,16 @@ ghost use Rattle.std.specs.Prelude.{◌≡◌, ◌<◌, ◌≤◌, ◌==◌, ◌
 ghost use Rattle.wf_frame.specs.Classes.{same_class};
 ghost use Rattle.wf_def_lists.specs.Lists.{IsRising};
 
-use crate::Numbers;
 use std::alloc::{AllocError, Global};
 use std::marker::Model;
-use wf_frame::Class;
+use wf_frame::{Class, FixedList};
 use wf_octets_seq12::Seq12;
 
 /// The most open exchanges: eight of each of the four classes.
 pub const MOST_OPEN: usize = 32;
+
+/// At most 256 sequence numbers, in the order in which they are sent.
+pub type Numbers = FixedList<Seq12>;
 
 /// What an exchange sends.
 #[derive(Drop)]
@@ -50,7 +52,7 @@ impl Open {
         ensures most { result ≤ 256 }
     {
         match &self.sending {
-            Sending::Data(numbers) => numbers.len(),
+            Sending::Data(numbers) => numbers.len() as u16,
             Sending::Request(_) => 1,
         }
     }
@@ -61,7 +63,9 @@ impl Open {
         ensures { result ≡ number_carried self.now.sending index }
     {
         match &self.sending {
-            Sending::Data(numbers) if index < numbers.len() => Some(numbers.at(index)),
+            Sending::Data(numbers) if usize::from(index) < numbers.len() => {
+                Some(numbers.at(usize::from(index)))
+            }
             _ => None,
         }
     }

@@ -147,7 +147,7 @@ impl Transmit {
     {
         let most = self.most_frames(station);
         let params = Params::of(self.members.member(station).rate);
-        'fresh: while aggregate.numbers.len() < most && self.can_give(station, tid) {
+        'fresh: while aggregate.numbers.len() < usize::from(most) && self.can_give(station, tid) {
             let Some(taken) = self.flows.take(station, tid, self.clock, params) else {
                 unreachable!()
             };

@@ -1,4 +1,5 @@
-use Rattle.std.proofs.Common.{◌≡◌, sym, ap, ◌∙◌, arith, ◌++◌, [], Some, length, take}
+use Rattle.std.proofs.Common.{◌≡◌, ℕ, sym, ap, ◌∙◌, arith, ◌++◌, [], Some, length, take}
+use Rattle.std.specs.Prelude.{slice_get}
 use Rattle.wf_path.specs.Addresses.{address_in}
 use Rattle.wf_octets_header.specs.Layout.{size_of, header_as_octets}
 use Rattle.wf_octets_block.specs.declared.frames.Bar.{Bar}
@@ -24,12 +25,14 @@ returns-then-index-count-clause-fault c w bodies h =
 pub header_of-requires : goal.header_of-requires
 header_of-requires c =
     some_flies c.args.half.now c.args.number c.in-Some.open.now c.args.index c.at-seq.result c.in-Some.ensures
-    (ap (λ (s : Sending). number_carried s c.args.index) c.in-Data.is ∙ c.at-seq.ensures) c.requires
+    (ap (λ (s : Sending). number_carried s c.args.index) c.in-Data.is
+    ∙ ap (λ (k : ℕ). slice_get c.in-Data.numbers k) (sym c.from.ensures) ∙ c.at-seq.ensures) c.requires
 
 pub frame_of-requires : goal.frame_of-requires
 frame_of-requires c =
     some_flies c.args.half.now c.args.number c.in-Some.open.now c.args.index c.at-seq.result c.in-Some.ensures
-    (ap (λ (s : Sending). number_carried s c.args.index) c.in-Data.is ∙ c.at-seq.ensures) c.requires
+    (ap (λ (s : Sending). number_carried s c.args.index) c.in-Data.is
+    ∙ ap (λ (k : ℕ). slice_get c.in-Data.numbers k) (sym c.from.ensures) ∙ c.at-seq.ensures) c.requires
 
 pub encode_bar-requires : goal.encode_bar-requires
 encode_bar-requires c = omega (
@@ -48,7 +51,7 @@ returns-in-Data-clause-fault c w bodies h =
     ∙ data_fault c.args.addresses.now c.args.half.now c.args.number c.in-Some.open.now c.args.index
     c.at-seq.result
     c.in-Some.ensures (ap (λ (s : Sending). number_carried s c.args.index) c.in-Data.is
-    ∙ c.at-seq.ensures)
+    ∙ ap (λ (k : ℕ). slice_get c.in-Data.numbers k) (sym c.from.ensures) ∙ c.at-seq.ensures)
     w bodies h c.header_of.result c.encode.new.out c.body.result.now c.frame_of.result.now
     (λ x m f. c.header_of.ensures.header w bodies x m f)
     (λ x m f. c.frame_of.ensures w bodies x m f) head_is c.body.ensures (length c.args.out.now)
@@ -64,7 +67,8 @@ returns-in-Data-clause-octets c =
     (λ n is w bodies h.
     data_sent c.args.addresses.now c.args.half.now c.args.number c.in-Some.open.now c.args.index
     c.at-seq.result c.in-Some.ensures
-    (ap (λ (s : Sending). number_carried s c.args.index) c.in-Data.is ∙ c.at-seq.ensures)
+    (ap (λ (s : Sending). number_carried s c.args.index) c.in-Data.is
+    ∙ ap (λ (k : ℕ). slice_get c.in-Data.numbers k) (sym c.from.ensures) ∙ c.at-seq.ensures)
     w bodies h c.header_of.result c.encode.new.out c.body.result.now c.frame_of.result.now
     (λ x m f. c.header_of.ensures.header w bodies x m f)
     (λ x m f. c.frame_of.ensures w bodies x m f) head_is c.body.ensures
