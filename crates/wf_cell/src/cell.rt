@@ -35,7 +35,6 @@ use wf_queue_chain::Parcel;
 /// they agree with the machine's run of that history (`wf_def_world`). The history takes no memory: of its
 /// entries the cell has the last alone (a `Record` of wf_record has all). Only `new` and `of` take memory,
 /// and as much for a history of any length.
-#[derive(Drop)]
 pub struct Cell {
     engine: Engine,
     /// How many calls may still be made.
@@ -43,6 +42,18 @@ pub struct Cell {
     /// The last one that was.
     last: Option<(u32, Note)>,
     past: History<Note>,
+}
+
+// By hand, so that whoever lets a cell go proves one call and not the drop of each list in it.
+impl Drop for Cell {
+    fn drop(self) {
+        let Cell {
+            engine: _engine,
+            left: _,
+            last: _,
+            past: _past,
+        } = self;
+    }
 }
 
 impl Model for Cell {

@@ -1,8 +1,8 @@
 //! A path of one station, as a test calls it.
 //!
 //! Its calls tell what the path answers, and promise nothing: each promise would stand before all that a test
-//! calls later. And it is let go by one call: where a test owns a path itself, each of its ways out lets go
-//! every list of the path. With both a test of many calls is proved in a second or two, and else in minutes.
+//! calls later. And it is let go by one call, as a path is. With both a test of many calls is proved in a
+//! second or two, and else in minutes.
 
 ghost use Rattle.wf_path.specs.Jobs.{IsHeard};
 ghost use Rattle.wf_path.specs.declared.job.Job.TheVariants.{Call};
