@@ -15,9 +15,9 @@ use Rattle.wf_def_world.specs.CanSend.{with_listings_of}
 use Rattle.wf_def_world.specs.Refusals.{first_refusal}
 use Rattle.wf_def_world.specs.Step.{Outcome, outcome_of, judged_outcome, step, tick_outcome}
 use Rattle.wf_def_world.specs.World.{World, Station}
-use Rattle.wf_send_stations.specs.Members.{member, charged_in, received_in}
-use Rattle.wf_send_stations.specs.Tally.{Counts}
-use Rattle.wf_send_stations.specs.declared.members.Member.{Member}
+use Rattle.wf_send_parts.specs.Members.{member, charged_in, received_in}
+use Rattle.wf_send_parts.specs.Tally.{Counts}
+use Rattle.wf_send_parts.specs.declared.stations.members.Member.{Member}
 use Rattle.wf_send_half_refines.specs.Half.{TransmitValue}
 use Rattle.wf_send_half_refines.specs.Standing.{AreBoth, IsMember, StandsFor}
 use Rattle.wf_path.specs.Paths.{IsPath, IsSmall}

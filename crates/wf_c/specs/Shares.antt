@@ -2,7 +2,7 @@
 use Rattle.std.specs.Prelude.{◌≡◌, ℕ, nat_lt, Option, Some, None, if◌then◌else◌}
 use Rattle.wf_frame.specs.declared.classes.Class.{Class}
 use Rattle.wf_def_world.specs.World.{World, is_live, share}
-use Rattle.wf_send_stations.specs.Tally.{Counts}
+use Rattle.wf_send_parts.specs.Tally.{Counts}
 use Rattle.wf_c.specs.declared.readers.NoSession.{NoSession}
 use Rattle.wf_c.specs.declared.readers.NoSession.TheVariants.{BadTid, NoStation}
 use Rattle.wf_c.specs.declared.readers.Share.{Share}

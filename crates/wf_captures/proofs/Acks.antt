@@ -2,10 +2,10 @@
 use Rattle.std.proofs.Common.{◌≡◌, refl, ap, sym, ◌∙◌, ℕ, true, List, [], ◌∷◌, ◌++◌, length, take, arith, append_assoc}
 use Rattle.std.proofs.lemmas.List.{take_all}
 use Rattle.byteorder.specs.Endian.{little_bytes}
-use Rattle.wf_octets_header.specs.Addresses.{base, address_of_station}
-use Rattle.wf_octets_block.specs.Layout.{head_octets, answer, wide_form}
-use Rattle.wf_octets_block.specs.declared.frames.Bar.{Bar}
-use Rattle.wf_send_window.specs.Window.{on_air}
+use Rattle.wf_octets_frames.specs.Addresses.{base, address_of_station}
+use Rattle.wf_octets_frames.specs.BlockLayout.{head_octets, answer, wide_form}
+use Rattle.wf_octets_frames.specs.declared.block.frames.Bar.{Bar}
+use Rattle.wf_send_parts.specs.Window.{on_air}
 use Rattle.wf_captures.specs.BlockAcks.{block_ack_head, block_ack_frame}
 
 pub head_is : (s t start : ℕ) (ra ta : List ℕ) (first : ℕ) → ra ≡ base → ta ≡ address_of_station s →

@@ -1,3 +1,14 @@
+-- Octets that were taken; the header that octets begin with; what is wrong with a packet; one packet behind
+-- another; a part of one; a capture that is being listed; its file header; captures that are written.
+mod Taken
+mod Heads
+mod Flaws
+mod NextPackets
+mod Parts
+mod Listings
+mod Openings
+mod Complete
+pub mod Captures
 pub mod Sampled
 mod SentPackets
 pub mod Listed

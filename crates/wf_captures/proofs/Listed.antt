@@ -8,10 +8,10 @@ use Rattle.wf_frame.specs.declared.notes.ReplyNote.{ReplyNote}
 use Rattle.wf_frame.specs.declared.notes.ReplyNote.TheVariants as reply
 use Rattle.wf_frame.specs.declared.settings.Config.{Config}
 use Rattle.wf_def_lists.specs.Lengths.{greatest_body}
-use Rattle.wf_run_frames.specs.Packets.{most_octets_read}
-use Rattle.wf_run_frames.specs.Law.{Sent, AreWritable, IsListed}
-use Rattle.wf_run_frames.proofs.Captures.{written_law}
-use Rattle.wf_octets_header.specs.Layout.{header_as_octets}
+use Rattle.wf_captures.specs.ListedPackets.{most_octets_read}
+use Rattle.wf_captures.specs.ListingLaw.{Sent, AreWritable, IsListed}
+use Rattle.wf_captures.proofs.Captures.{written_law}
+use Rattle.wf_octets_frames.specs.HeaderLayout.{header_as_octets}
 use Rattle.wf_def_world.specs.World.{World, Mpdu, Exchange, Content, Frames, Request, exchange, frame, len_of, opening}
 use Rattle.wf_def_world.specs.Run.{Entry, world_after}
 use Rattle.wf_def_world.specs.Step.{step}

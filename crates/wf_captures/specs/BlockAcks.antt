@@ -1,10 +1,10 @@
 -- The octets of a BlockAck that a reply tells (IEEE 802.11-2012, 8.3.1.9).
 use Rattle.std.specs.Prelude.{ℕ, Bool, List, ◌++◌, flat_map, if◌then◌else◌}
 use Rattle.byteorder.specs.Endian.{little_bytes}
-use Rattle.wf_octets_header.specs.Addresses.{base, address_of_station}
-use Rattle.wf_octets_block.specs.Layout.{head_octets, answer, narrow_form, wide_form}
-use Rattle.wf_octets_block.specs.declared.frames.Bar.{Bar}
-use Rattle.wf_send_window.specs.Window.{on_air}
+use Rattle.wf_octets_frames.specs.Addresses.{base, address_of_station}
+use Rattle.wf_octets_frames.specs.BlockLayout.{head_octets, answer, narrow_form, wide_form}
+use Rattle.wf_octets_frames.specs.declared.block.frames.Bar.{Bar}
+use Rattle.wf_send_parts.specs.Window.{on_air}
 
 -- all but its bitmap: to the access point, from station s, with Duration 0, of TID t, with this start
 abbrev pub block_ack_head : ℕ → ℕ → ℕ → Bar

@@ -4,7 +4,7 @@ use Rattle.wf_frame.specs.Frames.{FrameValue, new_frame, sample_body}
 use Rattle.wf_frame.specs.declared.notes.Note.{Note}
 use Rattle.wf_frame.specs.declared.notes.Note.TheVariants.{Enqueue, Asked}
 use Rattle.wf_frame.specs.declared.settings.Config.{Config}
-use Rattle.wf_run_frames.specs.Law.{Sent, capture_of_packets as file_of}
+use Rattle.wf_captures.specs.ListingLaw.{Sent, capture_of_packets as file_of}
 use Rattle.wf_def_world.specs.World.{World, frame, opening}
 use Rattle.wf_def_world.specs.Run.{Entry}
 use Rattle.wf_def_world.specs.Step.{Outcome, step}

@@ -1,3 +1,9 @@
+pub mod Frames
+pub mod ListedPackets
+pub mod Lines
+pub mod ListingReading
+pub mod ListingOutcome
+pub mod ListingLaw
 pub mod BlockAcks
 pub mod Packets
 pub mod Captures

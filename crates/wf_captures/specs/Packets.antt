@@ -8,7 +8,7 @@ use Rattle.wf_frame.specs.declared.notes.Note.TheVariants.{Asked}
 use Rattle.wf_frame.specs.declared.notes.ReplyNote.{ReplyNote}
 use Rattle.wf_frame.specs.declared.notes.ReplyNote.TheVariants.{Send, Ba}
 use Rattle.wf_pcap.specs.Capture.{packet_octets}
-use Rattle.wf_run_frames.specs.Law.{Sent}
+use Rattle.wf_captures.specs.ListingLaw.{Sent}
 use Rattle.wf_def_world.specs.World.{World, Exchange, exchange}
 use Rattle.wf_path.specs.Addresses.{made_up}
 use Rattle.wf_path.specs.Transmissions.{frames_on_air}

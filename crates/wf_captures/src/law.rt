@@ -3,8 +3,8 @@
 ghost use Rattle.std.specs.Prelude.{◌≤◌, List, length};
 ghost use Rattle.wf_frame.specs.Settings.{IsInRange};
 ghost use Rattle.wf_frame.specs.declared.settings.Config.{Config};
-ghost use Rattle.wf_run_frames.specs.Packets.{most_octets_read};
-ghost use Rattle.wf_run_frames.specs.Law.{IsListed};
+ghost use Rattle.wf_captures.specs.ListedPackets.{most_octets_read};
+ghost use Rattle.wf_captures.specs.ListingLaw.{IsListed};
 ghost use Rattle.wf_law_runs.specs.Lengths.{HasLengths};
 ghost use Rattle.wf_def_world.specs.Run.{Entry};
 ghost use Rattle.wf_captures.specs.Captures.{most_calls_timed, packets_in, capture_of};

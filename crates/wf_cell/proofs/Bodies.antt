@@ -12,7 +12,7 @@ use Rattle.wf_law_rules.proofs.Lemmas.Numbers.{on_bool}
 use Rattle.wf_def_lists.specs.Table.{has}
 use Rattle.wf_def_world.specs.World.{World}
 use Rattle.wf_def_world.specs.Step.{step}
-use Rattle.wf_send_stations.specs.Tally.{Counts}
+use Rattle.wf_send_parts.specs.Tally.{Counts}
 use Rattle.wf_queue_flows_refines.specs.Frames.{with_body}
 use Rattle.wf_send_half.specs.Enqueues.{as_accepted}
 use Rattle.wf_send_half.specs.Replies.{bodies_sent}
@@ -21,7 +21,7 @@ use Rattle.wf_send_half_refines.specs.Standing.{StandsFor}
 use Rattle.wf_send_half_refines.specs.Inside.{is_held_id, is_inside, inside_after, body_inside}
 use Rattle.wf_send_half_refines.proofs.Inside.{next_id, inside_reached}
 use Rattle.wf_send_half_refines.proofs.Frames.{bodies_are}
-use Rattle.wf_send_window.proofs.Sending.{all_sent_keep}
+use Rattle.wf_send_parts.proofs.Sending.{all_sent_keep}
 use Rattle.wf_path.specs.declared.job.Job.{Job}
 use Rattle.wf_path.specs.declared.job.Job.TheVariants.{Give, Call}
 use Rattle.wf_path.specs.Jobs.{bodies_after, frame_given_back, note_of}

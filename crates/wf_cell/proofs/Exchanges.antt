@@ -23,9 +23,9 @@ use Rattle.wf_law_runs.specs.Sent.{IsSent}
 use Rattle.wf_law_runs.specs.Windows.{EachOpen}
 use Rattle.wf_law_runs.proofs.Deficits.KeptStep.{no_row}
 use Rattle.wf_law_runs.proofs.Sent.Law.{sent_law}
-use Rattle.wf_send_exchanges.specs.declared.marks.Mark.{Mark}
-use Rattle.wf_send_exchanges.specs.Marks.{with_arrival, with_answer, with_changed}
-use Rattle.wf_recv_agreement.specs.Board.{Board}
+use Rattle.wf_send_parts.specs.declared.exchanges.marks.Mark.{Mark}
+use Rattle.wf_send_parts.specs.Marks.{with_arrival, with_answer, with_changed}
+use Rattle.wf_recv_peer.specs.Board.{Board}
 use Rattle.wf_recv_peer.specs.Agreements.{PeerValue}
 use Rattle.wf_send_half.specs.Bits.{AreShown}
 use Rattle.wf_send_half_refines.specs.Half.{TransmitValue}

@@ -3,15 +3,15 @@ use Rattle.std.proofs.Common.{◌≡◌, refl, ap, sym, ◌∙◌, subst, ℕ, �
 use Rattle.std.specs.Prelude.{IsOk, OnOk, slice_index_or, slice_set, ◌%◌}
 use Rattle.std.proofs.lemmas.Bool.{cases_lt}
 use Rattle.std.specs.Result.{is_err}
-use Rattle.wf_octets_header.specs.Addresses.{base, address_of_station}
-use Rattle.wf_octets_header.specs.declared.header.Header.{Header}
-use Rattle.wf_octets_block.specs.declared.frames.Bar.{Bar}
+use Rattle.wf_octets_frames.specs.Addresses.{base, address_of_station}
+use Rattle.wf_octets_frames.specs.declared.header.header.Header.{Header}
+use Rattle.wf_octets_frames.specs.declared.block.frames.Bar.{Bar}
 use Rattle.wf_recv_peer.specs.declared.fault.PeerFault.{PeerFault}
 use Rattle.wf_def_lists.specs.Table.{at}
 use Rattle.wf_def_world.specs.World.{Content, Frames, Request}
 use Rattle.wf_def_world.specs.Exchanges.{no_mpdu}
-use Rattle.wf_recv_agreement.specs.Board.{after_number as board_arrived, after_start as board_requested}
-use Rattle.wf_recv_agreement.specs.Buffer.{number_outcome as buffer_arrived, request_outcome as buffer_requested}
+use Rattle.wf_recv_peer.specs.Board.{after_number as board_arrived, after_start as board_requested}
+use Rattle.wf_recv_peer.specs.Buffer.{number_outcome as buffer_arrived, request_outcome as buffer_requested}
 use Rattle.wf_recv_peer.specs.Agreements.{PeerValue, agreement}
 use Rattle.wf_recv_peer.specs.Frames.{IsDataFor, IsRequestFor}
 use Rattle.wf_recv_refines.specs.Hearing.{AreNew, HasAddresses, new_receive_half}

@@ -5,7 +5,7 @@ use Rattle.wf_frame.specs.Frames.{FrameValue, new_frame}
 use Rattle.wf_frame.specs.declared.settings.Config.{Config}
 use Rattle.wf_def_world.specs.World.{Mpdu, Exchange, Content, Frames, Request, opening}
 use Rattle.wf_def_world.specs.Exchanges.{transmissions}
-use Rattle.wf_send_exchanges.specs.declared.marks.Mark.{Mark}
+use Rattle.wf_send_parts.specs.declared.exchanges.marks.Mark.{Mark}
 use Rattle.wf_recv_peer.specs.Agreements.{PeerValue}
 use Rattle.wf_send_half_refines.specs.Half.{TransmitValue}
 use Rattle.wf_send_half_refines.specs.Standing.{StandsFor}

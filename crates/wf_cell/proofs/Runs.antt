@@ -16,11 +16,11 @@ use Rattle.wf_law_runs.specs.Lengths.{HasLengths}
 use Rattle.wf_law_runs.specs.Sums.{AreSums, IsSum}
 use Rattle.wf_law_runs.specs.Laws.{Laws}
 use Rattle.wf_law_runs.proofs.AllLaws.{laws}
-use Rattle.wf_send_stations.specs.Tally.{Counts}
+use Rattle.wf_send_parts.specs.Tally.{Counts}
 use Rattle.wf_law_runs.proofs.Deficits.Configs.{config_step}
-use Rattle.wf_send_stations.specs.declared.members.Member.{Member}
-use Rattle.wf_send_stations.specs.Members.{member, charged_in, received_in}
-use Rattle.wf_sched_stations_refines.specs.Standing.{share_in}
+use Rattle.wf_send_parts.specs.declared.stations.members.Member.{Member}
+use Rattle.wf_send_parts.specs.Members.{member, charged_in, received_in}
+use Rattle.wf_sched_refines.specs.Standing.{share_in}
 use Rattle.wf_send_half_refines.specs.Half.{TransmitValue}
 use Rattle.wf_send_half_refines.specs.Standing.{StandsFor, IsMember, AreBoth}
 use Rattle.wf_path.specs.Paths.{IsSmall}

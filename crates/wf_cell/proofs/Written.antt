@@ -12,13 +12,13 @@ use Rattle.wf_def_world.specs.World.{World, Exchange, Mpdu, Content, Frames, Req
 use Rattle.wf_def_world.specs.Exchanges.{mpdus_of, transmissions, no_mpdu, after_charge, charge_of}
 use Rattle.wf_law_runs.specs.Windows.{EachMpdu}
 use Rattle.wf_law_runs.proofs.Sent.Lengths.{IsStocked, stocked}
-use Rattle.wf_octets_fields.specs.Fields.{number_at, two_octets}
-use Rattle.wf_octets_header.specs.declared.header.Header.{Header}
-use Rattle.wf_octets_header.specs.Layout.{first_octet, flags_octet, header_as_octets}
-use Rattle.wf_octets_header.proofs.Written.{qos_begins, qos_long}
-use Rattle.wf_octets_block.specs.Layout.{request, narrow_form}
-use Rattle.wf_octets_block.proofs.Written.{head_begins}
-use Rattle.wf_send_exchanges.specs.declared.opened.Sending.TheVariants.{Data}
+use Rattle.wf_octets_parts.specs.Fields.{number_at, two_octets}
+use Rattle.wf_octets_frames.specs.declared.header.header.Header.{Header}
+use Rattle.wf_octets_frames.specs.HeaderLayout.{first_octet, flags_octet, header_as_octets}
+use Rattle.wf_octets_frames.proofs.HeaderWritten.{qos_begins, qos_long}
+use Rattle.wf_octets_frames.specs.BlockLayout.{request, narrow_form}
+use Rattle.wf_octets_frames.proofs.BlockWritten.{head_begins}
+use Rattle.wf_send_parts.specs.declared.exchanges.opened.Sending.TheVariants.{Data}
 use Rattle.wf_send_half_refines.specs.Half.{TransmitValue}
 use Rattle.wf_send_half_refines.specs.Standing.{StandsFor, IsReached, sending_of, numbers_on_air}
 use Rattle.wf_send_half_refines.specs.Ending.{IsLoose, after_close}

@@ -3,3 +3,4 @@ pub mod Cells
 pub mod Octets
 pub mod Rights
 pub mod Bodies
+pub mod Records

@@ -13,7 +13,7 @@ ghost use Rattle.wf_def_world.specs.Exchanges.{transmissions};
 ghost use Rattle.wf_def_world.specs.World.{World, Exchange, exchange as exchange_in};
 ghost use Rattle.std.specs.Result.{result_err};
 ghost use Rattle.wf_send_half_refines.specs.Standing.{StandsFor};
-ghost use Rattle.wf_send_exchanges.specs.Marks.{with_answer, with_changed};
+ghost use Rattle.wf_send_parts.specs.Marks.{with_answer, with_changed};
 ghost use Rattle.wf_recv_refines.specs.Arriving.{CarriesId};
 ghost use Rattle.wf_recv_refines.specs.Hearing.{agreement_of};
 ghost use Rattle.wf_recv_refines.specs.Refusing.{arrive_refusal, answer_refusal, done_refusal, mark_in};
@@ -26,10 +26,10 @@ ghost use Rattle.wf_cell.specs.Octets.{IsSentTo};
 
 use crate::engine::{Engine, LONGEST};
 use wf_frame::{Answer, Brief, Config, Ids, Refusal};
-use wf_octets_bits::Bits256;
-use wf_octets_seq12::Seq12;
+use wf_octets_parts::bits::Bits256;
+use wf_octets_parts::seq12::Seq12;
 use wf_path::{Path, Sent};
-use wf_send_exchanges::Mark;
+use wf_send_parts::exchanges::Mark;
 
 // Why a transmission does not arrive, if it does not: of an exchange with this mark, which has so many.
 fn arrival_refusal(mark: &Mark, count: u16, index: u16) -> Option<Refusal>

@@ -33,7 +33,7 @@ use wf_queue_chain::Parcel;
 /// A cell: the transmit path of an access point, the receive halves of its stations, and how many calls may
 /// still be made. A contract sees the whole history of the calls and what the path keeps; the type keeps that
 /// they agree with the machine's run of that history (`wf_def_world`). The history takes no memory: of its
-/// entries the cell has the last alone (a `Record` of wf_record has all). Only `new` and `of` take memory,
+/// entries the cell has the last alone (a `Record` of wf_cell has all). Only `new` and `of` take memory,
 /// and as much for a history of any length.
 pub struct Cell {
     engine: Engine,

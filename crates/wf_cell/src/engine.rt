@@ -17,10 +17,10 @@ use crate::peers::Peers;
 use std::alloc::{AllocError, Global};
 use std::marker::Model;
 use wf_frame::{Answer, Ask, Brief, Class, Config};
-use wf_octets_seq12::Seq12;
+use wf_octets_parts::seq12::Seq12;
 use wf_path::{Job, Path};
 use wf_queue_chain::Parcel;
-use wf_send_exchanges::Marks;
+use wf_send_parts::exchanges::Marks;
 
 /// The most octets of one transmission: a header of 26 and a body of 2304.
 pub(crate) const LONGEST: usize = 2330;

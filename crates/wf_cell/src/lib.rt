@@ -7,6 +7,8 @@
 //! and so is its BlockAck. `machine` makes a cell a `Machine`: a call brings the answer that it fills, in a
 //! box that comes back with it. No call takes memory but `Cell::new`: of the history and of the list of
 //! receive halves the types keep it, and of what they hold in turn it is so by the code.
+//!
+//! The module `record` has a cell with the entries of its history in memory.
 #![tactic(auto)]
 
 mod air;
@@ -15,6 +17,7 @@ mod crossing;
 mod engine;
 mod machine;
 mod peers;
+pub mod record;
 
 pub use cell::Cell;
 pub use machine::{Answered, Asking};

@@ -10,12 +10,12 @@ ghost use Rattle.wf_cell.specs.Octets.{IsForStation, IsSentTo};
 use std::alloc::{AllocError, Global};
 use std::marker::Model;
 use wf_frame::Ids;
-use wf_octets_bits::Bits256;
-use wf_octets_block::{decode_ba, decode_wide};
-use wf_octets_header::{base_address, station_address};
-use wf_octets_seq12::Seq12;
+use wf_octets_frames::block::{decode_ba, decode_wide};
+use wf_octets_frames::header::{base_address, station_address};
+use wf_octets_parts::bits::Bits256;
+use wf_octets_parts::seq12::Seq12;
 use wf_recv_peer::Peer;
-use wf_send_exchanges::widened;
+use wf_send_parts::exchanges::widened;
 
 /// The octets of a BlockAck of 256 numbers.
 const WIDE: usize = 52;

@@ -7,8 +7,8 @@ use Rattle.wf_frame.specs.Frames.{FrameValue, most_attempts, sent_again}
 use Rattle.wf_frame.specs.declared.notes.Part.TheVariants.{Mpdus}
 use Rattle.wf_frame.specs.declared.notes.ReplyNote.{ReplyNote}
 use Rattle.wf_frame.specs.declared.notes.ReplyNote.TheVariants.{Send}
-use Rattle.wf_send_window.specs.Sent.{with_one_sent, with_all_sent}
-use Rattle.wf_send_window.proofs.Sending.{sent_own, sent_other}
+use Rattle.wf_send_parts.specs.Sent.{with_one_sent, with_all_sent}
+use Rattle.wf_send_parts.proofs.Sending.{sent_own, sent_other}
 use Rattle.wf_send_half.specs.Replies.{bodies_sent}
 use Rattle.wf_path.specs.Jobs.{times_in, times_sent}
 

@@ -25,8 +25,8 @@ use Rattle.wf_law_driver.specs.Told.{shown_indices, indices_told, arrivals, answ
 use Rattle.wf_law_driver.specs.Unheard.{IsUnheard}
 use Rattle.wf_law_driver.proofs.Runs.{told_keeps}
 use Rattle.wf_law_driver.proofs.Told.{told_law}
-use Rattle.wf_send_exchanges.specs.declared.opened.Open.{Open}
-use Rattle.wf_send_stations.specs.Members.{member, charged_in}
+use Rattle.wf_send_parts.specs.declared.exchanges.opened.Open.{Open}
+use Rattle.wf_send_parts.specs.Members.{member, charged_in}
 use Rattle.wf_send_half.specs.declared.finish.Ended.{Ended}
 use Rattle.wf_def_agreement.specs.Receiver.{Score}
 use Rattle.wf_send_half.specs.Bits.{AreShown, is_shown, ended_reply, end_refusal, count_shown_of, IsChargeSmall}

@@ -5,7 +5,7 @@ use Rattle.std.proofs.lemmas.List.{get_or-set_same, get_or-set_other, get_or_pas
 use Rattle.wf_frame.specs.Classes.{class_number}
 use Rattle.wf_frame.specs.declared.classes.Class.{Class}
 use Rattle.wf_frame.specs.declared.classes.Class.TheVariants.{Bk, Be, Vi, Vo}
-use Rattle.wf_sched_rotation.specs.Rotas.{is_ready as entry}
+use Rattle.wf_sched.specs.Rotas.{is_ready as entry}
 use Rattle.wf_law_runs.proofs.Deficits.Books.{cases_class}
 use Rattle.wf_send_half_refines.specs.Half.{TransmitValue, is_ready_of}
 use Rattle.wf_path.specs.Flags.{Flags, flags_in, with_flag, with_flags, AreFlags}

@@ -9,14 +9,14 @@ use Rattle.wf_def_agreement.specs.Session.{Session, slot, is_settled}
 use Rattle.wf_def_world.specs.World.{World, Exchange, Mpdu, Content, Frames, Request, session, exchange, without_exchange}
 use Rattle.wf_def_world.specs.Exchanges.{mpdus_of, after_charge, with_all_settled, charge_of}
 use Rattle.wf_law_runs.specs.Windows.{EachMpdu}
-use Rattle.wf_send_exchanges.specs.declared.opened.Open.{Open}
-use Rattle.wf_send_exchanges.specs.declared.opened.Sending.TheVariants.{Data}
-use Rattle.wf_send_exchanges.specs.Exchanges.{number_carried}
-use Rattle.wf_send_window.specs.Window.{WindowStandsFor as WindowStandsFor, IsNumber, state_at, holds_parcel, on_air}
-use Rattle.wf_send_window.proofs.Numbers.{open_number}
-use Rattle.wf_send_window.proofs.Callers.{state_is}
-use Rattle.wf_send_window.specs.Windows.{window_of}
-use Rattle.wf_send_window.specs.Ending.{IsFlyingIn}
+use Rattle.wf_send_parts.specs.declared.exchanges.opened.Open.{Open}
+use Rattle.wf_send_parts.specs.declared.exchanges.opened.Sending.TheVariants.{Data}
+use Rattle.wf_send_parts.specs.Exchanges.{number_carried}
+use Rattle.wf_send_parts.specs.Window.{WindowStandsFor as WindowStandsFor, IsNumber, state_at, holds_parcel, on_air}
+use Rattle.wf_send_parts.proofs.Numbers.{open_number}
+use Rattle.wf_send_parts.proofs.Callers.{state_is}
+use Rattle.wf_send_parts.specs.Windows.{window_of}
+use Rattle.wf_send_parts.specs.Ending.{IsFlyingIn}
 use Rattle.wf_send_half_refines.specs.Half.{TransmitValue}
 use Rattle.wf_send_half_refines.specs.Standing.{sending_of, open_of, numbers_on_air, StandsFor}
 use Rattle.wf_send_half_refines.specs.Ending.{after_close, ending_of, IsLoose, IsEnding}
@@ -25,13 +25,13 @@ use Rattle.wf_send_half_refines.proofs.Endings.{closed_agreements}
 use Rattle.wf_send_half.specs.Half.{HasWorld}
 use Rattle.wf_send_half.proofs.Dones.{IsKnown, known_of, none_open, low_tid as low}
 use Rattle.wf_send_half.proofs.Ends.{IsData, sends as data_sent, begun}
-use Rattle.wf_octets_header.specs.Layout.{header_as_octets}
+use Rattle.wf_octets_frames.specs.HeaderLayout.{header_as_octets}
 use Rattle.wf_path.specs.Addresses.{Addresses}
 use Rattle.wf_path.specs.Transmissions.{transmission_id, transmission_tag, transmission_header, id_sent, tag_sent, header_of, header_sent}
 use Rattle.wf_path.specs.Writing.{no_data_fault, write_header_fault}
 use Rattle.std.specs.Option.{option_map_or}
 use Rattle.wf_path.specs.declared.faults.PathFault.TheVariants.{NoExchange, BadIndex}
-use Rattle.wf_octets_header.specs.declared.header.Header.{Header}
+use Rattle.wf_octets_frames.specs.declared.header.header.Header.{Header}
 use Rattle.wf_path.specs.Flights.{IsInFlight, Flies}
 use Rattle.wf_path.proofs.Opened.{live, within}
 

@@ -8,9 +8,9 @@ use Rattle.wf_frame.specs.Frames.{FrameValue}
 use Rattle.wf_def_world.specs.World.{World, Exchange, Content, Frames, Request, is_live, exchange, is_wide}
 use Rattle.wf_def_world.specs.CanSend.{is_request}
 use Rattle.wf_def_world.specs.Exchanges.{transmissions}
-use Rattle.wf_send_window.specs.Window.{on_air}
-use Rattle.wf_send_exchanges.specs.declared.opened.Open.{Open}
-use Rattle.wf_send_exchanges.specs.Exchanges.{transmissions_of, sending_is_request as asks_for}
+use Rattle.wf_send_parts.specs.Window.{on_air}
+use Rattle.wf_send_parts.specs.declared.exchanges.opened.Open.{Open}
+use Rattle.wf_send_parts.specs.Exchanges.{transmissions_of, sending_is_request as asks_for}
 use Rattle.wf_send_half_refines.specs.Half.{TransmitValue}
 use Rattle.wf_send_half_refines.specs.Standing.{sending_of, StandsFor}
 use Rattle.wf_send_half_refines.proofs.Endings.{open_live}

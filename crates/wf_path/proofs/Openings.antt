@@ -6,15 +6,15 @@ use Rattle.wf_frame.specs.Frames.{FrameValue}
 use Rattle.wf_frame.specs.declared.classes.Class.{Class}
 use Rattle.wf_frame.specs.declared.classes.Class.TheVariants.{Bk, Be, Vi, Vo}
 use Rattle.wf_frame.specs.declared.settings.Config.{Config}
-use Rattle.wf_sched_rotation.specs.Rotas.{is_ready as entry}
+use Rattle.wf_sched.specs.Rotas.{is_ready as entry}
 use Rattle.wf_def_world.specs.World.{opening}
 use Rattle.wf_def_world.specs.CanSend.{is_ready}
 use Rattle.wf_law_driver.proofs.Silent.{opening_unheard}
 use Rattle.wf_send_half.proofs.Openings.{a_frame}
 use Rattle.wf_send_half_refines.specs.Half.{TransmitValue}
-use Rattle.wf_send_stations.specs.Tally.{Counts}
-use Rattle.wf_send_stations.specs.declared.members.Member.{Member}
-use Rattle.wf_send_stations.specs.Members.{member, charged_in, received_in}
+use Rattle.wf_send_parts.specs.Tally.{Counts}
+use Rattle.wf_send_parts.specs.declared.stations.members.Member.{Member}
+use Rattle.wf_send_parts.specs.Members.{member, charged_in, received_in}
 use Rattle.wf_send_half_refines.specs.Standing.{StandsFor, AreBoth, IsMember}
 use Rattle.wf_send_half_refines.proofs.Readers.{ready_same}
 use Rattle.wf_path.specs.Flags.{Flags, all_down, flags_in, AreFlags}

@@ -30,8 +30,8 @@ use Rattle.wf_send_half_refines.proofs.Pulled.{ready_pulled}
 use Rattle.wf_send_half_refines.proofs.Reached.{step_done, step_refused}
 use Rattle.wf_send_half_refines.proofs.Readers.{class_count_same, live_same}
 use Rattle.wf_send_half_refines.proofs.Spared.{ready_refused}
-use Rattle.wf_send_stations.specs.declared.members.Member.{Member}
-use Rattle.wf_send_stations.specs.Members.{member}
+use Rattle.wf_send_parts.specs.declared.stations.members.Member.{Member}
+use Rattle.wf_send_parts.specs.Members.{member}
 use Rattle.wf_path.specs.Addresses.{Addresses}
 use Rattle.wf_send_half.specs.Replies.{bodies_sent}
 use Rattle.wf_path.specs.Flags.{Flags, flags_in, with_flag, AreFlags}

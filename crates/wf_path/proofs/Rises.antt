@@ -27,10 +27,10 @@ use Rattle.wf_law_runs.proofs.Sums.Airtime.{HasAdded, added}
 use Rattle.wf_law_runs.proofs.Sums.Counters.{counts_step}
 use Rattle.wf_law_runs.proofs.Windows.Agreed.{lawful}
 use Rattle.wf_law_runs.proofs.Windows.Opened.{NoRow, no_row}
-use Rattle.wf_sched_stations_refines.specs.Standing.{share_in}
-use Rattle.wf_send_stations.specs.Members.{member, charged_in, received_in}
-use Rattle.wf_send_stations.specs.Tally.{Counts}
-use Rattle.wf_send_stations.specs.declared.members.Member.{Member}
+use Rattle.wf_sched_refines.specs.Standing.{share_in}
+use Rattle.wf_send_parts.specs.Members.{member, charged_in, received_in}
+use Rattle.wf_send_parts.specs.Tally.{Counts}
+use Rattle.wf_send_parts.specs.declared.stations.members.Member.{Member}
 use Rattle.wf_send_half_refines.specs.Half.{TransmitValue}
 use Rattle.wf_send_half_refines.specs.Standing.{StandsFor, Meets, IsReached, AreBoth, IsMember}
 use Rattle.wf_path.specs.Paths.{IsPath, HasCountsBelow, RiseLittle}

@@ -5,16 +5,16 @@ use Rattle.std.specs.Option.{option_map_or}
 use Rattle.std.proofs.lemmas.Option.{slice_get-map, slice_get_past}
 use Rattle.std.proofs.lemmas.List.{length-map}
 use Rattle.wf_frame.specs.Frames.{FrameValue}
-use Rattle.wf_octets_header.specs.Layout.{header_as_octets}
-use Rattle.wf_octets_header.specs.declared.header.Header.{Header}
-use Rattle.wf_octets_block.specs.Layout.{head_octets, request, narrow_form}
-use Rattle.wf_octets_block.specs.declared.frames.Bar.{Bar}
+use Rattle.wf_octets_frames.specs.HeaderLayout.{header_as_octets}
+use Rattle.wf_octets_frames.specs.declared.header.header.Header.{Header}
+use Rattle.wf_octets_frames.specs.BlockLayout.{head_octets, request, narrow_form}
+use Rattle.wf_octets_frames.specs.declared.block.frames.Bar.{Bar}
 use Rattle.wf_def_world.specs.World.{World, Exchange, Mpdu, Content, Frames, Request, exchange}
 use Rattle.wf_def_world.specs.Exchanges.{mpdus_of}
-use Rattle.wf_send_exchanges.specs.declared.opened.Open.{Open}
-use Rattle.wf_send_exchanges.specs.declared.opened.Sending.TheVariants.{Request as Starts_at}
-use Rattle.wf_send_exchanges.specs.Exchanges.{number_carried, transmissions_of}
-use Rattle.wf_send_window.specs.Window.{on_air}
+use Rattle.wf_send_parts.specs.declared.exchanges.opened.Open.{Open}
+use Rattle.wf_send_parts.specs.declared.exchanges.opened.Sending.TheVariants.{Request as Starts_at}
+use Rattle.wf_send_parts.specs.Exchanges.{number_carried, transmissions_of}
+use Rattle.wf_send_parts.specs.Window.{on_air}
 use Rattle.wf_send_half_refines.specs.Half.{TransmitValue}
 use Rattle.wf_send_half_refines.specs.Standing.{sending_of, open_of, StandsFor}
 use Rattle.wf_send_half.proofs.Dones.{IsKnown, known_of, none_open}

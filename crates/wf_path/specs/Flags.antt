@@ -3,7 +3,7 @@ use Rattle.std.specs.Prelude.{◌≡◌, ◌<◌, ℕ, Bool, false, List, [], le
 use Rattle.wf_frame.specs.declared.classes.Class.{Class}
 use Rattle.wf_frame.specs.declared.classes.Class.TheVariants.{Bk, Be, Vi, Vo}
 use Rattle.wf_frame.specs.Classes.{all_classes, class_number}
-use Rattle.wf_sched_rotation.specs.Rotas.{is_ready as entry}
+use Rattle.wf_sched.specs.Rotas.{is_ready as entry}
 use Rattle.wf_send_half_refines.specs.Half.{TransmitValue, is_ready_of}
 
 -- a list for each class, the least urgent first, with a flag for each station

@@ -1,8 +1,8 @@
 -- A transmission of data of an open exchange, as the half has it.
 use Rattle.std.specs.Prelude.{◌≡◌, ℕ, Some, slice_get}
 use Rattle.wf_frame.specs.Frames.{FrameValue}
-use Rattle.wf_send_exchanges.specs.declared.opened.Open.{Open}
-use Rattle.wf_send_exchanges.specs.Exchanges.{number_carried}
+use Rattle.wf_send_parts.specs.declared.exchanges.opened.Open.{Open}
+use Rattle.wf_send_parts.specs.Exchanges.{number_carried}
 use Rattle.wf_def_world.specs.World.{World, Mpdu, Exchange, exchange}
 use Rattle.wf_def_world.specs.Exchanges.{mpdus_of}
 use Rattle.wf_send_half_refines.specs.Half.{TransmitValue}

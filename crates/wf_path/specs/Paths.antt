@@ -9,7 +9,7 @@ use Rattle.wf_frame.specs.declared.notes.Note.TheVariants.{Asked}
 use Rattle.wf_def_lists.specs.Bounds.{greatest_tick}
 use Rattle.wf_def_world.specs.World.{World}
 use Rattle.wf_law_driver.specs.Unheard.{IsUnheard}
-use Rattle.wf_send_stations.specs.Members.{member, charged_in, received_in}
+use Rattle.wf_send_parts.specs.Members.{member, charged_in, received_in}
 use Rattle.wf_send_half_refines.specs.Half.{TransmitValue}
 use Rattle.wf_send_half_refines.specs.Standing.{StandsFor, Meets}
 use Rattle.wf_path.specs.Addresses.{Addresses}

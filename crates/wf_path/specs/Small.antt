@@ -1,7 +1,7 @@
 -- The sums of a path that must be small.
 use Rattle.std.specs.Prelude.{ℕ, ◌<◌, ◌^◌, IfSome}
 use Rattle.wf_frame.specs.declared.classes.Class.{Class}
-use Rattle.wf_send_stations.specs.Members.{member, charged_in, received_in}
+use Rattle.wf_send_parts.specs.Members.{member, charged_in, received_in}
 use Rattle.wf_send_half_refines.specs.Half.{TransmitValue}
 
 -- the airtime that station s was charged and used in class c is below 2^62 microseconds, where it is live

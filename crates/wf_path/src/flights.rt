@@ -2,18 +2,18 @@
 
 ghost use Rattle.std.specs.Prelude.{◌≡◌, ℕ, true};
 ghost use Rattle.wf_frame.specs.Frames.{FrameValue};
-ghost use Rattle.wf_octets_header.specs.Layout.{IsPlain};
-ghost use Rattle.wf_octets_header.specs.declared.header.Kind.TheVariants.{QosData};
+ghost use Rattle.wf_octets_frames.specs.HeaderLayout.{IsPlain};
+ghost use Rattle.wf_octets_frames.specs.declared.header.header.Kind.TheVariants.{QosData};
 ghost use Rattle.wf_def_world.specs.World.{World, Exchange, Mpdu};
 ghost use Rattle.wf_path.specs.Transmissions.{header_of};
 ghost use Rattle.wf_path.specs.Flights.{IsInFlight, Flies};
 
 use crate::addresses::AddressBook;
 use wf_frame::Frame;
-use wf_octets_header::{Header, Kind};
-use wf_octets_seq12::Seq12;
-use wf_send_exchanges::Open;
+use wf_octets_frames::header::{Header, Kind};
+use wf_octets_parts::seq12::Seq12;
 use wf_send_half::Transmit;
+use wf_send_parts::exchanges::Open;
 
 /// How long the medium is taken after a transmission, in microseconds: by the pause, 16, and a BlockAck of 64
 /// numbers, 32.

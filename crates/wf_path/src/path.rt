@@ -5,9 +5,9 @@ ghost use Rattle.wf_frame.specs.Frames.{FrameValue};
 ghost use Rattle.wf_frame.specs.Settings.{first_out_of_range};
 ghost use Rattle.wf_frame.specs.declared.settings.Field.{Field};
 ghost use Rattle.wf_def_world.specs.World.{World, opening, is_live, share};
-ghost use Rattle.wf_send_stations.specs.Tally.{counts_of};
-ghost use Rattle.wf_sched_stations.specs.ClassRotas.{deficit};
-ghost use Rattle.wf_send_stations.specs.Members.{member, charged_in, received_in};
+ghost use Rattle.wf_send_parts.specs.Tally.{counts_of};
+ghost use Rattle.wf_sched.specs.ClassRotas.{deficit};
+ghost use Rattle.wf_send_parts.specs.Members.{member, charged_in, received_in};
 ghost use Rattle.wf_send_half.specs.Half.{IsLive};
 ghost use Rattle.wf_send_half_refines.specs.Standing.{StandsFor, counts_in};
 ghost use Rattle.wf_path.specs.Addresses.{made_up};
@@ -20,7 +20,7 @@ use std::alloc::Global;
 use std::marker::Model;
 use wf_frame::{Class, Config};
 use wf_send_half::Transmit;
-use wf_send_stations::Tally;
+use wf_send_parts::stations::Tally;
 
 /// The transmit path. A contract sees its transmit half, and says of a call what it makes of each world of a
 /// run that the half stands for (`wf_send_half_refines`); there is always one. Beside the half it sees the

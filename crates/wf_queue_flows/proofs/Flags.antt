@@ -9,7 +9,7 @@ use Rattle.wf_frame.specs.Frames.{FrameValue}
 use Rattle.wf_frame.specs.declared.classes.Cause.TheVariants.{Overlimit}
 use Rattle.wf_frame.specs.declared.classes.Fate.TheVariants.{Dropped}
 use Rattle.wf_def_codel.specs.Codel.{octets}
-use Rattle.wf_sched_rotation.specs.Rotas.{is_ready}
+use Rattle.wf_sched.specs.Rotas.{is_ready}
 use Rattle.wf_queue_flows.specs.Backlog.{BacklogValue, frames_at, queue_octets, is_some_frame, flags, item_of, frame_with_fate, after_head_drop, IsLongest}
 use Rattle.wf_queue_flows.proofs.LongestLemmas.{longest_found}
 use Rattle.wf_queue_flows.specs.Flows.{backlog_has_frames, as_queue, longest_queue}

@@ -5,8 +5,8 @@ use Rattle.std.proofs.lemmas.List.{get_or-set_same, get_or-set_other, set_past}
 use Rattle.std.proofs.lemmas.Bool.{cases_eq, cases_lt}
 use Rattle.wf_frame.specs.Frames.{FrameValue}
 use Rattle.wf_def_rotation.specs.Rotation.{in_order, with_new_key}
-use Rattle.wf_sched_rotation.specs.Lists.{lists_at, on_at}
-use Rattle.wf_sched_rotation.specs.Rotas.{Rotas, deficit_at, quantum_at}
+use Rattle.wf_sched.specs.Lists.{lists_at, on_at}
+use Rattle.wf_sched.specs.Rotas.{Rotas, deficit_at, quantum_at}
 use Rattle.wf_queue_flows.specs.Backlog.{BacklogValue}
 use Rattle.wf_queue_flows.specs.Flows.{FlowsValue, tids, frames_of_tid}
 use Rattle.wf_queue_flows.specs.Kept.{depth, AreListed, AreFlowsKept}

@@ -6,9 +6,9 @@ use Rattle.std.proofs.lemmas.Bool.{cases_eq, cases_lt, both_ways, ne_eqb, cond-t
 use Rattle.wf_frame.specs.Frames.{FrameValue}
 use Rattle.wf_def_rotation.specs.Rotation.{Rotation, no_keys, in_order, without_key}
 use Rattle.wf_def_lists.specs.Lists.{on}
-use Rattle.wf_sched_rotation.specs.declared.Side.{Side}
-use Rattle.wf_sched_rotation.specs.Lists.{lists_at, on_at, has_on}
-use Rattle.wf_sched_rotation.specs.Rotas.{Rotas, IsUnlisted}
+use Rattle.wf_sched.specs.declared.rotation.Side.{Side}
+use Rattle.wf_sched.specs.Lists.{lists_at, on_at, has_on}
+use Rattle.wf_sched.specs.Rotas.{Rotas, IsUnlisted}
 use Rattle.wf_law_rules.proofs.Lemmas.Counts.{on_order-none}
 use Rattle.wf_law_rules.proofs.Lemmas.Counts.{on-nil, on-append}
 use Rattle.wf_queue_flows.specs.Backlog.{BacklogValue, frames_at, first_id, after_head_drop, after_flush}

@@ -1,3 +1,5 @@
+mod Lanes
+mod CodelBegins
 pub mod Flags
 mod Fresh
 mod Holding

@@ -10,10 +10,10 @@ use Rattle.wf_def_lists.specs.Table.{has}
 use Rattle.wf_def_lists.specs.Lists.{on}
 use Rattle.wf_def_rotation.specs.Rotation.{Rotation, no_keys, has_key, in_order, with_new_key}
 use Rattle.wf_def_codel.specs.Codel.{Params}
-use Rattle.wf_sched_rotation.specs.declared.Side.{Side}
-use Rattle.wf_sched_rotation.specs.declared.Side.TheVariants.{New, Old}
-use Rattle.wf_sched_rotation.specs.Lists.{lists_at, on_at, has_on, side_of}
-use Rattle.wf_sched_rotation.specs.Rotas.{Rotas, deficit_at, quantum_at, IsUnlisted}
+use Rattle.wf_sched.specs.declared.rotation.Side.{Side}
+use Rattle.wf_sched.specs.declared.rotation.Side.TheVariants.{New, Old}
+use Rattle.wf_sched.specs.Lists.{lists_at, on_at, has_on, side_of}
+use Rattle.wf_sched.specs.Rotas.{Rotas, deficit_at, quantum_at, IsUnlisted}
 use Rattle.wf_law_rules.proofs.Lemmas.Counts.{on_order-none}
 use Rattle.wf_queue_flows.specs.Backlog.{BacklogValue, frames_at, held_in_backlog, with_frames, drops_at, given_at, backlog_after_take}
 use Rattle.wf_queue_flows.specs.Flows.{FlowsValue, tids, queues, is_listed, is_listed_by_another, with_listed_queue, frames_of_tid, frames_waiting}

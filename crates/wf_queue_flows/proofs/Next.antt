@@ -5,8 +5,8 @@ use Rattle.std.specs.Cmp.Derive.{both_true}
 use Rattle.std.proofs.lemmas.Bool.{and_parts, le-leb, lt-leb, both_ways}
 use Rattle.wf_frame.specs.Classes.{tid_number}
 use Rattle.wf_frame.specs.Frames.{FrameValue}
-use Rattle.wf_sched_rotation.specs.declared.Side.{Side}
-use Rattle.wf_sched_rotation.specs.Lists.{lists_at, has_on}
+use Rattle.wf_sched.specs.declared.rotation.Side.{Side}
+use Rattle.wf_sched.specs.Lists.{lists_at, has_on}
 use Rattle.wf_queue_flows.specs.declared.flows.Lost.{Lost}
 use Rattle.wf_queue_flows.specs.Backlog.{frames_at, in_queues, first_id}
 use Rattle.wf_queue_flows.specs.Flows.{FlowsValue, is_listed, flows_at_limit, longest_queue, loses_next}

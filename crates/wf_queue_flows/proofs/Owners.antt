@@ -5,7 +5,7 @@ use Rattle.std.specs.List.{list_any}
 use Rattle.std.proofs.lemmas.Bool.{cases_eq, cases_lt, cases_Bool, ne_eqb, or_left, or_right, or_from, and_from, and_left, and_right, not_from_true, not_from_false}
 use Rattle.std.proofs.Common.{eq-eqb}
 use Rattle.wf_def_lists.specs.Table.{count_from}
-use Rattle.wf_sched_rotation.specs.Lists.{lists_at, on_at}
+use Rattle.wf_sched.specs.Lists.{lists_at, on_at}
 use Rattle.wf_law_rules.proofs.Lemmas.Counts.{listed-some, listed-none}
 use Rattle.wf_queue_flows.specs.Flows.{FlowsValue, tids, is_listed, is_listed_by_another}
 

@@ -8,7 +8,7 @@ use Rattle.std.proofs.lemmas.Bool.{cases_eq, cases_lt, cases_Bool, ne_eqb, le-le
 use Rattle.wf_def_lists.specs.Table.{has, count_from, upto}
 use Rattle.wf_def_rotation.specs.Rotation.{Rotation, no_keys, has_key, in_order, without_key}
 use Rattle.wf_def_lists.specs.Lists.{on}
-use Rattle.wf_sched_rotation.specs.Lists.{AreDisjoint, lists_at, on_at}
+use Rattle.wf_sched.specs.Lists.{AreDisjoint, lists_at, on_at}
 use Rattle.wf_law_rules.proofs.Lemmas.Counts.{on-nil, on-first, on-cons_same, on-cons_other, on-append, on-filter_out, listed-none}
 use Rattle.wf_law_rules.proofs.Lemmas.Counts.{on_order-none}
 use Rattle.wf_queue_flows.specs.Backlog.{BacklogValue, after_flush}

@@ -4,8 +4,8 @@ use Rattle.std.specs.Prelude.{pos, ◌-ℤ◌, ◌↔◌, OnSome, IsSome, option
 use Rattle.std.proofs.lemmas.Bool.{both_ways, le-leb, lt-leb, cond-true, cond-false}
 use Rattle.wf_frame.specs.Frames.{FrameValue}
 use Rattle.wf_def_codel.specs.Codel.{Params}
-use Rattle.wf_sched_rotation.specs.Lists.{on_at}
-use Rattle.wf_sched_rotation.specs.Rotas.{Rotas, deficit_at}
+use Rattle.wf_sched.specs.Lists.{on_at}
+use Rattle.wf_sched.specs.Rotas.{Rotas, deficit_at}
 use Rattle.wf_queue_flows.specs.Backlog.{BacklogValue, frames_at, in_queues, first_id, after_head_drop, given_at, backlog_after_take, IsLongest}
 use Rattle.wf_queue_flows.specs.declared.flows.Lost.{Lost}
 use Rattle.wf_queue_flows.specs.Flows.{FlowsValue, flows_at_limit, longest_queue, after_limit, dropped_for_limit, queue_for, with_listed_queue, with_appended, after_put_in, after_put, pick_of_tid, after_pick, TakeGives, taken_by_codel, taken_from_picked, taken_for_tid, AreListedOnce}

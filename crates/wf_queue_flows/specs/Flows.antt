@@ -9,8 +9,8 @@ use Rattle.wf_def_lists.specs.Table.{upto}
 use Rattle.wf_frame.specs.declared.settings.Config.{Config}
 use Rattle.wf_def_codel.specs.Codel.{Params, new_codel}
 use Rattle.wf_def_rotation.specs.Rotation.{Rotation, no_keys, has_key, in_order, with_new_key, Picked, pick}
-use Rattle.wf_sched_rotation.specs.Lists.{lists_at}
-use Rattle.wf_sched_rotation.specs.Rotas.{Rotas, deficit_at, need_at}
+use Rattle.wf_sched.specs.Lists.{lists_at}
+use Rattle.wf_sched.specs.Rotas.{Rotas, deficit_at, need_at}
 use Rattle.wf_def_world.specs.World.{Queue}
 use Rattle.wf_def_world.specs.FlowQueues.{longest_of}
 use Rattle.wf_queue_flows.specs.Backlog.{BacklogValue, frames_at, in_queues, first_id, item_of, with_frames, after_head_drop, after_flush, given_at, backlog_after_take}

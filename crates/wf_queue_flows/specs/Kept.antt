@@ -4,8 +4,8 @@ use Rattle.wf_frame.specs.Frames.{FrameValue}
 use Rattle.wf_def_lists.specs.Lengths.{greatest_body}
 use Rattle.wf_def_lists.specs.Table.{upto}
 use Rattle.wf_def_rotation.specs.Rotation.{Rotation, has_key as lists_of, in_order, without_key}
-use Rattle.wf_sched_rotation.specs.Lists.{AreDisjoint, lists_at, on_at}
-use Rattle.wf_sched_rotation.specs.Rotas.{Rotas, deficit_at, quantum_at, picked_at, is_ready as is_ready_of}
+use Rattle.wf_sched.specs.Lists.{AreDisjoint, lists_at, on_at}
+use Rattle.wf_sched.specs.Rotas.{Rotas, deficit_at, quantum_at, picked_at, is_ready as is_ready_of}
 use Rattle.wf_queue_flows.specs.Backlog.{after_flush}
 use Rattle.wf_queue_flows.specs.Flows.{FlowsValue, tid_rotation, is_listed, frames_waiting, all_flushed}
 

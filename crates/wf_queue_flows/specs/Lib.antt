@@ -1,3 +1,7 @@
+pub mod CodelTakes
+pub mod CodelLooks
+pub mod CodelParams
+pub mod CodelState
 pub mod Backlog
 pub mod Flows
 pub mod Kept

@@ -5,11 +5,11 @@ ghost use Rattle.wf_def_codel.specs.Codel.{new_codel};
 ghost use Rattle.wf_queue_flows.specs.Backlog.{frames_at, in_queues, held_in_backlog, spare_of, first_id, frame_with_fate, with_frames, after_head_drop, after_flush, flags, IsLongest};
 ghost use Rattle.wf_queue_flows.specs.Flows.{longest_queue};
 
+use crate::codel::Codel;
 use std::alloc::{AllocError, Global};
 use std::marker::Model;
 use wf_frame::{Cause, Fate};
 use wf_queue_chain::{Chain, Parcel};
-use wf_queue_codel::Codel;
 use wf_queue_counted::Peak;
 
 /// Numbered queues of parcels, each with a CoDel state, and the list of the finished parcels. Together they

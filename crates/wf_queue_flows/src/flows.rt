@@ -2,19 +2,19 @@
 
 ghost use Rattle.std.specs.Prelude.{◌≡◌, ℕ, ◌+◌, ◌<◌, ◌≤◌, ◌^◌, ◌↔◌, true, [], ◌∷◌, ◌++◌, IfOk, IfSome, IfNone, OnSome, IsSome, MatchOption, Some, None, option_map};
 ghost use Rattle.wf_frame.specs.Settings.{first_out_of_range};
-ghost use Rattle.wf_queue_codel.specs.Params.{params_of};
+ghost use Rattle.wf_queue_flows.specs.CodelParams.{params_of};
 ghost use Rattle.wf_queue_flows.specs.Backlog.{frames_at, in_queues, held_in_backlog, first_id, after_head_drop, IsLongest};
 ghost use Rattle.wf_frame.specs.Classes.{tid_number};
 ghost use Rattle.wf_queue_flows.specs.Flows.{settings, tids, queues, is_listed, frames_of_tid, longest_queue, loses_next, after_limit, dropped_for_limit, is_listed_by_another, queue_for, with_listed_queue, with_appended, after_put, taken_for_tid, after_purge, empty_flows, AreListedOnce, TakeGives};
 ghost use Rattle.wf_queue_flows.specs.Kept.{CanList, without_queue};
 
 use crate::backlog::{Backlog, Taken};
+use crate::codel::Params;
 use std::alloc::{AllocError, Global};
 use std::marker::Model;
 use wf_frame::{Config, tid_number};
 use wf_queue_chain::Parcel;
-use wf_queue_codel::Params;
-use wf_sched_rotation::Rota;
+use wf_sched::rotation::Rota;
 
 /// A frame that was dropped for the limit, and whose it was.
 #[derive(Clone, Copy)]

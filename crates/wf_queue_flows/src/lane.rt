@@ -1,13 +1,13 @@
 //! One queue of a backlog, from which CoDel dequeues.
 
 ghost use Rattle.std.specs.Prelude.{◌≡◌, ◌+◌, ◌<◌, ◌^◌, ◌↔◌, [], length, option_map, IfSome, IsNone, MatchOption};
-ghost use Rattle.wf_queue_codel.specs.Params.{params_of};
+ghost use Rattle.wf_queue_flows.specs.CodelParams.{params_of};
 ghost use Rattle.wf_queue_flows.specs.Backlog.{frames_at, held_in_backlog, item_of, drops_at, given_at, backlog_after_take};
 
 use crate::backlog::{Backlog, Taken, settle};
+use crate::codel::{Lane, Params, Sight};
 use wf_frame::{Cause, Fate};
 use wf_queue_chain::Parcel;
-use wf_queue_codel::{Lane, Params, Sight};
 
 /// One queue of a backlog. What it discards goes last on the finished list, as dropped by CoDel.
 #[derive(Drop)]

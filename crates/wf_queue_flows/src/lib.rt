@@ -6,6 +6,8 @@
 //! Below them lie the numbered queues (`backlog`), each with a CoDel state, and the list of the finished
 //! frames, with one shared room. The longest queue is known at each moment. A take is CoDel's dequeue on one
 //! queue, through a private lane.
+//!
+//! CoDel itself, over any lane of frames, is the module `codel`.
 #![tactic(auto)]
 
 ghost use Rattle.std.specs.Prelude.{◌≡◌, ℕ};
@@ -15,6 +17,7 @@ ghost use Rattle.wf_def_world.specs.FlowQueues.{longest_queue};
 ghost use Rattle.wf_queue_flows.specs.Backlog.{BacklogValue, frames_at, queue_octets, IsLongest};
 
 mod backlog;
+pub mod codel;
 mod flows;
 mod lane;
 

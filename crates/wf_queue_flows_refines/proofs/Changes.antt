@@ -9,7 +9,7 @@ use Rattle.wf_frame.specs.Frames.{FrameValue}
 use Rattle.wf_def_codel.specs.Codel.{Codel, new_codel}
 use Rattle.wf_def_rotation.specs.Rotation.{Rotation, no_keys, has_key, in_order}
 use Rattle.wf_def_lists.specs.Lists.{on}
-use Rattle.wf_sched_rotation.specs.Rotas.{deficit_at}
+use Rattle.wf_sched.specs.Rotas.{deficit_at}
 use Rattle.wf_law_rules.proofs.Lemmas.Counts.{on-nil}
 use Rattle.wf_def_world.specs.World.{World, Queue, queue, accepted_count, on_queue, with_frames_finished}
 use Rattle.wf_queue_flows.specs.Backlog.{BacklogValue, frames_at, item_of, frame_with_fate}

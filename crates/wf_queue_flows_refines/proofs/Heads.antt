@@ -11,7 +11,7 @@ use Rattle.wf_def_lists.specs.Table.{has}
 use Rattle.wf_def_codel.specs.Codel.{Item, Params}
 use Rattle.wf_def_lists.specs.Lists.{on}
 use Rattle.wf_def_rotation.specs.Rotation.{Rotation, no_keys, has_key, in_order, Picked}
-use Rattle.wf_sched_rotation.specs.Rotas.{need_at}
+use Rattle.wf_sched.specs.Rotas.{need_at}
 use Rattle.wf_law_rules.proofs.Lemmas.Counts.{on-has, on_order-none}
 use Rattle.wf_def_world.specs.World.{World, is_live, queue, codel_params}
 use Rattle.wf_def_world.specs.FlowQueues.{frames_queued as world_queued, is_at_limit as world_at_limit, after_limit as world_after_limit, taken_for_tid as world_take}

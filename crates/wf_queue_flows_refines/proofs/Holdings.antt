@@ -10,7 +10,7 @@ use Rattle.wf_frame.specs.Frames.{FrameValue}
 use Rattle.wf_def_lists.specs.Table.{has, upto}
 use Rattle.wf_def_codel.specs.Codel.{Params}
 use Rattle.wf_def_lists.specs.Lists.{on}
-use Rattle.wf_sched_rotation.specs.Rotas.{need_at}
+use Rattle.wf_sched.specs.Rotas.{need_at}
 use Rattle.wf_law_rules.proofs.Lemmas.Counts.{on-nil, on-first}
 use Rattle.wf_law_rules.proofs.Lemmas.Members.{has_filter, has_head, has_tail}
 use Rattle.wf_queue_flows.specs.Backlog.{BacklogValue, frames_at, frame_with_fate, after_head_drop, after_flush, drops_at}

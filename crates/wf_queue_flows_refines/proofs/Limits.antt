@@ -9,7 +9,7 @@ use Rattle.wf_frame.specs.declared.classes.Fate.TheVariants.{Dropped}
 use Rattle.wf_frame.specs.Frames.{FrameValue}
 use Rattle.wf_def_codel.specs.Codel.{Item, Codel, new_codel}
 use Rattle.wf_def_lists.specs.Lists.{on}
-use Rattle.wf_sched_rotation.specs.Rotas.{deficit_at}
+use Rattle.wf_sched.specs.Rotas.{deficit_at}
 use Rattle.wf_def_world.specs.World.{World, Queue, is_live, queue, accepted_count, on_queue, with_frame_finished, with_frames_finished, with_fate}
 use Rattle.wf_def_world.specs.FlowQueues.{without_head, longest_queue as world_longest, after_limit as world_within_limit, is_at_limit as world_at_limit}
 use Rattle.wf_queue_flows.specs.Backlog.{BacklogValue, frames_at, codel_at, item_of, frame_with_fate, after_head_drop}

@@ -5,7 +5,7 @@ use Rattle.std.proofs.lemmas.List.{length-map}
 use Rattle.wf_def_lists.specs.Table.{has}
 use Rattle.wf_def_codel.specs.Codel.{Item}
 use Rattle.wf_def_rotation.specs.Rotation.{Rotation, has_key, in_order, need_of, keys_before, round, first_least, pick_later, pick_from, pick}
-use Rattle.wf_sched_rotation.specs.Rotas.{need_at}
+use Rattle.wf_sched.specs.Rotas.{need_at}
 use Rattle.wf_law_rules.specs.Renamed.{Agrees, IsSame}
 use Rattle.wf_law_rules.proofs.Lemmas.Numbers.{eq_yes, or_left, or_right}
 use Rattle.wf_law_rules.proofs.Lemmas.Members.{has_filter, has_before, has_least}

@@ -10,7 +10,7 @@ use Rattle.wf_def_lists.specs.Table.{at, has, upto}
 use Rattle.wf_def_codel.specs.Codel.{Item, new_codel}
 use Rattle.wf_def_rotation.specs.Rotation.{Rotation, no_keys, has_key, in_order}
 use Rattle.wf_def_lists.specs.Lists.{on}
-use Rattle.wf_sched_rotation.specs.Rotas.{deficit_at}
+use Rattle.wf_sched.specs.Rotas.{deficit_at}
 use Rattle.wf_law_rules.proofs.Lemmas.Counts.{on-nil}
 use Rattle.wf_law_rules.proofs.Lemmas.Members.{has_head, has_tail, has_filter}
 use Rattle.wf_def_world.specs.World.{World, Station, Queue, with_station, on_station, on_tid, no_station, no_tid, is_live, queue, tid_of, session, accepted_count, on_queue, with_queues, with_fate, with_frame_finished, with_frames_finished}

@@ -12,7 +12,7 @@ use Rattle.wf_frame.specs.Frames.{FrameValue}
 use Rattle.wf_def_codel.specs.Codel.{Item, Codel, new_codel}
 use Rattle.wf_def_rotation.specs.Rotation.{Rotation, has_key, in_order, with_new_key}
 use Rattle.wf_def_lists.specs.Lists.{on}
-use Rattle.wf_sched_rotation.specs.Rotas.{deficit_at}
+use Rattle.wf_sched.specs.Rotas.{deficit_at}
 use Rattle.wf_law_rules.proofs.Lemmas.Counts.{on-nil, on-cons_same, on-cons_other, on-append}
 use Rattle.wf_law_rules.proofs.Lemmas.Counts.{listed-some, listed-none, on_order-none}
 use Rattle.wf_def_world.specs.World.{World, Queue, is_live, tid_of, accepted_count, on_queue, with_queues}

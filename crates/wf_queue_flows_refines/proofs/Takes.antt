@@ -12,7 +12,7 @@ use Rattle.wf_def_codel.specs.Parameters.{is_slow}
 use Rattle.wf_def_codel.specs.Codel.{Codel, Params, Dequeued, dequeued_after, drops, state_after, dequeue}
 use Rattle.wf_def_rotation.specs.Rotation.{Rotation, has_key, in_order}
 use Rattle.wf_def_lists.specs.Lists.{on}
-use Rattle.wf_sched_rotation.specs.Rotas.{deficit_at, need_at}
+use Rattle.wf_sched.specs.Rotas.{deficit_at, need_at}
 use Rattle.wf_law_rules.proofs.Lemmas.Counts.{on-first}
 use Rattle.wf_law_rules.proofs.Lemmas.Counts.{listed-some, listed-none}
 use Rattle.wf_law_rules.specs.Renamed.{IsSame}

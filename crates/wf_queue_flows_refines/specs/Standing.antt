@@ -9,7 +9,7 @@ use Rattle.wf_frame.specs.declared.classes.Fate.{Fate}
 use Rattle.wf_frame.specs.Frames.{FrameValue}
 use Rattle.wf_def_rotation.specs.Rotation.{Rotation, has_key as lists_of, in_order}
 use Rattle.wf_def_lists.specs.Lists.{on}
-use Rattle.wf_sched_rotation.specs.Rotas.{deficit_at, quantum_at}
+use Rattle.wf_sched.specs.Rotas.{deficit_at, quantum_at}
 use Rattle.wf_def_world.specs.World.{World, Queue, tid_of, queue, frame, accepted_count}
 use Rattle.wf_queue_flows.specs.Backlog.{BacklogValue, frames_at, codel_at, item_of}
 use Rattle.wf_frame.specs.Classes.{tid_number}

@@ -4,10 +4,10 @@ use Rattle.std.proofs.lemmas.Bool.{cases_lt}
 use Rattle.std.proofs.lemmas.List.{get_or-take, get_or-replicate, length-replicate, length-take-le, same_lists, take_all}
 use Rattle.std.specs.Int.{bit_at}
 use Rattle.wf_def_lists.specs.Table.{has}
-use Rattle.wf_octets_bits.specs.Offsets.{IsOffsets, offsets_in}
-use Rattle.wf_octets_bits.proofs.Sets.{has_not_above, rises_wider, same_members}
-use Rattle.wf_octets_bits.proofs.Words.{offsets_in_are_offsets, has-offsets_in}
-use Rattle.wf_recv_agreement.specs.Board.{Board}
+use Rattle.wf_octets_parts.specs.Offsets.{IsOffsets, offsets_in}
+use Rattle.wf_octets_parts.proofs.Sets.{has_not_above, rises_wider, same_members}
+use Rattle.wf_octets_parts.proofs.Words.{offsets_in_are_offsets, has-offsets_in}
+use Rattle.wf_recv_peer.specs.Board.{Board}
 use Rattle.wf_recv_peer.specs.Answering.{IsAnswer, IsWritten, IsWrittenWide, narrow_answer, wide_answer}
 
 -- the first eight octets show the same offsets

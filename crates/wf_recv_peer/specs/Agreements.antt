@@ -1,10 +1,10 @@
 -- The receive half of one station: for each traffic identifier (TID) a scoreboard and a reordering buffer,
 -- which hear the same numbers.
 use Rattle.std.specs.Prelude.{◌≡◌, ℕ, List, [], ◌++◌, replicate, slice_set, slice_index_or, Option, MatchOption}
-use Rattle.wf_recv_agreement.specs.Board.{Board, empty_board}
-use Rattle.wf_recv_agreement.specs.Board.{after_number as board_arrived, after_start as board_requested}
-use Rattle.wf_recv_agreement.specs.Buffer.{Buffer, BufferOutcome, empty_buffer, items_of, HasOneMore}
-use Rattle.wf_recv_agreement.specs.Buffer.{number_outcome as buffer_arrived, request_outcome as buffer_requested}
+use Rattle.wf_recv_peer.specs.Board.{Board, empty_board}
+use Rattle.wf_recv_peer.specs.Board.{after_number as board_arrived, after_start as board_requested}
+use Rattle.wf_recv_peer.specs.Buffer.{Buffer, BufferOutcome, empty_buffer, items_of, HasOneMore}
+use Rattle.wf_recv_peer.specs.Buffer.{number_outcome as buffer_arrived, request_outcome as buffer_requested}
 use Rattle.wf_recv_peer.specs.declared.reading.Reading.{Reading}
 use Rattle.wf_recv_peer.specs.declared.reading.Reading.TheVariants.{Data, Request}
 use Rattle.wf_recv_peer.specs.Receiving.{tid_read}

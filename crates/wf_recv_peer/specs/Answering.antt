@@ -1,10 +1,10 @@
 -- The BlockAck that a station with the address `own` answers with: from it to the access point, whose address
 -- is `base`, with Duration 0 and what the scoreboard of the TID shows.
 use Rattle.std.specs.Prelude.{◌≡◌, ℕ, nat_lt, List, take, MatchBool, if◌then◌else◌}
-use Rattle.wf_recv_agreement.specs.Board.{Board}
-use Rattle.wf_octets_block.specs.declared.frames.Ba.{Ba}
-use Rattle.wf_octets_block.specs.declared.frames.WideBa.{WideBa}
-use Rattle.wf_octets_block.specs.Layout.{IsBlockAck, IsWideBa, answer, narrow_form, wide_form, head_octets, head_of_ba, head_of_wide}
+use Rattle.wf_recv_peer.specs.Board.{Board}
+use Rattle.wf_octets_frames.specs.declared.block.frames.Ba.{Ba}
+use Rattle.wf_octets_frames.specs.declared.block.frames.WideBa.{WideBa}
+use Rattle.wf_octets_frames.specs.BlockLayout.{IsBlockAck, IsWideBa, answer, narrow_form, wide_form, head_octets, head_of_ba, head_of_wide}
 
 abbrev pub narrow_answer : List ℕ → List ℕ → ℕ → Board → Ba
 narrow_answer own base tid b = record {

@@ -1,3 +1,5 @@
+pub mod Board
+pub mod Buffer
 pub mod Agreements
 pub mod Answering
 pub mod Frames

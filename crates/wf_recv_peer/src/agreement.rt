@@ -1,19 +1,19 @@
 //! The recipient's side of one block acknowledgement agreement.
 
 ghost use Rattle.std.specs.Prelude.{◌≡◌, ◌≤◌, ◌<◌, [], nat_lt, IfOk, take, drop};
-ghost use Rattle.wf_octets_bits.specs.Offsets.{IsOffsets};
+ghost use Rattle.wf_octets_parts.specs.Offsets.{IsOffsets};
 ghost use Rattle.wf_recv_peer.specs.Agreements.{new_agreement, agreement_after, buffer_outcome, IsEachOnce};
 ghost use Rattle.wf_recv_peer.specs.Answering.{answer_size, narrow_answer, wide_answer, IsWritten, IsWrittenWide, IsAnswer};
 
 use crate::reading::Reading;
+use crate::recipient::{Reorder, Score};
 use std::alloc::{AllocError, Global};
 use std::marker::Model;
 use wf_frame::Ids;
-use wf_octets_bits::{Bits64, Bits256};
-use wf_octets_block::{Ba, WideBa, encode_ba, encode_wide};
-use wf_octets_fields::put;
-use wf_octets_seq12::Seq12;
-use wf_recv_agreement::{Reorder, Score};
+use wf_octets_frames::block::{Ba, WideBa, encode_ba, encode_wide};
+use wf_octets_parts::bits::{Bits64, Bits256};
+use wf_octets_parts::fields::put;
+use wf_octets_parts::seq12::Seq12;
 
 /// The greatest size of a window.
 const LARGEST: u16 = 256;

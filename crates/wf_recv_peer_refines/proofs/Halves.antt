@@ -3,14 +3,14 @@ use Rattle.std.proofs.Common.{◌≡◌, ℕ, ◌+◌, ◌-◌, ◌%◌, ◌≤�
 use Rattle.std.proofs.lemmas.Bool.{cases_Bool}
 use Rattle.wf_def_lists.specs.Table.{has, bits_word}
 use Rattle.wf_def_agreement.specs.Receiver.{Receiver, new_receiver, with_arrived, with_start, release_start, score_start, released_between, score, bitmap_word}
-use Rattle.wf_octets_seq12.specs.Distance.{distance}
-use Rattle.wf_octets_bits.proofs.Sets.{has-moved_down}
-use Rattle.wf_recv_agreement.specs.Board.{Board, empty_board}
-use Rattle.wf_recv_agreement.specs.Board.{after_number as board_arrived}
-use Rattle.wf_recv_agreement.specs.Board.{after_start as board_requested}
-use Rattle.wf_recv_agreement.specs.Buffer.{Buffer, BufferOutcome, empty_buffer}
-use Rattle.wf_recv_agreement.specs.Buffer.{number_outcome as buffer_arrived}
-use Rattle.wf_recv_agreement.specs.Buffer.{request_outcome as buffer_requested}
+use Rattle.wf_octets_parts.specs.Distance.{distance}
+use Rattle.wf_octets_parts.proofs.Sets.{has-moved_down}
+use Rattle.wf_recv_peer.specs.Board.{Board, empty_board}
+use Rattle.wf_recv_peer.specs.Board.{after_number as board_arrived}
+use Rattle.wf_recv_peer.specs.Board.{after_start as board_requested}
+use Rattle.wf_recv_peer.specs.Buffer.{Buffer, BufferOutcome, empty_buffer}
+use Rattle.wf_recv_peer.specs.Buffer.{number_outcome as buffer_arrived}
+use Rattle.wf_recv_peer.specs.Buffer.{request_outcome as buffer_requested}
 use Rattle.wf_recv_peer_refines.specs.Half.{stored_of, buffer_of, IsOrderly, ReceiveHalfStandsFor, IsInReach, IsRequestInReach, ComparesBoth}
 use Rattle.wf_recv_peer_refines.proofs.Comparisons.{distance_ahead, compares}
 use Rattle.wf_recv_peer_refines.proofs.Starts.{release_score, orderly_arrived, orderly_requested}

@@ -6,10 +6,10 @@
 use Rattle.std.specs.Prelude.{◌≡◌, ℕ, ◌+◌, ◌%◌, ◌<◌, ◌≤◌, List, map, Option, Some, None, if◌then◌else◌}
 use Rattle.wf_def_lists.specs.Table.{has, count_from}
 use Rattle.wf_def_agreement.specs.Receiver.{Receiver, release_start, score_start, score}
-use Rattle.wf_octets_bits.specs.Offsets.{RisesBetween}
-use Rattle.wf_octets_seq12.specs.Distance.{distance}
-use Rattle.wf_recv_agreement.specs.Board.{Board}
-use Rattle.wf_recv_agreement.specs.Buffer.{Buffer}
+use Rattle.wf_octets_parts.specs.Offsets.{RisesBetween}
+use Rattle.wf_octets_parts.specs.Distance.{distance}
+use Rattle.wf_recv_peer.specs.Board.{Board}
+use Rattle.wf_recv_peer.specs.Buffer.{Buffer}
 
 -- the scoreboard that stands for r: its start modulo 4096, and how far past it each number of the window
 -- stands that arrived

@@ -1,6 +1,6 @@
 //! The recipient's 12-bit receive half stands for the receiver of the definitions.
 //!
-//! The scoreboard and the reordering buffer (`wf_recv_agreement`) follow the rules of IEEE 802.11-2012,
+//! The scoreboard and the reordering buffer (`wf_recv_peer::recipient`) follow the rules of IEEE 802.11-2012,
 //! 9.21.7.3 to 9.21.7.6, modulo 4096, for every sequence of numbers whatever. A receiver (`wf_def_agreement`)
 //! has whole numbers with no bound: those that arrived, and the starts of requests. The two agree as long as
 //! each number that arrives is within reach, as the window law has it of each frame and request in flight.
@@ -10,9 +10,9 @@
 ghost use Rattle.std.specs.Prelude.{◌≡◌, ℕ, ◌+◌, ◌%◌, ◌≤◌, true, map, Some, None, if◌then◌else◌};
 ghost use Rattle.wf_def_lists.specs.Table.{has, bits_word};
 ghost use Rattle.wf_def_agreement.specs.Receiver.{Receiver, new_receiver, with_arrived, with_start, score_start, released_between, score, bitmap_word};
-ghost use Rattle.wf_octets_seq12.specs.Distance.{distance};
-ghost use Rattle.wf_recv_agreement.specs.Board.{Board, empty_board, after_number as board_arrived, after_start as board_requested};
-ghost use Rattle.wf_recv_agreement.specs.Buffer.{Buffer, empty_buffer, number_outcome as buffer_arrived, request_outcome as buffer_requested};
+ghost use Rattle.wf_octets_parts.specs.Distance.{distance};
+ghost use Rattle.wf_recv_peer.specs.Board.{Board, empty_board, after_number as board_arrived, after_start as board_requested};
+ghost use Rattle.wf_recv_peer.specs.Buffer.{Buffer, empty_buffer, number_outcome as buffer_arrived, request_outcome as buffer_requested};
 ghost use Rattle.wf_recv_peer_refines.specs.Half.{ReceiveHalfStandsFor, IsInReach, IsRequestInReach, ComparesRight, ComparesBoth};
 
 /// Two numbers that are at most 2047 apart compare by their 12 bits as they do themselves (8.2.4.4.2). So

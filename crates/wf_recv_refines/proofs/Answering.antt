@@ -11,9 +11,9 @@ use Rattle.wf_def_world.specs.Refusals.{refusal}
 use Rattle.wf_def_world.specs.Step.{answer_outcome, outcome_where_open, outcome_of, step}
 use Rattle.wf_law_runs.proofs.Releases.Kept.{keep_answered}
 use Rattle.wf_law_driver.proofs.Opened.{with_replaced, found_number}
-use Rattle.wf_send_exchanges.specs.declared.marks.Mark.{Mark}
-use Rattle.wf_send_exchanges.specs.Marks.{with_answer, with_changed}
-use Rattle.wf_recv_agreement.specs.Board.{Board}
+use Rattle.wf_send_parts.specs.declared.exchanges.marks.Mark.{Mark}
+use Rattle.wf_send_parts.specs.Marks.{with_answer, with_changed}
+use Rattle.wf_recv_peer.specs.Board.{Board}
 use Rattle.wf_recv_peer.specs.Agreements.{PeerValue}
 use Rattle.wf_recv_peer_refines.specs.Half.{board_of}
 use Rattle.wf_send_half_refines.specs.Standing.{IsReached}

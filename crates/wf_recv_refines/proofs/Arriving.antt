@@ -22,8 +22,8 @@ use Rattle.wf_law_runs.proofs.Releases.Kept.{kept_equal}
 use Rattle.wf_law_runs.proofs.Releases.Released.{side_taken, side_untaken, live_taken}
 use Rattle.wf_law_runs.proofs.Frames.Delivered.{opened_on_receiver}
 use Rattle.wf_law_driver.proofs.Opened.{with_replaced, step_done, some_at, found_number}
-use Rattle.wf_send_exchanges.specs.declared.marks.Mark.{Mark}
-use Rattle.wf_send_exchanges.specs.Marks.{with_arrival, with_changed}
+use Rattle.wf_send_parts.specs.declared.exchanges.marks.Mark.{Mark}
+use Rattle.wf_send_parts.specs.Marks.{with_arrival, with_changed}
 use Rattle.wf_recv_peer.specs.Agreements.{PeerValue, AgreementValue, agreement}
 use Rattle.wf_recv_peer_refines.specs.Half.{ReceiveHalfStandsFor}
 use Rattle.wf_recv_peer_refines.proofs.Halves.{stands_data, up_data, stands_request, up_request}

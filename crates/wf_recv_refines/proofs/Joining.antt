@@ -19,7 +19,7 @@ use Rattle.wf_law_runs.proofs.Windows.Agreed.{IsLawful, lawful_joined}
 use Rattle.wf_law_runs.proofs.Releases.Kept.{kept_equal}
 use Rattle.wf_law_runs.proofs.Releases.Released.{side_with_station, side_own_station, live_with_station}
 use Rattle.wf_law_driver.proofs.Opened.{step_done}
-use Rattle.wf_send_exchanges.specs.declared.marks.Mark.{Mark}
+use Rattle.wf_send_parts.specs.declared.exchanges.marks.Mark.{Mark}
 use Rattle.wf_recv_peer.specs.Agreements.{PeerValue, agreement, new_agreement}
 use Rattle.wf_recv_peer_refines.specs.Half.{ReceiveHalfStandsFor}
 use Rattle.wf_recv_peer_refines.proofs.Halves.{stands_first}

@@ -24,7 +24,7 @@ use Rattle.wf_law_driver.proofs.Opened.{step_done, first_refuses, found_number}
 use Rattle.wf_recv_peer.specs.Agreements.{PeerValue, AgreementValue}
 use Rattle.wf_recv_peer_refines.specs.Half.{ReceiveHalfStandsFor}
 use Rattle.wf_recv_peer_refines.proofs.Halves.{other_ids}
-use Rattle.wf_send_exchanges.specs.declared.marks.Mark.{Mark}
+use Rattle.wf_send_parts.specs.declared.exchanges.marks.Mark.{Mark}
 use Rattle.wf_send_half_refines.specs.Standing.{IsReached}
 use Rattle.wf_recv_refines.specs.Arriving.{IsUntold}
 use Rattle.wf_recv_refines.specs.Hearing.{agreement_of, HasAddresses, ArePeers, AreNew, carried, StandsForTid, mark_of, Hears}

@@ -5,8 +5,8 @@ use Rattle.wf_def_world.specs.World.{World, Exchange}
 use Rattle.wf_law_runs.specs.Windows.{OpenRises, KeepsWindows}
 use Rattle.wf_law_runs.proofs.Windows.Law.{window_law}
 use Rattle.wf_law_driver.proofs.Opened.{with_replaced}
-use Rattle.wf_send_exchanges.specs.declared.marks.Mark.{Mark}
-use Rattle.wf_send_exchanges.specs.Marks.{with_changed}
+use Rattle.wf_send_parts.specs.declared.exchanges.marks.Mark.{Mark}
+use Rattle.wf_send_parts.specs.Marks.{with_changed}
 use Rattle.wf_send_half_refines.specs.Standing.{IsReached}
 use Rattle.wf_send_half_refines.proofs.Reached.{by_law}
 use Rattle.wf_recv_refines.specs.Hearing.{mark_of}

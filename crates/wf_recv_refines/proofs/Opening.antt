@@ -26,8 +26,8 @@ use Rattle.wf_law_runs.proofs.Windows.Opened.{left_true, no_row, pick_ready, som
 use Rattle.wf_law_runs.proofs.Windows.Agreed.{IsLawful, lawful_same}
 use Rattle.wf_law_runs.proofs.Frames.Delivered.{IsPrepared, prepared_right}
 use Rattle.wf_law_runs.proofs.Releases.Kept.{keep_pulled}
-use Rattle.wf_send_exchanges.specs.declared.marks.Mark.{Mark}
-use Rattle.wf_send_exchanges.specs.Marks.{new_mark}
+use Rattle.wf_send_parts.specs.declared.exchanges.marks.Mark.{Mark}
+use Rattle.wf_send_parts.specs.Marks.{new_mark}
 use Rattle.wf_recv_peer.specs.Agreements.{PeerValue}
 use Rattle.wf_send_half_refines.specs.Standing.{IsReached}
 use Rattle.wf_send_half_refines.proofs.Reached.{by_law}

@@ -24,14 +24,14 @@ use Rattle.wf_law_runs.proofs.Windows.Agreed.{IsLawful, IsOpenIn, each_map_if, l
 use Rattle.wf_law_runs.proofs.Frames.Delivered.{IsPrepared, opened_ended}
 use Rattle.wf_law_driver.proofs.Opened.{step_done, some_at}
 use Rattle.wf_law_driver.proofs.Indices.{each_mpdu}
-use Rattle.wf_octets_seq12.specs.Distance.{distance}
+use Rattle.wf_octets_parts.specs.Distance.{distance}
 use Rattle.wf_send_half.specs.Bits.{span_of, is_shown, AreShown}
 use Rattle.wf_send_half_refines.specs.Standing.{IsReached}
 use Rattle.wf_recv_refines.specs.Hearing.{kept_of, mark_of, Hears}
 use Rattle.wf_recv_refines.specs.Answers.{KeepsShown}
 use Rattle.wf_recv_refines.specs.Refusing.{mark_in}
 use Rattle.wf_recv_refines.proofs.Telling.{mark_told}
-use Rattle.wf_send_exchanges.specs.declared.marks.Mark.{Mark}
+use Rattle.wf_send_parts.specs.declared.exchanges.marks.Mark.{Mark}
 use Rattle.wf_recv_peer.specs.Agreements.{PeerValue}
 use Rattle.wf_recv_refines.proofs.Keeping.{IsLeft, left_untold, left_refused, refused_world}
 use Rattle.wf_recv_refines.proofs.Opening.{picked_live, ready_sent}

@@ -13,7 +13,7 @@ use Rattle.wf_def_world.specs.World.{World, Exchange, exchange}
 use Rattle.wf_def_world.specs.Exchanges.{transmissions, picked_station, after_pick}
 use Rattle.wf_def_world.specs.Refusals.{first_refusal, exchange_has, refusal, is_bad_air}
 use Rattle.wf_def_world.specs.Step.{Outcome, join_outcome, leave_outcome, rate_outcome, tick_outcome, enqueue_outcome, send_outcome, pull_outcome_for, pull_outcome, arrive_outcome, answer_outcome, done_outcome, outcome_where_open, sleep_outcome, wake_outcome, poll_outcome, rx_outcome, reap_outcome, outcome_of, judged_outcome, step}
-use Rattle.wf_send_exchanges.specs.declared.marks.Mark.{Mark}
+use Rattle.wf_send_parts.specs.declared.exchanges.marks.Mark.{Mark}
 use Rattle.wf_recv_peer.specs.Agreements.{PeerValue}
 use Rattle.wf_recv_refines.specs.Hearing.{kept_of, mark_of, Hears}
 use Rattle.wf_recv_refines.specs.Refusing.{mark_in, arrive_refusal, answer_refusal, done_refusal}

@@ -7,8 +7,8 @@ use Rattle.wf_def_lists.specs.Table.{at}
 use Rattle.wf_def_agreement.specs.Receiver.{Receiver}
 use Rattle.wf_def_world.specs.World.{Content, Frames, Request}
 use Rattle.wf_def_world.specs.Exchanges.{no_mpdu}
-use Rattle.wf_recv_agreement.specs.Board.{Board, after_number as board_arrived, after_start as board_requested}
-use Rattle.wf_recv_agreement.specs.Buffer.{Buffer, BufferOutcome, number_outcome as buffer_arrived, request_outcome as buffer_requested}
+use Rattle.wf_recv_peer.specs.Board.{Board, after_number as board_arrived, after_start as board_requested}
+use Rattle.wf_recv_peer.specs.Buffer.{Buffer, BufferOutcome, number_outcome as buffer_arrived, request_outcome as buffer_requested}
 use Rattle.wf_recv_peer.specs.Agreements.{PeerValue, AgreementValue, agreement}
 use Rattle.wf_recv_peer_refines.specs.Half.{IsInReach, IsRequestInReach}
 

@@ -22,9 +22,9 @@ ghost use Rattle.wf_def_world.specs.World.{World, Exchange, exchange, is_wide, o
 ghost use Rattle.wf_def_world.specs.Exchanges.{transmissions};
 ghost use Rattle.wf_def_world.specs.Refusals.{refusal};
 ghost use Rattle.wf_def_world.specs.Step.{step};
-ghost use Rattle.wf_send_exchanges.specs.declared.opened.TheConstants.{MOST_OPEN};
-ghost use Rattle.wf_send_exchanges.specs.Marks.{new_mark, with_arrival, with_answer, with_changed};
-ghost use Rattle.wf_send_exchanges.specs.declared.marks.Mark.{Mark};
+ghost use Rattle.wf_send_parts.specs.declared.exchanges.opened.TheConstants.{MOST_OPEN};
+ghost use Rattle.wf_send_parts.specs.Marks.{new_mark, with_arrival, with_answer, with_changed};
+ghost use Rattle.wf_send_parts.specs.declared.exchanges.marks.Mark.{Mark};
 ghost use Rattle.wf_recv_peer.specs.Agreements.{PeerValue};
 ghost use Rattle.wf_send_half_refines.specs.Standing.{IsReached};
 ghost use Rattle.wf_send_half.specs.Bits.{AreShown};

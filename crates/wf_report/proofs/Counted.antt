@@ -1,6 +1,6 @@
 -- The frames that are held are those that have no other fate.
 use Rattle.std.proofs.Common.{◌≡◌, ◌∙◌, ap, arith}
-use Rattle.wf_send_stations.specs.Tally.{Counts, held_in}
+use Rattle.wf_send_parts.specs.Tally.{Counts, held_in}
 use Rattle.wf_frame.specs.declared.classes.Fate.TheVariants.{Held}
 use Rattle.wf_law_runs.specs.Tallies.{AddsUp}
 use Rattle.wf_law_runs.proofs.Frames.Tallies.{counts_add}

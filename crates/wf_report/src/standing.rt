@@ -1,7 +1,7 @@
 //! What a summary asks of a cell: its path says where the world is after the history.
 
 ghost use Rattle.std.specs.Prelude.{◌≡◌, ◌≤◌, length, take, true};
-ghost use Rattle.wf_send_stations.specs.Tally.{held_in, counts_of};
+ghost use Rattle.wf_send_parts.specs.Tally.{held_in, counts_of};
 ghost use Rattle.wf_frame.specs.declared.classes.Cause.TheVariants.{Overlimit, Codel, Retries, Left};
 ghost use Rattle.wf_frame.specs.declared.classes.Fate.TheVariants.{Held, Acked, Dropped};
 ghost use Rattle.wf_def_world.specs.World.{accepted_count, is_live, share};
@@ -10,7 +10,7 @@ ghost use Rattle.wf_def_world.specs.Text.{tally as tally_in, traffic_map, with_t
 
 use wf_cell::Cell;
 use wf_frame::Class;
-use wf_send_stations::Tally;
+use wf_send_parts::stations::Tally;
 
 /// How many station numbers there are, 1 to 256.
 pub fn stations(cell: &Cell) -> u16

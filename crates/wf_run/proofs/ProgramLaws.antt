@@ -4,8 +4,8 @@ use Rattle.std.specs.Prelude.{Option}
 use Rattle.wf_law_trace.proofs.Ranges.{trace_laws}
 use Rattle.wf_run_session.proofs.Law.{session_law}
 use Rattle.wf_run_uplink.proofs.Scripts.{uplink_law}
-use Rattle.wf_run_frames.proofs.Captures.{frames_law}
-use Rattle.wf_run_capture.proofs.Law.{capture_law}
+use Rattle.wf_captures.proofs.Captures.{frames_law}
+use Rattle.wf_run_replay.proofs.CaptureLaw.{capture_law}
 use Rattle.wf_run.specs.Outcome.{ProgramLaws}
 use Rattle.wf_run.proofs.SoakText.{soak_laws, soak_lengths}
 use Rattle.wf_run.proofs.LiveText.{live_again, live_laws, live_lengths}

@@ -7,10 +7,10 @@ use Rattle.wf_frame.specs.Settings.{standard}
 use Rattle.wf_def_world.specs.World.{World}
 use Rattle.wf_def_world.specs.Run.{Entry, Past, world_of}
 use Rattle.wf_gate.specs.Seats.{AreAll, AreOfSeats, StandsWithCalls, places_of}
-use Rattle.wf_live_workers.specs.Opening.{opening_calls}
-use Rattle.wf_live_workers.specs.Workloads.{Made, walked, driver_of, sender_calls}
-use Rattle.wf_live_workers.specs.Workloads.Phase.{Ends}
-use Rattle.wf_live_workers.specs.Makings.{made_by}
+use Rattle.wf_run_soak.specs.Opening.{opening_calls}
+use Rattle.wf_run_soak.specs.Workloads.{Made, walked, driver_of, sender_calls}
+use Rattle.wf_run_soak.specs.Workloads.Phase.{Ends}
+use Rattle.wf_run_soak.specs.Makings.{made_by}
 use Rattle.wf_run_live.specs.Crew.{CellGate, CellSeat, StandAt, HasDriven, IsWorked, class_of_driver, driver_count, driver_quota, quotas_of}
 use Rattle.wf_run_live.specs.Lives.{opened_world, IsDriven, IsLiveHistory}
 use Rattle.wf_run_live.proofs.Quotas.{count_of}

@@ -13,8 +13,8 @@ use Rattle.wf_def_world.specs.Run.{Entry, world_after}
 use Rattle.wf_law_runs.proofs.Frames.Fates.{world_after-append}
 use Rattle.wf_gate.specs.Turns.{places}
 use Rattle.wf_gate.specs.Seats.{places_of, StandsWithCalls}
-use Rattle.wf_live_workers.specs.Workloads.{Made}
-use Rattle.wf_live_workers.specs.Makings.{made_by}
+use Rattle.wf_run_soak.specs.Workloads.{Made}
+use Rattle.wf_run_soak.specs.Makings.{made_by}
 use Rattle.wf_run_live.specs.Crew.{CellGate, StandAt, reply_at}
 
 -- the world in which a gate was made

@@ -3,14 +3,14 @@ use Rattle.std.proofs.Common.{◌≡◌, ℕ, zero, suc, ◌+◌, ◌-◌, ◌<�
 use Rattle.std.specs.Prelude.{All, ◌==◌}
 use Rattle.std.proofs.lemmas.List.Elements.{All-nil, All-cons, All-head, All-tail}
 use Rattle.wf_frame.specs.Settings.{standard}
-use Rattle.wf_history.specs.Traces.{ArePrintable}
-use Rattle.wf_live_workers.specs.Opening.{station_calls, opening_calls}
+use Rattle.wf_script.specs.Traces.{ArePrintable}
+use Rattle.wf_run_soak.specs.Opening.{station_calls, opening_calls}
 use Rattle.wf_trace.specs.Meanings.{greatest_caller}
 use Rattle.wf_trace.specs.Printing.{IsPrintable}
-use Rattle.wf_live_workers.proofs.Prints.{sender_law, walk_law}
-use Rattle.wf_live_workers.specs.Makings.{made_by}
-use Rattle.wf_live_workers.specs.Walks.{CanBePrinted}
-use Rattle.wf_live_workers.specs.Workloads.{Made, driver_of}
+use Rattle.wf_run_soak.proofs.Prints.{sender_law, walk_law}
+use Rattle.wf_run_soak.specs.Makings.{made_by}
+use Rattle.wf_run_soak.specs.Walks.{CanBePrinted}
+use Rattle.wf_run_soak.specs.Workloads.{Made, driver_of}
 use Rattle.wf_def_world.specs.World.{World}
 use Rattle.wf_def_world.specs.Step.{Outcome, step}
 use Rattle.wf_def_world.specs.Run.{Entry}

@@ -8,8 +8,8 @@ use Rattle.wf_def_world.specs.Run.{Past}
 use Rattle.wf_cell.specs.Cells.{room_in}
 use Rattle.wf_gate.specs.Turns.{numbers_from}
 use Rattle.wf_gate.specs.Seats.{new_seat}
-use Rattle.wf_live_workers.specs.Opening.{opening_calls}
-use Rattle.wf_live_workers.proofs.Openings.{opening_length}
+use Rattle.wf_run_soak.specs.Opening.{opening_calls}
+use Rattle.wf_run_soak.proofs.Openings.{opening_length}
 use Rattle.wf_run_live.specs.Crew.{CellGate, CellSeat, driver_count, driver_quota, quotas_of}
 
 sum_most : (n x : ℕ) (rest : List ℕ) → x ≤ 10001 → sum (replicate n x ++ rest) ≤ 10001 * n + sum rest

@@ -11,8 +11,8 @@ use Rattle.wf_def_world.specs.Run.{Entry, world_after}
 use Rattle.wf_gate.specs.Seats.{IsOf, IsSameSeat, EndsWith, last_place}
 use Rattle.wf_gate.specs.declared.view.Opening.{Opening}
 use Rattle.wf_cell.specs.Cells.{CellValue}
-use Rattle.wf_live_workers.specs.Workloads.{Made}
-use Rattle.wf_live_workers.specs.Desks.{Adds, Refuses}
+use Rattle.wf_run_soak.specs.Workloads.{Made}
+use Rattle.wf_run_soak.specs.Desks.{Adds, Refuses}
 use Rattle.wf_run_live.specs.Crew.{CellGate, CellSeat, StandAt, reply_at, ends_exchange, done_count}
 use Rattle.wf_run_live.specs.Sitting.{HasMade, HasMadeAndLooked, left_of}
 

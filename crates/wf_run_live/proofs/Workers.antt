@@ -7,9 +7,9 @@ use Rattle.wf_frame.specs.declared.notes.Note.{Note}
 use Rattle.wf_def_world.specs.Run.{Entry}
 use Rattle.wf_gate.specs.Seats.{IsOf, AreAll, StandsWithCalls, new_seat}
 use Rattle.wf_gate.proofs.Clients.{new_all, all_again}
-use Rattle.wf_live_workers.specs.Workloads.{Made, Driver, IsWalk, walked, driver_of, sender_calls}
-use Rattle.wf_live_workers.specs.Workloads.Phase.{Ends}
-use Rattle.wf_live_workers.specs.Desks.{Makes, Walks}
+use Rattle.wf_run_soak.specs.Workloads.{Made, Driver, IsWalk, walked, driver_of, sender_calls}
+use Rattle.wf_run_soak.specs.Workloads.Phase.{Ends}
+use Rattle.wf_run_soak.specs.Desks.{Makes, Walks}
 use Rattle.wf_run_live.specs.Crew.{CellGate, CellSeat, StandAt, HasDriven, IsWorked, class_of_driver, driver_count, quotas_of}
 use Rattle.wf_run_live.specs.Sitting.{HasMade, HasMadeAndLooked, left_of, IsReady, HasWorked, AreDone}
 

@@ -11,8 +11,8 @@ use Rattle.wf_def_world.specs.Step.{step}
 use Rattle.wf_def_world.specs.Run.{Entry, world_after}
 use Rattle.wf_gate.specs.Seats.{GateView, SeatView, StandsWithCalls}
 use Rattle.wf_cell.specs.Cells.{CellValue}
-use Rattle.wf_live_workers.specs.Workloads.{Made, IsWalk, walked, driver_of, is_done, sender_calls}
-use Rattle.wf_live_workers.specs.Workloads.Phase.{Ends}
+use Rattle.wf_run_soak.specs.Workloads.{Made, IsWalk, walked, driver_of, is_done, sender_calls}
+use Rattle.wf_run_soak.specs.Workloads.Phase.{Ends}
 
 -- a gate before a cell, and a seat at it
 abbrev pub CellGate : Type 0

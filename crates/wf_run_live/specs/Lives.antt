@@ -1,8 +1,8 @@
 -- What the command `live` does: one history, which its workers made, and what is written of it.
 use Rattle.std.specs.Prelude.{◌≡◌, ◌⊎◌, ℕ, ◌+◌, ◌<◌, ◌≤◌, Bool, List, [], ◌++◌, length, map, All}
 use Rattle.wf_frame.specs.Settings.{standard}
-use Rattle.wf_history.specs.Traces.{trace_of, trace_items}
-use Rattle.wf_live_workers.specs.Opening.{opening_calls}
+use Rattle.wf_script.specs.Traces.{trace_of, trace_items}
+use Rattle.wf_run_soak.specs.Opening.{opening_calls}
 use Rattle.wf_io.specs.Fronts.{IsFrontOf}
 use Rattle.wf_io.specs.declared.status.Status.{Status}
 use Rattle.wf_io.specs.declared.status.Status.TheVariants.{Done, Usage, BadTrace, ReadFault, WriteFault, NoMemory}
@@ -10,9 +10,9 @@ use Rattle.wf_trace.specs.Reading.{reading}
 use Rattle.wf_def_world.specs.World.{World, opening}
 use Rattle.wf_def_world.specs.Run.{Entry, world_after}
 use Rattle.wf_def_world.specs.Text.{history_summary}
-use Rattle.wf_live_workers.specs.Workloads.{Made, Driver, IsWalk, walked, driver_of, sender_calls}
-use Rattle.wf_live_workers.specs.Workloads.Phase.{Ends}
-use Rattle.wf_live_workers.specs.Makings.{made_by}
+use Rattle.wf_run_soak.specs.Workloads.{Made, Driver, IsWalk, walked, driver_of, sender_calls}
+use Rattle.wf_run_soak.specs.Workloads.Phase.{Ends}
+use Rattle.wf_run_soak.specs.Makings.{made_by}
 use Rattle.wf_run_live.specs.Crew.{driver_count, driver_quota, class_of_driver}
 
 -- the world in which the gate opens

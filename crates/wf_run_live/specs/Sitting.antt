@@ -7,7 +7,7 @@ use Rattle.wf_frame.specs.declared.notes.Refusal.TheVariants.{Nothing}
 use Rattle.wf_frame.specs.declared.notes.ReplyNote.{ReplyNote}
 use Rattle.wf_frame.specs.declared.notes.ReplyNote.TheVariants.{Refused}
 use Rattle.wf_gate.specs.Seats.{IsOf, new_seat}
-use Rattle.wf_live_workers.specs.Workloads.{Made}
+use Rattle.wf_run_soak.specs.Workloads.{Made}
 use Rattle.wf_run_live.specs.Crew.{CellGate, CellSeat, StandAt, IsWorked, driver_count, done_count}
 
 -- a seat at a gate has this number, and these are all its calls, each with the right reply

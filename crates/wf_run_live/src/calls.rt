@@ -4,14 +4,15 @@ ghost use Rattle.std.specs.Prelude.{◌≡◌, ◌+◌, ◌≤◌, length, OnOk,
 ghost use Rattle.wf_frame.specs.Answers.{reply_of};
 ghost use Rattle.wf_gate.specs.Seats.{IsOf, IsSameSeat};
 ghost use Rattle.wf_path.specs.Jobs.{note_of};
-ghost use Rattle.wf_live_workers.specs.Desks.{Adds, Refuses};
+ghost use Rattle.wf_run_soak.specs.Desks.{Adds, Refuses};
 ghost use Rattle.wf_run_live.specs.Sitting.{HasMade, left_of};
 
 use std::alloc::Global;
 use std::sync::Wait;
+use wf_cell::record::Record;
+use wf_cell::{Answered, Asking};
 use wf_frame::Answer;
 use wf_gate::{Gate, Seat, TryFault, Turnstile};
-use wf_record::{Answered, Asking, Record};
 
 /// The answer's box comes back: with the answer, or as it was where the seat was spent.
 pub(crate) type Back = Result<Box<Answer, Global>, Box<Answer, Global>>;

@@ -3,7 +3,7 @@
 ghost use Rattle.std.specs.Prelude.{◌≡◌, ◌≤◌, ℕ, All, IfOk};
 ghost use Rattle.wf_frame.specs.Settings.{standard};
 ghost use Rattle.wf_gate.specs.Seats.{AreAll, IsOf};
-ghost use Rattle.wf_live_workers.specs.Opening.{opening_calls};
+ghost use Rattle.wf_run_soak.specs.Opening.{opening_calls};
 ghost use Rattle.wf_run_live.specs.Crew.{IsWorked, quotas_of};
 ghost use Rattle.wf_run_live.specs.Lives.{IsLiveHistory};
 
@@ -11,8 +11,8 @@ use crate::lives::live;
 use std::alloc::{AllocError, Global};
 use std::sync::Wait;
 use std::thread::Threads;
+use wf_cell::record::Record;
 use wf_gate::{Gate, Seat, Turnstile};
-use wf_record::Record;
 
 // The record, once all workers have given their seats back.
 fn close(gate: Gate<Record>, seats: Vec<Seat<Record>>) -> Record

@@ -10,9 +10,9 @@ use crate::history::write_history;
 use std::alloc::Global;
 use std::sync::Wait;
 use std::thread::Threads;
+use wf_cell::record::Record;
 use wf_gate::Turnstile;
 use wf_io::{Sink, Status};
-use wf_record::Record;
 
 // Writes the trace and the summary of what the workers did.
 fn tell<K: Sink>(cell: &Record, sink: &mut K) -> Status

@@ -10,8 +10,8 @@ use std::alloc::{AllocError, Global};
 use std::sync::Wait;
 use std::thread;
 use std::thread::Threads;
+use wf_cell::record::Record;
 use wf_gate::{Gate, Seat, Turnstile};
-use wf_record::Record;
 
 // All values, where there is no error among them.
 pub(crate) fn all_of<V: Drop>(

@@ -3,17 +3,18 @@
 ghost use Rattle.std.specs.Prelude.{◌≡◌, ◌+◌, ◌≤◌, length, is_some, true, OnOk, OnErr, IfOk, IsOk, IsErr};
 ghost use Rattle.wf_gate.specs.Seats.{IsOf};
 ghost use Rattle.wf_path.specs.Jobs.{note_of};
-ghost use Rattle.wf_live_workers.specs.Desks.{Adds, Refuses};
+ghost use Rattle.wf_run_soak.specs.Desks.{Adds, Refuses};
 ghost use Rattle.wf_run_live.specs.Sitting.{HasMade, HasMadeAndLooked, left_of, reply_in};
 
 use crate::calls::{Back, call_at, call_at_once};
 use std::alloc::Global;
 use std::sync::Wait;
+use wf_cell::record::Record;
+use wf_cell::{Asking, Job};
 use wf_frame::{Answer, Ask};
 use wf_gate::{Gate, Seat, Turnstile};
-use wf_live_workers::{Desk, Spent};
 use wf_queue_chain::Parcel;
-use wf_record::{Asking, Job, Record};
+use wf_run_soak::workers::{Desk, Spent};
 
 /// Where one worker sits: its seat at a gate, and the answer that goes in with each call and comes back.
 #[derive(Drop)]

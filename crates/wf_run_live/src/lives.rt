@@ -4,7 +4,7 @@ ghost use Rattle.std.specs.Prelude.{◌≡◌, ◌≤◌, ◌+◌, map, length, 
 ghost use Rattle.wf_frame.specs.Settings.{standard};
 ghost use Rattle.wf_gate.specs.Seats.{AreAll, IsOf, new_seat};
 ghost use Rattle.wf_gate.specs.Turns.{numbers_from};
-ghost use Rattle.wf_live_workers.specs.Opening.{opening_calls};
+ghost use Rattle.wf_run_soak.specs.Opening.{opening_calls};
 ghost use Rattle.wf_run_live.specs.Crew.{IsWorked, quotas_of};
 
 use crate::opened::{Opened, quotas};
@@ -12,8 +12,8 @@ use crate::work;
 use std::alloc::{AllocError, Global};
 use std::sync::Wait;
 use std::thread::Threads;
+use wf_cell::record::Record;
 use wf_gate::{Gate, Seat, Turnstile};
-use wf_record::Record;
 
 // The gate before a record to which the opening calls were made, and all its seats.
 fn open_gate(

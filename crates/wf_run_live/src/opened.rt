@@ -4,14 +4,15 @@ ghost use Rattle.std.specs.Prelude.{◌≡◌, ◌+◌, ◌∷◌, ◌≤◌, �
 ghost use Rattle.wf_frame.specs.Settings.{standard};
 ghost use Rattle.wf_frame.specs.declared.notes.Note.TheVariants.{Asked};
 ghost use Rattle.wf_def_world.specs.Run.{by};
-ghost use Rattle.wf_live_workers.specs.Opening.{opening_calls, with_entries};
+ghost use Rattle.wf_run_soak.specs.Opening.{opening_calls, with_entries};
 ghost use Rattle.wf_run_live.specs.Crew.{quotas_of};
 
 use std::alloc::{AllocError, Global};
 use std::marker::Model;
+use wf_cell::Job;
+use wf_cell::record::Record;
 use wf_frame::{Answer, Ask, Config};
-use wf_live_workers::{Opens, open_stations};
-use wf_record::{Job, Record};
+use wf_run_soak::workers::{Opens, open_stations};
 
 // How many calls each of the four drivers may make.
 const DRIVER_QUOTA: u32 = 150_000;

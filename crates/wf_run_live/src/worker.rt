@@ -8,10 +8,10 @@ ghost use Rattle.wf_run_live.specs.Sitting.{IsReady, HasWorked};
 use crate::desk::GateDesk;
 use std::alloc::{AllocError, Global};
 use std::sync::Wait;
+use wf_cell::record::Record;
 use wf_frame::{Answer, Class};
 use wf_gate::{Gate, Seat, Turnstile};
-use wf_live_workers::{drive, send};
-use wf_record::Record;
+use wf_run_soak::workers::{drive, send};
 
 /// How many drivers there are, one for each class.
 pub(crate) const DRIVERS: u32 = 4;

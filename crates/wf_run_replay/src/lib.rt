@@ -4,9 +4,12 @@
 //! is played on, and over `Tells`, which says what is written of it. The one `impl` of `Plays`, `Stage`, is a
 //! cell with the memory for its frames. Of `Tells` the one here is `AnswerLines`: it gathers the answers in
 //! an `Outgoing`, and they are written before the source is read again.
+//!
+//! The module `capture` is the command `replay --pcap`, over the same loop.
 #![tactic(auto)]
 
 mod answers;
+pub mod capture;
 mod command;
 mod outgoing;
 mod runner;

@@ -5,7 +5,7 @@ ghost use Rattle.wf_trace.specs.Words.{words};
 ghost use Rattle.wf_run_session.specs.Lines.{AreInRange, IsValidEvent, event_of, by_end, meant};
 
 use crate::verb::Verb;
-use wf_octets_seq12::Seq12;
+use wf_octets_parts::seq12::Seq12;
 use wf_session::Event;
 use wf_trace::{FaultKind, Value, end_at, long_at, next_word, read_all};
 

@@ -8,7 +8,7 @@ use Rattle.wf_frame.specs.declared.classes.Class.TheVariants.{Be}
 use Rattle.wf_frame.specs.declared.notes.Note.{Note}
 use Rattle.wf_frame.specs.declared.notes.Note.TheVariants.{Asked}
 use Rattle.wf_def_world.specs.Run.{Entry, by}
-use Rattle.wf_live_workers.specs.Stations.{standard_join, standard_rate}
+use Rattle.wf_run_soak.specs.Stations.{standard_join, standard_rate}
 use Rattle.wf_run_soak.specs.Lengths.{HasSoakLength, HaveSoakLengths}
 use Rattle.wf_run_soak.specs.Soak.{Soak, call, reply_to, stations_join, station_joins, frame_for, frame_put, word, drawn, air_used, sleeper_called, lets_arrive, transmission_sent, all_sent, some_arrive, after_answer_if, exchange_ended, exchange_played, sending, sending_played, class_in_round, after_pull, is_nothing, after_reaps, round_played, rounds_played, soak_begun, soak_history}
 

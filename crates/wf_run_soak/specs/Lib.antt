@@ -1,2 +1,9 @@
+pub mod Desks
+pub mod Drivers
+pub mod Makings
+pub mod Opening
+pub mod Stations
+pub mod Walks
+pub mod Workloads
 pub mod Soak
 pub mod Lengths

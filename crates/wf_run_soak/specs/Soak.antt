@@ -19,7 +19,7 @@ use Rattle.wf_def_lists.specs.Table.{at}
 use Rattle.wf_def_world.specs.World.{World, opening}
 use Rattle.wf_def_world.specs.Step.{step}
 use Rattle.wf_def_world.specs.Run.{Entry, by, world_after}
-use Rattle.wf_live_workers.specs.Stations.{standard_join, standard_rate}
+use Rattle.wf_run_soak.specs.Stations.{standard_join, standard_rate}
 
 -- a soak under way: the calls so far, the words to come, and how many calls are left
 pub record Soak : Type 0 where

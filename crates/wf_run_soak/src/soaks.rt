@@ -9,13 +9,13 @@ ghost use Rattle.wf_path.specs.Jobs.{note_of};
 ghost use Rattle.wf_run_soak.specs.Lengths.{HaveSoakLengths};
 ghost use Rattle.wf_run_soak.specs.Soak.{IsLater, frame_for, soak_begun, call, reply_to, stations_join, station_joins, frame_put, air_used, sleeper_called, transmission_sent, lets_arrive, all_sent, some_arrive, exchange_ended, after_answer_if, exchange_played, sending, sending_played, class_in_round, after_pull, after_all_reaps, round_played, rounds_played, soak_history, drawn, word, is_nothing};
 
+use crate::workers::{standard_join, standard_rate};
 use rand_core::utils::NextWord;
 use rand_pcg::Lcg64Xsh32;
 use std::alloc::{AllocError, Global};
 use std::marker::Model;
 use wf_cell::{Cell, Job};
 use wf_frame::{Answer, Ask, Brief, Class, Config, Frame, Refusal};
-use wf_live_workers::{standard_join, standard_rate};
 use wf_queue_chain::Parcel;
 
 /// A soak under way: the cell, whose history has the calls so far, the words to come, and how many calls are

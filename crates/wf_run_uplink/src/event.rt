@@ -1,7 +1,7 @@
 //! What a line of a script says.
 
 use crate::frame::Frame;
-use wf_air_time::Rate;
+use wf_air::time::Rate;
 
 /// What happens at the access point.
 #[derive(Clone, Copy)]

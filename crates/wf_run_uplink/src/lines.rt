@@ -8,7 +8,7 @@ ghost use Rattle.wf_run_uplink.specs.Lines.{IsValid, AreOpening, AreRate, openin
 use crate::event::Event;
 use crate::frame::Frame;
 use crate::verb::Verb;
-use wf_air_time::Rate;
+use wf_air::time::Rate;
 use wf_trace::{Arg, FaultKind, Value, long_at, next_word, read_all};
 
 /// The number of a station, of a window, or a sequence number: each is judged by the uplink.

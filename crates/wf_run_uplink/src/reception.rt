@@ -14,7 +14,7 @@ use crate::answers::{print_fault, print_now, print_opened, print_set, print_tota
 use crate::told::write_up;
 use std::alloc::{AllocError, Global};
 use std::marker::Model;
-use wf_air_time::Rate;
+use wf_air::time::Rate;
 use wf_io::{Failed, Line, Sink};
 use wf_script::{Unanswered, write_line};
 use wf_uplink::{LARGE, Up, Uplink};

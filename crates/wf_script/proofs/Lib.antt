@@ -6,3 +6,5 @@ mod Room
 pub mod Conversing
 pub mod Known
 pub mod Complete
+pub mod TraceLaws
+mod HistoryFronts

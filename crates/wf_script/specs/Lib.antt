@@ -3,3 +3,4 @@ pub mod Texts
 pub mod Reading
 pub mod Ends
 pub mod Outcome
+pub mod Traces

@@ -4,11 +4,14 @@
 //! A command says what its lines mean and how it answers an event (`Answers`), and `converse` does the rest:
 //! it cuts the lines, judges them, writes the answers and the line of a fault, and tells by its status how
 //! all that ended.
+//!
+//! The module `history` goes the other way: it writes the trace of a history.
 #![tactic(auto)]
 
 mod answers;
 mod conversation;
 mod ending;
+pub mod history;
 mod reading;
 
 pub use answers::{Answers, Unanswered, write_line};

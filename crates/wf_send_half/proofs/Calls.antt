@@ -16,18 +16,18 @@ use Rattle.wf_def_world.specs.Rates.{rate_asked}
 use Rattle.wf_def_world.specs.World.{World, is_live, share}
 use Rattle.wf_def_world.specs.Refusals.{refusal}
 use Rattle.wf_def_world.specs.Step.{class_to_send}
-use Rattle.wf_send_stations.specs.Tally.{counts_of}
+use Rattle.wf_send_parts.specs.Tally.{counts_of}
 use Rattle.wf_queue_flows.specs.Flows.{FlowsValue}
 use Rattle.wf_queue_flows_refines.specs.Standing.{ids, with_finished}
-use Rattle.wf_sched_stations.specs.ClassRotas.{SchedValue, deficit, after_join}
-use Rattle.wf_sched_stations_refines.specs.Standing.{everywhere, with_deficit_charged}
-use Rattle.wf_sched_stations_refines.proofs.Readings.{deficit_same}
-use Rattle.wf_sched_stations_refines.proofs.Charges.{debt_same}
-use Rattle.wf_send_window.specs.Window.{WindowValue}
-use Rattle.wf_send_stations.specs.declared.members.Member.{Member}
-use Rattle.wf_send_stations.specs.Members.{member, on_member, new_member, with_rate, with_receipt}
-use Rattle.wf_octets_tim.specs.declared.sleepers.Sleeper.{Sleeper}
-use Rattle.wf_octets_tim.specs.Sleepers.{sleeper, with_sleeper, awake}
+use Rattle.wf_sched.specs.ClassRotas.{SchedValue, deficit, after_join}
+use Rattle.wf_sched_refines.specs.Standing.{everywhere, with_deficit_charged}
+use Rattle.wf_sched_refines.proofs.Readings.{deficit_same}
+use Rattle.wf_sched_refines.proofs.Charges.{debt_same}
+use Rattle.wf_send_parts.specs.Window.{WindowValue}
+use Rattle.wf_send_parts.specs.declared.stations.members.Member.{Member}
+use Rattle.wf_send_parts.specs.Members.{member, on_member, new_member, with_rate, with_receipt}
+use Rattle.wf_octets_frames.specs.declared.tim.sleepers.Sleeper.{Sleeper}
+use Rattle.wf_octets_frames.specs.Sleepers.{sleeper, with_sleeper, awake}
 use Rattle.wf_send_half_refines.specs.Half.{TransmitValue}
 use Rattle.wf_send_half_refines.specs.Standing.{StandsFor, Meets}
 use Rattle.wf_send_half_refines.specs.Changes.{after_listing, AreReset}

@@ -19,12 +19,12 @@ use Rattle.wf_def_world.specs.Step.{done_outcome}
 use Rattle.wf_law_runs.specs.Windows.{EachMpdu, EachOpen}
 use Rattle.wf_law_runs.specs.Numbers.{greatest_computed}
 use Rattle.wf_law_runs.proofs.Deficits.Numbers.{number_law}
-use Rattle.wf_send_exchanges.specs.declared.opened.Open.{Open}
-use Rattle.wf_send_stations.specs.declared.members.Member.{Member}
-use Rattle.wf_send_stations.specs.Members.{member, charged_in, on_member, with_charge}
-use Rattle.wf_sched_stations.specs.ClassRotas.{SchedValue, deficit}
-use Rattle.wf_sched_stations_refines.specs.Standing.{SchedulerStandsFor as TurnsStandFor, with_deficit_charged as with_turns_charged}
-use Rattle.wf_sched_stations_refines.proofs.Calls.{charge_fits}
+use Rattle.wf_send_parts.specs.declared.exchanges.opened.Open.{Open}
+use Rattle.wf_send_parts.specs.declared.stations.members.Member.{Member}
+use Rattle.wf_send_parts.specs.Members.{member, charged_in, on_member, with_charge}
+use Rattle.wf_sched.specs.ClassRotas.{SchedValue, deficit}
+use Rattle.wf_sched_refines.specs.Standing.{SchedulerStandsFor as TurnsStandFor, with_deficit_charged as with_turns_charged}
+use Rattle.wf_sched_refines.proofs.Calls.{charge_fits}
 use Rattle.wf_law_driver.proofs.Opened.{found_number, first_refuses}
 use Rattle.wf_send_half_refines.specs.Half.{TransmitValue}
 use Rattle.wf_send_half_refines.specs.Standing.{open_of, sending_of, numbers_on_air, Parts, StandsFor, Meets}

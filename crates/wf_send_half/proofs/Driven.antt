@@ -23,7 +23,7 @@ use Rattle.wf_def_world.specs.Exchanges.{mpdus_of}
 use Rattle.wf_def_world.specs.Step.{step}
 use Rattle.wf_def_world.specs.Run.{world_after}
 use Rattle.wf_law_runs.specs.Windows.{EachMpdu}
-use Rattle.wf_send_exchanges.specs.declared.opened.Open.{Open}
+use Rattle.wf_send_parts.specs.declared.exchanges.opened.Open.{Open}
 use Rattle.wf_law_driver.specs.Told.{shown_indices, arrivals, answer_told, told, tells, after_told, done_told, KeepsAnswer, IsTold}
 use Rattle.wf_law_driver.specs.Transmit.{KeepsTransmit}
 use Rattle.wf_law_driver.specs.Unheard.{unmarked, IsSilent, IsUnheard}

@@ -20,19 +20,19 @@ use Rattle.wf_law_runs.specs.Windows.{EachMpdu, EachOpen, IsPending}
 use Rattle.wf_law_runs.proofs.Attempts.Law.{attempts_law}
 use Rattle.wf_law_runs.proofs.Frames.Tallies.{tally_law}
 use Rattle.wf_law_runs.proofs.Sent.Law.{sent_law}
-use Rattle.wf_send_stations.specs.Tally.{Counts, held_in}
+use Rattle.wf_send_parts.specs.Tally.{Counts, held_in}
 use Rattle.wf_frame.specs.Classes.{tid_number}
 use Rattle.wf_queue_flows.specs.Flows.{SettingsValue}
 use Rattle.wf_queue_flows_refines.proofs.Readers.{same_total}
-use Rattle.wf_send_window.proofs.Numbers.{open_number}
-use Rattle.wf_send_window.proofs.Callers.{heard_near}
-use Rattle.wf_send_window.specs.Window.{WindowValue, WindowStandsFor as WindowStandsFor}
-use Rattle.wf_octets_seq12.specs.Distance.{distance}
-use Rattle.wf_send_window.specs.Windows.{WindowsHaveRoom, window_of, with_window}
-use Rattle.wf_send_window.specs.Ending.{Ending, IsFlyingIn, AreFlying}
-use Rattle.wf_send_window.proofs.Ends.{still_fly}
-use Rattle.wf_send_exchanges.specs.declared.opened.Open.{Open}
-use Rattle.wf_send_exchanges.specs.declared.opened.Sending.TheVariants.{Data, Request as Starts_at}
+use Rattle.wf_send_parts.proofs.Numbers.{open_number}
+use Rattle.wf_send_parts.proofs.Callers.{heard_near}
+use Rattle.wf_send_parts.specs.Window.{WindowValue, WindowStandsFor as WindowStandsFor}
+use Rattle.wf_octets_parts.specs.Distance.{distance}
+use Rattle.wf_send_parts.specs.Windows.{WindowsHaveRoom, window_of, with_window}
+use Rattle.wf_send_parts.specs.Ending.{Ending, IsFlyingIn, AreFlying}
+use Rattle.wf_send_parts.proofs.Ends.{still_fly}
+use Rattle.wf_send_parts.specs.declared.exchanges.opened.Open.{Open}
+use Rattle.wf_send_parts.specs.declared.exchanges.opened.Sending.TheVariants.{Data, Request as Starts_at}
 use Rattle.wf_send_half_refines.specs.Half.{TransmitValue}
 use Rattle.wf_send_half_refines.specs.Standing.{sending_of, open_of, numbers_on_air, Parts, StandsFor}
 use Rattle.wf_send_half_refines.specs.Ending.{after_close, ending_of, IsEnding}

@@ -16,12 +16,12 @@ use Rattle.wf_def_world.specs.World.{World, is_live, inside}
 use Rattle.wf_def_world.specs.Refusals.{first_refusal, refusal, queued_in_class, sleeps_full}
 use Rattle.wf_def_world.specs.Step.{step}
 use Rattle.wf_queue_flows.specs.Backlog.{in_queues, held_in_backlog}
-use Rattle.wf_send_stations.specs.Tally.{Counts, one_accepted}
+use Rattle.wf_send_parts.specs.Tally.{Counts, one_accepted}
 use Rattle.wf_queue_flows.specs.Flows.{FlowsValue, SettingsValue, tid_rotation, frames_of_tid, dropped_for_limit, after_put}
 use Rattle.wf_queue_flows.proofs.Waiting.{waiting_few}
 use Rattle.wf_queue_flows_refines.specs.Frames.{with_body}
 use Rattle.wf_queue_flows_refines.proofs.Readers.{same_total}
-use Rattle.wf_octets_tim.specs.Sleepers.{sleeper}
+use Rattle.wf_octets_frames.specs.Sleepers.{sleeper}
 use Rattle.wf_send_half_refines.specs.Half.{TransmitValue}
 use Rattle.wf_send_half_refines.specs.Standing.{StandsFor, Meets}
 use Rattle.wf_send_half_refines.specs.Changes.{after_listing_in, after_enqueue}

@@ -6,14 +6,14 @@ use Rattle.wf_def_air.specs.Fit.{fits}
 use Rattle.wf_def_agreement.specs.Session.{Session, slot, start_of, next_number, with_number_given}
 use Rattle.wf_def_world.specs.World.{World, Mpdu, session, codel_params}
 use Rattle.wf_def_world.specs.Exchanges.{Aggregate, aggregate_of, lens_of, mpdu_of}
-use Rattle.wf_air_fit.specs.Rooms.{RoomValue, RoomStandsFor as RoomStandsFor}
+use Rattle.wf_air.specs.Rooms.{RoomValue, RoomStandsFor as RoomStandsFor}
 use Rattle.wf_frame.specs.Classes.{tid_number}
 use Rattle.wf_queue_flows.specs.Flows.{frames_of_tid}
-use Rattle.wf_octets_tim.specs.Sleepers.{sleeper}
-use Rattle.wf_send_window.specs.Listing.{IsListedNext}
-use Rattle.wf_send_window.specs.Window.{WindowStandsFor as WindowStandsFor, IsNumber, can_take, on_air, waiting_from}
-use Rattle.wf_send_window.proofs.Listing.{listing_next}
-use Rattle.wf_send_window.specs.Windows.{window_of}
+use Rattle.wf_octets_frames.specs.Sleepers.{sleeper}
+use Rattle.wf_send_parts.specs.Listing.{IsListedNext}
+use Rattle.wf_send_parts.specs.Window.{WindowStandsFor as WindowStandsFor, IsNumber, can_take, on_air, waiting_from}
+use Rattle.wf_send_parts.proofs.Listing.{listing_next}
+use Rattle.wf_send_parts.specs.Windows.{window_of}
 use Rattle.wf_send_half_refines.specs.Half.{TransmitValue}
 use Rattle.wf_send_half_refines.specs.Filling.{IsToFill, IsChoosing, IsFilling, IsFilled, after_giving}
 use Rattle.wf_send_half_refines.proofs.Asked.{params_read}

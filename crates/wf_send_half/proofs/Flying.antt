@@ -5,20 +5,20 @@ use Rattle.std.specs.Prelude.{slice_get}
 use Rattle.wf_frame.specs.Frames.{FrameValue}
 use Rattle.wf_def_agreement.specs.Session.{Session, State, slot, with_state}
 use Rattle.wf_def_world.specs.World.{World, Mpdu, session, on_session}
-use Rattle.wf_send_window.specs.Window.{WindowValue, WindowStandsFor as WindowStandsFor, IsNumber, HasOwnFrame, state_at, on_air}
-use Rattle.wf_send_window.specs.Sent.{with_one_sent, with_all_sent}
-use Rattle.wf_send_window.proofs.Sending.{all_sent_then}
-use Rattle.wf_send_window.specs.Windows.{WindowsHaveRoom, window_of, with_window}
+use Rattle.wf_send_parts.specs.Window.{WindowValue, WindowStandsFor as WindowStandsFor, IsNumber, HasOwnFrame, state_at, on_air}
+use Rattle.wf_send_parts.specs.Sent.{with_one_sent, with_all_sent}
+use Rattle.wf_send_parts.proofs.Sending.{all_sent_then}
+use Rattle.wf_send_parts.specs.Windows.{WindowsHaveRoom, window_of, with_window}
 use Rattle.wf_send_half_refines.specs.Half.{TransmitValue}
 use Rattle.wf_send_half_refines.specs.Standing.{numbers_on_air}
 use Rattle.wf_send_half_refines.specs.Filling.{IsTakingOff, IsFilled, IsToFill}
 use Rattle.wf_def_air.specs.Airtime.{data_charge}
 use Rattle.wf_def_air.specs.Fit.{aggregate_octets}
-use Rattle.wf_air_fit.specs.Rooms.{RoomValue, RoomStandsFor as RoomStandsFor}
+use Rattle.wf_air.specs.Rooms.{RoomValue, RoomStandsFor as RoomStandsFor}
 use Rattle.wf_def_world.specs.Exchanges.{Aggregate, aggregate_of, prepared_data, lens_of}
 use Rattle.wf_send_half_refines.proofs.Sends.{filled_charge}
 use Rattle.wf_send_half_refines.proofs.Flies.{off_begins, off_number, off_waits, off_frame, off_own, off_next}
-use Rattle.wf_send_window.proofs.Calls.{due_is}
+use Rattle.wf_send_parts.proofs.Calls.{due_is}
 use Rattle.wf_send_half.specs.Pulls.{IsFlying, pairs_of, IsPreparedAs, IsPrepared, HasToPrepare}
 
 -- the transmission at place i sends this number

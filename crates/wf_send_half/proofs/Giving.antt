@@ -7,10 +7,10 @@ use Rattle.wf_frame.specs.Frames.{FrameValue}
 use Rattle.wf_def_codel.specs.Codel.{Params}
 use Rattle.wf_def_world.specs.World.{codel_params}
 use Rattle.wf_queue_flows.specs.Flows.{FlowsValue, TakeGives, frames_of_tid, taken_for_tid}
-use Rattle.wf_send_stations.specs.Tally.{Counts, held_in, many_settled_as}
+use Rattle.wf_send_parts.specs.Tally.{Counts, held_in, many_settled_as}
 use Rattle.wf_def_agreement.specs.Session.{Session, next_number, with_number_given}
-use Rattle.wf_send_window.specs.Window.{WindowValue, WindowStandsFor as WindowStandsFor}
-use Rattle.wf_send_window.specs.Windows.{WindowsHaveRoom, window_of, with_window}
+use Rattle.wf_send_parts.specs.Window.{WindowValue, WindowStandsFor as WindowStandsFor}
+use Rattle.wf_send_parts.specs.Windows.{WindowsHaveRoom, window_of, with_window}
 use Rattle.wf_send_half_refines.specs.Half.{TransmitValue}
 use Rattle.wf_send_half_refines.specs.Filling.{IsTurned}
 use Rattle.wf_send_half_refines.proofs.Asked.{params_read}

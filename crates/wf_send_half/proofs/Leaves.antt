@@ -8,17 +8,17 @@ use Rattle.wf_frame.specs.declared.notes.ReplyNote.TheVariants.{Gone}
 use Rattle.wf_frame.specs.Frames.{FrameValue}
 use Rattle.wf_def_agreement.specs.Session.{Session, State, slot, start_of, next_number, with_state}
 use Rattle.wf_def_world.specs.World.{World}
-use Rattle.wf_send_stations.specs.Tally.{Counts, held_in, many_settled_as}
+use Rattle.wf_send_parts.specs.Tally.{Counts, held_in, many_settled_as}
 use Rattle.wf_queue_flows.specs.Backlog.{held_in_backlog}
 use Rattle.wf_frame.specs.Classes.{tid_number}
 use Rattle.wf_queue_flows.specs.Flows.{FlowsValue, frames_of_tid, after_purge}
 use Rattle.wf_queue_flows_refines.specs.Standing.{with_finished}
-use Rattle.wf_sched_stations.specs.ClassRotas.{SchedValue, after_station_left as without_turns}
-use Rattle.wf_sched_stations_refines.specs.Standing.{everywhere}
-use Rattle.wf_send_window.specs.Expelling.{frame_left}
-use Rattle.wf_send_window.specs.Window.{WindowValue, WindowStandsFor as WindowStandsFor, some_fly}
-use Rattle.wf_send_window.specs.Windows.{WindowsHaveRoom, window_of, with_window}
-use Rattle.wf_send_stations.specs.declared.members.Member.{Member}
+use Rattle.wf_sched.specs.ClassRotas.{SchedValue, after_station_left as without_turns}
+use Rattle.wf_sched_refines.specs.Standing.{everywhere}
+use Rattle.wf_send_parts.specs.Expelling.{frame_left}
+use Rattle.wf_send_parts.specs.Window.{WindowValue, WindowStandsFor as WindowStandsFor, some_fly}
+use Rattle.wf_send_parts.specs.Windows.{WindowsHaveRoom, window_of, with_window}
+use Rattle.wf_send_parts.specs.declared.stations.members.Member.{Member}
 use Rattle.wf_send_half_refines.specs.Half.{TransmitValue}
 use Rattle.wf_send_half_refines.specs.Leaving.{after_expelled, after_tid_purged, after_leave, IsLeaving, IsExpelling, IsExpelled}
 use Rattle.wf_send_half_refines.specs.Standing.{Meets}

@@ -5,15 +5,15 @@ use Rattle.wf_frame.specs.declared.settings.Config.{Config}
 use Rattle.wf_frame.specs.Frames.{FrameValue, new_frame}
 use Rattle.wf_frame.specs.Settings.{IsInRange}
 use Rattle.wf_def_world.specs.World.{opening}
-use Rattle.wf_send_stations.specs.Tally.{Counts, no_counts}
+use Rattle.wf_send_parts.specs.Tally.{Counts, no_counts}
 use Rattle.wf_queue_flows.specs.Flows.{FlowsValue, empty_flows}
-use Rattle.wf_sched_stations.specs.ClassRotas.{SchedValue, new_scheduler as empty_sched}
-use Rattle.wf_send_window.specs.Window.{WindowValue}
-use Rattle.wf_send_window.specs.Windows.{new_window}
-use Rattle.wf_send_exchanges.specs.declared.opened.Open.{Open}
-use Rattle.wf_send_stations.specs.declared.members.Member.{Member}
-use Rattle.wf_octets_tim.specs.declared.sleepers.Sleeper.{Sleeper}
-use Rattle.wf_octets_tim.specs.Sleepers.{awake}
+use Rattle.wf_sched.specs.ClassRotas.{SchedValue, new_scheduler as empty_sched}
+use Rattle.wf_send_parts.specs.Window.{WindowValue}
+use Rattle.wf_send_parts.specs.Windows.{new_window}
+use Rattle.wf_send_parts.specs.declared.exchanges.opened.Open.{Open}
+use Rattle.wf_send_parts.specs.declared.stations.members.Member.{Member}
+use Rattle.wf_octets_frames.specs.declared.tim.sleepers.Sleeper.{Sleeper}
+use Rattle.wf_octets_frames.specs.Sleepers.{awake}
 use Rattle.wf_send_half_refines.specs.Half.{TransmitValue, opening_half}
 use Rattle.wf_send_half_refines.specs.Standing.{StandsFor}
 use Rattle.wf_send_half_refines.proofs.Opening.{new_stands}

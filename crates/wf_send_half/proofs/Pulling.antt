@@ -27,16 +27,16 @@ use Rattle.wf_law_runs.proofs.Deficits.KeptStep.{kept}
 use Rattle.wf_law_runs.proofs.Ranges.Law.{range_law}
 use Rattle.wf_law_runs.proofs.Sent.Lengths.{IsStocked, stocked}
 use Rattle.wf_law_runs.proofs.Sent.Some.{IsApt, apt, apt_picked, apt_turned, some_filled}
-use Rattle.wf_sched_stations.specs.ClassRotas.{SchedValue, IsAfterPick, class_rota, with_class_rota, pick_of_class}
-use Rattle.wf_sched_stations_refines.specs.Calls.{HasPickedInClass}
-use Rattle.wf_sched_stations_refines.specs.Standing.{TellsReady}
-use Rattle.wf_sched_stations_refines.proofs.Picks.{pick_same}
-use Rattle.wf_send_exchanges.specs.declared.opened.Sending.{Sending}
-use Rattle.wf_send_exchanges.specs.declared.opened.Sending.TheVariants.{Data, Request as Starts_at}
-use Rattle.wf_send_window.proofs.Calls.{due_is}
-use Rattle.wf_send_stations.specs.declared.members.Member.{Member}
-use Rattle.wf_send_stations.specs.Members.{member, with_upper}
-use Rattle.wf_send_window.specs.Windows.{window_of}
+use Rattle.wf_sched.specs.ClassRotas.{SchedValue, IsAfterPick, class_rota, with_class_rota, pick_of_class}
+use Rattle.wf_sched_refines.specs.Calls.{HasPickedInClass}
+use Rattle.wf_sched_refines.specs.Standing.{TellsReady}
+use Rattle.wf_sched_refines.proofs.Picks.{pick_same}
+use Rattle.wf_send_parts.specs.declared.exchanges.opened.Sending.{Sending}
+use Rattle.wf_send_parts.specs.declared.exchanges.opened.Sending.TheVariants.{Data, Request as Starts_at}
+use Rattle.wf_send_parts.proofs.Calls.{due_is}
+use Rattle.wf_send_parts.specs.declared.stations.members.Member.{Member}
+use Rattle.wf_send_parts.specs.Members.{member, with_upper}
+use Rattle.wf_send_parts.specs.Windows.{window_of}
 use Rattle.wf_send_half_refines.specs.Half.{TransmitValue, can_send_of}
 use Rattle.wf_send_half_refines.specs.Standing.{IsMember, AreBoth, IsReached, Parts, StandsFor, Meets}
 use Rattle.wf_send_half_refines.specs.Changes.{after_listing_in}
@@ -49,7 +49,7 @@ use Rattle.wf_send_half_refines.proofs.Pulls.{pick_parts, idle_pull}
 use Rattle.wf_send_half_refines.proofs.Reached.{by_law}
 use Rattle.wf_send_half_refines.proofs.Readers.{can_send_same, live_same, ready_same}
 use Rattle.wf_send_half_refines.proofs.Sends.{winner_live, turn_tid, turned, request_meets, data_meets}
-use Rattle.wf_send_window.specs.Sent.{with_all_sent}
+use Rattle.wf_send_parts.specs.Sent.{with_all_sent}
 use Rattle.wf_send_half.specs.Replies.{bodies_sent}
 use Rattle.wf_send_half.specs.Pulls.{IsExponentSmall, IsSameButFrames, IsPreparedAs, TellsWhoIsReady, IsPickedInClass, HasToPrepare, IsRequestDue, IsData, IsPreparedFor, start_sent}
 

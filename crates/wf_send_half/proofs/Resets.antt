@@ -5,8 +5,8 @@ use Rattle.std.proofs.lemmas.Bool.{cases_eq}
 use Rattle.wf_frame.specs.Frames.{FrameValue}
 use Rattle.wf_def_lists.specs.Bounds.{greatest_window}
 use Rattle.wf_def_agreement.specs.Session.{new_session}
-use Rattle.wf_send_window.specs.Window.{WindowValue, WindowStandsFor, fresh_window}
-use Rattle.wf_send_window.specs.Windows.{WindowsHaveRoom, no_window, window_of}
+use Rattle.wf_send_parts.specs.Window.{WindowValue, WindowStandsFor, fresh_window}
+use Rattle.wf_send_parts.specs.Windows.{WindowsHaveRoom, no_window, window_of}
 use Rattle.wf_send_half_refines.specs.Changes.{AreReset}
 
 module _ (before after : List WindowValue) (s size start : ℕ)

@@ -15,15 +15,15 @@ use Rattle.wf_def_lists.specs.Table.{has}
 use Rattle.wf_def_world.specs.World.{World, Mpdu, session}
 use Rattle.wf_def_world.specs.Exchanges.{with_settled}
 use Rattle.wf_frame.specs.Classes.{tid_number}
-use Rattle.wf_send_stations.specs.Tally.{held_in, settled_as}
-use Rattle.wf_octets_seq12.specs.Distance.{distance}
-use Rattle.wf_send_window.specs.Answers.{settling_answer, with_fate}
-use Rattle.wf_send_window.specs.declared.window.Settled.{Settled}
-use Rattle.wf_send_window.specs.declared.window.Settled.TheVariants.{Acked, Waiting, Failed}
-use Rattle.wf_send_window.specs.Window.{WindowValue, WindowStandsFor as WindowStandsFor, IsNumber, session_settled, on_air}
-use Rattle.wf_send_window.specs.Ending.{Ending, all_settled, HasLeft, IsSettledNext}
-use Rattle.wf_send_window.specs.Windows.{WindowsHaveRoom, window_of, with_window}
-use Rattle.wf_send_window.proofs.Ends.{ending_number, ending_flies}
+use Rattle.wf_send_parts.specs.Tally.{held_in, settled_as}
+use Rattle.wf_octets_parts.specs.Distance.{distance}
+use Rattle.wf_send_parts.specs.Answers.{settling_answer, with_fate}
+use Rattle.wf_send_parts.specs.declared.window.window.Settled.{Settled}
+use Rattle.wf_send_parts.specs.declared.window.window.Settled.TheVariants.{Acked, Waiting, Failed}
+use Rattle.wf_send_parts.specs.Window.{WindowValue, WindowStandsFor as WindowStandsFor, IsNumber, session_settled, on_air}
+use Rattle.wf_send_parts.specs.Ending.{Ending, all_settled, HasLeft, IsSettledNext}
+use Rattle.wf_send_parts.specs.Windows.{WindowsHaveRoom, window_of, with_window}
+use Rattle.wf_send_parts.proofs.Ends.{ending_number, ending_flies}
 use Rattle.wf_send_half_refines.specs.Half.{TransmitValue}
 use Rattle.wf_send_half_refines.specs.Standing.{numbers_on_air, Parts}
 use Rattle.wf_send_half_refines.specs.Ending.{after_finish, after_answer, ending_of, IsEnding, state_left}

@@ -10,7 +10,7 @@ use Rattle.wf_def_world.specs.World.{World, codel_params}
 use Rattle.wf_def_world.specs.FlowQueues.{taken_for_tid}
 use Rattle.wf_law_runs.specs.Tallies.{AddsUp}
 use Rattle.wf_law_runs.proofs.Frames.Tallies.{counts_add}
-use Rattle.wf_send_stations.specs.Tally.{Counts, held_in, many_settled_as}
+use Rattle.wf_send_parts.specs.Tally.{Counts, held_in, many_settled_as}
 use Rattle.wf_frame.specs.Classes.{tid_number}
 use Rattle.wf_queue_flows.specs.Flows.{FlowsValue, frames_of_tid, TakeGives, taken_for_tid as take_out}
 use Rattle.wf_queue_flows_refines.proofs.Heads.{drops_counted}

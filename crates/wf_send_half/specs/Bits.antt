@@ -11,15 +11,15 @@ use Rattle.wf_def_world.specs.World.{World, Exchange, Mpdu, exchange, is_wide}
 use Rattle.wf_def_world.specs.CanSend.{is_request}
 use Rattle.wf_def_world.specs.Exchanges.{mpdus_of, is_acked, charge_of}
 use Rattle.wf_law_runs.specs.Windows.{EachMpdu}
-use Rattle.wf_send_stations.specs.Tally.{held_in}
+use Rattle.wf_send_parts.specs.Tally.{held_in}
 use Rattle.wf_queue_flows.specs.Backlog.{held_in_backlog}
-use Rattle.wf_octets_seq12.specs.Distance.{distance}
-use Rattle.wf_send_window.specs.declared.window.Settled.{Settled}
-use Rattle.wf_send_window.specs.declared.window.Settled.TheVariants.{Acked, Waiting, Failed}
-use Rattle.wf_send_exchanges.specs.declared.opened.Open.{Open}
-use Rattle.wf_send_exchanges.specs.declared.opened.Sending.{Sending}
-use Rattle.wf_send_exchanges.specs.declared.opened.Sending.TheVariants.{Data, Request as Starts_at}
-use Rattle.wf_send_stations.specs.Members.{member, charged_in}
+use Rattle.wf_octets_parts.specs.Distance.{distance}
+use Rattle.wf_send_parts.specs.declared.window.window.Settled.{Settled}
+use Rattle.wf_send_parts.specs.declared.window.window.Settled.TheVariants.{Acked, Waiting, Failed}
+use Rattle.wf_send_parts.specs.declared.exchanges.opened.Open.{Open}
+use Rattle.wf_send_parts.specs.declared.exchanges.opened.Sending.{Sending}
+use Rattle.wf_send_parts.specs.declared.exchanges.opened.Sending.TheVariants.{Data, Request as Starts_at}
+use Rattle.wf_send_parts.specs.Members.{member, charged_in}
 use Rattle.wf_send_half_refines.specs.Half.{TransmitValue}
 use Rattle.wf_send_half_refines.specs.Standing.{numbers_on_air, open_of, StandsFor}
 use Rattle.wf_send_half_refines.specs.Ending.{after_close, IsEnding}

@@ -3,8 +3,8 @@ use Rattle.std.specs.Prelude.{◌≡◌, ◌≢◌, ℕ, Bool, List, count_by}
 use Rattle.wf_frame.specs.declared.classes.Fate.TheVariants.{Held}
 use Rattle.wf_def_agreement.specs.Session.{State, slot, is_acknowledged, is_waiting, is_failed}
 use Rattle.wf_def_world.specs.World.{World, Mpdu, session}
-use Rattle.wf_send_window.specs.declared.window.Settled.{Settled}
-use Rattle.wf_send_window.specs.declared.window.Settled.TheVariants.{Acked, Waiting, Failed}
+use Rattle.wf_send_parts.specs.declared.window.window.Settled.{Settled}
+use Rattle.wf_send_parts.specs.declared.window.window.Settled.TheVariants.{Acked, Waiting, Failed}
 use Rattle.wf_send_half.specs.declared.finish.Ended.{Ended}
 
 -- how many of these transmissions to TID t of station s have a number in such a state

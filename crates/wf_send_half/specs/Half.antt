@@ -5,7 +5,7 @@ use Rattle.wf_frame.specs.Classes.{lower_tid, upper_tid}
 use Rattle.wf_frame.specs.Frames.{FrameValue}
 use Rattle.wf_frame.specs.Settings.{IsInRange}
 use Rattle.wf_def_world.specs.World.{World}
-use Rattle.wf_send_stations.specs.Members.{member, received_in}
+use Rattle.wf_send_parts.specs.Members.{member, received_in}
 use Rattle.wf_send_half_refines.specs.Half.{TransmitValue, can_send_of}
 use Rattle.wf_send_half_refines.specs.Standing.{StandsFor}
 

@@ -13,19 +13,19 @@ use Rattle.wf_def_agreement.specs.Session.{Session, next_number, request_due, wi
 use Rattle.wf_def_world.specs.World.{World, Mpdu, session}
 use Rattle.wf_def_world.specs.Exchanges.{Aggregate, aggregate_of, aggregate_charge, prepared_data, picked_station}
 use Rattle.wf_def_world.specs.Refusals.{refusal}
-use Rattle.wf_sched_rotation.specs.Rotas.{is_ready as entry}
-use Rattle.wf_sched_stations.specs.ClassRotas.{class_rotation}
-use Rattle.wf_sched_stations_refines.specs.Calls.{HasPickedInClass}
-use Rattle.wf_send_exchanges.specs.declared.opened.Sending.{Sending}
-use Rattle.wf_send_exchanges.specs.declared.opened.Sending.TheVariants.{Data, Request as Starts_at}
-use Rattle.wf_air_fit.specs.Rooms.{RoomValue, RoomStandsFor as RoomStandsFor}
+use Rattle.wf_sched.specs.Rotas.{is_ready as entry}
+use Rattle.wf_sched.specs.ClassRotas.{class_rotation}
+use Rattle.wf_sched_refines.specs.Calls.{HasPickedInClass}
+use Rattle.wf_send_parts.specs.declared.exchanges.opened.Sending.{Sending}
+use Rattle.wf_send_parts.specs.declared.exchanges.opened.Sending.TheVariants.{Data, Request as Starts_at}
+use Rattle.wf_air.specs.Rooms.{RoomValue, RoomStandsFor as RoomStandsFor}
 use Rattle.wf_frame.specs.Classes.{tid_number}
 use Rattle.wf_queue_flows.specs.Flows.{taken_for_tid}
-use Rattle.wf_send_stations.specs.Members.{member}
-use Rattle.wf_octets_tim.specs.Sleepers.{sleeper}
-use Rattle.wf_send_window.specs.Window.{WindowValue, WindowStandsFor as WindowStandsFor}
-use Rattle.wf_send_window.specs.Sent.{with_all_sent}
-use Rattle.wf_send_window.specs.Windows.{WindowsHaveRoom, window_of, with_window}
+use Rattle.wf_send_parts.specs.Members.{member}
+use Rattle.wf_octets_frames.specs.Sleepers.{sleeper}
+use Rattle.wf_send_parts.specs.Window.{WindowValue, WindowStandsFor as WindowStandsFor}
+use Rattle.wf_send_parts.specs.Sent.{with_all_sent}
+use Rattle.wf_send_parts.specs.Windows.{WindowsHaveRoom, window_of, with_window}
 use Rattle.wf_send_half_refines.specs.Half.{TransmitValue, is_ready_of}
 use Rattle.wf_send_half_refines.specs.Standing.{StandsFor, numbers_on_air}
 use Rattle.wf_send_half_refines.specs.Pulling.{is_wide_of}

@@ -6,7 +6,7 @@ use Rattle.wf_frame.specs.declared.notes.Refusal.{Refusal}
 use Rattle.wf_frame.specs.declared.notes.Refusal.TheVariants.{Nothing}
 use Rattle.wf_frame.specs.declared.notes.ReplyNote.{ReplyNote}
 use Rattle.wf_frame.specs.declared.notes.ReplyNote.TheVariants.{Send, Reaped, Refused}
-use Rattle.wf_send_window.specs.Sent.{with_all_sent}
+use Rattle.wf_send_parts.specs.Sent.{with_all_sent}
 
 -- the reply of a call, by what it gives where it is not refused
 abbrev pub reply_of_result : {T : Type 0} → (T → ReplyNote) → Result T Refusal → ReplyNote

@@ -9,7 +9,7 @@ ghost use Rattle.wf_frame.specs.declared.notes.ReplyNote.TheVariants.{Accepted, 
 ghost use Rattle.wf_def_lists.specs.Lengths.{greatest_body};
 ghost use Rattle.wf_def_world.specs.World.{World};
 ghost use Rattle.wf_def_world.specs.Refusals.{refusal};
-ghost use Rattle.wf_send_stations.specs.Tally.{counts_of, one_accepted};
+ghost use Rattle.wf_send_parts.specs.Tally.{counts_of, one_accepted};
 ghost use Rattle.wf_queue_flows.specs.Flows.{dropped_for_limit, loses_next};
 ghost use Rattle.wf_queue_flows_refines.specs.Frames.{with_body};
 ghost use Rattle.wf_send_half_refines.specs.Half.{is_ready_of};
@@ -25,7 +25,7 @@ use crate::refuse::refuse_where;
 use wf_frame::{Cause, Class, Fate, Refusal};
 use wf_queue_chain::Parcel;
 use wf_queue_flows::Lost;
-use wf_send_stations::Tally;
+use wf_send_parts::stations::Tally;
 
 /// The greatest traffic identifier that has queues (IEEE 802.11-2012, 8.2.4.5.2).
 const GREATEST_TID: u8 = 7;

@@ -2,10 +2,10 @@
 
 ghost use Rattle.std.specs.Prelude.{◌≡◌, ◌<◌, ◌≤◌, ◌^◌, ◌++◌, ◌∷◌, ℕ, List, [], length, IsTrue, IsFalse};
 ghost use Rattle.wf_frame.specs.Frames.{FrameValue};
-ghost use Rattle.wf_air_fit.specs.Rooms.{RoomStandsFor as RoomStandsFor};
+ghost use Rattle.wf_air.specs.Rooms.{RoomStandsFor as RoomStandsFor};
 ghost use Rattle.wf_def_air.specs.Fit.{fits};
 ghost use Rattle.wf_def_lists.specs.Lengths.{greatest_body};
-ghost use Rattle.wf_send_window.specs.Windows.{window_of};
+ghost use Rattle.wf_send_parts.specs.Windows.{window_of};
 ghost use Rattle.wf_def_world.specs.World.{World};
 ghost use Rattle.wf_def_world.specs.Exchanges.{Aggregate as Filled, aggregate_of};
 ghost use Rattle.wf_send_half_refines.specs.Filling.{IsToFill, IsChoosing, IsFilled};
@@ -14,12 +14,12 @@ ghost use Rattle.wf_send_half.specs.Pulls.{most_of, IsExponentSmall, IsSameButFr
 
 use crate::Transmit;
 use crate::finish::NARROW;
-use wf_air_fit::Room;
+use wf_air::fit::Room;
 use wf_frame::{Cause, Fate};
-use wf_octets_seq12::Seq12;
-use wf_queue_codel::Params;
+use wf_octets_parts::seq12::Seq12;
 use wf_queue_flows::Taken;
-use wf_send_exchanges::Numbers;
+use wf_queue_flows::codel::Params;
+use wf_send_parts::exchanges::Numbers;
 
 /// An aggregate under way: the numbers that it sends and the room that is left.
 #[derive(Drop)]

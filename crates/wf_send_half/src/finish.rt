@@ -21,11 +21,11 @@ ghost use Rattle.wf_send_half.specs.Counts.{AreCounted, HasFate};
 
 use crate::Transmit;
 use wf_frame::{Class, Refusal};
-use wf_octets_bits::Bits256;
-use wf_octets_seq12::Seq12;
+use wf_octets_parts::bits::Bits256;
+use wf_octets_parts::seq12::Seq12;
 use wf_queue_chain::Parcel;
-use wf_send_exchanges::{Numbers, Open, Sending};
-use wf_send_window::Settled;
+use wf_send_parts::exchanges::{Numbers, Open, Sending};
+use wf_send_parts::window::Settled;
 
 /// How many numbers a BlockAck tells of, from its start on.
 pub(crate) const NARROW: u16 = 64;

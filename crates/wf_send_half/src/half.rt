@@ -4,21 +4,21 @@ ghost use Rattle.std.specs.Prelude.{◌≡◌, ◌<◌, ℕ, None, Some, length,
 ghost use Rattle.wf_frame.specs.Frames.{FrameValue};
 ghost use Rattle.wf_frame.specs.Settings.{first_out_of_range};
 ghost use Rattle.wf_def_world.specs.World.{World, opening, is_live, share, inside};
-ghost use Rattle.wf_send_stations.specs.Tally.{counts_of};
-ghost use Rattle.wf_sched_stations.specs.ClassRotas.{deficit};
-ghost use Rattle.wf_send_stations.specs.Members.{member, charged_in, received_in};
+ghost use Rattle.wf_send_parts.specs.Tally.{counts_of};
+ghost use Rattle.wf_sched.specs.ClassRotas.{deficit};
+ghost use Rattle.wf_send_parts.specs.Members.{member, charged_in, received_in};
 ghost use Rattle.wf_send_half_refines.specs.Standing.{StandsFor, counts_in};
 ghost use Rattle.wf_send_half.specs.Half.{HasWorld, IsLive};
 
 use std::alloc::{AllocError, Global};
 use std::marker::Model;
 use wf_frame::{Class, Config};
-use wf_octets_tim::Sleepers;
+use wf_octets_frames::tim::Sleepers;
 use wf_queue_flows::Flows;
-use wf_sched_stations::Sched;
-use wf_send_exchanges::Opened;
-use wf_send_stations::{Members, Tally};
-use wf_send_window::Windows;
+use wf_sched::stations::Sched;
+use wf_send_parts::exchanges::Opened;
+use wf_send_parts::stations::{Members, Tally};
+use wf_send_parts::window::Windows;
 
 /// The transmit half of a cell. A contract sees its parts, and says of a call what it makes of each world of
 /// a run that the half stands for (`wf_send_half_refines`). Only `new` takes memory.
@@ -39,7 +39,7 @@ pub struct Transmit {
 }
 
 impl Model for Transmit {
-    ghost use Rattle.wf_send_stations.specs.Tally.{counts_of};
+    ghost use Rattle.wf_send_parts.specs.Tally.{counts_of};
     ghost use Rattle.wf_send_half_refines.specs.Half.{TransmitValue};
     ghost use Rattle.wf_send_half.specs.Half.{HasSizes};
 

@@ -7,7 +7,7 @@ ghost use Rattle.wf_frame.specs.declared.notes.Note.TheVariants.{Asked};
 ghost use Rattle.wf_frame.specs.declared.notes.ReplyNote.TheVariants.{Gone};
 ghost use Rattle.wf_def_world.specs.World.{World};
 ghost use Rattle.wf_def_world.specs.Refusals.{refusal};
-ghost use Rattle.wf_send_window.specs.Windows.{WindowsHaveRoom, window_of};
+ghost use Rattle.wf_send_parts.specs.Windows.{WindowsHaveRoom, window_of};
 ghost use Rattle.wf_send_half_refines.specs.Half.{TransmitValue};
 ghost use Rattle.wf_send_half_refines.specs.Leaving.{IsLeaving, IsExpelled};
 ghost use Rattle.wf_send_half_refines.specs.Standing.{StandsFor, Meets};

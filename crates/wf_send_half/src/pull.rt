@@ -9,7 +9,7 @@ ghost use Rattle.wf_frame.specs.declared.notes.Ask.TheVariants.{Pull};
 ghost use Rattle.wf_frame.specs.declared.notes.Note.TheVariants.{Asked};
 ghost use Rattle.wf_frame.specs.declared.notes.Refusal.TheVariants.{Full};
 ghost use Rattle.wf_queue_flows.specs.Flows.{frames_of_tid};
-ghost use Rattle.wf_send_window.specs.Windows.{window_of};
+ghost use Rattle.wf_send_parts.specs.Windows.{window_of};
 ghost use Rattle.wf_def_world.specs.World.{World, Mpdu};
 ghost use Rattle.wf_send_half_refines.specs.Half.{some_wait, is_ready_of};
 ghost use Rattle.wf_send_half_refines.specs.Standing.{StandsFor, Meets, numbers_on_air};
@@ -22,9 +22,9 @@ ghost use Rattle.wf_send_half.specs.Pulls.{IsSenderTold, TellsWhoIsReady, IsExpo
 
 use crate::Transmit;
 use crate::finish::NARROW;
-use wf_air_time::request_charge;
+use wf_air::time::request_charge;
 use wf_frame::{Brief, Class, Pairs, Refusal};
-use wf_send_exchanges::{Numbers, Open, Sending};
+use wf_send_parts::exchanges::{Numbers, Open, Sending};
 
 /// What a pull comes to.
 #[derive(Clone, Copy)]

@@ -3,15 +3,15 @@
 ghost use Rattle.std.specs.Prelude.{◌≡◌, ◌<◌, ◌==◌, ◌&&◌, not, nat_le, count_by, is_some, find, option_map};
 ghost use Rattle.wf_queue_flows.specs.Flows.{frames_of_tid};
 ghost use Rattle.wf_frame.specs.Classes.{same_class, tid_number};
-ghost use Rattle.wf_send_stations.specs.Members.{member};
-ghost use Rattle.wf_octets_tim.specs.Sleepers.{sleeper};
-ghost use Rattle.wf_send_window.specs.Windows.{window_of};
+ghost use Rattle.wf_send_parts.specs.Members.{member};
+ghost use Rattle.wf_octets_frames.specs.Sleepers.{sleeper};
+ghost use Rattle.wf_send_parts.specs.Windows.{window_of};
 ghost use Rattle.wf_send_half_refines.specs.Pulling.{has_more_of};
 
 use crate::Transmit;
 use wf_frame::Class;
-use wf_send_exchanges::Open;
-use wf_send_window::Window;
+use wf_send_parts::exchanges::Open;
+use wf_send_parts::window::Window;
 
 impl Transmit {
     /// The open exchange with this number. None where it is not open.

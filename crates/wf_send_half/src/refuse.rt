@@ -12,14 +12,14 @@ ghost use Rattle.wf_def_world.specs.Rates.{rate_asked};
 ghost use Rattle.wf_def_world.specs.World.{World, share};
 ghost use Rattle.wf_def_world.specs.Refusals.{refusal, is_within};
 ghost use Rattle.wf_def_world.specs.Step.{class_to_send};
-ghost use Rattle.wf_octets_tim.specs.Sleepers.{sleeper};
+ghost use Rattle.wf_octets_frames.specs.Sleepers.{sleeper};
 ghost use Rattle.wf_send_half_refines.specs.Standing.{StandsFor};
-ghost use Rattle.wf_send_stations.specs.Members.{member};
+ghost use Rattle.wf_send_parts.specs.Members.{member};
 ghost use Rattle.wf_send_half.specs.Half.{IsLive, can_send_in_of};
 ghost use Rattle.std.specs.Result.{result_err};
 
 use crate::Transmit;
-use wf_air_time::Rate;
+use wf_air::time::Rate;
 use wf_frame::{AskedRate, Class, Refusal};
 
 /// The most that one tick moves the clock, in microseconds.
@@ -56,7 +56,7 @@ pub(crate) fn refuse_where(condition: bool, reason: Refusal) -> Result<(), Refus
 }
 
 // The rate of these numbers, where there is one.
-fn made_rate(asked: AskedRate) -> Result<Rate, wf_air_time::BadRate>
+fn made_rate(asked: AskedRate) -> Result<Rate, wf_air::time::BadRate>
     ensures made { IfOk result (λ rate. rate ≡ rate_asked asked) }
     ensures within { IfOk result (λ _. is_rate (rate_asked asked) ≡ true) }
     ensures refused { IfErr result (λ _. is_rate (rate_asked asked) ≡ false) }

@@ -24,14 +24,14 @@ use Rattle.wf_queue_flows_refines.specs.Frames.{HasFrames, IsAccepted, IsBody, I
 use Rattle.wf_queue_flows_refines.specs.Standing.{ids, times_held}
 use Rattle.wf_queue_flows_refines.proofs.Leaves.{stands_same, session_alone}
 use Rattle.wf_queue_flows_refines.proofs.Purges.{item_ids}
-use Rattle.wf_sched_stations_refines.proofs.Unchanged.{session_leaves}
-use Rattle.wf_send_window.specs.Many.{HasSameFrames}
-use Rattle.wf_send_window.specs.Sent.{with_one_sent}
-use Rattle.wf_send_window.specs.Window.{WindowValue, WindowStandsFor, HasOwnFrame, holds_parcel}
-use Rattle.wf_send_window.specs.Windows.{WindowsHaveRoom, no_window, with_window}
-use Rattle.wf_send_window.proofs.Changes.{is_this, windows_count}
-use Rattle.wf_send_window.proofs.Laws.{start_of_is}
-use Rattle.wf_send_window.proofs.Sending.{sent_other, one_sent}
+use Rattle.wf_sched_refines.proofs.Unchanged.{session_leaves}
+use Rattle.wf_send_parts.specs.Many.{HasSameFrames}
+use Rattle.wf_send_parts.specs.Sent.{with_one_sent}
+use Rattle.wf_send_parts.specs.Window.{WindowValue, WindowStandsFor, HasOwnFrame, holds_parcel}
+use Rattle.wf_send_parts.specs.Windows.{WindowsHaveRoom, no_window, with_window}
+use Rattle.wf_send_parts.proofs.Changes.{is_this, windows_count}
+use Rattle.wf_send_parts.proofs.Laws.{start_of_is}
+use Rattle.wf_send_parts.proofs.Sending.{sent_other, one_sent}
 use Rattle.wf_send_half_refines.specs.Half.{TransmitValue}
 use Rattle.wf_send_half_refines.specs.Standing.{Parts}
 use Rattle.wf_send_half_refines.specs.Filling.{IsWaitingWith, IsAlone}

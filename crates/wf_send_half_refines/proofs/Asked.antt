@@ -17,15 +17,15 @@ use Rattle.wf_def_world.specs.CanSend.{can_send, can_send_in}
 use Rattle.wf_def_world.specs.Exchanges.{most_frames, picked_station, after_pick, sending_tid}
 use Rattle.wf_def_world.specs.Refusals.{open_of_class, first_refusal, refusal}
 use Rattle.wf_law_runs.proofs.Windows.Agreed.{sends, winner_ready}
-use Rattle.wf_air_fit.specs.Rooms.{empty_room}
-use Rattle.wf_sched_stations.specs.ClassRotas.{SchedValue}
-use Rattle.wf_sched_stations_refines.specs.Calls.{HasPickedInClass}
+use Rattle.wf_air.specs.Rooms.{empty_room}
+use Rattle.wf_sched.specs.ClassRotas.{SchedValue}
+use Rattle.wf_sched_refines.specs.Calls.{HasPickedInClass}
 use Rattle.wf_queue_flows.specs.Flows.{TakenFromFlows, frames_of_tid, taken_for_tid as take_out}
 use Rattle.wf_queue_flows_refines.specs.Standing.{flows_part}
 use Rattle.wf_queue_flows_refines.proofs.Heads.{drops_counted}
-use Rattle.wf_send_stations.specs.declared.members.Member.{Member}
-use Rattle.wf_send_stations.specs.Members.{member}
-use Rattle.wf_octets_tim.specs.Sleepers.{sleeper}
+use Rattle.wf_send_parts.specs.declared.stations.members.Member.{Member}
+use Rattle.wf_send_parts.specs.Members.{member}
+use Rattle.wf_octets_frames.specs.Sleepers.{sleeper}
 use Rattle.wf_send_half_refines.specs.Half.{TransmitValue, can_send_of}
 use Rattle.wf_send_half_refines.specs.Standing.{IsMember, AreBoth, Parts, StandsFor}
 use Rattle.wf_send_half_refines.specs.Pulling.{sending_tid_of, is_wide_of}

@@ -9,15 +9,15 @@ use Rattle.wf_def_world.specs.Rates.{rate_asked}
 use Rattle.wf_def_world.specs.World.{World, Share, on_share}
 use Rattle.wf_def_world.specs.Step.{class_to_send, tick_outcome, rate_outcome, sleep_outcome, wake_outcome, poll_outcome, rx_outcome, reap_outcome}
 use Rattle.wf_law_runs.proofs.Deficits.Books.{updc, updc_idle}
-use Rattle.wf_sched_stations_refines.specs.Standing.{with_deficit_charged as with_turns_charged, share_in}
-use Rattle.wf_sched_stations_refines.proofs.Unchanged.{rate_leaves, tick_leaves, slept_leaves, woken_leaves, credited_leaves, reaped_leaves}
-use Rattle.wf_sched_stations_refines.proofs.Charges.{receive_stands}
+use Rattle.wf_sched_refines.specs.Standing.{with_deficit_charged as with_turns_charged, share_in}
+use Rattle.wf_sched_refines.proofs.Unchanged.{rate_leaves, tick_leaves, slept_leaves, woken_leaves, credited_leaves, reaped_leaves}
+use Rattle.wf_sched_refines.proofs.Charges.{receive_stands}
 use Rattle.wf_queue_flows_refines.specs.Standing.{with_finished, ids}
 use Rattle.wf_queue_flows_refines.specs.Frames.{IsBodySettled}
 use Rattle.wf_queue_flows_refines.proofs.Ends.{stands_reaped}
 use Rattle.wf_queue_flows_refines.proofs.Elsewhere.{rest_reaped}
-use Rattle.wf_send_stations.specs.Members.{on_member, with_rate, with_receipt}
-use Rattle.wf_octets_tim.specs.Sleepers.{sleeper, with_sleeper, awake}
+use Rattle.wf_send_parts.specs.Members.{on_member, with_rate, with_receipt}
+use Rattle.wf_octets_frames.specs.Sleepers.{sleeper, with_sleeper, awake}
 use Rattle.wf_send_half_refines.specs.Half.{TransmitValue}
 use Rattle.wf_send_half_refines.specs.Standing.{Parts}
 use Rattle.wf_send_half_refines.specs.Views.{view_of, Roster, roster, ledger}

@@ -6,11 +6,11 @@ use Rattle.wf_frame.specs.Frames.{FrameValue}
 use Rattle.wf_def_world.specs.World.{World, Share, Exchange, on_share, without_exchange}
 use Rattle.wf_def_world.specs.Exchanges.{after_charge, paid, charge_of}
 use Rattle.wf_law_runs.proofs.Deficits.Books.{updc, updc_idle}
-use Rattle.wf_sched_stations_refines.specs.Standing.{with_deficit_charged as with_turns_charged, share_in}
-use Rattle.wf_sched_stations_refines.proofs.Charges.{charge_stands}
-use Rattle.wf_sched_stations_refines.proofs.Unchanged.{without_leaves}
-use Rattle.wf_send_exchanges.specs.declared.opened.Open.{Open}
-use Rattle.wf_send_stations.specs.Members.{on_member, with_charge}
+use Rattle.wf_sched_refines.specs.Standing.{with_deficit_charged as with_turns_charged, share_in}
+use Rattle.wf_sched_refines.proofs.Charges.{charge_stands}
+use Rattle.wf_sched_refines.proofs.Unchanged.{without_leaves}
+use Rattle.wf_send_parts.specs.declared.exchanges.opened.Open.{Open}
+use Rattle.wf_send_parts.specs.Members.{on_member, with_charge}
 use Rattle.wf_send_half_refines.specs.Half.{TransmitValue}
 use Rattle.wf_send_half_refines.specs.Standing.{open_of, Parts}
 use Rattle.wf_send_half_refines.specs.Views.{view_of, roster}

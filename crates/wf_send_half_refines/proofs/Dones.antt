@@ -15,9 +15,9 @@ use Rattle.wf_law_runs.specs.Windows.{IfAsks, IsPending}
 use Rattle.wf_law_runs.proofs.Frames.Owners.{IsOwned}
 use Rattle.wf_law_runs.proofs.Frames.Places.{standing}
 use Rattle.wf_queue_flows_refines.proofs.Leaves.{session_alone}
-use Rattle.wf_sched_stations_refines.proofs.Unchanged.{session_leaves}
-use Rattle.wf_send_window.specs.Window.{WindowValue, WindowStandsFor as WindowStandsFor}
-use Rattle.wf_send_window.specs.Windows.{WindowsHaveRoom, with_window}
+use Rattle.wf_sched_refines.proofs.Unchanged.{session_leaves}
+use Rattle.wf_send_parts.specs.Window.{WindowValue, WindowStandsFor as WindowStandsFor}
+use Rattle.wf_send_parts.specs.Windows.{WindowsHaveRoom, with_window}
 use Rattle.wf_send_half_refines.specs.Half.{TransmitValue}
 use Rattle.wf_send_half_refines.specs.Standing.{open_of, Parts, StandsFor, Meets}
 use Rattle.wf_send_half_refines.specs.Changes.{after_listing_in}

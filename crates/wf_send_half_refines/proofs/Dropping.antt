@@ -18,7 +18,7 @@ use Rattle.wf_def_world.specs.World.{World, Frame, is_live, session, frame, acce
 use Rattle.wf_def_world.specs.Step.{waiting_ids, after_tid_left}
 use Rattle.wf_def_world.specs.Text.{same_fate, tally}
 use Rattle.wf_law_runs.proofs.Deficits.Books.{upd_other}
-use Rattle.wf_send_stations.specs.Tally.{Counts, settled_as, many_settled_as}
+use Rattle.wf_send_parts.specs.Tally.{Counts, settled_as, many_settled_as}
 use Rattle.wf_queue_flows.specs.Backlog.{BacklogValue, frames_at, frame_with_fate, after_flush, held_in_backlog}
 use Rattle.wf_frame.specs.Classes.{tid_number}
 use Rattle.wf_queue_flows.specs.Flows.{FlowsValue, SettingsValue, queues as queue_count, is_listed, queues_of, all_flushed, frames_of_tid, tid_rotation, after_purge}
@@ -34,8 +34,8 @@ use Rattle.wf_queue_flows_refines.proofs.Notes.{notes_left, notes_finish_all}
 use Rattle.wf_queue_flows_refines.proofs.Parts.{part_finish}
 use Rattle.wf_queue_flows_refines.proofs.Purges.{stands_left, accepted_left, purged_lists, purged_others}
 use Rattle.wf_queue_flows_refines.proofs.Readers.{count_below}
-use Rattle.wf_sched_stations_refines.specs.Standing.{SchedulerStandsFor as TurnsStandFor}
-use Rattle.wf_send_window.specs.Window.{WindowValue}
+use Rattle.wf_sched_refines.specs.Standing.{SchedulerStandsFor as TurnsStandFor}
+use Rattle.wf_send_parts.specs.Window.{WindowValue}
 use Rattle.wf_send_half_refines.specs.Half.{TransmitValue}
 use Rattle.wf_send_half_refines.specs.Standing.{counts_in, Parts}
 use Rattle.wf_send_half_refines.specs.Ending.{after_finish}

@@ -12,11 +12,11 @@ use Rattle.wf_law_rules.proofs.Lemmas.Tables.{at_put_same, at_put_other}
 use Rattle.wf_def_world.specs.World.{World, Mpdu, is_live, session, on_session, with_frame_finished}
 use Rattle.wf_def_world.specs.Exchanges.{with_settled, with_failed_finished, with_all_settled}
 use Rattle.wf_queue_flows_refines.proofs.Elsewhere.{rest_finish}
-use Rattle.wf_send_window.specs.Answers.{settling_answer}
-use Rattle.wf_send_window.specs.declared.window.Settled.{Settled}
-use Rattle.wf_send_window.specs.Window.{session_settled}
-use Rattle.wf_send_window.specs.Ending.{AreFlying}
-use Rattle.wf_send_window.proofs.Ends.{still_fly}
+use Rattle.wf_send_parts.specs.Answers.{settling_answer}
+use Rattle.wf_send_parts.specs.declared.window.window.Settled.{Settled}
+use Rattle.wf_send_parts.specs.Window.{session_settled}
+use Rattle.wf_send_parts.specs.Ending.{AreFlying}
+use Rattle.wf_send_parts.proofs.Ends.{still_fly}
 use Rattle.wf_send_half_refines.specs.Half.{TransmitValue}
 use Rattle.wf_send_half_refines.specs.Ending.{ending_of, IsEnding, state_left}
 use Rattle.wf_send_half_refines.specs.Views.{Agreements, agreements}

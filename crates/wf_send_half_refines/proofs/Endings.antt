@@ -30,9 +30,9 @@ use Rattle.wf_queue_flows.specs.Backlog.{frames_at}
 use Rattle.wf_queue_flows_refines.specs.Standing.{Part, flows_part, ids, times_held}
 use Rattle.wf_queue_flows_refines.proofs.Leaves.{share_alone, closing_alone}
 use Rattle.wf_queue_flows_refines.proofs.Purges.{item_ids}
-use Rattle.wf_send_window.proofs.Numbers.{open_number}
-use Rattle.wf_sched_stations_refines.proofs.Stands.{some_account}
-use Rattle.wf_send_window.specs.Ending.{Ending, IsFlyingIn, AreFlying}
+use Rattle.wf_send_parts.proofs.Numbers.{open_number}
+use Rattle.wf_sched_refines.proofs.Stands.{some_account}
+use Rattle.wf_send_parts.specs.Ending.{Ending, IsFlyingIn, AreFlying}
 use Rattle.wf_send_half_refines.specs.Half.{TransmitValue}
 use Rattle.wf_send_half_refines.specs.Standing.{open_of, Parts, IsReached, StandsFor}
 use Rattle.wf_send_half_refines.specs.Ending.{after_close, ending_of, IsLoose, IsEnding}

@@ -23,7 +23,7 @@ use Rattle.wf_def_world.specs.Text.{same_fate}
 use Rattle.wf_law_runs.specs.Places.{KeepsPlaces}
 use Rattle.wf_law_runs.proofs.Deficits.KeptStep.{NoRow, no_row}
 use Rattle.wf_law_runs.proofs.Frames.Places.{place_law}
-use Rattle.wf_send_stations.specs.Tally.{Counts, one_accepted}
+use Rattle.wf_send_parts.specs.Tally.{Counts, one_accepted}
 use Rattle.wf_frame.specs.Classes.{class_of, tid_number}
 use Rattle.wf_queue_flows.specs.Flows.{dropped_for_limit}
 use Rattle.wf_queue_flows_refines.specs.Frames.{with_body}
@@ -32,7 +32,7 @@ use Rattle.wf_queue_flows_refines.proofs.Elsewhere.{rest_enqueued}
 use Rattle.wf_queue_flows_refines.proofs.Notes.{accepted_more}
 use Rattle.wf_queue_flows_refines.proofs.Puts.{stands_put, reply_put}
 use Rattle.wf_queue_flows_refines.proofs.Readers.{same_dropped}
-use Rattle.wf_sched_stations_refines.proofs.Unchanged.{enqueued_leaves}
+use Rattle.wf_sched_refines.proofs.Unchanged.{enqueued_leaves}
 use Rattle.wf_send_half_refines.specs.Half.{TransmitValue}
 use Rattle.wf_send_half_refines.specs.Standing.{counts_in, Parts, IsReached, StandsFor, Meets}
 use Rattle.wf_send_half_refines.specs.Changes.{after_listing_in, after_enqueue}

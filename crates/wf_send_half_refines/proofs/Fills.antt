@@ -9,19 +9,19 @@ use Rattle.wf_def_air.specs.Fit.{fits}
 use Rattle.wf_def_lists.specs.Lists.{IsRising}
 use Rattle.wf_def_agreement.specs.Session.{Session, State, slot, start_of, waiting_numbers}
 use Rattle.wf_def_lists.specs.Table.{has}
-use Rattle.wf_octets_seq12.specs.Distance.{distance}
+use Rattle.wf_octets_parts.specs.Distance.{distance}
 use Rattle.wf_def_world.specs.World.{World, Mpdu, station, session, len_of, accepted_count}
 use Rattle.wf_def_world.specs.Exchanges.{most_frames, lens_of, fits_in, mpdu_of, waiting_mpdus, longest_fitting, with_fresh, aggregate_of}
 use Rattle.wf_def_world.proofs.Fitting.{IsBegun, chosen_all, chosen_ends}
 use Rattle.wf_law_runs.specs.Windows.{EachMpdu}
 use Rattle.wf_law_rules.proofs.Lemmas.Numbers.{eq_yes}
 use Rattle.wf_law_runs.proofs.Sessions.Starts.{start_ge}
-use Rattle.wf_air_fit.specs.Rooms.{RoomValue, RoomStandsFor as RoomStandsFor}
-use Rattle.wf_send_window.specs.Listing.{IsListedNext, waiting_since}
-use Rattle.wf_send_window.specs.Window.{on_air, waiting_from}
-use Rattle.wf_send_window.proofs.Listing.{listing_begins, listing_near, listing_ends, waiting_exactly, waiting_rise}
-use Rattle.wf_send_window.proofs.Numbers.{waiting_is}
-use Rattle.wf_send_window.specs.Windows.{window_of}
+use Rattle.wf_air.specs.Rooms.{RoomValue, RoomStandsFor as RoomStandsFor}
+use Rattle.wf_send_parts.specs.Listing.{IsListedNext, waiting_since}
+use Rattle.wf_send_parts.specs.Window.{on_air, waiting_from}
+use Rattle.wf_send_parts.proofs.Listing.{listing_begins, listing_near, listing_ends, waiting_exactly, waiting_rise}
+use Rattle.wf_send_parts.proofs.Numbers.{waiting_is}
+use Rattle.wf_send_parts.specs.Windows.{window_of}
 use Rattle.wf_send_half_refines.specs.Half.{TransmitValue, some_wait}
 use Rattle.wf_send_half_refines.specs.Filling.{IsWaitingWith, AreWaiting, IsToFill, room_for, IsChoosing, IsFilling, IsFilled}
 use Rattle.wf_send_half_refines.proofs.Readers.{waiting_same}

@@ -10,13 +10,13 @@ use Rattle.wf_def_world.specs.Exchanges.{Aggregate, with_flying, prepared_data}
 use Rattle.wf_law_rules.proofs.Lemmas.Tables.{at_put_same}
 use Rattle.wf_law_runs.specs.Windows.{EachMpdu}
 use Rattle.wf_law_runs.proofs.Sessions.Starts.{at_change_other}
-use Rattle.wf_send_window.specs.Window.{WindowValue, WindowStandsFor as WindowStandsFor, IsNumber, HasOwnFrame, state_at}
-use Rattle.wf_send_window.proofs.Numbers.{open_number}
-use Rattle.wf_send_window.specs.Sent.{with_one_sent}
-use Rattle.wf_send_window.proofs.Callers.{state_is, next_kept}
-use Rattle.wf_send_window.proofs.Sending.{sent_keeps}
+use Rattle.wf_send_parts.specs.Window.{WindowValue, WindowStandsFor as WindowStandsFor, IsNumber, HasOwnFrame, state_at}
+use Rattle.wf_send_parts.proofs.Numbers.{open_number}
+use Rattle.wf_send_parts.specs.Sent.{with_one_sent}
+use Rattle.wf_send_parts.proofs.Callers.{state_is, next_kept}
+use Rattle.wf_send_parts.proofs.Sending.{sent_keeps}
 use Rattle.wf_frame.specs.Classes.{tid_number}
-use Rattle.wf_send_window.specs.Windows.{WindowsHaveRoom, no_window, window_of, with_window}
+use Rattle.wf_send_parts.specs.Windows.{WindowsHaveRoom, no_window, window_of, with_window}
 use Rattle.wf_send_half_refines.specs.Half.{TransmitValue}
 use Rattle.wf_send_half_refines.specs.Standing.{Parts}
 use Rattle.wf_send_half_refines.specs.Filling.{IsWaitingWith, AreWaiting, IsTakingOff, IsUnderway}

@@ -16,13 +16,13 @@ use Rattle.wf_queue_flows.specs.Backlog.{frames_at}
 use Rattle.wf_frame.specs.Classes.{tid_number}
 use Rattle.wf_queue_flows_refines.specs.Standing.{ids}
 use Rattle.wf_queue_flows_refines.proofs.Purges.{item_ids}
-use Rattle.wf_send_window.specs.declared.place.Place.{Place as Spot}
-use Rattle.wf_send_window.specs.Places.{slot_place, place_as, slot_state, front}
-use Rattle.wf_send_window.specs.Window.{WindowValue, slots_from_start}
-use Rattle.wf_send_window.proofs.Fronts.{at_is, at_rest}
-use Rattle.wf_send_window.proofs.Laws.{start_of_is, next_is}
-use Rattle.wf_send_window.proofs.Numbers.{open_number}
-use Rattle.wf_send_window.specs.Windows.{no_window, window_of}
+use Rattle.wf_send_parts.specs.declared.window.place.Place.{Place as Spot}
+use Rattle.wf_send_parts.specs.Places.{slot_place, place_as, slot_state, front}
+use Rattle.wf_send_parts.specs.Window.{WindowValue, slots_from_start}
+use Rattle.wf_send_parts.proofs.Fronts.{at_is, at_rest}
+use Rattle.wf_send_parts.proofs.Laws.{start_of_is, next_is}
+use Rattle.wf_send_parts.proofs.Numbers.{open_number}
+use Rattle.wf_send_parts.specs.Windows.{no_window, window_of}
 use Rattle.wf_send_half_refines.specs.Half.{TransmitValue, all_of, frame_in, frames_in_window, frames_in, body_of}
 use Rattle.wf_send_half_refines.specs.Standing.{StandsFor}
 use Rattle.wf_send_half_refines.proofs.Enqueues.{places_kept}

@@ -24,16 +24,16 @@ use Rattle.wf_law_runs.proofs.Releases.Placed.{Any, Placing}
 use Rattle.wf_law_runs.proofs.Windows.Agreement.{slot_give, not_due_give}
 use Rattle.wf_law_runs.proofs.Windows.Agreed.{session_same}
 use Rattle.wf_law_runs.proofs.Windows.Sides.{same_after_pick, same_after_turn, same_take}
-use Rattle.wf_air_fit.specs.Rooms.{RoomValue, RoomStandsFor as RoomStandsFor}
+use Rattle.wf_air.specs.Rooms.{RoomValue, RoomStandsFor as RoomStandsFor}
 use Rattle.wf_queue_flows.specs.Backlog.{item_of}
 use Rattle.wf_frame.specs.Classes.{tid_number}
 use Rattle.wf_queue_flows.specs.Flows.{frames_of_tid, taken_for_tid as take_out}
 use Rattle.wf_queue_flows_refines.proofs.Bodies.{frame_given}
 use Rattle.wf_queue_flows_refines.proofs.Elsewhere.{rest_take}
 use Rattle.wf_queue_flows_refines.proofs.Takes.{item_take}
-use Rattle.wf_send_window.specs.Window.{WindowValue, WindowStandsFor as WindowStandsFor, can_take, on_air}
-use Rattle.wf_send_window.proofs.Calls.{can_take_is}
-use Rattle.wf_send_window.specs.Windows.{WindowsHaveRoom, window_of, with_window}
+use Rattle.wf_send_parts.specs.Window.{WindowValue, WindowStandsFor as WindowStandsFor, can_take, on_air}
+use Rattle.wf_send_parts.proofs.Calls.{can_take_is}
+use Rattle.wf_send_parts.specs.Windows.{WindowsHaveRoom, window_of, with_window}
 use Rattle.wf_send_half_refines.specs.Half.{TransmitValue}
 use Rattle.wf_send_half_refines.specs.Standing.{Parts, IsReached}
 use Rattle.wf_send_half_refines.specs.Filling.{IsWaitingWith, AreWaiting, after_take, with_one_fresh, with_so_many_fresh, IsUnderway, room_for, HasRoomFor, IsFilling, IsFilled, after_giving, fresh_mpdu}

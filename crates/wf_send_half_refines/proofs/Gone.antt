@@ -21,17 +21,17 @@ use Rattle.wf_law_runs.specs.Tallies.{AddsUp}
 use Rattle.wf_law_runs.proofs.Deficits.Books.{upd, upd_same, upd_other}
 use Rattle.wf_law_runs.proofs.Frames.Tallies.{tally_law}
 use Rattle.wf_law_runs.proofs.Frames.Untouched.{untouched_with_station}
-use Rattle.wf_send_stations.specs.Tally.{Counts, held_in, many_settled_as}
+use Rattle.wf_send_parts.specs.Tally.{Counts, held_in, many_settled_as}
 use Rattle.wf_queue_flows_refines.specs.Rest.{session_in}
 use Rattle.wf_queue_flows_refines.proofs.Leaves.{stands_gone}
-use Rattle.wf_sched_stations.specs.ClassRotas.{after_station_left as without_turns}
-use Rattle.wf_sched_stations_refines.specs.Standing.{SchedulerStandsFor as TurnsStandFor, everywhere}
-use Rattle.wf_sched_stations_refines.proofs.Members.{gone_stands}
-use Rattle.wf_send_window.specs.Window.{WindowValue}
-use Rattle.wf_send_window.specs.Windows.{WindowsHaveRoom}
-use Rattle.wf_send_window.proofs.Changes.{station_goes}
-use Rattle.wf_octets_tim.specs.declared.sleepers.Sleeper.{Sleeper}
-use Rattle.wf_octets_tim.specs.Sleepers.{awake, sleeper}
+use Rattle.wf_sched.specs.ClassRotas.{after_station_left as without_turns}
+use Rattle.wf_sched_refines.specs.Standing.{SchedulerStandsFor as TurnsStandFor, everywhere}
+use Rattle.wf_sched_refines.proofs.Members.{gone_stands}
+use Rattle.wf_send_parts.specs.Window.{WindowValue}
+use Rattle.wf_send_parts.specs.Windows.{WindowsHaveRoom}
+use Rattle.wf_send_parts.proofs.Changes.{station_goes}
+use Rattle.wf_octets_frames.specs.declared.tim.sleepers.Sleeper.{Sleeper}
+use Rattle.wf_octets_frames.specs.Sleepers.{awake, sleeper}
 use Rattle.wf_send_half_refines.specs.Half.{TransmitValue}
 use Rattle.wf_send_half_refines.specs.Standing.{counts_in, Parts, StandsFor, Meets}
 use Rattle.wf_send_half_refines.specs.Leaving.{after_leave, with_left, AreEmptied, IsLeaving}

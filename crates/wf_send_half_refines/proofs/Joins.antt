@@ -9,16 +9,16 @@ use Rattle.wf_def_lists.specs.Table.{at}
 use Rattle.wf_def_world.specs.World.{World, Station, Tid, no_tid, new_tid, new_share, is_live, with_station}
 use Rattle.wf_def_world.specs.Step.{join_outcome}
 use Rattle.wf_law_runs.proofs.Deficits.Books.{upd, upd_same, upd_other}
-use Rattle.wf_sched_stations.specs.ClassRotas.{after_join}
-use Rattle.wf_sched_stations_refines.specs.Standing.{everywhere, share_in}
-use Rattle.wf_sched_stations_refines.proofs.Members.{join_stands}
+use Rattle.wf_sched.specs.ClassRotas.{after_join}
+use Rattle.wf_sched_refines.specs.Standing.{everywhere, share_in}
+use Rattle.wf_sched_refines.proofs.Members.{join_stands}
 use Rattle.wf_queue_flows_refines.specs.Rest.{session_in}
 use Rattle.wf_queue_flows_refines.proofs.Leaves.{stands_joined}
-use Rattle.wf_send_window.specs.Window.{WindowValue, WindowStandsFor as WindowStandsFor}
-use Rattle.wf_send_window.specs.Windows.{window_of}
-use Rattle.wf_send_window.proofs.Changes.{station_joins}
-use Rattle.wf_send_stations.specs.Members.{new_member, upper_in, charged_in, received_in}
-use Rattle.wf_octets_tim.specs.Sleepers.{awake, with_sleeper}
+use Rattle.wf_send_parts.specs.Window.{WindowValue, WindowStandsFor as WindowStandsFor}
+use Rattle.wf_send_parts.specs.Windows.{window_of}
+use Rattle.wf_send_parts.proofs.Changes.{station_joins}
+use Rattle.wf_send_parts.specs.Members.{new_member, upper_in, charged_in, received_in}
+use Rattle.wf_octets_frames.specs.Sleepers.{awake, with_sleeper}
 use Rattle.wf_send_half_refines.specs.Half.{TransmitValue}
 use Rattle.wf_send_half_refines.specs.Standing.{Parts}
 use Rattle.wf_send_half_refines.specs.Changes.{AreReset}

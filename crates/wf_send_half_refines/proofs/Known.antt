@@ -4,9 +4,9 @@ use Rattle.wf_frame.specs.Frames.{FrameValue}
 use Rattle.wf_def_agreement.specs.Session.{State, slot, is_settled}
 use Rattle.wf_def_world.specs.World.{World, session, accepted_count}
 use Rattle.wf_law_runs.specs.Places.{Numbered, KeepsPlaces}
-use Rattle.wf_send_window.specs.Window.{WindowValue, holds_parcel}
-use Rattle.wf_send_window.proofs.Laws.{start_of_is}
-use Rattle.wf_send_window.proofs.Held.{all_held_stand}
+use Rattle.wf_send_parts.specs.Window.{WindowValue, holds_parcel}
+use Rattle.wf_send_parts.proofs.Laws.{start_of_is}
+use Rattle.wf_send_parts.proofs.Held.{all_held_stand}
 use Rattle.wf_send_half_refines.specs.Views.{agreements}
 use Rattle.wf_send_half_refines.proofs.Stands.{WindowsStand}
 

@@ -27,7 +27,7 @@ use Rattle.wf_law_runs.specs.Windows.{SomeOpen, IsSending}
 use Rattle.wf_law_runs.proofs.Deficits.KeptStep.{NoRow, no_row}
 use Rattle.wf_law_runs.proofs.Frames.Rooms.{room_law}
 use Rattle.wf_law_runs.proofs.Windows.Law.{window_law}
-use Rattle.wf_send_stations.specs.Tally.{Counts}
+use Rattle.wf_send_parts.specs.Tally.{Counts}
 use Rattle.wf_queue_flows.specs.Backlog.{held_in_backlog}
 use Rattle.wf_frame.specs.Classes.{tid_number}
 use Rattle.wf_queue_flows.specs.Flows.{SettingsValue, frames_of_tid}
@@ -38,17 +38,17 @@ use Rattle.wf_queue_flows_refines.proofs.Elsewhere.{rest_left, rest_live}
 use Rattle.wf_queue_flows_refines.proofs.Ends.{finish_all-append}
 use Rattle.wf_queue_flows_refines.proofs.Heads.{queued_is_held}
 use Rattle.wf_queue_flows_refines.proofs.Readers.{same_total}
-use Rattle.wf_sched_stations_refines.specs.Standing.{SchedulerStandsFor as TurnsStandFor}
-use Rattle.wf_sched_stations_refines.proofs.Unchanged.{left_tids_leave}
-use Rattle.wf_send_window.specs.Expelling.{frame_left, frames_left, HasExpelled}
-use Rattle.wf_send_window.specs.Window.{WindowValue, WindowStandsFor as WindowStandsFor, is_flying, some_fly}
-use Rattle.wf_send_window.proofs.Callers.{places_none}
-use Rattle.wf_send_window.proofs.Counting.{some_flies}
-use Rattle.wf_send_window.proofs.Expelling.{first_expelled, expelling_begins, expelling_next, expelling_ends}
-use Rattle.wf_send_window.proofs.Laws.{start_of_is}
-use Rattle.wf_send_window.proofs.Numbers.{none_fly}
-use Rattle.wf_send_window.specs.Windows.{no_window, window_of, with_window}
-use Rattle.wf_send_window.proofs.Changes.{windows_count, window_same, window_other}
+use Rattle.wf_sched_refines.specs.Standing.{SchedulerStandsFor as TurnsStandFor}
+use Rattle.wf_sched_refines.proofs.Unchanged.{left_tids_leave}
+use Rattle.wf_send_parts.specs.Expelling.{frame_left, frames_left, HasExpelled}
+use Rattle.wf_send_parts.specs.Window.{WindowValue, WindowStandsFor as WindowStandsFor, is_flying, some_fly}
+use Rattle.wf_send_parts.proofs.Callers.{places_none}
+use Rattle.wf_send_parts.proofs.Counting.{some_flies}
+use Rattle.wf_send_parts.proofs.Expelling.{first_expelled, expelling_begins, expelling_next, expelling_ends}
+use Rattle.wf_send_parts.proofs.Laws.{start_of_is}
+use Rattle.wf_send_parts.proofs.Numbers.{none_fly}
+use Rattle.wf_send_parts.specs.Windows.{no_window, window_of, with_window}
+use Rattle.wf_send_parts.proofs.Changes.{windows_count, window_same, window_other}
 use Rattle.wf_send_half_refines.specs.Half.{TransmitValue}
 use Rattle.wf_send_half_refines.specs.Standing.{Parts, IsReached, StandsFor}
 use Rattle.wf_send_half_refines.specs.Leaving.{after_expelled, after_tid_purged, numbered_ids, AreEmptied, HasDropped, IsLeaving, IsExpelling, IsExpelled}

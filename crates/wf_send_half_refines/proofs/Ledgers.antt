@@ -18,7 +18,7 @@ use Rattle.wf_law_runs.proofs.Deficits.Books.{upd_other}
 use Rattle.wf_queue_flows_refines.specs.Standing.{Part, flows_part}
 use Rattle.wf_queue_flows_refines.proofs.Parts.{finished_part, part_finish}
 use Rattle.wf_queue_flows_refines.proofs.Notes.{notes_finish}
-use Rattle.wf_send_stations.specs.Tally.{Counts, settled_as, many_settled_as}
+use Rattle.wf_send_parts.specs.Tally.{Counts, settled_as, many_settled_as}
 use Rattle.wf_send_half_refines.specs.Standing.{counts_in}
 use Rattle.wf_send_half_refines.specs.Counting.{with_overlimit}
 use Rattle.wf_send_half_refines.specs.Views.{Ledger, ledger}

@@ -11,11 +11,11 @@ use Rattle.wf_def_world.specs.World.{World, rotation, with_rotation}
 use Rattle.wf_def_world.specs.CanSend.{is_ready, with_listing_in, with_listings_in, with_listings_of}
 use Rattle.wf_law_runs.proofs.Deficits.Books.{same_number}
 use Rattle.wf_queue_flows_refines.proofs.Leaves.{rotation_alone}
-use Rattle.wf_sched_stations.specs.ClassRotas.{ClassRota, SchedValue, no_class_rota, class_rota, class_rotation, with_class_rota}
-use Rattle.wf_sched_stations.proofs.Views.{turns-with_other}
-use Rattle.wf_sched_stations_refines.specs.Standing.{with_listed, with_listed_where}
-use Rattle.wf_sched_stations_refines.proofs.Listings.{concerned_stands}
-use Rattle.wf_sched_stations_refines.proofs.Readings.{lists_same}
+use Rattle.wf_sched.specs.ClassRotas.{ClassRota, SchedValue, no_class_rota, class_rota, class_rotation, with_class_rota}
+use Rattle.wf_sched.proofs.Views.{turns-with_other}
+use Rattle.wf_sched_refines.specs.Standing.{with_listed, with_listed_where}
+use Rattle.wf_sched_refines.proofs.Listings.{concerned_stands}
+use Rattle.wf_sched_refines.proofs.Readings.{lists_same}
 use Rattle.wf_send_half_refines.specs.Half.{TransmitValue, is_ready_of}
 use Rattle.wf_send_half_refines.specs.Standing.{Parts}
 use Rattle.wf_send_half_refines.specs.Changes.{after_listing, after_listing_in}

@@ -6,17 +6,17 @@ use Rattle.wf_frame.specs.Frames.{FrameValue}
 use Rattle.wf_def_agreement.specs.Session.{Session}
 use Rattle.wf_def_world.specs.World.{World, is_live, session, frame, accepted_count, is_held, on_session, with_frame_finished}
 use Rattle.wf_law_runs.proofs.Deficits.Books.{upd, upd_same, upd_other}
-use Rattle.wf_send_stations.specs.Tally.{settled_as}
+use Rattle.wf_send_parts.specs.Tally.{settled_as}
 use Rattle.wf_queue_flows_refines.specs.Frames.{IsBody, IsBodySettled}
 use Rattle.wf_queue_flows_refines.specs.Standing.{times_held}
 use Rattle.wf_queue_flows_refines.proofs.Leaves.{stands_same, session_alone}
 use Rattle.wf_queue_flows_refines.proofs.Ends.{stands_finished}
 use Rattle.wf_queue_flows_refines.proofs.Elsewhere.{rest_finish}
 use Rattle.wf_queue_flows_refines.proofs.Each.{each_finish}
-use Rattle.wf_sched_stations_refines.proofs.Unchanged.{session_leaves, finish_leaves}
-use Rattle.wf_send_window.specs.Window.{WindowValue, WindowStandsFor as WindowStandsFor}
-use Rattle.wf_send_window.specs.Windows.{WindowsHaveRoom, with_window}
-use Rattle.wf_send_window.proofs.Changes.{windows_count, one_stands}
+use Rattle.wf_sched_refines.proofs.Unchanged.{session_leaves, finish_leaves}
+use Rattle.wf_send_parts.specs.Window.{WindowValue, WindowStandsFor as WindowStandsFor}
+use Rattle.wf_send_parts.specs.Windows.{WindowsHaveRoom, with_window}
+use Rattle.wf_send_parts.proofs.Changes.{windows_count, one_stands}
 use Rattle.wf_send_half_refines.specs.Half.{TransmitValue}
 use Rattle.wf_send_half_refines.specs.Standing.{Parts}
 use Rattle.wf_send_half_refines.specs.Ending.{after_finish}

@@ -13,12 +13,12 @@ use Rattle.wf_queue_flows.specs.Backlog.{frames_at}
 use Rattle.wf_queue_flows.specs.Flows.{empty_flows}
 use Rattle.wf_queue_flows_refines.specs.Frames.{IsBody, IsBodySettled}
 use Rattle.wf_queue_flows_refines.proofs.Opening.{read_replicate, no_frames, stands_opening}
-use Rattle.wf_sched_stations_refines.proofs.Readings.{opening_stands}
-use Rattle.wf_send_window.specs.Window.{WindowValue}
-use Rattle.wf_send_window.specs.Windows.{new_window, no_window}
-use Rattle.wf_send_stations.specs.declared.members.Member.{Member}
-use Rattle.wf_send_stations.specs.Members.{member}
-use Rattle.wf_octets_tim.specs.Sleepers.{awake}
+use Rattle.wf_sched_refines.proofs.Readings.{opening_stands}
+use Rattle.wf_send_parts.specs.Window.{WindowValue}
+use Rattle.wf_send_parts.specs.Windows.{new_window, no_window}
+use Rattle.wf_send_parts.specs.declared.stations.members.Member.{Member}
+use Rattle.wf_send_parts.specs.Members.{member}
+use Rattle.wf_octets_frames.specs.Sleepers.{awake}
 use Rattle.wf_send_half_refines.specs.Half.{opening_half}
 use Rattle.wf_send_half_refines.specs.Standing.{StandsFor, HasWindows, AreBoth, IsMember}
 

@@ -14,7 +14,7 @@ use Rattle.wf_def_world.specs.World.{World, Exchange}
 use Rattle.wf_def_world.specs.Refusals.{open_of_class}
 use Rattle.wf_law_runs.specs.Windows.{OpenRises}
 use Rattle.wf_law_runs.proofs.Deficits.Numbers.{number_law}
-use Rattle.wf_send_exchanges.specs.declared.opened.Open.{Open}
+use Rattle.wf_send_parts.specs.declared.exchanges.opened.Open.{Open}
 use Rattle.wf_send_half_refines.specs.Half.{TransmitValue}
 use Rattle.wf_send_half_refines.specs.Standing.{open_of, IsReached, StandsFor}
 use Rattle.wf_send_half_refines.proofs.Reached.{by_law}

@@ -21,19 +21,19 @@ use Rattle.wf_def_world.specs.Exchanges.{picked_station, with_station_paid, with
 use Rattle.wf_def_world.specs.Refusals.{refusal}
 use Rattle.wf_def_world.specs.Step.{Outcome, after_refusal, send_outcome, step}
 use Rattle.wf_law_runs.proofs.Deficits.Books.{updc, updc_idle}
-use Rattle.wf_sched_stations.specs.ClassRotas.{SchedValue}
-use Rattle.wf_sched_stations_refines.specs.Standing.{share_in}
-use Rattle.wf_sched_stations_refines.specs.Calls.{HasPickedInClass}
-use Rattle.wf_sched_stations_refines.proofs.Picks.{pick_stands}
-use Rattle.wf_sched_stations_refines.proofs.Unchanged.{turn_leaves, opening_leaves, spent_leaves}
+use Rattle.wf_sched.specs.ClassRotas.{SchedValue}
+use Rattle.wf_sched_refines.specs.Standing.{share_in}
+use Rattle.wf_sched_refines.specs.Calls.{HasPickedInClass}
+use Rattle.wf_sched_refines.proofs.Picks.{pick_stands}
+use Rattle.wf_sched_refines.proofs.Unchanged.{turn_leaves, opening_leaves, spent_leaves}
 use Rattle.wf_queue_flows_refines.proofs.Leaves.{share_alone, opened_alone, stands_same}
 use Rattle.wf_queue_flows.specs.Flows.{frames_of_tid}
-use Rattle.wf_send_window.specs.Windows.{window_of}
-use Rattle.wf_send_exchanges.specs.declared.opened.Open.{Open}
-use Rattle.wf_send_exchanges.specs.Exchanges.{sending_is_request}
-use Rattle.wf_send_stations.specs.declared.members.Member.{Member}
-use Rattle.wf_send_stations.specs.Members.{member, on_member, upper_in, with_upper}
-use Rattle.wf_octets_tim.specs.Sleepers.{sleeper, with_sleeper}
+use Rattle.wf_send_parts.specs.Windows.{window_of}
+use Rattle.wf_send_parts.specs.declared.exchanges.opened.Open.{Open}
+use Rattle.wf_send_parts.specs.Exchanges.{sending_is_request}
+use Rattle.wf_send_parts.specs.declared.stations.members.Member.{Member}
+use Rattle.wf_send_parts.specs.Members.{member, on_member, upper_in, with_upper}
+use Rattle.wf_octets_frames.specs.Sleepers.{sleeper, with_sleeper}
 use Rattle.wf_send_half_refines.specs.Half.{TransmitValue, can_send_of, some_wait}
 use Rattle.wf_send_half_refines.specs.Standing.{IsMember, AreBoth, sending_of, open_of, Parts, StandsFor, Meets}
 use Rattle.wf_send_half_refines.specs.Pulling.{has_upper_turn, sending_tid_of, after_turn, is_wide_of, has_more_of, open_next, after_opening, after_spending, after_sending}

@@ -17,15 +17,15 @@ use Rattle.wf_def_world.specs.Refusals.{open_of_station, open_of_class, can_send
 use Rattle.wf_def_world.specs.Step.{class_to_send}
 use Rattle.wf_queue_flows.specs.Flows.{frames_of_tid}
 use Rattle.wf_queue_flows_refines.proofs.Readers.{same_queued}
-use Rattle.wf_send_window.specs.Window.{WindowValue, WindowStandsFor as WindowStandsFor, can_take}
-use Rattle.wf_send_window.proofs.Calls.{due_is, can_take_is}
-use Rattle.wf_send_window.proofs.Counting.{some_waits}
-use Rattle.wf_send_window.specs.Windows.{window_of}
-use Rattle.wf_send_exchanges.specs.declared.opened.Open.{Open}
-use Rattle.wf_send_exchanges.specs.Exchanges.{sending_is_request, asks}
-use Rattle.wf_send_stations.specs.declared.members.Member.{Member}
-use Rattle.wf_send_stations.specs.Members.{member}
-use Rattle.wf_octets_tim.specs.Sleepers.{sleeper}
+use Rattle.wf_send_parts.specs.Window.{WindowValue, WindowStandsFor as WindowStandsFor, can_take}
+use Rattle.wf_send_parts.proofs.Calls.{due_is, can_take_is}
+use Rattle.wf_send_parts.proofs.Counting.{some_waits}
+use Rattle.wf_send_parts.specs.Windows.{window_of}
+use Rattle.wf_send_parts.specs.declared.exchanges.opened.Open.{Open}
+use Rattle.wf_send_parts.specs.Exchanges.{sending_is_request, asks}
+use Rattle.wf_send_parts.specs.declared.stations.members.Member.{Member}
+use Rattle.wf_send_parts.specs.Members.{member}
+use Rattle.wf_octets_frames.specs.Sleepers.{sleeper}
 use Rattle.wf_send_half_refines.specs.Half.{TransmitValue, some_wait, can_send_of, is_ready_of}
 use Rattle.wf_send_half_refines.specs.Standing.{sending_of, open_of, IsMember, AreBoth, Parts}
 

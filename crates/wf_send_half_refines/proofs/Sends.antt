@@ -17,12 +17,12 @@ use Rattle.wf_def_world.specs.Exchanges.{picked_station, after_pick, sending_tid
 use Rattle.wf_def_world.specs.Refusals.{refusal}
 use Rattle.wf_def_world.specs.Step.{Outcome, send_outcome, pull_outcome_for, pull_outcome, outcome_of}
 use Rattle.wf_law_runs.proofs.Windows.Agreed.{winner_ready}
-use Rattle.wf_air_fit.specs.Rooms.{RoomValue}
-use Rattle.wf_sched_stations.specs.ClassRotas.{SchedValue}
-use Rattle.wf_sched_stations_refines.specs.Calls.{HasPickedInClass}
-use Rattle.wf_send_exchanges.specs.declared.opened.Sending.TheVariants.{Data, Request as Starts_at}
-use Rattle.wf_send_window.proofs.Calls.{due_is}
-use Rattle.wf_send_window.specs.Windows.{window_of}
+use Rattle.wf_air.specs.Rooms.{RoomValue}
+use Rattle.wf_sched.specs.ClassRotas.{SchedValue}
+use Rattle.wf_sched_refines.specs.Calls.{HasPickedInClass}
+use Rattle.wf_send_parts.specs.declared.exchanges.opened.Sending.TheVariants.{Data, Request as Starts_at}
+use Rattle.wf_send_parts.proofs.Calls.{due_is}
+use Rattle.wf_send_parts.specs.Windows.{window_of}
 use Rattle.wf_send_half_refines.specs.Half.{TransmitValue}
 use Rattle.wf_send_half_refines.specs.Standing.{numbers_on_air, sending_of, Parts, StandsFor, Meets}
 use Rattle.wf_send_half_refines.specs.Changes.{after_listing_in}

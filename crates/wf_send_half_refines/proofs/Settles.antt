@@ -19,12 +19,12 @@ use Rattle.wf_queue_flows_refines.specs.Standing.{Part, flows_part, times_held}
 use Rattle.wf_queue_flows_refines.proofs.Leaves.{session_alone}
 use Rattle.wf_queue_flows_refines.proofs.Holdings.{times_finish}
 use Rattle.wf_queue_flows_refines.proofs.Parts.{part_finish}
-use Rattle.wf_send_window.specs.Answers.{settling_answer, with_fate}
-use Rattle.wf_send_window.specs.declared.window.Settled.TheVariants.{Waiting, Failed}
-use Rattle.wf_send_window.specs.Window.{WindowValue, WindowStandsFor as WindowStandsFor, session_settled}
-use Rattle.wf_send_window.specs.Ending.{AreFlying}
-use Rattle.wf_send_window.specs.Windows.{WindowsHaveRoom, with_window}
-use Rattle.wf_send_window.proofs.Ends.{still_fly}
+use Rattle.wf_send_parts.specs.Answers.{settling_answer, with_fate}
+use Rattle.wf_send_parts.specs.declared.window.window.Settled.TheVariants.{Waiting, Failed}
+use Rattle.wf_send_parts.specs.Window.{WindowValue, WindowStandsFor as WindowStandsFor, session_settled}
+use Rattle.wf_send_parts.specs.Ending.{AreFlying}
+use Rattle.wf_send_parts.specs.Windows.{WindowsHaveRoom, with_window}
+use Rattle.wf_send_parts.proofs.Ends.{still_fly}
 use Rattle.wf_send_half_refines.specs.Half.{TransmitValue}
 use Rattle.wf_send_half_refines.specs.Standing.{Parts}
 use Rattle.wf_send_half_refines.specs.Ending.{after_finish, after_answer, ending_of, IsLoose, IsEnding}

@@ -4,19 +4,19 @@ use Rattle.wf_frame.specs.declared.classes.Class.{Class}
 use Rattle.wf_frame.specs.Frames.{FrameValue}
 use Rattle.wf_def_lists.specs.Table.{at}
 use Rattle.wf_def_world.specs.World.{World, Station, no_station}
-use Rattle.wf_send_stations.specs.Tally.{Counts}
-use Rattle.wf_send_window.specs.Window.{WindowValue}
-use Rattle.wf_send_window.specs.Windows.{WindowsHaveRoom}
-use Rattle.wf_send_window.specs.Many.{AllStand}
-use Rattle.wf_send_stations.specs.declared.members.Member.{Member}
-use Rattle.wf_send_stations.specs.Members.{member, upper_in, charged_in, received_in}
-use Rattle.wf_octets_tim.specs.declared.sleepers.Sleeper.{Sleeper}
-use Rattle.wf_octets_tim.specs.Sleepers.{sleeper}
+use Rattle.wf_send_parts.specs.Tally.{Counts}
+use Rattle.wf_send_parts.specs.Window.{WindowValue}
+use Rattle.wf_send_parts.specs.Windows.{WindowsHaveRoom}
+use Rattle.wf_send_parts.specs.Many.{AllStand}
+use Rattle.wf_send_parts.specs.declared.stations.members.Member.{Member}
+use Rattle.wf_send_parts.specs.Members.{member, upper_in, charged_in, received_in}
+use Rattle.wf_octets_frames.specs.declared.tim.sleepers.Sleeper.{Sleeper}
+use Rattle.wf_octets_frames.specs.Sleepers.{sleeper}
 use Rattle.wf_queue_flows_refines.specs.Standing.{FlowsStandFor as FlowsStandFor}
 use Rattle.wf_queue_flows_refines.specs.Frames.{HasFrames, IsAccepted}
 use Rattle.wf_queue_flows_refines.proofs.Leaves.{stands_same}
-use Rattle.wf_sched_stations.specs.ClassRotas.{SchedValue}
-use Rattle.wf_sched_stations_refines.specs.Standing.{SchedulerStandsFor as TurnsStandFor, LeavesRotas}
+use Rattle.wf_sched.specs.ClassRotas.{SchedValue}
+use Rattle.wf_sched_refines.specs.Standing.{SchedulerStandsFor as TurnsStandFor, LeavesRotas}
 use Rattle.wf_send_half_refines.specs.Half.{TransmitValue}
 use Rattle.wf_send_half_refines.specs.Standing.{HasFour, IsMember, AreBoth, HasWindows, Parts}
 use Rattle.wf_send_half_refines.specs.Views.{Agreements, agreements, StationView, view_of, Roster, roster, Ledger, ledger, HasSameViews}

@@ -7,15 +7,15 @@ use Rattle.wf_frame.specs.Frames.{FrameValue}
 use Rattle.wf_def_air.specs.Airtime.{Rate}
 use Rattle.wf_def_world.specs.World.{World, Station, on_station}
 use Rattle.wf_law_runs.proofs.Deficits.Books.{upd, updc}
-use Rattle.wf_sched_stations.specs.ClassRotas.{SchedValue}
-use Rattle.wf_sched_stations.proofs.Views.{class_below}
-use Rattle.wf_sched_stations_refines.specs.Standing.{SchedulerStandsFor as TurnsStandFor}
-use Rattle.wf_sched_stations_refines.proofs.Stands.{each_other, each_other_class}
+use Rattle.wf_sched.specs.ClassRotas.{SchedValue}
+use Rattle.wf_sched.proofs.Views.{class_below}
+use Rattle.wf_sched_refines.specs.Standing.{SchedulerStandsFor as TurnsStandFor}
+use Rattle.wf_sched_refines.proofs.Stands.{each_other, each_other_class}
 use Rattle.wf_queue_flows_refines.proofs.Leaves.{stands_same, station_alone}
-use Rattle.wf_send_stations.specs.declared.members.Member.{Member}
-use Rattle.wf_send_stations.specs.Members.{member, on_member, with_rate, with_upper, charged_in, with_charge, received_in, with_receipt}
-use Rattle.wf_octets_tim.specs.declared.sleepers.Sleeper.{Sleeper}
-use Rattle.wf_octets_tim.specs.Sleepers.{sleeper, with_sleeper, awake}
+use Rattle.wf_send_parts.specs.declared.stations.members.Member.{Member}
+use Rattle.wf_send_parts.specs.Members.{member, on_member, with_rate, with_upper, charged_in, with_charge, received_in, with_receipt}
+use Rattle.wf_octets_frames.specs.declared.tim.sleepers.Sleeper.{Sleeper}
+use Rattle.wf_octets_frames.specs.Sleepers.{sleeper, with_sleeper, awake}
 use Rattle.wf_send_half_refines.specs.Half.{TransmitValue}
 use Rattle.wf_send_half_refines.specs.Standing.{AreBoth, Parts}
 use Rattle.wf_send_half_refines.specs.Views.{StationView, view_of, Roster, roster}

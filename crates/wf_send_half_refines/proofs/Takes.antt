@@ -19,7 +19,7 @@ use Rattle.wf_law_runs.proofs.Frames.Fewer.{less_pay_queues, less_with_queues, t
 use Rattle.wf_law_runs.proofs.Frames.Untouched.{untouched_pay_queues, untouched_with_queues, then_untouched}
 use Rattle.wf_law_runs.proofs.Releases.Placed.{Any, Placing}
 use Rattle.wf_law_runs.proofs.Windows.Sides.{then_same, same_pay_queues, same_with_queues}
-use Rattle.wf_send_stations.specs.Tally.{Counts, settled_as, many_settled_as}
+use Rattle.wf_send_parts.specs.Tally.{Counts, settled_as, many_settled_as}
 use Rattle.wf_frame.specs.Classes.{tid_number}
 use Rattle.wf_queue_flows.specs.Flows.{FlowsValue, taken_for_tid as take_out}
 use Rattle.wf_queue_flows_refines.specs.Standing.{Part, flows_part, FlowsStandFor as FlowsStandFor}
@@ -27,7 +27,7 @@ use Rattle.wf_queue_flows_refines.proofs.Bodies.{frames_take}
 use Rattle.wf_queue_flows_refines.proofs.Elsewhere.{rest_take}
 use Rattle.wf_queue_flows_refines.proofs.Parts.{part_finish}
 use Rattle.wf_queue_flows_refines.proofs.Takes.{stands_take}
-use Rattle.wf_sched_stations_refines.proofs.Unchanged.{take_leaves}
+use Rattle.wf_sched_refines.proofs.Unchanged.{take_leaves}
 use Rattle.wf_send_half_refines.specs.Half.{TransmitValue}
 use Rattle.wf_send_half_refines.specs.Standing.{counts_in, Parts}
 use Rattle.wf_send_half_refines.specs.Filling.{after_take}

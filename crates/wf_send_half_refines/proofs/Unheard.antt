@@ -10,8 +10,8 @@ use Rattle.wf_def_world.specs.Exchanges.{after_arrival}
 use Rattle.wf_def_world.specs.Step.{arrive_outcome, answer_outcome}
 use Rattle.wf_law_runs.specs.Windows.{OpenRises}
 use Rattle.wf_queue_flows_refines.proofs.Leaves.{receiver_alone, exchange_alone}
-use Rattle.wf_send_exchanges.specs.declared.opened.Open.{Open}
-use Rattle.wf_sched_stations_refines.proofs.Unchanged.{arrived_leaves, answered_leaves}
+use Rattle.wf_send_parts.specs.declared.exchanges.opened.Open.{Open}
+use Rattle.wf_sched_refines.proofs.Unchanged.{arrived_leaves, answered_leaves}
 use Rattle.wf_send_half_refines.specs.Half.{TransmitValue}
 use Rattle.wf_send_half_refines.specs.Standing.{open_of, Parts}
 use Rattle.wf_send_half_refines.specs.Views.{agreements, roster, ledger, HasSameViews}

@@ -12,8 +12,8 @@ use Rattle.wf_def_world.specs.World.{World, Station, Share, Tid, Queue, Frame, n
 use Rattle.wf_law_runs.proofs.Deficits.Books.{upd, upd_idle, put_upd, updc, updc_idle, put_updc}
 use Rattle.wf_queue_flows_refines.specs.Rest.{Rest, rest_of_world, bare, session_in}
 use Rattle.wf_queue_flows_refines.proofs.Elsewhere.{rest_live}
-use Rattle.wf_sched_stations_refines.specs.Standing.{share_in}
-use Rattle.wf_send_exchanges.specs.declared.opened.Open.{Open}
+use Rattle.wf_sched_refines.specs.Standing.{share_in}
+use Rattle.wf_send_parts.specs.declared.exchanges.opened.Open.{Open}
 use Rattle.wf_send_half_refines.specs.Standing.{open_of}
 use Rattle.wf_send_half_refines.specs.Views.{agreements, StationView, view_of, Roster, roster, ledger, KeepsSums}
 

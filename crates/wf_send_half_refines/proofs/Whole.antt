@@ -23,15 +23,15 @@ use Rattle.wf_law_runs.specs.Windows.{OpenRises}
 use Rattle.wf_law_runs.proofs.Windows.Law.{window_law}
 use Rattle.wf_law_runs.proofs.Deficits.KeptStep.{NoRow, no_row}
 use Rattle.wf_law_runs.proofs.Deficits.Law.{deficits}
-use Rattle.wf_sched_stations.specs.ClassRotas.{SchedValue, deficit, after_join}
-use Rattle.wf_sched_stations_refines.specs.Standing.{everywhere, with_deficit_charged as with_turns_charged}
-use Rattle.wf_sched_stations_refines.proofs.Charges.{receive_reply}
+use Rattle.wf_sched.specs.ClassRotas.{SchedValue, deficit, after_join}
+use Rattle.wf_sched_refines.specs.Standing.{everywhere, with_deficit_charged as with_turns_charged}
+use Rattle.wf_sched_refines.proofs.Charges.{receive_reply}
 use Rattle.wf_queue_flows_refines.specs.Standing.{with_finished}
 use Rattle.wf_queue_flows_refines.proofs.Ends.{reply_reaped}
-use Rattle.wf_send_window.specs.Window.{WindowValue}
-use Rattle.wf_send_stations.specs.declared.members.Member.{Member}
-use Rattle.wf_send_stations.specs.Members.{member, on_member, new_member, with_rate, with_receipt}
-use Rattle.wf_octets_tim.specs.Sleepers.{sleeper, with_sleeper, awake}
+use Rattle.wf_send_parts.specs.Window.{WindowValue}
+use Rattle.wf_send_parts.specs.declared.stations.members.Member.{Member}
+use Rattle.wf_send_parts.specs.Members.{member, on_member, new_member, with_rate, with_receipt}
+use Rattle.wf_octets_frames.specs.Sleepers.{sleeper, with_sleeper, awake}
 use Rattle.wf_send_half_refines.specs.Half.{TransmitValue, can_send_of, is_ready_of}
 use Rattle.wf_send_half_refines.specs.Standing.{Parts, IsReached, StandsFor, Meets}
 use Rattle.wf_send_half_refines.specs.Changes.{after_listing, AreReset}

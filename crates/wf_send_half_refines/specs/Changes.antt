@@ -4,11 +4,11 @@ use Rattle.wf_frame.specs.Classes.{all_classes, tid_number}
 use Rattle.wf_frame.specs.declared.classes.Class.{Class}
 use Rattle.wf_frame.specs.Frames.{FrameValue}
 use Rattle.wf_def_agreement.specs.Session.{new_session}
-use Rattle.wf_send_stations.specs.Tally.{one_accepted}
+use Rattle.wf_send_parts.specs.Tally.{one_accepted}
 use Rattle.wf_queue_flows.specs.Flows.{dropped_for_limit, after_put}
-use Rattle.wf_sched_stations_refines.specs.Standing.{with_listed, with_listed_where}
-use Rattle.wf_send_window.specs.Window.{WindowValue, WindowStandsFor}
-use Rattle.wf_send_window.specs.Windows.{WindowsHaveRoom, window_of}
+use Rattle.wf_sched_refines.specs.Standing.{with_listed, with_listed_where}
+use Rattle.wf_send_parts.specs.Window.{WindowValue, WindowStandsFor}
+use Rattle.wf_send_parts.specs.Windows.{WindowsHaveRoom, window_of}
 use Rattle.wf_send_half_refines.specs.Counting.{with_overlimit}
 use Rattle.wf_send_half_refines.specs.Half.{TransmitValue, is_ready_of}
 

@@ -2,7 +2,7 @@
 use Rattle.std.specs.Prelude.{ℕ, Option, Some, None}
 use Rattle.wf_frame.specs.declared.classes.Cause.TheVariants.{Overlimit}
 use Rattle.wf_frame.specs.declared.classes.Fate.TheVariants.{Dropped}
-use Rattle.wf_send_stations.specs.Tally.{Counts, settled_as}
+use Rattle.wf_send_parts.specs.Tally.{Counts, settled_as}
 
 -- the frame that is dropped for the limit, where one is
 abbrev pub with_overlimit : Option ℕ → Counts → Counts

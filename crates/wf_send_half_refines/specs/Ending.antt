@@ -8,14 +8,14 @@ use Rattle.wf_def_agreement.specs.Session.{State, slot}
 use Rattle.wf_def_world.specs.World.{World, Mpdu, is_live, session, frame, accepted_count}
 use Rattle.wf_def_world.specs.Exchanges.{with_all_settled}
 use Rattle.wf_law_runs.specs.Windows.{EachMpdu}
-use Rattle.wf_send_stations.specs.Tally.{settled_as}
+use Rattle.wf_send_parts.specs.Tally.{settled_as}
 use Rattle.wf_queue_flows_refines.specs.Standing.{times_held, with_finished}
-use Rattle.wf_sched_stations_refines.specs.Standing.{with_deficit_charged as with_turns_charged}
-use Rattle.wf_send_exchanges.specs.declared.opened.Open.{Open}
-use Rattle.wf_send_stations.specs.Members.{on_member, with_charge}
-use Rattle.wf_send_window.specs.declared.window.Settled.{Settled}
-use Rattle.wf_send_window.specs.declared.window.Settled.TheVariants.{Acked, Waiting, Failed}
-use Rattle.wf_send_window.specs.Ending.{Ending, AreFlying}
+use Rattle.wf_sched_refines.specs.Standing.{with_deficit_charged as with_turns_charged}
+use Rattle.wf_send_parts.specs.declared.exchanges.opened.Open.{Open}
+use Rattle.wf_send_parts.specs.Members.{on_member, with_charge}
+use Rattle.wf_send_parts.specs.declared.window.window.Settled.{Settled}
+use Rattle.wf_send_parts.specs.declared.window.window.Settled.TheVariants.{Acked, Waiting, Failed}
+use Rattle.wf_send_parts.specs.Ending.{Ending, AreFlying}
 use Rattle.wf_send_half_refines.specs.Half.{TransmitValue}
 use Rattle.wf_send_half_refines.specs.Standing.{Parts}
 

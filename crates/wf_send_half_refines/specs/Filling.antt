@@ -12,14 +12,14 @@ use Rattle.wf_def_world.specs.FlowQueues.{Taken, taken_for_tid}
 use Rattle.wf_def_world.specs.Exchanges.{Aggregate, after_pick, after_tid_turn, most_frames, lens_of, fits_in, mpdu_of, with_number, with_fresh, with_flying}
 use Rattle.wf_law_runs.specs.Places.{IsNumbered}
 use Rattle.wf_law_runs.specs.Windows.{EachMpdu}
-use Rattle.wf_air_fit.specs.Rooms.{RoomValue, empty_room, RoomStandsFor as RoomStandsFor}
-use Rattle.wf_send_stations.specs.Tally.{many_settled_as}
+use Rattle.wf_air.specs.Rooms.{RoomValue, empty_room, RoomStandsFor as RoomStandsFor}
+use Rattle.wf_send_parts.specs.Tally.{many_settled_as}
 use Rattle.wf_frame.specs.Classes.{tid_number}
 use Rattle.wf_queue_flows.specs.Flows.{FlowsValue, taken_for_tid as take_out}
 use Rattle.wf_queue_flows_refines.specs.Standing.{times_held}
-use Rattle.wf_send_window.specs.Listing.{HasListed}
-use Rattle.wf_send_window.specs.Window.{WindowValue, on_air}
-use Rattle.wf_send_window.specs.Windows.{with_window}
+use Rattle.wf_send_parts.specs.Listing.{HasListed}
+use Rattle.wf_send_parts.specs.Window.{WindowValue, on_air}
+use Rattle.wf_send_parts.specs.Windows.{with_window}
 use Rattle.wf_send_half_refines.specs.Half.{TransmitValue}
 use Rattle.wf_send_half_refines.specs.Standing.{numbers_on_air, Parts, IsReached}
 

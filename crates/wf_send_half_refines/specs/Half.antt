@@ -8,18 +8,18 @@ use Rattle.wf_frame.specs.Classes.{lower_tid, upper_tid, tid_number}
 use Rattle.wf_frame.specs.Frames.{FrameValue}
 use Rattle.wf_def_world.specs.CanSend.{has_credit}
 use Rattle.wf_queue_flows.specs.Flows.{FlowsValue, empty_flows, frames_of_tid}
-use Rattle.wf_sched_stations.specs.ClassRotas.{SchedValue, new_scheduler as empty_sched}
-use Rattle.wf_send_window.specs.declared.place.Place.{Place}
-use Rattle.wf_send_window.specs.declared.place.Place.TheVariants.{Waiting as Waits, Flying as Flies}
-use Rattle.wf_send_window.specs.Window.{WindowValue, waits, can_take}
-use Rattle.wf_send_window.specs.Windows.{new_window, window_of}
-use Rattle.wf_send_exchanges.specs.declared.opened.Open.{Open}
-use Rattle.wf_send_exchanges.specs.Exchanges.{asks}
-use Rattle.wf_send_stations.specs.declared.members.Member.{Member}
-use Rattle.wf_send_stations.specs.Members.{member}
-use Rattle.wf_octets_tim.specs.declared.sleepers.Sleeper.{Sleeper}
-use Rattle.wf_octets_tim.specs.Sleepers.{awake, sleeper}
-use Rattle.wf_send_stations.specs.Tally.{Counts, no_counts}
+use Rattle.wf_sched.specs.ClassRotas.{SchedValue, new_scheduler as empty_sched}
+use Rattle.wf_send_parts.specs.declared.window.place.Place.{Place}
+use Rattle.wf_send_parts.specs.declared.window.place.Place.TheVariants.{Waiting as Waits, Flying as Flies}
+use Rattle.wf_send_parts.specs.Window.{WindowValue, waits, can_take}
+use Rattle.wf_send_parts.specs.Windows.{new_window, window_of}
+use Rattle.wf_send_parts.specs.declared.exchanges.opened.Open.{Open}
+use Rattle.wf_send_parts.specs.Exchanges.{asks}
+use Rattle.wf_send_parts.specs.declared.stations.members.Member.{Member}
+use Rattle.wf_send_parts.specs.Members.{member}
+use Rattle.wf_octets_frames.specs.declared.tim.sleepers.Sleeper.{Sleeper}
+use Rattle.wf_octets_frames.specs.Sleepers.{awake, sleeper}
+use Rattle.wf_send_parts.specs.Tally.{Counts, no_counts}
 
 -- what the transmit half keeps
 pub record TransmitValue : Type 0 where

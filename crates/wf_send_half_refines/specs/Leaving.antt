@@ -12,17 +12,17 @@ use Rattle.wf_def_lists.specs.Table.{upto}
 use Rattle.wf_def_world.specs.World.{World, session, frame, with_frames_finished}
 use Rattle.wf_def_world.specs.Refusals.{refusal}
 use Rattle.wf_def_world.specs.Step.{waiting_ids, after_tids_left}
-use Rattle.wf_send_stations.specs.Tally.{many_settled_as}
+use Rattle.wf_send_parts.specs.Tally.{many_settled_as}
 use Rattle.wf_queue_flows.specs.Backlog.{held_in_backlog}
 use Rattle.wf_frame.specs.Classes.{tid_number}
 use Rattle.wf_queue_flows.specs.Flows.{FlowsValue, tid_rotation, after_purge}
 use Rattle.wf_queue_flows_refines.specs.Standing.{ids, times_held, with_finished}
 use Rattle.wf_queue_flows_refines.specs.Frames.{QueuedAreHeld}
-use Rattle.wf_sched_stations.specs.ClassRotas.{after_station_left as without_turns}
-use Rattle.wf_sched_stations_refines.specs.Standing.{everywhere}
-use Rattle.wf_send_window.specs.Window.{WindowValue}
-use Rattle.wf_send_window.specs.Expelling.{frames_left, HasExpelled}
-use Rattle.wf_send_window.specs.Windows.{window_of, with_window}
+use Rattle.wf_sched.specs.ClassRotas.{after_station_left as without_turns}
+use Rattle.wf_sched_refines.specs.Standing.{everywhere}
+use Rattle.wf_send_parts.specs.Window.{WindowValue}
+use Rattle.wf_send_parts.specs.Expelling.{frames_left, HasExpelled}
+use Rattle.wf_send_parts.specs.Windows.{window_of, with_window}
 use Rattle.wf_send_half_refines.specs.Half.{TransmitValue}
 use Rattle.wf_send_half_refines.specs.Standing.{Parts, StandsFor}
 

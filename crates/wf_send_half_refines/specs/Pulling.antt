@@ -6,12 +6,12 @@ use Rattle.wf_frame.specs.Classes.{lower_tid, upper_tid, tid_number}
 use Rattle.wf_def_lists.specs.Bounds.{narrow_window}
 use Rattle.wf_def_lists.specs.Table.{upto}
 use Rattle.wf_queue_flows.specs.Flows.{frames_of_tid}
-use Rattle.wf_send_window.specs.Windows.{window_of}
-use Rattle.wf_send_exchanges.specs.declared.opened.Open.{Open}
-use Rattle.wf_send_exchanges.specs.declared.opened.Sending.{Sending}
-use Rattle.wf_send_exchanges.specs.Exchanges.{sending_is_request}
-use Rattle.wf_send_stations.specs.Members.{member, on_member, upper_in, with_upper}
-use Rattle.wf_octets_tim.specs.Sleepers.{sleeper, with_sleeper}
+use Rattle.wf_send_parts.specs.Windows.{window_of}
+use Rattle.wf_send_parts.specs.declared.exchanges.opened.Open.{Open}
+use Rattle.wf_send_parts.specs.declared.exchanges.opened.Sending.{Sending}
+use Rattle.wf_send_parts.specs.Exchanges.{sending_is_request}
+use Rattle.wf_send_parts.specs.Members.{member, on_member, upper_in, with_upper}
+use Rattle.wf_octets_frames.specs.Sleepers.{sleeper, with_sleeper}
 use Rattle.wf_send_half_refines.specs.Half.{TransmitValue, some_wait, can_send_of}
 
 -- ---- whose turn it is

@@ -16,18 +16,18 @@ use Rattle.wf_def_lists.specs.Lengths.{greatest_body}
 use Rattle.wf_law_runs.specs.Queues.{HaveLengths, AreAtMost}
 use Rattle.wf_queue_flows_refines.specs.Frames.{HasFrames, AreAccepted}
 use Rattle.wf_queue_flows_refines.specs.Standing.{FlowsStandFor as FlowsStandFor}
-use Rattle.wf_sched_stations_refines.specs.Standing.{SchedulerStandsFor as TurnsStandFor, share_in}
-use Rattle.wf_send_window.specs.Window.{WindowValue, on_air}
-use Rattle.wf_send_window.specs.Windows.{WindowsHaveRoom}
-use Rattle.wf_send_window.specs.Many.{AllStand}
-use Rattle.wf_send_exchanges.specs.declared.opened.Open.{Open}
-use Rattle.wf_send_exchanges.specs.declared.opened.Sending.{Sending}
-use Rattle.wf_send_exchanges.specs.declared.opened.Sending.TheVariants.{Data, Request as Starts_at}
-use Rattle.wf_send_stations.specs.declared.members.Member.{Member}
-use Rattle.wf_send_stations.specs.Members.{member, upper_in, charged_in, received_in}
-use Rattle.wf_octets_tim.specs.declared.sleepers.Sleeper.{Sleeper}
-use Rattle.wf_octets_tim.specs.Sleepers.{sleeper}
-use Rattle.wf_send_stations.specs.Tally.{Counts}
+use Rattle.wf_sched_refines.specs.Standing.{SchedulerStandsFor as TurnsStandFor, share_in}
+use Rattle.wf_send_parts.specs.Window.{WindowValue, on_air}
+use Rattle.wf_send_parts.specs.Windows.{WindowsHaveRoom}
+use Rattle.wf_send_parts.specs.Many.{AllStand}
+use Rattle.wf_send_parts.specs.declared.exchanges.opened.Open.{Open}
+use Rattle.wf_send_parts.specs.declared.exchanges.opened.Sending.{Sending}
+use Rattle.wf_send_parts.specs.declared.exchanges.opened.Sending.TheVariants.{Data, Request as Starts_at}
+use Rattle.wf_send_parts.specs.declared.stations.members.Member.{Member}
+use Rattle.wf_send_parts.specs.Members.{member, upper_in, charged_in, received_in}
+use Rattle.wf_octets_frames.specs.declared.tim.sleepers.Sleeper.{Sleeper}
+use Rattle.wf_octets_frames.specs.Sleepers.{sleeper}
+use Rattle.wf_send_parts.specs.Tally.{Counts}
 use Rattle.wf_send_half_refines.specs.Half.{TransmitValue}
 
 -- ---- exchanges

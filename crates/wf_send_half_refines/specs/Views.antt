@@ -1,5 +1,5 @@
 -- What each part of a transmit half reads of a world. The flow queues read its part (wf_queue_flows_refines)
--- and the scheduler its rotations and deficits (wf_sched_stations_refines); a change that leaves a view
+-- and the scheduler its rotations and deficits (wf_sched_refines); a change that leaves a view
 -- leaves what stands for it.
 use Rattle.std.specs.Prelude.{◌≡◌, ℕ, Bool, List, Option, None, option_map, map}
 use Rattle.wf_frame.specs.declared.settings.Config.{Config}
@@ -9,10 +9,10 @@ use Rattle.wf_def_air.specs.Airtime.{Rate}
 use Rattle.wf_def_agreement.specs.Session.{Session}
 use Rattle.wf_def_lists.specs.Table.{at}
 use Rattle.wf_def_world.specs.World.{World, Station, Share, is_live, session, inside, accepted_count, frame}
-use Rattle.wf_send_stations.specs.Tally.{Counts}
-use Rattle.wf_send_exchanges.specs.declared.opened.Open.{Open}
+use Rattle.wf_send_parts.specs.Tally.{Counts}
+use Rattle.wf_send_parts.specs.declared.exchanges.opened.Open.{Open}
 use Rattle.wf_queue_flows_refines.specs.Standing.{flows_part}
-use Rattle.wf_sched_stations_refines.specs.Standing.{share_in}
+use Rattle.wf_sched_refines.specs.Standing.{share_in}
 use Rattle.wf_send_half_refines.specs.Standing.{open_of, counts_in}
 
 -- the windows read which stations are live, and the originator's side of each agreement

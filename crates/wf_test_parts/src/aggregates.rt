@@ -1,8 +1,8 @@
 //! Aggregates that are full, at their edges.
 
 use crate::alike::same;
-use wf_air_fit::Room;
-use wf_air_time::Rate;
+use wf_air::fit::Room;
+use wf_air::time::Rate;
 
 // Where an aggregate is full: the rate (MCS, MHz, short guard interval), the exponent, the greatest data time
 // and whether the session is wide; how many frames of 2304 octets stand first and then the length of one

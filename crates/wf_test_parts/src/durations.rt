@@ -1,7 +1,7 @@
 //! Durations of data and of control frames, and what an exchange is charged.
 
 use crate::alike::same;
-use wf_air_time::*;
+use wf_air::time::*;
 
 // For each MCS from 0 on, at 20 MHz long and short and at 40 MHz long and short: the rate in
 // kbit/s, and the data time of 1, 26, 1534 and 65535 octets. The numbers are worked out from

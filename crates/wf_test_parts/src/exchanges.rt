@@ -5,8 +5,8 @@ ghost use Rattle.std.specs.Prelude.{◌≡◌};
 use crate::alike::same;
 use std::alloc::AllocError;
 use wf_frame::Class;
-use wf_octets_seq12::Seq12;
-use wf_send_exchanges::{Numbers, Open, Opened, Sending};
+use wf_octets_parts::seq12::Seq12;
+use wf_send_parts::exchanges::{Numbers, Open, Opened, Sending};
 
 fn exchange(number: u64, station: u16, sending: Sending) -> Open
     ensures { result.number ≡ number }

@@ -2,9 +2,9 @@
 
 use crate::alike::same;
 use std::alloc::AllocError;
-use wf_octets_bits::{Bits64, Bits256};
-use wf_octets_seq12::Seq12;
-use wf_send_exchanges::{Marks, widened};
+use wf_octets_parts::bits::{Bits64, Bits256};
+use wf_octets_parts::seq12::Seq12;
+use wf_send_parts::exchanges::{Marks, widened};
 
 #[test]
 fn marks_are_kept_until_the_end(rt: HostRuntime) -> Result<(), AllocError> {

@@ -2,9 +2,9 @@
 
 use crate::alike::same;
 use std::alloc::AllocError;
-use wf_air_time::Rate;
+use wf_air::time::Rate;
 use wf_frame::Class;
-use wf_send_stations::Members;
+use wf_send_parts::stations::Members;
 
 #[test]
 fn a_station_joins_and_leaves(rt: HostRuntime) -> Result<(), AllocError> {

@@ -3,8 +3,8 @@
 use crate::alike::same;
 use std::alloc::AllocError;
 use wf_frame::Ids;
-use wf_octets_seq12::Seq12;
-use wf_recv_agreement::Reorder;
+use wf_octets_parts::seq12::Seq12;
+use wf_recv_peer::recipient::Reorder;
 
 #[test]
 fn a_jump_passes_up_what_it_passes(rt: HostRuntime) -> Result<(), AllocError> {

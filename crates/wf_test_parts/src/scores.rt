@@ -1,8 +1,8 @@
 //! A recipient's scoreboard.
 
 use crate::alike::same;
-use wf_octets_seq12::Seq12;
-use wf_recv_agreement::Score;
+use wf_octets_parts::seq12::Seq12;
+use wf_recv_peer::recipient::Score;
 
 #[test]
 fn a_jump_forgets_what_leaves_the_window(rt: HostRuntime) {

@@ -2,7 +2,7 @@
 
 use crate::alike::same;
 use wf_frame::{Cause, Fate};
-use wf_send_stations::Tally;
+use wf_send_parts::stations::Tally;
 
 #[test]
 fn each_fate_has_its_count(rt: HostRuntime) {

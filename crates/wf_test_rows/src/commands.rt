@@ -4,9 +4,9 @@
 use crate::alike::same;
 use std::alloc::{AllocError, Global};
 use std::process::Abort;
+use wf_captures::listing::frames;
 use wf_io::{Given, Kept, Status};
-use wf_run_capture::capture;
-use wf_run_frames::frames;
+use wf_run_replay::capture::capture;
 use wf_run_replay::replay;
 use wf_run_session::session;
 use wf_run_uplink::uplink;

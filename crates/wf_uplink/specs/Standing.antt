@@ -1,6 +1,6 @@
 -- How the reordering buffer, whose numbers have twelve bits, stands for a reordering.
 use Rattle.std.specs.Prelude.{◌≡◌, ℕ, ◌+◌, ◌%◌, List, [], ◌∷◌, Option, None, Some}
-use Rattle.wf_recv_agreement.specs.Buffer.{Buffer, NothingAtStart}
+use Rattle.wf_recv_peer.specs.Buffer.{Buffer, NothingAtStart}
 use Rattle.wf_uplink.specs.Reordering.{Reordering, Stored, Passed, Released}
 
 -- what is stored at places, the first of which is that of number b

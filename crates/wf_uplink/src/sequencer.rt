@@ -9,8 +9,8 @@ use crate::items::{Items, UpItem};
 use std::alloc::{AllocError, Global};
 use std::marker::Model;
 use wf_frame::Ids;
-use wf_octets_seq12::Seq12;
-use wf_recv_agreement::Reorder;
+use wf_octets_parts::seq12::Seq12;
+use wf_recv_peer::recipient::Reorder;
 
 /// The greatest window, in numbers.
 const LARGEST: u16 = 256;

@@ -9,8 +9,9 @@ ghost use Rattle.wf_c.specs.CellCalls.{IsStepped};
 
 use crate::reply::Reply;
 use std::alloc::Global;
+use wf_cell::Job;
+use wf_cell::record::Record;
 use wf_frame::{Answer, Ask, Config};
-use wf_record::{Job, Record};
 
 /// A record, and its answer to the last call, which is lent to one call after another.
 #[derive(Drop)]

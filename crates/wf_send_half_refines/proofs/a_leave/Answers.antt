@@ -1,6 +1,6 @@
 use Rattle.std.proofs.Common.{refl}
 use Rattle.wf_def_agreement.specs.Session.{slot, start_of}
-use Rattle.wf_send_window.specs.Expelling.{frame_left}
+use Rattle.wf_send_parts.specs.Expelling.{frame_left}
 use Rattle.wf_send_half_refines.proofs.Leavings.{leave_begins, tid_begins, none_flies_now, within, room_for_one, frame_next, window_ends, tid_ends, expelled_few, left_few}
 use Rattle.wf_send_half_refines.proofs.Gone.{dropped_are_held, leave_meets}
 use Rattle.wf_send_half_refines.proofs.a_leave.Goals as goal

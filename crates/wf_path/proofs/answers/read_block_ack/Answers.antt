@@ -1,5 +1,5 @@
 use Rattle.std.proofs.Common.{ap, ◌∙◌, nat_lt}
-use Rattle.wf_send_window.specs.Window.{WindowValue}
+use Rattle.wf_send_parts.specs.Window.{WindowValue}
 use Rattle.wf_send_half.proofs.Dones.{open_low}
 use Rattle.wf_path.proofs.Opened.{open_within, none_answered, some_answered}
 use Rattle.wf_path.proofs.answers.read_block_ack.Goals as goal

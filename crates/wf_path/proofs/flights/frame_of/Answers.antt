@@ -1,5 +1,5 @@
 use Rattle.std.proofs.Common.{◌≡◌, sym, ap, ◌∙◌, subst, true}
-use Rattle.wf_send_window.specs.Window.{WindowValue, WindowStandsFor, state_at, holds_parcel}
+use Rattle.wf_send_parts.specs.Window.{WindowValue, WindowStandsFor, state_at, holds_parcel}
 use Rattle.wf_def_world.specs.World.{session}
 use Rattle.wf_path.proofs.Flying.{window_stands, is_number, carried, some_within, some_low, some_held}
 use Rattle.wf_path.proofs.flights.frame_of.Goals as goal

@@ -1,8 +1,8 @@
 use Rattle.std.proofs.Common.{◌≡◌, refl, sym, ap, ◌∙◌, subst, true, nat_lt, arith}
 use Rattle.wf_frame.specs.Frames.{FrameValue}
-use Rattle.wf_send_exchanges.specs.declared.opened.Open.{Open}
+use Rattle.wf_send_parts.specs.declared.exchanges.opened.Open.{Open}
 use Rattle.wf_path.specs.Addresses.{address_in}
-use Rattle.wf_send_window.specs.Window.{WindowValue, WindowStandsFor, state_at, holds_parcel}
+use Rattle.wf_send_parts.specs.Window.{WindowValue, WindowStandsFor, state_at, holds_parcel}
 use Rattle.wf_def_world.specs.World.{session}
 use Rattle.wf_path.specs.Transmissions.{is_retried}
 use Rattle.wf_path.proofs.Flying.{window_stands, is_number, air, some_within, some_low, some_held}

@@ -1,5 +1,5 @@
 use Rattle.std.proofs.Common.{ap}
-use Rattle.wf_send_stations.specs.Tally.{Counts}
+use Rattle.wf_send_parts.specs.Tally.{Counts}
 use Rattle.wf_def_world.specs.Run.{world_of}
 use Rattle.wf_report.proofs.Counted.{held_is}
 use Rattle.wf_report.proofs.standing.tally.Goals as goal

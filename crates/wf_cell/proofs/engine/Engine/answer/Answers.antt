@@ -5,8 +5,8 @@ use Rattle.wf_frame.specs.declared.answers.Brief.{Brief}
 use Rattle.wf_frame.specs.declared.notes.Ask.TheVariants.{Answer}
 use Rattle.wf_frame.specs.declared.notes.Note.TheVariants.{Asked}
 use Rattle.wf_frame.specs.declared.notes.ReplyNote.{ReplyNote}
-use Rattle.wf_recv_agreement.specs.Board.{Board}
-use Rattle.wf_send_exchanges.specs.Marks.{with_answer, with_changed}
+use Rattle.wf_recv_peer.specs.Board.{Board}
+use Rattle.wf_send_parts.specs.Marks.{with_answer, with_changed}
 use Rattle.wf_recv_refines.specs.Hearing.{agreement_of}
 use Rattle.wf_cell.proofs.Exchanges.{answer_refused, answered_meets, told_station, told_tid}
 use Rattle.wf_cell.proofs.engine.Engine.answer.Goals as goal

@@ -3,7 +3,7 @@ use Rattle.wf_cell.specs.Engines.{EngineValue, EngineIsIn, EngineMeets}
 use Rattle.wf_frame.specs.Answers.{reply_with}
 use Rattle.wf_frame.specs.declared.notes.Ask.TheVariants.{Done}
 use Rattle.wf_frame.specs.declared.notes.Note.TheVariants.{Asked}
-use Rattle.wf_send_exchanges.specs.declared.marks.Mark.{Mark}
+use Rattle.wf_send_parts.specs.declared.exchanges.marks.Mark.{Mark}
 use Rattle.wf_path.specs.Jobs.{changes_nothing}
 use Rattle.wf_cell.proofs.Calls.{ended_reply}
 use Rattle.wf_cell.proofs.Exchanges.{done_refused, ended_meets, end_met, kept_answer}

@@ -6,7 +6,7 @@ use Rattle.wf_frame.specs.declared.answers.Answer.{Answer}
 use Rattle.wf_frame.specs.declared.answers.Brief.{Brief}
 use Rattle.wf_frame.specs.declared.notes.Ask.TheVariants.{Pull}
 use Rattle.wf_frame.specs.declared.notes.Note.TheVariants.{Asked}
-use Rattle.wf_send_exchanges.specs.declared.marks.Mark.{Mark}
+use Rattle.wf_send_parts.specs.declared.exchanges.marks.Mark.{Mark}
 use Rattle.wf_send_half.specs.Replies.{bodies_sent}
 use Rattle.wf_send_half_refines.specs.Half.{TransmitValue}
 use Rattle.wf_cell.proofs.Calls.{IsSend, send_brief, mark_fits, pulled_meets, not_pulled, refused_meets}

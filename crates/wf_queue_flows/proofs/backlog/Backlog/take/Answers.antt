@@ -1,7 +1,7 @@
 use Rattle.std.proofs.Common.{rules, ◌≡◌, ◌<◌, Some, length, slice_set, ap, sym, ◌∙◌, arith}
 use Rattle.std.proofs.lemmas.List.{get_or_default}
 use Rattle.wf_def_codel.specs.Codel.{new_codel}
-use Rattle.wf_queue_codel.specs.Params.{params_of}
+use Rattle.wf_queue_flows.specs.CodelParams.{params_of}
 use Rattle.wf_queue_flows.specs.Backlog.{BacklogValue, codel_at, in_queues, given_at}
 use Rattle.wf_queue_flows.proofs.Taking.{given-is, taken-is, fewer_queued}
 use Rattle.wf_queue_flows.proofs.backlog.Backlog.take.Goals as goal

@@ -1,8 +1,8 @@
 use Rattle.std.proofs.Common.{◌≡◌, ℕ, ◌+◌, ◌*◌, ◌<◌, ◌≤◌, ◌∙◌, true, Option, Some, None, length, refl, sym, ap, subst, arith}
 use Rattle.std.specs.Prelude.{pos, ◌<ℤ◌, IfSome, IfNone}
 use Rattle.std.proofs.lemmas.List.{get_or_read}
-use Rattle.wf_queue_codel.specs.Params.{params_of}
-use Rattle.wf_sched_rotation.specs.Rotas.{Rotas, deficit_at}
+use Rattle.wf_queue_flows.specs.CodelParams.{params_of}
+use Rattle.wf_sched.specs.Rotas.{Rotas, deficit_at}
 use Rattle.wf_queue_flows.specs.Flows.{FlowsValue, TakenFromFlows, tids, is_listed, after_pick, frames_of_tid, pick_of_tid, taken_for_tid, TakeGives}
 use Rattle.wf_queue_flows.specs.Kept.{AreFlowsKept, IsPickOfOne}
 use Rattle.wf_queue_flows.proofs.Keeps.{frames_counted}

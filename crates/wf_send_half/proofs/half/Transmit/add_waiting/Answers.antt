@@ -1,9 +1,9 @@
 use Rattle.std.proofs.Common.{refl, sym, ◌∙◌, subst, ◌≤◌, length, Some, None}
-use Rattle.wf_send_window.specs.Window.{WindowValue}
+use Rattle.wf_send_parts.specs.Window.{WindowValue}
 use Rattle.wf_send_half_refines.specs.Half.{TransmitValue}
 use Rattle.wf_send_half_refines.proofs.Fills.{choosing_near}
 use Rattle.wf_send_half.proofs.Filling.{choosing_lens, next_read, waiting_goes_on, waiting_ends, all_waiting, few_most, same_agg}
-use Rattle.wf_octets_seq12.specs.Distance.{distance}
+use Rattle.wf_octets_parts.specs.Distance.{distance}
 use Rattle.wf_send_half.proofs.half.Transmit.add_waiting.Goals as goal
 
 pub waiting-requires : goal.waiting-requires

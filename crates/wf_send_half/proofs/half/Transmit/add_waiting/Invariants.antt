@@ -1,7 +1,7 @@
 use Rattle.std.proofs.Common.{◌≡◌, ℕ, ◌-◌, length}
 use Rattle.wf_frame.specs.Frames.{FrameValue}
 use Rattle.wf_def_world.specs.World.{World}
-use Rattle.wf_send_window.specs.Windows.{window_of}
+use Rattle.wf_send_parts.specs.Windows.{window_of}
 use Rattle.wf_send_half_refines.specs.Filling.{IsToFill, IsChoosing}
 use Rattle.wf_send_half.specs.Pulls.{most_of}
 use Rattle.wf_send_half.proofs.half.Transmit.add_waiting.Given as goal

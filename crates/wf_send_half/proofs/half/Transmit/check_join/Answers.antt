@@ -2,7 +2,7 @@ use Rattle.std.proofs.Common.{◌∙◌, refl, sym, ap, not, ℕ, is_some}
 use Rattle.std.proofs.lemmas.Result.{err_from_is_err_and}
 use Rattle.wf_def_lists.specs.Bounds.{greatest_window, greatest_weight}
 use Rattle.wf_def_world.specs.Refusals.{is_within}
-use Rattle.wf_send_stations.specs.Members.{member}
+use Rattle.wf_send_parts.specs.Members.{member}
 use Rattle.wf_send_half_refines.specs.Half.{TransmitValue}
 use Rattle.wf_send_half_refines.proofs.Readers.{live_same}
 use Rattle.wf_send_half.proofs.Rows.{last_row, row_refuses, row_passes, out_of_range, in_range}

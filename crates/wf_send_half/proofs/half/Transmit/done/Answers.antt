@@ -8,7 +8,7 @@ use Rattle.wf_frame.specs.declared.notes.Ask.TheVariants.{Done}
 use Rattle.wf_frame.specs.declared.notes.Refusal.TheVariants.{NoExchange}
 use Rattle.wf_frame.specs.declared.notes.ReplyNote.TheVariants.{Refused}
 use Rattle.wf_def_world.specs.World.{Exchange}
-use Rattle.wf_send_exchanges.specs.declared.opened.Open.{Open}
+use Rattle.wf_send_parts.specs.declared.exchanges.opened.Open.{Open}
 use Rattle.wf_send_half_refines.specs.Half.{TransmitValue, is_ready_of}
 use Rattle.wf_send_half_refines.specs.Standing.{StandsFor}
 use Rattle.wf_law_driver.proofs.Ended.{may_end_lost, may_end_heard}

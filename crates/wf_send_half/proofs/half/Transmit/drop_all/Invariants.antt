@@ -5,7 +5,7 @@ use Rattle.wf_frame.specs.declared.notes.Ask.TheVariants.{Leave}
 use Rattle.wf_frame.specs.declared.notes.Note.TheVariants.{Asked}
 use Rattle.wf_def_world.specs.World.{World}
 use Rattle.wf_def_world.specs.Refusals.{refusal}
-use Rattle.wf_send_window.specs.Windows.{WindowsHaveRoom}
+use Rattle.wf_send_parts.specs.Windows.{WindowsHaveRoom}
 use Rattle.wf_send_half_refines.specs.Leaving.{IsLeaving}
 use Rattle.wf_send_half_refines.specs.Standing.{StandsFor}
 use Rattle.wf_send_half.proofs.half.Transmit.drop_all.Given as goal

@@ -1,4 +1,4 @@
-use Rattle.wf_send_window.specs.Windows.{window_of}
+use Rattle.wf_send_parts.specs.Windows.{window_of}
 use Rattle.wf_send_half.proofs.Calls.{view_of}
 use Rattle.wf_send_half.proofs.Leaves.{window_there, window_still, finish_room, frame_given, none_given}
 use Rattle.wf_send_half.proofs.half.Transmit.expel_one.Goals as goal

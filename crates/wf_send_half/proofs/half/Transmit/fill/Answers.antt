@@ -1,11 +1,11 @@
 use Rattle.std.proofs.Common.{◌≡◌, refl, ap, ap₂, sym, ◌∙◌, subst, ℕ, ◌≤◌, Bool, List, Option, Some, None, option_map}
 use Rattle.std.specs.Prelude.{IfSome, nat_lt}
 use Rattle.wf_def_world.specs.Exchanges.{aggregate_of}
-use Rattle.wf_air_fit.specs.Rooms.{RoomValue, empty_room}
-use Rattle.wf_send_stations.specs.declared.members.Member.{Member}
-use Rattle.wf_send_stations.specs.Members.{member}
-use Rattle.wf_send_window.specs.Window.{WindowValue}
-use Rattle.wf_send_window.specs.Windows.{window_of}
+use Rattle.wf_air.specs.Rooms.{RoomValue, empty_room}
+use Rattle.wf_send_parts.specs.declared.stations.members.Member.{Member}
+use Rattle.wf_send_parts.specs.Members.{member}
+use Rattle.wf_send_parts.specs.Window.{WindowValue}
+use Rattle.wf_send_parts.specs.Windows.{window_of}
 use Rattle.wf_send_half_refines.specs.Half.{TransmitValue}
 use Rattle.wf_send_half_refines.specs.Filling.{IsToFill, IsChoosing, room_for}
 use Rattle.wf_send_half_refines.proofs.Asked.{room_read}

@@ -2,9 +2,9 @@ use Rattle.std.proofs.Common.{◌≡◌, ap, sym, ◌∙◌, subst, arith, ℕ, 
 use Rattle.std.specs.Prelude.{slice_get}
 use Rattle.wf_frame.specs.Frames.{FrameValue}
 use Rattle.wf_def_agreement.specs.Session.{State, Session, slot, with_state}
-use Rattle.wf_send_window.specs.Window.{holds_parcel, state_at, WindowValue, WindowStandsFor as WindowStandsFor, IsNumber, HasOwnFrame}
-use Rattle.wf_send_window.specs.Sent.{with_one_sent}
-use Rattle.wf_send_window.specs.Windows.{window_of}
+use Rattle.wf_send_parts.specs.Window.{holds_parcel, state_at, WindowValue, WindowStandsFor as WindowStandsFor, IsNumber, HasOwnFrame}
+use Rattle.wf_send_parts.specs.Sent.{with_one_sent}
+use Rattle.wf_send_parts.specs.Windows.{window_of}
 use Rattle.wf_send_half_refines.specs.Half.{TransmitValue}
 use Rattle.wf_send_half.proofs.Calls.{view_of}
 use Rattle.wf_send_half.proofs.Flying.{flying_waits, flying_next, all_fly, as_many, one_more_pair}

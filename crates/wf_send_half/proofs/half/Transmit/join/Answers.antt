@@ -2,7 +2,7 @@ use Rattle.std.proofs.Common.{◌∙◌, sym, ap, subst, ℕ, ◌%◌}
 use Rattle.std.proofs.lemmas.Result.{err_from_is_err_and}
 use Rattle.wf_frame.specs.declared.notes.Note.TheVariants.{Asked}
 use Rattle.wf_frame.specs.declared.notes.Ask.TheVariants.{Join}
-use Rattle.wf_send_window.specs.Windows.{WindowsHaveRoom}
+use Rattle.wf_send_parts.specs.Windows.{WindowsHaveRoom}
 use Rattle.wf_send_half_refines.specs.Half.{TransmitValue}
 use Rattle.wf_send_half.proofs.Resets.{reset}
 use Rattle.wf_send_half.proofs.Rows.{refused_call}

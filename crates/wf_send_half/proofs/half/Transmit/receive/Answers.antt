@@ -4,7 +4,7 @@ use mir.Val.{to_z, of_z}
 use Rattle.wf_frame.specs.declared.notes.ReplyNote.TheVariants.{Charged, Refused}
 use Rattle.wf_frame.specs.declared.notes.Refusal.TheVariants.{Debt}
 use Rattle.wf_send_half_refines.specs.Standing.{Meets}
-use Rattle.wf_sched_stations.specs.ClassRotas.{with_deficit}
+use Rattle.wf_sched.specs.ClassRotas.{with_deficit}
 use Rattle.std.proofs.lemmas.Result.{err_from_is_err_and}
 use Rattle.wf_frame.specs.declared.notes.Note.TheVariants.{Asked}
 use Rattle.wf_frame.specs.declared.notes.Ask.TheVariants.{Rx}

@@ -1,9 +1,9 @@
 use Rattle.std.proofs.Common.{sym, ap, ◌∙◌, subst, arith, ◌+◌, ◌≤◌, nat_lt, Bool, length}
-use Rattle.wf_octets_seq12.specs.Distance.{distance}
-use Rattle.wf_send_window.specs.Window.{WindowValue}
-use Rattle.wf_send_window.specs.Windows.{window_of}
+use Rattle.wf_octets_parts.specs.Distance.{distance}
+use Rattle.wf_send_parts.specs.Window.{WindowValue}
+use Rattle.wf_send_parts.specs.Windows.{window_of}
 use Rattle.wf_send_half_refines.specs.Half.{TransmitValue}
-use Rattle.wf_send_exchanges.specs.declared.opened.Sending.{Sending}
+use Rattle.wf_send_parts.specs.declared.exchanges.opened.Sending.{Sending}
 use Rattle.wf_send_half_refines.specs.Pulling.{is_wide_of}
 use Rattle.wf_send_half.specs.Bits.{is_shown, count_shown, numbers_sent}
 use Rattle.wf_send_half.proofs.Calls.{view_of}

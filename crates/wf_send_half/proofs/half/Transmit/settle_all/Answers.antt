@@ -1,6 +1,6 @@
 use Rattle.std.proofs.Common.{◌≡◌, sym, ap, ◌∙◌, subst, arith}
 use Rattle.wf_frame.specs.declared.settings.Config.{Config}
-use Rattle.wf_send_window.specs.Windows.{WindowsHaveRoom}
+use Rattle.wf_send_parts.specs.Windows.{WindowsHaveRoom}
 use Rattle.wf_send_half_refines.specs.Half.{TransmitValue}
 use Rattle.wf_send_half.specs.Bits.{is_shown}
 use Rattle.wf_send_half.proofs.Calls.{view_of}

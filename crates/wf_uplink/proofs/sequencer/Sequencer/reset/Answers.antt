@@ -1,5 +1,5 @@
 use Rattle.std.proofs.Common.{ℕ, List, ◌∙◌, ap, ap₂}
-use Rattle.wf_recv_agreement.specs.Buffer.{Buffer}
+use Rattle.wf_recv_peer.specs.Buffer.{Buffer}
 use Rattle.wf_uplink.specs.Reordering.{Reordering, Stored}
 use Rattle.wf_uplink.specs.Standing.{reordering_of_buffer}
 use Rattle.wf_uplink.proofs.Standing.{no_more}

@@ -1,7 +1,7 @@
 use Rattle.std.proofs.Common.{◌-◌, ◌%◌, ◌∙◌, ◌++◌, ◌∷◌, [], length, map, refl, ap, ap₂, sym, subst, arith, append_assoc, length-append}
 use Rattle.wf_uplink.specs.declared.items.UpItem.TheVariants.{Gap}
 use Rattle.wf_uplink.specs.Reordering.{Reordering}
-use Rattle.wf_recv_agreement.specs.Buffer.{request_outcome}
+use Rattle.wf_recv_peer.specs.Buffer.{request_outcome}
 use Rattle.wf_uplink.specs.Shown.{item_of}
 use Rattle.wf_uplink.specs.Standing.{IsBufferFrom, frames_from, reordering_of_buffer}
 use Rattle.wf_uplink.proofs.Standing.{IsSkipped, skip}

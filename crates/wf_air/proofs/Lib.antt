@@ -1,0 +1,6 @@
+mod Ceilings
+mod Bounds
+mod Times
+mod Lengths
+mod Most
+mod Adding

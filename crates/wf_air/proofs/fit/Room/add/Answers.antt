@@ -1,0 +1,64 @@
+use Rattle.std.proofs.Common.{◌≡◌, ap, subst, ℕ, ◌+◌, ◌<◌, ◌≤◌, refl, arith}
+use Rattle.wf_def_air.specs.Fit.{overhead_octets, subframe_octets, padded}
+use Rattle.wf_air.specs.Rooms.{RoomValue}
+use Rattle.wf_air.proofs.Adding.{few, alone, refused_full, refused_long, refused_late, taken, stands_after}
+use Rattle.wf_air.proofs.fit.Room.add.Goals as goal
+use Rattle.wf_air.proofs.fit.Room.add.Goals.{then-self-via-then-self, then-self-via-else-self+then-octets-self, then-self-via-else-self+else-octets-self+then-data_time-self}
+
+pub data_time-requires : goal.data_time-requires
+data_time-requires c =
+    few _ _ c.self.view_is c.self.invariant c.args.len _ (omega arith) c.if-octets-self.false
+
+pub returns-then-self-clause-exact : goal.returns-then-self-clause-exact
+returns-then-self-clause-exact c = λ lens stands.
+    let octets_is : c.next_multiple_of.result + overhead_octets + c.from.result
+    ≡ padded c.self.inside.octets + subframe_octets c.args.len = omega arith in
+    elim c.then-self.branch [
+      | then-self-via-then-self w ↦
+          refused_full _ _ c.self.view_is c.self.invariant c.args.len _ octets_is lens stands w.if-self.true
+      | then-self-via-else-self+then-octets-self w ↦
+          refused_long _ _ c.self.view_is c.self.invariant c.args.len _ octets_is lens stands
+          w.if-octets-self.true
+      | then-self-via-else-self+else-octets-self+then-data_time-self w ↦
+          refused_late _ _ c.self.view_is c.self.invariant c.args.len _ octets_is lens stands
+          (subst (λ (n : ℕ). c.self.inside.cap < n) w.data_time.ensures.exact w.if-data_time-self.true)
+    ]
+
+pub returns-then-self-clause-first : goal.returns-then-self-clause-first
+returns-then-self-clause-first c = λ none.
+    let octets_is : c.next_multiple_of.result + overhead_octets + c.from.result
+    ≡ padded c.self.inside.octets + subframe_octets c.args.len = omega arith in
+    let short = alone _ _ c.self.view_is c.self.invariant c.args.len _ octets_is none c.requires.1 in
+    elim c.then-self.branch [
+      | then-self-via-then-self w ↦
+          absurd (omega (
+            arith,
+            w.if-self.true,
+            c.self.invariant.agg_in,
+            ap (λ (v : RoomValue). v.count) c.self.view_is,
+            none,
+          ))
+      | then-self-via-else-self+then-octets-self w ↦
+          absurd (omega (arith, w.if-octets-self.true, short.0, short.1))
+      | then-self-via-else-self+else-octets-self+then-data_time-self w ↦
+          absurd (omega (
+            arith,
+            w.if-data_time-self.true,
+            w.data_time.ensures.single short.0,
+            c.self.invariant.cap_in,
+          ))
+    ]
+
+pub returns-clause-exact : goal.returns-clause-exact
+returns-clause-exact c = λ lens stands.
+    let octets_is : c.next_multiple_of.result + overhead_octets + c.from.result
+    ≡ padded c.self.inside.octets + subframe_octets c.args.len = omega arith in
+    taken _ _ c.self.view_is c.self.invariant c.args.len _ octets_is lens stands c.if-self.false
+    c.if-octets-self.false
+    (subst (λ (n : ℕ). n ≤ c.self.inside.cap) c.data_time.ensures.exact c.if-data_time-self.false)
+
+pub returns-clause-taken : goal.returns-clause-taken
+returns-clause-taken c = λ lens stands _.
+    let octets_is : c.next_multiple_of.result + overhead_octets + c.from.result
+    ≡ padded c.self.inside.octets + subframe_octets c.args.len = omega arith in
+    stands_after _ _ c.self.view_is c.self.invariant c.args.len _ octets_is lens stands _ refl refl

@@ -1,0 +1,29 @@
+-- How the fields of a `Room` stand for its value.
+use Rattle.std.specs.Prelude.{◌≡◌, ◌≤◌}
+use Rattle.wf_def_air.specs.Airtime.{data_time}
+use Rattle.wf_def_air.specs.Fit.{most_octets}
+use Rattle.wf_air.specs.Rooms.{RoomValue}
+use Rattle.wf_air.specs.declared.fit.Room.TheInside.{Inside}
+
+abbrev pub value_of : Inside → RoomValue
+value_of r = record {
+  rate = r.rate;
+  exponent = r.exponent;
+  agg = r.agg;
+  cap = r.cap;
+  wide = r.wide;
+  count =
+      r.count;
+  octets = r.octets;
+}
+
+-- what it has fits
+pub record IsRoom (r : Inside) : Type 0 where
+  pub exponent_in : r.exponent ≤ 3
+  pub agg_in : 1 ≤ r.agg
+  pub cap_in : 3000 ≤ r.cap
+  pub limit : r.most_octets ≡ most_octets r.rate r.exponent
+  pub count_in : r.count ≤ r.agg
+  pub octets_in : r.octets ≤ most_octets r.rate r.exponent
+  pub empty : r.count ≡ 0 → r.octets ≡ 0
+  pub timely : 1 ≤ r.count → data_time r.rate r.octets ≤ r.cap

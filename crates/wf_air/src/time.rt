@@ -1,0 +1,511 @@
+//! Which rates there are, and how long transmissions take, at 5 GHz: data by HT, mixed format (IEEE
+//! 802.11-2012, clause 20), by VHT to one station (802.11-2016, clause 21) or by HE to one station
+//! (802.11ax-2021, clause 27), with convolutional codes; control frames by OFDM at 24 Mbit/s.
+//! Durations are whole microseconds but where a name says tenths, lengths are octets.
+
+ghost use Rattle.std.specs.Prelude.{◌≡◌, ◌+◌, ◌/◌, ◌==◌, ◌≤◌, ◌<◌, if◌then◌else◌, true, false, IfOk, IfErr};
+ghost use Rattle.wf_def_lists.specs.Table.{has};
+ghost use Rattle.wf_def_air.specs.Fit.{least_exponent};
+ghost use Rattle.wf_def_air.specs.Airtime.{Ht, Vht, He, IsRate, is_rate, lowest_rate, carriers_of_312, carriers_of_78, vht_encoders, is_wide_width, are_streams, streams_left_out, streams, modulation, carriers, bits, symbol_tenths, kbps, encoders, preamble_tenths, data_time, answer_time, longest_answer, data_charge, request_charge};
+ghost use Rattle.wf_air.specs.Rates.{rate_of, unit_tenths, timing_of, least_kbps, most_kbps, longest_aggregate, longest_single, longest_time, longest_single_time};
+
+use std::marker::Model;
+use thiserror::Error;
+
+/// The greatest MCS of HT with two spatial streams (20.6), of VHT (21.5) and of HE (27.5).
+const GREATEST_HT_MCS: u8 = 15;
+
+const GREATEST_VHT_MCS: u8 = 9;
+
+const GREATEST_HE_MCS: u8 = 11;
+
+/// The most spatial streams of VHT and HE to one station.
+const GREATEST_STREAMS: u8 = 8;
+
+/// Data bits of twelve carriers by modulation and code, from BPSK at 1/2 to 1024-QAM at 5/6 (20.6,
+/// 21.5, 27.5).
+const BITS_OF_TWELVE: [u32; 12] = [6, 12, 18, 24, 36, 48, 54, 60, 72, 80, 90, 100];
+
+/// The data bits that one encoder of VHT takes at most in a symbol (21.5).
+const ENCODER_BITS: u32 = 2160;
+
+/// The SERVICE field, and the tail of each encoder, in bits (18.4.3, 20.4.3).
+const SERVICE_BITS: u32 = 16;
+
+const TAIL_BITS: u32 = 6;
+
+/// A symbol of HT and VHT with the short and with the long guard interval, in tenths of a
+/// microsecond.
+const SHORT_SYMBOL: u32 = 36;
+
+const LONG_SYMBOL: u32 = 40;
+
+/// A symbol of HE without its guard interval, in tenths of a microsecond.
+const HE_SYMBOL: u32 = 128;
+
+/// The tenths in a microsecond.
+const TENTHS: u32 = 10;
+
+/// The preamble up to its long training fields, in tenths of a microsecond: of HT (20.3.7); of VHT
+/// with VHT-SIG-B behind them (21.3.2), and of HE.
+const HT_PREAMBLE: u32 = 320;
+
+const LONG_PREAMBLE: u32 = 360;
+
+/// A long training field of HT and VHT, in tenths of a microsecond.
+const TRAINING: u32 = 40;
+
+/// One of HE without its guard interval, in tenths of a microsecond: the 2x field, and the 4x field
+/// that goes with the guard interval of 3200 ns.
+const SHORT_HE_TRAINING: u32 = 64;
+
+const LONG_HE_TRAINING: u32 = 128;
+
+/// How many long training fields there are for 1, 2 .. 8 spatial streams.
+const TRAINING_FIELDS: [u32; 8] = [1, 2, 4, 4, 6, 6, 8, 8];
+
+/// The OFDM preamble and SIGNAL field of a control frame, in microseconds (18.4.3).
+const CONTROL_PREAMBLE_TIME: u32 = 20;
+
+/// An OFDM symbol, in microseconds (18.4.3). It has 96 data bits at 24 Mbit/s (18.3.2.3).
+const CONTROL_SYMBOL_TIME: u32 = 4;
+
+/// How long a BlockAckReq takes, in microseconds: its 24 octets with the check sequence (8.3.1.8),
+/// the SERVICE field and a tail are 214 bits, in three symbols.
+const REQUEST_TIME: u32 = CONTROL_PREAMBLE_TIME + 3 * CONTROL_SYMBOL_TIME;
+
+/// How long a BlockAck takes, in microseconds: its 32 octets with the check sequence (8.3.1.9) make
+/// 278 bits, in three symbols.
+const ANSWER_TIME: u32 = CONTROL_PREAMBLE_TIME + 3 * CONTROL_SYMBOL_TIME;
+
+/// How long a wide session's BlockAck takes, in microseconds: this project's own, whose bitmap has
+/// 32 octets, is 56 octets, which make 470 bits, in five symbols.
+const WIDE_ANSWER_TIME: u32 = CONTROL_PREAMBLE_TIME + 5 * CONTROL_SYMBOL_TIME;
+
+/// The pause between a frame and its answer at 5 GHz, in microseconds (18.4.4).
+const SIFS: u32 = 16;
+
+/// By what data is sent, with what each says.
+#[derive(Clone, Copy, Debug, PartialEq, Eq)]
+enum Format {
+    Ht {
+        mcs: u8,
+        mhz: u8,
+        short: bool,
+    },
+    Vht {
+        mcs: u8,
+        mhz: u8,
+        short: bool,
+        streams: u8,
+    },
+    He {
+        mcs: u8,
+        mhz: u8,
+        guard: u16,
+        streams: u8,
+    },
+}
+
+/// What a rate's durations are made of, worked out once.
+#[derive(Clone, Copy, Debug, PartialEq, Eq)]
+struct Timing {
+    /// The data bits of a symbol; a fraction falls away.
+    bits: u32,
+    /// The SERVICE field and the tail of each encoder, in bits.
+    service_and_tails: u32,
+    /// A symbol with its guard interval, in tenths of a microsecond.
+    symbol: u32,
+    /// The preamble, in tenths of a microsecond.
+    preamble: u32,
+    /// Of what the payload's time is a whole number, in tenths of a microsecond: of symbols of the
+    /// long guard interval of HT and VHT, of tenths of HE.
+    unit: u32,
+    /// The data rate in kbit/s, rounded down.
+    kbps: u32,
+}
+
+/// A rate of HT with one or two spatial streams, or one of VHT or HE with one to eight.
+#[derive(Clone, Copy, Debug, PartialEq, Eq)]
+pub struct Rate {
+    format: Format,
+    timing: Timing,
+}
+
+impl Model for Rate {
+    ghost use Rattle.std.specs.Prelude.{◌≡◌};
+    ghost use Rattle.std.proofs.Common.{sym};
+    ghost use Rattle.wf_def_air.specs.Airtime.{Rate as RateValue, IsRate};
+    ghost use Rattle.wf_air.specs.Rates.{rate_of, format_of, same_format, timing_of};
+
+    ghost Value = { RateValue };
+
+    ghost view = { λ r. rate_of r.format };
+
+    // the timing is that of the format
+    ghost invariant = { λ r. IsRate (rate_of r.format) × (r.timing ≡ timing_of (rate_of r.format)) };
+
+    ghost inverse = { λ v. record { format = format_of v; timing = timing_of v } };
+
+    ghost inverse_ok = { λ r h i. record { format = same_format r.format i; timing = sym h.1 i } };
+}
+
+/// There is no such rate: an MCS above the format's greatest, a channel width or a guard interval
+/// that the format has not, spatial streams that are not 1 to 8, or one of the ten combinations
+/// that VHT leaves out.
+#[derive(Clone, Copy, Debug, PartialEq, Eq, Error)]
+#[error("there is no such rate")]
+pub struct BadRate;
+
+// Whether a channel of VHT or HE may be so wide, in MHz.
+fn is_wide_width(mhz: u8) -> bool
+    ensures { result ≡ is_wide_width mhz }
+{
+    matches!(mhz, 20 | 40 | 80 | 160)
+}
+
+// Whether there may be so many spatial streams of VHT or HE.
+fn are_streams(streams: u8) -> bool
+    ensures { result ≡ are_streams streams }
+{
+    1 <= streams && streams <= GREATEST_STREAMS
+}
+
+// Whether VHT leaves out this MCS on this width with so many streams (21.5).
+fn is_left_out(mcs: u8, mhz: u8, streams: u8) -> bool
+    ensures { result ≡ has (streams_left_out mcs mhz) streams }
+{
+    match (mcs, mhz) {
+        (9, 20) => matches!(streams, 1 | 2 | 4 | 5 | 7 | 8),
+        (6, 80) => matches!(streams, 3 | 7),
+        (9, 80) => streams == 6,
+        (9, 160) => streams == 3,
+        _ => false,
+    }
+}
+
+// The data carriers of HT and VHT on a width in MHz.
+fn carriers_of_312(mhz: u8) -> u32
+    ensures exact { result ≡ carriers_of_312 mhz }
+    ensures most { result ≤ 1960 }
+{
+    match mhz {
+        40 => 108,
+        80 => 234,
+        160 => 468,
+        _ => 52,
+    }
+}
+
+// The data carriers of HE on a width in MHz.
+fn carriers_of_78(mhz: u8) -> u32
+    ensures exact { result ≡ carriers_of_78 mhz }
+    ensures most { result ≤ 1960 }
+{
+    match mhz {
+        40 => 468,
+        80 => 980,
+        160 => 1960,
+        _ => 234,
+    }
+}
+
+// The encoders of a rate of VHT with so many data bits in a symbol (21.5).
+#[tactic(auto, using(crate::proofs::Ceilings::same_ceiling))]
+fn vht_encoders(mcs: u8, mhz: u8, streams: u8, bits: u32) -> u32
+    ensures { result ≡ vht_encoders mcs mhz streams bits }
+{
+    match (mhz, streams, mcs) {
+        (80, 7, 2) => 3,
+        (80, 7, 7) | (80, 7, 8) | (80, 8, 7) | (160, 4, 7) | (160, 7, 4) => 6,
+        (160, 5, 8) | (160, 6, 7) | (160, 8, 5) => 8,
+        (160, 7, 7) => 9,
+        (160, 7, 8) | (160, 7, 9) | (160, 8, 8) => 12,
+        _ => bits.div_ceil(ENCODER_BITS),
+    }
+}
+
+// A long training field of HE by the guard interval in nanoseconds, in tenths of a microsecond.
+fn he_training(guard: u16) -> u32
+    requires { guard ≤ 3200 }
+    ensures exact { result ≡ (if guard == 3200 then 128 else 64) + guard / 100 }
+    ensures most { result ≤ 160 }
+{
+    let field = if guard == 3200 {
+        LONG_HE_TRAINING
+    } else {
+        SHORT_HE_TRAINING
+    };
+    field + u32::from(guard / 100)
+}
+
+impl Format {
+    // Spatial streams.
+    fn streams(self) -> u32
+        requires { IsRate (rate_of self) }
+        ensures exact { result ≡ streams (rate_of self) }
+        ensures least { 1 ≤ result }
+        ensures most { result ≤ 8 }
+    {
+        match self {
+            Format::Ht { mcs, .. } => 1 + u32::from(mcs / 8),
+            Format::Vht { streams, .. } | Format::He { streams, .. } => u32::from(streams),
+        }
+    }
+
+    // The place of its modulation and code in the table.
+    fn modulation(self) -> usize
+        requires { IsRate (rate_of self) }
+        ensures exact { result ≡ modulation (rate_of self) }
+        ensures most { result < 12 }
+    {
+        match self {
+            Format::Ht { mcs, .. } => usize::from(mcs % 8),
+            Format::Vht { mcs, .. } | Format::He { mcs, .. } => usize::from(mcs),
+        }
+    }
+
+    // Data carriers.
+    fn carriers(self) -> u32
+        requires { IsRate (rate_of self) }
+        ensures exact { result ≡ carriers (rate_of self) }
+        ensures most { result ≤ 1960 }
+    {
+        match self {
+            Format::Ht { mhz, .. } | Format::Vht { mhz, .. } => carriers_of_312(mhz),
+            Format::He { mhz, .. } => carriers_of_78(mhz),
+        }
+    }
+
+    // Data bits in a symbol; a fraction falls away.
+    #[tactic(auto, using(crate::proofs::Bounds::bits_least))]
+    fn bits(self) -> u32
+        requires { IsRate (rate_of self) }
+        ensures exact { result ≡ bits (rate_of self) }
+        ensures least { 26 ≤ result }
+        ensures most { result ≤ 130666 }
+    {
+        self.carriers() * self.streams() * BITS_OF_TWELVE[self.modulation()] / 12
+    }
+
+    // Encoders, each with a tail.
+    fn encoders(self) -> u32
+        requires { IsRate (rate_of self) }
+        ensures exact { result ≡ encoders (rate_of self) }
+        ensures most { result ≤ 15 }
+    {
+        match self {
+            Format::Vht {
+                mcs,
+                mhz,
+                streams,
+                ..
+            } => vht_encoders(mcs, mhz, streams, self.bits()),
+            Format::Ht { .. } | Format::He { .. } => 1,
+        }
+    }
+
+    // A symbol's time with its guard interval, in tenths of a microsecond.
+    fn symbol(self) -> u32
+        requires { IsRate (rate_of self) }
+        ensures exact { result ≡ symbol_tenths (rate_of self) }
+        ensures least { 36 ≤ result }
+        ensures most { result ≤ 160 }
+    {
+        match self {
+            Format::Ht { short, .. } | Format::Vht { short, .. } => {
+                if short { SHORT_SYMBOL } else { LONG_SYMBOL }
+            }
+            Format::He { guard, .. } => HE_SYMBOL + u32::from(guard / 100),
+        }
+    }
+
+    // The preamble's time, in tenths of a microsecond.
+    fn preamble(self) -> u32
+        requires { IsRate (rate_of self) }
+        ensures exact { result ≡ preamble_tenths (rate_of self) }
+        ensures most { result ≤ 1640 }
+    {
+        let fields = TRAINING_FIELDS[self.streams() as usize - 1];
+        match self {
+            Format::Ht { .. } => HT_PREAMBLE + TRAINING * fields,
+            Format::Vht { .. } => LONG_PREAMBLE + TRAINING * fields,
+            Format::He { guard, .. } => LONG_PREAMBLE + he_training(guard) * fields,
+        }
+    }
+
+    // Of what the payload's time is a whole number, in tenths of a microsecond.
+    fn unit(self) -> u32
+        ensures { result ≡ unit_tenths (rate_of self) }
+    {
+        match self {
+            Format::Ht { .. } | Format::Vht { .. } => LONG_SYMBOL,
+            Format::He { .. } => 1,
+        }
+    }
+
+    // What its durations are made of.
+    fn timing(self) -> Timing
+        requires { IsRate (rate_of self) }
+        ensures { result ≡ timing_of (rate_of self) }
+    {
+        let bits = self.bits();
+        let symbol = self.symbol();
+        Timing {
+            bits,
+            service_and_tails: SERVICE_BITS + TAIL_BITS * self.encoders(),
+            symbol,
+            preamble: self.preamble(),
+            unit: self.unit(),
+            kbps: 10_000 * bits / symbol,
+        }
+    }
+}
+
+impl Rate {
+    // The rate of a format with its numbers.
+    fn of(format: Format) -> Rate
+        requires { IsRate (rate_of format) }
+        ensures { result ≡ rate_of format }
+    {
+        Rate {
+            format,
+            timing: format.timing(),
+        }
+    }
+
+    /// The rate of HT of an MCS, 0 to 15, a channel width of 20 or 40 MHz and a short (400 ns) or
+    /// long (800 ns) guard interval (20.6).
+    pub fn ht(mcs: u8, mhz: u8, short: bool) -> Result<Rate, BadRate>
+        ensures made { IfOk result (λ r. r ≡ Ht mcs mhz short) }
+        ensures within { IfOk result (λ _. is_rate (Ht mcs mhz short) ≡ true) }
+        ensures refused { IfErr result (λ _. is_rate (Ht mcs mhz short) ≡ false) }
+    {
+        if mcs > GREATEST_HT_MCS || (mhz != 20 && mhz != 40) {
+            return Err(BadRate);
+        }
+        Ok(Rate::of(Format::Ht { mcs, mhz, short }))
+    }
+
+    /// The rate of VHT of an MCS, 0 to 9, a channel width of 20, 40, 80 or 160 MHz, a short (400
+    /// ns) or long (800 ns) guard interval and 1 to 8 spatial streams; there is none of ten
+    /// combinations (21.5).
+    pub fn vht(mcs: u8, mhz: u8, short: bool, streams: u8) -> Result<Rate, BadRate>
+        ensures made { IfOk result (λ r. r ≡ Vht mcs mhz short streams) }
+        ensures within { IfOk result (λ _. is_rate (Vht mcs mhz short streams) ≡ true) }
+        ensures refused { IfErr result (λ _. is_rate (Vht mcs mhz short streams) ≡ false) }
+    {
+        if mcs > GREATEST_VHT_MCS
+            || !is_wide_width(mhz)
+            || !are_streams(streams)
+            || is_left_out(mcs, mhz, streams)
+        {
+            return Err(BadRate);
+        }
+        Ok(Rate::of(Format::Vht {
+            mcs,
+            mhz,
+            short,
+            streams,
+        }))
+    }
+
+    /// The rate of HE of an MCS, 0 to 11, a channel width of 20, 40, 80 or 160 MHz, a guard
+    /// interval of 800, 1600 or 3200 ns and 1 to 8 spatial streams (27.5).
+    pub fn he(mcs: u8, mhz: u8, guard: u16, streams: u8) -> Result<Rate, BadRate>
+        ensures made { IfOk result (λ r. r ≡ He mcs mhz guard streams) }
+        ensures within { IfOk result (λ _. is_rate (He mcs mhz guard streams) ≡ true) }
+        ensures refused { IfErr result (λ _. is_rate (He mcs mhz guard streams) ≡ false) }
+    {
+        if mcs > GREATEST_HE_MCS
+            || !is_wide_width(mhz)
+            || !are_streams(streams)
+            || !matches!(guard, 800 | 1600 | 3200)
+        {
+            return Err(BadRate);
+        }
+        Ok(Rate::of(Format::He {
+            mcs,
+            mhz,
+            guard,
+            streams,
+        }))
+    }
+
+    /// The most robust rate: HT MCS 0, 20 MHz, long guard interval.
+    pub fn lowest() -> Rate
+        ensures { result ≡ lowest_rate }
+    {
+        Rate::of(Format::Ht {
+            mcs: 0,
+            mhz: 20,
+            short: false,
+        })
+    }
+
+    /// To what a receiver's maximum A-MPDU length exponent is added: 13 of HT (8.4.2.58.3), and 17
+    /// of VHT and HE, of which a receiver states 0 to 7 (that 0 to 3 stand for 4 to 7 there is this
+    /// project's own rule).
+    pub fn least_exponent(self) -> u8
+        ensures exact { result ≡ least_exponent self }
+        ensures least { 13 ≤ result }
+        ensures most { result ≤ 17 }
+    {
+        match self.format {
+            Format::Ht { .. } => 13,
+            Format::Vht { .. } | Format::He { .. } => 17,
+        }
+    }
+
+    /// The data rate in kbit/s, rounded down. Below 12,000 is MCS 0 on 20 MHz with one stream of
+    /// each format.
+    #[tactic(auto, using(crate::proofs::Bounds::kbps_least, crate::proofs::Bounds::kbps_most))]
+    pub fn kbps(self) -> u32
+        ensures exact { result ≡ kbps self }
+        ensures least { least_kbps ≤ result }
+        ensures most { result ≤ most_kbps }
+    {
+        self.timing.kbps
+    }
+
+    /// How long an aggregate of this many octets takes: preamble and payload (TXTIME: 20.4.3,
+    /// 21.4.3, 27.4.3). One of HE is rounded up to whole microseconds. An aggregate of one frame
+    /// takes at most 3000 microseconds.
+    pub fn data_time(self, octets: u32) -> u32
+        requires { octets ≤ longest_aggregate }
+        ensures exact { result ≡ data_time self octets }
+        ensures most { result ≤ longest_time }
+        ensures single { octets ≤ longest_single → result ≤ longest_single_time }
+    {
+        let timing = self.timing;
+        let symbols = (8 * octets + timing.service_and_tails).div_ceil(timing.bits);
+        let payload = (timing.symbol * symbols).div_ceil(timing.unit) * timing.unit;
+        (timing.preamble + payload).div_ceil(TENTHS)
+    }
+
+    /// What a data exchange is charged, in microseconds: its data time, SIFS and the BlockAck,
+    /// which takes longer in a wide session, one whose window is above 64.
+    pub fn data_charge(self, octets: u32, wide: bool) -> u32
+        requires { octets ≤ longest_aggregate }
+        ensures exact { result ≡ data_charge self octets wide }
+        ensures most { result ≤ data_time self octets + longest_answer }
+    {
+        self.data_time(octets) + SIFS + answer_time(wide)
+    }
+}
+
+// How long a BlockAck takes.
+fn answer_time(wide: bool) -> u32
+    ensures exact { result ≡ answer_time wide }
+    ensures most { result ≤ answer_time true }
+{
+    if wide { WIDE_ANSWER_TIME } else { ANSWER_TIME }
+}
+
+/// What an exchange of a BlockAckReq is charged, in microseconds: the request, SIFS and its
+/// BlockAck.
+pub fn request_charge(wide: bool) -> u32
+    ensures { result ≡ request_charge wide }
+{
+    REQUEST_TIME + SIFS + answer_time(wide)
+}

@@ -1,3 +1,0 @@
-mod Lengths
-mod Most
-mod Adding

@@ -1,3 +1,0 @@
-mod Ceilings
-mod Bounds
-mod Times

@@ -1,0 +1,181 @@
+//! The record: a cell and the entries of its history.
+
+ghost use Rattle.std.specs.Prelude.{◌≡◌, ◌↔◌, ◌<◌, ◌≤◌, ◌||◌, ℕ, true, [], Err, Some, None, is_some, IfOk, IfSome, length, slice_get};
+ghost use Rattle.wf_frame.specs.Answers.{reply_of};
+ghost use Rattle.wf_frame.specs.Frames.{FrameValue};
+ghost use Rattle.wf_frame.specs.Settings.{first_out_of_range};
+ghost use Rattle.wf_frame.specs.declared.classes.Fate.{Fate};
+ghost use Rattle.wf_frame.specs.declared.notes.Refusal.TheVariants.{HistoryFull};
+ghost use Rattle.wf_frame.specs.declared.notes.ReplyNote.TheVariants.{Reaped, Refused};
+ghost use Rattle.wf_frame.specs.declared.settings.Field.{Field};
+ghost use Rattle.wf_def_world.specs.Run.{by, world_of};
+ghost use Rattle.wf_def_world.specs.World.{opening};
+ghost use Rattle.wf_def_world.specs.Step.{step};
+ghost use Rattle.wf_law_runs.specs.Laws.{Laws};
+ghost use Rattle.wf_law_runs.specs.Lengths.{HasLengths};
+ghost use Rattle.wf_send_half_refines.specs.Half.{body_of};
+ghost use Rattle.wf_send_half_refines.specs.Standing.{StandsFor};
+ghost use Rattle.wf_send_half_refines.specs.Inside.{is_inside};
+ghost use Rattle.wf_path.specs.Addresses.{made_up};
+ghost use Rattle.wf_path.specs.Jobs.{bodies_after, changes_nothing, frame_of, frame_given_back, note_of};
+ghost use Rattle.wf_cell.specs.Bodies.{body_after};
+ghost use Rattle.wf_cell.specs.Cells.{is_received, room_in, with_entry};
+ghost use Rattle.wf_cell.specs.Rights.{IsRight};
+
+use crate::{Cell, Job, NewFault, Path};
+use std::alloc::{AllocError, Global};
+use std::marker::Model;
+use wf_frame::{Answer, Config, Note};
+use wf_queue_chain::Parcel;
+
+/// A cell, and all entries of its history in memory. A contract sees it as the cell; the type keeps that the
+/// entries are the cell's history. Only `new` and `of` take memory, and there is room for as many entries as
+/// the setting `calls` says.
+#[derive(Drop)]
+pub struct Record {
+    cell: Cell,
+    entries: Vec<(u32, Note)>,
+}
+
+impl Model for Record {
+    ghost use Rattle.std.specs.Prelude.{vec_capacity};
+    ghost use Rattle.wf_cell.specs.Cells.{CellValue};
+    ghost use Rattle.wf_cell.specs.Records.{IsRecord};
+
+    ghost Value = { CellValue };
+
+    ghost view = { λ r. r.cell };
+
+    ghost invariant = { λ r. IsRecord r.cell.past r.entries.items (vec_capacity r.entries) };
+}
+
+impl Record {
+    /// A record of these settings: no station is live, and no call was made. Refused as BadConfig where a
+    /// setting is out of its range, with the first such setting, or as NoMemory.
+    pub fn new(alloc: Global, config: Config) -> Result<Record, NewFault>
+        ensures bad { (f : Field) →
+            (result ≡ Err (NewFault.BadConfig f)) ↔ (first_out_of_range config ≡ Some f) }
+        ensures past { IfOk result (λ made. made.past ≡ record { config = config; history = [] }) }
+        ensures stands { IfOk result
+            (λ made. (bodies : ℕ → FrameValue) → StandsFor made.half (opening config) bodies) }
+    {
+        if let Some(field) = config.check() {
+            return Err(NewFault::BadConfig(field));
+        }
+        let record = Record::of(alloc, config)?;
+        Ok(record)
+    }
+
+    /// The same of settings that are in their ranges. Fails only for want of memory.
+    pub fn of(alloc: Global, config: Config) -> Result<Record, AllocError>
+        requires { first_out_of_range config ≡ None }
+        ensures past { IfOk result (λ made. made.past ≡ record { config = config; history = [] }) }
+        ensures stands { IfOk result
+            (λ made. (bodies : ℕ → FrameValue) → StandsFor made.half (opening config) bodies) }
+    {
+        let entries = Vec::with_capacity(alloc, config.calls as usize)?;
+        let cell = Cell::of(alloc, config)?;
+        Ok(Record { cell, entries })
+    }
+
+    /// Makes a call and answers it. The call is one entry of the history, refused or not, while the history
+    /// has fewer entries than the setting `calls`; from then on each call is refused as HistoryFull and is no
+    /// entry.
+    pub fn step(&mut self, caller: u32, job: Job, answer: &mut Answer) -> Option<Parcel>
+        // where there is room, the history has the call, and the answer is the machine's
+        ensures past { 0 < room_in self.old.past →
+            self.new.past ≡ with_entry (by caller (note_of job)) self.old.past }
+        ensures reply { 0 < room_in self.old.past →
+            reply_of answer.new ≡ (step (world_of self.old.past) (note_of job)).reply }
+
+        // the frame that comes back is the one that was refused, or the one that was reaped, as it was
+        // accepted but for its fate
+        ensures parcel { 0 < room_in self.old.past → (bodies : ℕ → FrameValue) →
+            StandsFor self.old.half (world_of self.old.past) bodies →
+            result ≡ frame_given_back bodies job (reply_of answer.new) }
+        ensures stands { 0 < room_in self.old.past → (bodies : ℕ → FrameValue) →
+            StandsFor self.old.half (world_of self.old.past) bodies →
+            StandsFor self.new.half (world_of self.new.past)
+            (bodies_after self.old.half job (reply_of answer.new) bodies) }
+
+        // an accepted frame brings the body of its id, and a reaped one takes it out; every other body stays,
+        // id by id
+        ensures bodies { 0 < room_in self.old.past → (id : ℕ) →
+            body_of self.new.half id ≡ body_after self.old.half (reply_of answer.new) job id }
+        ensures reaped { 0 < room_in self.old.past → (id : ℕ) (fate : Fate) →
+            reply_of answer.new ≡ Reaped id fate →
+            IfSome result (λ f. body_of self.old.half id ≡ Some f.body) }
+
+        // a call that is refused leaves the path as it is, and so does one that only receivers hear
+        ensures path_kept { (is_received job || changes_nothing (reply_of answer.new)) ≡ true →
+            self.new.half ≡ self.old.half }
+
+        // so the answer is right, as a gate asks it of a machine
+        ensures right { 0 < room_in self.old.past →
+            IsRight self.old.past.config self.old.past.history job (reply_of answer.new) result }
+
+        // where there is none, nothing changes
+        ensures full { room_in self.old.past ≡ 0 → reply_of answer.new ≡ Refused HistoryFull }
+        ensures unchanged { room_in self.old.past ≡ 0 → self.new ≡ self.old }
+        ensures handed_back { room_in self.old.past ≡ 0 → result ≡ frame_of job }
+
+        // all laws of runs hold of what was done, in which each frame has 1 to 2304 octets, as some laws ask
+        ensures laws { Laws self.new.past.config self.new.past.history }
+        ensures lengths { HasLengths self.new.past.history }
+    {
+        if self.room() > 0 {
+            self.entries.push_reserved((caller, job.note()));
+        }
+        self.cell.step(caller, job, answer)
+    }
+
+    /// How many entries the history has.
+    pub fn len(&self) -> u64
+        ensures count { result ≡ length self.now.past.history }
+        ensures most { result ≤ self.now.past.config.calls }
+    {
+        self.cell.len()
+    }
+
+    /// An entry of the history, counted from 0: its caller and its call.
+    pub fn entry(&self, i: u64) -> (u32, Note)
+        requires { i < length self.now.past.history }
+        ensures { slice_get self.now.past.history i ≡ Some result }
+    {
+        self.entries[i as usize]
+    }
+
+    /// How many entries the history may still take.
+    pub fn room(&self) -> u64
+        ensures { result ≡ room_in self.now.past }
+    {
+        self.cell.room()
+    }
+
+    /// The settings.
+    pub fn config(&self) -> Config
+        ensures { result ≡ self.now.past.config }
+    {
+        self.cell.config()
+    }
+
+    /// The cell, for what reads no entry.
+    pub fn cell(&self) -> &Cell
+        ensures { result.now ≡ self.now }
+    {
+        &self.cell
+    }
+
+    /// The transmit path. It stands for the world after the history, and has a body for each frame that was
+    /// accepted and is not reaped: the held ones and those on the finished list. Its addresses are made up.
+    pub fn path(&self) -> &Path
+        ensures value { result.now.half ≡ self.now.half }
+        ensures addresses { result.now.addresses ≡ made_up }
+        ensures stands { (bodies : ℕ → FrameValue) × StandsFor self.now.half (world_of self.now.past) bodies }
+        ensures inside { (id : ℕ) →
+            is_some (body_of self.now.half id) ≡ is_inside (world_of self.now.past) id }
+        ensures lengths { HasLengths self.now.past.history }
+    {
+        self.cell.path()
+    }
+}

@@ -1,6 +1,0 @@
-mod Names
-pub mod Openings
-pub mod Prints
-mod Sendings
-mod Walks
-mod Words

@@ -1,3 +1,0 @@
-pub mod Inverse
-pub mod Offsets
-pub mod View

@@ -1,2 +1,0 @@
-mod Checked
-pub mod Written

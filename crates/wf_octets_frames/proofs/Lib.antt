@@ -1,0 +1,5 @@
+pub mod HeaderWritten
+mod BlockChecked
+pub mod BlockWritten
+mod Elements
+mod Maps

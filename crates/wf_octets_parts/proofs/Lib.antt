@@ -1,0 +1,4 @@
+mod Distances
+pub mod Sets
+pub mod Words
+pub mod Places

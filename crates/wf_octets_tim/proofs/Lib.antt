@@ -1,2 +1,0 @@
-mod Elements
-mod Maps

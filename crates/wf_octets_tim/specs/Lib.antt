@@ -1,3 +1,0 @@
-pub mod Sleepers
-pub mod Tim
-pub mod TimFaults

@@ -1,2 +1,0 @@
-mod Lanes
-mod Begins

@@ -1,4 +1,0 @@
-pub mod Takes
-pub mod Looks
-pub mod Params
-pub mod State

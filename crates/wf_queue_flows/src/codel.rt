@@ -1,0 +1,340 @@
+//! CoDel (RFC 8289) over any lane of frames, with MAXPACKET 2304 octets. Times are microseconds, lengths
+//! octets.
+
+ghost use Rattle.std.specs.Prelude.{◌≡◌, ℕ, List, ◌+◌, ◌*◌, ◌/◌, ◌<◌, ◌≤◌, ◌↔◌, ◌^◌, [], ◌∷◌, ◌++◌, IsTrue, IsNone, MatchOption, map, take, if◌then◌else◌, is_some};
+ghost use Rattle.std.specs.Option.{option_map};
+ghost use Rattle.wf_def_codel.specs.Codel.{IsGreatestStep, step_of, octets, new_codel, dequeue, Item as Seen, drops_dropping, state_dropping, drops_plain, state_plain, drops, state_after};
+ghost use Rattle.wf_queue_flows.specs.CodelTakes.{Takes};
+ghost use Rattle.wf_queue_flows.specs.CodelLooks.{look_by, count_again, started};
+ghost use Rattle.wf_def_codel.specs.Parameters.{params_at};
+ghost use Rattle.wf_queue_flows.specs.CodelParams.{params_of};
+
+use std::marker::Model;
+use wf_air::time::Rate;
+
+/// The greatest body of a frame, in octets: where no more is left, nothing is dropped (MAXPACKET).
+const MAX_PACKET: u64 = 2304;
+
+/// A station at a rate of fewer kbit/s is slow.
+const SLOW_BELOW: u32 = 12_000;
+
+/// The target and the interval of a station that is not slow, in microseconds.
+const USUAL_TARGET: u32 = 20_000;
+
+const USUAL_INTERVAL: u32 = 100_000;
+
+/// The target and the interval of a slow station, in microseconds.
+const SLOW_TARGET: u32 = 50_000;
+
+const SLOW_INTERVAL: u32 = 300_000;
+
+/// For how many intervals after the time of the last drop dropping begins again at the rate that it had (RFC
+/// 8289, 5.5).
+const RECENT_INTERVALS: u64 = 16;
+
+/// How much later the next drop is due: the greatest d with `d*d*count <= interval*interval`, the interval
+/// over the root of the count, rounded down (control_law of RFC 8289, 5.6).
+pub fn root_step(interval: u32, count: u32) -> u64
+    requires { 1 ≤ count }
+    ensures greatest { IsGreatestStep interval count result }
+    ensures law { result ≡ step_of interval count }
+    ensures bound { result < 2 ^ 32 }
+{
+    (interval as u64 * interval as u64 / count as u64).isqrt()
+}
+
+/// What CoDel looks at: when a frame was queued, and how many octets stand behind it.
+#[derive(Clone, Copy, Debug, PartialEq, Eq)]
+pub struct Sight {
+    pub stamp: u64,
+    pub left: u64,
+}
+
+/// A queue of frames in order, and a place for those that are thrown away.
+pub trait Lane {
+    /// A frame as the lane holds it.
+    type Item;
+
+    // What CoDel sees of an item: its id, its stamp and its length.
+    ghost look: { Self.Item → Seen };
+
+    // An item as it stands once it is discarded.
+    ghost tossed: { Self.Item → Self.Item };
+
+    // The items still in the lane.
+    ghost rest: { Self → List Self.Item };
+
+    // The items that were discarded.
+    ghost thrown: { Self → List Self.Item };
+
+    // All else that the lane holds is the same.
+    ghost same: { Self → Self → Type 0 };
+
+    // How many items may still be discarded.
+    ghost spare: { Self → ℕ };
+
+    /// Takes the first item, where there is one; it may then be discarded.
+    fn pop(&mut self) -> Option<Self::Item>
+        ensures first { MatchOption result
+            ((rest self.old ≡ []) × (rest self.new ≡ []))
+            (λ x. rest self.old ≡ x ∷ rest self.new) }
+        ensures spare { spare self.new ≡ (if is_some result then spare self.old + 1 else spare self.old) }
+        ensures thrown { thrown self.new ≡ thrown self.old }
+        ensures same { same self.old self.new };
+
+    /// When the item was queued, and the octets of the items still in the lane.
+    fn sight(&self, item: &Self::Item) -> Sight
+        ensures stamp { result.stamp ≡ (look item.now).stamp }
+        ensures left { result.left ≡ octets (map look (rest self.now)) };
+
+    /// Throws an item away, last behind those thrown away before; one may be discarded for each that was
+    /// popped.
+    fn discard(&mut self, item: Self::Item)
+        requires { 1 ≤ spare self.old }
+        ensures rest { rest self.new ≡ rest self.old }
+        ensures spare { spare self.new + 1 ≡ spare self.old }
+        ensures thrown { thrown self.new ≡ thrown self.old ++ tossed item ∷ [] }
+        ensures same { same self.old self.new };
+
+    ghost same_refl: { (a : Self) → same a a };
+
+    ghost same_trans: { (a b c : Self) → same a b → same b c → same a c };
+
+    ghost tossed_look: { (x : Self.Item) → look (tossed x) ≡ look x };
+}
+
+/// How long a frame may wait (the target), and for how long frames have to wait longer before one is dropped
+/// (the interval).
+#[derive(Clone, Copy)]
+pub struct Params {
+    pub target: u32,
+    pub interval: u32,
+}
+
+impl Params {
+    /// The parameters of a station of this rate, in microseconds: 20,000 and 100,000, and 50,000 and 300,000
+    /// below 12,000 kbit/s.
+    pub fn of(rate: Rate) -> Params
+        ensures { params_of result ≡ params_at rate }
+    {
+        if rate.kbps() < SLOW_BELOW {
+            Params {
+                target: SLOW_TARGET,
+                interval: SLOW_INTERVAL,
+            }
+        } else {
+            Params {
+                target: USUAL_TARGET,
+                interval: USUAL_INTERVAL,
+            }
+        }
+    }
+}
+
+/// The state of CoDel on one lane.
+#[derive(Clone, Copy)]
+pub struct Codel {
+    first_above: u64,
+    drop_next: u64,
+    count: u32,
+    last_count: u32,
+    dropping: bool,
+}
+
+impl Model for Codel {
+    ghost use Rattle.wf_def_codel.specs.Codel.{Codel as State};
+
+    ghost Value = { State };
+
+    ghost use Rattle.wf_queue_flows.specs.CodelState.{codel_state_of, fields_of, CountIsPositive};
+
+    ghost view = { codel_state_of };
+
+    ghost invariant = { CountIsPositive };
+
+    ghost inverse = { fields_of };
+}
+
+// What a look makes of `first_above`, and whether it is ok.
+fn look(first_above: u64, now: u64, params: Params, sight: Sight) -> (u64, bool)
+    requires { now < 2 ^ 62 }
+    ensures above { result.0 ≡
+        (look_by (params_of params) now first_above sight.stamp sight.left).first_above }
+    ensures ok { result.1 ≡ (look_by (params_of params) now first_above sight.stamp sight.left).ok }
+{
+    if now.saturating_sub(sight.stamp) < params.target as u64 || sight.left <= MAX_PACKET {
+        return (0, false);
+    }
+    if first_above == 0 {
+        return (now + params.interval as u64, false);
+    }
+    (first_above, first_above <= now)
+}
+
+// The count with which dropping begins again.
+fn count_of_start(count: u32, last_count: u32, drop_next: u64, now: u64, params: Params) -> u32
+    ensures value { result ≡ count_again (params_of params) now count last_count drop_next }
+    ensures positive { 1 ≤ result }
+{
+    let delta = count.saturating_sub(last_count);
+    if delta > 1 && now.saturating_sub(drop_next) < RECENT_INTERVALS * params.interval as u64 {
+        return delta;
+    }
+    1
+}
+
+impl Codel {
+    /// The state of a lane that nothing was taken from.
+    pub fn new() -> Codel
+        ensures { result ≡ new_codel }
+    {
+        Codel {
+            first_above: 0,
+            drop_next: 0,
+            count: 0,
+            last_count: 0,
+            dropping: false,
+        }
+    }
+
+    /// Takes a frame from the lane: those before it that have waited too long are thrown away. `now` is the
+    /// clock, below 2^62. A lane with frames always gives one, since nothing is dropped where at most 2304
+    /// octets are left.
+    pub fn dequeue<L: Lane>(&mut self, now: u64, params: Params, lane: &mut L) -> Option<L::Item>
+        requires { now < 2 ^ 62 }
+        ensures taken { let queue = map L.look (L.rest lane.old) in
+            let dropped = drops (params_of params) now self.old queue in
+            Takes L.tossed (L.rest lane.old) (L.rest lane.new) (L.thrown lane.old)
+            (L.thrown lane.new) dropped result }
+        ensures state { self.new ≡ state_after (params_of params) now self.old
+            (map L.look (L.rest lane.old)) }
+        // the whole, as CoDel's definition has it
+        ensures seen { let queue = map L.look (L.rest lane.old) in
+            let dropped = drops (params_of params) now self.old queue in
+            dequeue (params_of params) now self.old queue ≡ record {
+              given = option_map L.look result;
+              dropped = map L.look (take dropped (L.rest lane.old));
+              rest = map L.look (L.rest lane.new);
+              state = self.new;
+            } }
+        ensures none { IsNone result ↔ (L.rest lane.old ≡ []) }
+        ensures same { L.same lane.old lane.new }
+        ensures spare { L.spare lane.new ≡ (if is_some result then L.spare lane.old + 1
+            else L.spare lane.old) }
+        ensures counted { IsTrue self.new.dropping → 1 ≤ self.new.count }
+    {
+        match lane.pop() {
+            None => {
+                self.first_above = 0;
+                self.dropping = false;
+                None
+            }
+            Some(first) => {
+                if self.dropping {
+                    self.keep_dropping(now, params, lane, first)
+                } else {
+                    self.begin(now, params, lane, first)
+                }
+            }
+        }
+    }
+
+    // The rest of a dequeue while dropping, whose look 0 is at `first`.
+    fn keep_dropping<L: Lane>(
+        &mut self,
+        now: u64,
+        params: Params,
+        lane: &mut L,
+        first: L::Item,
+    ) -> Option<L::Item>
+        requires time { now < 2 ^ 62 }
+        requires dropping { IsTrue self.old.dropping }
+        requires spare { 1 ≤ L.spare lane.old }
+        ensures taken { let queue = map L.look (first ∷ L.rest lane.old) in
+            let dropped = drops_dropping (params_of params) now self.old self.old.drop_next queue in
+            Takes L.tossed (first ∷ L.rest lane.old) (L.rest lane.new) (L.thrown lane.old)
+            (L.thrown lane.new) dropped result }
+        ensures state { let queue = map L.look (first ∷ L.rest lane.old) in
+            let dropped = drops_dropping (params_of params) now self.old self.old.drop_next queue in
+            self.new ≡ state_dropping (params_of params) now self.old self.old.drop_next queue dropped }
+        ensures same { L.same lane.old lane.new }
+        ensures spare { L.spare lane.new + (if is_some result then 0 else 1) ≡ L.spare lane.old }
+    {
+        let mut item = first;
+        let mut due = self.drop_next;
+        'looks: loop {
+            let (above, ok) = look(self.first_above, now, params, lane.sight(&item));
+            self.first_above = above;
+            if !ok {
+                self.dropping = false;
+                return Some(item);
+            }
+            self.drop_next = due;
+            if now < due {
+                return Some(item);
+            }
+            lane.discard(item);
+            self.count = self.count.saturating_add(1);
+            due += root_step(params.interval, self.count);
+            match lane.pop() {
+                None => {
+                    self.first_above = 0;
+                    self.dropping = false;
+                    return None;
+                }
+                Some(next) => item = next,
+            }
+        }
+    }
+
+    // The rest of a dequeue while not dropping, whose look 0 is at `first`.
+    fn begin<L: Lane>(
+        &mut self,
+        now: u64,
+        params: Params,
+        lane: &mut L,
+        first: L::Item,
+    ) -> Option<L::Item>
+        requires time { now < 2 ^ 62 }
+        requires spare { 1 ≤ L.spare lane.old }
+        ensures taken { let dropped = drops_plain (params_of params) now self.old
+            (map L.look (first ∷ L.rest lane.old)) in
+            Takes L.tossed (first ∷ L.rest lane.old) (L.rest lane.new) (L.thrown lane.old)
+            (L.thrown lane.new) dropped result }
+        ensures state { self.new ≡ state_plain (params_of params) now self.old
+            (map L.look (first ∷ L.rest lane.old)) }
+        ensures same { L.same lane.old lane.new }
+        ensures spare { L.spare lane.new + (if is_some result then 0 else 1) ≡ L.spare lane.old }
+    {
+        let (above, ok) = look(self.first_above, now, params, lane.sight(&first));
+        self.first_above = above;
+        if !ok {
+            return Some(first);
+        }
+        lane.discard(first);
+        match lane.pop() {
+            None => {
+                self.start(now, params, 0);
+                None
+            }
+            Some(second) => {
+                let (above, _) = look(above, now, params, lane.sight(&second));
+                self.start(now, params, above);
+                Some(second)
+            }
+        }
+    }
+
+    // Dropping begins after one drop.
+    fn start(&mut self, now: u64, params: Params, first_above: u64)
+        requires { now < 2 ^ 62 }
+        ensures { self.new ≡ started (params_of params) now self.old first_above }
+    {
+        let count = count_of_start(self.count, self.last_count, self.drop_next, now, params);
+        self.first_above = first_above;
+        self.drop_next = now + root_step(params.interval, count);
+        self.count = count;
+        self.last_count = count;
+        self.dropping = true;
+    }
+}

@@ -1,2 +1,0 @@
-mod Boards
-pub mod Places

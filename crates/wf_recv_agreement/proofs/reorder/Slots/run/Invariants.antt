@@ -1,6 +1,0 @@
-use Rattle.std.proofs.Common.{◌≡◌, ◌+◌, drop}
-use Rattle.wf_recv_agreement.specs.Buffer.{run_of}
-use Rattle.wf_recv_agreement.proofs.reorder.Slots.run.Given as goal
-
-abbrev pub invariant-loop-place : goal.invariant-loop-place
-invariant-loop-place l = l.place + run_of (drop l.place l.self.places) ≡ run_of l.self.places

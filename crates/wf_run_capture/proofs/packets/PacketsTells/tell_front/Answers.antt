@@ -1,5 +1,0 @@
-use Rattle.wf_io.proofs.FrontLaws.{front_partly}
-use Rattle.wf_run_capture.proofs.packets.PacketsTells.tell_front.Goals as goal
-
-pub returns-clause-front : goal.returns-clause-front
-returns-clause-front g c = front_partly _ _ _ c.write_head.ensures.prefix

@@ -1,0 +1,29 @@
+-- The capture of a trace's run is listed, packet by packet.
+use Rattle.std.proofs.Common.{◌≡◌, ℕ, ◌≤◌, List, [], length, Option, Some, None, true, refl, sym, subst}
+use Rattle.wf_frame.specs.declared.settings.Config.{Config}
+use Rattle.wf_trace.specs.Reading.{reading}
+use Rattle.wf_captures.specs.ListedPackets.{most_octets_read}
+use Rattle.wf_captures.specs.ListingLaw.{IsListed, capture_of_packets}
+use Rattle.wf_captures.proofs.Captures.{written_law}
+use Rattle.wf_captures.specs.Captures.{most_calls_timed}
+use Rattle.wf_captures.proofs.Listed.{run_listed}
+use Rattle.wf_law_trace.specs.Histories.{settings_among, history_among}
+use Rattle.wf_law_trace.proofs.Ranges.{reading_in, trace_laws}
+use Rattle.wf_run_replay.specs.Captured.{packets_with}
+use Rattle.wf_run_replay.specs.CaptureOutcome.{CaptureLaw}
+
+abbrev IsListedWith : Option Config → List ℕ → Type 0
+IsListedWith config input = length (history_among (reading true input).items) ≤ most_calls_timed →
+    length (capture_of_packets (packets_with config (history_among (reading true input).items)))
+    ≤ most_octets_read → IsListed (packets_with config (history_among (reading true input).items))
+
+pub capture_law : (input : List ℕ) → CaptureLaw input
+capture_law input = of (settings_among (reading true input).items) refl
+  where
+    of : (config : Option Config) → settings_among (reading true input).items ≡ config →
+        IsListedWith (settings_among (reading true input).items) input
+    of None none = subst (λ (o : Option Config). IsListedWith o input) (sym none) (λ timed. written_law [] tt)
+    of (Some config) is =
+        subst (λ (o : Option Config). IsListedWith o input) (sym is)
+        (run_listed config (history_among (reading true input).items) (reading_in true input config is)
+        ((trace_laws true input config is).1))

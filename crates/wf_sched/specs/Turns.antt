@@ -1,0 +1,75 @@
+-- One turn of the paper's loop (Loop of wf_def_rotation) over one of the rotations.
+use Rattle.std.specs.Prelude.{◌≡◌, ℕ, ◌*◌, ◌≤◌, Bool, true, false, List, [], ◌∷◌, length, set, ℤ, pos, ◌+ℤ◌, int_le, Option, Some, None, if◌then◌else◌}
+use Rattle.wf_def_rotation.specs.Rotation.{Rotation, in_order}
+use Rattle.wf_def_rotation.specs.Loop.{Turn, Empty, Wins, Again, Standing, turn_from, onward, LoopEnds}
+use Rattle.wf_sched.specs.Lists.{lists_at}
+use Rattle.wf_sched.specs.Rotas.{Rotas, deficit_at, quantum_at, is_ready, picked_at}
+use Rattle.wf_sched.specs.Pass.{passed_first}
+use Rattle.wf_sched.specs.declared.rotation.Side.{Side}
+use Rattle.wf_sched.specs.declared.rotation.Side.TheVariants.{New, Old}
+use Rattle.wf_sched.specs.declared.rotation.rota.TurnEnd.{TurnEnd}
+use Rattle.wf_sched.specs.declared.rotation.rota.TurnEnd.TheVariants.{Done, GoesOn}
+
+-- where the loop stands at one of the rotations
+abbrev pub standing : Rotas → ℕ → Standing
+standing v list = record { lists = lists_at v.lists list; deficit = deficit_at v.deficits }
+
+-- the turn that the loop makes there
+abbrev pub first_turn : Rotas → List Bool → ℕ → Turn
+first_turn v ready list = turn_from (quantum_at v.quanta) (is_ready ready) (standing v list)
+
+-- the loop begins again after this turn
+abbrev pub IsOnward : Turn → Type 0
+IsOnward Empty = ⊥
+IsOnward (Wins key) = ⊥
+IsOnward (Again lists deficit) = Unit {0}
+
+-- this is told of the turn
+abbrev pub EndsAs : Turn → TurnEnd → Type 0
+EndsAs t GoesOn = IsOnward t
+EndsAs t (Done winner) = LoopEnds t winner
+
+-- one of the rotations has made this turn
+pub record HasTurned (start : Rotas) (list : ℕ) (t : Turn) (v : Rotas) : Type 0 where
+  pub lists : v.lists ≡ set start.lists list (onward (standing start list) t).lists
+  pub deficits : (key : ℕ) → deficit_at v.deficits key ≡ (onward (standing start list) t).deficit key
+  pub keys : length v.deficits ≡ length start.deficits
+  pub quanta : v.quanta ≡ start.quanta
+
+abbrev pub next_of : List ℕ → List ℕ → Option (Side × ℕ)
+next_of [] [] = None
+next_of [] (key ∷ keys) = Some (Old, key)
+next_of (key ∷ keys) olds = Some (New, key)
+
+-- the first key of new, or where new is empty that of old, with its list
+abbrev pub next_up : Rotation → Option (Side × ℕ)
+next_up lists = next_of lists.new lists.old
+
+abbrev pub is_new : Side → Bool
+is_new New = true
+is_new Old = false
+
+-- a key gets one quantum
+abbrev pub key_paid : Rotas → ℕ → List ℤ
+key_paid v key = set v.deficits key (deficit_at v.deficits key +ℤ pos (quantum_at v.quanta key))
+
+-- the rotations after the turn of the first key of a list
+abbrev pub after_turn_of : Rotas → ℕ → Side → ℕ → Bool → Rotas
+after_turn_of v list side key ready =
+    if int_le (deficit_at v.deficits key) (pos 0)
+    then record v { lists = passed_first v.lists list side key true; deficits = key_paid v key }
+    else (if ready then v else record v { lists = passed_first v.lists list side key (is_new side) })
+
+-- the pick from here is the pick from the start
+pub record IsSamePick (start : Rotas) (ready : List Bool) (list : ℕ) (v : Rotas) : Type 0 where
+  pub winner : (picked_at v ready list).winner ≡ (picked_at start ready list).winner
+  pub lists : (picked_at v ready list).lists ≡ (picked_at start ready list).lists
+  pub deficits : (key : ℕ) → deficit_at v.deficits key
+      +ℤ pos ((picked_at v ready list).quanta key * quantum_at v.quanta key)
+      ≡ deficit_at start.deficits key
+      +ℤ pos ((picked_at start ready list).quanta key * quantum_at start.quanta key)
+  pub others : (r : Rotation) → set v.lists list r ≡ set start.lists list r
+  pub there : length v.lists ≡ length start.lists
+  pub keys : length v.deficits ≡ length start.deficits
+  pub quanta : v.quanta ≡ start.quanta
+  pub fewer : length (in_order (lists_at v.lists list)) ≤ length (in_order (lists_at start.lists list))

@@ -1,0 +1,32 @@
+use Rattle.wf_sched_refines.proofs.Unchanged.{enqueued_leaves, rate_leaves, tick_leaves, pulled_leaves, arrived_leaves, answered_leaves, slept_leaves, woken_leaves, credited_leaves, reaped_leaves}
+use Rattle.wf_sched_refines.proofs.a_call_that_leaves_the_turns.Goals as goal
+
+pub returns-clause-enqueued : goal.returns-clause-enqueued
+returns-clause-enqueued c = enqueued_leaves
+
+pub returns-clause-rate : goal.returns-clause-rate
+returns-clause-rate c = rate_leaves
+
+pub returns-clause-ticked : goal.returns-clause-ticked
+returns-clause-ticked c = tick_leaves
+
+pub returns-clause-pulled : goal.returns-clause-pulled
+returns-clause-pulled c = pulled_leaves
+
+pub returns-clause-arrived : goal.returns-clause-arrived
+returns-clause-arrived c = arrived_leaves
+
+pub returns-clause-answered : goal.returns-clause-answered
+returns-clause-answered c = answered_leaves
+
+pub returns-clause-slept : goal.returns-clause-slept
+returns-clause-slept c = slept_leaves
+
+pub returns-clause-woken : goal.returns-clause-woken
+returns-clause-woken c = woken_leaves
+
+pub returns-clause-credited : goal.returns-clause-credited
+returns-clause-credited c = credited_leaves
+
+pub returns-clause-reaped : goal.returns-clause-reaped
+returns-clause-reaped c = reaped_leaves

@@ -1,0 +1,74 @@
+-- When the station scheduler stands for the rotations and the deficits of a world.
+use Rattle.std.specs.Prelude.{◌≡◌, ℕ, ◌<◌, pos, ◌-ℤ◌, Bool, true, List, [], ◌∷◌, map, if◌then◌else◌}
+use Rattle.wf_frame.specs.declared.classes.Class.{Class}
+use Rattle.wf_def_rotation.specs.Rotation.{has_key, in_order}
+use Rattle.wf_frame.specs.Classes.{class_number}
+use Rattle.wf_def_lists.specs.Table.{at}
+use Rattle.wf_def_world.specs.World.{World, Station, Share, no_share, station, share, quantum as own_quantum, rotation, is_live}
+use Rattle.wf_def_world.specs.CanSend.{is_ready}
+use Rattle.wf_def_lists.specs.Lists.{IsOnce}
+use Rattle.wf_sched.specs.Rotas.{is_ready as entry}
+use Rattle.wf_sched.specs.ClassRotas.{ClassRota, SchedValue, IsSchedulerSized, class_rota, with_class_rota, with_deficit, deficit, quantum_of, with_listing, class_rotation as rotation_of}
+
+-- A class lists the same stations, and a live station has its deficit and its quantum. What the scheduler
+-- keeps of a station that is not live does not matter: it is listed nowhere, and its deficit and quantum are
+-- set when it joins.
+pub record SchedulerStandsFor (v : SchedValue) (w : World) : Type 0 where
+  pub sized : IsSchedulerSized v
+  pub stations : v.stations ≡ w.config.stations
+  pub quantum : v.quantum ≡ w.config.quantum
+  pub rotations : (c : Class) → rotation_of v c ≡ rotation w c
+  pub deficits : (s : ℕ) (c : Class) → is_live w s ≡ true → deficit v c s ≡ (share w s c).deficit
+  pub quanta : (s : ℕ) (c : Class) → is_live w s ≡ true → quantum_of v c s ≡ own_quantum w s
+  -- and in the world: each class lists a station once, and live ones alone; each live station has a number in
+  -- range
+  pub once : (c : Class) → IsOnce (in_order (rotation w c))
+  pub listed : (s : ℕ) (c : Class) → has_key (rotation w c) s ≡ true → is_live w s ≡ true
+  pub live : (s : ℕ) → is_live w s ≡ true → s < w.config.stations
+
+-- ---- changes of a scheduler
+
+-- the turns of every class are changed
+abbrev pub everywhere : (ClassRota → ClassRota) → SchedValue → SchedValue
+everywhere f v = record v { classes = map f v.classes }
+
+-- airtime leaves the deficit of a station in a class
+abbrev pub with_deficit_charged : SchedValue → ℕ → Class → ℕ → SchedValue
+with_deficit_charged v s c air = with_deficit v c s (deficit v c s -ℤ pos air)
+
+-- a station is put on the lists of one class
+abbrev pub with_listed : SchedValue → ℕ → Class → SchedValue
+with_listed v s c = with_class_rota v c (with_listing s (class_rota v c))
+
+-- a station is put on the lists of those of the classes in which it is ready
+abbrev pub with_listed_where : (Class → Bool) → ℕ → List Class → SchedValue → SchedValue
+with_listed_where ready s [] v = v
+with_listed_where ready s (c ∷ cs) v = with_listed_where ready s cs (if ready c then with_listed v s c else v)
+
+-- the list `ready`, of one entry for each station, says of each listed station whether it is ready in the
+-- class
+abbrev pub TellsReady : World → Class → List Bool → Type 0
+TellsReady w c ready = (s : ℕ) → has_key (rotation w c) s ≡ true → entry ready s ≡ is_ready w c s
+
+-- a station's share of a class
+abbrev pub share_in : Station → Class → Share
+share_in x c = at no_share x.shares (class_number c)
+
+-- ---- worlds that a scheduler does not tell apart
+
+-- the same settings, rotations, live stations, deficits and weights
+pub record HasSameRotas (w u : World) : Type 0 where
+  pub config : u.config ≡ w.config
+  pub rotations : (c : Class) → rotation u c ≡ rotation w c
+  pub live : (s : ℕ) → is_live u s ≡ is_live w s
+  pub deficits : (s : ℕ) (c : Class) → is_live w s ≡ true → (share u s c).deficit ≡ (share w s c).deficit
+  pub weights : (s : ℕ) → is_live w s ≡ true → (station u s).weight ≡ (station w s).weight
+
+-- a change of a station that keeps its weight and its deficits
+pub record KeepsRotas (f : Station → Station) : Type 0 where
+  pub weight : (x : Station) → (f x).weight ≡ x.weight
+  pub deficits : (x : Station) (c : Class) → (share_in (f x) c).deficit ≡ (share_in x c).deficit
+
+-- each scheduler that stands for w stands for u
+abbrev pub LeavesRotas : World → World → Type 0
+LeavesRotas w u = (v : SchedValue) → SchedulerStandsFor v w → SchedulerStandsFor v u

@@ -1,0 +1,219 @@
+//! The station scheduler stands for the rotations and the deficits of a world, at the start and after every
+//! call that concerns them.
+//!
+//! The scheduler (`wf_sched::stations`) keeps for each access class two lists of stations, and each station's
+//! deficit and quantum of airtime ("Ending the Anomaly", USENIX ATC 2017, section 3.2). A world
+//! (`wf_def_world`) has the same, among all else that the machine knows. The laws say when the two agree, and
+//! that they go on to agree when both are changed by the same call. Each is a function without a body that
+//! names it in its contract.
+#![tactic(auto)]
+
+ghost use Rattle.std.specs.Prelude.{◌≡◌, ◌↔◌, ℕ, ◌*◌, ◌-◌, ◌^◌, ◌<◌, Bool, true, false, if◌then◌else◌, List, [], ◌∷◌, ◌++◌, Option, None, Some, pos, negsuc, ◌-ℤ◌, ◌≤ℤ◌, ◌<ℤ◌, int_lt};
+ghost use Rattle.wf_frame.specs.declared.settings.Config.{Config};
+ghost use Rattle.wf_frame.specs.declared.classes.Class.{Class};
+ghost use Rattle.wf_frame.specs.declared.classes.Fate.{Fate};
+ghost use Rattle.wf_frame.specs.declared.notes.AskedRate.{AskedRate};
+ghost use Rattle.wf_frame.specs.declared.notes.Note.{Note};
+ghost use Rattle.wf_frame.specs.declared.notes.ReplyNote.TheVariants.{Charged};
+ghost use Rattle.wf_frame.specs.declared.notes.Refusal.{Refusal};
+ghost use Rattle.wf_frame.specs.Classes.{all_classes};
+ghost use Rattle.wf_frame.specs.Settings.{IsInRange};
+ghost use Rattle.wf_def_lists.specs.Bounds.{deepest_deficit};
+ghost use Rattle.wf_def_rotation.specs.Rotation.{Rotation, has_key};
+ghost use Rattle.wf_def_agreement.specs.Session.{Session};
+ghost use Rattle.wf_def_agreement.specs.Receiver.{Receiver};
+ghost use Rattle.wf_def_world.specs.World.{World, Station, Tid, Queue, Exchange, Content, opening as opening_world, share, rotation, is_live, with_station, on_station, on_tid, on_session, on_receiver, on_queue, with_queues, with_fate, with_frame_finished, with_frames_finished, with_exchange, without_exchange};
+ghost use Rattle.wf_def_world.specs.FlowQueues.{taken_for_tid};
+ghost use Rattle.wf_def_world.specs.CanSend.{is_ready, with_listing_in, with_listings_in, with_listings_of};
+ghost use Rattle.wf_def_world.specs.Exchanges.{Prepared, picked_station, after_pick, after_tid_turn, without_credit, aggregate_of, prepared_exchange, with_exchange_opened, charge_of, after_charge, after_done};
+ghost use Rattle.wf_def_world.specs.Refusals.{refusal};
+ghost use Rattle.wf_def_world.specs.Stretches.{world_at};
+ghost use Rattle.wf_def_world.specs.Run.{Entry};
+ghost use Rattle.wf_def_world.specs.Step.{join_outcome as joined_world, outcome_of, concerned_station, step, after_tids_left, without_listings, leave_outcome, rate_outcome, tick_outcome, with_frame, enqueue_outcome, send_outcome, pull_outcome_for, arrive_outcome, answer_outcome, done_outcome, sleep_outcome, wake_outcome, poll_outcome, rx_outcome, reap_outcome};
+ghost use Rattle.wf_law_rules.specs.Renamed.{IsSame};
+ghost use Rattle.wf_sched.specs.Rotas.{is_ready as entry};
+ghost use Rattle.wf_sched.specs.ClassRotas.{SchedValue, new_scheduler, class_rota, class_rotation as rotation_of, deficit, with_class_rota, IsNowhere, after_join, after_station_left, pick_of_class, IsAfterPick};
+ghost use Rattle.wf_sched_refines.specs.Calls.{IsCallDone, IsRefused, with_concerned};
+ghost use Rattle.wf_sched_refines.specs.Standing.{SchedulerStandsFor, everywhere, with_deficit_charged, with_listed, with_listed_where, TellsReady, HasSameRotas, KeepsRotas, LeavesRotas};
+
+/// A new scheduler and a new world: nobody is live, and nobody is listed.
+pub fn a_new_scheduler()
+    ensures { (config : Config) → SchedulerStandsFor (new_scheduler config.stations config.quantum)
+        (opening_world config) }
+{}
+
+/// What the scheduler tells of a station: the deficit of one that is live, whether it is listed, and that one
+/// that is not live is listed nowhere, so that it may join.
+pub fn a_station()
+    ensures deficit { (v : SchedValue) (w : World) (s : ℕ) (c : Class) → SchedulerStandsFor v w →
+        is_live w s ≡ true → deficit v c s ≡ (share w s c).deficit }
+    ensures listed { (v : SchedValue) (w : World) (s : ℕ) (c : Class) → SchedulerStandsFor v w →
+        has_key (rotation_of v c) s ≡ has_key (rotation w c) s }
+    ensures known { (v : SchedValue) (w : World) (s : ℕ) → SchedulerStandsFor v w → is_live w s ≡ true →
+        s < v.stations }
+    ensures nowhere { (v : SchedValue) (w : World) (s : ℕ) → SchedulerStandsFor v w → is_live w s ≡ false →
+        IsNowhere v s }
+{}
+
+/// An exchange ends: its charge, computed or named, leaves the deficit of its station in its class. In the
+/// worlds of a run no deficit comes near the ends of 64 bits, whatever 32 bits of airtime it is charged.
+pub fn a_charge()
+    ensures charged { (v : SchedValue) (w : World) (x : Exchange) (air : Option ℕ) → SchedulerStandsFor v w →
+        SchedulerStandsFor (with_deficit_charged v x.station x.class (charge_of air x))
+        (after_charge w x air) }
+    ensures ended { (v : SchedValue) (w : World) (x : Exchange) (heard : Bool) (air : Option ℕ) →
+        SchedulerStandsFor v w →
+        SchedulerStandsFor (with_deficit_charged v x.station x.class (charge_of air x))
+        (done_outcome w x heard air).world }
+    ensures fits { (config : Config) (history : List Entry) (m : ℕ) (v : SchedValue) (s : ℕ) (c : Class)
+        (air : ℕ) → IsInRange config →
+        SchedulerStandsFor v (world_at config history m) → is_live (world_at config history m) s ≡ true →
+        air < 2 ^ 32 →
+        negsuc (2 ^ 62 - 1) ≤ℤ (deficit v c s -ℤ pos air) }
+{}
+
+/// A station sent a frame itself: its airtime leaves the deficit, which is answered. The charge is refused on
+/// the same test of the scheduler's deficit and of the world's.
+pub fn a_receive_charge()
+    ensures received { (v : SchedValue) (w : World) (s : ℕ) (c : Class) (air : ℕ) → SchedulerStandsFor v w →
+        SchedulerStandsFor (with_deficit_charged v s c air) (rx_outcome w s c air).world }
+    ensures reply { (v : SchedValue) (w : World) (s : ℕ) (c : Class) (air : ℕ) → SchedulerStandsFor v w →
+        is_live w s ≡ true →
+        (rx_outcome w s c air).reply ≡ Charged (deficit v c s -ℤ pos air) }
+    ensures refused { (v : SchedValue) (w : World) (s : ℕ) (c : Class) (air : ℕ) → SchedulerStandsFor v w →
+        is_live w s ≡ true →
+        ((deficit v c s -ℤ pos air) <ℤ deepest_deficit ↔
+        int_lt ((share w s c).deficit -ℤ pos air) deepest_deficit ≡ true) }
+{}
+
+/// A station joins: in each class its quantum, and its deficit, are its weight's multiple of the setting.
+pub fn a_join()
+    ensures { (v : SchedValue) (w : World) (s window start exponent weight : ℕ) → SchedulerStandsFor v w →
+        s < w.config.stations →
+        SchedulerStandsFor (everywhere (after_join s (v.quantum * weight)) v)
+        (joined_world w s window start exponent weight).world }
+{}
+
+/// A station leaves: it comes off the lists of each class.
+pub fn a_leave()
+    ensures off { (v : SchedValue) (w : World) (s : ℕ) → SchedulerStandsFor v w →
+        SchedulerStandsFor (everywhere (after_station_left s) v)
+        (with_station (without_listings w s all_classes) s None) }
+    ensures gone { (v : SchedValue) (w : World) (s : ℕ) → SchedulerStandsFor v w →
+        SchedulerStandsFor (everywhere (after_station_left s) v) (leave_outcome w s).world }
+{}
+
+/// After a call, the station that it concerns is listed in each class in which it is ready. Who is ready does
+/// not go by the lists, so the classes may be found before the first is listed, or one by one; `more` is for
+/// a loop over the classes.
+pub fn a_listing()
+    ensures ready { (v : SchedValue) (w : World) (s : ℕ) (c : Class) → SchedulerStandsFor v w →
+        is_ready w c s ≡ true → SchedulerStandsFor (with_listed v s c) (with_listing_in w s c) }
+    ensures idle { (v : SchedValue) (w : World) (s : ℕ) (c : Class) → SchedulerStandsFor v w →
+        is_ready w c s ≡ false → SchedulerStandsFor v (with_listing_in w s c) }
+    ensures readiness { (w : World) (s : ℕ) (c d : Class) (other : ℕ) →
+        is_ready (with_listing_in w s c) d other ≡ is_ready w d other }
+    ensures all { (v : SchedValue) (w : World) (s : ℕ) (classes : List Class) (ready : Class → Bool) →
+        ((c : Class) → ready c ≡ is_ready w c s) →
+        SchedulerStandsFor v w → SchedulerStandsFor (with_listed_where ready s classes v)
+        (with_listings_in w s classes) }
+    ensures concerned { (v : SchedValue) (w : World) (s : ℕ) (ready : Class → Bool) →
+        ((c : Class) → ready c ≡ is_ready w c s) →
+        SchedulerStandsFor v w → SchedulerStandsFor (with_listed_where ready s all_classes v)
+        (with_listings_of w (Some s)) }
+    ensures unconcerned { (v : SchedValue) (w : World) → SchedulerStandsFor v w →
+        SchedulerStandsFor v (with_listings_of w None) }
+    ensures more { (v : SchedValue) (s : ℕ) (classes : List Class) (c : Class) (ready : Class → Bool) →
+        with_listed_where ready s (classes ++ c ∷ []) v
+        ≡ (if ready c then with_listed (with_listed_where ready s classes v) s c
+        else with_listed_where ready s classes v) }
+{}
+
+/// The pick of a class, where a list tells which of the listed stations are ready, as one does that is right
+/// for each station. The winner, the lists and the quanta are the same on both sides. Each station is paid
+/// its quanta, and the turns of the other classes stay.
+pub fn a_pick()
+    ensures tells { (v : SchedValue) (w : World) (c : Class) (ready : List Bool) → SchedulerStandsFor v w →
+        ((s : ℕ) → s < w.config.stations → entry ready s ≡ is_ready w c s) → TellsReady w c ready }
+    ensures same { (v : SchedValue) (w : World) (c : Class) (ready : List Bool) → SchedulerStandsFor v w →
+        TellsReady w c ready →
+        IsSame (picked_station w c) (pick_of_class v c ready) }
+    ensures stands { (v u : SchedValue) (w : World) (c : Class) (ready : List Bool) → SchedulerStandsFor v w →
+        TellsReady w c ready →
+        IsAfterPick (class_rota v c) (pick_of_class v c ready) (class_rota u c) →
+        u ≡ with_class_rota v c (class_rota u c) → SchedulerStandsFor u (after_pick w c) }
+{}
+
+/// Two worlds with the same settings, rotations, live stations, deficits and weights: a scheduler that stands
+/// for one stands for the other.
+pub fn the_same_turns()
+    ensures { (w u : World) → HasSameRotas w u → LeavesRotas w u }
+{}
+
+/// A change of a station that keeps its weight and its deficits leaves the turns, so a change of its
+/// agreements, of its listed flow queues, of the TID whose turn it is, and of its credit does.
+pub fn a_change_of_a_station()
+    ensures station { (w : World) (s : ℕ) (f : Station → Station) → KeepsRotas f →
+        LeavesRotas w (on_station w s f) }
+    ensures tid { (w : World) (s t : ℕ) (f : Tid → Tid) → LeavesRotas w (on_tid w s t f) }
+    ensures session { (w : World) (s t : ℕ) (f : Session → Session) → LeavesRotas w (on_session w s t f) }
+    ensures receiver { (w : World) (s t : ℕ) (f : Receiver → Receiver) → LeavesRotas w (on_receiver w s t f) }
+    ensures queues { (w : World) (s t : ℕ) (r : Rotation) → LeavesRotas w (with_queues w s t r) }
+    ensures turn { (w : World) (s : ℕ) (c : Class) (t : ℕ) → LeavesRotas w (after_tid_turn w s c t) }
+    ensures credit { (w : World) (s : ℕ) → LeavesRotas w (without_credit w s) }
+{}
+
+/// Frames and flow queues leave the turns.
+pub fn a_change_of_frames()
+    ensures queue { (w : World) (q : ℕ) (f : Queue → Queue) → LeavesRotas w (on_queue w q f) }
+    ensures accepted { (w : World) (note : Note) → LeavesRotas w (with_frame w note) }
+    ensures fate { (w : World) (id : ℕ) (fate : Fate) → LeavesRotas w (with_fate w id fate) }
+    ensures finished { (w : World) (fate : Fate) (id : ℕ) → LeavesRotas w (with_frame_finished w fate id) }
+    ensures all_finished { (w : World) (fate : Fate) (ids : List ℕ) →
+        LeavesRotas w (with_frames_finished w fate ids) }
+    ensures taken { (w : World) (s t : ℕ) → LeavesRotas w (taken_for_tid w s t).world }
+    ensures left { (w : World) (s : ℕ) (tids : List ℕ) → LeavesRotas w (after_tids_left w s tids) }
+{}
+
+/// Exchanges leave the turns: what one is to send, that it is open, what its receiver tells, and what becomes
+/// of its numbers.
+pub fn a_change_of_exchanges()
+    ensures filled { (w : World) (s t : ℕ) → LeavesRotas w (aggregate_of w s t).world }
+    ensures prepared { (w : World) (s t : ℕ) → LeavesRotas w (prepared_exchange w s t).world }
+    ensures opened { (w : World) (x : Exchange) → LeavesRotas w (with_exchange_opened w x) }
+    ensures sent { (s t : ℕ) (c : Class) (p : Prepared) → LeavesRotas p.world (send_outcome s t c p).world }
+    ensures told { (w : World) (x : Exchange) → LeavesRotas w (with_exchange w x) }
+    ensures closed { (w : World) (e : ℕ) → LeavesRotas w (without_exchange w e) }
+    ensures settled { (w : World) (x : Exchange) (heard : Bool) (content : Content) →
+        LeavesRotas w (after_done w x heard content) }
+{}
+
+/// The calls that leave the turns, but for the station that they may list at their end. A pull leaves them
+/// once a station is picked.
+pub fn a_call_that_leaves_the_turns()
+    ensures enqueued { (w : World) (s t flow len : ℕ) → LeavesRotas w (enqueue_outcome w s t flow len).world }
+    ensures rate { (w : World) (s : ℕ) (rate : AskedRate) →
+        LeavesRotas w (rate_outcome w s rate).world }
+    ensures ticked { (w : World) (by : ℕ) → LeavesRotas w (tick_outcome w by).world }
+    ensures pulled { (w : World) (c : Class) (winner : Option ℕ) →
+        LeavesRotas w (pull_outcome_for w c winner).world }
+    ensures arrived { (w : World) (x : Exchange) (i : ℕ) → LeavesRotas w (arrive_outcome w x i).world }
+    ensures answered { (w : World) (x : Exchange) → LeavesRotas w (answer_outcome w x).world }
+    ensures slept { (w : World) (s : ℕ) → LeavesRotas w (sleep_outcome w s).world }
+    ensures woken { (w : World) (s : ℕ) → LeavesRotas w (wake_outcome w s).world }
+    ensures credited { (w : World) (s : ℕ) → LeavesRotas w (poll_outcome w s).world }
+    ensures reaped { (w : World) (ids : List ℕ) → LeavesRotas w (reap_outcome w ids).world }
+{}
+
+/// A whole call. One that is not refused does to the scheduler what `IsDone` says, and then lists the station
+/// that it concerns; one that is refused leaves it, but for a pull that finds nobody ready. A scheduler that
+/// stood for the world stands for the world after the call.
+pub fn a_call()
+    ensures done { (v u : SchedValue) (w : World) (note : Note) → refusal w note ≡ None →
+        SchedulerStandsFor v w → IsCallDone w note v u →
+        SchedulerStandsFor (with_concerned (outcome_of w note).world (concerned_station w note) u)
+        (step w note).world }
+    ensures refused { (v u : SchedValue) (w : World) (note : Note) (r : Refusal) → refusal w note ≡ Some r →
+        SchedulerStandsFor v w → IsRefused w note r v u →
+        SchedulerStandsFor u (step w note).world }
+{}

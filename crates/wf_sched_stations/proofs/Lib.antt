@@ -1,2 +1,0 @@
-mod Loops
-pub mod Views

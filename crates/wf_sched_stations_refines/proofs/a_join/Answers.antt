@@ -1,5 +1,0 @@
-use Rattle.wf_sched_stations_refines.proofs.Members.{join_stands}
-use Rattle.wf_sched_stations_refines.proofs.a_join.Goals as goal
-
-pub returns : goal.returns
-returns c = join_stands

@@ -1,8 +1,0 @@
-use Rattle.wf_sched_stations_refines.proofs.Members.{leave_stands, gone_stands}
-use Rattle.wf_sched_stations_refines.proofs.a_leave.Goals as goal
-
-pub returns-clause-off : goal.returns-clause-off
-returns-clause-off c = leave_stands
-
-pub returns-clause-gone : goal.returns-clause-gone
-returns-clause-gone c = gone_stands

@@ -1,5 +1,0 @@
-use Rattle.wf_sched_stations_refines.proofs.Readings.{opening_stands}
-use Rattle.wf_sched_stations_refines.proofs.a_new_scheduler.Goals as goal
-
-pub returns : goal.returns
-returns c = opening_stands

@@ -1,5 +1,0 @@
-use Rattle.wf_sched_stations_refines.proofs.Unchanged.{same_turns}
-use Rattle.wf_sched_stations_refines.proofs.the_same_turns.Goals as goal
-
-pub returns : goal.returns
-returns c = same_turns

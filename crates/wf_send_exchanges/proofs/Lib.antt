@@ -1,4 +1,0 @@
-mod Changed
-mod Kept
-mod Rising
-mod Wide

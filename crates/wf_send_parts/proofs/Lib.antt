@@ -1,0 +1,21 @@
+pub mod Callers
+pub mod Calls
+pub mod Changes
+pub mod Counting
+mod Due
+pub mod Ends
+pub mod Expelling
+mod Finding
+pub mod Fronts
+pub mod Held
+pub mod Laws
+pub mod Listing
+mod Moving
+pub mod Numbers
+mod Resetting
+pub mod Sending
+mod Steps
+mod Changed
+mod Kept
+mod Rising
+mod Wide

@@ -1,0 +1,168 @@
+-- A number that waits flies, and its frame counts that it is sent.
+use Rattle.std.proofs.Common.{◌≡◌, ◌≢◌, ℕ, zero, suc, ◌+◌, ◌-◌, ◌<◌, ◌==◌, Bool, true, false, Option, Some, List, [], ◌∷◌, ◌++◌, length, get_or, set, map, refl, ap, sym, ◌∙◌, subst, arith, eq-eqb, inl, inr}
+use Rattle.std.proofs.lemmas.Bool.{cases_eq, ne_eqb, cond-true, cond-false}
+use Rattle.wf_frame.specs.Classes.{tid_number}
+use Rattle.wf_frame.specs.Frames.{FrameValue, sent_again}
+use Rattle.wf_def_agreement.specs.Session.{Session, Slot, State, no_slot, slot, start_of, with_state}
+use Rattle.wf_octets_parts.specs.Distance.{distance}
+use Rattle.wf_send_parts.specs.declared.window.place.Place.{Place}
+use Rattle.wf_send_parts.specs.declared.window.place.Place.TheVariants.{Waiting as Waits, Flying as Flies}
+use Rattle.wf_send_parts.specs.Places.{slot_place, place_as}
+use Rattle.wf_send_parts.specs.Sent.{with_one_sent, with_all_sent}
+use Rattle.wf_send_parts.specs.Window.{WindowValue, WindowStandsFor, IsNumber, HasOwnFrame, holds_parcel, slots_from_start, place_at}
+use Rattle.wf_send_parts.specs.Windows.{window_of, with_window}
+use Rattle.wf_send_parts.specs.Many.{AllStand, IsSameElsewhere, HasSameFrames}
+use Rattle.wf_send_parts.proofs.Calls.{IsWaitingSlot, waiting_slot, fly_law}
+use Rattle.wf_send_parts.proofs.Fronts.{at_is, at_rest}
+use Rattle.wf_send_parts.proofs.Changes.{is_this, window_same, window_other}
+use Rattle.wf_send_parts.proofs.Held.{same_place, held_stand}
+use Rattle.wf_send_parts.proofs.Laws.{start_of_is, next_is, place_is, distance_is}
+
+-- ---- the frames of the ids
+
+pub sent_other : (bodies : ℕ → FrameValue) (id k : ℕ) → k ≢ id → with_one_sent id bodies k ≡ bodies k
+sent_other bodies id k other = cond-false (k == id) (sent_again (bodies k)) (bodies k) (ne_eqb k id other)
+
+pub sent_own : (bodies : ℕ → FrameValue) (id : ℕ) → with_one_sent id bodies id ≡ sent_again (bodies id)
+sent_own bodies id = cond-true (id == id) (sent_again (bodies id)) (bodies id) (eq-eqb id id refl)
+
+-- what a frame has beside the count stays
+pub sent_keeps : {X : Type 0} (g : FrameValue → X) → ((f : FrameValue) → g (sent_again f) ≡ g f) →
+    (bodies : ℕ → FrameValue) (id k : ℕ) → g (with_one_sent id bodies k) ≡ g (bodies k)
+sent_keeps g keeps bodies id k = elim (cases_eq k id) [
+  | inl same ↦
+      ap (λ (n : ℕ). g (with_one_sent id bodies n)) same
+      ∙ ap g (sent_own bodies id)
+      ∙ keeps (bodies id)
+      ∙ ap (λ (n : ℕ). g (bodies n)) (sym same)
+  | inr other ↦ ap g (sent_other bodies id k other)
+]
+
+pub all_sent_keep : {X : Type 0} (g : FrameValue → X) → ((f : FrameValue) → g (sent_again f) ≡ g f) →
+    (pairs : List (ℕ × ℕ)) (bodies : ℕ → FrameValue) (k : ℕ) → g (with_all_sent pairs bodies k) ≡ g (bodies k)
+all_sent_keep g keeps [] bodies k = refl
+all_sent_keep g keeps (p ∷ pairs) bodies k =
+    all_sent_keep g keeps pairs (with_one_sent p.0 bodies) k ∙ sent_keeps g keeps bodies p.0 k
+
+pub all_sent_then : (pairs : List (ℕ × ℕ)) (p : ℕ × ℕ) (bodies : ℕ → FrameValue) →
+    with_all_sent (pairs ++ p ∷ []) bodies ≡ with_one_sent p.0 (with_all_sent pairs bodies)
+all_sent_then [] p bodies = refl
+all_sent_then (q ∷ pairs) p bodies = all_sent_then pairs p (with_one_sent q.0 bodies)
+
+-- ---- the places
+
+-- two lists of places that are the same but for one
+set_but_one : (f g : Slot → Option Place) (xs : List Slot) (i : ℕ) (p : Option Place) →
+    ((k : ℕ) → k < length xs → k ≢ i → f (get_or xs k no_slot) ≡ g (get_or xs k no_slot)) →
+    set (map f xs) i p ≡ set (map g xs) i p
+set_but_one f g [] i p same = refl
+set_but_one f g (x ∷ xs) zero p same = ap (λ (ps : List (Option Place)). p ∷ ps)
+    (map_same f g xs (λ k below. same (suc k) (omega (arith, below)) (λ (e : suc k ≡ 0). omega (arith, e))))
+  where
+    map_same : (f g : Slot → Option Place) (xs : List Slot) →
+        ((k : ℕ) → k < length xs → f (get_or xs k no_slot) ≡ g (get_or xs k no_slot)) → map f xs ≡ map g xs
+    map_same f g [] same = refl
+    map_same f g (x ∷ xs) same = ap (λ (p : Option Place). p ∷ map f xs) (same 0 (omega arith))
+        ∙ ap (λ (ps : List (Option Place)). g x ∷ ps)
+        (map_same f g xs (λ k below. same (suc k) (omega (arith, below))))
+set_but_one f g (x ∷ xs) (suc i) p same =
+    ap (λ (q : Option Place). q ∷ set (map f xs) i p)
+    (same 0 (omega arith) (λ (e : 0 ≡ suc i). omega (arith, e)))
+    ∙ ap (λ (ps : List (Option Place)). g x ∷ ps) (set_but_one f g xs i p (λ k below other.
+    same (suc k) (omega (arith, below)) (λ (e : suc k ≡ suc i). other (omega (arith, e)))))
+
+module _ (w : WindowValue) (s : Session) (bodies : ℕ → FrameValue) (stands : WindowStandsFor w s bodies)
+    (n seq : ℕ) (number : IsNumber s n seq) (own : HasOwnFrame s n) where
+  abbrev others : ℕ → FrameValue
+  others = with_one_sent (slot s n).id bodies
+
+  -- the same window, with the frames that have counted
+  abbrev counted : WindowValue
+  counted = record w { places = map (slot_place others) (slots_from_start s) }
+
+  counted_stands : WindowStandsFor counted s others
+  counted_stands = record {
+    size = stands.size;
+    start = stands.start;
+    places = refl;
+    due = stands.due;
+    heard = stands.heard;
+    room = stands.room;
+    small = stands.small;
+  }
+
+  slot_at : (k : ℕ) → slot s (start_of s + k) ≡ get_or (slots_from_start s) k no_slot
+  slot_at k = at_rest s.slots ((start_of s + k) - s.first) k (omega (arith, start_of_is s))
+      ∙ at_is no_slot (slots_from_start s) k
+
+  others_same : (k : ℕ) → k < length (slots_from_start s) → k ≢ n - start_of s →
+      slot_place bodies (get_or (slots_from_start s) k no_slot)
+      ≡ slot_place others (get_or (slots_from_start s) k no_slot)
+  others_same k below other = same_place bodies others (get_or (slots_from_start s) k no_slot)
+      (λ held. sent_other bodies (slot s n).id (get_or (slots_from_start s) k no_slot).id (λ same.
+      let e : start_of s + k ≡ n = own.sole (start_of s + k) (omega arith) (omega (arith, next_is s, below))
+      (ap (λ (x : Slot). holds_parcel x.state) (slot_at k) ∙ held)
+      (ap (λ (x : Slot). x.id) (slot_at k) ∙ same) in
+      other (omega (arith, e))))
+
+  pub sent_law : (exchange attempts : ℕ) (parcel : FrameValue) →
+      place_at w seq ≡ Some (Waits parcel attempts) →
+      WindowStandsFor (record w {
+        places = set w.places (distance seq w.start)
+            (Some (Flies (sent_again parcel) attempts exchange));
+      }) (with_state (State.Flying exchange) n s) (with_one_sent (slot s n).id bodies)
+  sent_law exchange attempts parcel found =
+      let x : IsWaitingSlot bodies (slot s n) parcel attempts = waiting_slot bodies (slot s n) parcel attempts
+      (sym found ∙ place_is w s bodies stands n seq number) in
+      let p : Option Place = Some (Flies (sent_again parcel) attempts exchange) in
+      let own_is : others (slot s n).id ≡ sent_again parcel =
+      sent_own bodies (slot s n).id ∙ ap sent_again (sym x.parcel_is) in
+      let found_now : place_at counted seq ≡ Some (Waits (sent_again parcel) attempts) =
+      place_is counted s others counted_stands n seq number
+      ∙ ap (λ (st : State). place_as st (others (slot s n).id) (slot s n).attempts) x.state
+      ∙ ap (λ (f : FrameValue). Some (Waits f (slot s n).attempts)) own_is
+      ∙ ap (λ (a : ℕ). Some (Waits (sent_again parcel) a)) (sym x.attempts_is) in
+      let same : set counted.places (distance seq w.start) p ≡ set w.places (distance seq w.start) p =
+      sym (set_but_one (slot_place bodies) (slot_place others) (slots_from_start s) (distance seq w.start) p
+      (λ k below other. others_same k below
+      (λ e. other (e ∙ sym (distance_is w s bodies stands n seq number)))))
+      ∙ ap (λ (ps : List (Option Place)). set ps (distance seq w.start) p) (sym stands.places) in
+      subst (λ (ps : List (Option Place)). WindowStandsFor (record w { places = ps })
+      (with_state (State.Flying exchange) n s) others) same
+      (fly_law counted s others counted_stands n seq number exchange attempts (sent_again parcel) found_now)
+
+-- ---- one window among all
+
+module _ (ws : List WindowValue) (s t : ℕ) (v : WindowValue) (is_live : ℕ → Bool)
+    (before after : ℕ → ℕ → Session) (bodies others : ℕ → FrameValue) where
+  -- a window changes with its session, and the frames that it holds; those of the others stay
+  pub one_sent : AllStand ws is_live before bodies → is_live s ≡ true → t < 8 →
+      tid_number s t < length ws → IsSameElsewhere before after s t →
+      ((x y : ℕ) → is_live x ≡ true → y < 8 → (x ≡ s → y ≡ t → ⊥) →
+      HasSameFrames (before x y) bodies others) →
+      WindowStandsFor v (after s t) others → AllStand (with_window ws s t v) is_live after others
+  one_sent all live low inside same frames stands =
+      record {
+        stands = λ x y live_x low_y. elim (is_this ws s t v x y) [
+          | inl this ↦
+              let P : ℕ → ℕ → Type 0 = λ a b. WindowStandsFor (window_of (with_window ws s t v) a b)
+              (after a b) others in
+              let Q : WindowValue → Type 0 = λ u. WindowStandsFor u (after s t) others in
+              let here : P s t = subst Q (sym (window_same ws s t v inside)) stands in
+              subst (λ (a : ℕ). P a y) (sym this.0) (subst (λ (b : ℕ). P s b) (sym this.1) here)
+          | inr other ↦
+              let P : WindowValue → Type 0 = λ u. WindowStandsFor u (after x y) others in
+              let Q : Session → Type 0 = λ z. WindowStandsFor (window_of ws x y) z others in
+              subst P (sym (window_other ws s t v x y low low_y other))
+              (subst Q (sym (same.same x y low_y other))
+              (held_stand bodies others (window_of ws x y) (before x y) (all.stands x y live_x low_y)
+              (frames x y live_x low_y other)))
+        ];
+        empty = λ x y dead low_y.
+            let other : x ≡ s → y ≡ t → ⊥ = λ e _. differ (sym dead ∙ ap is_live e ∙ live) in
+            ap (λ (u : WindowValue). u.places) (window_other ws s t v x y low low_y other)
+            ∙ all.empty x y dead low_y;
+      }
+    where
+      differ : false ≡ true → ⊥
+      differ e = absurd (cc e)

@@ -1,0 +1,296 @@
+-- What the steps of a window's calls leave, over plain values.
+use Rattle.std.proofs.Common.{◌≡◌, ℕ, zero, suc, ◌+◌, ◌-◌, ◌%◌, ◌<◌, ◌≤◌, nat_le, Bool, true, false, ◌||◌, if◌then◌else◌, Option, Some, None, List, [], ◌∷◌, length, get_or, set, refl, ap, sym, ◌∙◌, subst, arith, length-set, max}
+use Rattle.std.proofs.lemmas.List.{set-set}
+use Rattle.wf_frame.specs.Frames.{FrameValue, sent_again}
+use Rattle.wf_def_agreement.specs.Session.{Session, State, slot, start_of, next_number, is_settled, is_waiting, with_state, after_miss}
+use Rattle.wf_send_parts.specs.declared.window.place.Place.{Place}
+use Rattle.wf_send_parts.specs.declared.window.place.Place.TheVariants.{Waiting as Waits, Flying as Flies, Failed as Fails}
+use Rattle.wf_send_parts.specs.Ring.{RingValue}
+use Rattle.wf_send_parts.specs.Places.{state_of_place, front, rest, settled_first, since_failed, at_most}
+use Rattle.wf_octets_parts.specs.Distance.{distance}
+use Rattle.wf_send_parts.specs.Window.{WindowValue, WindowStandsFor, IsNumber, IsInOrder, HasOwnFrame, moved_on, session_settled, is_flying, state_at}
+use Rattle.wf_send_parts.specs.Sent.{with_one_sent}
+use Rattle.wf_send_parts.specs.Answers.{settling_answer, with_fate}
+use Rattle.wf_send_parts.specs.declared.window.window.Settled.TheVariants.{Acked as Is_answer_acked, Waiting as Is_answer_waiting, Failed as Is_answer_failed}
+use Rattle.wf_frame.specs.declared.classes.Fate.TheVariants.{Acked as Is_acked, Dropped}
+use Rattle.wf_frame.specs.declared.classes.Cause.TheVariants.{Retries}
+use Rattle.std.specs.List.{list_any}
+use Rattle.std.proofs.lemmas.Bool.Decides.{nat_tests}
+use Rattle.wf_send_parts.proofs.Fronts.{lengths, rest_unsettled}
+use Rattle.wf_send_parts.proofs.Calls.{IsFlyingSlot, found_slot, waiting_slot, settled_set, heard_law, acked_law, failed_law, missed_law}
+use Rattle.wf_send_parts.proofs.Sending.{sent_law}
+use Rattle.wf_send_parts.proofs.Moving.{since_bound}
+use Rattle.wf_send_parts.proofs.Numbers.{waiting_is}
+use Rattle.wf_send_parts.proofs.Laws.{slot_changed, place_is, ahead_number, places_length}
+
+-- a window by its parts
+abbrev pub shown : ℕ → ℕ → Option ℕ → RingValue → WindowValue
+shown size start due r = record {
+  capacity = r.capacity;
+  size = size;
+  start = start;
+  places = r.items;
+  due =
+      due;
+}
+
+abbrev pub with_items : RingValue → List (Option Place) → RingValue
+with_items r ps = record { capacity = r.capacity; items = ps }
+
+-- two items put into one place, one after the other
+pub replaced_twice : (r r1 r2 : RingValue) (i : ℕ) (p q : Option Place) →
+    r1 ≡ with_items r (set r.items i p) → r2 ≡ with_items r1 (set r1.items i q) →
+    r2 ≡ with_items r (set r.items i q)
+replaced_twice r r1 r2 i p q a b =
+    b ∙ ap (λ (v : RingValue). with_items v (set v.items i q)) a ∙ ap (with_items r) (set-set r.items i p q)
+
+-- the settled places leave the front
+pub moved_on_is : (size start start2 moved : ℕ) (due due2 : Option ℕ) (r r1 r2 : RingValue)
+    (ps : List (Option Place)) → r1 ≡ with_items r ps → r2 ≡ with_items r1 (rest state_of_place r1.items) →
+    moved ≡ length (front state_of_place r1.items) →
+    due2 ≡ since_failed state_of_place due (front state_of_place r1.items) → start2 ≡ (start + moved) % 4096 →
+    shown size start2 due2 r2 ≡ moved_on (record (shown size start due r) { places = ps })
+moved_on_is size start start2 moved due due2 r r1 r2 ps a b m d e =
+    ap (shown size start2 due2) (b ∙ ap (λ (v : RingValue). with_items v (rest state_of_place v.items)) a)
+    ∙ ap (λ (x : Option ℕ). shown size start2 x (with_items r (rest state_of_place ps)))
+    (d ∙ ap (λ (v : RingValue). since_failed state_of_place due (front state_of_place v.items)) a)
+    ∙ ap (λ (n : ℕ). shown size n (since_failed state_of_place due (front state_of_place ps))
+    (with_items r (rest state_of_place ps))) (e
+    ∙ ap (λ (k : ℕ). (start + k) % 4096) (m ∙ ap
+    (λ (v : RingValue). length (front state_of_place v.items)) a))
+
+-- what every window keeps
+
+pub order_kept : (size : ℕ) (due : Option ℕ) (r r2 : RingValue) (i : ℕ) (p : Option Place) →
+    r2 ≡ with_items r (set r.items i p) → is_settled (state_of_place p) ≡ false →
+    IsInOrder r.capacity size r.items due → IsInOrder r2.capacity size r2.items due
+order_kept size due r r2 i p e unsettled o =
+    let P : RingValue → Type 0 = λ v. IsInOrder v.capacity size v.items due in
+    subst P (sym e) (record {
+      bounded = omega (arith, o.bounded, length-set r.items i p);
+      within = o.within;
+      small = o.small;
+      begins = settled_set r.items i p o.begins unsettled;
+    })
+
+pub order_moved : (size : ℕ) (due due2 : Option ℕ) (r r1 r2 : RingValue) (i : ℕ) (p : Option Place) →
+    r1 ≡ with_items r (set r.items i p) → r2 ≡ with_items r1 (rest state_of_place r1.items) →
+    due2 ≡ since_failed state_of_place due (front state_of_place r1.items) →
+    IsInOrder r.capacity size r.items due → IsInOrder r2.capacity size r2.items due2
+order_moved size due due2 r r1 r2 i p a b d o =
+    let ps : List (Option Place) = set r.items i p in
+    let ring_is : r2 ≡ with_items r (rest state_of_place ps) =
+    b ∙ ap (λ (v : RingValue). with_items v (rest state_of_place v.items)) a in
+    let due_is : due2 ≡ since_failed state_of_place due (front state_of_place ps) =
+    d ∙ ap (λ (v : RingValue). since_failed state_of_place due (front state_of_place v.items)) a in
+    let P : RingValue → Type 0 = λ v. IsInOrder v.capacity size v.items due2 in
+    let Q : Option ℕ → Type 0 = λ x. IsInOrder r.capacity size (rest state_of_place ps) x in
+    subst P (sym ring_is) (subst Q (sym due_is) (record {
+      bounded = omega (
+        arith,
+        o.bounded,
+        since_bound due (front state_of_place ps),
+        lengths state_of_place ps,
+        length-set r.items i p,
+      );
+      within = o.within;
+      small = o.small;
+      begins = rest_unsettled state_of_place ps;
+    }))
+
+-- a place that is in the window
+
+pub in_window : (ps : List (Option Place)) (i : ℕ) → (state_of_place (get_or ps i None) ≡ State.Acked → ⊥) →
+    i < length ps
+in_window [] i h = absurd (h refl)
+in_window (p ∷ ps) zero h = omega arith
+in_window (p ∷ ps) (suc i) h = omega (arith, in_window ps i h)
+
+-- the limit
+
+is_over : (l a b : ℕ) → l ≤ a + 1 → a ≡ b → nat_le l (b + 1) ≡ true
+is_over l a b h e = grind (arith, nat_tests)
+
+is_under : (l a b : ℕ) → a + 1 < l → a ≡ b → nat_le l (b + 1) ≡ false
+is_under l a b h e = grind (arith, nat_tests)
+
+-- the calls
+
+module _ (size start : ℕ) (due : Option ℕ) (r : RingValue) (now : WindowValue)
+    (is : shown size start due r ≡ now) (seq : ℕ) where
+  -- a request with the start seq was heard
+  pub heard_step : (due2 : Option ℕ) (s : Session) (bodies : ℕ → FrameValue) (f d : ℕ) →
+      d ≡ distance start seq → due2 ≡ at_most d due → WindowStandsFor now s bodies → seq ≡ f % 4096 →
+      f ≤ start_of s → next_number s ≤ f + s.size →
+      WindowStandsFor (shown size start due2 r) (record s { heard = max s.heard f }) bodies
+  heard_step due2 s bodies f d d_is e stands on_air below near =
+      let w : WindowStandsFor (shown size start due r) s bodies =
+      (let P : WindowValue → Type 0 = λ v. WindowStandsFor v s bodies in subst P (sym is) stands) in
+      let same : d ≡ start_of s - f = d_is ∙ ahead_number f (start_of s) seq start on_air w.start below
+      (omega (arith, places_length _ s bodies w, w.small)) in
+      let P : Option ℕ → Type 0 = λ x. WindowStandsFor (shown size start x r)
+      (record s { heard = max s.heard f }) bodies in
+      subst P (sym (e ∙ ap (λ (k : ℕ). at_most k due) same))
+      (heard_law (shown size start due r) s bodies w f below)
+
+module _ (size start : ℕ) (due : Option ℕ) (r r1 r2 : RingValue) (now : WindowValue)
+    (is : shown size start due r ≡ now) (i seq : ℕ) (i_is : i ≡ distance seq start) where
+  here : (s : Session) (bodies : ℕ → FrameValue) → WindowStandsFor now s bodies →
+      WindowStandsFor (shown size start due r) s bodies
+  here s bodies stands = let P : WindowValue → Type 0 = λ v. WindowStandsFor v s bodies in
+      subst P (sym is) stands
+
+  pub fly_step : (exchange attempts : ℕ) (parcel : FrameValue) →
+      Some (Waits parcel attempts) ≡ get_or r.items i None → r1 ≡ with_items r (set r.items i None) →
+      r2 ≡ with_items r1 (set r1.items i (Some (Flies (sent_again parcel) attempts exchange))) →
+      (s : Session) (bodies : ℕ → FrameValue) (n : ℕ) → WindowStandsFor now s bodies → IsNumber s n seq →
+      HasOwnFrame s n → WindowStandsFor (shown size start due r2) (with_state (State.Flying exchange) n s)
+      (with_one_sent (slot s n).id bodies)
+  fly_step exchange attempts parcel found a b s bodies n stands number own =
+      let q : Option Place = Some (Flies (sent_again parcel) attempts exchange) in
+      let found_here : get_or r.items (distance seq start) None ≡ Some (Waits parcel attempts) =
+      ap (λ (k : ℕ). get_or r.items k None) (sym i_is) ∙ sym found in
+      let ring_is : r2 ≡ with_items r (set r.items (distance seq start) q) =
+      replaced_twice r r1 r2 i None q a b ∙ ap (λ (k : ℕ). with_items r (set r.items k q)) i_is in
+      let P : RingValue → Type 0 = λ v. WindowStandsFor (shown size start due v)
+      (with_state (State.Flying exchange) n s) (with_one_sent (slot s n).id bodies) in
+      subst P (sym ring_is) (sent_law (shown size start due r) s bodies
+      (here s bodies stands) n seq number own exchange attempts parcel found_here)
+
+  module _ (parcel : FrameValue) (attempts exchange limit : ℕ)
+      (found : Some (Flies parcel attempts exchange) ≡ get_or r.items i None) (s : Session)
+      (bodies : ℕ → FrameValue) (n : ℕ) (stands : WindowStandsFor now s bodies)
+      (number : IsNumber s n seq) where
+    found_here : get_or r.items (distance seq start) None ≡ Some (Flies parcel attempts exchange)
+    found_here = ap (λ (k : ℕ). get_or r.items k None) (sym i_is) ∙ sym found
+
+    pub acked_step : (start2 moved : ℕ) (due2 : Option ℕ) → r1 ≡ with_items r (set r.items i None) →
+        r2 ≡ with_items r1 (rest state_of_place r1.items) → moved ≡ length (front state_of_place r1.items) →
+        due2 ≡ since_failed state_of_place due (front state_of_place r1.items) →
+        start2 ≡ (start + moved) % 4096 → WindowStandsFor (shown size start2 due2 r2)
+        (session_settled true limit n s) bodies
+    acked_step start2 moved due2 a b m d e =
+        let P : WindowValue → Type 0 = λ v. WindowStandsFor v (with_state State.Acked n s) bodies in
+        let a_here : r1 ≡ with_items r (set r.items (distance seq start) None) =
+        a ∙ ap (λ (k : ℕ). with_items r (set r.items k None)) i_is in
+        subst P (sym (moved_on_is size start start2 moved due due2 r r1 r2 _ a_here b m d e))
+        (acked_law (shown size start due r) s bodies
+        (here s bodies stands) n seq number parcel attempts exchange limit found_here)
+
+    pub failed_step : (r0 : RingValue) (start2 moved : ℕ) (due2 : Option ℕ) → limit ≤ attempts + 1 →
+        r0 ≡ with_items r (set r.items i None) → r1 ≡ with_items r0 (set r0.items i (Some Fails)) →
+        r2 ≡ with_items r1 (rest state_of_place r1.items) → moved ≡ length (front state_of_place r1.items) →
+        due2 ≡ since_failed state_of_place due (front state_of_place r1.items) →
+        start2 ≡ (start + moved) % 4096 → WindowStandsFor (shown size start2 due2 r2)
+        (session_settled false limit n s) bodies
+    failed_step r0 start2 moved due2 last z a b m d e =
+        let P : WindowValue → Type 0 = λ v. WindowStandsFor v (after_miss limit n s) bodies in
+        let a_here : r1 ≡ with_items r (set r.items (distance seq start) (Some Fails)) =
+        replaced_twice r r0 r1 i None (Some Fails) z a
+        ∙ ap (λ (k : ℕ). with_items r (set r.items k (Some Fails))) i_is in
+        subst P (sym (moved_on_is size start start2 moved due due2 r r1 r2 _ a_here b m d e))
+        (failed_law (shown size start due r) s bodies
+        (here s bodies stands) n seq number parcel attempts exchange limit found_here last)
+
+    pub missed_step : attempts + 1 < limit → r1 ≡ with_items r (set r.items i None) →
+        r2 ≡ with_items r1 (set r1.items i (Some (Waits parcel (attempts + 1)))) →
+        WindowStandsFor (shown size start due r2) (session_settled false limit n s) bodies
+    missed_step more a b =
+        let q : Option Place = Some (Waits parcel (attempts + 1)) in
+        let ring_is : r2 ≡ with_items r (set r.items (distance seq start) q) =
+        replaced_twice r r1 r2 i None q a b ∙ ap (λ (k : ℕ). with_items r (set r.items k q)) i_is in
+        let P : RingValue → Type 0 = λ v. WindowStandsFor (shown size start due v)
+        (after_miss limit n s) bodies in
+        subst P (sym ring_is) (missed_law (shown size start due r) s bodies
+        (here s bodies stands) n seq number parcel attempts exchange limit found_here more)
+
+    slot_found : IsFlyingSlot bodies (slot s n) parcel attempts exchange
+    slot_found = found_slot (shown size start due r) s bodies
+        (here s bodies stands) n seq number parcel attempts exchange limit found_here
+
+    pub acked_answer : (new : FrameValue) → new ≡ with_fate Is_acked parcel →
+        Is_answer_acked new ≡ settling_answer true limit bodies (slot s n)
+    acked_answer new e = ap Is_answer_acked (e ∙ ap (with_fate Is_acked) slot_found.parcel_is)
+
+    pub failed_answer : (new : FrameValue) → new ≡ with_fate (Dropped Retries) parcel → limit ≤ attempts + 1 →
+        Is_answer_failed new ≡ settling_answer false limit bodies (slot s n)
+    failed_answer new e last =
+        ap Is_answer_failed (e ∙ ap (with_fate (Dropped Retries)) slot_found.parcel_is)
+        ∙ ap (λ (b : Bool). if b then Is_answer_failed (with_fate (Dropped Retries) (bodies (slot s n).id))
+        else Is_answer_waiting) (sym (is_over limit _ _ last slot_found.attempts_is))
+
+    pub missed_answer : attempts + 1 < limit → Is_answer_waiting
+        ≡ settling_answer false limit bodies (slot s n)
+    missed_answer more = ap (λ (b : Bool). if b then Is_answer_failed
+        (with_fate (Dropped Retries) (bodies (slot s n).id)) else Is_answer_waiting)
+        (sym (is_under limit _ _ more slot_found.attempts_is))
+
+-- the first place goes, with its frame
+pub expel_step : (size start start2 moved : ℕ) (due due2 : Option ℕ) (r r1 r2 : RingValue) (now : WindowValue)
+    (parcel : FrameValue) (attempts : ℕ) → shown size start due r ≡ now →
+    Some (Waits parcel attempts) ≡ get_or r.items 0 None → r1 ≡ with_items r (set r.items 0 None) →
+    r2 ≡ with_items r1 (rest state_of_place r1.items) → moved ≡ length (front state_of_place r1.items) →
+    due2 ≡ since_failed state_of_place due (front state_of_place r1.items) → start2 ≡ (start + moved) % 4096 →
+    (s : Session) (bodies : ℕ → FrameValue) → WindowStandsFor now s bodies → (start_of s < next_number s) ×
+    (parcel ≡ bodies (slot s (start_of s)).id) ×
+    WindowStandsFor (shown size start2 due2 r2) (with_state State.Acked (start_of s) s) bodies
+expel_step size start start2 moved due due2 r r1 r2 now parcel attempts is found a b m d e s bodies stands =
+    let W : WindowValue = shown size start due r in
+    let w : WindowStandsFor W s bodies = (let P : WindowValue → Type 0 = λ v. WindowStandsFor v s bodies in
+    subst P (sym is) stands) in
+    let some : 0 < length r.items = some_place r.items parcel attempts found in
+    let inside : start_of s < next_number s = omega (arith, some, places_length W s bodies w) in
+    let number : IsNumber s (start_of s) start = record {
+      from_start = omega arith;
+      given = inside;
+      on_air =
+          w.start;
+    } in
+    let here_is : 0 ≡ distance start start = omega arith in
+    let x = waiting_slot bodies (slot s (start_of s)) parcel attempts
+    (found ∙ ap (λ (k : ℕ). get_or r.items k None) here_is
+    ∙ place_is W s bodies w (start_of s) start number) in
+    let P : WindowValue → Type 0 = λ v. WindowStandsFor v (with_state State.Acked (start_of s) s) bodies in
+    let a_here : r1 ≡ with_items r (set r.items (distance start start) None) =
+    a ∙ ap (λ (k : ℕ). with_items r (set r.items k None)) here_is in (
+      inside,
+      x.parcel_is,
+      subst P (sym (moved_on_is size start start2 moved due due2 r r1 r2 _ a_here b m d
+          e)) (slot_changed W s bodies w (start_of s) start number
+          (λ y. record y { state = State.Acked }) None refl),
+    )
+  where
+    some_place : (ps : List (Option Place)) (f : FrameValue) (t : ℕ) → Some (Waits f t) ≡ get_or ps 0 None →
+        0 < length ps
+    some_place [] f t h = absurd (cc)
+    some_place (p ∷ ps) f t h = omega arith
+
+-- the first place waits, where nothing flies
+pub first_waits : (ps : List (Option Place)) → 0 < length ps → settled_first state_of_place ps ≡ false →
+    list_any (λ p. is_flying (state_of_place p)) ps ≡ false →
+    is_waiting (state_of_place (get_or ps 0 None)) ≡ true
+first_waits [] some h k = absurd (omega arith)
+first_waits (p ∷ ps) some h k = elim (state_of_place p) as
+    (λ st. is_settled st ≡ false → is_flying st || list_any (λ p. is_flying (state_of_place p)) ps ≡ false →
+    is_waiting st ≡ true) [
+      | State.Waiting ↦ λ h k. refl
+      | State.Flying exchange ↦ λ h k. absurd (cc k)
+      | State.Acked ↦ λ h k. absurd (cc h)
+      | State.Failed ↦ λ h k. absurd (cc h)
+    ] h k
+
+-- a waiting place is found, at this number on the air
+
+module _ (w : WindowValue) (from seq i : ℕ) (on_air : seq ≡ (w.start + i) % 4096)
+    (above : distance from w.start ≤ i) (inside : i < length w.places) (small : length w.places ≤ 256) where
+  found_at : distance seq w.start ≡ i
+  found_at = omega arith
+
+  pub waits_there : is_waiting (state_of_place (get_or w.places i None)) ≡ true →
+      state_at w seq ≡ State.Waiting
+  waits_there waits = waiting_is (state_at w seq)
+      (ap (λ (k : ℕ). is_waiting (state_of_place (get_or w.places k None))) found_at ∙ waits)
+
+  pub within_places : (distance from w.start ≤ distance seq w.start) ×
+      (distance seq w.start < length w.places)
+  within_places = (omega (arith, found_at, above), omega (arith, found_at, inside))

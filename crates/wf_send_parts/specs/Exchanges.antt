@@ -1,0 +1,33 @@
+-- An open exchange, by what it sends.
+use Rattle.std.specs.Prelude.{ℕ, ◌==◌, Bool, true, false, ◌&&◌, List, length, Option, None, slice_get}
+use Rattle.std.specs.List.{list_any}
+use Rattle.wf_send_parts.specs.declared.exchanges.opened.Open.{Open}
+use Rattle.wf_send_parts.specs.declared.exchanges.opened.Sending.{Sending}
+use Rattle.wf_send_parts.specs.declared.exchanges.opened.Sending.TheVariants.{Data, Request}
+
+-- the number of an exchange
+abbrev pub exchange_number : Open → ℕ
+exchange_number x = x.number
+
+-- how many transmissions it has: one for each frame, or the one request
+abbrev pub transmissions_of : Sending → ℕ
+transmissions_of (Data numbers) = length numbers
+transmissions_of (Request start) = 1
+
+-- the sequence number of the frame that a transmission carries: none of a request, nor past the last frame
+abbrev pub number_carried : Sending → ℕ → Option ℕ
+number_carried (Data numbers) i = slice_get numbers i
+number_carried (Request start) i = None
+
+-- whether it sends a BlockAckReq (IEEE 802.11-2012, 8.3.1.8)
+abbrev pub sending_is_request : Sending → Bool
+sending_is_request (Data numbers) = false
+sending_is_request (Request start) = true
+
+-- whether it sends a BlockAckReq to TID t of station s
+abbrev pub is_request_of : ℕ → ℕ → Open → Bool
+is_request_of s t x = (x.station == s) && ((x.tid == t) && sending_is_request x.sending)
+
+-- whether a BlockAckReq to TID t of station s is open
+abbrev pub asks : List Open → ℕ → ℕ → Bool
+asks opened s t = list_any (is_request_of s t) opened

@@ -1,0 +1,15 @@
+pub mod Answers
+pub mod Ending
+pub mod Expelling
+pub mod Listing
+pub mod Many
+pub mod Places
+pub mod Ring
+pub mod Sent
+pub mod Window
+pub mod Windows
+pub mod Exchanges
+pub mod Kept
+pub mod Marks
+pub mod Members
+pub mod Tally

@@ -1,0 +1,133 @@
+-- The window of one TID as its callers see it, and the sessions that it stands for.
+use Rattle.std.specs.Prelude.{◌≡◌, ℕ, ◌+◌, ◌-◌, ◌%◌, ◌<◌, ◌≤◌, nat_lt, nat_le, Bool, true, false, not, ◌&&◌, List, [], Option, Some, None, is_none, unwrap_or, length, map, find, slice_index_or}
+use Rattle.std.specs.List.{list_any}
+use Rattle.wf_frame.specs.Frames.{FrameValue}
+use Rattle.wf_send_parts.specs.declared.window.place.Place.{Place}
+use Rattle.wf_send_parts.specs.declared.window.place.Place.TheVariants.{Waiting as Waits, Flying as Flies}
+use Rattle.wf_octets_parts.specs.Distance.{distance}
+use Rattle.wf_send_parts.specs.Places.{settled_first, state_of_place, slot_place, slot_state, front, rest, since_failed, at_most}
+use Rattle.wf_def_agreement.specs.Session.{Session, Slot, State, slot, start_of, next_number, request_due, has_room, waiting_numbers, is_waiting, with_state, after_miss}
+
+-- a window as its callers see it
+pub record WindowValue : Type 0 where
+  pub capacity : ℕ
+  pub size : ℕ
+  pub start : ℕ  -- F, modulo 4096
+  pub places : List (Option Place)  -- of the numbers from F on
+  pub due : Option ℕ  -- how far F is past the last failed number, where a request is due
+
+-- a window of no number: its capacity, its size and the first number
+abbrev pub fresh_window : ℕ → ℕ → ℕ → WindowValue
+fresh_window capacity size start = record {
+  capacity = capacity;
+  size = size;
+  start = start;
+  places = [];
+  due = None;
+}
+
+-- the session
+
+-- the slots from the first number on that is not settled
+abbrev pub slots_from_start : Session → List Slot
+slots_from_start s = rest slot_state s.slots
+
+-- how far F is past the last failed number below it, where that is at or past R
+abbrev pub due_distance : Session → Option ℕ
+due_distance s = at_most (start_of s - s.heard) (since_failed slot_state None (front slot_state s.slots))
+
+-- the window stands for the session, where `bodies` has the frame of each id
+pub record WindowStandsFor (w : WindowValue) (s : Session) (bodies : ℕ → FrameValue) : Type 0 where
+  pub size : w.size ≡ s.size
+  pub start : w.start ≡ start_of s % 4096
+  pub places : w.places ≡ map (slot_place bodies) (slots_from_start s)
+  pub due : w.due ≡ due_distance s
+  pub heard : s.heard ≤ start_of s
+  pub room : next_number s ≤ start_of s + s.size
+  pub small : s.size ≤ 256
+
+-- n is one of the session's numbers that are not behind its start, and this on the air
+pub record IsNumber (s : Session) (n seq : ℕ) : Type 0 where
+  pub from_start : start_of s ≤ n
+  pub given : n < next_number s
+  pub on_air : seq ≡ n % 4096
+
+-- whether the session may give its next number
+abbrev pub may_give : Session → Bool
+may_give s = not (request_due s) && has_room s
+
+-- the first waiting number at or past n
+abbrev pub waiting_from : Session → ℕ → Option ℕ
+waiting_from s n = find (λ m. nat_le n m) (waiting_numbers s)
+
+abbrev pub on_air : ℕ → ℕ
+on_air n = n % 4096
+
+-- the session after a number was settled
+abbrev pub session_settled : Bool → ℕ → ℕ → Session → Session
+session_settled true limit n s = with_state State.Acked n s
+session_settled false limit n s = after_miss limit n s
+
+-- the window
+
+abbrev pub place_at : WindowValue → ℕ → Option Place
+place_at w seq = slice_index_or w.places (distance seq w.start) None
+
+abbrev pub state_at : WindowValue → ℕ → State
+state_at w seq = state_of_place (place_at w seq)
+
+-- a place in flight
+abbrev pub is_flying : State → Bool
+is_flying (State.Flying exchange) = true
+is_flying _ = false
+
+-- a state in which a number holds a parcel
+abbrev pub holds_parcel : State → Bool
+holds_parcel State.Waiting = true
+holds_parcel (State.Flying exchange) = true
+holds_parcel _ = false
+
+-- a waiting place
+abbrev pub waits : Option Place → Bool
+waits p = is_waiting (state_of_place p)
+
+-- whether a number flies
+abbrev pub some_fly : WindowValue → Bool
+some_fly w = list_any (λ p. is_flying (state_of_place p)) w.places
+
+-- how often the frame of a number was sent in vain
+abbrev pub attempts_of : Option Place → ℕ
+attempts_of (Some (Waits parcel attempts)) = attempts
+attempts_of (Some (Flies parcel attempts exchange)) = attempts
+attempts_of _ = 0
+
+-- the place holds this frame
+abbrev pub HasFrame : Option Place → FrameValue → Type 0
+HasFrame (Some (Waits parcel attempts)) frame = frame ≡ parcel
+HasFrame (Some (Flies parcel attempts exchange)) frame = frame ≡ parcel
+HasFrame _ frame = ⊥
+
+-- no other number that waits or flies has the frame of n
+pub record HasOwnFrame (s : Session) (n : ℕ) : Type 0 where
+  pub sole : (m : ℕ) → start_of s ≤ m → m < next_number s → holds_parcel (slot s m).state ≡ true →
+      (slot s m).id ≡ (slot s n).id → m ≡ n
+
+-- what every window keeps
+pub record IsInOrder (capacity size : ℕ) (places : List (Option Place)) (due : Option ℕ) : Type 0 where
+  pub bounded : unwrap_or due 0 + length places ≤ size
+  pub within : size ≤ capacity
+  pub small : capacity ≤ 256
+  pub begins : settled_first state_of_place places ≡ false
+
+-- whether the window gives its next number
+abbrev pub can_take : WindowValue → Bool
+can_take w = is_none w.due && nat_lt (length w.places) w.size
+
+-- the window without the settled numbers in front
+abbrev pub moved_on : WindowValue → WindowValue
+moved_on w =
+    record w {
+      start = (w.start + length (front state_of_place w.places)) % 4096;
+      places = rest state_of_place w.places;
+      due = since_failed state_of_place w.due (front state_of_place w.places);
+    }

@@ -1,0 +1,192 @@
+//! The open exchanges, in the order of their numbers.
+
+ghost use Rattle.std.specs.Prelude.{◌≡◌, ◌<◌, ◌≤◌, ◌==◌, ◌++◌, ◌∷◌, [], not, length, filter, find, count_by, map, option_map, position, IfOk, All};
+ghost use Rattle.wf_frame.specs.Classes.{same_class};
+ghost use Rattle.wf_def_lists.specs.Lists.{IsRising};
+
+use std::alloc::{AllocError, Global};
+use std::marker::Model;
+use wf_frame::{Class, FixedList};
+use wf_octets_parts::seq12::Seq12;
+
+/// The most open exchanges: eight of each of the four classes.
+pub const MOST_OPEN: usize = 32;
+
+/// At most 256 sequence numbers, in the order in which they are sent.
+pub type Numbers = FixedList<Seq12>;
+
+/// What an exchange sends.
+#[derive(Drop)]
+pub enum Sending {
+    /// An aggregate of the frames with these sequence numbers, in this order.
+    Data(Numbers),
+    /// A BlockAckReq with this start (IEEE 802.11-2012, 8.3.1.8).
+    Request(Seq12),
+}
+
+/// An exchange that is open.
+#[derive(Drop)]
+pub struct Open {
+    /// Its number: exchanges are numbered from 0, in the order in which they open.
+    pub number: u64,
+    /// The station that it sends to.
+    pub station: u16,
+    /// The TID, 0 to 7.
+    pub tid: u8,
+    /// The class that is charged for it.
+    pub class: Class,
+    /// What it is charged when it ends, in microseconds of airtime.
+    pub charge: u32,
+    /// What it sends.
+    pub sending: Sending,
+    /// The More Data bit of its frames (8.2.4.1.8).
+    pub more: bool,
+}
+
+impl Open {
+    ghost use Rattle.wf_send_parts.specs.Exchanges.{transmissions_of, number_carried, sending_is_request, is_request_of};
+
+    /// How many transmissions it has: one for each frame, or the one request.
+    pub fn count(&self) -> u16
+        ensures count { result ≡ transmissions_of self.now.sending }
+        ensures most { result ≤ 256 }
+    {
+        match &self.sending {
+            Sending::Data(numbers) => numbers.len() as u16,
+            Sending::Request(_) => 1,
+        }
+    }
+
+    /// The sequence number of the frame that transmission `index` carries, counted from 0. None where it
+    /// is a BlockAckReq or has no such transmission.
+    pub fn number_at(&self, index: u16) -> Option<Seq12>
+        ensures { result ≡ number_carried self.now.sending index }
+    {
+        match &self.sending {
+            Sending::Data(numbers) if usize::from(index) < numbers.len() => {
+                Some(numbers.at(usize::from(index)))
+            }
+            _ => None,
+        }
+    }
+
+    /// Whether it is a BlockAckReq.
+    pub fn is_request(&self) -> bool
+        ensures { result ≡ sending_is_request self.now.sending }
+    {
+        matches!(&self.sending, Sending::Request(_))
+    }
+
+    // Whether it is a BlockAckReq of this TID.
+    fn is_request_of(&self, station: u16, tid: u8) -> bool
+        ensures { result ≡ is_request_of station tid self.now }
+    {
+        self.station == station && self.tid == tid && self.is_request()
+    }
+}
+
+/// At most 32 open exchanges, in the order of their numbers. A contract sees them as a list. Only `new`
+/// takes memory.
+#[derive(Drop)]
+pub struct Opened {
+    list: Vec<Open>,
+}
+
+impl Model for Opened {
+    ghost use Rattle.std.specs.Prelude.{List, vec_capacity};
+    ghost use Rattle.wf_send_parts.specs.declared.exchanges.opened.Open.{Open};
+    ghost use Rattle.wf_send_parts.specs.Exchanges.{exchange_number};
+    ghost use Rattle.wf_send_parts.specs.Kept.{AreKept};
+
+    ghost Value = { List Open };
+
+    ghost view = { λ o. o.list.items };
+
+    ghost invariant = { λ o. AreKept exchange_number o.list.items (vec_capacity o.list) };
+}
+
+impl Opened {
+    ghost use Rattle.wf_send_parts.specs.Exchanges.{exchange_number, asks};
+
+    /// No exchange.
+    pub fn new(alloc: Global) -> Result<Opened, AllocError>
+        ensures { IfOk result (λ made. made ≡ []) }
+    {
+        let list = Vec::with_capacity(alloc, MOST_OPEN)?;
+        Ok(Opened { list })
+    }
+
+    /// Opens an exchange. Fewer than 32 may be open, and its number is above theirs.
+    pub fn push(&mut self, exchange: Open)
+        requires room { length self.old < MOST_OPEN }
+        requires above { All (λ other. other.number < exchange.number) self.old }
+        ensures { self.new ≡ self.old ++ exchange ∷ [] }
+    {
+        self.list.push_reserved(exchange);
+    }
+
+    /// The open exchange with this number. None where it is not open.
+    pub fn find(&self, number: u64) -> Option<&Open>
+        ensures { option_map (λ x. x.now) result ≡ find (λ x. x.number == number) self.now }
+    {
+        self.list.iter().find(|exchange| exchange.number == number)
+    }
+
+    /// Ends the open exchange with this number, and gives it. None where it is not open.
+    pub fn take_out(&mut self, number: u64) -> Option<Open>
+        ensures taken { result ≡ find (λ x. x.number == number) self.old }
+        ensures rest { self.new ≡ filter (λ x. not (x.number == number)) self.old }
+    {
+        match self.place_of(number) {
+            Some(place) => Some(self.list.remove(place)),
+            None => None,
+        }
+    }
+
+    // The place of the open exchange with this number.
+    fn place_of(&self, number: u64) -> Option<usize>
+        ensures { result ≡ position (λ x. x.number == number) self.now }
+    {
+        self.list
+            .iter()
+            .position(|exchange| exchange.number == number)
+    }
+
+    /// How many are open.
+    pub fn len(&self) -> u32
+        ensures count { result ≡ length self.now }
+        ensures most { result ≤ MOST_OPEN }
+        ensures rising { IsRising 0 (map exchange_number self.now) }
+    {
+        self.list.len() as u32
+    }
+
+    /// How many of a station are open.
+    pub fn of_station(&self, station: u16) -> u32
+        ensures { result ≡ count_by (λ x. x.station == station) self.now }
+    {
+        self.list
+            .iter()
+            .filter(|exchange| exchange.station == station)
+            .count() as u32
+    }
+
+    /// How many of a class are open.
+    pub fn of_class(&self, class: Class) -> u32
+        ensures { result ≡ count_by (λ x. same_class x.class class) self.now }
+    {
+        self.list
+            .iter()
+            .filter(|exchange| exchange.class == class)
+            .count() as u32
+    }
+
+    /// Whether a BlockAckReq of this TID is open.
+    pub fn asks(&self, station: u16, tid: u8) -> bool
+        ensures { result ≡ asks self.now station tid }
+    {
+        self.list
+            .iter()
+            .any(|exchange| exchange.is_request_of(station, tid))
+    }
+}

@@ -1,0 +1,12 @@
+//! What follows from the definitions.
+
+ghost use Rattle.std.specs.Prelude.{◌≡◌, ℕ, suc};
+ghost use Rattle.wf_frame.specs.declared.classes.Fate.{Fate};
+ghost use Rattle.wf_send_parts.specs.Tally.{Counts, many_settled_as, settled_as};
+
+/// Frames that settle together settle one by one: none changes no count, and one more is one more.
+pub fn many_settle_one_by_one()
+    ensures none { (fate : Fate) (c : Counts) → many_settled_as fate 0 c ≡ c }
+    ensures one_more { (fate : Fate) (n : ℕ) (c : Counts) →
+        many_settled_as fate (suc n) c ≡ settled_as fate (many_settled_as fate n c) }
+{}

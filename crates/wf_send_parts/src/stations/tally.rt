@@ -1,0 +1,96 @@
+//! What became of the frames that were accepted, by exact count.
+
+ghost use Rattle.std.specs.Prelude.{◌≡◌, ◌≢◌, ◌+◌, ◌<◌, ◌≤◌, ◌^◌};
+ghost use Rattle.wf_frame.specs.declared.classes.Fate.TheVariants.{Held};
+
+use wf_frame::{Cause, Fate};
+
+/// Counts of frames. Every accepted frame is acknowledged, dropped for one cause, or still held.
+#[derive(Clone, Copy)]
+pub struct Tally {
+    /// All accepted frames.
+    pub accepted: u64,
+    /// Acknowledged.
+    pub acked: u64,
+    /// Dropped since the flow queues were full.
+    pub overlimit: u64,
+    /// Dropped by CoDel.
+    pub codel: u64,
+    /// Dropped after their last transmission.
+    pub retries: u64,
+    /// Dropped since their station left.
+    pub left: u64,
+    ghost counted: { acked + overlimit + codel + retries + left ≤ accepted },
+}
+
+impl Tally {
+    ghost use Rattle.wf_send_parts.specs.Tally.{counts_of, held_in, many_settled_as, no_counts, one_accepted, settled_count, settled_as};
+
+    /// No frames.
+    pub fn new() -> Tally
+        ensures { counts_of result ≡ no_counts }
+    {
+        Tally {
+            accepted: 0,
+            acked: 0,
+            overlimit: 0,
+            codel: 0,
+            retries: 0,
+            left: 0,
+        }
+    }
+
+    /// Counts a frame that is accepted.
+    pub fn add(&mut self)
+        requires { self.old.accepted < 2 ^ 63 }
+        ensures accepted { counts_of self.new ≡ one_accepted (counts_of self.old) }
+        ensures held { held_in (counts_of self.new) ≡ held_in (counts_of self.old) + 1 }
+    {
+        self.accepted += 1;
+    }
+
+    /// Counts a held frame as one that has this fate.
+    pub fn settle(&mut self, fate: Fate)
+        requires settled { fate ≢ Held }
+        requires held { 1 ≤ held_in (counts_of self.old) }
+        ensures counted { counts_of self.new ≡ settled_as fate (counts_of self.old) }
+        ensures held { held_in (counts_of self.new) + 1 ≡ held_in (counts_of self.old) }
+    {
+        match fate {
+            Fate::Held => unreachable!(),
+            Fate::Acked => self.acked += 1,
+            Fate::Dropped(Cause::Overlimit) => self.overlimit += 1,
+            Fate::Dropped(Cause::Codel) => self.codel += 1,
+            Fate::Dropped(Cause::Retries) => self.retries += 1,
+            Fate::Dropped(Cause::Left) => self.left += 1,
+        }
+    }
+
+    /// Counts so many held frames as ones that have this fate.
+    pub fn settle_all(&mut self, fate: Fate, count: u32)
+        requires settled { fate ≢ Held }
+        requires held { count ≤ held_in (counts_of self.old) }
+        ensures counted { counts_of self.new ≡ many_settled_as fate count (counts_of self.old) }
+        ensures held { held_in (counts_of self.new) + count ≡ held_in (counts_of self.old) }
+    {
+        let count = u64::from(count);
+        match fate {
+            Fate::Held => unreachable!(),
+            Fate::Acked => self.acked += count,
+            Fate::Dropped(Cause::Overlimit) => self.overlimit += count,
+            Fate::Dropped(Cause::Codel) => self.codel += count,
+            Fate::Dropped(Cause::Retries) => self.retries += count,
+            Fate::Dropped(Cause::Left) => self.left += count,
+        }
+    }
+
+    /// The frames that are still held.
+    pub fn held(&self) -> u64
+        ensures held { result ≡ held_in (counts_of self.now) }
+
+        // accepted is the sum of the other five and held
+        ensures sum { settled_count (counts_of self.now) + result ≡ self.now.accepted }
+    {
+        self.accepted - self.acked - self.overlimit - self.codel - self.retries - self.left
+    }
+}

@@ -1,0 +1,28 @@
+//! What a number carries.
+
+ghost use Rattle.std.specs.Prelude.{◌≡◌};
+ghost use Rattle.wf_send_parts.specs.Window.{waits};
+
+use wf_queue_chain::Parcel;
+
+/// What a number carries that was not acknowledged. `attempts` counts its transmissions that were not
+/// acknowledged.
+#[derive(Drop)]
+pub(crate) enum Place {
+    Waiting {
+        parcel: Parcel,
+        attempts: u8,
+    },
+    Flying {
+        parcel: Parcel,
+        attempts: u8,
+        exchange: u64,
+    },
+    Failed,
+}
+
+pub(crate) fn is_waiting(place: &Option<Place>) -> bool
+    ensures { result ≡ waits place.now }
+{
+    matches!(place, Some(Place::Waiting { .. }))
+}

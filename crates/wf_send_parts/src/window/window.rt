@@ -1,0 +1,409 @@
+//! The window of one TID.
+//!
+//! In the clauses F is the first number that is not settled, N the next fresh number, w the size and R the
+//! greatest start of a request that ended as heard: those of each session that the window stands for.
+
+ghost use Rattle.std.specs.Prelude.{count_by, ◌≡◌, ℕ, ◌+◌, ◌%◌, ◌<◌, ◌≤◌, true, false, [], length, max, is_ok, is_some, unwrap_or, option_map, slice_index_or, slice_set, nat_lt, IfOk, IfErr, IfSome, IfNone};
+ghost use Rattle.std.specs.List.{list_any};
+ghost use Rattle.wf_frame.specs.Frames.{FrameValue};
+ghost use Rattle.wf_frame.specs.declared.classes.Fate.TheVariants.{Dropped};
+ghost use Rattle.wf_frame.specs.declared.classes.Cause.TheVariants.{Left};
+ghost use Rattle.wf_def_agreement.specs.Session.{Session, State, slot, new_session, with_number_given, with_state, start_of, next_number, request_due, is_settled, waiting_numbers};
+ghost use Rattle.wf_octets_parts.specs.Distance.{distance};
+ghost use Rattle.wf_send_parts.specs.Places.{state_of_place, front, rest, next_since, since_failed};
+ghost use Rattle.wf_send_parts.specs.Window.{fresh_window, WindowStandsFor, IsNumber, may_give, waiting_from, on_air, session_settled, place_at, state_at, attempts_of, is_flying, holds_parcel, HasOwnFrame, waits, some_fly, can_take};
+ghost use Rattle.wf_send_parts.specs.Sent.{with_one_sent};
+ghost use Rattle.wf_send_parts.specs.Answers.{settling_answer, with_fate};
+
+use crate::window::place::{Place, is_waiting};
+use crate::window::ring::Ring;
+use std::alloc::{AllocError, Global};
+use std::marker::Model;
+use wf_frame::{Cause, Fate, Frame};
+use wf_octets_parts::seq12::Seq12;
+use wf_queue_chain::Parcel;
+
+/// What became of a number whose exchange has ended.
+#[derive(Drop)]
+pub enum Settled {
+    /// It was acknowledged: its parcel, with the fate Acked.
+    Acked(Parcel),
+    /// It waits for another transmission.
+    Waiting,
+    /// It was sent as often as the limit allows: its parcel, with the fate Dropped(Retries).
+    Failed(Parcel),
+}
+
+/// The originator's window of one TID: the numbers from F on, by their distance past F, each with its parcel
+/// and how often that was sent in vain. Where a request is due it also keeps how far F is past the last
+/// failed number. Every number is kept modulo 4096.
+#[derive(Drop)]
+pub struct Window {
+    ring: Ring,
+    start: Seq12,
+    size: u16,
+    due: Option<u16>,
+}
+
+impl Model for Window {
+    ghost use Rattle.wf_send_parts.specs.Window.{WindowValue, IsInOrder};
+
+    ghost Value = { WindowValue };
+
+    ghost view = { λ w. record {
+      capacity = w.ring.capacity;
+      size = w.size;
+      start = w.start;
+      places = w.ring.items;
+      due = w.due;
+    } };
+
+    ghost invariant = { λ w. IsInOrder w.ring.capacity w.size w.ring.items w.due };
+}
+
+fn is_settled(place: &Option<Place>) -> bool
+    ensures { result ≡ is_settled (state_of_place place.now) }
+{
+    match place {
+        None => true,
+        Some(Place::Failed) => true,
+        Some(_) => false,
+    }
+}
+
+// How far the number after `place` is past the last failed one, where that of `place` is `due` past it.
+fn next_due(place: &Option<Place>, due: Option<u16>) -> Option<u16>
+    requires { unwrap_or due 0 < 65535 }
+    ensures { result ≡ next_since (state_of_place place.now) due }
+{
+    if let Some(Place::Failed) = place {
+        return Some(1);
+    }
+    match due {
+        Some(distance) => Some(distance + 1),
+        None => None,
+    }
+}
+
+// Takes the settled places in front off the ring, and gives their number and the new distance.
+fn advance(ring: &mut Ring, due: Option<u16>) -> (u16, Option<u16>)
+    requires { unwrap_or due 0 + length ring.old.items ≤ 256 }
+    ensures items { ring.new ≡ record ring.old { items = rest state_of_place ring.old.items } }
+    ensures moved { result.0 ≡ length (front state_of_place ring.old.items) }
+    ensures due { result.1 ≡ since_failed state_of_place due (front state_of_place ring.old.items) }
+{
+    let mut moved = 0;
+    let mut distance = due;
+    'moving: while ring.len() > 0 && is_settled(ring.at(0)) {
+        distance = next_due(ring.at(0), distance);
+        ring.drop_front();
+        moved += 1;
+    }
+    (moved, distance)
+}
+
+fn attempts_in(place: &Option<Place>) -> u8
+    requires { holds_parcel (state_of_place place.now) ≡ true }
+    ensures { result ≡ attempts_of place.now }
+{
+    match place {
+        Some(Place::Waiting { attempts, .. }) => *attempts,
+        Some(Place::Flying { attempts, .. }) => *attempts,
+        _ => unreachable!(),
+    }
+}
+
+// Takes the parcel of a waiting place, which is then settled.
+fn take_waiting(ring: &mut Ring, i: usize) -> (Parcel, u8)
+    requires { waits (slice_index_or ring.old.items i None) ≡ true }
+    ensures found { Some (Place.Waiting result.0 result.1) ≡ slice_index_or ring.old.items i None }
+    ensures changed { ring.new ≡ record ring.old { items = slice_set ring.old.items i None } }
+{
+    let Some(Place::Waiting { parcel, attempts }) = ring.replace(i, None) else {
+        unreachable!()
+    };
+    (parcel, attempts)
+}
+
+// The parcel, once its frame has this fate.
+fn finished(mut parcel: Parcel, fate: Fate) -> Parcel
+    ensures { result ≡ with_fate fate parcel }
+{
+    parcel.frame_mut().settle(fate);
+    parcel
+}
+
+impl Window {
+    /// A window of no number, as after `reset` with start 0 and the capacity as its size. `capacity` is the
+    /// greatest size that it may be given, in frames: 1 to 256.
+    pub fn new(alloc: Global, capacity: u16) -> Result<Window, AllocError>
+        requires { (1 ≤ capacity) × (capacity ≤ 256) }
+        ensures stands { IfOk result (λ w. (bodies : ℕ → FrameValue) (n : ℕ) → n % 4096 ≡ 0 →
+            WindowStandsFor w (new_session n capacity) bodies) }
+        ensures fresh { IfOk result (λ w. w ≡ fresh_window capacity capacity 0) }
+        ensures empty { IfOk result (λ w. w.places ≡ []) }
+        ensures capacity { IfOk result (λ w. w.capacity ≡ capacity) }
+    {
+        let ring = Ring::new(alloc, capacity)?;
+        Ok(Window {
+            ring,
+            start: Seq12::of(0),
+            size: capacity,
+            due: None,
+        })
+    }
+
+    /// Begins a new session, whose first number is `start`. The window must hold no parcel: then every number
+    /// that it gave is settled.
+    pub fn reset(&mut self, start: Seq12, size: u16)
+        requires empty { self.old.places ≡ [] }
+        requires in_range { (1 ≤ size) × (size ≤ self.old.capacity) }
+        ensures stands { (bodies : ℕ → FrameValue) (n : ℕ) → start ≡ n % 4096 →
+            WindowStandsFor self.new (new_session n size) bodies }
+        ensures fresh { self.new ≡ fresh_window self.old.capacity size start }
+        ensures capacity { self.new.capacity ≡ self.old.capacity }
+    {
+        self.start = start;
+        self.size = size;
+        self.due = None;
+    }
+
+    /// F: the first number that is not settled, or the next one where all are.
+    pub fn start(&self) -> Seq12
+        ensures shown { result ≡ self.now.start }
+        ensures number { (s : Session) (bodies : ℕ → FrameValue) → WindowStandsFor self.now s bodies →
+            result ≡ start_of s % 4096 }
+    {
+        self.start
+    }
+
+    /// N: the next fresh number.
+    pub fn next(&self) -> Seq12
+        ensures number { (s : Session) (bodies : ℕ → FrameValue) → WindowStandsFor self.now s bodies →
+            result ≡ next_number s % 4096 }
+    {
+        self.start.plus(self.ring.len() as u16)
+    }
+
+    /// w: how many numbers from F on the recipient takes, in frames.
+    pub fn size(&self) -> u16
+        ensures shown { result ≡ self.now.size }
+        ensures number { (s : Session) (bodies : ℕ → FrameValue) → WindowStandsFor self.now s bodies →
+            result ≡ s.size }
+    {
+        self.size
+    }
+
+    /// Whether a block acknowledgement request is due: some failed number stands from R to below F.
+    pub fn bar_due(&self) -> bool
+        ensures shown { result ≡ is_some self.now.due }
+        ensures due { (s : Session) (bodies : ℕ → FrameValue) → WindowStandsFor self.now s bodies →
+            result ≡ request_due s }
+    {
+        self.due.is_some()
+    }
+
+    /// A request with this start was heard. Its start is at most F, and N is at most w past it.
+    pub fn bar_heard(&mut self, start: Seq12)
+        requires { distance self.old.start start + length self.old.places ≤ self.old.size }
+        ensures stands { (s : Session) (bodies : ℕ → FrameValue) (f : ℕ) → WindowStandsFor self.old s bodies →
+            start ≡ f % 4096 → f ≤ start_of s → next_number s ≤ f + s.size →
+            WindowStandsFor self.new (record s { heard = max s.heard f }) bodies }
+        ensures capacity { self.new.capacity ≡ self.old.capacity }
+    {
+        if let Some(distance) = self.due
+            && self.start.ahead(start) < distance
+        {
+            self.due = None;
+        }
+    }
+
+    /// Whether `give` takes a parcel: no request is due, and N is below F + w.
+    pub fn can_give(&self) -> bool
+        ensures shown { result ≡ can_take self.now }
+        ensures can { (s : Session) (bodies : ℕ → FrameValue) → WindowStandsFor self.now s bodies →
+            result ≡ may_give s }
+    {
+        self.due.is_none() && self.ring.len() < usize::from(self.size)
+    }
+
+    /// Gives the parcel the number N, with which it waits. Refused, with the parcel handed back, exactly
+    /// where `can_give` is false.
+    pub fn give(&mut self, parcel: Parcel) -> Result<Seq12, Parcel>
+        ensures exactly { is_ok result ≡ can_take self.old }
+        ensures given { IfOk result (λ seq. (s : Session) (bodies : ℕ → FrameValue) →
+            WindowStandsFor self.old s bodies →
+            parcel ≡ bodies parcel.id →
+            (seq ≡ next_number s % 4096) × WindowStandsFor self.new (with_number_given s parcel.id) bodies) }
+        ensures refused { IfErr result (λ back. (back ≡ parcel) × (self.new ≡ self.old)) }
+        ensures capacity { self.new.capacity ≡ self.old.capacity }
+    {
+        if !self.can_give() {
+            return Err(parcel);
+        }
+        let seq = self.start.plus(self.ring.len() as u16);
+        self.ring.push_back(Some(Place::Waiting {
+            parcel,
+            attempts: 0,
+        }));
+        Ok(seq)
+    }
+
+    /// A waiting number flies in this exchange; its frame counts that it is sent once more.
+    pub fn fly(&mut self, seq: Seq12, exchange: u64)
+        requires { state_at self.old seq ≡ State.Waiting }
+        ensures stands { (s : Session) (bodies : ℕ → FrameValue) (n : ℕ) → WindowStandsFor self.old s bodies →
+            IsNumber s n seq → HasOwnFrame s n → WindowStandsFor self.new
+            (with_state (State.Flying exchange) n s) (with_one_sent (slot s n).id bodies) }
+        ensures capacity { self.new.capacity ≡ self.old.capacity }
+    {
+        let i = usize::from(seq.ahead(self.start));
+        let Some(
+            Place::Waiting {
+                mut parcel,
+                attempts,
+            },
+        ) = self.ring.replace(i, None)
+        else {
+            unreachable!()
+        };
+        parcel.frame_mut().send();
+        let _ = self.ring.replace(
+            i,
+            Some(Place::Flying {
+                parcel,
+                attempts,
+                exchange,
+            }),
+        );
+    }
+
+    /// The exchange in which a number flew has ended. Where it was not acknowledged, its attempts rise by
+    /// one, and it fails where they now equal `limit`.
+    pub fn settle(&mut self, seq: Seq12, acked: bool, limit: u8) -> Settled
+        requires flies { is_flying (state_at self.old seq) ≡ true }
+        requires limit { attempts_of (place_at self.old seq) < limit }
+        ensures stands { (s : Session) (bodies : ℕ → FrameValue) (n : ℕ) → WindowStandsFor self.old s bodies →
+            IsNumber s n seq → WindowStandsFor self.new (session_settled acked limit n s) bodies }
+        ensures answer { (s : Session) (bodies : ℕ → FrameValue) (n : ℕ) → WindowStandsFor self.old s bodies →
+            IsNumber s n seq → result ≡ settling_answer acked limit bodies (slot s n) }
+        ensures capacity { self.new.capacity ≡ self.old.capacity }
+    {
+        let i = usize::from(seq.ahead(self.start));
+        let Some(
+            Place::Flying {
+                parcel,
+                attempts,
+                ..
+            },
+        ) = self.ring.replace(i, None)
+        else {
+            unreachable!()
+        };
+        if acked {
+            let (moved, due) = advance(&mut self.ring, self.due);
+            self.start = self.start.plus(moved);
+            self.due = due;
+            return Settled::Acked(finished(parcel, Fate::Acked));
+        }
+        if attempts + 1 < limit {
+            let _ = self.ring.replace(
+                i,
+                Some(Place::Waiting {
+                    parcel,
+                    attempts: attempts + 1,
+                }),
+            );
+            return Settled::Waiting;
+        }
+        let _ = self.ring.replace(i, Some(Place::Failed));
+        let (moved, due) = advance(&mut self.ring, self.due);
+        self.start = self.start.plus(moved);
+        self.due = due;
+        Settled::Failed(finished(parcel, Fate::Dropped(Cause::Retries)))
+    }
+
+    /// Whether some number waits.
+    pub fn has_waiting(&self) -> bool
+        ensures shown { result ≡ list_any waits self.now.places }
+        ensures waiting { (s : Session) (bodies : ℕ → FrameValue) → WindowStandsFor self.now s bodies →
+            result ≡ nat_lt 0 (length (waiting_numbers s)) }
+    {
+        self.ring.has_waiting()
+    }
+
+    /// How many numbers wait.
+    pub fn waiting_count(&self) -> u32
+        ensures shown { result ≡ count_by waits self.now.places }
+        ensures waiting { (s : Session) (bodies : ℕ → FrameValue) → WindowStandsFor self.now s bodies →
+            result ≡ length (waiting_numbers s) }
+    {
+        self.ring.waiting() as u32
+    }
+
+    /// The first waiting number at or past `from`, which lies in F to N; None exactly where there is none.
+    pub fn waiting(&self, from: Seq12) -> Option<Seq12>
+        requires { distance from self.now.start ≤ length self.now.places }
+        ensures waits { IfSome result (λ seq. state_at self.now seq ≡ State.Waiting) }
+        ensures within { IfSome result (λ seq. (distance from self.now.start ≤ distance seq self.now.start) ×
+            (distance seq self.now.start < length self.now.places)) }
+        ensures number { (s : Session) (bodies : ℕ → FrameValue) (n : ℕ) → WindowStandsFor self.now s bodies →
+            from ≡ n % 4096 → start_of s ≤ n → n ≤ next_number s →
+            result ≡ option_map on_air (waiting_from s n) }
+    {
+        for i in usize::from(from.ahead(self.start))..self.ring.len() {
+            if is_waiting(self.ring.at(i)) {
+                return Some(self.start.plus(i as u16));
+            }
+        }
+        None
+    }
+
+    /// The frame of a number that waits or flies.
+    pub fn frame(&self, seq: Seq12) -> &Frame
+        requires { holds_parcel (state_at self.now seq) ≡ true }
+        ensures { (s : Session) (bodies : ℕ → FrameValue) (n : ℕ) → WindowStandsFor self.now s bodies →
+            IsNumber s n seq → result.now ≡ bodies (slot s n).id }
+    {
+        match self.ring.at(usize::from(seq.ahead(self.start))) {
+            Some(Place::Waiting { parcel, .. }) => parcel.frame(),
+            Some(Place::Flying { parcel, .. }) => parcel.frame(),
+            _ => unreachable!(),
+        }
+    }
+
+    /// How often a number that waits or flies was sent in vain.
+    pub fn attempts(&self, seq: Seq12) -> u8
+        requires { holds_parcel (state_at self.now seq) ≡ true }
+        ensures { (s : Session) (bodies : ℕ → FrameValue) (n : ℕ) → WindowStandsFor self.now s bodies →
+            IsNumber s n seq → result ≡ (slot s n).attempts }
+    {
+        attempts_in(self.ring.at(usize::from(seq.ahead(self.start))))
+    }
+
+    /// Takes the parcel of the lowest number that holds one, with the fate Dropped(Left). That number then
+    /// counts as acknowledged. None exactly where none holds one. Nothing may fly.
+    pub fn expel(&mut self) -> Option<Parcel>
+        requires { some_fly self.old ≡ false }
+        ensures none { IfNone result ((s : Session) (bodies : ℕ → FrameValue) →
+            WindowStandsFor self.old s bodies →
+            (next_number s ≡ start_of s) × WindowStandsFor self.new s bodies) }
+        ensures some { IfSome result (λ p. (s : Session) (bodies : ℕ → FrameValue) →
+            WindowStandsFor self.old s bodies →
+            (start_of s < next_number s) ×
+            (p ≡ with_fate (Dropped Left) (bodies (slot s (start_of s)).id)) ×
+            WindowStandsFor self.new (with_state State.Acked (start_of s) s) bodies) }
+        ensures fewer { IfSome result (λ _. length self.new.places < length self.old.places) }
+        ensures still { some_fly self.new ≡ false }
+        ensures capacity { self.new.capacity ≡ self.old.capacity }
+    {
+        if self.ring.len() == 0 {
+            return None;
+        }
+        let (parcel, _) = take_waiting(&mut self.ring, 0);
+        let (moved, due) = advance(&mut self.ring, self.due);
+        self.start = self.start.plus(moved);
+        self.due = due;
+        Some(finished(parcel, Fate::Dropped(Cause::Left)))
+    }
+}

@@ -1,8 +1,0 @@
-use Rattle.std.proofs.Common.{ap, ◌∙◌, is_some}
-use Rattle.wf_send_window.specs.Window.{WindowValue}
-use Rattle.wf_send_window.proofs.Calls.{due_is}
-use Rattle.wf_send_window.proofs.window.Window.bar_due.Goals as goal
-
-pub returns-clause-due : goal.returns-clause-due
-returns-clause-due c s bodies stands = c.is_some.ensures
-    ∙ ap (λ (w : WindowValue). is_some w.due) c.self.view_is ∙ due_is _ s bodies stands

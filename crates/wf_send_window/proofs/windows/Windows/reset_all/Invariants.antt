@@ -1,5 +1,0 @@
-use Rattle.wf_send_window.proofs.Resetting.{IsResetting}
-use Rattle.wf_send_window.proofs.windows.Windows.reset_all.Given as goal
-
-abbrev pub invariant-loop-tid : goal.invariant-loop-tid
-invariant-loop-tid l = IsResetting l.initial.self l.self l.station l.size l.start l.tid
