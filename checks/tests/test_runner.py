@@ -25,10 +25,10 @@ class Outcomes(unittest.TestCase):
         for check in runner.ALL:
             self.assertTrue((shared.CHECKS / check.name).is_file(), check.name)
 
-    def test_each_check_has_a_row_in_the_readme(self):
+    def test_each_check_stands_in_the_readme(self):
         page = (shared.CHECKS / "README.md").read_text(encoding="utf-8")
         for check in runner.ALL:
-            self.assertIn(f"| `{check.name}` |", page)
+            self.assertIn(f"\n- `{check.name}`: ", page)
 
 
 class Texts(unittest.TestCase):
