@@ -161,7 +161,7 @@ impl Flows {
         if self.queued[list as usize] == 0 {
             return None;
         }
-        let q = self.rota.pick_uncounted(list, self.waiting.ready())?;
+        let q = self.rota.pick(list, self.waiting.ready()).winner?;
         let taken = self.waiting.take(q, now, params)?;
         let left = self.queued[list as usize] - taken.dropped - 1;
         self.queued[list as usize] = left;

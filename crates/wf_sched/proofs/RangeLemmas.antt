@@ -1,6 +1,5 @@
--- What callers need beside the pick: the winner is a ready key of the rotation, and no deficit rises above
--- its quantum.
-use Rattle.std.proofs.Common.{◌≡◌, ℕ, zero, suc, ◌+◌, ◌*◌, ◌/◌, ◌<◌, ◌≤◌, min, Bool, true, false, cond, List, length, Option, Some, None, sym, ap, ◌∙◌, subst, arith}
+-- What callers need beside the pick: the winner is a key, and no deficit rises above its quantum.
+use Rattle.std.proofs.Common.{◌≡◌, ℕ, zero, suc, ◌+◌, ◌*◌, ◌/◌, ◌<◌, ◌≤◌, min, Bool, true, false, cond, List, length, Option, Some, None, sym, subst, arith}
 use Rattle.std.specs.Prelude.{ℤ, pos, negsuc, ◌+ℤ◌, ◌≤ℤ◌, find, ◌==◌, ◌&&◌}
 use Rattle.std.specs.List.{filter}
 use Rattle.std.proofs.lemmas.Int.{ints}
@@ -12,8 +11,7 @@ use Rattle.wf_sched.specs.Lists.{AreDisjoint, lists_at}
 use Rattle.wf_sched.specs.Rotas.{Rotas, need_at, is_ready}
 use Rattle.wf_sched.specs.Scan.{IsWon}
 use Rattle.wf_sched.specs.declared.rotation.scan.Best.{Best}
-use Rattle.wf_law_rules.proofs.Lemmas.Counts.{listed-some}
-use Rattle.wf_sched.proofs.LeastLemmas.{least-cut, least-stands}
+use Rattle.wf_sched.proofs.LeastLemmas.{least-stands}
 
 chosen : (b : Bool) (m n : ℕ) → m ≤ n → cond b m 0 ≤ n
 chosen true m n low = low
@@ -59,11 +57,3 @@ module _ (v : Rotas) (ready : List Bool) (list : ℕ) (best : Best)
   pub won_below : AreDisjoint (record { lists = v.lists; keys = length v.deficits }) →
       best.key < length v.deficits
   won_below apart = subst (λ (k : ℕ). k < length v.deficits) (sym won.2) (apart.below list won.0.key stands)
-
-  pub won_listed : has_key (lists_at v.lists list) best.key ≡ true
-  won_listed = ap (has_key (lists_at v.lists list)) won.2
-      ∙ listed-some (lists_at v.lists list) won.0.key stands
-
-  pub won_ready : is_ready ready best.key ≡ true
-  won_ready = ap (is_ready ready) won.2 ∙ (least-cut (is_ready ready)
-      (round (need_at v) (lists_at v.lists list)) (in_order (lists_at v.lists list)) won.0 won.1).1

@@ -8,17 +8,17 @@ use Rattle.std.proofs.lemmas.Bool.{cases_eq, cond-true, cond-false}
 use Rattle.wf_def_rotation.specs.Rotation.{Rotation, Picked, no_keys, has_key, in_order}
 use Rattle.wf_def_rotation.specs.Loop.{Turn, Empty, Wins, Again, Standing, turn, turn_at, with_quantum_paid, pick_by_deficits, deficit_after, onward, LoopEnds, PickGives, MeetsTurn}
 use Rattle.wf_def_lists.specs.Lists.{on, IsOnce}
-use Rattle.wf_sched.specs.Lists.{AreDisjoint, lists_at, side_of, keys_at, first_of, keys_behind}
+use Rattle.wf_sched.specs.Lists.{AllLists, AreDisjoint, lists_at, keys_at, first_of, keys_behind}
 use Rattle.wf_sched.specs.Rotas.{Rotas, deficit_at, quantum_at, need_at, is_ready, picked_at}
-use Rattle.wf_sched.specs.Pass.{passed_first, WasPickedFrom}
-use Rattle.wf_sched.specs.Turns.{standing, first_turn, next_of, next_up, HasTurned, key_paid, is_new, after_turn_of, IsSamePick}
+use Rattle.wf_sched.specs.Pass.{passed_first, HasPicked}
+use Rattle.wf_sched.specs.Turns.{standing, first_turn, HasTurned, key_paid, is_new, after_turn_of, IsSamePick}
 use Rattle.wf_sched.specs.declared.rotation.Side.{Side}
 use Rattle.wf_sched.specs.declared.rotation.Side.TheVariants.{New, Old}
 use Rattle.wf_law_rules.proofs.Lemmas.Counts.{on-cons_same, on-cons_other, on-hasnot, listed-some}
 use Rattle.wf_law_rules.proofs.Lemmas.Numbers.{on_bool, eq_yes, eq_no}
 use Rattle.wf_law_rules.proofs.Lemmas.Rotations.{IsWinner, pick_winner}
 use Rattle.wf_law_rules.proofs.Lemmas.Turns.{turn_law}
-use Rattle.wf_sched.proofs.ListsLemmas.{first_is}
+use Rattle.wf_sched.proofs.ListsLemmas.{first_is, taken_below}
 use Rattle.wf_sched.proofs.PassLemmas.{passed, passed_set}
 use Rattle.wf_sched.proofs.RangeLemmas.{quanta_low, capped}
 
@@ -27,27 +27,15 @@ use Rattle.wf_sched.proofs.RangeLemmas.{quanta_low, capped}
 abbrev two : List ℕ → List ℕ → Rotation
 two news olds = record { new = news; old = olds }
 
-abbrev on_new : Option (Side × ℕ) → Bool
-on_new None = false
-on_new (Some next) = is_new next.0
+-- the key is the first of new, or where new is empty that of old
+abbrev pub IsNext : Rotation → Side → ℕ → Type 0
+IsNext r New key = first_of r.new ≡ Some key
+IsNext r Old key = (first_of r.new ≡ None) × (first_of r.old ≡ Some key)
 
-abbrev key_of : Option (Side × ℕ) → Option ℕ
-key_of None = None
-key_of (Some next) = Some next.1
-
--- the key that is next is the first of its list
-first_next : (news olds : List ℕ) (side : Side) (key : ℕ) → next_of news olds ≡ Some (side, key) →
-    first_of (side_of (two news olds) side) ≡ Some key
-first_next [] [] side key e = absurd (cc e)
-first_next [] (k ∷ ks) New key e = let clash : false ≡ true = ap on_new e in absurd (cc clash)
-first_next [] (k ∷ ks) Old key e = ap key_of e
-first_next (k ∷ ks) olds New key e = ap key_of e
-first_next (k ∷ ks) olds Old key e = let clash : true ≡ false = ap on_new e in absurd (cc clash)
-
--- where the key that is next stands on old, new is empty
-empty_next : (news olds : List ℕ) (key : ℕ) → next_of news olds ≡ Some (Old, key) → first_of news ≡ None
-empty_next [] olds key e = refl
-empty_next (k ∷ ks) olds key e = let clash : true ≡ false = ap on_new e in absurd (cc clash)
+pub next_below : (q : AllLists) (list : ℕ) (side : Side) (key : ℕ) (next : Side × ℕ) → next ≡ (side, key) →
+    AreDisjoint q → first_of (keys_at q.lists list side) ≡ Some key → next.1 < q.keys
+next_below q list side key next is apart first =
+    subst (λ (n : Side × ℕ). n.1 < q.keys) (sym is) (taken_below q list side key apart first)
 
 pub owing : (d : ℤ) → int_le d (pos 0) ≡ true → d ≤ℤ pos 0
 owing (pos zero) h = omega (arith, ints)
@@ -60,11 +48,6 @@ owing (negsuc n) h = omega (arith, ints)
 pub not_new : (side : Side) → (side ≡ New → ⊥) → false ≡ is_new side
 not_new New h = absurd (h refl)
 not_new Old h = refl
-
-pub next_first : (r : Rotation) (side : Side) (key : ℕ) → next_up r ≡ Some (side, key) →
-    first_of (side_of r side) ≡ Some key
-next_first r New key is = first_next r.new r.old New key is
-next_first r Old key is = first_next r.new r.old Old key is
 
 module _ (v : Rotas) (ready : List Bool) (list key : ℕ) (low : list < length v.lists)
     (below : key < length v.deficits) where
@@ -180,15 +163,13 @@ module _ (v : Rotas) (ready : List Bool) (list key : ℕ) (low : list < length v
       (no_first (lists_at v.lists list).new none))
 
   -- the key that is next has its turn
-  pub turned_next : (side : Side) → next_up (lists_at v.lists list) ≡ Some (side, key) →
+  pub turned_next : (side : Side) → IsNext (lists_at v.lists list) side key →
       HasTurned v list (first_turn v ready list) (after_turn_of v list side key (is_ready ready key))
-  turned_next New is = turned_new (next_first (lists_at v.lists list) New key is)
-  turned_next Old is = turned_old
-      (empty_next (lists_at v.lists list).new (lists_at v.lists list).old key is)
-      (next_first (lists_at v.lists list) Old key is)
+  turned_next New is = turned_new is
+  turned_next Old is = turned_old is.0 is.1
 
   -- with no deficit above 0 it is paid, and goes last on old
-  pub turn_paid : (side : Side) (after : Rotas) → next_up (lists_at v.lists list) ≡ Some (side, key) →
+  pub turn_paid : (side : Side) (after : Rotas) → IsNext (lists_at v.lists list) side key →
       int_le (deficit_at v.deficits key) (pos 0) ≡ true →
       after ≡ record v { lists = passed_first v.lists list side key true; deficits = key_paid v key } →
       HasTurned v list (first_turn v ready list) after
@@ -198,7 +179,7 @@ module _ (v : Rotas) (ready : List Bool) (list key : ℕ) (low : list < length v
       (turned_next side is)
 
   -- else it wins where it is ready
-  pub turn_won : (side : Side) → next_up (lists_at v.lists list) ≡ Some (side, key) →
+  pub turn_won : (side : Side) → IsNext (lists_at v.lists list) side key →
       int_le (deficit_at v.deficits key) (pos 0) ≡ false → is_ready ready key ≡ true →
       HasTurned v list (first_turn v ready list) v
   turn_won side is rich rdy =
@@ -208,7 +189,7 @@ module _ (v : Rotas) (ready : List Bool) (list key : ℕ) (low : list < length v
 
   -- where it is not ready, it moves from new to old, or leaves old
   pub turn_passed : (side : Side) (after : Rotas) (stays : Bool) →
-      next_up (lists_at v.lists list) ≡ Some (side, key) →
+      IsNext (lists_at v.lists list) side key →
       int_le (deficit_at v.deficits key) (pos 0) ≡ false → is_ready ready key ≡ false → stays ≡ is_new side →
       after ≡ record v { lists = passed_first v.lists list side key stays } →
       HasTurned v list (first_turn v ready list) after
@@ -300,6 +281,10 @@ same_first v ready list = record {
   fewer = omega arith;
 }
 
+if_some : (o : Option ℕ) (P : ℕ → Type 0) → ((key : ℕ) → o ≡ Some key → P key) → IfSome o P
+if_some None P h = tt
+if_some (Some key) P h = h key refl
+
 module _ (start : Rotas) (ready : List Bool) (list : ℕ) (u v : Rotas) (low : list < length start.lists)
     (some : (y : ℕ) → 1 ≤ quantum_at u.quanta y)
     (apart : AreDisjoint (record { lists = u.lists; keys = length u.deficits }))
@@ -361,11 +346,6 @@ module _ (start : Rotas) (ready : List Bool) (list : ℕ) (u v : Rotas) (low : l
   }
 
   -- the last turn
-  pub record HasEnded (winner : Option ℕ) : Type 0 where
-    pub winner_is : winner ≡ (picked_at start ready list).winner
-    pub picked : WasPickedFrom start list (picked_at start ready list) v
-    pub below : (key : ℕ) → winner ≡ Some key → key < length start.deficits
-
   ended_by : (winner : Option ℕ) (t : Turn) →
       MeetsTurn (quantum_at u.quanta) (deficit_at u.deficits) (is_ready ready) (lists_at u.lists list) t →
       HasTurned u list t v → LoopEnds t winner →
@@ -384,7 +364,8 @@ module _ (start : Rotas) (ready : List Bool) (list : ℕ) (u v : Rotas) (low : l
   )
   ended_by winner (Again lists after) m h e = absurd e
 
-  pub has_ended : (winner : Option ℕ) → LoopEnds (first_turn u ready list) winner → HasEnded winner
+  pub has_ended : (winner : Option ℕ) → LoopEnds (first_turn u ready list) winner →
+      HasPicked start ready list winner v
   has_ended winner ends =
       let by : (winner ≡ (picked_at u ready list).winner)
       × (v.lists ≡ set u.lists list (picked_at u ready list).lists)
@@ -400,27 +381,36 @@ module _ (start : Rotas) (ready : List Bool) (list : ℕ) (u v : Rotas) (low : l
           keys = turned.keys ∙ same.keys;
           quanta = turned.quanta ∙ same.quanta;
         };
-        below = λ key is.
+        below = if_some winner (λ key. key < length start.deficits) (λ key is.
             let won : IsWinner (need_at u) (is_ready ready) (lists_at u.lists list)
             (picked_at u ready list) key =
             pick_winner (need_at u) (is_ready ready) (lists_at u.lists list) key (sym by.0 ∙ is) in
-            omega (arith, apart.below list key won.listed, same.keys);
+            omega (arith, apart.below list key won.listed, same.keys));
       }
+
+-- the pick in closed form, after some turns
+pub at_once : (start : Rotas) (ready : List Bool) (list : ℕ) (u v : Rotas) (winner : Option ℕ) →
+    IsSamePick start ready list u → HasPicked u ready list winner v → HasPicked start ready list winner v
+at_once start ready list u v winner same has = record {
+  winner_is = has.winner_is ∙ same.winner;
+  picked = record {
+    lists = has.picked.lists ∙ ap (λ (r : Rotation). set u.lists list r) same.lists
+        ∙ same.others (picked_at start ready list).lists;
+    deficits = λ key. has.picked.deficits key ∙ same.deficits key;
+    keys = has.picked.keys ∙ same.keys;
+    quanta = has.picked.quanta ∙ same.quanta;
+  };
+  below = subst (λ (n : ℕ). IfSome winner (λ key. key < n)) same.keys has.below;
+}
 
 -- ---- what every caller of a pick needs
 
-if_some : (o : Option ℕ) (P : ℕ → Type 0) → ((key : ℕ) → o ≡ Some key → P key) → IfSome o P
-if_some None P h = tt
-if_some (Some key) P h = h key refl
-
-pub some_below : (o : Option ℕ) (n : ℕ) → ((key : ℕ) → o ≡ Some key → key < n) → IfSome o (λ key. key < n)
-some_below o n h = if_some o (λ key. key < n) h
-
-module _ (start : Rotas) (ready : List Bool) (list : ℕ) (winner : Option ℕ)
-    (is : winner ≡ (picked_at start ready list).winner) where
+module _ (start : Rotas) (ready : List Bool) (list : ℕ) (winner : Option ℕ) (v : Rotas)
+    (has : HasPicked start ready list winner v) where
   won : (key : ℕ) → winner ≡ Some key → IsWinner (need_at start) (is_ready ready) (lists_at start.lists list)
       (picked_at start ready list) key
-  won key some = pick_winner (need_at start) (is_ready ready) (lists_at start.lists list) key (sym is ∙ some)
+  won key some = pick_winner (need_at start) (is_ready ready) (lists_at start.lists list) key
+      (sym has.winner_is ∙ some)
 
   pub some_listed : IfSome winner (λ key. has_key (lists_at start.lists list) key ≡ true)
   some_listed = if_some winner (λ key. has_key (lists_at start.lists list) key ≡ true)
@@ -429,23 +419,9 @@ module _ (start : Rotas) (ready : List Bool) (list : ℕ) (winner : Option ℕ)
   pub some_ready : IfSome winner (λ key. is_ready ready key ≡ true)
   some_ready = if_some winner (λ key. is_ready ready key ≡ true) (λ key some. (won key some).is_ready)
 
-pub pick_capped : (start : Rotas) (ready : List Bool) (list : ℕ) (v : Rotas) →
-    WasPickedFrom start list (picked_at start ready list) v → (key : ℕ) →
-    deficit_at start.deficits key ≤ℤ pos (quantum_at start.quanta key) →
-    deficit_at v.deficits key ≤ℤ pos (quantum_at start.quanta key)
-pick_capped start ready list v picked key small =
-    rw (picked.deficits key) (capped (deficit_at start.deficits key) (quantum_at start.quanta key)
-    ((picked_at start ready list).quanta key)
-    (quanta_low (need_at start) (is_ready ready) (lists_at start.lists list) key) small)
-
--- the pick in closed form, after some turns
-pub at_once : (start : Rotas) (ready : List Bool) (list : ℕ) (u v : Rotas) → IsSamePick start ready list u →
-    WasPickedFrom u list (picked_at u ready list) v →
-    WasPickedFrom start list (picked_at start ready list) v
-at_once start ready list u v same picked = record {
-  lists = picked.lists ∙ ap (λ (r : Rotation). set u.lists list r) same.lists
-      ∙ same.others (picked_at start ready list).lists;
-  deficits = λ key. picked.deficits key ∙ same.deficits key;
-  keys = picked.keys ∙ same.keys;
-  quanta = picked.quanta ∙ same.quanta;
-}
+  pub none_above : (key : ℕ) → deficit_at start.deficits key ≤ℤ pos (quantum_at start.quanta key) →
+      deficit_at v.deficits key ≤ℤ pos (quantum_at start.quanta key)
+  none_above key small =
+      rw (has.picked.deficits key) (capped (deficit_at start.deficits key) (quantum_at start.quanta key)
+      ((picked_at start ready list).quanta key)
+      (quanta_low (need_at start) (is_ready ready) (lists_at start.lists list) key) small)

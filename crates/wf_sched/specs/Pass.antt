@@ -1,9 +1,9 @@
 -- One pass over a rotation, its old list first: what each key gets, and where it goes.
-use Rattle.std.specs.Prelude.{◌≡◌, ◌<◌, ℕ, ◌+◌, ◌-◌, ◌*◌, min, max, Bool, true, false, ◌||◌, ◌&&◌, if◌then◌else◌, nat_lt, List, [], ◌∷◌, ◌++◌, length, take, drop, get_or, set, filter, ℤ, pos, ◌+ℤ◌, Option, Some, None}
+use Rattle.std.specs.Prelude.{◌≡◌, ◌<◌, ℕ, ◌+◌, ◌-◌, ◌*◌, min, max, Bool, true, false, ◌||◌, ◌&&◌, if◌then◌else◌, nat_lt, List, [], ◌∷◌, ◌++◌, length, take, drop, get_or, set, filter, ℤ, pos, ◌+ℤ◌, Option, Some, None, IfSome}
 use Rattle.wf_def_rotation.specs.Rotation.{Rotation, Picked, need_of}
 use Rattle.wf_def_lists.specs.Lists.{on}
 use Rattle.wf_sched.specs.Lists.{lists_at, with_keys, keys_at, keys_behind}
-use Rattle.wf_sched.specs.Rotas.{Rotas, deficit_at, quantum_at, need_at, is_ready}
+use Rattle.wf_sched.specs.Rotas.{Rotas, deficit_at, quantum_at, need_at, is_ready, picked_at}
 use Rattle.wf_sched.specs.Scan.{first_round}
 use Rattle.wf_sched.specs.declared.rotation.Side.{Side}
 use Rattle.wf_sched.specs.declared.rotation.Side.TheVariants.{New, Old}
@@ -119,3 +119,10 @@ pub record WasPickedFrom (start : Rotas) (list : ℕ) (p : Picked) (v : Rotas) :
       ≡ deficit_at start.deficits key +ℤ pos (p.quanta key * quantum_at start.quanta key)
   pub keys : length v.deficits ≡ length start.deficits
   pub quanta : v.quanta ≡ start.quanta
+
+-- one of the rotations was picked from, with this winner
+pub record HasPicked (start : Rotas) (ready : List Bool) (list : ℕ) (winner : Option ℕ)
+    (v : Rotas) : Type 0 where
+  pub winner_is : winner ≡ (picked_at start ready list).winner
+  pub picked : WasPickedFrom start list (picked_at start ready list) v
+  pub below : IfSome winner (λ key. key < length start.deficits)

@@ -1,5 +1,5 @@
 -- One turn of the paper's loop (Loop of wf_def_rotation) over one of the rotations.
-use Rattle.std.specs.Prelude.{◌≡◌, ℕ, ◌*◌, ◌≤◌, Bool, true, false, List, [], ◌∷◌, length, set, ℤ, pos, ◌+ℤ◌, int_le, Option, Some, None, if◌then◌else◌}
+use Rattle.std.specs.Prelude.{◌≡◌, ℕ, ◌*◌, ◌≤◌, Bool, true, false, List, length, set, ℤ, pos, ◌+ℤ◌, int_le, if◌then◌else◌}
 use Rattle.wf_def_rotation.specs.Rotation.{Rotation, in_order}
 use Rattle.wf_def_rotation.specs.Loop.{Turn, Empty, Wins, Again, Standing, turn_from, onward, LoopEnds}
 use Rattle.wf_sched.specs.Lists.{lists_at}
@@ -35,15 +35,6 @@ pub record HasTurned (start : Rotas) (list : ℕ) (t : Turn) (v : Rotas) : Type 
   pub deficits : (key : ℕ) → deficit_at v.deficits key ≡ (onward (standing start list) t).deficit key
   pub keys : length v.deficits ≡ length start.deficits
   pub quanta : v.quanta ≡ start.quanta
-
-abbrev pub next_of : List ℕ → List ℕ → Option (Side × ℕ)
-next_of [] [] = None
-next_of [] (key ∷ keys) = Some (Old, key)
-next_of (key ∷ keys) olds = Some (New, key)
-
--- the first key of new, or where new is empty that of old, with its list
-abbrev pub next_up : Rotation → Option (Side × ℕ)
-next_up lists = next_of lists.new lists.old
 
 abbrev pub is_new : Side → Bool
 is_new New = true

@@ -3,22 +3,38 @@ ghost use Rattle.wf_def_rotation.specs.Rotation.{no_keys, with_new_key, without_
 ghost use Rattle.wf_sched.specs.Rotas.{Rotas, deficit_at, quantum_at, need_at, is_ready, IsUnlisted, picked_at};
 ghost use Rattle.wf_sched.specs.Lists.{lists_at, keys_at, with_keys, has_on, first_of, AreDisjoint};
 ghost use Rattle.wf_sched.specs.Looks.{most_turns};
-ghost use Rattle.wf_sched.specs.Turns.{first_turn, next_up, HasTurned, EndsAs};
+ghost use Rattle.wf_sched.specs.Turns.{first_turn, HasTurned, EndsAs};
 ghost use Rattle.wf_sched.specs.Scan.{IsFound, IsRoundOn, IsWon};
 ghost use Rattle.wf_sched.specs.declared.rotation.Side.TheVariants.{Old};
-ghost use Rattle.wf_sched.specs.Pass.{raised, passed_first, passed_olds, way, SharesAre, HasPassed, WasPickedFrom, passed_key, last_after, last_before};
+ghost use Rattle.wf_sched.specs.Pass.{raised, passed_first, passed_olds, way, SharesAre, HasPassed, WasPickedFrom, HasPicked, passed_key, last_after, last_before};
 
 use crate::rotation::Side;
 use crate::rotation::links::Links;
 use crate::rotation::pass::{Course, Share, last_kept, raised, side_at};
 use crate::rotation::scan::{Best, Found, first_round_of, looked, need_of};
 use std::alloc::{AllocError, Global};
-use std::marker::{Brand, Model};
-use std::sync::ledger::{Blank, Ledger};
-use wf_queue_counted::Steps;
+use std::marker::Model;
 
 /// So many turns of its loop a pick plays before it goes on in closed form.
 const MOST_TURNS: u32 = 32;
+
+/// What a pick gives.
+#[derive(Clone, Copy)]
+pub struct Pick {
+    /// The key whose turn it is. None exactly where no key of the rotation is ready.
+    pub winner: Option<u32>,
+    /// How often the pick looked at a key or moved one.
+    pub looks: usize,
+}
+
+/// What a pass gives.
+#[derive(Clone, Copy)]
+struct Passed {
+    /// The last key that stays of those before the winner.
+    last: Option<u32>,
+    /// How many keys were passed.
+    count: usize,
+}
 
 /// What one turn of the loop comes to.
 #[derive(Clone, Copy)]
@@ -197,23 +213,6 @@ impl Rota {
         if least < keys { Some(least) } else { None }
     }
 
-    /// The key whose turn it is, with its list: the first key of new, or where new is empty that of old.
-    fn next_up(&self, list: u32) -> Option<(Side, u32)>
-        requires { list < length self.now.lists }
-        ensures next { result ≡ next_up (lists_at self.now.lists list) }
-        ensures below { IfSome result (λ next. next.1 < length self.now.deficits) }
-        ensures disjoint { AreDisjoint (record { lists = self.now.lists; keys = length self.now.deficits }) }
-        ensures positive { (key : ℕ) → 1 ≤ quantum_at self.now.quanta key }
-    {
-        match self.links.first(list, Side::New) {
-            Some(key) => Some((Side::New, key)),
-            None => match self.links.first(list, Side::Old) {
-                Some(key) => Some((Side::Old, key)),
-                None => None,
-            },
-        }
-    }
-
     /// How many quanta lift the deficit of a key above 0.
     fn need(&self, key: u32) -> u64
         requires { key < length self.now.deficits }
@@ -238,21 +237,14 @@ impl Rota {
     }
 
     /// Scans one list, from its first key on.
-    fn scan_list<L: Ledger>(
-        &self,
-        list: u32,
-        side: Side,
-        ready: &[bool],
-        start: Found,
-        steps: &mut Steps<L>,
-    ) -> Found
+    fn scan_list(&self, list: u32, side: Side, ready: &[bool], start: Found) -> Found
         requires in_lists { list < length self.now.lists }
         requires ready { length ready.now ≡ length self.now.deficits }
         requires small { start.count ≤ 2 ^ 33 }
         ensures found { (order : ℕ → ℕ) (seen : List ℕ) → IsFound start (is_ready ready.now) order seen →
             IsRoundOn order (need_at self.now) side (keys_at self.now.lists list side) →
             IsFound result (is_ready ready.now) order (seen ++ keys_at self.now.lists list side) }
-        ensures visits { steps.new ≡ steps.old + length (keys_at self.now.lists list side) }
+        ensures count { result.count ≡ start.count + length (keys_at self.now.lists list side) }
         ensures few { length (keys_at self.now.lists list side) < 2 ^ 32 }
         ensures disjoint { AreDisjoint (record { lists = self.now.lists; keys = length self.now.deficits }) }
     {
@@ -260,7 +252,6 @@ impl Rota {
         let mut seen = 0usize;
         let mut next = self.links.first(list, side);
         while let Some(key) = next {
-            steps.tick();
             found = self.look(side, key, ready, found);
             seen += 1;
             next = self.links.after(key);
@@ -347,16 +338,14 @@ impl Rota {
     }
 
     /// Passes the keys of a rotation in their order, the old list first, each by its share of this course.
-    /// Gives the last key that stays of those before the winner.
-    fn pass<L: Ledger>(
+    fn pass(
         &mut self,
         list: u32,
         course: Course,
         olds: usize,
         count: usize,
         ready: &[bool],
-        steps: &mut Steps<L>,
-    ) -> Option<u32>
+    ) -> Passed
         requires in_lists { list < length self.old.lists }
         requires ready { length ready.now ≡ length self.old.deficits }
         requires disjoint { AreDisjoint (record { lists = self.old.lists; keys = length self.old.deficits }) }
@@ -370,15 +359,18 @@ impl Rota {
             HasPassed course self.old list visits stay count self.new }
         ensures last { (visits : ℕ → ℕ) (stay : ℕ → Bool) →
             SharesAre course self.old ready.now list visits stay →
-            result ≡ last_before course (lists_at self.old.lists list) stay count }
-        ensures visits { steps.new ≡ steps.old + count }
+            result.last ≡ last_before course (lists_at self.old.lists list) stay count }
+        ensures count { result.count ≡ count }
     {
-        let mut last = None;
+        let mut passed = Passed {
+            last: None,
+            count: 0,
+        };
         for i in 0..count {
-            steps.tick();
-            last = self.pass_key(list, course, side_at(olds, i), i, ready, last);
+            passed.last = self.pass_key(list, course, side_at(olds, i), i, ready, passed.last);
+            passed.count += 1;
         }
-        last
+        passed
     }
 
     /// The old list begins with a key, and what stood before it comes last; `before` is the key just before
@@ -395,16 +387,8 @@ impl Rota {
         self.links.rotate(list, before, key);
     }
 
-    /// Rebuilds the lists for a winner, in at most one pass.
-    fn settle<L: Ledger>(
-        &mut self,
-        list: u32,
-        best: Best,
-        olds: usize,
-        count: usize,
-        ready: &[bool],
-        steps: &mut Steps<L>,
-    )
+    /// Rebuilds the lists for a winner, in at most one pass, and gives the number of keys that it passed.
+    fn settle(&mut self, list: u32, best: Best, olds: usize, count: usize, ready: &[bool]) -> usize
         requires in_lists { list < length self.old.lists }
         requires ready { length ready.now ≡ length self.old.deficits }
         requires disjoint { AreDisjoint (record { lists = self.old.lists; keys = length self.old.deficits }) }
@@ -413,65 +397,56 @@ impl Rota {
         requires won { IsWon best (is_ready ready.now) (need_at self.old) (lists_at self.old.lists list) }
         ensures picked { WasPickedFrom self.old list (picked_at self.old ready.now list) self.new }
         ensures winner { (picked_at self.old ready.now list).winner ≡ Some best.key }
-        ensures most { steps.new ≤ steps.old + count }
-        ensures counted { steps.old ≤ steps.new }
+        ensures most { result ≤ count }
     {
         if best.rank == 0 {
             // The winner is on new, so the old list is not turned, and the last key before the winner is not
             // asked for.
-            let _last = self.pass(list, Course::AtOnce, 0, best.place - olds, ready, steps);
-        } else {
-            let course = Course::Later {
-                round: best.rank,
-                place: best.place,
-            };
-            if let Some(before) = self.pass(list, course, olds, count, ready, steps) {
-                self.turn_old(list, before, best.key);
-            }
+            return self
+                .pass(list, Course::AtOnce, 0, best.place - olds, ready)
+                .count;
         }
+        let course = Course::Later {
+            round: best.rank,
+            place: best.place,
+        };
+        let passed = self.pass(list, course, olds, count, ready);
+        if let Some(before) = passed.last {
+            self.turn_old(list, before, best.key);
+        }
+        passed.count
     }
 
-    /// The pick in closed form. One scan finds the winner and one pass rebuilds the lists; a key looked at or
-    /// moved is one step.
-    fn pick_at_once<L: Ledger>(
-        &mut self,
-        list: u32,
-        ready: &[bool],
-        steps: &mut Steps<L>,
-    ) -> Option<u32>
+    /// The pick in closed form. One scan finds the winner and one pass rebuilds the lists: each key is looked
+    /// at once, and moved at most once.
+    fn pick_at_once(&mut self, list: u32, ready: &[bool]) -> Pick
         requires in_lists { list < length self.old.lists }
         requires ready { length ready.now ≡ length self.old.deficits }
-        ensures winner { result ≡ (picked_at self.old ready.now list).winner }
-        ensures lists { self.new.lists ≡
-            slice_set self.old.lists list (picked_at self.old ready.now list).lists }
-        ensures deficits { (key : ℕ) → deficit_at self.new.deficits key ≡ deficit_at self.old.deficits key +ℤ
-            pos ((picked_at self.old ready.now list).quanta key * quantum_at self.old.quanta key) }
-        ensures keys { length self.new.deficits ≡ length self.old.deficits }
-        ensures quanta { self.new.quanta ≡ self.old.quanta }
-        ensures below { IfSome result (λ key. key < length self.old.deficits) }
-        ensures listed { IfSome result (λ key. has_key (lists_at self.old.lists list) key ≡ true) }
-        ensures is_ready { IfSome result (λ key. is_ready ready.now key ≡ true) }
-        ensures capped { (key : ℕ) →
-            deficit_at self.old.deficits key ≤ℤ pos (quantum_at self.old.quanta key) →
-            deficit_at self.new.deficits key ≤ℤ pos (quantum_at self.old.quanta key) }
-        ensures at_least { steps.old + length (in_order (lists_at self.old.lists list)) ≤ steps.new }
-        ensures at_most { steps.new ≤ steps.old + (2 * length (in_order (lists_at self.old.lists list)) + 2) }
+        ensures picked { HasPicked self.old ready.now list result.winner self.new }
+        ensures at_least { length (in_order (lists_at self.old.lists list)) ≤ result.looks }
+        ensures at_most { result.looks ≤ 2 * length (in_order (lists_at self.old.lists list)) + 2 }
+        ensures few { length (in_order (lists_at self.old.lists list)) < 2 ^ 33 }
     {
         let nothing = Found {
             best: None,
             count: 0,
         };
-        let olds = self.scan_list(list, Side::Old, ready, nothing, steps);
-        let all = self.scan_list(list, Side::New, ready, olds, steps);
+        let olds = self.scan_list(list, Side::Old, ready, nothing);
+        let all = self.scan_list(list, Side::New, ready, olds);
         match all.best {
             None => {
-                // Nobody won, so there is no last key before a winner.
-                let _last = self.pass(list, Course::Nobody, olds.count, all.count, ready, steps);
-                None
+                let passed = self.pass(list, Course::Nobody, olds.count, all.count, ready);
+                Pick {
+                    winner: None,
+                    looks: all.count + passed.count,
+                }
             }
             Some(best) => {
-                self.settle(list, best, olds.count, all.count, ready, steps);
-                Some(best.key)
+                let moved = self.settle(list, best, olds.count, all.count, ready);
+                Pick {
+                    winner: Some(best.key),
+                    looks: all.count + moved,
+                }
             }
         }
     }
@@ -487,8 +462,12 @@ impl Rota {
         ensures disjoint { AreDisjoint (record { lists = self.old.lists; keys = length self.old.deficits }) }
         ensures positive { (key : ℕ) → 1 ≤ quantum_at self.old.quanta key }
     {
-        let Some((side, key)) = self.next_up(list) else {
-            return TurnEnd::Done(None);
+        let (side, key) = match self.links.first(list, Side::New) {
+            Some(key) => (Side::New, key),
+            None => match self.links.first(list, Side::Old) {
+                Some(key) => (Side::Old, key),
+                None => return TurnEnd::Done(None),
+            },
         };
         let at = key as usize;
         if self.deficits[at] <= 0 {
@@ -505,87 +484,40 @@ impl Rota {
 
     /// The winner of a rotation, if a key of it is ready, and the rotation as the pick leaves it: the loop
     /// of algorithm 3 of "Ending the Anomaly" (USENIX ATC 2017), turn by turn, and past `MOST_TURNS` turns
-    /// in closed form. A turn looks at one key, which is one step; each turn but the last gives a quantum,
-    /// or takes a key off new or off the rotation. So a pick that ends within those turns costs what the
-    /// quanta and the keys that left cost, whatever the number of listed keys (`cheap`).
-    pub fn pick<L: Ledger>(
-        &mut self,
-        list: u32,
-        ready: &[bool],
-        steps: &mut Steps<L>,
-    ) -> Option<u32>
+    /// in closed form. A turn looks at one key, and each turn but the last gives a quantum, or takes a key
+    /// off new or off the rotation. So a pick that ends within those turns costs what the quanta and the
+    /// keys that left cost, whatever the number of listed keys (`cheap`).
+    pub fn pick(&mut self, list: u32, ready: &[bool]) -> Pick
         requires in_lists { list < length self.old.lists }
         requires ready { length ready.now ≡ length self.old.deficits }
-        ensures winner { result ≡ (picked_at self.old ready.now list).winner }
+        ensures winner { result.winner ≡ (picked_at self.old ready.now list).winner }
         ensures lists { self.new.lists ≡
             slice_set self.old.lists list (picked_at self.old ready.now list).lists }
         ensures deficits { (key : ℕ) → deficit_at self.new.deficits key ≡ deficit_at self.old.deficits key +ℤ
             pos ((picked_at self.old ready.now list).quanta key * quantum_at self.old.quanta key) }
         ensures keys { length self.new.deficits ≡ length self.old.deficits }
         ensures quanta { self.new.quanta ≡ self.old.quanta }
-        ensures below { IfSome result (λ key. key < length self.old.deficits) }
-        ensures listed { IfSome result (λ key. has_key (lists_at self.old.lists list) key ≡ true) }
-        ensures is_ready { IfSome result (λ key. is_ready ready.now key ≡ true) }
+        ensures below { IfSome result.winner (λ key. key < length self.old.deficits) }
+        ensures listed { IfSome result.winner (λ key. has_key (lists_at self.old.lists list) key ≡ true) }
+        ensures is_ready { IfSome result.winner (λ key. is_ready ready.now key ≡ true) }
         ensures capped { (key : ℕ) →
             deficit_at self.old.deficits key ≤ℤ pos (quantum_at self.old.quanta key) →
             deficit_at self.new.deficits key ≤ℤ pos (quantum_at self.old.quanta key) }
-        ensures at_most { steps.new ≤
-            steps.old + (32 + 2 * length (in_order (lists_at self.old.lists list)) + 2) }
+        ensures at_most { result.looks ≤ 32 + 2 * length (in_order (lists_at self.old.lists list)) + 2 }
         ensures cheap { most_turns self.old ready.now list ≤ 32 →
-            steps.new ≤ steps.old + most_turns self.old ready.now list }
+            result.looks ≤ most_turns self.old ready.now list }
     {
+        let mut looks = 0;
         for _ in 0..MOST_TURNS {
-            steps.tick();
+            looks += 1;
             if let TurnEnd::Done(winner) = self.turn(list, ready) {
-                return winner;
+                return Pick { winner, looks };
             }
         }
-        self.pick_at_once(list, ready, steps)
-    }
-
-    /// The pick as `pick` makes it, for a caller that counts no steps.
-    pub fn pick_uncounted(&mut self, list: u32, ready: &[bool]) -> Option<u32>
-        requires in_lists { list < length self.old.lists }
-        requires ready { length ready.now ≡ length self.old.deficits }
-        ensures winner { result ≡ (picked_at self.old ready.now list).winner }
-        ensures lists { self.new.lists ≡
-            slice_set self.old.lists list (picked_at self.old ready.now list).lists }
-        ensures deficits { (key : ℕ) → deficit_at self.new.deficits key ≡ deficit_at self.old.deficits key +ℤ
-            pos ((picked_at self.old ready.now list).quanta key * quantum_at self.old.quanta key) }
-        ensures keys { length self.new.deficits ≡ length self.old.deficits }
-        ensures quanta { self.new.quanta ≡ self.old.quanta }
-        ensures below { IfSome result (λ key. key < length self.old.deficits) }
-        ensures listed { IfSome result (λ key. has_key (lists_at self.old.lists list) key ≡ true) }
-        ensures is_ready { IfSome result (λ key. is_ready ready.now key ≡ true) }
-        ensures capped { (key : ℕ) →
-            deficit_at self.old.deficits key ≤ℤ pos (quantum_at self.old.quanta key) →
-            deficit_at self.new.deficits key ≤ℤ pos (quantum_at self.old.quanta key) }
-    {
-        self.pick_from::<Brand>(list, ready, Blank::new(1))
-    }
-
-    /// Picks with a counter made from this blank.
-    fn pick_from<L: Ledger>(&mut self, list: u32, ready: &[bool], blank: Blank) -> Option<u32>
-        requires name { blank.name ≡ L.name }
-        requires parts { blank.parts ≡ L.parts }
-        requires one_part { blank.parts ≡ 1 }
-        requires in_lists { list < length self.old.lists }
-        requires ready { length ready.now ≡ length self.old.deficits }
-        ensures winner { result ≡ (picked_at self.old ready.now list).winner }
-        ensures lists { self.new.lists ≡
-            slice_set self.old.lists list (picked_at self.old ready.now list).lists }
-        ensures deficits { (key : ℕ) → deficit_at self.new.deficits key ≡ deficit_at self.old.deficits key +ℤ
-            pos ((picked_at self.old ready.now list).quanta key * quantum_at self.old.quanta key) }
-        ensures keys { length self.new.deficits ≡ length self.old.deficits }
-        ensures quanta { self.new.quanta ≡ self.old.quanta }
-        ensures below { IfSome result (λ key. key < length self.old.deficits) }
-        ensures listed { IfSome result (λ key. has_key (lists_at self.old.lists list) key ≡ true) }
-        ensures is_ready { IfSome result (λ key. is_ready ready.now key ≡ true) }
-        ensures capped { (key : ℕ) →
-            deficit_at self.old.deficits key ≤ℤ pos (quantum_at self.old.quanta key) →
-            deficit_at self.new.deficits key ≤ℤ pos (quantum_at self.old.quanta key) }
-    {
-        let mut steps = Steps::<L>::new(blank);
-        self.pick(list, ready, &mut steps)
+        let at_once = self.pick_at_once(list, ready);
+        Pick {
+            winner: at_once.winner,
+            looks: looks + at_once.looks,
+        }
     }
 }

@@ -175,7 +175,7 @@ impl Sched {
         ensures is_ready { IfSome result (λ station. is_ready ready.now station ≡ true) }
     {
         let rota = &mut self.rotas[class.number()];
-        let key = rota.pick_uncounted(0, ready)?;
+        let key = rota.pick(0, ready).winner?;
         Some(key as u16)
     }
 }

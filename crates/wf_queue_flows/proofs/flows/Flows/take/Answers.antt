@@ -10,23 +10,23 @@ use Rattle.wf_queue_flows.proofs.Picking.{pick_low, pick_keeps, pick_is, pick_wi
 use Rattle.wf_queue_flows.proofs.Moves.{take_fits, take_keeps, take_counts}
 use Rattle.wf_queue_flows.proofs.Whole.{take_parts, picked_gives}
 use Rattle.wf_queue_flows.proofs.flows.Flows.take.Goals as goal
-use Rattle.wf_queue_flows.proofs.flows.Flows.take.Goals.{After-pick_uncounted}
+use Rattle.wf_queue_flows.proofs.flows.Flows.take.Goals.{After-pick}
 
 -- the pick, in the words of what the flow queues keep
-as_pick : (c : After-pick_uncounted) → IsPickOfOne c.self.inside.rota c.ready.result.now
-    c.tid_number-list.result c.pick_uncounted.new.self c.pick_uncounted.result
+as_pick : (c : After-pick) → IsPickOfOne c.self.inside.rota c.ready.result.now
+    c.tid_number-list.result c.pick.new.self c.pick.result.winner
 as_pick c = record {
-  winner_is = c.pick_uncounted.ensures.winner;
-  lists = c.pick_uncounted.ensures.lists;
-  deficits = c.pick_uncounted.ensures.deficits;
-  keys = c.pick_uncounted.ensures.keys;
-  quanta = c.pick_uncounted.ensures.quanta;
-  listed = c.pick_uncounted.ensures.listed;
-  is_ready = c.pick_uncounted.ensures.is_ready;
+  winner_is = c.pick.ensures.winner;
+  lists = c.pick.ensures.lists;
+  deficits = c.pick.ensures.deficits;
+  keys = c.pick.ensures.keys;
+  quanta = c.pick.ensures.quanta;
+  listed = c.pick.ensures.listed;
+  is_ready = c.pick.ensures.is_ready;
 }
 
 -- the flow queues before the take and once a queue is picked
-abbrev before : After-pick_uncounted → FlowsValue
+abbrev before : After-pick → FlowsValue
 before c = record {
   flows = c.self.inside.flows;
   stations = c.self.inside.stations;
@@ -36,73 +36,73 @@ before c = record {
   rotas = c.self.inside.rota;
 }
 
-abbrev picked : After-pick_uncounted → FlowsValue
-picked c = record (before c) { rotas = c.pick_uncounted.new.self }
+abbrev picked : After-pick → FlowsValue
+picked c = record (before c) { rotas = c.pick.new.self }
 
-low_now : (c : After-pick_uncounted) → c.tid_number-list.result < tids c.args.self.now
+low_now : (c : After-pick) → c.tid_number-list.result < tids c.args.self.now
 low_now c = omega (arith, c.tid_number-list.ensures, c.requires.station, c.requires.tid)
 
-low : (c : After-pick_uncounted) → c.tid_number-list.result < 8 * c.self.inside.stations
+low : (c : After-pick) → c.tid_number-list.result < 8 * c.self.inside.stations
 low c = pick_low (before c) _ c.tid_number-list.result c.self.view_is (low_now c)
 
-kept_picked : (c : After-pick_uncounted) → AreFlowsKept (picked c) c.self.inside.queued.items
+kept_picked : (c : After-pick) → AreFlowsKept (picked c) c.self.inside.queued.items
 kept_picked c = pick_keeps (before c) _ c.self.invariant c.ready.result.now c.ready.ensures
-    c.tid_number-list.result (low c) c.pick_uncounted.new.self c.pick_uncounted.result (as_pick c)
+    c.tid_number-list.result (low c) c.pick.new.self c.pick.result.winner (as_pick c)
 
-picked_is : (c : After-pick_uncounted) → picked c ≡ after_pick c.args.self.now c.tid_number-list.result
+picked_is : (c : After-pick) → picked c ≡ after_pick c.args.self.now c.tid_number-list.result
 picked_is c = pick_is (before c) _ c.self.invariant c.ready.result.now c.ready.ensures
-    c.tid_number-list.result (low c) c.pick_uncounted.new.self c.pick_uncounted.result (as_pick c)
+    c.tid_number-list.result (low c) c.pick.new.self c.pick.result.winner (as_pick c)
     ∙ ap (λ (w : FlowsValue). after_pick w c.tid_number-list.result) c.self.view_is
 
-winner_is : (c : After-pick_uncounted) (q : ℕ) → c.pick_uncounted.result ≡ Some q →
+winner_is : (c : After-pick) (q : ℕ) → c.pick.result.winner ≡ Some q →
     Some q ≡ (pick_of_tid c.args.self.now c.tid_number-list.result).winner
 winner_is c q was = sym was
     ∙ pick_winner (before c) _ c.self.invariant c.ready.result.now c.ready.ensures c.tid_number-list.result
-    (low c) c.pick_uncounted.new.self c.pick_uncounted.result (as_pick c)
+    (low c) c.pick.new.self c.pick.result.winner (as_pick c)
     ∙ ap (λ (w : FlowsValue). (pick_of_tid w c.tid_number-list.result).winner) c.self.view_is
 
-listed : (c : After-pick_uncounted) (q : ℕ) → c.pick_uncounted.result ≡ Some q →
+listed : (c : After-pick) (q : ℕ) → c.pick.result.winner ≡ Some q →
     is_listed (picked c) c.tid_number-list.result q ≡ true
 listed c q was = subst (λ (o : Option ℕ).
     IfSome o (λ k. is_listed (picked c) c.tid_number-list.result k ≡ true)) was
     (pick_listed (before c) _ c.self.invariant c.ready.result.now c.ready.ensures c.tid_number-list.result
-    (low c) c.pick_uncounted.new.self c.pick_uncounted.result (as_pick c))
+    (low c) c.pick.new.self c.pick.result.winner (as_pick c))
 
-positive : (c : After-pick_uncounted) (q : ℕ) → c.pick_uncounted.result ≡ Some q →
-    pos 0 <ℤ deficit_at c.pick_uncounted.new.self.deficits q
+positive : (c : After-pick) (q : ℕ) → c.pick.result.winner ≡ Some q →
+    pos 0 <ℤ deficit_at c.pick.new.self.deficits q
 positive c q was = subst (λ (o : Option ℕ).
-    IfSome o (λ k. pos 0 <ℤ deficit_at c.pick_uncounted.new.self.deficits k)) was
+    IfSome o (λ k. pos 0 <ℤ deficit_at c.pick.new.self.deficits k)) was
     (pick_positive (before c) _ c.self.invariant c.ready.result.now c.ready.ensures c.tid_number-list.result
-    (low c) c.pick_uncounted.new.self c.pick_uncounted.result (as_pick c))
+    (low c) c.pick.new.self c.pick.result.winner (as_pick c))
 
 -- the pick moves no frame
-counted : (c : After-pick_uncounted) → frames_of_tid (picked c) c.tid_number-list.result
+counted : (c : After-pick) → frames_of_tid (picked c) c.tid_number-list.result
     ≡ frames_of_tid c.args.self.now c.tid_number-list.result
 counted c = sym (frames_counted _ _ _ c.tid_number-list.result refl (kept_picked c) (low c))
     ∙ frames_counted _ _ _ c.tid_number-list.result c.self.view_is c.self.invariant (low_now c)
 
-none_waits : (c : After-pick_uncounted) → c.pick_uncounted.result ≡ None →
+none_waits : (c : After-pick) → c.pick.result.winner ≡ None →
     frames_of_tid c.args.self.now c.tid_number-list.result ≡ 0
 none_waits c was = subst (λ (w : FlowsValue). frames_of_tid w c.tid_number-list.result ≡ 0) c.self.view_is
     (subst (λ (o : Option ℕ). IfNone o (frames_of_tid (before c) c.tid_number-list.result ≡ 0)) was
     (pick_none (before c) _ c.self.invariant c.ready.result.now c.ready.ensures c.tid_number-list.result
-    (low c) c.pick_uncounted.new.self c.pick_uncounted.result (as_pick c)))
+    (low c) c.pick.new.self c.pick.result.winner (as_pick c)))
 
 if_none : {X P : Type 0} (o : Option X) → P → IfNone o P
 if_none None p = p
 if_none (Some x) p = tt
 
 pub invariant_of-self : goal.invariant_of-self
-invariant_of-self c = kept_picked (goal.at.invariant_of-self c).After-pick_uncounted
+invariant_of-self c = kept_picked (goal.at.invariant_of-self c).After-pick
 
 pub returns-in_err-q-clause-none : goal.returns-in_err-q-clause-none
 returns-in_err-q-clause-none c = if_none _
     (subst (λ (i : ℕ). frames_of_tid c.args.self.now i ≡ 0) c.tid_number-list.ensures
-    (none_waits (goal.at.returns-in_err-q-clause-none c).After-pick_uncounted c.in_err-q.was))
+    (none_waits (goal.at.returns-in_err-q-clause-none c).After-pick c.in_err-q.was))
 
 pub returns-in_err-q-clause-unchanged : goal.returns-in_err-q-clause-unchanged
 returns-in_err-q-clause-unchanged c =
-    let at = (goal.at.returns-in_err-q-clause-unchanged c).After-pick_uncounted in
+    let at = (goal.at.returns-in_err-q-clause-unchanged c).After-pick in
     absurd (omega (
       arith,
       c.if-index-eq0.false,
@@ -114,7 +114,7 @@ returns-in_err-q-clause-unchanged c =
 
 pub overflow_sub-left : goal.overflow_sub-left
 overflow_sub-left c =
-    let at = (goal.at.overflow_sub-left c).After-pick_uncounted in
+    let at = (goal.at.overflow_sub-left c).After-pick in
     let most = take_fits (picked at) _ _ refl (kept_picked at) c.tid_number-list.result c.in_ok-q.q
     c.index-2.result.now c.in_ok-taken.taken.dropped c.args.now (params_of c.args.params)
     c.in_ok-taken.taken.parcel (low at) (listed at c.in_ok-q.q c.in_ok-q.was) c.index-2.ensures
@@ -123,7 +123,7 @@ overflow_sub-left c =
 
 pub overflow_sub-left-2 : goal.overflow_sub-left-2
 overflow_sub-left-2 c =
-    let at = (goal.at.overflow_sub-left-2 c).After-pick_uncounted in
+    let at = (goal.at.overflow_sub-left-2 c).After-pick in
     let most = take_fits (picked at) _ _ refl (kept_picked at) c.tid_number-list.result c.in_ok-q.q
     c.index-2.result.now c.in_ok-taken.taken.dropped c.args.now (params_of c.args.params)
     c.in_ok-taken.taken.parcel (low at) (listed at c.in_ok-q.q c.in_ok-q.was) c.index-2.ensures
@@ -132,7 +132,7 @@ overflow_sub-left-2 c =
 
 pub invariant_of-self-2 : goal.invariant_of-self-2
 invariant_of-self-2 c =
-    let at = (goal.at.invariant_of-self-2 c).After-pick_uncounted in
+    let at = (goal.at.invariant_of-self-2 c).After-pick in
     let few : c.from.result ≤ 2304 = omega (arith, c.from.ensures, c.len.ensures.most) in
     take_keeps (picked at) _ _ refl (kept_picked at) c.tid_number-list.result c.in_ok-q.q
     c.index-2.result.now c.in_ok-taken.taken.dropped c.from.result c.args.now (params_of c.args.params)
@@ -143,7 +143,7 @@ invariant_of-self-2 c =
 
 pub returns-clause-taken : goal.returns-clause-taken
 returns-clause-taken c =
-    let at = (goal.at.returns-clause-taken c).After-pick_uncounted in
+    let at = (goal.at.returns-clause-taken c).After-pick in
     subst (λ (t : TakenFromFlows). TakeGives
     (record (before at) { backlog = c.take.new.self; rotas = c.charge.new.self })
     c.in_ok-taken.taken.parcel t)
@@ -158,7 +158,7 @@ returns-clause-taken c =
 
 pub returns-clause-dropped : goal.returns-clause-dropped
 returns-clause-dropped c =
-    let at = (goal.at.returns-clause-dropped c).After-pick_uncounted in
+    let at = (goal.at.returns-clause-dropped c).After-pick in
     subst (λ (i : ℕ). frames_of_tid
     (record (before at) { backlog = c.take.new.self; rotas = c.charge.new.self }) i
     + c.in_ok-taken.taken.dropped + 1 ≡ frames_of_tid c.args.self.now i) c.tid_number-list.ensures

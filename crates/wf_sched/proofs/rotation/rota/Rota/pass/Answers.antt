@@ -5,16 +5,16 @@ use Rattle.wf_sched.proofs.PassLemmas.{pass_none, turn_first, turn_passed, turn_
 use Rattle.wf_sched.proofs.rotation.rota.Rota.pass.Goals as goal
 
 pub loop-i-init : goal.loop-i-init
-loop-i-init g c = record {
+loop-i-init c = record {
   passed = λ visits stay shares. pass_none c.args.course c.args.self.now c.args.list visits stay;
   last = λ visits stay shares.
       let none : min 0 (place_in c.args.course) ≡ 0 = omega arith in
       rw none refl;
-  visits = omega arith;
+  count = refl;
 }
 
-pub pass_key-last-requires-clause-in_lists : goal.pass_key-last-requires-clause-in_lists
-pass_key-last-requires-clause-in_lists g c =
+pub pass_key-passed-requires-clause-in_lists : goal.pass_key-passed-requires-clause-in_lists
+pass_key-passed-requires-clause-in_lists c =
     let ok : HasPassed c.args.course c.args.self.now c.args.list c.requires.shares.0 c.requires.shares.1
     c.loop-i.i c.loop-i.self = c.loop-i.invariant.passed _ _ c.requires.shares.2 in
     omega (
@@ -26,14 +26,14 @@ pass_key-last-requires-clause-in_lists g c =
       c.requires.in_lists,
     )
 
-pub pass_key-last-requires-clause-ready : goal.pass_key-last-requires-clause-ready
-pass_key-last-requires-clause-ready g c =
+pub pass_key-passed-requires-clause-ready : goal.pass_key-passed-requires-clause-ready
+pass_key-passed-requires-clause-ready c =
     let ok : HasPassed c.args.course c.args.self.now c.args.list c.requires.shares.0 c.requires.shares.1
     c.loop-i.i c.loop-i.self = c.loop-i.invariant.passed _ _ c.requires.shares.2 in
     omega (arith, ok.keys, c.requires.ready)
 
-pub pass_key-last-requires-clause-some : goal.pass_key-last-requires-clause-some
-pass_key-last-requires-clause-some g c = (
+pub pass_key-passed-requires-clause-some : goal.pass_key-passed-requires-clause-some
+pass_key-passed-requires-clause-some c = (
   get_or (way c.args.course (lists_at c.args.self.now.lists c.args.list)) c.loop-i.i 0,
   turn_first c.args.course c.args.self.now c.args.ready.now c.args.list c.requires.shares.0
       c.requires.shares.1 c.loop-i.i c.loop-i.self c.side_at.result c.requires.shares.2
@@ -43,27 +43,27 @@ pass_key-last-requires-clause-some g c = (
 )
 
 pub loop-i-preserved : goal.loop-i-preserved
-loop-i-preserved g c = record {
+loop-i-preserved c = record {
   passed = λ visits stay shares. turn_passed c.args.course c.args.self.now c.args.ready.now c.args.list visits
       stay c.loop-i.i c.loop-i.self c.side_at.result shares (c.loop-i.invariant.passed visits stay shares)
       c.requires.disjoint c.requires.in_lists (omega (arith, c.requires.count))
-      (c.side_at.ensures ∙ ap (λ n. side_at n c.loop-i.i) c.requires.olds) c.pass_key-last.new.self
-      c.pass_key-last.ensures.passed;
+      (c.side_at.ensures ∙ ap (λ n. side_at n c.loop-i.i) c.requires.olds) c.pass_key-passed.new.self
+      c.pass_key-passed.ensures.passed;
   last = λ visits stay shares. turn_last c.args.course c.args.self.now c.args.ready.now c.args.list visits
       stay c.loop-i.i c.loop-i.self c.side_at.result shares (c.loop-i.invariant.passed visits stay shares)
       c.requires.disjoint c.requires.in_lists (omega (arith, c.requires.count))
-      (c.side_at.ensures ∙ ap (λ n. side_at n c.loop-i.i) c.requires.olds) c.loop-i.last
-      c.pass_key-last.result (c.loop-i.invariant.last visits stay shares) c.pass_key-last.ensures.last;
-  visits = omega (arith, c.tick.ensures, c.loop-i.invariant.visits);
+      (c.side_at.ensures ∙ ap (λ n. side_at n c.loop-i.i) c.requires.olds) c.loop-i.passed.last
+      c.pass_key-passed.result (c.loop-i.invariant.last visits stay shares) c.pass_key-passed.ensures.last;
+  count = omega (arith, c.loop-i.invariant.count);
 }
 
 pub returns-clause-passed : goal.returns-clause-passed
-returns-clause-passed g c = λ visits stay shares.
+returns-clause-passed c = λ visits stay shares.
     let end : c.loop-i.i ≡ c.args.count = omega arith in
     subst (λ n. HasPassed c.args.course c.args.self.now c.args.list visits stay n c.loop-i.self) end
     (c.loop-i.invariant.passed visits stay shares)
 
 pub returns-clause-last : goal.returns-clause-last
-returns-clause-last g c = λ visits stay shares.
+returns-clause-last c = λ visits stay shares.
     let end : c.loop-i.i ≡ c.args.count = omega arith in
     rw end at (c.loop-i.invariant.last visits stay shares)

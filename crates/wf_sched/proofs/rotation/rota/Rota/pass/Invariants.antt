@@ -1,15 +1,15 @@
-use Rattle.std.proofs.Common.{◌≡◌, ℕ, ◌+◌, Bool, take, min}
+use Rattle.std.proofs.Common.{◌≡◌, ℕ, Bool, take, min}
 use Rattle.std.specs.List.{filter}
 use Rattle.wf_sched.specs.Lists.{lists_at}
 use Rattle.wf_sched.specs.Pass.{SharesAre, HasPassed, way, last_key, place_in}
 use Rattle.wf_sched.proofs.rotation.rota.Rota.pass.Given as goal
 
 abbrev pub invariant-loop-i : goal.invariant-loop-i
-invariant-loop-i g l = record {
+invariant-loop-i l = record {
   passed : (visits : ℕ → ℕ) (stay : ℕ → Bool) → SharesAre l.course l.fn.self l.ready l.list visits stay →
       HasPassed l.course l.fn.self l.list visits stay l.i l.self;
   last : (visits : ℕ → ℕ) (stay : ℕ → Bool) → SharesAre l.course l.fn.self l.ready l.list visits stay →
-      l.last ≡ last_key (filter stay (take (min l.i (place_in l.course))
+      l.passed.last ≡ last_key (filter stay (take (min l.i (place_in l.course))
       (way l.course (lists_at l.fn.self.lists l.list))));
-  visits : l.steps ≡ l.fn.steps + l.i;
+  count : l.passed.count ≡ l.i;
 }

@@ -1,11 +1,11 @@
-use Rattle.std.proofs.Common.{◌≡◌, ◌+◌}
+use Rattle.std.proofs.Common.{◌≡◌}
 use Rattle.wf_sched.specs.Turns.{IsSamePick}
 use Rattle.wf_sched.proofs.PaidLemmas.{ArePaid}
 use Rattle.wf_sched.proofs.rotation.rota.Rota.pick.Given as goal
 
 abbrev pub invariant-loop : goal.invariant-loop
-invariant-loop g l = record {
+invariant-loop l = record {
   same : IsSamePick l.fn.self l.ready l.list l.self;
-  visits : l.steps ≡ l.fn.steps + l.counter;
+  looks : l.looks ≡ l.counter;
   paid : ArePaid l.fn.self l.list l.self l.counter;
 }

@@ -8,7 +8,7 @@ use Rattle.wf_sched.proofs.ScanLemmas.{Step, step_at, end_at, key_below, one_rou
 use Rattle.wf_sched.proofs.rotation.rota.Rota.scan_list.Goals as goal
 
 pub look-found-requires-clause-in_keys : goal.look-found-requires-clause-in_keys
-look-found-requires-clause-in_keys g c =
+look-found-requires-clause-in_keys c =
     let step : Step (keys_at c.args.self.now.lists c.args.list c.args.side) c.loop-next.seen c.in-Some.key =
     step_at (keys_at c.args.self.now.lists c.args.list c.args.side) c.loop-next.seen c.in-Some.key
     (sym c.loop-next.invariant.at ∙ c.in-Some.is) in
@@ -20,7 +20,7 @@ look-found-requires-clause-in_keys g c =
     (omega (arith, c.self.invariant.keys))
 
 pub after-next-requires : goal.after-next-requires
-after-next-requires g c =
+after-next-requires c =
     let step : Step (keys_at c.args.self.now.lists c.args.list c.args.side) c.loop-next.seen c.in-Some.key =
     step_at (keys_at c.args.self.now.lists c.args.list c.args.side) c.loop-next.seen c.in-Some.key
     (sym c.loop-next.invariant.at ∙ c.in-Some.is) in
@@ -29,7 +29,7 @@ after-next-requires g c =
     (sym c.self.view_is) step.stands)
 
 pub loop-next-preserved : goal.loop-next-preserved
-loop-next-preserved g c =
+loop-next-preserved c =
     let step : Step (keys_at c.args.self.now.lists c.args.list c.args.side) c.loop-next.seen c.in-Some.key =
     step_at (keys_at c.args.self.now.lists c.args.list c.args.side) c.loop-next.seen c.in-Some.key
     (sym c.loop-next.invariant.at ∙ c.in-Some.is) in
@@ -41,7 +41,6 @@ loop-next-preserved g c =
           (subst (λ (v : Rotas). c.args.list < length v.lists) (sym c.self.view_is) c.requires.in_lists)
           (ap (λ (v : Rotas). keys_at v.lists c.args.list c.args.side) c.self.view_is ∙ step.split);
       count = omega (arith, c.look-found.ensures.count, c.loop-next.invariant.count);
-      visits = omega (arith, c.tick.ensures, c.loop-next.invariant.visits);
       found = λ order before ok rounds.
           rw (step.more, ← append_assoc) (c.look-found.ensures.found order
           (before ++ take c.loop-next.seen (keys_at c.args.self.now.lists c.args.list c.args.side))
@@ -51,7 +50,7 @@ loop-next-preserved g c =
     }
 
 pub returns-clause-found : goal.returns-clause-found
-returns-clause-found g c = λ order seen ok rounds.
+returns-clause-found c = λ order seen ok rounds.
     let end : (c.loop-next.seen ≡ length (keys_at c.args.self.now.lists c.args.list c.args.side)) ×
     (take c.loop-next.seen (keys_at c.args.self.now.lists c.args.list c.args.side)
     ≡ keys_at c.args.self.now.lists c.args.list c.args.side) =
@@ -60,17 +59,17 @@ returns-clause-found g c = λ order seen ok rounds.
     subst (λ (ks : List ℕ). IsFound c.loop-next.found (is_ready c.args.ready.now) order (seen ++ ks)) end.1
     (c.loop-next.invariant.found order seen ok rounds)
 
-pub returns-clause-visits : goal.returns-clause-visits
-returns-clause-visits g c =
+pub returns-clause-count : goal.returns-clause-count
+returns-clause-count c =
     let end : (c.loop-next.seen ≡ length (keys_at c.args.self.now.lists c.args.list c.args.side)) ×
     (take c.loop-next.seen (keys_at c.args.self.now.lists c.args.list c.args.side)
     ≡ keys_at c.args.self.now.lists c.args.list c.args.side) =
     end_at (keys_at c.args.self.now.lists c.args.list c.args.side) c.loop-next.seen
     (sym c.loop-next.invariant.at ∙ c.in_default.is) c.loop-next.invariant.within in
-    omega (arith, end.0, c.loop-next.invariant.visits)
+    omega (arith, end.0, c.loop-next.invariant.count)
 
 pub look-found-requires-clause-small : goal.look-found-requires-clause-small
-look-found-requires-clause-small g c =
+look-found-requires-clause-small c =
     let step : Step (keys_at c.args.self.now.lists c.args.list c.args.side) c.loop-next.seen c.in-Some.key =
     step_at (keys_at c.args.self.now.lists c.args.list c.args.side) c.loop-next.seen c.in-Some.key
     (sym c.loop-next.invariant.at ∙ c.in-Some.is) in
@@ -89,7 +88,7 @@ look-found-requires-clause-small g c =
     )
 
 pub returns-clause-few : goal.returns-clause-few
-returns-clause-few g c =
+returns-clause-few c =
     let few : length (keys_at c.self.inside.links.lists c.args.list c.args.side) ≤ c.self.inside.links.keys =
     side_few c.self.inside.links c.args.list c.args.side c.first-next.ensures.disjoint in
     let same : length (keys_at c.self.inside.links.lists c.args.list c.args.side)

@@ -5,11 +5,10 @@ use Rattle.wf_sched.specs.Scan.{IsFound, IsRoundOn}
 use Rattle.wf_sched.proofs.rotation.rota.Rota.scan_list.Given as goal
 
 abbrev pub invariant-loop-next : goal.invariant-loop-next
-invariant-loop-next g l = record {
+invariant-loop-next l = record {
   within : l.seen ≤ length (keys_at l.self.lists l.list l.fn.side);
   at : l.next ≡ first_of (drop l.seen (keys_at l.self.lists l.list l.fn.side));
   count : l.found.count ≡ l.fn.start.count + l.seen;
-  visits : l.steps ≡ l.initial.steps + l.seen;
   found : (order : ℕ → ℕ) (before : List ℕ) → IsFound l.fn.start (is_ready l.ready) order before →
       IsRoundOn order (need_at l.self) l.fn.side (keys_at l.self.lists l.list l.fn.side) →
       IsFound l.found (is_ready l.ready) order (before
@@ -17,4 +16,4 @@ invariant-loop-next g l = record {
 }
 
 abbrev pub decreases-loop-next : goal.decreases-loop-next
-decreases-loop-next g l = length (keys_at l.self.lists l.list l.fn.side) - l.seen
+decreases-loop-next l = length (keys_at l.self.lists l.list l.fn.side) - l.seen

@@ -1,4 +1,4 @@
-use Rattle.std.proofs.Common.{◌≡◌, ◌∙◌, ◌<◌, ◌≤◌, ◌-◌, Some, None, refl, length, ap, sym, subst, arith, length-set, true}
+use Rattle.std.proofs.Common.{◌≡◌, ◌∙◌, ◌<◌, ◌≤◌, ◌-◌, ℕ, Bool, refl, length, ap, sym, subst, arith, length-set, true}
 use Rattle.std.specs.List.{filter}
 use Rattle.wf_sched.specs.Lists.{lists_at}
 use Rattle.wf_sched.specs.Rotas.{picked_at}
@@ -6,28 +6,55 @@ use Rattle.wf_sched.specs.Pass.{HasPassed, WasPickedFrom, last_key, lists_after}
 use Rattle.wf_sched.specs.declared.rotation.pass.Course.TheVariants.{AtOnce, Later}
 use Rattle.wf_sched.proofs.WonLemmas.{now_old, now_count, now_winner, now_picked, place_low, gets, stay, later_shares, later_winner, later_last, later_kept, later_follows, later_turned_is, ahead}
 use Rattle.wf_sched.proofs.rotation.rota.Rota.settle.Goals as goal
+use Rattle.wf_sched.proofs.rotation.rota.Rota.settle.Goals.{After-pass-passed}
+
+-- ---- the winner has round 0
 
 pub overflow_sub-best : goal.overflow_sub-best
-overflow_sub-best g c = omega (
+overflow_sub-best c = omega (
   arith,
   c.requires.olds,
   now_old c.args.self.now c.args.ready.now c.args.list c.requires.disjoint c.requires.in_lists c.args.best
       c.requires.won (omega arith),
 )
 
-pub pass-last-requires-clause-count : goal.pass-last-requires-clause-count
-pass-last-requires-clause-count g c =
+pub pass-requires-clause-count : goal.pass-requires-clause-count
+pass-requires-clause-count c =
     let fits : c.args.best.place - length (lists_at c.args.self.now.lists c.args.list).old
     ≤ length (lists_at c.args.self.now.lists c.args.list).new =
     now_count c.args.self.now c.args.ready.now c.args.list c.requires.disjoint c.requires.in_lists
     c.args.best c.requires.won (omega arith) in
     omega (arith, c.requires.olds)
 
-pub pass-last-requires-clause-shares : goal.pass-last-requires-clause-shares
-pass-last-requires-clause-shares g c = ((λ y. 1), (λ y. true), (λ i low. refl))
-
 pub pass-requires-clause-shares : goal.pass-requires-clause-shares
-pass-requires-clause-shares g c = (
+pass-requires-clause-shares c = ((λ y. 1), (λ y. true), (λ i low. refl))
+
+pub returns-then-best-eq0-clause-picked : goal.returns-then-best-eq0-clause-picked
+returns-then-best-eq0-clause-picked c =
+    let now : c.args.best.rank ≡ 0 = omega arith in
+    now_picked c.args.self.now c.args.ready.now c.args.list c.requires.disjoint c.requires.in_lists
+    c.args.best c.requires.won now c.pass.new.self
+    (subst (λ n. HasPassed AtOnce c.args.self.now c.args.list (λ y. 1) (λ y. true) n c.pass.new.self)
+    (ap (λ n. c.args.best.place - n) c.requires.olds)
+    (c.pass.ensures.passed (λ y. 1) (λ y. true) (λ i low. refl)))
+
+pub returns-then-best-eq0-clause-winner : goal.returns-then-best-eq0-clause-winner
+returns-then-best-eq0-clause-winner c = now_winner c.args.self.now c.args.ready.now c.args.list
+    c.requires.disjoint c.requires.in_lists c.args.best c.requires.won (omega arith)
+
+pub returns-then-best-eq0-clause-most : goal.returns-then-best-eq0-clause-most
+returns-then-best-eq0-clause-most c = omega (
+  arith,
+  c.pass.ensures.count,
+  place_low c.args.self.now c.args.ready.now c.args.list
+      c.requires.disjoint c.requires.in_lists c.args.best c.requires.won,
+  c.requires.count,
+)
+
+-- ---- the winner has a later round
+
+pub pass-passed-requires-clause-shares : goal.pass-passed-requires-clause-shares
+pass-passed-requires-clause-shares c = (
   gets c.args.self.now c.args.ready.now c.args.list c.requires.disjoint
       c.requires.in_lists c.args.best c.requires.won (omega arith),
   stay c.args.self.now c.args.ready.now c.args.list c.requires.disjoint c.requires.in_lists c.args.best
@@ -36,137 +63,78 @@ pass-requires-clause-shares g c = (
       c.requires.disjoint c.requires.in_lists c.args.best c.requires.won (omega arith),
 )
 
+later : (c : After-pass-passed) → 0 < c.args.best.rank
+later c = omega arith
+
+-- the visits of each key, and the keys that stay
+abbrev visits : After-pass-passed → ℕ → ℕ
+visits c = gets c.args.self.now c.args.ready.now c.args.list c.requires.disjoint c.requires.in_lists
+    c.args.best c.requires.won (later c)
+
+abbrev stays : After-pass-passed → ℕ → Bool
+stays c = stay c.args.self.now c.args.ready.now c.args.list c.requires.disjoint c.requires.in_lists
+    c.args.best c.requires.won (later c)
+
+passed : (c : After-pass-passed) → HasPassed (Later c.args.best.rank c.args.best.place) c.args.self.now
+    c.args.list (visits c) (stays c) c.args.count c.pass-passed.new.self
+passed c = c.pass-passed.ensures.passed (visits c) (stays c) (later_shares c.args.self.now c.args.ready.now
+    c.args.list c.requires.disjoint c.requires.in_lists c.args.best c.requires.won (later c))
+
+-- the last key that stays before the winner
+last : (c : After-pass-passed) → last_key (filter (stays c) c.requires.won.0.before)
+    ≡ c.pass-passed.result.last
+last c = sym (later_last c.args.self.now c.args.ready.now c.args.list c.requires.disjoint
+    c.requires.in_lists c.args.best c.requires.won (later c) c.args.count c.pass-passed.result.last
+    c.requires.count (c.pass-passed.ensures.last (visits c) (stays c) (later_shares c.args.self.now
+    c.args.ready.now c.args.list c.requires.disjoint c.requires.in_lists c.args.best c.requires.won
+    (later c))))
+
 pub turn_old-requires-clause-in_lists : goal.turn_old-requires-clause-in_lists
-turn_old-requires-clause-in_lists g c =
-    let later : 0 < c.args.best.rank = omega arith in
-    let passed : HasPassed (Later c.args.best.rank c.args.best.place) c.args.self.now c.args.list
-    (gets c.args.self.now c.args.ready.now c.args.list c.requires.disjoint c.requires.in_lists c.args.best
-    c.requires.won later) (stay c.args.self.now c.args.ready.now c.args.list c.requires.disjoint
-    c.requires.in_lists c.args.best c.requires.won later) c.args.count c.pass.new.self =
-    c.pass.ensures.passed (gets c.args.self.now c.args.ready.now c.args.list c.requires.disjoint
-    c.requires.in_lists c.args.best c.requires.won later)
-    (stay c.args.self.now c.args.ready.now c.args.list c.requires.disjoint c.requires.in_lists c.args.best
-    c.requires.won later) (later_shares c.args.self.now c.args.ready.now c.args.list c.requires.disjoint
-    c.requires.in_lists c.args.best c.requires.won later) in
+turn_old-requires-clause-in_lists c =
+    let at = (goal.at.turn_old-requires-clause-in_lists c).After-pass-passed in
     omega (
       arith,
-      ap length passed.lists,
+      ap length (passed at).lists,
       length-set c.args.self.now.lists c.args.list
           (lists_after (Later c.args.best.rank c.args.best.place) (lists_at c.args.self.now.lists c.args.list)
-          (stay c.args.self.now c.args.ready.now c.args.list c.requires.disjoint c.requires.in_lists c.args.best
-          c.requires.won later) c.args.count),
+          (stays at) c.args.count),
       c.requires.in_lists,
     )
 
 pub turn_old-requires-clause-follows : goal.turn_old-requires-clause-follows
-turn_old-requires-clause-follows g c =
-    let later : 0 < c.args.best.rank = omega arith in
-    let passed : HasPassed (Later c.args.best.rank c.args.best.place) c.args.self.now c.args.list
-    (gets c.args.self.now c.args.ready.now c.args.list c.requires.disjoint c.requires.in_lists c.args.best
-    c.requires.won later) (stay c.args.self.now c.args.ready.now c.args.list c.requires.disjoint
-    c.requires.in_lists c.args.best c.requires.won later) c.args.count c.pass.new.self =
-    c.pass.ensures.passed (gets c.args.self.now c.args.ready.now c.args.list c.requires.disjoint
-    c.requires.in_lists c.args.best c.requires.won later)
-    (stay c.args.self.now c.args.ready.now c.args.list c.requires.disjoint c.requires.in_lists c.args.best
-    c.requires.won later) (later_shares c.args.self.now c.args.ready.now c.args.list c.requires.disjoint
-    c.requires.in_lists c.args.best c.requires.won later) in
-    let last : last_key (filter (stay c.args.self.now c.args.ready.now c.args.list c.requires.disjoint
-    c.requires.in_lists c.args.best c.requires.won later) c.requires.won.0.before)
-    ≡ Some c.in-Some.before = sym (later_last c.args.self.now c.args.ready.now c.args.list
-    c.requires.disjoint c.requires.in_lists c.args.best c.requires.won later c.args.count c.pass.result
-    c.requires.count (c.pass.ensures.last (gets c.args.self.now c.args.ready.now c.args.list
-    c.requires.disjoint c.requires.in_lists c.args.best c.requires.won later)
-    (stay c.args.self.now c.args.ready.now c.args.list c.requires.disjoint c.requires.in_lists c.args.best
-    c.requires.won later) (later_shares c.args.self.now c.args.ready.now c.args.list c.requires.disjoint
-    c.requires.in_lists c.args.best c.requires.won later))) ∙ c.in-Some.is in (
+turn_old-requires-clause-follows c =
+    let at = (goal.at.turn_old-requires-clause-follows c).After-pass-passed in (
       ahead c.args.self.now c.args.ready.now c.args.list c.requires.disjoint c.requires.in_lists c.args.best
-          c.requires.won later c.pass.new.self c.args.count c.requires.count passed c.in-Some.before last,
-      filter (stay c.args.self.now c.args.ready.now c.args.list c.requires.disjoint c.requires.in_lists
-          c.args.best c.requires.won later) c.requires.won.0.after,
+          c.requires.won (later at) c.pass-passed.new.self c.args.count c.requires.count (passed at)
+          c.in-Some.before (last at ∙ c.in-Some.is),
+      filter (stays at) c.requires.won.0.after,
       later_follows c.args.self.now c.args.ready.now c.args.list c.requires.disjoint c.requires.in_lists
-          c.args.best c.requires.won later c.pass.new.self c.args.count c.requires.count passed c.in-Some.before
-          last,
+          c.args.best c.requires.won (later at) c.pass-passed.new.self c.args.count c.requires.count
+          (passed at) c.in-Some.before (last at ∙ c.in-Some.is),
     )
 
-pub returns-then-best-eq0-clause-picked : goal.returns-then-best-eq0-clause-picked
-returns-then-best-eq0-clause-picked g c =
-    let now : c.args.best.rank ≡ 0 = omega arith in
-    now_picked c.args.self.now c.args.ready.now c.args.list c.requires.disjoint c.requires.in_lists
-    c.args.best c.requires.won now c.pass-last.new.self
-    (subst (λ n. HasPassed AtOnce c.args.self.now c.args.list (λ y. 1) (λ y. true) n c.pass-last.new.self)
-    (ap (λ n. c.args.best.place - n) c.requires.olds)
-    (c.pass-last.ensures.passed (λ y. 1) (λ y. true) (λ i low. refl)))
-
-pub returns-then-best-eq0-clause-winner : goal.returns-then-best-eq0-clause-winner
-returns-then-best-eq0-clause-winner g c = now_winner c.args.self.now c.args.ready.now c.args.list
-    c.requires.disjoint c.requires.in_lists c.args.best c.requires.won (omega arith)
-
-pub returns-then-best-eq0-clause-most : goal.returns-then-best-eq0-clause-most
-returns-then-best-eq0-clause-most g c = omega (
-  arith,
-  c.pass-last.ensures.visits,
-  place_low c.args.self.now c.args.ready.now c.args.list
-      c.requires.disjoint c.requires.in_lists c.args.best c.requires.won,
-  c.requires.count,
-)
-
 pub returns-in-Some-clause-picked : goal.returns-in-Some-clause-picked
-returns-in-Some-clause-picked g c =
-    let later : 0 < c.args.best.rank = omega arith in
-    let passed : HasPassed (Later c.args.best.rank c.args.best.place) c.args.self.now c.args.list
-    (gets c.args.self.now c.args.ready.now c.args.list c.requires.disjoint c.requires.in_lists c.args.best
-    c.requires.won later) (stay c.args.self.now c.args.ready.now c.args.list c.requires.disjoint
-    c.requires.in_lists c.args.best c.requires.won later) c.args.count c.pass.new.self =
-    c.pass.ensures.passed (gets c.args.self.now c.args.ready.now c.args.list c.requires.disjoint
-    c.requires.in_lists c.args.best c.requires.won later)
-    (stay c.args.self.now c.args.ready.now c.args.list c.requires.disjoint c.requires.in_lists c.args.best
-    c.requires.won later) (later_shares c.args.self.now c.args.ready.now c.args.list c.requires.disjoint
-    c.requires.in_lists c.args.best c.requires.won later) in
-    let last : last_key (filter (stay c.args.self.now c.args.ready.now c.args.list c.requires.disjoint
-    c.requires.in_lists c.args.best c.requires.won later) c.requires.won.0.before)
-    ≡ Some c.in-Some.before = sym (later_last c.args.self.now c.args.ready.now c.args.list
-    c.requires.disjoint c.requires.in_lists c.args.best c.requires.won later c.args.count c.pass.result
-    c.requires.count (c.pass.ensures.last (gets c.args.self.now c.args.ready.now c.args.list
-    c.requires.disjoint c.requires.in_lists c.args.best c.requires.won later)
-    (stay c.args.self.now c.args.ready.now c.args.list c.requires.disjoint c.requires.in_lists c.args.best
-    c.requires.won later) (later_shares c.args.self.now c.args.ready.now c.args.list c.requires.disjoint
-    c.requires.in_lists c.args.best c.requires.won later))) ∙ c.in-Some.is in
+returns-in-Some-clause-picked c =
+    let at = (goal.at.returns-in-Some-clause-picked c).After-pass-passed in
     subst (WasPickedFrom c.args.self.now c.args.list (picked_at c.args.self.now c.args.ready.now c.args.list))
     (sym (c.turn_old.ensures _ _ (later_follows c.args.self.now c.args.ready.now c.args.list
-    c.requires.disjoint c.requires.in_lists c.args.best c.requires.won later c.pass.new.self c.args.count
-    c.requires.count passed c.in-Some.before last)))
+    c.requires.disjoint c.requires.in_lists c.args.best c.requires.won (later at) c.pass-passed.new.self
+    c.args.count c.requires.count (passed at) c.in-Some.before (last at ∙ c.in-Some.is))))
     (later_turned_is c.args.self.now c.args.ready.now c.args.list c.requires.disjoint c.requires.in_lists
-    c.args.best c.requires.won later c.pass.new.self c.args.count c.requires.count passed c.in-Some.before
-    last)
+    c.args.best c.requires.won (later at) c.pass-passed.new.self c.args.count c.requires.count (passed at)
+    c.in-Some.before (last at ∙ c.in-Some.is))
 
 pub returns-in-Some-clause-winner : goal.returns-in-Some-clause-winner
-returns-in-Some-clause-winner g c = later_winner c.args.self.now c.args.ready.now c.args.list
+returns-in-Some-clause-winner c = later_winner c.args.self.now c.args.ready.now c.args.list
     c.requires.disjoint c.requires.in_lists c.args.best c.requires.won (omega arith)
 
 pub returns-in_default-clause-picked : goal.returns-in_default-clause-picked
-returns-in_default-clause-picked g c =
-    let later : 0 < c.args.best.rank = omega arith in
-    let passed : HasPassed (Later c.args.best.rank c.args.best.place) c.args.self.now c.args.list
-    (gets c.args.self.now c.args.ready.now c.args.list c.requires.disjoint c.requires.in_lists c.args.best
-    c.requires.won later) (stay c.args.self.now c.args.ready.now c.args.list c.requires.disjoint
-    c.requires.in_lists c.args.best c.requires.won later) c.args.count c.pass.new.self =
-    c.pass.ensures.passed (gets c.args.self.now c.args.ready.now c.args.list c.requires.disjoint
-    c.requires.in_lists c.args.best c.requires.won later)
-    (stay c.args.self.now c.args.ready.now c.args.list c.requires.disjoint c.requires.in_lists c.args.best
-    c.requires.won later) (later_shares c.args.self.now c.args.ready.now c.args.list c.requires.disjoint
-    c.requires.in_lists c.args.best c.requires.won later) in
-    let last : last_key (filter (stay c.args.self.now c.args.ready.now c.args.list c.requires.disjoint
-    c.requires.in_lists c.args.best c.requires.won later) c.requires.won.0.before) ≡ None =
-    sym (later_last c.args.self.now c.args.ready.now c.args.list c.requires.disjoint c.requires.in_lists
-    c.args.best c.requires.won later c.args.count c.pass.result c.requires.count
-    (c.pass.ensures.last (gets c.args.self.now c.args.ready.now c.args.list c.requires.disjoint
-    c.requires.in_lists c.args.best c.requires.won later)
-    (stay c.args.self.now c.args.ready.now c.args.list c.requires.disjoint c.requires.in_lists c.args.best
-    c.requires.won later) (later_shares c.args.self.now c.args.ready.now c.args.list c.requires.disjoint
-    c.requires.in_lists c.args.best c.requires.won later))) ∙ c.in_default.is in
+returns-in_default-clause-picked c =
+    let at = (goal.at.returns-in_default-clause-picked c).After-pass-passed in
     later_kept c.args.self.now c.args.ready.now c.args.list c.requires.disjoint c.requires.in_lists
-    c.args.best c.requires.won later c.pass.new.self c.args.count c.requires.count passed last
+    c.args.best c.requires.won (later at) c.pass-passed.new.self c.args.count c.requires.count (passed at)
+    (last at ∙ c.in_default.is)
 
 pub returns-in_default-clause-winner : goal.returns-in_default-clause-winner
-returns-in_default-clause-winner g c = later_winner c.args.self.now c.args.ready.now c.args.list
+returns-in_default-clause-winner c = later_winner c.args.self.now c.args.ready.now c.args.list
     c.requires.disjoint c.requires.in_lists c.args.best c.requires.won (omega arith)
