@@ -1,14 +1,22 @@
 -- A way from a leaf to the root halves the node's number in each step.
-use Rattle.std.proofs.Common.{◌≡◌, ℕ, ◌+◌, ◌-◌, ◌*◌, ◌/◌, ◌^◌, ◌<◌, ◌≤◌, ap, ◌∙◌, arith}
-use Rattle.std.proofs.Math.Nat.{mul-le-mul_left}
+use Rattle.std.proofs.Common.{◌≡◌, ℕ, ◌+◌, ◌*◌, ◌/◌, ◌^◌, ◌<◌, ◌≤◌, inl, inr, arith}
+use Rattle.std.proofs.Math.Nat.{mul-le-mul_left, pow-le-pow_right}
 use Rattle.std.proofs.lemmas.Nat.{pow-add}
+use Rattle.std.proofs.lemmas.Bool.{cases_lt}
 
-power : (k : ℕ) → 2 ^ (k + 1) ≡ 2 * 2 ^ k
+pub power : (k : ℕ) → 2 ^ (k + 1) ≡ 2 * 2 ^ k
 power k = omega (arith, pow-add 2 k 1)
 
-pub one_more : (now start : ℕ) → start ≤ now → 2 ^ (now + 1 - start) ≡ 2 * 2 ^ (now - start)
-one_more now start later = ap (λ k. 2 ^ k) (let e : now + 1 - start ≡ (now - start) + 1 = omega arith in e)
-    ∙ power (now - start)
+-- a way of 64 levels would begin at a node that 64 bits can't number
+pub few_levels : (node levels total : ℕ) → node * 2 ^ levels ≤ total → 0 < node → total < 2 ^ 64 →
+    levels + 1 < 2 ^ 32
+few_levels node levels total cost some small = elim (cases_lt levels 64) [
+  | inl few ↦ omega (arith, few)
+  | inr many ↦
+      let wide : 2 ^ levels * 1 ≤ 2 ^ levels * node = mul-le-mul_left (2 ^ levels) (omega arith) in
+      let most : 2 ^ 64 ≤ 2 ^ levels = pow-le-pow_right (let two : 0 < 2 = omega arith in two) many in
+      absurd (omega (arith, wide, most))
+]
 
 pub cost_halved : (node p total : ℕ) → node * p ≤ total → node / 2 * (2 * p) ≤ total
 cost_halved node p total cost =

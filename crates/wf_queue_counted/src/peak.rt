@@ -1,14 +1,12 @@
 //! A tournament tree over numbered leaves: which leaf has the greatest value is known at each moment, and a
-//! leaf is set in a step for each level.
+//! leaf is set level by level.
 
 ghost use Rattle.std.specs.Prelude.{◌≡◌, ℕ, ◌+◌, ◌-◌, ◌*◌, ◌^◌, ◌<◌, ◌≤◌, length, replicate, slice_index, slice_set, IfOk, IfNone, IfSome};
 ghost use Rattle.wf_queue_counted.specs.Best.{IsBest, IsFirstFrom, IsPowerOfTwo};
 ghost use Rattle.wf_queue_counted.specs.Tree.{node_at, winner_of};
 
-use crate::Steps;
 use std::alloc::{AllocError, Global};
-use std::marker::{Brand, Model};
-use std::sync::ledger::{Blank, Ledger};
+use std::marker::Model;
 
 /// A leaf with its value, as it stands on the nodes that it has won.
 #[derive(Clone, Copy)]
@@ -85,45 +83,26 @@ impl Peak {
         Ok(Peak { nodes, count })
     }
 
-    /// Sets the value of a leaf, in one step for each level above it: at most as many as the number of leaves
-    /// has binary digits.
-    pub fn set<L: Ledger>(&mut self, leaf: u32, value: u64, steps: &mut Steps<L>)
+    /// Sets the value of a leaf, and gives how many levels it climbed: at most as many as the number of
+    /// leaves has binary digits.
+    pub fn set(&mut self, leaf: u32, value: u64) -> u32
         requires { leaf < length self.old }
         ensures values { self.new ≡ slice_set self.old leaf value }
-        ensures counted { steps.old ≤ steps.new }
-        ensures cost { 2 ^ (steps.new - steps.old) ≤ 2 * length self.old }
-        ensures levels { length self.old + leaf < 2 * 2 ^ (steps.new - steps.old) }
+        ensures cost { 2 ^ result ≤ 2 * length self.old }
+        ensures levels { length self.old + leaf < 2 * 2 ^ result }
     {
         let mut node = self.count + leaf as usize;
         let mut winner = Candidate { value, leaf };
         self.nodes[node] = winner;
+        let mut levels = 0;
         while node > 1 {
-            steps.tick();
             let sibling = self.nodes[node ^ 1];
             winner = winner_of(winner, sibling);
             node /= 2;
             self.nodes[node] = winner;
+            levels += 1;
         }
-    }
-
-    /// Sets the value of a leaf as `set` does, for a caller that counts no steps.
-    pub fn set_uncounted(&mut self, leaf: u32, value: u64)
-        requires { leaf < length self.old }
-        ensures { self.new ≡ slice_set self.old leaf value }
-    {
-        self.set_from::<Brand>(leaf, value, Blank::new(1));
-    }
-
-    /// Sets the value of a leaf, with a counter made from this blank.
-    fn set_from<L: Ledger>(&mut self, leaf: u32, value: u64, blank: Blank)
-        requires name { blank.name ≡ L.name }
-        requires parts { blank.parts ≡ L.parts }
-        requires one_part { blank.parts ≡ 1 }
-        requires within { leaf < length self.old }
-        ensures { self.new ≡ slice_set self.old leaf value }
-    {
-        let mut steps = Steps::<L>::new(blank);
-        self.set(leaf, value, &mut steps);
+        levels
     }
 
     /// The leaf of the greatest value, the least of these on a tie. None where all values are 0.

@@ -120,7 +120,7 @@ impl Backlog {
         let octets = self.octets[at] + u64::from(parcel.frame().len());
         self.queues[at].push_back(parcel);
         self.octets[at] = octets;
-        self.longest.set_uncounted(q, octets);
+        self.longest.set(q, octets);
         self.ready[at] = true;
         self.queued += 1;
     }
@@ -140,7 +140,7 @@ impl Backlog {
         let left = queue.len();
         let octets = self.octets[at] - u64::from(parcel.frame().len());
         self.octets[at] = octets;
-        self.longest.set_uncounted(q, octets);
+        self.longest.set(q, octets);
         self.ready[at] = left != 0;
         self.queued -= 1;
         Some(parcel)

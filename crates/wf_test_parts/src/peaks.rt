@@ -11,7 +11,7 @@ fn best_after(peak: &mut Peak, leaf: u32, value: u64) -> Option<u32>
     requires { leaf < length peak.old }
     ensures { length peak.new ≡ length peak.old }
 {
-    peak.set_uncounted(leaf, value);
+    peak.set(leaf, value);
     peak.best()
 }
 
@@ -50,9 +50,9 @@ fn first_of_four(peak: &Peak, least: u64) -> Option<u32>
 fn the_first_from_a_value_on_is_found(rt: HostRuntime) -> Result<(), AllocError> {
     let mut peak = Peak::new(rt.alloc(), 4)?;
     let none = first_of_four(&peak, 1);
-    peak.set_uncounted(1, 5);
-    peak.set_uncounted(2, 9);
-    peak.set_uncounted(3, 5);
+    peak.set(1, 5);
+    peak.set(2, 9);
+    peak.set(3, 5);
     let found = [
         none,
         first_of_four(&peak, 5),

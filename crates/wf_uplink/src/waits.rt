@@ -53,7 +53,7 @@ impl Waits {
             Some(since) => LARGE - since,
             None => 0,
         };
-        self.peak.set_uncounted(place as u32, worth);
+        self.peak.set(place as u32, worth);
     }
 
     /// The first place that has waited for the time limit.

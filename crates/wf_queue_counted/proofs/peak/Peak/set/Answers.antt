@@ -1,18 +1,17 @@
-use Rattle.std.proofs.Common.{◌≡◌, ◌+◌, ◌-◌, ◌/◌, ◌<◌, ◌∙◌, ap, sym, arith, length, slice_set, get_or-set_same}
+use Rattle.std.proofs.Common.{◌≡◌, ◌+◌, ◌/◌, ◌<◌, ◌∙◌, ap, sym, arith, length, slice_set, get_or-set_same}
 use Rattle.std.specs.Prelude.{bit_xor}
 use Rattle.std.proofs.lemmas.List.{get_or_default}
 use Rattle.wf_queue_counted.specs.declared.peak.Candidate.{Candidate}
 use Rattle.wf_queue_counted.specs.Tree.{no_candidate, node_at, winner_of}
-use Rattle.wf_queue_counted.proofs.CostLemmas.{one_more, cost_halved, levels_halved}
+use Rattle.wf_queue_counted.proofs.CostLemmas.{power, few_levels, cost_halved, levels_halved}
 use Rattle.wf_queue_counted.proofs.TreeLemmas.{length_of, leaf_set, values_set, node_played, values_kept, sibling_within, winner_above}
 use Rattle.wf_queue_counted.proofs.peak.Peak.set.Goals as goal
 
 pub loop-node-init : goal.loop-node-init
-loop-node-init g c =
+loop-node-init c =
     let size : length c.args.self.now ≡ c.self.inside.count =
     ap length (sym c.self.view_is) ∙ length_of c.self.inside.nodes.items c.self.inside.count
     c.self.invariant.size in
-    let e : c.args.steps.now - c.args.steps.now ≡ 0 = omega arith in
     record {
       played = leaf_set c.self.inside.nodes.items c.self.inside.count c.args.leaf c.args.value
           c.self.invariant (omega arith);
@@ -24,20 +23,25 @@ loop-node-init g c =
       within = omega arith;
       values = values_set c.self.inside.nodes.items c.self.inside.count c.args.leaf _
           ∙ ap (λ xs. slice_set xs c.args.leaf c.args.value) c.self.view_is;
-      counted = omega arith;
-      cost = rw e (omega arith);
-      levels = rw e (omega arith);
+      cost = omega arith;
+      levels = omega arith;
     }
 
 pub index-sibling-requires : goal.index-sibling-requires
-index-sibling-requires g c = omega (
+index-sibling-requires c = omega (
   arith,
   c.loop-node.invariant.played.size,
   sibling_within c.loop-node.node c.loop-node.self-inside.count c.loop-node.invariant.within,
 )
 
+pub overflow_add-levels : goal.overflow_add-levels
+overflow_add-levels c = omega (
+  arith,
+  few_levels _ _ _ c.loop-node.invariant.cost (omega arith) (omega arith),
+)
+
 pub loop-node-preserved : goal.loop-node-preserved
-loop-node-preserved g c =
+loop-node-preserved c =
     let inner : c.loop-node.node / 2 < c.loop-node.self-inside.count = omega arith in
     let sibling : c.index-sibling.result.now ≡ node_at c.loop-node.self-inside.nodes.items
     (bit_xor c.loop-node.node 1) = c.index-sibling.ensures
@@ -59,15 +63,12 @@ loop-node-preserved g c =
       some = omega arith;
       within = omega arith;
       values = values_kept _ _ _ _ inner ∙ c.loop-node.invariant.values;
-      counted = omega arith;
-      cost = rw (c.tick.ensures, one_more _ _ c.loop-node.invariant.counted)
-          (cost_halved _ _ _ c.loop-node.invariant.cost);
-      levels = rw (c.tick.ensures, one_more _ _ c.loop-node.invariant.counted)
-          (levels_halved _ _ _ c.loop-node.invariant.levels);
+      cost = rw power (cost_halved _ _ _ c.loop-node.invariant.cost);
+      levels = rw power (levels_halved _ _ _ c.loop-node.invariant.levels);
     }
 
 pub returns-clause-cost : goal.returns-clause-cost
-returns-clause-cost g c =
+returns-clause-cost c =
     let size : length c.args.self.now ≡ c.self.inside.count =
     ap length (sym c.self.view_is) ∙ length_of c.self.inside.nodes.items c.self.inside.count
     c.self.invariant.size in
@@ -76,7 +77,7 @@ returns-clause-cost g c =
     omega (arith, cost)
 
 pub returns-clause-levels : goal.returns-clause-levels
-returns-clause-levels g c =
+returns-clause-levels c =
     let size : length c.args.self.now ≡ c.self.inside.count =
     ap length (sym c.self.view_is) ∙ length_of c.self.inside.nodes.items c.self.inside.count
     c.self.invariant.size in

@@ -20,7 +20,7 @@ invariant_of-self c =
     let room = subst (λ (v : BacklogValue). held_in_backlog v < v.room) (sym c.self.view_is)
     c.requires.room in
     kept_pushed _ _ _ _ _ c.self.invariant c.args.q c.index.result.now c.from.result
-    c.index_mut.result.now c.push_back.new.self c.args.parcel c.set_uncounted.new.self here c.index.ensures
+    c.index_mut.result.now c.push_back.new.self c.args.parcel c.set.new.self here c.index.ensures
     c.index_mut.ensures.value c.push_back.ensures
     (omega (
       arith,
@@ -29,4 +29,4 @@ invariant_of-self c =
       ap (λ (f : FrameValue). length f.body) c.frame.ensures,
     ))
     (omega (arith, c.from.ensures, c.len.ensures.some)) (omega (arith, c.from.ensures, c.len.ensures.most))
-    c.set_uncounted.ensures room
+    c.set.ensures.values room
