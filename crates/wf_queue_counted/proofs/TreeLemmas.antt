@@ -1,7 +1,7 @@
 -- What a tournament's root holds, and how a node is played again.
 use Rattle.std.proofs.Common.{◌≡◌, ◌≢◌, ℕ, zero, suc, ◌+◌, ◌-◌, ◌*◌, ◌/◌, ◌%◌, ◌^◌, ◌<◌, ◌≤◌, Bool, true, false, cond, ◌⊎◌, inl, inr, List, ◌∷◌, length, map, drop, replicate, set, get_or, refl, sym, ap, ◌∙◌, arith, get_or-set_other, get_or-set_same}
 use Rattle.std.proofs.Math.ListN.{length-set, get_or-map}
-use Rattle.std.proofs.lemmas.List.{get_or_past, length-map, length-drop, get_or-drop, drop-set-lt, drop-set-add, map-set, set-get_or, get_or-replicate, length-replicate, drop-replicate}
+use Rattle.std.proofs.lemmas.List.{get_or_past, get_or_read, length-map, length-drop, get_or-drop, drop-set-lt, drop-set-add, map-set, set-get_or, get_or-replicate, length-replicate, drop-replicate}
 use Rattle.std.proofs.lemmas.Bool.Decides.{nat_tests}
 use Rattle.std.proofs.lemmas.Bool.{cases_lt}
 use Rattle.std.proofs.lemmas.Nat.{xor_block}
@@ -54,7 +54,7 @@ wins a b = record {
   one = elim (either (is_ahead b a) b a) [ inl h ↦ inr h | inr h ↦ inl h ];
 }
 
-same_candidate : (a b : Candidate) → a.value ≡ b.value → a.leaf ≡ b.leaf → a ≡ b
+pub same_candidate : (a b : Candidate) → a.value ≡ b.value → a.leaf ≡ b.leaf → a ≡ b
 same_candidate a b value leaf =
     ap (λ (v : ℕ). let c : Candidate = record { value = v; leaf = a.leaf } in c) value
     ∙ ap (λ (l : ℕ). let c : Candidate = record { value = b.value; leaf = l } in c) leaf
@@ -118,7 +118,7 @@ sibling_within n count low = elim (sibling_is n) [
 ]
 
 -- the winner of a node and its sibling is the winner of their parent's children
-pub winner_above : (nodes : List Candidate) (n : ℕ) →
+winner_above : (nodes : List Candidate) (n : ℕ) →
     winner_of (node_at nodes n) (node_at nodes (bit_xor n 1))
     ≡ winner_of (node_at nodes (2 * (n / 2))) (node_at nodes (2 * (n / 2) + 1))
 winner_above nodes n = elim (sibling_is n) [
@@ -128,6 +128,18 @@ winner_above nodes n = elim (sibling_is n) [
       ∙ ap (λ (k : ℕ). winner_of (node_at nodes (2 * (n / 2) + 1)) (node_at nodes k)) e.1
       ∙ winner_turned (node_at nodes (2 * (n / 2) + 1)) (node_at nodes (2 * (n / 2)))
 ]
+
+-- so is the winner of a node and of what was read beside it
+pub winner_read : (nodes : List Candidate) (count n : ℕ) (mine beside won : Candidate) →
+    length nodes ≡ 2 * count → n < 2 * count → mine ≡ node_at nodes n →
+    beside ≡ get_or nodes (bit_xor n 1) beside → won ≡ winner_of mine beside →
+    won ≡ winner_of (node_at nodes (2 * (n / 2))) (node_at nodes (2 * (n / 2) + 1))
+winner_read nodes count n mine beside won size within mine_is read is =
+    let there : beside ≡ node_at nodes (bit_xor n 1) =
+    get_or_read nodes (bit_xor n 1) beside (omega (arith, size, sibling_within n count within)) read
+    no_candidate
+    in is ∙ ap (λ (c : Candidate). winner_of c beside) mine_is
+    ∙ ap (λ (c : Candidate). winner_of (node_at nodes n) c) there ∙ winner_above nodes n
 
 -- a fact of a node that holds the winner of its two children
 winner_at : (nodes : List Candidate) (count k : ℕ) → IsPlayedBut nodes count 0 → 0 < k → k < count →
@@ -284,6 +296,20 @@ node_played nodes count k c h some low won = record {
         | inl e ↦ rw (e, get_or-set_same nodes k c no_candidate (omega (arith, h.size))) won
         | inr other ↦ rw (get_or-set_other nodes k j c no_candidate other) (h.played j positive inner other)
       ]);
+}
+
+-- an inner node has its winner already: all nodes are played
+pub node_kept : (nodes : List Candidate) (count k : ℕ) → IsPlayedBut nodes count k →
+    node_at nodes k ≡ winner_of (node_at nodes (2 * k)) (node_at nodes (2 * k + 1)) →
+    IsPlayedBut nodes count 0
+node_kept nodes count k h won = record {
+  some = h.some;
+  size = h.size;
+  leaves = h.leaves;
+  played = λ j positive inner ne. elim (eq_or_ne j k) [
+    | inl e ↦ rw e won
+    | inr other ↦ h.played j positive inner other
+  ];
 }
 
 pub values_kept : (nodes : List Candidate) (count k : ℕ) (c : Candidate) → k < count →

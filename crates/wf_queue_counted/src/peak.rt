@@ -105,6 +105,40 @@ impl Peak {
         levels
     }
 
+    /// Sets the value of one leaf, and then that of a second, which may be the same. Where the first had the
+    /// greatest value, and the second does not come to have it, this costs hardly more than to set one: the
+    /// second is set first, and the nodes above the place where it meets the first keep their winner then.
+    pub fn set_both(&mut self, first: u32, value: u64, second: u32, other: u64)
+        requires first { first < length self.old }
+        requires second { second < length self.old }
+        ensures { self.new ≡ slice_set (slice_set self.old first value) second other }
+    {
+        self.set_until_kept(second, other);
+        if first != second {
+            self.set(first, value);
+        }
+    }
+
+    // Sets the value of a leaf, and plays the nodes above it up to the first that keeps its winner.
+    fn set_until_kept(&mut self, leaf: u32, value: u64)
+        requires { leaf < length self.old }
+        ensures { self.new ≡ slice_set self.old leaf value }
+    {
+        let mut node = self.count + leaf as usize;
+        let mut won = Candidate { value, leaf };
+        self.nodes[node] = won;
+        while node > 1 {
+            let sibling = self.nodes[node ^ 1];
+            won = winner_of(won, sibling);
+            node /= 2;
+            let before = self.nodes[node];
+            if before.value == won.value && before.leaf == won.leaf {
+                return;
+            }
+            self.nodes[node] = won;
+        }
+    }
+
     /// The leaf of the greatest value, the least of these on a tie. None where all values are 0.
     pub fn best(&self) -> Option<u32>
         ensures none { IfNone result ((leaf : ℕ) → slice_index self.now leaf ≡ 0) }

@@ -1,10 +1,7 @@
 use Rattle.std.proofs.Common.{◌≡◌, ◌+◌, ◌/◌, ◌<◌, ◌∙◌, ap, sym, arith, length, slice_set, get_or-set_same}
-use Rattle.std.specs.Prelude.{bit_xor}
-use Rattle.std.proofs.lemmas.List.{get_or_default}
-use Rattle.wf_queue_counted.specs.declared.peak.Candidate.{Candidate}
-use Rattle.wf_queue_counted.specs.Tree.{no_candidate, node_at, winner_of}
+use Rattle.wf_queue_counted.specs.Tree.{no_candidate}
 use Rattle.wf_queue_counted.proofs.CostLemmas.{power, few_levels, cost_halved, levels_halved}
-use Rattle.wf_queue_counted.proofs.TreeLemmas.{length_of, leaf_set, values_set, node_played, values_kept, sibling_within, winner_above}
+use Rattle.wf_queue_counted.proofs.TreeLemmas.{length_of, leaf_set, values_set, node_played, values_kept, sibling_within, winner_read}
 use Rattle.wf_queue_counted.proofs.peak.Peak.set.Goals as goal
 
 pub loop-node-init : goal.loop-node-init
@@ -43,20 +40,10 @@ overflow_add-levels c = omega (
 pub loop-node-preserved : goal.loop-node-preserved
 loop-node-preserved c =
     let inner : c.loop-node.node / 2 < c.loop-node.self-inside.count = omega arith in
-    let sibling : c.index-sibling.result.now ≡ node_at c.loop-node.self-inside.nodes.items
-    (bit_xor c.loop-node.node 1) = c.index-sibling.ensures
-    ∙ sym (get_or_default c.loop-node.self-inside.nodes.items (bit_xor c.loop-node.node 1) no_candidate
-    c.index-sibling.result.now (omega (
-      arith,
-      c.loop-node.invariant.played.size,
-      sibling_within c.loop-node.node c.loop-node.self-inside.count c.loop-node.invariant.within,
-    ))) in
     record {
       played = node_played _ _ _ _ c.loop-node.invariant.played (omega arith) inner
-          (c.winner_of-winner.ensures ∙ ap (λ (w : Candidate). winner_of w c.index-sibling.result.now)
-          c.loop-node.invariant.winner ∙ ap (λ (w : Candidate). winner_of
-          (node_at c.loop-node.self-inside.nodes.items c.loop-node.node) w) sibling
-          ∙ winner_above c.loop-node.self-inside.nodes.items c.loop-node.node);
+          (winner_read _ _ _ _ _ _ c.loop-node.invariant.played.size c.loop-node.invariant.within
+          c.loop-node.invariant.winner c.index-sibling.ensures c.winner_of-winner.ensures);
       winner = sym (get_or-set_same c.loop-node.self-inside.nodes.items (c.loop-node.node / 2) _ no_candidate
           (omega (arith, c.loop-node.invariant.played.size)));
       count = c.loop-node.invariant.count;
