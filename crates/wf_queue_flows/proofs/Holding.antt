@@ -1,6 +1,6 @@
 -- What a backlog keeps, and what its tree tells of its queues.
 use Rattle.std.proofs.Common.{◌≡◌, ℕ, zero, suc, ◌+◌, ◌*◌, ◌-◌, ◌<◌, ◌≤◌, ◌^◌, Bool, true, false, not, Option, Some, None, List, [], ◌∷◌, ◌++◌, length, map, replicate, set, get_or, sum_by, refl, ap, sym, ◌∙◌, subst, arith, append_assoc, append-nil, length-set, length-append}
-use Rattle.std.specs.Prelude.{◌==◌, All, slice_index, ◌↔◌, IfNone, IfSome, IsNone}
+use Rattle.std.specs.Prelude.{◌==◌, All, slice_index, ◌↔◌, IfNone, IfSome, IsNone, MatchOption}
 use Rattle.std.proofs.lemmas.List.{get_or-map, get_or_read, map-set, set-set, set-get_or, length-replicate, length-map}
 use Rattle.std.proofs.lemmas.List.Sums.{sum_by-cons, sum_by-le, sum_by-set, get_or-le-sum_by}
 use Rattle.std.proofs.lemmas.List.Folds.{sum_by-replicate}
@@ -234,6 +234,65 @@ module _ (v : BacklogValue) (octets leaves : List ℕ) (ready : List Bool) (queu
               (omega (arith, zero, get_or-le-sum_by length v.queues q [] longest.within)),
         )),
       )
+
+-- ---- a queue loses its head, and a queue gains a frame
+
+pub head_is : (o : Option FrameValue) (f : FrameValue) (before after : List FrameValue) → o ≡ Some f →
+    MatchOption o ((before ≡ []) × (after ≡ [])) (λ p. before ≡ p ∷ after) → before ≡ f ∷ after
+head_is o f before after is first =
+    subst (λ (p : Option FrameValue).
+    MatchOption p ((before ≡ []) × (after ≡ [])) (λ q. before ≡ q ∷ after)) is first
+
+module _ (v : BacklogValue) (octets leaves : List ℕ) (ready : List Bool) (queued : ℕ)
+    (kept : IsBacklogKept v octets leaves ready queued) (from x len left : ℕ) (frames now : List FrameValue)
+    (head : FrameValue) (here : from < length v.queues) (read : x ≡ get_or octets from x)
+    (at : frames ≡ get_or v.queues from frames) (first : frames ≡ head ∷ now)
+    (len_is : len ≡ length head.body) (left_is : left ≡ length now) where
+  between : IsBacklogKept (with_frames v from now) (set octets from (x - len)) (set leaves from (x - len))
+      (set ready from (not (left == 0))) (queued - 1)
+  between = kept_popped v octets leaves ready queued kept from x len left frames now head _ here read at
+      first len_is left_is refl
+
+  still_here : (to : ℕ) → to < length v.queues → to < length (set v.queues from now)
+  still_here to there = omega (arith, there, length-set v.queues from now)
+
+  some_queued : queued - 1 + 1 ≡ queued
+  some_queued = omega (
+    arith,
+    frames_within v octets leaves ready queued kept from here,
+    ap length (sym (get_or_read v.queues from frames here at []) ∙ first),
+  )
+
+  pub exchange_fits : (to y more : ℕ) → to < length v.queues → y ≡ get_or (set octets from (x - len)) to y →
+      more ≤ greatest_body → y + more < 2 ^ 64
+  exchange_fits to y more there = push_fits _ _ _ _ _ between to y more (still_here to there)
+
+  pub kept_exchanged : (to y more : ℕ) (frames2 now2 : List FrameValue) (f : FrameValue) (leaves2 : List ℕ) →
+      to < length v.queues → y ≡ get_or (set octets from (x - len)) to y →
+      frames2 ≡ get_or (set v.queues from now) to frames2 → now2 ≡ frames2 ++ f ∷ [] →
+      more ≡ length f.body → 0 < more → more ≤ greatest_body →
+      leaves2 ≡ set (set leaves from (x - len)) to (y + more) → held_in_backlog v < v.room →
+      IsBacklogKept (record v { queues = set (set v.queues from now) to now2 })
+      (set (set octets from (x - len)) to (y + more)) leaves2 (set (set ready from (not (left == 0))) to true)
+      queued
+  kept_exchanged to y more frames2 now2 f leaves2 there read2 at2 longer more_is some few leaf room =
+      subst (IsBacklogKept _ _ _ _) some_queued
+      (kept_pushed _ _ _ _ _ between to y more frames2 now2 f leaves2 (still_here to there) read2 at2 longer
+      more_is some few leaf (omega (arith, room, kept.queued_is, between.queued_is)))
+
+  pub held_exchanged : (to : ℕ) (now2 frames2 : List FrameValue) (f : FrameValue) → to < length v.queues →
+      frames2 ≡ get_or (set v.queues from now) to frames2 → now2 ≡ frames2 ++ f ∷ [] →
+      sum_by length (set (set v.queues from now) to now2) ≡ in_queues v
+  held_exchanged to now2 frames2 f there at2 longer = omega (
+    arith,
+    between.queued_is,
+    some_queued,
+    kept.queued_is,
+    sum_by-set length (set v.queues from now) to now2 [] (still_here to there),
+    ap length (longer ∙ ap (λ (xs : List FrameValue). xs ++ f ∷ [])
+        (get_or_read (set v.queues from now) to frames2 (still_here to there) at2 [])),
+    length-append (get_or (set v.queues from now) to []) (f ∷ []),
+  )
 
 -- ---- all frames of a queue leave, one by one
 

@@ -1,7 +1,7 @@
 -- What dropping a head and purging a queue keep and leave, and which queue a frame goes to.
-use Rattle.std.proofs.Common.{◌≡◌, ℕ, ◌+◌, ◌*◌, ◌-◌, ◌<◌, ◌≤◌, true, false, not, List, [], ◌∷◌, Some, None, length, get_or, set, drop, map, refl, sym, ap, ◌∙◌, subst, inl, inr, arith, length-drop, eq-eqb}
+use Rattle.std.proofs.Common.{◌≡◌, ℕ, ◌+◌, ◌*◌, ◌-◌, ◌<◌, ◌≤◌, true, false, not, List, ◌^◌, [], ◌∷◌, ◌++◌, length, get_or, set, drop, map, refl, sym, ap, ◌∙◌, subst, inl, inr, arith, length-drop, length-set, eq-eqb}
 use Rattle.std.specs.Prelude.{◌==◌, ◌%◌}
-use Rattle.std.proofs.lemmas.List.{get_or-map, get_or_past, length-map, get_or_read, nil_from_length}
+use Rattle.std.proofs.lemmas.List.{get_or-map, get_or_past, length-map, get_or_read, get_or_default, get_or-set_same, get_or-set_other, nil_from_length}
 use Rattle.std.proofs.lemmas.Bool.{cases_eq, cases_lt, both_ways, ne_eqb, cond-true, cond-false}
 use Rattle.wf_frame.specs.Frames.{FrameValue}
 use Rattle.wf_def_rotation.specs.Rotation.{Rotation, no_keys, in_order, without_key}
@@ -11,18 +11,14 @@ use Rattle.wf_sched.specs.Lists.{lists_at, on_at, has_on}
 use Rattle.wf_sched.specs.Rotas.{Rotas, IsUnlisted}
 use Rattle.wf_law_rules.proofs.Lemmas.Counts.{on_order-none}
 use Rattle.wf_law_rules.proofs.Lemmas.Counts.{on-nil, on-append}
-use Rattle.wf_queue_flows.specs.Backlog.{BacklogValue, frames_at, first_id, after_head_drop, after_flush}
+use Rattle.wf_queue_flows.specs.Backlog.{BacklogValue, frames_at, held_in_backlog, with_frames, after_head_drop, after_flush}
 use Rattle.wf_queue_flows.specs.Flows.{FlowsValue, tids, queues, is_listed, is_listed_by_another, queue_for}
 use Rattle.wf_queue_flows.specs.Kept.{depth, AreFlowsKept, CanList}
-use Rattle.wf_queue_flows.proofs.Flags.{nothing_dropped, changed_at}
+use Rattle.wf_queue_flows.proofs.Flags.{changed_at}
 use Rattle.wf_queue_flows.proofs.Picks.{on-filter, on-filter_le, on-filter_out}
 use Rattle.wf_queue_flows.proofs.Owners.{listed_elsewhere, on-listed}
 use Rattle.wf_queue_flows.proofs.Keeps.{kept_frames, kept_lists, unlisted_empty, depth_counted}
-use Rattle.wf_queue_flows.proofs.Moves.{has_lists}
-
-first_some : (xs : List FrameValue) (id : ℕ) → Some id ≡ first_id xs → 0 < length xs
-first_some [] id e = absurd (cc e)
-first_some (f ∷ fs) id e = omega arith
+use Rattle.wf_queue_flows.proofs.Moves.{has_lists, append_fits, append_keeps}
 
 none-others : (k y : ℕ) → (y ≡ k → ⊥) → not (y == k) ≡ true
 none-others k y other = rw (ne_eqb y k other) refl
@@ -87,51 +83,95 @@ module _ (v now : FlowsValue) (counts : List ℕ) (same : v ≡ now) (ok : AreFl
       0 < on_at v.rotas.lists place q
   stands q place side is = on-listed v place q (has_lists (lists_at v.rotas.lists place) side q is)
 
-  -- ---- drop_head
+  on_now : (j q : ℕ) → is_listed now j q ≡ true → 0 < on_at v.rotas.lists j q
+  on_now j q is = on-listed v j q (subst (λ (w : FlowsValue). is_listed w j q ≡ true) (sym same) is)
 
-  module _ (q x place : ℕ) (side : Side) (lost : ℕ) (low_q : q < queues now)
-      (low : place < length v.rotas.lists) (is : has_on v.rotas.lists place side q ≡ true)
-      (read_x : x ≡ get_or counts place x) (id : Some lost ≡ first_id (frames_at v.backlog q)) where
+  -- ---- exchange
+
+  module _ (q x place : ℕ) (low_q : q < queues now) (low_i : place < tids now)
+      (is : is_listed now place q ≡ true) (some_now : 0 < length (frames_at now.backlog q))
+      (read_x : x ≡ get_or counts place x) where
+    low : place < 8 * v.stations
+    low = subst (λ (w : FlowsValue). place < tids w) (sym same) low_i
+
+    some : 0 < length (frames_at v.backlog q)
+    some = subst (λ (w : FlowsValue). 0 < length (frames_at w.backlog q)) (sym same) some_now
+
     pub drop_fits : 1 ≤ x
     drop_fits = omega (
       arith,
-      first_some (frames_at v.backlog q) lost id,
-      read place x low read_x,
-      depth_counted v counts ok place q (low_place place low) (low_queue q low_q) (stands q place side is),
+      some,
+      read place x (omega (arith, low, ok.sized.lists)) read_x,
+      depth_counted v counts ok place q low (low_queue q low_q) (on_now place q is),
     )
 
-    pub drop_keeps : (after : BacklogValue) → after ≡ after_head_drop v.backlog q →
-        AreFlowsKept (record v { backlog = after }) (set counts place (x - 1))
-    drop_keeps after dropped =
-        kept_frames v counts ok after place q (x - 1) (drop 1 (frames_at v.backlog q))
-        (ap (λ (b : BacklogValue). b.queues) dropped) (ap (λ (b : BacklogValue). b.room) dropped)
-        (low_place place low) (low_queue q low_q) (stands q place side is)
+    abbrev dropped : FlowsValue
+    dropped = record v { backlog = after_head_drop v.backlog q }
+
+    drop_keeps : AreFlowsKept dropped (set counts place (x - 1))
+    drop_keeps =
+        kept_frames v counts ok (after_head_drop v.backlog q) place q (x - 1) (drop 1 (frames_at v.backlog q))
+        refl refl low (low_queue q low_q) (on_now place q is)
         (omega (
           arith,
           drop_fits,
-          first_some (frames_at v.backlog q) lost id,
-          read place x low read_x,
+          some,
+          read place x (omega (arith, low, ok.sized.lists)) read_x,
           length-drop 1 (frames_at v.backlog q),
         ))
+
+    fewer : (i : ℕ) → get_or (set counts place (x - 1)) i 0 ≤ get_or counts i 0
+    fewer i = elim (cases_eq i place) [
+      | inl e ↦ omega (
+        arith,
+        ap (λ (n : ℕ). get_or (set counts place (x - 1)) n 0) e,
+        ap (λ (n : ℕ). get_or counts n 0) e,
+        get_or-set_same counts place (x - 1) 0 (omega (arith, low, ok.sized.tids)),
+        read place x (omega (arith, low, ok.sized.lists)) read_x,
+      )
+      | inr other ↦ omega (arith, get_or-set_other counts place i (x - 1) 0 other)
+    ]
+
+    pub exchange_fits : (i y : ℕ) → i < tids now → held_in_backlog now.backlog < now.backlog.room →
+        y ≡ get_or (set counts place (x - 1)) i y → y + 1 < 2 ^ 32
+    exchange_fits i y low_y room is_y =
+        let here : i < 8 * v.stations = subst (λ (w : FlowsValue). i < tids w) (sym same) low_y in
+        omega (
+          arith,
+          fewer i,
+          get_or_read (set counts place (x - 1)) i y
+              (omega (arith, here, ok.sized.tids, length-set counts place (x - 1))) is_y 0,
+          append_fits v now counts same ok i (get_or counts i 0) low_y room
+              (get_or_default counts i 0 (get_or counts i 0) (omega (arith, here, ok.sized.tids))),
+        )
+
+    pub exchange_keeps : (i k y : ℕ) (f : FrameValue) (after : BacklogValue) → i < tids now → k < queues now →
+        is_listed now i k ≡ true → y ≡ get_or (set counts place (x - 1)) i y →
+        after ≡ with_frames (after_head_drop v.backlog q) k
+        (frames_at (after_head_drop v.backlog q) k ++ f ∷ [])
+        → AreFlowsKept (record v { backlog = after }) (set (set counts place (x - 1)) i (y + 1))
+    exchange_keeps i k y f after low_y low_k listed read_y exchanged =
+        append_keeps dropped dropped (set counts place (x - 1)) refl drop_keeps i k y f after
+        (subst (λ (w : FlowsValue). i < tids w) (sym same) low_y)
+        (subst (λ (w : FlowsValue). k < queues w) (sym same) low_k)
+        (subst (λ (w : FlowsValue). is_listed w i k ≡ true) (sym same) listed) read_y exchanged
+
+  -- ---- over_limit
 
   no_frames : (q : ℕ) → IsUnlisted v.rotas.lists q → frames_at v.backlog q ≡ []
   no_frames q none = nil_from_length (frames_at v.backlog q)
       (unlisted_empty v counts ok q (λ j. on_order-none (lists_at v.rotas.lists j) q (none j)))
 
-  pub none_dropped : (q : ℕ) → IsUnlisted v.rotas.lists q →
-      now ≡ record now { backlog = after_head_drop now.backlog q }
-  none_dropped q none = subst (λ (w : FlowsValue). w ≡ record w { backlog = after_head_drop w.backlog q })
-      same (ap (λ (b : BacklogValue). let w : FlowsValue = record v { backlog = b } in w)
-      (sym (nothing_dropped v.backlog q (no_frames q none))))
+  -- a queue with frames is listed
+  pub not_unlisted : (q : ℕ) → IsUnlisted v.rotas.lists q → 0 < length (frames_at v.backlog q) → ⊥
+  not_unlisted q none some = omega (arith, some, ap length (no_frames q none))
 
-  pub none_id : (q : ℕ) → IsUnlisted v.rotas.lists q → None ≡ first_id (frames_at now.backlog q)
-  none_id q none = subst (λ (w : FlowsValue). None ≡ first_id (frames_at w.backlog q)) same
-      (ap first_id (sym (no_frames q none)))
+  pub owner_is : (q place : ℕ) (side : Side) → has_on v.rotas.lists place side q ≡ true → (i : ℕ) →
+      is_listed now i q ≡ true → i ≡ place
+  owner_is q place side there i is =
+      ok.listed.apart.one_list i place q (on_now i q is) (stands q place side there)
 
   -- ---- purge_queue
-
-  on_now : (j q : ℕ) → is_listed now j q ≡ true → 0 < on_at v.rotas.lists j q
-  on_now j q is = on-listed v j q (subst (λ (w : FlowsValue). is_listed w j q ≡ true) (sym same) is)
 
   module _ (i q x gone : ℕ) (low : i < tids now) (is : is_listed now i q ≡ true)
       (read_x : x ≡ get_or counts i x) (count : gone ≡ depth v.backlog.queues q) where

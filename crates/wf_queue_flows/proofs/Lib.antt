@@ -8,7 +8,6 @@ mod Leaves
 mod Listing
 mod LongestLemmas
 mod Moves
-mod Next
 pub mod Owners
 mod Paid
 mod Picking

@@ -2,7 +2,7 @@
 use Rattle.std.proofs.Common.{◌≡◌, ℕ, suc, ◌+◌, ◌*◌, ◌-◌, ◌^◌, ◌<◌, ◌≤◌, true, false, not, Some, List, [], ◌∷◌, ◌++◌, length, get_or, set, drop, refl, sym, ap, ap₂, ◌∙◌, subst, inl, inr, arith, length-append, length-drop, eq-eqb}
 use Rattle.std.specs.Prelude.{ℤ, pos, negsuc, ◌-ℤ◌, ◌≤ℤ◌, ◌<ℤ◌, ◌==◌}
 use Rattle.std.proofs.lemmas.Int.{ints}
-use Rattle.std.proofs.lemmas.List.{get_or-set_same, get_or_read}
+use Rattle.std.proofs.lemmas.List.{get_or-set_same, get_or-set_other, get_or_read}
 use Rattle.std.proofs.lemmas.Option.{slice_get_within}
 use Rattle.std.proofs.lemmas.Bool.{cases_eq, both_ways, ne_eqb, or_left, or_right, cond-true, cond-false}
 use Rattle.wf_frame.specs.Frames.{FrameValue}
@@ -14,11 +14,11 @@ use Rattle.wf_sched.specs.declared.rotation.Side.{Side}
 use Rattle.wf_sched.specs.declared.rotation.Side.TheVariants.{New, Old}
 use Rattle.wf_sched.specs.Lists.{lists_at, on_at, has_on, side_of}
 use Rattle.wf_sched.specs.Rotas.{Rotas, deficit_at, quantum_at, IsUnlisted}
-use Rattle.wf_law_rules.proofs.Lemmas.Counts.{on_order-none}
+use Rattle.wf_law_rules.proofs.Lemmas.Counts.{on_order-none, on-append}
 use Rattle.wf_queue_flows.specs.Backlog.{BacklogValue, frames_at, held_in_backlog, with_frames, drops_at, given_at, backlog_after_take}
 use Rattle.wf_queue_flows.specs.Flows.{FlowsValue, tids, queues, is_listed, is_listed_by_another, with_listed_queue, frames_of_tid, frames_waiting}
 use Rattle.wf_queue_flows.specs.Kept.{AreFlowsKept, CanList}
-use Rattle.wf_queue_flows.proofs.Owners.{listed_elsewhere, listed_nowhere_else, on-listed}
+use Rattle.wf_queue_flows.proofs.Owners.{listed_elsewhere, listed_nowhere_else, on-listed, listed-on}
 use Rattle.wf_queue_flows.proofs.Keeps.{kept_frames, kept_deficit, kept_fresh, depth_counted, count_few}
 use Rattle.wf_queue_flows.proofs.Waiting.{waiting-set}
 
@@ -187,6 +187,32 @@ module _ (v now : FlowsValue) (counts : List ℕ) (same : v ≡ now) (ok : AreFl
       has-last : (xs : List ℕ) (k : ℕ) → has (xs ++ k ∷ []) k ≡ true
       has-last [] k = or_left (k == k) false (eq-eqb k k refl)
       has-last (x ∷ xs) k = or_right (x == k) (has (xs ++ k ∷ []) k) (has-last xs k)
+
+  -- what was listed still is
+  pub list_stays : (i q : ℕ) (d : ℤ) (after : Rotas) → i < tids now → after ≡ fresh i q d → (j k : ℕ) →
+      is_listed now j k ≡ true → is_listed (record v { rotas = after }) j k ≡ true
+  list_stays i q d after low is j k at =
+      listed-on (record v { rotas = after }) j k
+      (subst (λ (r : Rotas). 0 < on_at r.lists j k) (sym is) (elim (cases_eq j i) [
+        | inl e ↦ subst (λ (r : Rotation). 0 < on (in_order r) k)
+            (sym (ap (lists_at (set v.rotas.lists i more)) e
+            ∙ get_or-set_same v.rotas.lists i more no_keys (omega (arith, ok.sized.lists, low_tid i low))))
+            (grows (subst (λ (n : ℕ). 0 < on_at v.rotas.lists n k) e (stands j k at)))
+        | inr other ↦ subst (λ (r : Rotation). 0 < on (in_order r) k)
+            (sym (get_or-set_other v.rotas.lists i j more no_keys other)) (stands j k at)
+      ]))
+    where
+      more : Rotation
+      more = with_new_key (lists_at v.rotas.lists i) q
+
+      grows : 0 < on_at v.rotas.lists i k → 0 < on (in_order more) k
+      grows some = omega (
+        arith,
+        some,
+        on-append (lists_at v.rotas.lists i).old (lists_at v.rotas.lists i).new k,
+        on-append (lists_at v.rotas.lists i).old ((lists_at v.rotas.lists i).new ++ q ∷ []) k,
+        on-append (lists_at v.rotas.lists i).new (q ∷ []) k,
+      )
 
   pub listed_already : (i q place : ℕ) (side : Side) → CanList now i q →
       has_on v.rotas.lists place side q ≡ true → now ≡ with_listed_queue now i q

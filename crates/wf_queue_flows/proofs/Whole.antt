@@ -1,98 +1,18 @@
 -- The parts of each call make the whole of its definition.
-use Rattle.std.proofs.Common.{◌≡◌, ℕ, ◌<◌, ◌≤◌, true, false, List, [], ◌∷◌, Option, Some, None, length, set, refl, sym, ap, ◌∙◌, subst, arith}
-use Rattle.std.specs.Prelude.{pos, ◌-ℤ◌, ◌↔◌, OnSome, IsSome, option_map}
-use Rattle.std.proofs.lemmas.Bool.{both_ways, le-leb, lt-leb, cond-true, cond-false}
+use Rattle.std.proofs.Common.{◌≡◌, ℕ, ◌<◌, true, false, List, Option, Some, None, length, set, refl, sym, ap, ◌∙◌, subst, inl, inr, arith}
+use Rattle.std.specs.Prelude.{pos, ◌-ℤ◌}
+use Rattle.std.proofs.lemmas.Bool.{cases_Bool, cond-true, cond-false}
 use Rattle.wf_frame.specs.Frames.{FrameValue}
 use Rattle.wf_def_codel.specs.Codel.{Params}
 use Rattle.wf_sched.specs.Lists.{on_at}
 use Rattle.wf_sched.specs.Rotas.{Rotas, deficit_at}
-use Rattle.wf_queue_flows.specs.Backlog.{BacklogValue, frames_at, in_queues, first_id, after_head_drop, given_at, backlog_after_take, IsLongest}
-use Rattle.wf_queue_flows.specs.declared.flows.Lost.{Lost}
-use Rattle.wf_queue_flows.specs.Flows.{FlowsValue, flows_at_limit, longest_queue, after_limit, dropped_for_limit, queue_for, with_listed_queue, with_appended, after_put_in, after_put, pick_of_tid, after_pick, TakeGives, taken_by_codel, taken_from_picked, taken_for_tid, AreListedOnce}
+use Rattle.wf_queue_flows.specs.Backlog.{BacklogValue, frames_at, first_id, after_head_drop, given_at, backlog_after_take}
+use Rattle.wf_queue_flows.specs.Flows.{FlowsValue, flows_at_limit, is_listed, longest_queue, after_limit, dropped_for_limit, queue_for, with_listed_queue, with_appended, after_put_in, after_put, pick_of_tid, after_pick, TakeGives, taken_by_codel, taken_from_picked, taken_for_tid, AreListedOnce}
 use Rattle.wf_queue_flows.specs.Kept.{AreFlowsKept}
 use Rattle.wf_queue_flows.proofs.Owners.{on-listed, listed-on}
 use Rattle.wf_queue_flows.proofs.Puts.{put_is}
 
 module _ (v now : FlowsValue) (same : v ≡ now) where
-  -- there is room
-  pub roomy : (n : ℕ) → n ≡ in_queues v.backlog → n < v.limit → now ≡ after_limit now
-  unfolding after_limit
-  roomy n is other = subst (λ (w : FlowsValue). w ≡ after_limit w) same
-      (sym (cond-false (flows_at_limit v) _ v (lt-leb v.limit (in_queues v.backlog)
-      (omega (arith, is, other)))))
-
-  pub roomy_id : (n : ℕ) → n ≡ in_queues v.backlog → n < v.limit → None ≡ dropped_for_limit now
-  unfolding dropped_for_limit
-  roomy_id n is other = subst (λ (w : FlowsValue). None ≡ dropped_for_limit w) same
-      (sym (cond-false (flows_at_limit v) _ None
-      (lt-leb v.limit (in_queues v.backlog) (omega (arith, is, other)))))
-
-  limit_at : now.limit ≤ in_queues now.backlog → v.limit ≤ in_queues v.backlog
-  limit_at e = subst (λ (w : FlowsValue). w.limit ≤ in_queues w.backlog) (sym same) e
-
-  pub roomy_full : (n : ℕ) → n ≡ in_queues v.backlog → n < v.limit → IsSome {T = Lost} None ↔
-      (now.limit ≤ in_queues now.backlog)
-  roomy_full n is other = (
-    λ some. absurd (both_ways false refl some),
-    λ e. absurd (omega (arith, other, is, limit_at e)),
-  )
-
-  pub full_full : (n q : ℕ) (o : Option Lost) → n ≡ in_queues v.backlog → v.limit ≤ n →
-      0 < length (frames_at v.backlog q) → option_map (λ l. l.id) o ≡ first_id (frames_at now.backlog q) →
-      IsSome o ↔
-      (now.limit ≤ in_queues now.backlog)
-  full_full n q o is full some id = (λ _. full_now, λ _. first_some (frames_at now.backlog q) o some_now id)
-    where
-      full_now : now.limit ≤ in_queues now.backlog
-      full_now = subst (λ (w : FlowsValue). w.limit ≤ in_queues w.backlog) same (omega (arith, is, full))
-
-      some_now : 0 < length (frames_at now.backlog q)
-      some_now = subst (λ (w : FlowsValue). 0 < length (frames_at w.backlog q)) same some
-
-      first_some : (xs : List FrameValue) (o : Option Lost) → 0 < length xs →
-          option_map (λ l. l.id) o ≡ first_id xs → IsSome o
-      first_some [] o some e = absurd (omega arith)
-      first_some (f ∷ fs) None some e = absurd (cc e)
-      first_some (f ∷ fs) (Some l) some e = refl
-
-  pub full_greatest : (q : ℕ) (o : Option Lost) → q ≡ longest_queue v.backlog →
-      IsLongest v.backlog q → OnSome o
-      (IsLongest now.backlog (longest_queue now.backlog))
-  full_greatest q o e most = on_some o (subst (λ (w : FlowsValue).
-      IsLongest w.backlog (longest_queue w.backlog)) same
-      (subst (IsLongest v.backlog) e most))
-    where
-      on_some : {P : Type 0} (o : Option Lost) → P → OnSome o P
-      on_some None p = tt
-      on_some (Some x) p = p
-
-  -- the queues are full
-  module _ (n q : ℕ) (is : n ≡ in_queues v.backlog) (full : v.limit ≤ n)
-      (longest_is : q ≡ longest_queue v.backlog) where
-    test : flows_at_limit now ≡ true
-    test = subst (λ (w : FlowsValue). flows_at_limit w ≡ true) same
-        (le-leb v.limit (in_queues v.backlog) (omega (arith, is, full)))
-
-    longest_now : q ≡ longest_queue now.backlog
-    longest_now = subst (λ (w : FlowsValue). q ≡ longest_queue w.backlog) same longest_is
-
-    pub full_dropped : (after : FlowsValue) → after ≡ record now { backlog = after_head_drop now.backlog q } →
-        after ≡ after_limit now
-    unfolding after_limit
-    full_dropped after dropped =
-        dropped ∙ ap (λ (k : ℕ). let w : FlowsValue =
-        record now { backlog = after_head_drop now.backlog k } in w) longest_now
-        ∙ sym (cond-true (flows_at_limit now) (record
-        now { backlog = after_head_drop now.backlog (longest_queue now.backlog) }) now test)
-
-    pub full_id : (o : Option Lost) → option_map (λ l. l.id) o ≡ first_id (frames_at now.backlog q) →
-        option_map (λ l. l.id) o ≡ dropped_for_limit now
-    unfolding dropped_for_limit
-    full_id o id =
-        id ∙ ap (λ (k : ℕ). first_id (frames_at now.backlog k)) longest_now
-        ∙ sym (cond-true (flows_at_limit now) (first_id (frames_at now.backlog (longest_queue now.backlog)))
-        None test)
-
   -- each queue with frames is listed once
   pub listed_once : (counts : List ℕ) → AreFlowsKept v counts → AreListedOnce now
   listed_once counts ok = subst AreListedOnce same (record {
@@ -111,6 +31,56 @@ put_parts now a b c i q f limited chosen listed pushed =
     pushed ∙ ap (λ (w : FlowsValue). with_appended w q f) listed ∙ put_is a i q f
     ∙ ap (λ (k : ℕ). after_put_in a i k f) chosen
     ∙ ap (λ (w : FlowsValue). after_put_in w i (queue_for w i f.flow) f) limited
+
+-- there is room
+module _ (v : FlowsValue) (roomy : flows_at_limit v ≡ false) where
+  pub roomy_same : v ≡ after_limit v
+  unfolding after_limit
+  roomy_same = sym (cond-false (flows_at_limit v) _ v roomy)
+
+  pub roomy_none : None ≡ dropped_for_limit v
+  unfolding dropped_for_limit
+  roomy_none = sym (cond-false (flows_at_limit v) _ None roomy)
+
+-- the queues are full, and queue k is the longest
+module _ (v : FlowsValue) (full : flows_at_limit v ≡ true) (k : ℕ)
+    (longest : k ≡ longest_queue v.backlog) where
+  abbrev dropped : FlowsValue
+  dropped = record v { backlog = after_head_drop v.backlog k }
+
+  full_dropped : dropped ≡ after_limit v
+  unfolding after_limit
+  full_dropped = ap (λ (n : ℕ). let w : FlowsValue = record v { backlog = after_head_drop v.backlog n } in w)
+      longest ∙ sym (cond-true (flows_at_limit v) _ v full)
+
+  pub full_id : (o : Option ℕ) → o ≡ first_id (frames_at v.backlog k) → o ≡ dropped_for_limit v
+  unfolding dropped_for_limit
+  full_id o id = id ∙ ap (λ (n : ℕ). first_id (frames_at v.backlog n)) longest
+      ∙ sym (cond-true (flows_at_limit v) _ None full)
+
+  -- the drop and the listing change other parts
+  dropped_listed : (i q : ℕ) → record (with_listed_queue v i q) {
+    backlog = after_head_drop (with_listed_queue v i q).backlog k;
+  } ≡ with_listed_queue dropped i q
+  unfolding with_listed_queue
+  dropped_listed i q = elim (cases_Bool (is_listed v i q)) [
+    | inl holds ↦ rw holds refl
+    | inr fails ↦ rw fails refl
+  ]
+
+  for_dropped : (i flow : ℕ) → queue_for v i flow ≡ queue_for dropped i flow
+  unfolding queue_for
+  for_dropped i flow = refl
+
+  pub put_full : (b c : FlowsValue) (i q : ℕ) (f : FrameValue) → q ≡ queue_for v i f.flow →
+      b ≡ with_listed_queue v i q
+      → c ≡ with_appended (record b { backlog = after_head_drop b.backlog k }) q f → c ≡ after_put v i f
+  put_full b c i q f chosen listed exchanged =
+      put_parts v dropped (with_listed_queue dropped i q) c i q f full_dropped (chosen ∙ for_dropped i f.flow)
+      refl
+      (exchanged ∙ ap (λ (w : FlowsValue). with_appended
+      (record w { backlog = after_head_drop w.backlog k }) q f) listed
+      ∙ ap (λ (w : FlowsValue). with_appended w q f) (dropped_listed i q))
 
 -- a frame that CoDel gave is what the take gives, once its length has left the deficit
 pub picked_gives : (v : FlowsValue) (q len clock : ℕ) (p : Params) (f : FrameValue) (after : BacklogValue)

@@ -1,6 +1,6 @@
 //! Numbered queues of parcels, each with a CoDel state, and the list of the finished parcels.
 
-ghost use Rattle.std.specs.Prelude.{◌≡◌, ◌+◌, ◌<◌, ◌≤◌, ◌↔◌, [], ◌∷◌, ◌++◌, length, replicate, is_some, if◌then◌else◌, IfOk, IfNone, IfSome, IsNone, MatchOption};
+ghost use Rattle.std.specs.Prelude.{◌≡◌, ◌+◌, ◌<◌, ◌≤◌, ◌↔◌, [], ◌∷◌, ◌++◌, Some, length, replicate, is_some, if◌then◌else◌, IfOk, IfNone, IfSome, IsNone, MatchOption};
 ghost use Rattle.wf_def_codel.specs.Codel.{new_codel};
 ghost use Rattle.wf_queue_flows.specs.Backlog.{frames_at, in_queues, held_in_backlog, spare_of, first_id, frame_with_fate, with_frames, after_head_drop, after_flush, flags, IsLongest};
 ghost use Rattle.wf_queue_flows.specs.Flows.{longest_queue};
@@ -159,6 +159,35 @@ impl Backlog {
         let id = parcel.frame().id();
         self.finish(settle(parcel, Fate::Dropped(Cause::Overlimit)));
         Some(id)
+    }
+
+    /// Drops the first frame of a queue for the limit, as `drop_head` does, and then puts a parcel last in a
+    /// queue, the same or another. Gives the id of the frame that is dropped.
+    pub fn exchange(&mut self, from: u32, to: u32, parcel: Parcel) -> u64
+        requires from { from < length self.old.queues }
+        requires to { to < length self.old.queues }
+        requires frames { 0 < length (frames_at self.old from) }
+        requires room { held_in_backlog self.old < self.old.room }
+        ensures id { Some result ≡ first_id (frames_at self.old from) }
+        ensures exchanged { let dropped = after_head_drop self.old from in
+            self.new ≡ with_frames dropped to (frames_at dropped to ++ parcel ∷ []) }
+        ensures held { held_in_backlog self.new ≡ held_in_backlog self.old + 1 }
+    {
+        let (source, target) = (from as usize, to as usize);
+        let queue = &mut self.queues[source];
+        let head = queue.pop_front().unwrap();
+        let count = queue.len();
+        let left = self.octets[source] - u64::from(head.frame().len());
+        self.octets[source] = left;
+        self.ready[source] = count != 0;
+        let more = self.octets[target] + u64::from(parcel.frame().len());
+        self.queues[target].push_back(parcel);
+        self.octets[target] = more;
+        self.ready[target] = true;
+        self.longest.set_both(from, left, to, more);
+        let id = head.frame().id();
+        self.finish(settle(head, Fate::Dropped(Cause::Overlimit)));
+        id
     }
 
     /// Drops all frames of a queue since their station left: from its head on they go last on the finished

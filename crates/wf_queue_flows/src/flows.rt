@@ -1,11 +1,11 @@
 //! Putting frames into the flow queues, and taking them out.
 
-ghost use Rattle.std.specs.Prelude.{◌≡◌, ℕ, ◌+◌, ◌<◌, ◌≤◌, ◌^◌, ◌↔◌, true, [], ◌∷◌, ◌++◌, IfOk, IfSome, IfNone, OnSome, IsSome, MatchOption, Some, None, option_map};
+ghost use Rattle.std.specs.Prelude.{◌≡◌, ℕ, ◌+◌, ◌<◌, ◌≤◌, ◌^◌, ◌↔◌, true, false, length, [], ◌∷◌, ◌++◌, IfOk, IfSome, IfNone, OnSome, IsSome, MatchOption, Some, None, option_map};
 ghost use Rattle.wf_frame.specs.Settings.{first_out_of_range};
 ghost use Rattle.wf_queue_flows.specs.CodelParams.{params_of};
 ghost use Rattle.wf_queue_flows.specs.Backlog.{frames_at, in_queues, held_in_backlog, first_id, after_head_drop, IsLongest};
 ghost use Rattle.wf_frame.specs.Classes.{tid_number};
-ghost use Rattle.wf_queue_flows.specs.Flows.{settings, tids, queues, is_listed, frames_of_tid, longest_queue, loses_next, after_limit, dropped_for_limit, is_listed_by_another, queue_for, with_listed_queue, with_appended, after_put, taken_for_tid, after_purge, empty_flows, AreListedOnce, TakeGives};
+ghost use Rattle.wf_queue_flows.specs.Flows.{settings, tids, queues, is_listed, frames_of_tid, flows_at_limit, longest_queue, loses_next, dropped_for_limit, is_listed_by_another, queue_for, with_listed_queue, with_appended, after_put, taken_for_tid, after_purge, empty_flows, AreListedOnce, TakeGives};
 ghost use Rattle.wf_queue_flows.specs.Kept.{CanList, without_queue};
 
 use crate::backlog::{Backlog, Taken};
@@ -131,11 +131,16 @@ impl Flows {
     {
         let list = tid_number(parcel.frame().station(), parcel.frame().tid());
         let flow = parcel.frame().flow();
-        let dropped = self.make_room();
+        let over = self.over_limit();
         let q = self.queue_for(list, flow);
         self.list_queue(list, q);
-        self.append(list, q, parcel);
-        dropped
+        match over {
+            None => {
+                self.append(list, q, parcel);
+                None
+            }
+            Some(from) => Some(self.exchange(from, (list, q), parcel)),
+        }
     }
 
     /// Takes a frame of a TID out, by deficit rounds among its queues and CoDel on the queue that is picked,
@@ -213,52 +218,54 @@ impl Flows {
         self.waiting.reap()
     }
 
-    // Drops the head of the longest queue where the queues hold `limit` frames or more.
-    fn make_room(&mut self) -> Option<Lost>
-        ensures within { self.new ≡ after_limit self.old }
-        ensures id { option_map (λ lost. lost.id) result ≡ dropped_for_limit self.old }
-        ensures station { IfSome result (λ lost. lost.station < self.old.stations) }
-        ensures tid { IfSome result (λ lost. lost.tid < 8) }
-        ensures loses { IfSome result (λ lost. loses_next self.old lost.station lost.tid ≡ true) }
-        ensures only { (s t : ℕ) → t < 8 → loses_next self.old s t ≡ true →
-            option_map {U = ℕ × ℕ} (λ lost. (lost.station, lost.tid)) result ≡ Some (s, t) }
-        ensures full { IsSome result ↔ (self.old.limit ≤ in_queues self.old.backlog) }
-        ensures greatest { OnSome result
-            (IsLongest self.old.backlog (longest_queue self.old.backlog)) }
-        ensures held { held_in_backlog self.new.backlog ≡ held_in_backlog self.old.backlog }
-        ensures room { self.new.backlog.room ≡ self.old.backlog.room }
-        ensures stations { self.new.stations ≡ self.old.stations }
+    // Where the queues hold `limit` frames or more: the longest, whose head is to be dropped, behind the TID
+    // that lists it.
+    fn over_limit(&self) -> Option<(u32, u32)>
+        ensures roomy { IfNone result (flows_at_limit self.now ≡ false) }
+        ensures full { IfSome result (λ _. flows_at_limit self.now ≡ true) }
+        ensures longest { IfSome result (λ from. from.1 ≡ longest_queue self.now.backlog) }
+        ensures greatest { IfSome result (λ from. IsLongest self.now.backlog from.1) }
+        ensures frames { IfSome result (λ from. 0 < length (frames_at self.now.backlog from.1)) }
+        ensures queue { IfSome result (λ from. from.1 < queues self.now) }
+        ensures list { IfSome result (λ from. from.0 < tids self.now) }
+        ensures lists { IfSome result (λ from. is_listed self.now from.0 from.1 ≡ true) }
+        ensures only { IfSome result (λ from. (i : ℕ) → is_listed self.now i from.1 ≡ true → i ≡ from.0) }
     {
         if self.waiting.total() < self.limit {
             return None;
         }
-        match self.waiting.longest() {
-            None => None,
-            Some(q) => self.drop_head(q),
-        }
+        let q = self.waiting.longest()?;
+        let (list, _) = self.rota.where_is(q)?;
+        Some((list, q))
     }
 
-    // Drops the head of a queue for the limit, and tells which frame it was and whose.
-    fn drop_head(&mut self, q: u32) -> Option<Lost>
-        requires { q < queues self.old }
-        ensures dropped { self.new ≡ record self.old { backlog = after_head_drop self.old.backlog q } }
-        ensures id { option_map (λ lost. lost.id) result ≡ first_id (frames_at self.old.backlog q) }
-        ensures station { IfSome result (λ lost. lost.station < self.old.stations) }
-        ensures tid { IfSome result (λ lost. lost.tid < 8) }
-        ensures lists { IfSome result (λ lost.
-            is_listed self.old (tid_number lost.station lost.tid) q ≡ true) }
-        ensures only { IfSome result (λ lost. (i : ℕ) → is_listed self.old i q ≡ true →
-            i ≡ tid_number lost.station lost.tid) }
-        ensures held { held_in_backlog self.new.backlog ≡ held_in_backlog self.old.backlog }
+    // Drops the head of a queue for the limit and appends a frame to a queue, each a TID and a queue that it
+    // lists. Tells which frame was dropped and whose.
+    fn exchange(&mut self, from: (u32, u32), to: (u32, u32), parcel: Parcel) -> Lost
+        requires loser { from.0 < tids self.old }
+        requires from { from.1 < queues self.old }
+        requires lists { is_listed self.old from.0 from.1 ≡ true }
+        requires frames { 0 < length (frames_at self.old.backlog from.1) }
+        requires list { to.0 < tids self.old }
+        requires to { to.1 < queues self.old }
+        requires listed { is_listed self.old to.0 to.1 ≡ true }
+        requires room { held_in_backlog self.old.backlog < self.old.backlog.room }
+        ensures exchanged { self.new ≡ with_appended
+            (record self.old { backlog = after_head_drop self.old.backlog from.1 }) to.1 parcel }
+        ensures id { Some result.id ≡ first_id (frames_at self.old.backlog from.1) }
+        ensures station { result.station < self.old.stations }
+        ensures tid { result.tid < 8 }
+        ensures whose { tid_number result.station result.tid ≡ from.0 }
+        ensures held { held_in_backlog self.new.backlog ≡ held_in_backlog self.old.backlog + 1 }
     {
-        let (list, _) = self.rota.where_is(q)?;
-        let id = self.waiting.drop_head(q)?;
-        self.queued[list as usize] -= 1;
-        Some(Lost {
+        let id = self.waiting.exchange(from.1, to.1, parcel);
+        self.queued[from.0 as usize] -= 1;
+        self.queued[to.0 as usize] += 1;
+        Lost {
             id,
-            station: (list / 8) as u16,
-            tid: (list % 8) as u8,
-        })
+            station: (from.0 / 8) as u16,
+            tid: (from.0 % 8) as u8,
+        }
     }
 
     // Whether another TID lists a queue.
@@ -296,6 +303,7 @@ impl Flows {
         requires own { CanList self.old list q }
         ensures listed { self.new ≡ with_listed_queue self.old list q }
         ensures stands { is_listed self.new list q ≡ true }
+        ensures stay { (i k : ℕ) → is_listed self.old i k ≡ true → is_listed self.new i k ≡ true }
         ensures backlog { self.new.backlog ≡ self.old.backlog }
         ensures flows { self.new.flows ≡ self.old.flows }
         ensures stations { self.new.stations ≡ self.old.stations }

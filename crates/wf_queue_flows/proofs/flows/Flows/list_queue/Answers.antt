@@ -1,4 +1,4 @@
-use Rattle.wf_queue_flows.proofs.Moves.{list_keeps, list_is, list_stands, listed_already}
+use Rattle.wf_queue_flows.proofs.Moves.{list_keeps, list_is, list_stands, list_stays, listed_already}
 use Rattle.wf_queue_flows.proofs.flows.Flows.list_queue.Goals as goal
 
 pub invariant_of-self : goal.invariant_of-self
@@ -17,3 +17,7 @@ returns-in-None-clause-stands c = list_stands _ _ _ c.self.view_is c.self.invari
 pub returns-in-Some-clause-listed : goal.returns-in-Some-clause-listed
 returns-in-Some-clause-listed c = listed_already _ _ _ c.self.view_is c.self.invariant c.args.list c.args.q _
     _ c.requires.own c.in-Some.ensures.some.1
+
+pub returns-in-None-clause-stay : goal.returns-in-None-clause-stay
+returns-in-None-clause-stay c = list_stays _ _ _ c.self.view_is c.self.invariant c.args.list c.args.q _
+    c.add_fresh.new.self c.requires.list c.add_fresh.ensures
