@@ -165,17 +165,13 @@ fn push_accepted(out: &mut Line, id: u64, dropped: Option<u64>)
     requires { out.old ≡ [] }
     ensures { out.new ≡ answer_line (Accepted id dropped) }
 {
-    match dropped {
-        None => push_numbered(out, b"accepted", id),
-        Some(dropped) => out.push_line(
-            b"accepted",
-            &[
-                Word::Number(id),
-                Word::Text(b"dropped"),
-                Word::Number(dropped),
-            ],
-        ),
+    out.push_all(b"accepted ");
+    out.push_number(id);
+    if let Some(dropped) = dropped {
+        out.push_all(b" dropped ");
+        out.push_number(dropped);
     }
+    out.push(b'\n');
 }
 
 // An exchange to send, but for what it sends.
