@@ -7,7 +7,7 @@ ghost use Rattle.wf_def_air.specs.Airtime.{data_charge, longest_answer};
 ghost use Rattle.wf_def_air.specs.Fit.{aggregate_octets, fits};
 ghost use Rattle.wf_air.specs.Rooms.{empty_room, RoomStandsFor};
 
-use crate::time::Rate;
+use crate::time::{Format, Rate};
 use std::marker::Model;
 
 /// The octets of the delimiter before an MPDU (8.6.1).
@@ -24,6 +24,12 @@ const OVERHEAD: u32 = DELIMITER_OCTETS + HEADER_OCTETS + CHECK_OCTETS;
 
 /// Each subframe but the last is padded to a multiple of 4 octets (8.6.1).
 const PADDING: u32 = 4;
+
+/// To what a receiver's maximum A-MPDU length exponent is added: for HT (8.4.2.58.3), and for VHT and HE, of
+/// which a receiver states 0 to 7 (that 0 to 3 stand for 4 to 7 there is this project's own rule).
+const LEAST_HT_EXPONENT: u8 = 13;
+
+const LEAST_EXPONENT: u8 = 17;
 
 /// An aggregate to which frames are added, one at a time: how many it has, and its octets.
 #[derive(Drop)]
@@ -63,13 +69,17 @@ impl Room {
         ensures made { result ≡ empty_room rate exponent agg cap wide }
         ensures empty { RoomStandsFor result [] }
     {
+        let least_exponent = match rate.format {
+            Format::Ht { .. } => LEAST_HT_EXPONENT,
+            Format::Vht { .. } | Format::He { .. } => LEAST_EXPONENT,
+        };
         Room {
             rate,
             exponent,
             agg,
             cap,
             wide,
-            most_octets: (1 << (rate.least_exponent() + exponent)) - 1,
+            most_octets: (1 << (least_exponent + exponent)) - 1,
             count: 0,
             octets: 0,
         }

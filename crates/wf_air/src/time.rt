@@ -5,7 +5,6 @@
 
 ghost use Rattle.std.specs.Prelude.{◌≡◌, ◌+◌, ◌/◌, ◌==◌, ◌≤◌, ◌<◌, if◌then◌else◌, true, false, IfOk, IfErr};
 ghost use Rattle.wf_def_lists.specs.Table.{has};
-ghost use Rattle.wf_def_air.specs.Fit.{least_exponent};
 ghost use Rattle.wf_def_air.specs.Airtime.{Ht, Vht, He, IsRate, is_rate, lowest_rate, carriers_of_312, carriers_of_78, vht_encoders, is_wide_width, are_streams, streams_left_out, streams, modulation, carriers, bits, symbol_tenths, kbps, encoders, preamble_tenths, data_time, answer_time, longest_answer, data_charge, request_charge};
 ghost use Rattle.wf_air.specs.Rates.{rate_of, unit_tenths, timing_of, least_kbps, most_kbps, longest_aggregate, longest_single, longest_time, longest_single_time};
 
@@ -87,7 +86,7 @@ const SIFS: u32 = 16;
 
 /// By what data is sent, with what each says.
 #[derive(Clone, Copy, Debug, PartialEq, Eq)]
-enum Format {
+pub(crate) enum Format {
     Ht {
         mcs: u8,
         mhz: u8,
@@ -128,7 +127,7 @@ struct Timing {
 /// A rate of HT with one or two spatial streams, or one of VHT or HE with one to eight.
 #[derive(Clone, Copy, Debug, PartialEq, Eq)]
 pub struct Rate {
-    format: Format,
+    pub(crate) format: Format,
     timing: Timing,
 }
 
@@ -441,20 +440,6 @@ impl Rate {
             mhz: 20,
             short: false,
         })
-    }
-
-    /// To what a receiver's maximum A-MPDU length exponent is added: 13 of HT (8.4.2.58.3), and 17
-    /// of VHT and HE, of which a receiver states 0 to 7 (that 0 to 3 stand for 4 to 7 there is this
-    /// project's own rule).
-    pub fn least_exponent(self) -> u8
-        ensures exact { result ≡ least_exponent self }
-        ensures least { 13 ≤ result }
-        ensures most { result ≤ 17 }
-    {
-        match self.format {
-            Format::Ht { .. } => 13,
-            Format::Vht { .. } | Format::He { .. } => 17,
-        }
     }
 
     /// The data rate in kbit/s, rounded down. Below 12,000 is MCS 0 on 20 MHz with one stream of
