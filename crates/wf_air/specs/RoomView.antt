@@ -2,6 +2,7 @@
 use Rattle.std.specs.Prelude.{◌≡◌, ◌≤◌}
 use Rattle.wf_def_air.specs.Airtime.{data_time}
 use Rattle.wf_def_air.specs.Fit.{most_octets}
+use Rattle.wf_air.specs.Rates.{longest_time}
 use Rattle.wf_air.specs.Rooms.{RoomValue}
 use Rattle.wf_air.specs.declared.fit.Room.TheInside.{Inside}
 
@@ -26,4 +27,6 @@ pub record IsRoom (r : Inside) : Type 0 where
   pub count_in : r.count ≤ r.agg
   pub octets_in : r.octets ≤ most_octets r.rate r.exponent
   pub empty : r.count ≡ 0 → r.octets ≡ 0
+  pub short : r.time ≤ longest_time
+  pub timed : 1 ≤ r.count → r.time ≡ data_time r.rate r.octets
   pub timely : 1 ≤ r.count → data_time r.rate r.octets ≤ r.cap

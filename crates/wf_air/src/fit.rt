@@ -7,7 +7,7 @@ ghost use Rattle.wf_def_air.specs.Airtime.{data_charge, longest_answer};
 ghost use Rattle.wf_def_air.specs.Fit.{aggregate_octets, fits};
 ghost use Rattle.wf_air.specs.Rooms.{empty_room, RoomStandsFor};
 
-use crate::time::{Format, Rate};
+use crate::time::{Format, Rate, SIFS, answer_time};
 use std::marker::Model;
 
 /// The octets of the delimiter before an MPDU (8.6.1).
@@ -43,6 +43,8 @@ pub struct Room {
     most_octets: u32,
     count: u16,
     octets: u32,
+    /// How long its octets take, once it has a frame.
+    time: u32,
 }
 
 impl Model for Room {
@@ -82,6 +84,7 @@ impl Room {
             most_octets: (1 << (least_exponent + exponent)) - 1,
             count: 0,
             octets: 0,
+            time: 0,
         }
     }
 
@@ -98,14 +101,16 @@ impl Room {
         ensures first { self.old.count ≡ 0 → IsTrue result }
     {
         let octets = self.octets.next_multiple_of(PADDING) + OVERHEAD + u32::from(len);
-        if self.count >= self.agg
-            || octets > self.most_octets
-            || self.rate.data_time(octets) > self.cap
-        {
+        if self.count >= self.agg || octets > self.most_octets {
+            return false;
+        }
+        let time = self.rate.data_time(octets);
+        if time > self.cap {
             return false;
         }
         self.count += 1;
         self.octets = octets;
+        self.time = time;
         true
     }
 
@@ -126,6 +131,6 @@ impl Room {
             result ≡ data_charge self.now.rate (aggregate_octets lens) self.now.wide }
         ensures most { result ≤ self.now.cap + longest_answer }
     {
-        self.rate.data_charge(self.octets, self.wide)
+        self.time + SIFS + answer_time(self.wide)
     }
 }

@@ -82,7 +82,7 @@ const ANSWER_TIME: u32 = CONTROL_PREAMBLE_TIME + 3 * CONTROL_SYMBOL_TIME;
 const WIDE_ANSWER_TIME: u32 = CONTROL_PREAMBLE_TIME + 5 * CONTROL_SYMBOL_TIME;
 
 /// The pause between a frame and its answer at 5 GHz, in microseconds (18.4.4).
-const SIFS: u32 = 16;
+pub(crate) const SIFS: u32 = 16;
 
 /// By what data is sent, with what each says.
 #[derive(Clone, Copy, Debug, PartialEq, Eq)]
@@ -480,7 +480,7 @@ impl Rate {
 }
 
 // How long a BlockAck takes.
-fn answer_time(wide: bool) -> u32
+pub(crate) fn answer_time(wide: bool) -> u32
     ensures exact { result ≡ answer_time wide }
     ensures most { result ≤ answer_time true }
 {

@@ -3,10 +3,10 @@ use Rattle.wf_def_air.specs.Fit.{overhead_octets, subframe_octets, padded}
 use Rattle.wf_air.specs.Rooms.{RoomValue}
 use Rattle.wf_air.proofs.Adding.{few, alone, refused_full, refused_long, refused_late, taken, stands_after}
 use Rattle.wf_air.proofs.fit.Room.add.Goals as goal
-use Rattle.wf_air.proofs.fit.Room.add.Goals.{then-self-via-then-self, then-self-via-else-self+then-octets-self, then-self-via-else-self+else-octets-self+then-data_time-self}
+use Rattle.wf_air.proofs.fit.Room.add.Goals.{then-self-via-then-self, then-self-via-else-self+then-octets-self}
 
-pub data_time-requires : goal.data_time-requires
-data_time-requires c =
+pub data_time-time-requires : goal.data_time-time-requires
+data_time-time-requires c =
     few _ _ c.self.view_is c.self.invariant c.args.len _ (omega arith) c.if-octets-self.false
 
 pub returns-then-self-clause-exact : goal.returns-then-self-clause-exact
@@ -19,10 +19,14 @@ returns-then-self-clause-exact c = λ lens stands.
       | then-self-via-else-self+then-octets-self w ↦
           refused_long _ _ c.self.view_is c.self.invariant c.args.len _ octets_is lens stands
           w.if-octets-self.true
-      | then-self-via-else-self+else-octets-self+then-data_time-self w ↦
-          refused_late _ _ c.self.view_is c.self.invariant c.args.len _ octets_is lens stands
-          (subst (λ (n : ℕ). c.self.inside.cap < n) w.data_time.ensures.exact w.if-data_time-self.true)
     ]
+
+pub returns-then-time-self-clause-exact : goal.returns-then-time-self-clause-exact
+returns-then-time-self-clause-exact c = λ lens stands.
+    let octets_is : c.next_multiple_of.result + overhead_octets + c.from.result
+    ≡ padded c.self.inside.octets + subframe_octets c.args.len = omega arith in
+    refused_late _ _ c.self.view_is c.self.invariant c.args.len _ octets_is lens stands
+    (subst (λ (n : ℕ). c.self.inside.cap < n) c.data_time-time.ensures.exact c.if-time-self.true)
 
 pub returns-then-self-clause-first : goal.returns-then-self-clause-first
 returns-then-self-clause-first c = λ none.
@@ -40,14 +44,19 @@ returns-then-self-clause-first c = λ none.
           ))
       | then-self-via-else-self+then-octets-self w ↦
           absurd (omega (arith, w.if-octets-self.true, short.0, short.1))
-      | then-self-via-else-self+else-octets-self+then-data_time-self w ↦
-          absurd (omega (
-            arith,
-            w.if-data_time-self.true,
-            w.data_time.ensures.single short.0,
-            c.self.invariant.cap_in,
-          ))
     ]
+
+pub returns-then-time-self-clause-first : goal.returns-then-time-self-clause-first
+returns-then-time-self-clause-first c = λ none.
+    let octets_is : c.next_multiple_of.result + overhead_octets + c.from.result
+    ≡ padded c.self.inside.octets + subframe_octets c.args.len = omega arith in
+    let short = alone _ _ c.self.view_is c.self.invariant c.args.len _ octets_is none c.requires.1 in
+    absurd (omega (
+      arith,
+      c.if-time-self.true,
+      c.data_time-time.ensures.single short.0,
+      c.self.invariant.cap_in,
+    ))
 
 pub returns-clause-exact : goal.returns-clause-exact
 returns-clause-exact c = λ lens stands.
@@ -55,7 +64,7 @@ returns-clause-exact c = λ lens stands.
     ≡ padded c.self.inside.octets + subframe_octets c.args.len = omega arith in
     taken _ _ c.self.view_is c.self.invariant c.args.len _ octets_is lens stands c.if-self.false
     c.if-octets-self.false
-    (subst (λ (n : ℕ). n ≤ c.self.inside.cap) c.data_time.ensures.exact c.if-data_time-self.false)
+    (subst (λ (n : ℕ). n ≤ c.self.inside.cap) c.data_time-time.ensures.exact c.if-time-self.false)
 
 pub returns-clause-taken : goal.returns-clause-taken
 returns-clause-taken c = λ lens stands _.
