@@ -177,7 +177,7 @@ impl Opened {
     {
         self.list
             .iter()
-            .filter(|exchange| exchange.class == class)
+            .filter(|exchange| exchange.class.number() == class.number())
             .count() as u32
     }
 
