@@ -1,8 +1,6 @@
 //! The slots of the numbers that are not settled.
 
-ghost use Rattle.std.specs.Prelude.{◌≡◌, ◌+◌, ◌<◌, ◌≤◌, [], ◌∷◌, ◌++◌, count_by, length, drop, IfOk, slice_set, slice_index_or};
-ghost use Rattle.std.specs.List.{list_any};
-ghost use Rattle.wf_send_parts.specs.Window.{waits};
+ghost use Rattle.std.specs.Prelude.{◌≡◌, ◌+◌, ◌<◌, ◌≤◌, [], ◌∷◌, ◌++◌, length, drop, IfOk, slice_set, slice_index_or};
 
 use crate::window::place::{Place, is_waiting};
 use std::alloc::{AllocError, Global};
@@ -15,7 +13,8 @@ use std::mem::replace;
 #[derive(Drop)]
 pub(crate) struct Ring {
     slots: VecDeque<Option<Place>>,
-    waiting: usize,
+    /// How many slots wait. Its methods alone change it.
+    pub(crate) waiting: usize,
 }
 
 impl Model for Ring {
@@ -44,19 +43,6 @@ impl Ring {
         ensures bound { self.now.capacity ≤ 256 }
     {
         self.slots.len()
-    }
-
-    pub(crate) fn has_waiting(&self) -> bool
-        ensures { result ≡ list_any waits self.now.items }
-    {
-        self.waiting > 0
-    }
-
-    // How many items wait.
-    pub(crate) fn waiting(&self) -> usize
-        ensures { result ≡ count_by waits self.now.items }
-    {
-        self.waiting
     }
 
     pub(crate) fn at(&self, i: usize) -> &Option<Place>

@@ -329,7 +329,7 @@ impl Window {
         ensures waiting { (s : Session) (bodies : ℕ → FrameValue) → WindowStandsFor self.now s bodies →
             result ≡ nat_lt 0 (length (waiting_numbers s)) }
     {
-        self.ring.has_waiting()
+        self.ring.waiting > 0
     }
 
     /// How many numbers wait.
@@ -338,7 +338,7 @@ impl Window {
         ensures waiting { (s : Session) (bodies : ℕ → FrameValue) → WindowStandsFor self.now s bodies →
             result ≡ length (waiting_numbers s) }
     {
-        self.ring.waiting() as u32
+        self.ring.waiting as u32
     }
 
     /// The first waiting number at or past `from`, which lies in F to N; None exactly where there is none.
