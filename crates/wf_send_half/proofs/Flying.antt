@@ -76,24 +76,23 @@ module _ (v : TransmitValue) (bodies : ℕ → FrameValue) (s t e : ℕ) (mpdus 
   stands : WindowStandsFor (window_of v.windows s t) (session h.world s t) sent
   stands = off.parts.windows.all.stands s t off.live off.tid
 
-  pub flying_next : (f : FrameValue) → ((y : Session) (all : ℕ → FrameValue) (n : ℕ) →
-      WindowStandsFor (window_of v.windows s t) y all → IsNumber y n number → f ≡ all (slot y n).id) →
+  pub flying_next : (id : ℕ) → ((y : Session) (all : ℕ → FrameValue) (n : ℕ) →
+      WindowStandsFor (window_of v.windows s t) y all → IsNumber y n number → id ≡ (all (slot y n).id).id) →
       (windows : List WindowValue) → windows ≡ with_window v.windows s t (window_of windows s t) →
       WindowsHaveRoom windows →
       ((y : Session) (all : ℕ → FrameValue) (n : ℕ) → WindowStandsFor (window_of v.windows s t) y all →
       IsNumber y n number → HasOwnFrame y n → WindowStandsFor (window_of windows s t)
       (with_state (State.Flying e) n y) (with_one_sent (slot y n).id all)) →
       IsFlying (record v { windows = windows }) bodies s t e mpdus after (i + 1)
-      (pairs ++ (f.id, number) ∷ [])
-  flying_next f read windows others room flies =
+      (pairs ++ (id, number) ∷ [])
+  flying_next id read windows others room flies =
       let one : suc i ≡ i + 1 = omega arith in
-      let id_is : f.id ≡ k.m.id = ap (λ (g : FrameValue). g.id)
-      (read (session h.world s t) sent k.m.number stands is_number)
+      let id_is : id ≡ k.m.id = read (session h.world s t) sent k.m.number stands is_number
       ∙ off_frame v h.world sent s t e k.m (drop (suc i) mpdus) after off in
-      let counted : with_one_sent k.m.id sent ≡ with_all_sent (pairs ++ (f.id, number) ∷ []) bodies =
-      ap (λ (id : ℕ). with_one_sent id sent) (sym id_is) ∙ sym (all_sent_then pairs (f.id, number) bodies) in
+      let counted : with_one_sent k.m.id sent ≡ with_all_sent (pairs ++ (id, number) ∷ []) bodies =
+      ap (λ (j : ℕ). with_one_sent j sent) (sym id_is) ∙ sym (all_sent_then pairs (id, number) bodies) in
       subst (λ (n : ℕ). IsFlying (record v { windows = windows }) bodies s t e mpdus after n
-      (pairs ++ (f.id, number) ∷ [])) one (record {
+      (pairs ++ (id, number) ∷ [])) one (record {
         world = on_session h.world s t (with_state (State.Flying e) k.m.number);
         off =
             subst (λ (all : ℕ → FrameValue). IsTakingOff (record v { windows = windows })

@@ -224,8 +224,7 @@ impl Transmit {
         pairs.clear();
         for i in 0..numbers.len() {
             let number = numbers.at(i);
-            let id = self.windows.at(station, tid).frame(number).id();
-            self.windows.fly(station, tid, number, self.exchanges);
+            let id = self.windows.fly(station, tid, number, self.exchanges);
             pairs.push((id, number.raw()));
         }
     }

@@ -249,12 +249,15 @@ impl Window {
         Ok(seq)
     }
 
-    /// A waiting number flies in this exchange; its frame counts that it is sent once more.
-    pub fn fly(&mut self, seq: Seq12, exchange: u64)
+    /// A waiting number flies in this exchange; its frame counts that it is sent once more. Gives the frame's
+    /// id.
+    pub fn fly(&mut self, seq: Seq12, exchange: u64) -> u64
         requires { state_at self.old seq ≡ State.Waiting }
         ensures stands { (s : Session) (bodies : ℕ → FrameValue) (n : ℕ) → WindowStandsFor self.old s bodies →
             IsNumber s n seq → HasOwnFrame s n → WindowStandsFor self.new
             (with_state (State.Flying exchange) n s) (with_one_sent (slot s n).id bodies) }
+        ensures id { (s : Session) (bodies : ℕ → FrameValue) (n : ℕ) → WindowStandsFor self.old s bodies →
+            IsNumber s n seq → result ≡ (bodies (slot s n).id).id }
         ensures capacity { self.new.capacity ≡ self.old.capacity }
     {
         let i = usize::from(seq.ahead(self.start));
@@ -267,6 +270,7 @@ impl Window {
         else {
             unreachable!()
         };
+        let id = parcel.frame().id();
         parcel.frame_mut().send();
         let _ = self.ring.replace(
             i,
@@ -276,6 +280,7 @@ impl Window {
                 exchange,
             }),
         );
+        id
     }
 
     /// The exchange in which a number flew has ended. Where it was not acknowledged, its attempts rise by

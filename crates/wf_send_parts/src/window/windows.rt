@@ -138,7 +138,7 @@ impl Windows {
     }
 
     /// A waiting number of a TID flies in this exchange, as `Window::fly`.
-    pub fn fly(&mut self, station: u16, tid: u8, seq: Seq12, exchange: u64)
+    pub fn fly(&mut self, station: u16, tid: u8, seq: Seq12, exchange: u64) -> u64
         requires tid { tid < 8 }
         requires within { tid_number station tid < length self.old }
         requires waits { state_at (window_of self.old station tid) seq ≡ State.Waiting }
@@ -146,11 +146,14 @@ impl Windows {
             WindowStandsFor (window_of self.old station tid) s bodies →
             IsNumber s n seq → HasOwnFrame s n → WindowStandsFor (window_of self.new station tid)
             (with_state (State.Flying exchange) n s) (with_one_sent (slot s n).id bodies) }
+        ensures id { (s : Session) (bodies : ℕ → FrameValue) (n : ℕ) →
+            WindowStandsFor (window_of self.old station tid) s bodies →
+            IsNumber s n seq → result ≡ (bodies (slot s n).id).id }
         ensures others { self.new ≡ with_window self.old station tid (window_of self.new station tid) }
         ensures room { WindowsHaveRoom self.new }
         ensures count { length self.new ≡ length self.old }
     {
-        self.windows[tid_number(station, tid) as usize].fly(seq, exchange);
+        self.windows[tid_number(station, tid) as usize].fly(seq, exchange)
     }
 
     /// The exchange in which a number of a TID flew has ended, as `Window::settle`: `limit` is how often it
