@@ -1,6 +1,7 @@
 -- An aggregate is filled, one number after the other.
-use Rattle.std.proofs.Common.{◌≡◌, ap, sym, ◌∙◌, subst, arith, ℕ, ◌+◌, ◌%◌, ◌<◌, ◌≤◌, ◌&&◌, nat_lt, Bool, true, false, if◌then◌else◌, List, [], ◌∷◌, ◌++◌, length, map, Option, Some, None, option_map}
-use Rattle.std.proofs.lemmas.List.{length-map}
+use Rattle.std.proofs.Common.{◌≡◌, refl, ap, sym, ◌∙◌, subst, arith, ℕ, ◌+◌, ◌%◌, ◌<◌, ◌≤◌, ◌&&◌, nat_le, nat_lt, Bool, true, false, if◌then◌else◌, List, [], ◌∷◌, ◌++◌, length, map, Option, Some, None, option_map}
+use Rattle.std.proofs.lemmas.List.{length-map, length-append}
+use Rattle.std.proofs.lemmas.Bool.Decides.{nat_tests}
 use Rattle.wf_frame.specs.Frames.{FrameValue}
 use Rattle.wf_def_air.specs.Fit.{fits}
 use Rattle.wf_def_agreement.specs.Session.{Session, slot, start_of, next_number, with_number_given}
@@ -38,21 +39,6 @@ choosing_lens room numbers from w s t h few = record {
   few = few;
 }
 
-pub filling_lens : (v : TransmitValue) (bodies : ℕ → FrameValue) (s t : ℕ) (room : RoomValue)
-    (numbers : List ℕ) (after : Aggregate) → AggregateGoesOn v bodies s t room numbers after →
-    room.agg ≤ 256 → HasLens room numbers
-filling_lens v bodies s t room numbers after h few = record {
-  lens = lens_of h.mpdus;
-  stands = h.filling.room_is.lens;
-  as_many = omega (
-    arith,
-    ap (length {A = ℕ}) h.filling.on_air,
-    length-map h.mpdus (λ (m : Mpdu). on_air m.number),
-    length-map h.mpdus (λ (m : Mpdu). m.len),
-  );
-  few = few;
-}
-
 -- a room takes at most 256 frames
 pub few_most : (v : TransmitValue) (s : ℕ) (room : RoomValue) → room.agg ≡ most_of v s → v.config.agg ≤ 256 →
     room.agg ≤ 256
@@ -61,6 +47,20 @@ few_most v s room is few = subst (λ (n : ℕ). n ≤ 256) (sym is) (at (sleeper
     at : (b : Bool) → (if b then 1 else v.config.agg) ≤ 256
     at true = omega arith
     at false = few
+
+-- where one more fits, there are fewer numbers than an aggregate takes at most
+pub few_chosen : (room : RoomValue) (numbers : List ℕ) (from : ℕ) (w : World) (s t : ℕ) →
+    IsChoosing room numbers from w s t → room.agg ≤ 256 → (len : ℕ) → ((ls : List ℕ) → RoomStandsFor room ls →
+    true ≡ fits room.rate room.exponent room.agg room.cap (ls ++ len ∷ [])) → length numbers < 256
+few_chosen room numbers from w s t h few len exact =
+    let lens : HasLens room numbers = choosing_lens room numbers from w s t h few in
+    let within : nat_le (length (lens.lens ++ len ∷ [])) room.agg ≡ true =
+    first_of _ _ (exact lens.lens lens.stands) in
+    grind (arith, nat_tests, within, length-append lens.lens (len ∷ []), lens.as_many, few)
+  where
+    first_of : (a b : Bool) → true ≡ (a && b) → a ≡ true
+    first_of true b e = refl
+    first_of false b e = absurd (cc e)
 
 pub same_agg : (room more : RoomValue) → more ≡ record room { count = more.count; octets = more.octets } →
     more.agg ≡ room.agg

@@ -1,22 +1,18 @@
 //! Filling an aggregate.
 
-ghost use Rattle.std.specs.Prelude.{◌≡◌, ◌<◌, ◌≤◌, ◌^◌, ◌++◌, ◌∷◌, ℕ, List, [], length, IsTrue, IsFalse};
+ghost use Rattle.std.specs.Prelude.{◌≡◌, ◌<◌, ◌≤◌, ◌^◌, ℕ, IsTrue, IsFalse};
 ghost use Rattle.wf_frame.specs.Frames.{FrameValue};
-ghost use Rattle.wf_air.specs.Rooms.{RoomStandsFor as RoomStandsFor};
-ghost use Rattle.wf_def_air.specs.Fit.{fits};
-ghost use Rattle.wf_def_lists.specs.Lengths.{greatest_body};
 ghost use Rattle.wf_send_parts.specs.Windows.{window_of};
 ghost use Rattle.wf_def_world.specs.World.{World};
 ghost use Rattle.wf_def_world.specs.Exchanges.{Aggregate as Filled, aggregate_of};
 ghost use Rattle.wf_send_half_refines.specs.Filling.{IsToFill, IsChoosing, IsFilled};
 ghost use Rattle.wf_send_half.specs.Half.{IsLive};
-ghost use Rattle.wf_send_half.specs.Pulls.{most_of, IsExponentSmall, IsSameButFrames, HasToFill, AggregateGoesOn, HasFilling, HasLens};
+ghost use Rattle.wf_send_half.specs.Pulls.{most_of, IsExponentSmall, IsSameButFrames, HasToFill, AggregateGoesOn, HasFilling};
 
 use crate::Transmit;
 use crate::finish::NARROW;
 use wf_air::fit::Room;
 use wf_frame::{Cause, Fate};
-use wf_octets_parts::seq12::Seq12;
 use wf_queue_flows::Taken;
 use wf_queue_flows::codel::Params;
 use wf_send_parts::exchanges::Numbers;
@@ -26,48 +22,6 @@ use wf_send_parts::exchanges::Numbers;
 pub(crate) struct Aggregate {
     pub(crate) numbers: Numbers,
     pub(crate) room: Room,
-}
-
-impl Aggregate {
-    // Adds a number with a body of this length; false exactly where it does not fit, and then nothing
-    // changes.
-    fn add(&mut self, number: Seq12, len: u16) -> bool
-        requires len { (1 ≤ len) × (len ≤ greatest_body) }
-        requires lens { HasLens self.old.room self.old.numbers }
-        ensures exact { (lens : List ℕ) → RoomStandsFor self.old.room lens →
-            result ≡ fits self.old.room.rate self.old.room.exponent self.old.room.agg self.old.room.cap
-            (lens ++ len ∷ []) }
-        ensures taken { (lens : List ℕ) → RoomStandsFor self.old.room lens → IsTrue result →
-            RoomStandsFor self.new.room (lens ++ len ∷ []) }
-        ensures added { IsTrue result → self.new.numbers ≡ self.old.numbers ++ number ∷ [] }
-        ensures few { IsTrue result → length self.old.numbers < 256 }
-        ensures kept { self.new.room ≡ record self.old.room {
-          count = self.new.room.count;
-          octets = self.new.room.octets;
-        } }
-        ensures refused { IsFalse result → self.new ≡ self.old }
-    {
-        let fits = self.room.add(len);
-        if fits {
-            self.numbers.push(number);
-        }
-        fits
-    }
-}
-
-impl Transmit {
-    // The most frames of one aggregate of a station: one where it sleeps.
-    fn most_frames(&self, station: u16) -> u16
-        requires within { station < self.now.config.stations }
-        ensures most { result ≡ most_of self.now station }
-        ensures few { result ≤ 256 }
-    {
-        if self.sleepers.asleep(station) {
-            1
-        } else {
-            self.config.agg as u16
-        }
-    }
 }
 
 impl Transmit {
@@ -85,18 +39,23 @@ impl Transmit {
         ensures same { IsSameButFrames self.old self.new }
     {
         let member = self.members.member(station);
+        let most = if self.sleepers.asleep(station) {
+            1
+        } else {
+            self.config.agg as u16
+        };
         let mut aggregate = Aggregate {
             numbers: Numbers::new(),
             room: Room::new(
                 member.rate,
                 member.exponent,
-                self.most_frames(station),
+                most,
                 self.config.cap,
                 self.windows.at(station, tid).size() > NARROW,
             ),
         };
         if self.add_waiting(station, tid, &mut aggregate) {
-            self.add_fresh(station, tid, &mut aggregate);
+            self.add_fresh(station, tid, most, &mut aggregate);
         }
         aggregate
     }
@@ -123,29 +82,30 @@ impl Transmit {
         let window = self.windows.at(station, tid);
         let mut from = window.start();
         'waiting: while let Some(number) = window.waiting(from) {
-            if !aggregate.add(number, window.frame(number).len()) {
+            if !aggregate.room.add(window.frame(number).len()) {
                 return false;
             }
+            aggregate.numbers.push(number);
             from = number.plus(1);
         }
         true
     }
 
-    // Adds fresh frames while there is room for one: each is taken out of its queue, those that CoDel drops
-    // before it are counted, and it gets the next number. One that does not fit waits with its number.
-    fn add_fresh(&mut self, station: u16, tid: u8, aggregate: &mut Aggregate)
+    // Adds fresh frames while there are fewer than so many: each is taken out of its queue, those that CoDel
+    // drops before it are counted, and it gets the next number. One that does not fit waits with its number.
+    fn add_fresh(&mut self, station: u16, tid: u8, most: u16, aggregate: &mut Aggregate)
         requires within { station < self.old.config.stations }
         requires tid { tid < 8 }
         requires live { IsLive self.old station }
         requires small { self.old.clock < 2 ^ 62 }
         requires filling { HasFilling self.old station tid aggregate.old.room aggregate.old.numbers }
-        requires most { aggregate.old.room.agg ≡ most_of self.old station }
+        requires most { aggregate.old.room.agg ≡ most }
+        requires few { most ≤ 256 }
         ensures filled { (bodies : ℕ → FrameValue) (after : Filled) →
             AggregateGoesOn self.old bodies station tid aggregate.old.room aggregate.old.numbers after →
             IsFilled self.new bodies station tid aggregate.new.room aggregate.new.numbers after }
         ensures same { IsSameButFrames self.old self.new }
     {
-        let most = self.most_frames(station);
         let params = Params::of(self.members.member(station).rate);
         'fresh: while aggregate.numbers.len() < usize::from(most) && self.can_give(station, tid) {
             let Some(taken) = self.flows.take(station, tid, self.clock, params) else {
@@ -157,9 +117,10 @@ impl Transmit {
             let Ok(number) = self.windows.give(station, tid, parcel) else {
                 unreachable!()
             };
-            if !aggregate.add(number, len) {
+            if !aggregate.room.add(len) {
                 return;
             }
+            aggregate.numbers.push(number);
         }
     }
 }

@@ -8,7 +8,7 @@ use Rattle.wf_send_half_refines.specs.Half.{TransmitValue}
 use Rattle.wf_send_half_refines.proofs.Gives.{full_fills, filled_idle}
 use Rattle.wf_send_half.specs.Pulls.{HasTurn, IsParamsOf, IsGivenNumber}
 use Rattle.wf_send_half.proofs.Calls.{view_of}
-use Rattle.wf_send_half.proofs.Filling.{filling_lens, goes_on_fresh, ends_fresh, same_agg, turn_of, same_given}
+use Rattle.wf_send_half.proofs.Filling.{goes_on_fresh, ends_fresh, same_agg, turn_of, same_given}
 use Rattle.wf_send_half.proofs.Giving.{drops_held, gave_fresh}
 use Rattle.wf_send_half.proofs.half.Transmit.add_fresh.Goals as goal
 
@@ -30,12 +30,8 @@ settle_all-requires-clause-held c =
     drops_held x v c.self-in-fresh.view_is c.args.station c.args.tid turn _ read c.take.new.self
     c.in-Some.taken.parcel c.in-Some.ensures.taken c.in-Some.taken.dropped c.in-Some.ensures.dropped
 
-pub add-requires-clause-lens : goal.add-requires-clause-lens
-add-requires-clause-lens c =
-    let h = c.requires.filling in
-    filling_lens c.fresh.self h.bodies c.args.station c.args.tid c.fresh.aggregate.room
-    c.fresh.aggregate.numbers h.after (c.fresh.invariant.on h.bodies h.after h.goes_on)
-    (omega (arith, c.fresh.invariant.most, c.most_frames-most.ensures.few))
+pub push-requires : goal.push-requires
+push-requires c = (omega arith, omega (arith, c.len.ensures.count, c.fresh-test.true, c.requires.few))
 
 pub returns-then-not-add-clause-filled : goal.returns-then-not-add-clause-filled
 returns-then-not-add-clause-filled c bodies after k =
@@ -103,9 +99,11 @@ pub fresh-smaller : goal.fresh-smaller
 fresh-smaller c =
     omega (
       arith,
-      ap (length {A = ℕ}) (c.if-not-add.ensures.added refl),
+      ap (length {A = ℕ}) c.push.ensures,
       length-append c.fresh.aggregate.numbers (c.in-Ok.number ∷ []),
-      c.if-not-add.ensures.few refl,
+      c.len.ensures.count,
+      c.fresh-test.true,
+      c.requires.few,
     )
 
 pub fresh-preserved : goal.fresh-preserved
@@ -136,18 +134,18 @@ fresh-preserved c =
     c.in-Ok.ensures.given in
     record {
       on = λ bodies after k.
-          rw (c.if-not-add.ensures.added refl)
+          rw (c.push.ensures)
           (goes_on_fresh c.fresh.self bodies c.args.station c.args.tid c.fresh.aggregate.room
           c.fresh.aggregate.numbers after (c.fresh.invariant.on bodies after k)
           (omega (arith, c.fresh.invariant.most, c.len.ensures.count, c.fresh-test.true))
           (sym c.if-can_give.ensures.value) u c.in-Ok.number
           c.len-len.result given
-          c.add.new.self.room c.if-not-add.ensures.exact
+          c.add.new.self c.if-not-add.ensures.exact
           (λ ls k. c.if-not-add.ensures.taken ls k refl) c.if-not-add.ensures.kept);
       same = same_given c.args.self.now c.fresh.self u c.args.station c.args.tid
           c.in-Ok.number c.len-len.result c.fresh.invariant.same
           given;
-      most = same_agg c.fresh.aggregate.room c.add.new.self.room c.if-not-add.ensures.kept
+      most = same_agg c.fresh.aggregate.room c.add.new.self c.if-not-add.ensures.kept
           ∙ c.fresh.invariant.most;
     }
 

@@ -1,8 +1,8 @@
-use Rattle.std.proofs.Common.{refl, sym, ◌∙◌, subst, ◌≤◌, length, Some, None}
+use Rattle.std.proofs.Common.{refl, ap, sym, ◌∙◌, subst, arith, ℕ, ◌≤◌, [], ◌∷◌, length, length-append, Some, None}
 use Rattle.wf_send_parts.specs.Window.{WindowValue}
 use Rattle.wf_send_half_refines.specs.Half.{TransmitValue}
 use Rattle.wf_send_half_refines.proofs.Fills.{choosing_near}
-use Rattle.wf_send_half.proofs.Filling.{choosing_lens, next_read, waiting_goes_on, waiting_ends, all_waiting, few_most, same_agg}
+use Rattle.wf_send_half.proofs.Filling.{next_read, waiting_goes_on, waiting_ends, all_waiting, few_most, few_chosen, same_agg}
 use Rattle.wf_octets_parts.specs.Distance.{distance}
 use Rattle.wf_send_half.proofs.half.Transmit.add_waiting.Goals as goal
 
@@ -15,13 +15,30 @@ waiting-requires c =
     c.waiting.aggregate.room c.waiting.aggregate.numbers c.waiting.from
     (c.waiting.invariant.choosing h.world h.bodies h.to_fill))
 
-pub add-requires-clause-lens : goal.add-requires-clause-lens
-add-requires-clause-lens c =
+pub push-requires : goal.push-requires
+push-requires c =
     let h = c.requires.to_fill in
-    choosing_lens c.waiting.aggregate.room c.waiting.aggregate.numbers c.waiting.from h.world c.args.station
-    c.args.tid (c.waiting.invariant.choosing h.world h.bodies h.to_fill)
+    let few = few_chosen c.waiting.aggregate.room c.waiting.aggregate.numbers c.waiting.from h.world
+    c.args.station c.args.tid (c.waiting.invariant.choosing h.world h.bodies h.to_fill)
     (few_most c.args.self.now c.args.station c.waiting.aggregate.room c.waiting.invariant.most
     (subst (λ (z : TransmitValue). z.config.agg ≤ 256) c.self.view_is c.self.invariant.in_range.agg.1))
+    c.len.result c.if-not-add.ensures.exact in
+    (omega arith, few)
+
+pub waiting-smaller : goal.waiting-smaller
+waiting-smaller c =
+    let h = c.requires.to_fill in
+    let few = few_chosen c.waiting.aggregate.room c.waiting.aggregate.numbers c.waiting.from h.world
+    c.args.station c.args.tid (c.waiting.invariant.choosing h.world h.bodies h.to_fill)
+    (few_most c.args.self.now c.args.station c.waiting.aggregate.room c.waiting.invariant.most
+    (subst (λ (z : TransmitValue). z.config.agg ≤ 256) c.self.view_is c.self.invariant.in_range.agg.1))
+    c.len.result c.if-not-add.ensures.exact in
+    omega (
+      arith,
+      few,
+      ap (length {A = ℕ}) c.push.ensures,
+      length-append c.waiting.aggregate.numbers (c.in-Some.number ∷ []),
+    )
 
 pub returns-then-not-add-clause-some : goal.returns-then-not-add-clause-some
 returns-then-not-add-clause-some c off w bodies to =
@@ -40,7 +57,7 @@ pub waiting-preserved : goal.waiting-preserved
 waiting-preserved c = record {
   choosing = λ w bodies to.
       let so_far = c.waiting.invariant.choosing w bodies to in
-      rw (c.plus-from.ensures.number, c.if-not-add.ensures.added refl)
+      rw (c.plus-from.ensures.number, c.push.ensures)
       (waiting_goes_on c.args.self.now w bodies c.args.station c.args.tid to c.waiting.aggregate.room
       c.waiting.aggregate.numbers c.waiting.from so_far c.in-Some.number
       (next_read c.args.self.now w bodies c.args.station c.args.tid to c.waiting.aggregate.room
@@ -48,9 +65,9 @@ waiting-preserved c = record {
       (rw (sym c.waiting.invariant.window) (λ z all n. c.in-Some.ensures.number z all n)))
       c.frame.result.now (rw (sym c.waiting.invariant.window) c.frame.ensures) c.len.result
       c.len.ensures.exact
-      c.add.new.self.room c.if-not-add.ensures.exact
+      c.add.new.self c.if-not-add.ensures.exact
       (λ ls h. c.if-not-add.ensures.taken ls h refl) c.if-not-add.ensures.kept);
-  most = same_agg c.waiting.aggregate.room c.add.new.self.room c.if-not-add.ensures.kept
+  most = same_agg c.waiting.aggregate.room c.add.new.self c.if-not-add.ensures.kept
       ∙ c.waiting.invariant.most;
   window = c.waiting.invariant.window;
 }

@@ -1,5 +1,5 @@
 use Rattle.std.proofs.Common.{◌≡◌, refl, ap, ap₂, sym, ◌∙◌, subst, ℕ, ◌≤◌, Bool, List, Option, Some, None, option_map}
-use Rattle.std.specs.Prelude.{IfSome, nat_lt}
+use Rattle.std.specs.Prelude.{IfSome, nat_lt, if◌then◌else◌}
 use Rattle.wf_def_world.specs.Exchanges.{aggregate_of}
 use Rattle.wf_air.specs.Rooms.{RoomValue, empty_room}
 use Rattle.wf_send_parts.specs.declared.stations.members.Member.{Member}
@@ -13,6 +13,7 @@ use Rattle.wf_send_half_refines.proofs.Fills.{choosing_begins}
 use Rattle.wf_send_half.specs.Pulls.{most_of}
 use Rattle.wf_send_half.proofs.Calls.{view_of}
 use Rattle.wf_send_half.proofs.half.Transmit.fill.Goals as goal
+use Rattle.wf_send_half.proofs.half.Transmit.fill.Goals.{then-asleep, else-asleep}
 
 small : (o : Option Member) (n : ℕ) → option_map (λ m. m.exponent) o ≡ Some n →
     IfSome o (λ m. m.exponent ≤ 3) → n ≤ 3
@@ -30,6 +31,12 @@ new-requires-2-clause-exponent_in c =
 pub add_waiting-requires-clause-begins : goal.add_waiting-requires-clause-begins
 add_waiting-requires-clause-begins c w bodies to =
     let x : TransmitValue = view_of c.self.inside in
+    let most_is : c.if-asleep.most ≡ most_of x c.args.station = elim c.if-asleep.branch [
+      | then-asleep w ↦ w.most-is ∙ ap (λ (b : Bool). if b then 1 else x.config.agg)
+          (sym w.if-asleep.true ∙ c.asleep.ensures)
+      | else-asleep w ↦ w.most-is ∙ ap (λ (b : Bool). if b then 1 else x.config.agg)
+          (sym w.if-asleep.false ∙ c.asleep.ensures)
+    ] in
     let at : IsToFill x w bodies c.args.station c.args.tid =
     subst (λ (z : TransmitValue). IsToFill z w bodies c.args.station c.args.tid)
     (sym c.self.view_is) to in
@@ -40,8 +47,7 @@ add_waiting-requires-clause-begins c w bodies to =
     (sym (c.new-2.ensures.made
     ∙ ap₂ (λ (n : ℕ) (b : Bool). empty_room c.member-member.result.now.rate
     c.member-member.result.now.exponent n x.config.cap b)
-    (c.most_frames.ensures.most ∙ ap (λ (z : TransmitValue). most_of z c.args.station)
-    (sym c.self.view_is)) (ap (λ (n : ℕ). nat_lt 64 n)
+    most_is (ap (λ (n : ℕ). nat_lt 64 n)
     (c.size.ensures.shown ∙ ap (λ (z : WindowValue). z.size) c.at.ensures))
     ∙ room_read x w bodies c.args.station at.turned.parts at.turned.live c.member-member.result.now.rate
     (ap (option_map (λ (m : Member). m.rate)) c.member-member.ensures) c.args.tid
