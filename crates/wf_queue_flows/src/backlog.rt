@@ -2,7 +2,7 @@
 
 ghost use Rattle.std.specs.Prelude.{◌≡◌, ◌+◌, ◌<◌, ◌≤◌, ◌↔◌, [], ◌∷◌, ◌++◌, Some, length, replicate, is_some, if◌then◌else◌, IfOk, IfNone, IfSome, IsNone, MatchOption};
 ghost use Rattle.wf_def_codel.specs.Codel.{new_codel};
-ghost use Rattle.wf_queue_flows.specs.Backlog.{frames_at, in_queues, held_in_backlog, spare_of, first_id, frame_with_fate, with_frames, after_head_drop, after_flush, flags, IsLongest};
+ghost use Rattle.wf_queue_flows.specs.Backlog.{frames_at, in_queues, held_in_backlog, spare_of, first_id, frame_with_fate, with_frames, after_head_drop, after_flush, IsLongest};
 ghost use Rattle.wf_queue_flows.specs.Flows.{longest_queue};
 
 use crate::codel::Codel;
@@ -23,7 +23,7 @@ pub struct Backlog {
     /// The same octets, of which the greatest is known.
     longest: Peak,
     /// Whether each queue has frames.
-    ready: Vec<bool>,
+    pub(crate) ready: Vec<bool>,
     pub(crate) codels: Vec<Codel>,
     finished: Chain,
     /// How many parcels are in the queues.
@@ -241,13 +241,6 @@ impl Backlog {
         ensures room { held_in_backlog self.now ≤ self.now.room }
     {
         self.queued
-    }
-
-    /// Which queues have frames.
-    pub(crate) fn ready(&self) -> &[bool]
-        ensures { result.now ≡ flags self.now }
-    {
-        self.ready.as_slice()
     }
 
     /// The queue with the most octets, the least number on a tie; None exactly where all queues are empty.

@@ -166,7 +166,8 @@ impl Flows {
         if self.queued[list as usize] == 0 {
             return None;
         }
-        let q = self.rota.pick(list, self.waiting.ready()).winner?;
+        let waiting = &self.waiting;
+        let q = self.rota.pick(list, waiting.ready.as_slice()).winner?;
         let taken = self.waiting.take(q, now, params)?;
         let left = self.queued[list as usize] - taken.dropped - 1;
         self.queued[list as usize] = left;

@@ -3,6 +3,7 @@ use Rattle.std.specs.Prelude.{pos, ◌<ℤ◌, IfSome, IfNone}
 use Rattle.std.proofs.lemmas.List.{get_or_read}
 use Rattle.wf_queue_flows.specs.CodelParams.{params_of}
 use Rattle.wf_sched.specs.Rotas.{Rotas, deficit_at}
+use Rattle.wf_queue_flows.specs.Backlog.{flags}
 use Rattle.wf_queue_flows.specs.Flows.{FlowsValue, TakenFromFlows, tids, is_listed, after_pick, frames_of_tid, pick_of_tid, taken_for_tid, TakeGives}
 use Rattle.wf_queue_flows.specs.Kept.{AreFlowsKept, IsPickOfOne}
 use Rattle.wf_queue_flows.proofs.Keeps.{frames_counted}
@@ -12,8 +13,12 @@ use Rattle.wf_queue_flows.proofs.Whole.{take_parts, picked_gives}
 use Rattle.wf_queue_flows.proofs.flows.Flows.take.Goals as goal
 use Rattle.wf_queue_flows.proofs.flows.Flows.take.Goals.{After-pick}
 
+-- the flags that the pick is given are those of the backlog
+ready_is : (c : After-pick) → c.as_slice.result.now ≡ flags c.self.inside.waiting
+ready_is c = c.as_slice.ensures.value ∙ c.waiting.invariant.ready_are ∙ ap flags c.waiting.view_is
+
 -- the pick, in the words of what the flow queues keep
-as_pick : (c : After-pick) → IsPickOfOne c.self.inside.rota c.ready.result.now
+as_pick : (c : After-pick) → IsPickOfOne c.self.inside.rota c.as_slice.result.now
     c.tid_number-list.result c.pick.new.self c.pick.result.winner
 as_pick c = record {
   winner_is = c.pick.ensures.winner;
@@ -46,18 +51,18 @@ low : (c : After-pick) → c.tid_number-list.result < 8 * c.self.inside.stations
 low c = pick_low (before c) _ c.tid_number-list.result c.self.view_is (low_now c)
 
 kept_picked : (c : After-pick) → AreFlowsKept (picked c) c.self.inside.queued.items
-kept_picked c = pick_keeps (before c) _ c.self.invariant c.ready.result.now c.ready.ensures
+kept_picked c = pick_keeps (before c) _ c.self.invariant c.as_slice.result.now (ready_is c)
     c.tid_number-list.result (low c) c.pick.new.self c.pick.result.winner (as_pick c)
 
 picked_is : (c : After-pick) → picked c ≡ after_pick c.args.self.now c.tid_number-list.result
-picked_is c = pick_is (before c) _ c.self.invariant c.ready.result.now c.ready.ensures
+picked_is c = pick_is (before c) _ c.self.invariant c.as_slice.result.now (ready_is c)
     c.tid_number-list.result (low c) c.pick.new.self c.pick.result.winner (as_pick c)
     ∙ ap (λ (w : FlowsValue). after_pick w c.tid_number-list.result) c.self.view_is
 
 winner_is : (c : After-pick) (q : ℕ) → c.pick.result.winner ≡ Some q →
     Some q ≡ (pick_of_tid c.args.self.now c.tid_number-list.result).winner
 winner_is c q was = sym was
-    ∙ pick_winner (before c) _ c.self.invariant c.ready.result.now c.ready.ensures c.tid_number-list.result
+    ∙ pick_winner (before c) _ c.self.invariant c.as_slice.result.now (ready_is c) c.tid_number-list.result
     (low c) c.pick.new.self c.pick.result.winner (as_pick c)
     ∙ ap (λ (w : FlowsValue). (pick_of_tid w c.tid_number-list.result).winner) c.self.view_is
 
@@ -65,14 +70,14 @@ listed : (c : After-pick) (q : ℕ) → c.pick.result.winner ≡ Some q →
     is_listed (picked c) c.tid_number-list.result q ≡ true
 listed c q was = subst (λ (o : Option ℕ).
     IfSome o (λ k. is_listed (picked c) c.tid_number-list.result k ≡ true)) was
-    (pick_listed (before c) _ c.self.invariant c.ready.result.now c.ready.ensures c.tid_number-list.result
+    (pick_listed (before c) _ c.self.invariant c.as_slice.result.now (ready_is c) c.tid_number-list.result
     (low c) c.pick.new.self c.pick.result.winner (as_pick c))
 
 positive : (c : After-pick) (q : ℕ) → c.pick.result.winner ≡ Some q →
     pos 0 <ℤ deficit_at c.pick.new.self.deficits q
 positive c q was = subst (λ (o : Option ℕ).
     IfSome o (λ k. pos 0 <ℤ deficit_at c.pick.new.self.deficits k)) was
-    (pick_positive (before c) _ c.self.invariant c.ready.result.now c.ready.ensures c.tid_number-list.result
+    (pick_positive (before c) _ c.self.invariant c.as_slice.result.now (ready_is c) c.tid_number-list.result
     (low c) c.pick.new.self c.pick.result.winner (as_pick c))
 
 -- the pick moves no frame
@@ -85,7 +90,7 @@ none_waits : (c : After-pick) → c.pick.result.winner ≡ None →
     frames_of_tid c.args.self.now c.tid_number-list.result ≡ 0
 none_waits c was = subst (λ (w : FlowsValue). frames_of_tid w c.tid_number-list.result ≡ 0) c.self.view_is
     (subst (λ (o : Option ℕ). IfNone o (frames_of_tid (before c) c.tid_number-list.result ≡ 0)) was
-    (pick_none (before c) _ c.self.invariant c.ready.result.now c.ready.ensures c.tid_number-list.result
+    (pick_none (before c) _ c.self.invariant c.as_slice.result.now (ready_is c) c.tid_number-list.result
     (low c) c.pick.new.self c.pick.result.winner (as_pick c)))
 
 if_none : {X P : Type 0} (o : Option X) → P → IfNone o P
