@@ -119,13 +119,6 @@ drops-inside (y ∷ rest) p now c due x =
           ] refl
     ] refl
 
-pub plain-inside : (rest : List Item) (p : Params) (now : ℕ) (c : Codel) (x : Item) →
-    drops_plain p now c (x ∷ rest) ≤ length rest
-unfolding drops_plain
-plain-inside [] p now c x = rw (last-bad p now c.first_above x) (omega arith)
-plain-inside (y ∷ rest) p now c x = elim (look_at p now c.first_above (x ∷ y ∷ rest)).ok as
-    (λ b. (if b then 1 else 0) ≤ length (y ∷ rest)) [ true ↦ omega arith | false ↦ omega arith ]
-
 pub get-inside : {X : Type 0} (items : List X) (n : ℕ) → n < length items → slice_get items n ≡ None → ⊥
 get-inside [] n inside none = omega arith
 get-inside (x ∷ xs) zero inside none = cc

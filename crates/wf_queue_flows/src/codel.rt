@@ -3,7 +3,7 @@
 
 ghost use Rattle.std.specs.Prelude.{◌≡◌, ℕ, List, ◌+◌, ◌*◌, ◌/◌, ◌<◌, ◌≤◌, ◌↔◌, ◌^◌, [], ◌∷◌, ◌++◌, IsTrue, IsNone, MatchOption, map, take, if◌then◌else◌, is_some};
 ghost use Rattle.std.specs.Option.{option_map};
-ghost use Rattle.wf_def_codel.specs.Codel.{IsGreatestStep, step_of, octets, new_codel, dequeue, Item as Seen, drops_dropping, state_dropping, drops_plain, state_plain, drops, state_after};
+ghost use Rattle.wf_def_codel.specs.Codel.{IsGreatestStep, step_of, octets, new_codel, dequeue, Item as Seen, drops_dropping, state_dropping, drops, state_after};
 ghost use Rattle.wf_queue_flows.specs.CodelTakes.{Takes};
 ghost use Rattle.wf_queue_flows.specs.CodelLooks.{look_by, count_again, started};
 ghost use Rattle.wf_def_codel.specs.Parameters.{params_at};
@@ -223,18 +223,29 @@ impl Codel {
             else L.spare lane.old) }
         ensures counted { IsTrue self.new.dropping → 1 ≤ self.new.count }
     {
+        let Some(first) = lane.pop() else {
+            self.first_above = 0;
+            self.dropping = false;
+            return None;
+        };
+        if self.dropping {
+            return self.keep_dropping(now, params, lane, first);
+        }
+        let (above, ok) = look(self.first_above, now, params, lane.sight(&first));
+        self.first_above = above;
+        if !ok {
+            return Some(first);
+        }
+        lane.discard(first);
         match lane.pop() {
             None => {
-                self.first_above = 0;
-                self.dropping = false;
+                self.start(now, params, 0);
                 None
             }
-            Some(first) => {
-                if self.dropping {
-                    self.keep_dropping(now, params, lane, first)
-                } else {
-                    self.begin(now, params, lane, first)
-                }
+            Some(second) => {
+                let (above, _) = look(above, now, params, lane.sight(&second));
+                self.start(now, params, above);
+                Some(second)
             }
         }
     }
@@ -283,44 +294,6 @@ impl Codel {
                     return None;
                 }
                 Some(next) => item = next,
-            }
-        }
-    }
-
-    // The rest of a dequeue while not dropping, whose look 0 is at `first`.
-    fn begin<L: Lane>(
-        &mut self,
-        now: u64,
-        params: Params,
-        lane: &mut L,
-        first: L::Item,
-    ) -> Option<L::Item>
-        requires time { now < 2 ^ 62 }
-        requires spare { 1 ≤ L.spare lane.old }
-        ensures taken { let dropped = drops_plain (params_of params) now self.old
-            (map L.look (first ∷ L.rest lane.old)) in
-            Takes L.tossed (first ∷ L.rest lane.old) (L.rest lane.new) (L.thrown lane.old)
-            (L.thrown lane.new) dropped result }
-        ensures state { self.new ≡ state_plain (params_of params) now self.old
-            (map L.look (first ∷ L.rest lane.old)) }
-        ensures same { L.same lane.old lane.new }
-        ensures spare { L.spare lane.new + (if is_some result then 0 else 1) ≡ L.spare lane.old }
-    {
-        let (above, ok) = look(self.first_above, now, params, lane.sight(&first));
-        self.first_above = above;
-        if !ok {
-            return Some(first);
-        }
-        lane.discard(first);
-        match lane.pop() {
-            None => {
-                self.start(now, params, 0);
-                None
-            }
-            Some(second) => {
-                let (above, _) = look(above, now, params, lane.sight(&second));
-                self.start(now, params, above);
-                Some(second)
             }
         }
     }
