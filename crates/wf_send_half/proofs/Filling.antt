@@ -129,6 +129,17 @@ module _ (v : TransmitValue) (w : World) (bodies : ℕ → FrameValue) (s t : �
 
 -- ---- fresh frames
 
+-- a frame is queued and the window takes one, or one of both fails
+pub both_give : {n : ℕ} {takes : Bool} → 0 < n → takes ≡ true → (nat_lt 0 n && takes) ≡ true
+both_give some e = grind (arith, nat_tests)
+
+pub takes_none : (some takes : Bool) → takes ≡ false → (some && takes) ≡ false
+takes_none true takes e = e
+takes_none false takes e = refl
+
+pub none_queued : (n : ℕ) (takes : Bool) → n ≡ 0 → (nat_lt 0 n && takes) ≡ false
+none_queued n takes e = subst (λ (k : ℕ). (nat_lt 0 k && takes) ≡ false) (sym e) refl
+
 module _ (v : TransmitValue) (bodies : ℕ → FrameValue) (s t : ℕ) (room : RoomValue) (numbers : List ℕ)
     (after : Aggregate) (h : AggregateGoesOn v bodies s t room numbers after)
     (few : length numbers < room.agg)

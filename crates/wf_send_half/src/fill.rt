@@ -91,8 +91,9 @@ impl Transmit {
         true
     }
 
-    // Adds fresh frames while there are fewer than so many: each is taken out of its queue, those that CoDel
-    // drops before it are counted, and it gets the next number. One that does not fit waits with its number.
+    // Adds fresh frames while there are fewer than so many, the window takes one and one is queued: each is
+    // taken out of its queue, those that CoDel drops before it are counted, and it gets the next number. One
+    // that does not fit waits with its number.
     fn add_fresh(&mut self, station: u16, tid: u8, most: u16, aggregate: &mut Aggregate)
         requires within { station < self.old.config.stations }
         requires tid { tid < 8 }
@@ -107,9 +108,11 @@ impl Transmit {
         ensures same { IsSameButFrames self.old self.new }
     {
         let params = Params::of(self.members.member(station).rate);
-        'fresh: while aggregate.numbers.len() < usize::from(most) && self.can_give(station, tid) {
+        'fresh: while aggregate.numbers.len() < usize::from(most)
+            && self.windows.at(station, tid).can_give()
+        {
             let Some(taken) = self.flows.take(station, tid, self.clock, params) else {
-                unreachable!()
+                return;
             };
             let Taken { parcel, dropped } = taken;
             self.tally.settle_all(Fate::Dropped(Cause::Codel), dropped);

@@ -1,14 +1,10 @@
 //! Who can send, and who is listed for it.
 
-ghost use Rattle.std.specs.Prelude.{◌≡◌, ◌<◌, ◌&&◌, ℕ, nat_lt};
+ghost use Rattle.std.specs.Prelude.{◌≡◌, ◌<◌, ℕ};
 ghost use Rattle.wf_frame.specs.Frames.{FrameValue};
 ghost use Rattle.wf_def_world.specs.World.{World};
 ghost use Rattle.wf_def_world.specs.CanSend.{is_ready, has_credit};
-ghost use Rattle.wf_frame.specs.Classes.{tid_number};
-ghost use Rattle.wf_queue_flows.specs.Flows.{frames_of_tid};
-ghost use Rattle.wf_send_parts.specs.Window.{can_take};
 ghost use Rattle.wf_octets_frames.specs.Sleepers.{sleeper};
-ghost use Rattle.wf_send_parts.specs.Windows.{window_of};
 ghost use Rattle.wf_send_half_refines.specs.Half.{can_send_of, is_ready_of};
 ghost use Rattle.wf_send_half_refines.specs.Standing.{StandsFor};
 ghost use Rattle.wf_send_half_refines.specs.Changes.{after_listing, after_listing_in};
@@ -62,18 +58,8 @@ impl Transmit {
         if window.bar_due() {
             !self.opened.asks(station, tid)
         } else {
-            window.has_waiting() || self.can_give(station, tid)
+            window.has_waiting() || (self.flows.queued(station, tid) > 0 && window.can_give())
         }
-    }
-
-    // Whether a TID has a queued frame that its window takes.
-    pub(crate) fn can_give(&self, station: u16, tid: u8) -> bool
-        requires within { station < self.now.config.stations }
-        requires tid { tid < 8 }
-        ensures value { result ≡ (nat_lt 0 (frames_of_tid self.now.flows (tid_number station tid))
-            && can_take (window_of self.now.windows station tid)) }
-    {
-        self.flows.queued(station, tid) > 0 && self.windows.at(station, tid).can_give()
     }
 
     // Lists a station in each class in which it is ready and unlisted.

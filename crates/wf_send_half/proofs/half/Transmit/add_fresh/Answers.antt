@@ -2,21 +2,22 @@ use Rattle.std.proofs.Common.{refl, ap, sym, ◌∙◌, arith, ℕ, ◌∷◌, [
 use Rattle.wf_frame.specs.Frames.{FrameValue}
 use Rattle.wf_def_air.specs.Airtime.{Rate}
 use Rattle.wf_queue_flows.specs.CodelParams.{params_of}
+use Rattle.wf_queue_flows.specs.Flows.{SettingsValue}
 use Rattle.wf_send_parts.specs.declared.stations.members.Member.{Member}
 use Rattle.wf_send_parts.specs.Members.{member}
+use Rattle.wf_send_parts.specs.Window.{can_take}
 use Rattle.wf_send_half_refines.specs.Half.{TransmitValue}
 use Rattle.wf_send_half_refines.proofs.Gives.{full_fills, filled_idle}
 use Rattle.wf_send_half.specs.Pulls.{HasTurn, IsParamsOf, IsGivenNumber}
 use Rattle.wf_send_half.proofs.Calls.{view_of}
-use Rattle.wf_send_half.proofs.Filling.{goes_on_fresh, ends_fresh, same_agg, turn_of, same_given}
+use Rattle.wf_send_half.proofs.Filling.{both_give, takes_none, none_queued, goes_on_fresh, ends_fresh, same_agg, turn_of, same_given}
 use Rattle.wf_send_half.proofs.Giving.{drops_held, gave_fresh}
 use Rattle.wf_send_half.proofs.half.Transmit.add_fresh.Goals as goal
 
 pub settle_all-requires-clause-held : goal.settle_all-requires-clause-held
 settle_all-requires-clause-held c =
     let h = c.requires.filling in
-    let v : TransmitValue = c.fresh.self in
-    let x : TransmitValue = view_of c.self-in-fresh.inside in
+    let v : TransmitValue = view_of c.fresh.self-inside in
     let turn : HasTurn v c.args.station c.args.tid =
     turn_of v h.bodies c.args.station c.args.tid c.fresh.aggregate.room c.fresh.aggregate.numbers h.after
     (c.fresh.invariant.on h.bodies h.after h.goes_on) in
@@ -27,7 +28,7 @@ settle_all-requires-clause-held c =
           ∙ ap (option_map (λ (m : Member). m.rate)) c.member.ensures;
       is = c.of-params.ensures;
     } in
-    drops_held x v c.self-in-fresh.view_is c.args.station c.args.tid turn _ read c.take.new.self
+    drops_held v v refl c.args.station c.args.tid turn _ read c.take.new.self
     c.in-Some.taken.parcel c.in-Some.ensures.taken c.in-Some.taken.dropped c.in-Some.ensures.dropped
 
 pub push-requires : goal.push-requires
@@ -36,8 +37,7 @@ push-requires c = (omega arith, omega (arith, c.len.ensures.count, c.fresh-test.
 pub returns-then-not-add-clause-filled : goal.returns-then-not-add-clause-filled
 returns-then-not-add-clause-filled c bodies after k =
     let h = c.requires.filling in
-    let v : TransmitValue = c.fresh.self in
-    let x : TransmitValue = view_of c.self-in-fresh.inside in
+    let v : TransmitValue = view_of c.fresh.self-inside in
     let turn : HasTurn v c.args.station c.args.tid =
     turn_of v h.bodies c.args.station c.args.tid c.fresh.aggregate.room c.fresh.aggregate.numbers h.after
     (c.fresh.invariant.on h.bodies h.after h.goes_on) in
@@ -48,29 +48,29 @@ returns-then-not-add-clause-filled c bodies after k =
           ∙ ap (option_map (λ (m : Member). m.rate)) c.member.ensures;
       is = c.of-params.ensures;
     } in
-    let u : TransmitValue = view_of (record c.self-in-fresh.inside {
+    let u : TransmitValue = view_of (record c.fresh.self-inside {
       flows = c.take.new.self;
       windows = c.give.new.self;
       tally = c.settle_all.new.self;
     }) in
     let given : IsGivenNumber v u c.args.station c.args.tid c.in-Ok.number c.len-len.result =
-    gave_fresh x v c.self-in-fresh.view_is c.args.station c.args.tid turn _ read c.take.new.self
+    gave_fresh v v refl c.args.station c.args.tid turn _ read c.take.new.self
     c.in-Some.taken.parcel c.in-Some.ensures.taken c.in-Some.taken.dropped c.in-Some.ensures.dropped _
     c.settle_all.ensures.counted c.give.new.self c.in-Ok.ensures.others c.in-Ok.ensures.room c.in-Ok.number
     c.len-len.result (c.len-len.ensures.exact ∙ ap (λ (g : FrameValue). length g.body) c.frame.ensures)
     c.in-Ok.ensures.given in
     rw (c.if-not-add.ensures.refused refl)
-    (ends_fresh c.fresh.self bodies c.args.station c.args.tid c.fresh.aggregate.room c.fresh.aggregate.numbers
+    (ends_fresh v bodies c.args.station c.args.tid c.fresh.aggregate.room c.fresh.aggregate.numbers
     after (c.fresh.invariant.on bodies after k)
     (omega (arith, c.fresh.invariant.most, c.len.ensures.count, c.fresh-test.true))
-    (sym c.if-can_give.ensures.value) u c.in-Ok.number
+    (both_give c.in-Some.ensures.some
+    (ap can_take (sym c.at.ensures) ∙ sym c.if-can_give.ensures.shown)) u c.in-Ok.number
     c.len-len.result given c.if-not-add.ensures.exact)
 
 pub returns-then-not-add-clause-same : goal.returns-then-not-add-clause-same
 returns-then-not-add-clause-same c =
     let h = c.requires.filling in
-    let v : TransmitValue = c.fresh.self in
-    let x : TransmitValue = view_of c.self-in-fresh.inside in
+    let v : TransmitValue = view_of c.fresh.self-inside in
     let turn : HasTurn v c.args.station c.args.tid =
     turn_of v h.bodies c.args.station c.args.tid c.fresh.aggregate.room c.fresh.aggregate.numbers h.after
     (c.fresh.invariant.on h.bodies h.after h.goes_on) in
@@ -81,18 +81,18 @@ returns-then-not-add-clause-same c =
           ∙ ap (option_map (λ (m : Member). m.rate)) c.member.ensures;
       is = c.of-params.ensures;
     } in
-    let u : TransmitValue = view_of (record c.self-in-fresh.inside {
+    let u : TransmitValue = view_of (record c.fresh.self-inside {
       flows = c.take.new.self;
       windows = c.give.new.self;
       tally = c.settle_all.new.self;
     }) in
     let given : IsGivenNumber v u c.args.station c.args.tid c.in-Ok.number c.len-len.result =
-    gave_fresh x v c.self-in-fresh.view_is c.args.station c.args.tid turn _ read c.take.new.self
+    gave_fresh v v refl c.args.station c.args.tid turn _ read c.take.new.self
     c.in-Some.taken.parcel c.in-Some.ensures.taken c.in-Some.taken.dropped c.in-Some.ensures.dropped _
     c.settle_all.ensures.counted c.give.new.self c.in-Ok.ensures.others c.in-Ok.ensures.room c.in-Ok.number
     c.len-len.result (c.len-len.ensures.exact ∙ ap (λ (g : FrameValue). length g.body) c.frame.ensures)
     c.in-Ok.ensures.given in
-    same_given c.args.self.now c.fresh.self u c.args.station c.args.tid c.in-Ok.number c.len-len.result
+    same_given c.args.self.now v u c.args.station c.args.tid c.in-Ok.number c.len-len.result
     c.fresh.invariant.same given
 
 pub fresh-smaller : goal.fresh-smaller
@@ -109,8 +109,7 @@ fresh-smaller c =
 pub fresh-preserved : goal.fresh-preserved
 fresh-preserved c =
     let h = c.requires.filling in
-    let v : TransmitValue = c.fresh.self in
-    let x : TransmitValue = view_of c.self-in-fresh.inside in
+    let v : TransmitValue = view_of c.fresh.self-inside in
     let turn : HasTurn v c.args.station c.args.tid =
     turn_of v h.bodies c.args.station c.args.tid c.fresh.aggregate.room c.fresh.aggregate.numbers h.after
     (c.fresh.invariant.on h.bodies h.after h.goes_on) in
@@ -121,13 +120,13 @@ fresh-preserved c =
           ∙ ap (option_map (λ (m : Member). m.rate)) c.member.ensures;
       is = c.of-params.ensures;
     } in
-    let u : TransmitValue = view_of (record c.self-in-fresh.inside {
+    let u : TransmitValue = view_of (record c.fresh.self-inside {
       flows = c.take.new.self;
       windows = c.give.new.self;
       tally = c.settle_all.new.self;
     }) in
     let given : IsGivenNumber v u c.args.station c.args.tid c.in-Ok.number c.len-len.result =
-    gave_fresh x v c.self-in-fresh.view_is c.args.station c.args.tid turn _ read c.take.new.self
+    gave_fresh v v refl c.args.station c.args.tid turn _ read c.take.new.self
     c.in-Some.taken.parcel c.in-Some.ensures.taken c.in-Some.taken.dropped c.in-Some.ensures.dropped _
     c.settle_all.ensures.counted c.give.new.self c.in-Ok.ensures.others c.in-Ok.ensures.room c.in-Ok.number
     c.len-len.result (c.len-len.ensures.exact ∙ ap (λ (g : FrameValue). length g.body) c.frame.ensures)
@@ -135,29 +134,42 @@ fresh-preserved c =
     record {
       on = λ bodies after k.
           rw (c.push.ensures)
-          (goes_on_fresh c.fresh.self bodies c.args.station c.args.tid c.fresh.aggregate.room
+          (goes_on_fresh v bodies c.args.station c.args.tid c.fresh.aggregate.room
           c.fresh.aggregate.numbers after (c.fresh.invariant.on bodies after k)
           (omega (arith, c.fresh.invariant.most, c.len.ensures.count, c.fresh-test.true))
-          (sym c.if-can_give.ensures.value) u c.in-Ok.number
+          (both_give c.in-Some.ensures.some
+          (ap can_take (sym c.at.ensures) ∙ sym c.if-can_give.ensures.shown)) u c.in-Ok.number
           c.len-len.result given
           c.add.new.self c.if-not-add.ensures.exact
           (λ ls k. c.if-not-add.ensures.taken ls k refl) c.if-not-add.ensures.kept);
-      same = same_given c.args.self.now c.fresh.self u c.args.station c.args.tid
+      same = same_given c.args.self.now v u c.args.station c.args.tid
           c.in-Ok.number c.len-len.result c.fresh.invariant.same
           given;
+      stations = ap (λ (x : SettingsValue). x.stations) c.take.ensures.settings ∙ c.fresh.invariant.stations;
+      sized = c.give.ensures.count ∙ c.fresh.invariant.sized;
       most = same_agg c.fresh.aggregate.room c.add.new.self c.if-not-add.ensures.kept
           ∙ c.fresh.invariant.most;
     }
 
 pub returns-else-can_give-clause-filled : goal.returns-else-can_give-clause-filled
 returns-else-can_give-clause-filled c bodies after h =
+    let v : TransmitValue = view_of c.fresh.self-inside in
     let k = c.fresh.invariant.on bodies after h in
-    filled_idle c.fresh.self k.world bodies c.args.station c.args.tid c.fresh.aggregate.room
-    c.fresh.aggregate.numbers k.mpdus after k.filling (sym c.if-can_give.ensures.value)
+    filled_idle v k.world bodies c.args.station c.args.tid c.fresh.aggregate.room
+    c.fresh.aggregate.numbers k.mpdus after k.filling
+    (takes_none _ _ (ap can_take (sym c.at.ensures) ∙ sym c.if-can_give.ensures.shown))
+
+pub returns-in_default-clause-filled : goal.returns-in_default-clause-filled
+returns-in_default-clause-filled c bodies after h =
+    let v : TransmitValue = view_of c.fresh.self-inside in
+    let k = c.fresh.invariant.on bodies after h in
+    rw (c.in_default.ensures.unchanged)
+    (filled_idle v k.world bodies c.args.station c.args.tid c.fresh.aggregate.room
+    c.fresh.aggregate.numbers k.mpdus after k.filling (none_queued _ _ c.in_default.ensures.none))
 
 pub returns-after-fresh-clause-filled : goal.returns-after-fresh-clause-filled
 returns-after-fresh-clause-filled c bodies after h =
     let k = c.fresh.invariant.on bodies after h in
-    full_fills c.fresh.self k.world bodies c.args.station c.args.tid c.fresh.aggregate.room
+    full_fills (view_of c.fresh.self-inside) k.world bodies c.args.station c.args.tid c.fresh.aggregate.room
     c.fresh.aggregate.numbers k.mpdus after k.filling
     (omega (arith, c.fresh.invariant.most, c.len.ensures.count, c.fresh-test.false))
