@@ -1,7 +1,7 @@
 //! CoDel (RFC 8289) over any lane of frames, with MAXPACKET 2304 octets. Times are microseconds, lengths
 //! octets.
 
-ghost use Rattle.std.specs.Prelude.{◌≡◌, ℕ, List, ◌+◌, ◌*◌, ◌/◌, ◌<◌, ◌≤◌, ◌↔◌, ◌^◌, [], ◌∷◌, ◌++◌, IsTrue, IsNone, MatchOption, map, take, if◌then◌else◌, is_some};
+ghost use Rattle.std.specs.Prelude.{◌≡◌, ℕ, List, ◌+◌, ◌*◌, ◌/◌, ◌<◌, ◌≤◌, ◌↔◌, ◌^◌, [], ◌∷◌, ◌++◌, IsTrue, IfSome, IsNone, MatchOption, map, take, if◌then◌else◌, is_some};
 ghost use Rattle.std.specs.Option.{option_map};
 ghost use Rattle.wf_def_codel.specs.Codel.{IsGreatestStep, step_of, octets, new_codel, dequeue, Item as Seen, drops_dropping, state_dropping, drops, state_after};
 ghost use Rattle.wf_queue_flows.specs.CodelTakes.{Takes};
@@ -73,19 +73,17 @@ pub trait Lane {
     // How many items may still be discarded.
     ghost spare: { Self → ℕ };
 
-    /// Takes the first item, where there is one; it may then be discarded.
-    fn pop(&mut self) -> Option<Self::Item>
+    /// Takes the first item, where there is one, and tells when it was queued and the octets of the items
+    /// still in the lane; it may then be discarded.
+    fn pop(&mut self) -> Option<(Self::Item, Sight)>
         ensures first { MatchOption result
             ((rest self.old ≡ []) × (rest self.new ≡ []))
-            (λ x. rest self.old ≡ x ∷ rest self.new) }
+            (λ x. rest self.old ≡ x.0 ∷ rest self.new) }
+        ensures stamp { IfSome result (λ x. x.1.stamp ≡ (look x.0).stamp) }
+        ensures left { IfSome result (λ x. x.1.left ≡ octets (map look (rest self.new))) }
         ensures spare { spare self.new ≡ (if is_some result then spare self.old + 1 else spare self.old) }
         ensures thrown { thrown self.new ≡ thrown self.old }
         ensures same { same self.old self.new };
-
-    /// When the item was queued, and the octets of the items still in the lane.
-    fn sight(&self, item: &Self::Item) -> Sight
-        ensures stamp { result.stamp ≡ (look item.now).stamp }
-        ensures left { result.left ≡ octets (map look (rest self.now)) };
 
     /// Throws an item away, last behind those thrown away before; one may be discarded for each that was
     /// popped.
@@ -223,15 +221,15 @@ impl Codel {
             else L.spare lane.old) }
         ensures counted { IsTrue self.new.dropping → 1 ≤ self.new.count }
     {
-        let Some(first) = lane.pop() else {
+        let Some((first, sight)) = lane.pop() else {
             self.first_above = 0;
             self.dropping = false;
             return None;
         };
         if self.dropping {
-            return self.keep_dropping(now, params, lane, first);
+            return self.keep_dropping(now, params, lane, first, sight);
         }
-        let (above, ok) = look(self.first_above, now, params, lane.sight(&first));
+        let (above, ok) = look(self.first_above, now, params, sight);
         self.first_above = above;
         if !ok {
             return Some(first);
@@ -242,8 +240,8 @@ impl Codel {
                 self.start(now, params, 0);
                 None
             }
-            Some(second) => {
-                let (above, _) = look(above, now, params, lane.sight(&second));
+            Some((second, sight)) => {
+                let (above, _) = look(above, now, params, sight);
                 self.start(now, params, above);
                 Some(second)
             }
@@ -257,8 +255,11 @@ impl Codel {
         params: Params,
         lane: &mut L,
         first: L::Item,
+        first_sight: Sight,
     ) -> Option<L::Item>
         requires time { now < 2 ^ 62 }
+        requires stamp { first_sight.stamp ≡ (L.look first).stamp }
+        requires left { first_sight.left ≡ octets (map L.look (L.rest lane.old)) }
         requires dropping { IsTrue self.old.dropping }
         requires spare { 1 ≤ L.spare lane.old }
         ensures taken { let queue = map L.look (first ∷ L.rest lane.old) in
@@ -272,9 +273,10 @@ impl Codel {
         ensures spare { L.spare lane.new + (if is_some result then 0 else 1) ≡ L.spare lane.old }
     {
         let mut item = first;
+        let mut sight = first_sight;
         let mut due = self.drop_next;
         'looks: loop {
-            let (above, ok) = look(self.first_above, now, params, lane.sight(&item));
+            let (above, ok) = look(self.first_above, now, params, sight);
             self.first_above = above;
             if !ok {
                 self.dropping = false;
@@ -293,7 +295,10 @@ impl Codel {
                     self.dropping = false;
                     return None;
                 }
-                Some(next) => item = next,
+                Some((next, next_sight)) => {
+                    item = next;
+                    sight = next_sight;
+                }
             }
         }
     }

@@ -45,16 +45,14 @@ impl<'a> Lane for OneQueue<'a> {
 
     ghost tossed_look = { λ x. refl };
 
-    fn pop(&mut self) -> Option<Parcel> {
-        self.backlog.pop(self.queue)
-    }
-
-    fn sight(&self, item: &Parcel) -> Sight {
+    fn pop(&mut self) -> Option<(Parcel, Sight)> {
+        let parcel = self.backlog.pop(self.queue)?;
         let backlog: &Backlog = self.backlog;
-        Sight {
-            stamp: item.frame().stamp(),
+        let sight = Sight {
+            stamp: parcel.frame().stamp(),
             left: backlog.octets[self.queue as usize],
-        }
+        };
+        Some((parcel, sight))
     }
 
     fn discard(&mut self, item: Parcel) {

@@ -84,9 +84,9 @@ returns-then-not-ok-clause-taken g c =
       drops-off (params_of c.args.params) c.args.now (codel_state_of c.self.inside)
           (map g.L.Lane.look (c.in-Some.first ∷ g.L.Lane.rest c.pop.new.self)) c.if-self.false,
     ) (takes-none g.L.Lane.look g.L.Lane.tossed (params_of c.args.params) c.args.now
-    (codel_state_of c.self.inside) _ c.in-Some.first _ c.sight.result.stamp c.sight.result.left
+    (codel_state_of c.self.inside) _ c.in-Some.first _ c.in-Some.sight.stamp c.in-Some.sight.left
     c.look-above.result.0 c.look-above.result.1
-    c.sight.ensures.stamp c.sight.ensures.left c.look-above.ensures.above c.look-above.ensures.ok
+    c.in-Some.ensures.stamp c.in-Some.ensures.left c.look-above.ensures.above c.look-above.ensures.ok
     c.if-not-ok.true)
 
 pub returns-then-not-ok-clause-state : goal.returns-then-not-ok-clause-state
@@ -94,9 +94,9 @@ returns-then-not-ok-clause-state g c =
     rw (← c.self.view_is, c.in-Some.ensures.first)
     (state-kept g.L.Lane.look g.L.Lane.tossed (params_of c.args.params) c.args.now
     (codel_state_of c.self.inside) (g.L.Lane.thrown c.pop.new.self) c.in-Some.first
-    (g.L.Lane.rest c.pop.new.self) c.sight.result.stamp
-    c.sight.result.left c.look-above.result.0 c.look-above.result.1
-    c.sight.ensures.stamp c.sight.ensures.left c.look-above.ensures.above c.look-above.ensures.ok
+    (g.L.Lane.rest c.pop.new.self) c.in-Some.sight.stamp
+    c.in-Some.sight.left c.look-above.result.0 c.look-above.result.1
+    c.in-Some.ensures.stamp c.in-Some.ensures.left c.look-above.ensures.above c.look-above.ensures.ok
     c.if-not-ok.true
     ∙ sym (state-off (params_of c.args.params) c.args.now (codel_state_of c.self.inside)
     (map g.L.Lane.look (c.in-Some.first ∷ g.L.Lane.rest c.pop.new.self)) c.if-self.false))
@@ -117,9 +117,9 @@ returns-in-Some-pop-clause-taken g c =
       drops-off (params_of c.args.params) c.args.now (codel_state_of c.self.inside)
           (map g.L.Lane.look (c.in-Some.first ∷ g.L.Lane.rest c.pop.new.self)) c.if-self.false,
     ) (takes-one g.L.Lane.look g.L.Lane.tossed (params_of c.args.params) c.args.now
-    (codel_state_of c.self.inside) _ c.in-Some.first _ c.sight.result.stamp c.sight.result.left
+    (codel_state_of c.self.inside) _ c.in-Some.first _ c.in-Some.sight.stamp c.in-Some.sight.left
     c.look-above.result.0 c.look-above.result.1
-    c.sight.ensures.stamp c.sight.ensures.left c.look-above.ensures.above c.look-above.ensures.ok _ _ _
+    c.in-Some.ensures.stamp c.in-Some.ensures.left c.look-above.ensures.above c.look-above.ensures.ok _ _ _
     c.if-not-ok.false
     (sym c.discard.ensures.rest ∙ c.in-Some-pop.ensures.first)
     (c.in-Some-pop.ensures.thrown ∙ c.discard.ensures.thrown))
@@ -129,13 +129,13 @@ returns-in-Some-pop-clause-state g c =
     rw (← c.self.view_is, c.in-Some.ensures.first) (c.start-in-Some-pop.ensures
     ∙ state-started g.L.Lane.look g.L.Lane.tossed (params_of c.args.params) c.args.now
     (codel_state_of c.self.inside) (g.L.Lane.thrown c.pop.new.self) c.in-Some.first
-    (g.L.Lane.rest c.pop.new.self) c.sight.result.stamp c.sight.result.left c.look-above.result.0
+    (g.L.Lane.rest c.pop.new.self) c.in-Some.sight.stamp c.in-Some.sight.left c.look-above.result.0
     c.look-above.result.1
-    c.sight.ensures.stamp c.sight.ensures.left c.look-above.ensures.above c.look-above.ensures.ok
+    c.in-Some.ensures.stamp c.in-Some.ensures.left c.look-above.ensures.above c.look-above.ensures.ok
     c.in-Some-pop.second _
-    c.sight-in-Some-pop.result.stamp c.sight-in-Some-pop.result.left _ c.if-not-ok.false
-    (sym c.discard.ensures.rest ∙ c.in-Some-pop.ensures.first) c.sight-in-Some-pop.ensures.stamp
-    c.sight-in-Some-pop.ensures.left
+    c.in-Some-pop.sight.stamp c.in-Some-pop.sight.left _ c.if-not-ok.false
+    (sym c.discard.ensures.rest ∙ c.in-Some-pop.ensures.first) c.in-Some-pop.ensures.stamp
+    c.in-Some-pop.ensures.left
     c.look-above-in-Some-pop.ensures.above
     ∙ sym (state-off (params_of c.args.params) c.args.now (codel_state_of c.self.inside)
     (map g.L.Lane.look (c.in-Some.first ∷ g.L.Lane.rest c.pop.new.self)) c.if-self.false))

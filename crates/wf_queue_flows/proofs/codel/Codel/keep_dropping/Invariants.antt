@@ -1,4 +1,5 @@
-use Rattle.std.proofs.Common.{◌≡◌, ◌∷◌, ◌≤◌, true, length}
+use Rattle.std.proofs.Common.{◌≡◌, ◌∷◌, ◌≤◌, true, length, map}
+use Rattle.wf_def_codel.specs.Codel.{octets}
 use Rattle.wf_queue_flows.specs.CodelParams.{params_of}
 use Rattle.wf_queue_flows.specs.CodelState.{codel_state_of}
 use Rattle.wf_queue_flows.proofs.Lanes.{while_dropping}
@@ -12,6 +13,8 @@ invariant-looks g l = record {
       ≡ while_dropping g.L.Lane.look g.L.Lane.tossed
       (params_of l.fn.params) l.fn.now l.fn.self l.fn.self.drop_next (g.L.Lane.thrown l.fn.lane)
       (l.fn.first ∷ g.L.Lane.rest l.fn.lane);
+  stamp : l.sight.stamp ≡ (g.L.Lane.look l.item).stamp;
+  left : l.sight.left ≡ octets (map g.L.Lane.look (g.L.Lane.rest l.lane));
   dropping : l.self-inside.dropping ≡ true;
   counted : 1 ≤ l.self-inside.count;
   spare : g.L.Lane.spare l.lane ≡ g.L.Lane.spare l.fn.lane;
