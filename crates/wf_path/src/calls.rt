@@ -3,7 +3,7 @@
 ghost use Rattle.std.specs.Prelude.{◌≡◌, ℕ, true, List, Option, IfSome, IfNone, IfOk, IfErr};
 ghost use Rattle.wf_frame.specs.Frames.{FrameValue};
 ghost use Rattle.wf_frame.specs.Answers.{reply_of, reply_with};
-ghost use Rattle.wf_frame.specs.declared.notes.Ask.TheVariants.{Join, Leave, Rate, Tick, Pull, Sleep, Wake, Poll, Rx, Reap};
+ghost use Rattle.wf_frame.specs.declared.notes.Ask.TheVariants.{Join, Leave, Rate, Tick, Sleep, Wake, Poll, Rx, Reap};
 ghost use Rattle.wf_frame.specs.declared.notes.Note.TheVariants.{Asked};
 ghost use Rattle.wf_frame.specs.declared.notes.ReplyNote.TheVariants.{Accepted, Refused};
 ghost use Rattle.wf_def_world.specs.World.{World};
@@ -14,10 +14,10 @@ ghost use Rattle.wf_send_half.specs.Enqueues.{enqueue_of, as_accepted};
 ghost use Rattle.wf_send_half.specs.Replies.{reaped_reply};
 ghost use Rattle.wf_send_half_refines.specs.Standing.{StandsFor, Meets};
 ghost use Rattle.wf_path.specs.Jobs.{IsHeard, IsBrief, note_of, bodies_after, frame_given_back, changes_nothing};
-ghost use Rattle.wf_path.specs.Paths.{IsPath, IsSmall, RiseLittle, IsAnswered, IsToldBriefly};
+ghost use Rattle.wf_path.specs.Paths.{IsPath, IsSmall, RiseLittle, IsToldBriefly};
 
 use crate::{Job, Path};
-use wf_frame::{Answer, Ask, AskedRate, Brief, Class, Pairs, Refusal};
+use wf_frame::{Answer, Ask, AskedRate, Brief, Class, Refusal};
 use wf_queue_chain::Parcel;
 use wf_send_half::Admission;
 
@@ -56,7 +56,13 @@ impl Path {
                 reaped
             }
             Job::Call(Ask::Pull { class }) => {
-                answer.brief = self.pull(class, &mut answer.pairs);
+                let pulled = self
+                    .half
+                    .pull(class, self.ready.of(class), &mut answer.pairs);
+                if let Brief::Send { station, .. } = pulled.brief {
+                    self.ready.set(station, class, pulled.is_ready);
+                }
+                answer.brief = pulled.brief;
                 None
             }
             Job::Call(ask) => {
@@ -143,17 +149,6 @@ impl Path {
             | Ask::Done { .. }
             | Ask::Reap => unreachable!(),
         }
-    }
-
-    fn pull(&mut self, class: Class, pairs: &mut Pairs) -> Brief
-        requires small { IsSmall self.old.half }
-        ensures { IsAnswered self.old (Pull class) self.new result pairs.new }
-    {
-        let pulled = self.half.pull(class, self.ready.of(class), pairs);
-        if let Brief::Send { station, .. } = pulled.brief {
-            self.ready.set(station, class, pulled.is_ready);
-        }
-        pulled.brief
     }
 
     fn tick(&mut self, by: u32) -> Brief
