@@ -2,7 +2,7 @@
 use Rattle.std.proofs.Common.{◌≡◌, refl, ap, sym, ◌∙◌, subst, ℕ, ◌≤◌, Bool, List, [], length, take, Option, Some, None, append-nil}
 use Rattle.std.specs.Prelude.{option_map, Result, Ok, Err, OnOk}
 use Rattle.std.specs.Io.KnownBytes.{append_known}
-use Rattle.wf_pcap.specs.Capture.{packet_octets}
+use Rattle.wf_io.specs.Capture.{packet_octets}
 use Rattle.wf_io.specs.Fronts.{HoldsFront}
 use Rattle.wf_io.proofs.FrontLaws.{front_partly}
 use Rattle.wf_def_world.specs.World.{World, Exchange, exchange}

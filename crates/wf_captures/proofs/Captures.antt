@@ -2,11 +2,11 @@
 use Rattle.std.proofs.Common.{◌≡◌, ℕ, ◌+◌, ◌*◌, ◌/◌, ◌%◌, ◌^◌, ◌<◌, ◌≤◌, List, [], ◌∷◌, ◌++◌, length, map, rules, refl, sym, ◌∙◌, ap, arith, length-append}
 use Rattle.std.specs.Prelude.{Option, Some, None, flat_map}
 use Rattle.std.proofs.lemmas.Grind.{common_steps}
-use Rattle.wf_pcap.specs.declared.reading.Form.{Form}
-use Rattle.wf_pcap.specs.declared.reading.Packet.{Packet}
-use Rattle.wf_pcap.specs.declared.reading.PcapFault.{PcapFault}
-use Rattle.wf_pcap.specs.Capture.{written_form, file_head_octets, packet_octets, packet_in}
-use Rattle.wf_pcap.specs.Faults.{form_of, head_fault, packet_fault}
+use Rattle.wf_io.specs.declared.pcap.reading.Form.{Form}
+use Rattle.wf_io.specs.declared.pcap.reading.Packet.{Packet}
+use Rattle.wf_io.specs.declared.pcap.reading.PcapFault.{PcapFault}
+use Rattle.wf_io.specs.Capture.{written_form, file_head_octets, packet_octets, packet_in}
+use Rattle.wf_io.specs.CaptureFaults.{form_of, head_fault, packet_fault}
 use Rattle.wf_captures.specs.ListedPackets.{Captured, listed, packets_from, from_each, with_packet, most_octets_read, captured_in}
 use Rattle.wf_captures.specs.ListingLaw.{Sent, IsWritable, AreWritable, capture_of_packets, seen, IsListed, FramesLaw}
 use Rattle.wf_captures.specs.ListingReading.{IsWhole}

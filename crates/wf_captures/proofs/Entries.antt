@@ -1,7 +1,7 @@
 -- A capture grows by the packets of each call.
 use Rattle.std.proofs.Common.{◌≡◌, refl, ap, sym, ◌∙◌, List, [], ◌∷◌, ◌++◌, append_assoc, append-nil}
 use Rattle.wf_frame.specs.declared.settings.Config.{Config}
-use Rattle.wf_pcap.specs.Capture.{file_head_octets, packet_octets}
+use Rattle.wf_io.specs.Capture.{file_head_octets, packet_octets}
 use Rattle.wf_captures.specs.ListingLaw.{Sent}
 use Rattle.wf_def_world.specs.World.{World, opening}
 use Rattle.wf_def_world.specs.Run.{Entry, world_after}

@@ -5,10 +5,10 @@ use Rattle.std.specs.Prelude.{Option, Some, None, Result, Ok, Err, IsErr, MatchR
 use Rattle.std.specs.Io.KnownBytes.{IsAtEnd}
 use Rattle.std.proofs.lemmas.Bool.Decides.{nat_tests}
 use Rattle.wf_io.specs.declared.source.Failed.{Failed}
-use Rattle.wf_pcap.specs.declared.reading.Form.{Form}
-use Rattle.wf_pcap.specs.declared.reading.PcapFault.{PcapFault}
-use Rattle.wf_pcap.specs.declared.reading.PcapFault.TheVariants as pcap
-use Rattle.wf_pcap.specs.Faults.{packet_fault}
+use Rattle.wf_io.specs.declared.pcap.reading.Form.{Form}
+use Rattle.wf_io.specs.declared.pcap.reading.PcapFault.{PcapFault}
+use Rattle.wf_io.specs.declared.pcap.reading.PcapFault.TheVariants as pcap
+use Rattle.wf_io.specs.CaptureFaults.{packet_fault}
 use Rattle.wf_captures.specs.declared.listing.fault.FaultKind.{FaultKind}
 use Rattle.wf_captures.specs.declared.listing.fault.FaultKind.TheVariants.{Short, TooBig}
 use Rattle.wf_captures.specs.declared.listing.reader.Next.{Next}

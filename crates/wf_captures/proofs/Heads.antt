@@ -2,9 +2,9 @@
 use Rattle.std.proofs.Common.{◌≡◌, ℕ, ◌+◌, ◌<◌, ◌≤◌, Bool, true, false, List, ◌++◌, length, drop, get_or, refl, sym, ◌∙◌, arith, length-append}
 use Rattle.std.specs.Prelude.{Option, Some, None, nat_lt}
 use Rattle.std.proofs.lemmas.List.{get_or_append_left, get_or-drop}
-use Rattle.wf_pcap.specs.declared.reading.Form.{Form}
-use Rattle.wf_pcap.specs.Capture.{number_in_order, packet_in}
-use Rattle.wf_pcap.specs.Faults.{form_of, fault_past_magic, head_fault, packet_fault}
+use Rattle.wf_io.specs.declared.pcap.reading.Form.{Form}
+use Rattle.wf_io.specs.Capture.{number_in_order, packet_in}
+use Rattle.wf_io.specs.CaptureFaults.{form_of, fault_past_magic, head_fault, packet_fault}
 use Rattle.wf_captures.specs.ListedPackets.{captured_in}
 
 octet_front : (front more : List ℕ) (place k : ℕ) → place + k < length front →

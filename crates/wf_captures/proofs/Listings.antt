@@ -3,9 +3,9 @@ use Rattle.std.proofs.Common.{◌≡◌, ℕ, ◌+◌, ◌≤◌, List, [], ◌�
 use Rattle.std.specs.Prelude.{Option, Some, None, Ok}
 use Rattle.std.specs.Io.KnownBytes.{prepend_known, append_known}
 use Rattle.std.proofs.lemmas.List.{flat_map_more, take-append-drop}
-use Rattle.wf_pcap.specs.declared.reading.Form.{Form}
-use Rattle.wf_pcap.specs.declared.reading.Packet.{Packet}
-use Rattle.wf_pcap.specs.Capture.{packet_in}
+use Rattle.wf_io.specs.declared.pcap.reading.Form.{Form}
+use Rattle.wf_io.specs.declared.pcap.reading.Packet.{Packet}
+use Rattle.wf_io.specs.Capture.{packet_in}
 use Rattle.wf_io.specs.declared.status.Status.{Status}
 use Rattle.wf_io.specs.declared.status.Status.TheVariants.{Done, BadTrace, ReadFault, WriteFault}
 use Rattle.wf_io.specs.Fronts.{IsFrontOf}

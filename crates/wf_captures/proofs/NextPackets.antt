@@ -2,9 +2,9 @@
 use Rattle.std.proofs.Common.{◌≡◌, ℕ, zero, suc, ◌+◌, ◌≤◌, List, [], ◌∷◌, ◌++◌, length, take, drop, refl, sym, ◌∙◌, ap, arith, length-drop}
 use Rattle.std.specs.Prelude.{Option, Some}
 use Rattle.std.proofs.lemmas.List.{take_at, drop-append-le}
-use Rattle.wf_pcap.specs.declared.reading.Form.{Form}
-use Rattle.wf_pcap.specs.declared.reading.Packet.{Packet}
-use Rattle.wf_pcap.specs.Capture.{packet_in}
+use Rattle.wf_io.specs.declared.pcap.reading.Form.{Form}
+use Rattle.wf_io.specs.declared.pcap.reading.Packet.{Packet}
+use Rattle.wf_io.specs.Capture.{packet_in}
 use Rattle.wf_captures.specs.declared.listing.fault.FaultKind.{FaultKind}
 use Rattle.wf_captures.specs.ListedPackets.{Captured, captured_in, from_each, packet_at, packets_from, with_packet, stopped, judged, most_octets_read}
 use Rattle.wf_captures.specs.ListingReading.{IsWhole, IsFlawed}

@@ -4,9 +4,9 @@ use Rattle.std.specs.Prelude.{Option, Some, None, nat_lt}
 use Rattle.std.specs.Io.KnownBytes.{prepend_known, append_known, IsAtEnd}
 use Rattle.std.proofs.lemmas.List.{drop_at, take-append-drop}
 use Rattle.std.proofs.lemmas.Bool.Decides.{nat_tests}
-use Rattle.wf_pcap.specs.declared.reading.Form.{Form}
-use Rattle.wf_pcap.specs.declared.reading.PcapFault.{PcapFault}
-use Rattle.wf_pcap.specs.Faults.{form_of, head_fault}
+use Rattle.wf_io.specs.declared.pcap.reading.Form.{Form}
+use Rattle.wf_io.specs.declared.pcap.reading.PcapFault.{PcapFault}
+use Rattle.wf_io.specs.CaptureFaults.{form_of, head_fault}
 use Rattle.wf_io.specs.declared.status.Status.{Status}
 use Rattle.wf_io.specs.declared.status.Status.TheVariants.{Done, Usage, BadTrace, ReadFault, WriteFault, NoMemory}
 use Rattle.wf_captures.specs.declared.listing.fault.Fault.{Fault}

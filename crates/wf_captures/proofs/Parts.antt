@@ -2,10 +2,10 @@
 use Rattle.std.proofs.Common.{◌≡◌, ℕ, ◌+◌, ◌-◌, ◌<◌, ◌≤◌, Bool, true, false, cond, List, [], ◌∷◌, ◌++◌, length, refl, sym, ◌∙◌, ap, arith, length-append}
 use Rattle.std.specs.Prelude.{Option, Some, None, not, ◌==◌, ◌&&◌, ◌%◌, replicate}
 use Rattle.std.proofs.lemmas.List.{drop_all, length-replicate}
-use Rattle.wf_pcap.specs.declared.reading.Form.{Form}
-use Rattle.wf_pcap.specs.declared.reading.PcapFault.TheVariants as pcap
-use Rattle.wf_pcap.specs.Capture.{number_in_order, link_of_frames}
-use Rattle.wf_pcap.specs.Faults.{form_of, fault_past_magic}
+use Rattle.wf_io.specs.declared.pcap.reading.Form.{Form}
+use Rattle.wf_io.specs.declared.pcap.reading.PcapFault.TheVariants as pcap
+use Rattle.wf_io.specs.Capture.{number_in_order, link_of_frames}
+use Rattle.wf_io.specs.CaptureFaults.{form_of, fault_past_magic}
 use Rattle.wf_captures.specs.declared.listing.fault.Fault.{Fault}
 use Rattle.wf_captures.specs.declared.listing.fault.FaultKind.{FaultKind}
 use Rattle.wf_captures.specs.declared.listing.fault.FaultKind.TheVariants.{Short, Magic, Version, Link}

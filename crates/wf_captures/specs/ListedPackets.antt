@@ -1,12 +1,12 @@
 -- The packets of a capture, one behind the other, up to the first fault.
 use Rattle.std.specs.Prelude.{ℕ, zero, suc, ◌+◌, ◌-◌, nat_lt, ◌&&◌, Bool, List, [], ◌∷◌, length, take, drop, Option, Some, None, if◌then◌else◌}
 use Rattle.wf_io.specs.declared.source.TheConstants.{MOST_OCTETS}
-use Rattle.wf_pcap.specs.declared.reading.Form.{Form}
-use Rattle.wf_pcap.specs.declared.reading.Packet.{Packet}
-use Rattle.wf_pcap.specs.declared.reading.PcapFault.{PcapFault}
-use Rattle.wf_pcap.specs.declared.reading.PcapFault.TheVariants as pcap
-use Rattle.wf_pcap.specs.Capture.{number_in_order, packet_in}
-use Rattle.wf_pcap.specs.Faults.{form_of, head_fault, packet_fault}
+use Rattle.wf_io.specs.declared.pcap.reading.Form.{Form}
+use Rattle.wf_io.specs.declared.pcap.reading.Packet.{Packet}
+use Rattle.wf_io.specs.declared.pcap.reading.PcapFault.{PcapFault}
+use Rattle.wf_io.specs.declared.pcap.reading.PcapFault.TheVariants as pcap
+use Rattle.wf_io.specs.Capture.{number_in_order, packet_in}
+use Rattle.wf_io.specs.CaptureFaults.{form_of, head_fault, packet_fault}
 use Rattle.wf_captures.specs.declared.listing.fault.Fault.{Fault}
 use Rattle.wf_captures.specs.declared.listing.fault.FaultKind.{FaultKind}
 use Rattle.wf_captures.specs.declared.listing.fault.FaultKind.TheVariants.{Short, Magic, Version, Link, Long, TooBig}

@@ -1,6 +1,6 @@
 -- The law of `frames` over a capture that this project writes.
 use Rattle.std.specs.Prelude.{◌≡◌, ℕ, ◌/◌, ◌%◌, ◌*◌, ◌^◌, ◌<◌, ◌≤◌, List, [], ◌∷◌, ◌++◌, length, map, flat_map, None}
-use Rattle.wf_pcap.specs.Capture.{file_head_octets, packet_octets}
+use Rattle.wf_io.specs.Capture.{file_head_octets, packet_octets}
 use Rattle.wf_captures.specs.ListedPackets.{Captured, listing, most_octets_read}
 
 -- a packet that is written: its time in microseconds, and its octets

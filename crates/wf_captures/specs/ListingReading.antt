@@ -2,11 +2,11 @@
 use Rattle.std.specs.Prelude.{◌≡◌, ◌⊎◌, ℕ, ◌+◌, ◌<◌, ◌≤◌, List, [], ◌++◌, length, take, drop, Option, Some, None, Result, Ok, Err}
 use Rattle.std.specs.Io.KnownBytes.{prepend_known, IsAtEnd}
 use Rattle.wf_io.specs.declared.source.Failed.{Failed}
-use Rattle.wf_pcap.specs.declared.reading.Form.{Form}
-use Rattle.wf_pcap.specs.declared.reading.PcapFault.{PcapFault}
-use Rattle.wf_pcap.specs.declared.reading.PcapFault.TheVariants as pcap
-use Rattle.wf_pcap.specs.Capture.{packet_in}
-use Rattle.wf_pcap.specs.Faults.{packet_fault}
+use Rattle.wf_io.specs.declared.pcap.reading.Form.{Form}
+use Rattle.wf_io.specs.declared.pcap.reading.PcapFault.{PcapFault}
+use Rattle.wf_io.specs.declared.pcap.reading.PcapFault.TheVariants as pcap
+use Rattle.wf_io.specs.Capture.{packet_in}
+use Rattle.wf_io.specs.CaptureFaults.{packet_fault}
 use Rattle.wf_captures.specs.declared.listing.fault.FaultKind.{FaultKind}
 use Rattle.wf_captures.specs.declared.listing.fault.FaultKind.TheVariants.{TooBig}
 use Rattle.wf_captures.specs.declared.listing.reader.Next.{Next}

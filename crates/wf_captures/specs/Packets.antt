@@ -7,7 +7,7 @@ use Rattle.wf_frame.specs.declared.notes.Note.{Note}
 use Rattle.wf_frame.specs.declared.notes.Note.TheVariants.{Asked}
 use Rattle.wf_frame.specs.declared.notes.ReplyNote.{ReplyNote}
 use Rattle.wf_frame.specs.declared.notes.ReplyNote.TheVariants.{Send, Ba}
-use Rattle.wf_pcap.specs.Capture.{packet_octets}
+use Rattle.wf_io.specs.Capture.{packet_octets}
 use Rattle.wf_captures.specs.ListingLaw.{Sent}
 use Rattle.wf_def_world.specs.World.{World, Exchange, exchange}
 use Rattle.wf_path.specs.Addresses.{made_up}

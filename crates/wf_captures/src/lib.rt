@@ -14,4 +14,4 @@ mod writing;
 
 pub use law::captured_run_is_listed;
 pub use packets::write_packets;
-pub use wf_pcap::write_head;
+pub use wf_io::pcap::write_head;

@@ -14,8 +14,8 @@ use crate::frames::{LONGEST, Shown, narrow_ack, transmission, wide_ack};
 use crate::standing::sent;
 use wf_cell::Cell;
 use wf_frame::{Answer, Ask, Brief, Note};
+use wf_io::pcap::write_packet;
 use wf_io::{Failed, Sink};
-use wf_pcap::write_packet;
 
 /// The exchange that a call asks its station to answer.
 fn exchange_answered(note: &Note) -> Option<u64>

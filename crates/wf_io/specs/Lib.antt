@@ -4,3 +4,5 @@ pub mod Fronts
 pub mod InMemory
 pub mod Statuses
 pub mod Words
+pub mod Capture
+pub mod CaptureFaults

@@ -2,12 +2,15 @@
 //! over std; a line of octets (`Line`) and the value of decimal digits; how much of an input a command reads;
 //! and how a command ends (`Status`), the number of that, and what a sink holds after some of a text was
 //! written.
+//!
+//! Capture files, in the format of libpcap, are the module `pcap`.
 #![tactic(auto)]
 
 mod digits;
 mod given;
 mod kept;
 mod line;
+pub mod pcap;
 mod sink;
 mod source;
 mod standard;

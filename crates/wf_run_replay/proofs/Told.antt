@@ -4,7 +4,7 @@ use Rattle.std.specs.Prelude.{Option, Some, None}
 use Rattle.wf_frame.specs.declared.settings.Config.{Config}
 use Rattle.wf_trace.specs.Reading.{Reading, reading}
 use Rattle.wf_io.specs.declared.status.Status.{Status}
-use Rattle.wf_pcap.specs.Capture.{file_head_octets}
+use Rattle.wf_io.specs.Capture.{file_head_octets}
 use Rattle.wf_def_world.specs.World.{World, opening}
 use Rattle.wf_def_world.specs.Run.{Entry}
 use Rattle.wf_def_world.specs.Step.{step}

@@ -2,7 +2,7 @@
 use Rattle.std.specs.Prelude.{ℕ, List, [], Option, Some, None}
 use Rattle.wf_frame.specs.declared.settings.Config.{Config}
 use Rattle.wf_trace.specs.Reading.{Reading}
-use Rattle.wf_pcap.specs.Capture.{file_head_octets}
+use Rattle.wf_io.specs.Capture.{file_head_octets}
 use Rattle.wf_captures.specs.ListingLaw.{Sent, capture_of_packets}
 use Rattle.wf_def_world.specs.Run.{Entry}
 use Rattle.wf_law_trace.specs.Histories.{settings_among, history_among}

@@ -3,7 +3,7 @@
 use crate::alike::same;
 use std::alloc::{AllocError, Global};
 use wf_io::Kept;
-use wf_pcap::*;
+use wf_io::pcap::*;
 
 /// The file header that is written.
 const HEAD: [u8; 24] = [

@@ -11,8 +11,8 @@ use crate::listing::lines::{write_count, write_fault, write_packet};
 use crate::listing::octets::fill;
 use crate::listing::reader::{Next, next_packet};
 use std::alloc::Global;
+use wf_io::pcap::{FILE_HEAD, Form, MOST_CAPTURED, PACKET_HEAD, read_head};
 use wf_io::{Sink, Source, Status};
-use wf_pcap::{FILE_HEAD, Form, MOST_CAPTURED, PACKET_HEAD, read_head};
 
 /// Reads a capture file from the source and writes a line for each packet before it reads the next; behind
 /// them how many there were, or the line of the first fault. After a fault of the source the lines of the

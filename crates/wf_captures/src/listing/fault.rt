@@ -4,7 +4,7 @@ ghost use Rattle.std.specs.Prelude.{◌≡◌, ◌≤◌, length};
 ghost use Rattle.wf_captures.specs.ListedPackets.{kind_of};
 ghost use Rattle.wf_captures.specs.Lines.{kind_word};
 
-use wf_pcap::PcapFault;
+use wf_io::pcap::PcapFault;
 
 /// The kinds of faults of a capture.
 #[derive(Clone, Copy)]

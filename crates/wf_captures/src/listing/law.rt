@@ -1,4 +1,4 @@
-//! What `write_head` and `write_packet` of crate wf_pcap write is listed.
+//! What `write_head` and `write_packet` of `wf_io::pcap` write is listed.
 
 ghost use Rattle.std.specs.Prelude.{List, ◌≤◌, length};
 ghost use Rattle.wf_captures.specs.ListedPackets.{most_octets_read};

@@ -8,8 +8,8 @@ ghost use Rattle.wf_captures.specs.Lines.{frame_words, packet_line, capture_faul
 
 use crate::listing::fault::Fault;
 use crate::listing::frame::{Frame, frame_of};
+use wf_io::pcap::Packet;
 use wf_io::{Failed, Line, Sink, Word, write_all};
-use wf_pcap::Packet;
 
 // Appends what a frame is.
 fn push_frame(frame: Frame, out: &mut Line)

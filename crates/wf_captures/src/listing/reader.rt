@@ -8,8 +8,8 @@ ghost use Rattle.wf_captures.specs.ListingReading.{TakesPacket, TakesBehind, Goe
 
 use crate::listing::fault::FaultKind;
 use crate::listing::octets::{fill, pass};
+use wf_io::pcap::{Form, PACKET_HEAD, Packet, PcapFault, read_packet};
 use wf_io::{Failed, MOST_OCTETS, Source};
-use wf_pcap::{Form, PACKET_HEAD, Packet, PcapFault, read_packet};
 
 /// What comes next of a capture.
 #[derive(Clone, Copy)]

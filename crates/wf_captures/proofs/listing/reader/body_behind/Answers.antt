@@ -1,6 +1,6 @@
 use Rattle.std.proofs.Common.{◌∙◌, sym, ap, subst, arith, [], length, drop, ◌++◌, ◌≤◌, length-append, Some}
 use Rattle.std.proofs.lemmas.List.{take_all, take_at, drop_at, length-take-le}
-use Rattle.wf_pcap.specs.declared.reading.Packet.{Packet}
+use Rattle.wf_io.specs.declared.pcap.reading.Packet.{Packet}
 use Rattle.wf_captures.specs.declared.listing.fault.FaultKind.{FaultKind}
 use Rattle.wf_captures.specs.declared.listing.fault.FaultKind.TheVariants.{Short}
 use Rattle.wf_captures.specs.ListingReading.{IsFlawed}

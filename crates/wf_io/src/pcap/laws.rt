@@ -1,8 +1,8 @@
 //! What is written is read back.
 
 ghost use Rattle.std.specs.Prelude.{◌≡◌, ℕ, ◌/◌, ◌%◌, ◌*◌, ◌^◌, ◌<◌, ◌≤◌, ◌++◌, List, None, length, drop};
-ghost use Rattle.wf_pcap.specs.Capture.{IsHead, written_form, file_head_octets, packet_octets, packet_in};
-ghost use Rattle.wf_pcap.specs.Faults.{head_fault, packet_fault};
+ghost use Rattle.wf_io.specs.Capture.{IsHead, written_form, file_head_octets, packet_octets, packet_in};
+ghost use Rattle.wf_io.specs.CaptureFaults.{head_fault, packet_fault};
 
 /// What `write_head` writes is read by `read_head` as little-endian with microseconds, whatever follows it.
 pub fn head_is_read_back()

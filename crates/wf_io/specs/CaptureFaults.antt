@@ -1,9 +1,9 @@
 -- The checks of the headers of a capture file, in their order.
 use Rattle.std.specs.Prelude.{ℕ, ◌%◌, ◌==◌, ◌&&◌, nat_lt, not, Bool, true, false, List, length, Option, Some, None, if◌then◌else◌}
-use Rattle.wf_pcap.specs.declared.reading.Form.{Form}
-use Rattle.wf_pcap.specs.declared.reading.PcapFault.{PcapFault}
-use Rattle.wf_pcap.specs.declared.reading.PcapFault.TheVariants.{Short, Magic, Version, Link, Long}
-use Rattle.wf_pcap.specs.Capture.{number_in_order, magic_of, link_of_frames}
+use Rattle.wf_io.specs.declared.pcap.reading.Form.{Form}
+use Rattle.wf_io.specs.declared.pcap.reading.PcapFault.{PcapFault}
+use Rattle.wf_io.specs.declared.pcap.reading.PcapFault.TheVariants.{Short, Magic, Version, Link, Long}
+use Rattle.wf_io.specs.Capture.{number_in_order, magic_of, link_of_frames}
 
 -- whether a magic number is that of nanoseconds, where it is one
 abbrev pub precision_of : ℕ → Option Bool

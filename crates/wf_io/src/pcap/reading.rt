@@ -1,10 +1,10 @@
 //! The headers of a capture file, as they are read.
 
 ghost use Rattle.std.specs.Prelude.{◌≡◌, ◌+◌, ◌≤◌, IfOk, Ok, Some, length};
-ghost use Rattle.wf_pcap.specs.Capture.{number_in_order, IsHead, packet_in};
+ghost use Rattle.wf_io.specs.Capture.{number_in_order, IsHead, packet_in};
 ghost use Rattle.std.specs.Result.{result_err};
-ghost use Rattle.wf_pcap.specs.Faults.{precision_of, form_of, head_fault, packet_fault};
-ghost use Rattle.wf_pcap.specs.declared.reading.Form.{Form};
+ghost use Rattle.wf_io.specs.CaptureFaults.{precision_of, form_of, head_fault, packet_fault};
+ghost use Rattle.wf_io.specs.declared.pcap.reading.Form.{Form};
 
 use byteorder::{BigEndian, ByteOrder, LittleEndian};
 

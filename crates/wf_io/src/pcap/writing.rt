@@ -3,11 +3,11 @@
 ghost use Rattle.std.specs.Prelude.{◌≡◌, ℕ, ◌≤◌, length, take, OnOk};
 ghost use Rattle.std.specs.Io.KnownBytes.{append_known};
 ghost use Rattle.wf_io.specs.Faults.{CountsFaults};
-ghost use Rattle.wf_pcap.specs.Capture.{file_head_octets, packet_head, packet_octets};
+ghost use Rattle.wf_io.specs.Capture.{file_head_octets, packet_head, packet_octets};
 
-use crate::reading::{FILE_HEAD, FRAMES, MAJOR, MICROSECONDS, MINOR, PACKET_HEAD};
+use crate::pcap::reading::{FILE_HEAD, FRAMES, MAJOR, MICROSECONDS, MINOR, PACKET_HEAD};
+use crate::{Failed, Sink, write_all};
 use byteorder::{ByteOrder, LittleEndian};
-use wf_io::{Failed, Sink, write_all};
 
 /// The most octets that a packet has, as the file header tells it.
 const SNAP_LENGTH: u32 = 65_535;
@@ -52,7 +52,7 @@ fn head() -> [u8; FILE_HEAD]
 }
 
 // The header of a packet of so many octets.
-#[tactic(auto, using(crate::proofs::Seconds::seconds_wrap))]
+#[tactic(auto, using(crate::proofs::CaptureSeconds::seconds_wrap))]
 fn packet_head(at: u64, count: u32) -> [u8; PACKET_HEAD]
     ensures { result ≡ packet_head at count }
 {

@@ -2,8 +2,8 @@
 -- octets and the octets that were captured.
 use Rattle.std.specs.Prelude.{◌≡◌, ℕ, ◌/◌, ◌%◌, ◌≤◌, Bool, false, if◌then◌else◌, List, ◌++◌, length, drop}
 use Rattle.byteorder.specs.Endian.{big_number, little_number, little_bytes}
-use Rattle.wf_pcap.specs.declared.reading.Form.{Form}
-use Rattle.wf_pcap.specs.declared.reading.Packet.{Packet}
+use Rattle.wf_io.specs.declared.pcap.reading.Form.{Form}
+use Rattle.wf_io.specs.declared.pcap.reading.Packet.{Packet}
 
 -- the number in the `count` octets from a place on, the highest octet first (`big`) or the lowest first
 abbrev pub number_in_order : Bool → ℕ → List ℕ → ℕ → ℕ

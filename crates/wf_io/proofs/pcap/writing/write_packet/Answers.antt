@@ -1,8 +1,8 @@
 use Rattle.std.proofs.Common.{◌≡◌, length, OnOk, subst, ap, ◌∙◌}
 use Rattle.std.specs.Io.KnownBytes.{append_known}
-use Rattle.wf_pcap.specs.Capture.{packet_head}
-use Rattle.wf_pcap.proofs.Fronts.{one_after_another, front_of_first, front_of_second}
-use Rattle.wf_pcap.proofs.writing.write_packet.Goals as goal
+use Rattle.wf_io.specs.Capture.{packet_head}
+use Rattle.wf_io.proofs.CaptureFronts.{one_after_another, front_of_first, front_of_second}
+use Rattle.wf_io.proofs.pcap.writing.write_packet.Goals as goal
 
 pub returns-in_err-write_all-clause-prefix : goal.returns-in_err-write_all-clause-prefix
 returns-in_err-write_all-clause-prefix g c =
