@@ -5,7 +5,7 @@ use Rattle.wf_io.specs.declared.status.Status.TheVariants.{Done, Usage, BadTrace
 use Rattle.wf_captures.specs.declared.listing.fault.Fault.{Fault}
 use Rattle.wf_captures.specs.ListedPackets.{Listing}
 use Rattle.wf_captures.specs.ListingOutcome.{OutcomeOf, AnsweredBy, AnsweredOf}
-use Rattle.wf_script.proofs.Endings.{Judges}
+use Rattle.wf_trace.proofs.CommandEndings.{Judges}
 
 without_memory : (fault : Option Fault) → AnsweredBy fault NoMemory
 without_memory None = inr refl

@@ -14,8 +14,8 @@ use Rattle.wf_trace.specs.Words.{words}
 use Rattle.wf_trace.specs.Meanings.{meant}
 use Rattle.wf_trace.specs.Pieces.{Numbered, pieces}
 use Rattle.wf_trace.specs.Reading.{Reading, reading, read_behind, place_behind, stopped, line_told}
-use Rattle.wf_script.proofs.Endings.{Judges}
-use Rattle.wf_script.proofs.Known.{EndsInput, pieces_known}
+use Rattle.wf_trace.proofs.CommandEndings.{Judges}
+use Rattle.wf_trace.proofs.Known.{EndsInput, pieces_known}
 use Rattle.wf_io.specs.declared.status.Status.TheVariants.{Done, Usage, BadTrace, ReadFault, WriteFault, NoMemory}
 use Rattle.wf_law_trace.specs.Endings.{FitsEnding, TraceAnswered, EndsTrace}
 use Rattle.wf_law_trace.specs.Outcomes.{TraceOutcome}

@@ -3,7 +3,7 @@ use Rattle.std.proofs.Common.{◌≡◌, ℕ, ◌≤◌, List, [], ◌∷◌, re
 use Rattle.wf_frame.specs.Settings.{standard}
 use Rattle.wf_frame.specs.declared.notes.Note.{Note}
 use Rattle.wf_frame.specs.declared.notes.Note.TheVariants.{Enqueue, Asked}
-use Rattle.wf_script.specs.Traces.{ArePrintable, entry_items}
+use Rattle.wf_trace.specs.Traces.{ArePrintable, entry_items}
 use Rattle.wf_law_runs.specs.Laws.{Laws}
 use Rattle.wf_law_runs.specs.Lengths.{HasLengths}
 use Rattle.wf_law_runs.specs.Queues.{HasLength, IsAtMost}

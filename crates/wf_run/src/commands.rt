@@ -1,7 +1,7 @@
 //! The commands, by their words.
 
 ghost use Rattle.std.specs.Prelude.{◌≡◌, ◌≤◌, ◌↔◌, ℕ, Some, None, map, string_bytes};
-ghost use Rattle.wf_script.specs.Ends.{CommandEnds, CommandWrites, TellsFault};
+ghost use Rattle.wf_trace.specs.CommandEnds.{CommandEnds, CommandWrites, TellsFault};
 ghost use Rattle.wf_help.specs.Commands.{command_of};
 ghost use Rattle.wf_help.specs.Telling.{TellingStatusSays};
 ghost use Rattle.wf_help.specs.Topics.{help_text, version_text};

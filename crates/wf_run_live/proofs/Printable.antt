@@ -3,7 +3,7 @@ use Rattle.std.proofs.Common.{◌≡◌, ℕ, zero, suc, ◌+◌, ◌-◌, ◌<�
 use Rattle.std.specs.Prelude.{All, ◌==◌}
 use Rattle.std.proofs.lemmas.List.Elements.{All-nil, All-cons, All-head, All-tail}
 use Rattle.wf_frame.specs.Settings.{standard}
-use Rattle.wf_script.specs.Traces.{ArePrintable}
+use Rattle.wf_trace.specs.Traces.{ArePrintable}
 use Rattle.wf_run_soak.specs.Opening.{station_calls, opening_calls}
 use Rattle.wf_trace.specs.Meanings.{greatest_caller}
 use Rattle.wf_trace.specs.Printing.{IsPrintable}

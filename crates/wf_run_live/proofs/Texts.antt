@@ -4,8 +4,8 @@ use Rattle.std.specs.Prelude.{Option, Result, Ok, Err, OnOk}
 use Rattle.std.specs.Io.KnownBytes.{append_known}
 use Rattle.wf_frame.specs.Settings.{standard}
 use Rattle.wf_frame.specs.declared.settings.Config.{Config}
-use Rattle.wf_script.specs.Traces.{CanBeNamed, trace_of}
-use Rattle.wf_script.proofs.TraceLaws.{trace_read}
+use Rattle.wf_trace.specs.Traces.{CanBeNamed, trace_of}
+use Rattle.wf_trace.proofs.HistoryLaws.{trace_read}
 use Rattle.wf_io.specs.Fronts.{HoldsFront}
 use Rattle.wf_io.proofs.FrontLaws.{front_first, front_next, two_written}
 use Rattle.wf_def_world.specs.World.{opening}

@@ -1,7 +1,7 @@
 -- What the command `live` does: one history, which its workers made, and what is written of it.
 use Rattle.std.specs.Prelude.{◌≡◌, ◌⊎◌, ℕ, ◌+◌, ◌<◌, ◌≤◌, Bool, List, [], ◌++◌, length, map, All}
 use Rattle.wf_frame.specs.Settings.{standard}
-use Rattle.wf_script.specs.Traces.{trace_of, trace_items}
+use Rattle.wf_trace.specs.Traces.{trace_of, trace_items}
 use Rattle.wf_run_soak.specs.Opening.{opening_calls}
 use Rattle.wf_io.specs.Fronts.{IsFrontOf}
 use Rattle.wf_io.specs.declared.status.Status.{Status}

@@ -2,7 +2,7 @@
 
 ghost use Rattle.std.specs.Prelude.{◌≡◌, ◌≤◌, ℕ};
 ghost use Rattle.wf_frame.specs.Settings.{standard};
-ghost use Rattle.wf_script.specs.Ends.{CommandWrites};
+ghost use Rattle.wf_trace.specs.CommandEnds.{CommandWrites};
 ghost use Rattle.wf_run_live.specs.Lives.{IsLiveHistory, LiveStatusSays};
 
 use crate::closed::run;

@@ -7,7 +7,7 @@ ghost use Rattle.wf_def_world.specs.Run.{world_of};
 ghost use Rattle.wf_def_world.specs.Text.{summary as summary_of};
 ghost use Rattle.wf_io.specs.Faults.{CountsFaults};
 ghost use Rattle.wf_io.specs.Fronts.{HoldsFront};
-ghost use Rattle.wf_script.specs.Traces.{ArePrintable, CanBeNamed};
+ghost use Rattle.wf_trace.specs.Traces.{ArePrintable, CanBeNamed};
 ghost use Rattle.wf_run_live.specs.Lives.{live_text};
 
 use std::marker::Model;
@@ -15,7 +15,7 @@ use wf_cell::record::Record;
 use wf_frame::Note;
 use wf_io::{Failed, Sink};
 use wf_report::summary;
-use wf_script::history::{Entries, write_trace};
+use wf_trace::script::history::{Entries, write_trace};
 
 /// The history that a record keeps.
 #[derive(Drop)]

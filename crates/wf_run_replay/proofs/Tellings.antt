@@ -4,7 +4,7 @@ use Rattle.std.specs.Prelude.{Option, Some}
 use Rattle.std.specs.Io.KnownBytes.{prepend_known, append_known}
 use Rattle.wf_io.specs.declared.status.Status.{Status}
 use Rattle.wf_trace.specs.Reading.{Reading}
-use Rattle.wf_script.proofs.Endings.{Judges}
+use Rattle.wf_trace.proofs.CommandEndings.{Judges}
 use Rattle.wf_law_trace.specs.Endings.{TraceAnswered}
 use Rattle.wf_law_trace.proofs.Endings.{answered}
 use Rattle.wf_law_trace.specs.Outcomes.{TraceOutcome}

@@ -6,7 +6,7 @@ ghost use Rattle.wf_io.specs.Faults.{HasRisen};
 ghost use Rattle.wf_law_runs.specs.Queues.{HasLength, IsAtMost};
 ghost use Rattle.wf_def_lists.specs.Lengths.{greatest_body};
 ghost use Rattle.wf_io.specs.Fronts.{HoldsFront};
-ghost use Rattle.wf_script.specs.Ends.{CommandEnds};
+ghost use Rattle.wf_trace.specs.CommandEnds.{CommandEnds};
 ghost use Rattle.wf_trace.specs.declared.reader.Item.TheVariants as item;
 ghost use Rattle.wf_def_world.specs.Run.{by};
 ghost use Rattle.wf_law_trace.specs.Endings.{TraceAnswered};
@@ -19,7 +19,7 @@ use crate::{Plays, Tells};
 use std::alloc::Global;
 use wf_frame::{Answer, Note};
 use wf_io::{Sink, Source, Status};
-use wf_script::Unanswered;
+use wf_trace::script::Unanswered;
 use wf_trace::{Item, TraceReader};
 
 // Makes a call on the stage that a trace's head opened, and tells of it. Where there was no memory for its

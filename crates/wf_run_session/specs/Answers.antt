@@ -11,7 +11,7 @@ use Rattle.wf_session.specs.Ends.{ask_fault}
 use Rattle.wf_session.specs.Laws.{originators, recipients}
 use Rattle.wf_session.specs.World.{Parley, new_parley, after_event}
 use Rattle.wf_frame.specs.Words.{line}
-use Rattle.wf_script.specs.Texts.{Manner}
+use Rattle.wf_trace.specs.ScriptTexts.{Manner}
 use Rattle.wf_run_session.specs.declared.refusal.Refusal.{Refusal}
 use Rattle.wf_run_session.specs.declared.refusal.Refusal.TheVariants.{Spent, Open, NotAsked, NotOpen, NoMessage}
 

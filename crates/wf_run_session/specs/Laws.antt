@@ -2,7 +2,7 @@
 use Rattle.std.specs.Prelude.{ℕ, take}
 use Rattle.wf_session.specs.declared.event.Event.{Event}
 use Rattle.wf_session.specs.Laws.{AgreementLaw}
-use Rattle.wf_script.specs.Scripts.{Script}
+use Rattle.wf_trace.specs.Scripts.{Script}
 
 -- behind each event of a script: both ends agree where both are open, the recipient opened what is open at
 -- the originator, and each token opened at most once at each end

@@ -11,7 +11,7 @@ use Rattle.wf_trace.specs.Notes.{long_at, end_at}
 use Rattle.wf_def_lists.specs.Bounds.{greatest_window, greatest_start}
 use Rattle.wf_session.specs.declared.event.Event.{Event}
 use Rattle.wf_session.specs.declared.event.Event.TheVariants as event
-use Rattle.wf_script.specs.Scripts.{Grammar, Script, script}
+use Rattle.wf_trace.specs.Scripts.{Grammar, Script, script}
 use Rattle.wf_run_session.specs.declared.verb.Verb.{Verb}
 use Rattle.wf_run_session.specs.declared.verb.Verb.TheVariants.{Ask, Again, To, Close, Restart}
 

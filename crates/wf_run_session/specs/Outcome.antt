@@ -2,7 +2,7 @@
 -- that were written.
 use Rattle.std.specs.Prelude.{ℕ, List, true}
 use Rattle.wf_io.specs.declared.status.Status.{Status}
-use Rattle.wf_script.specs.Outcome.{ScriptOutcome, Answered}
+use Rattle.wf_trace.specs.ScriptOutcome.{ScriptOutcome, Answered}
 use Rattle.wf_run_session.specs.Lines.{grammar, reading}
 use Rattle.wf_run_session.specs.Answers.{manner, first}
 use Rattle.wf_run_session.specs.Laws.{HasLaw}

@@ -1,7 +1,7 @@
 //! The command.
 
 ghost use Rattle.std.specs.Prelude.{◌≡◌, ℕ, List, Some};
-ghost use Rattle.wf_script.specs.Ends.{CommandEnds};
+ghost use Rattle.wf_trace.specs.CommandEnds.{CommandEnds};
 ghost use Rattle.wf_run_session.specs.Outcome.{SessionOutcome, SessionAnswered, SessionLaw};
 
 use crate::answers::{print_answer, print_closing};
@@ -9,9 +9,9 @@ use crate::lines::event_from;
 use crate::parley::Parley;
 use std::alloc::Global;
 use wf_io::{Failed, Line, Sink, Source, Status};
-use wf_script::{Answers, Unanswered, converse, write_line};
 use wf_session::Event;
 use wf_trace::FaultKind;
+use wf_trace::script::{Answers, Unanswered, converse, write_line};
 
 /// The most events of a script.
 const MOST: u64 = 65_536;

@@ -3,8 +3,8 @@ use Rattle.std.proofs.Common.{◌≡◌, ℕ, List, [], ◌∷◌, ◌++◌, tru
 use Rattle.std.specs.Prelude.{flat_map}
 use Rattle.wf_uplink.specs.World.{World, after_calls}
 use Rattle.wf_uplink.proofs.Calls.{tids_told, totals, charges}
-use Rattle.wf_script.specs.Scripts.{Script}
-use Rattle.wf_script.specs.Texts.{answers}
+use Rattle.wf_trace.specs.Scripts.{Script}
+use Rattle.wf_trace.specs.ScriptTexts.{answers}
 use Rattle.wf_run_uplink.specs.declared.event.Event.{Event}
 use Rattle.wf_run_uplink.specs.Answers.{manner, stations, first, calls_of, calls_text}
 use Rattle.wf_run_uplink.specs.Lines.{reading}

@@ -3,7 +3,7 @@
 use Rattle.std.specs.Prelude.{ℕ, ◌*◌, List, [], ◌∷◌, ◌++◌, codes, decimal, flat_map, replicate, Bool, true, false, if◌then◌else◌}
 use Rattle.std.specs.List.{join_with_byte}
 use Rattle.wf_frame.specs.Words.{line}
-use Rattle.wf_script.specs.Texts.{Manner}
+use Rattle.wf_trace.specs.ScriptTexts.{Manner}
 use Rattle.wf_uplink.specs.declared.fault.OpenFault.{OpenFault}
 use Rattle.wf_uplink.specs.declared.fault.OpenFault.TheVariants.{BadStation, BadWindow, BadStart, Live}
 use Rattle.wf_uplink.specs.declared.fault.UplinkFault.{UplinkFault}

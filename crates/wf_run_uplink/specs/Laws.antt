@@ -2,8 +2,8 @@
 use Rattle.std.specs.Prelude.{◌≡◌, ℕ, ◌<◌, List, [], ◌∷◌, ◌++◌, None, flat_map}
 use Rattle.wf_uplink.specs.World.{Call, Open, Receive, Delivery, Opened, Received, tids_of_station, first_due, after_calls, answer}
 use Rattle.wf_uplink.specs.Laws.{TidLaw, TotalsLaw, IsCharged}
-use Rattle.wf_script.specs.Scripts.{Script}
-use Rattle.wf_script.specs.Texts.{answers}
+use Rattle.wf_trace.specs.Scripts.{Script}
+use Rattle.wf_trace.specs.ScriptTexts.{answers}
 use Rattle.wf_run_uplink.specs.declared.event.Event.{Event}
 use Rattle.wf_run_uplink.specs.declared.event.Event.TheVariants as event
 use Rattle.wf_run_uplink.specs.Answers.{stations, first, manner, calls_of, calls_text}

@@ -10,7 +10,7 @@ use Rattle.wf_trace.specs.Grammar.{read_args, result_seen, short_most}
 use Rattle.wf_trace.specs.Notes.{long_at, guard_at}
 use Rattle.wf_def_lists.specs.Bounds.{greatest_mcs, greatest_tick}
 use Rattle.wf_def_air.specs.Airtime.{Ht}
-use Rattle.wf_script.specs.Scripts.{Grammar, Script, script}
+use Rattle.wf_trace.specs.Scripts.{Grammar, Script, script}
 use Rattle.wf_run_uplink.specs.declared.event.Event.{Event}
 use Rattle.wf_run_uplink.specs.declared.event.Event.TheVariants as event
 use Rattle.wf_run_uplink.specs.declared.verb.Verb.{Verb}

@@ -1,7 +1,7 @@
 //! The command.
 
 ghost use Rattle.std.specs.Prelude.{◌≡◌, ℕ, List, Some};
-ghost use Rattle.wf_script.specs.Ends.{CommandEnds};
+ghost use Rattle.wf_trace.specs.CommandEnds.{CommandEnds};
 ghost use Rattle.wf_run_uplink.specs.Outcome.{UplinkOutcome, UplinkAnswered, UplinkLaw};
 
 use crate::event::Event;
@@ -9,8 +9,8 @@ use crate::lines::event_from;
 use crate::reception::Reception;
 use std::alloc::Global;
 use wf_io::{Failed, Sink, Source, Status};
-use wf_script::{Answers, Unanswered, converse};
 use wf_trace::FaultKind;
+use wf_trace::script::{Answers, Unanswered, converse};
 
 impl Answers for Reception {
     ghost use Rattle.wf_run_uplink.specs.Lines.{IsValid, grammar};

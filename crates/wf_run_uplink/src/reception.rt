@@ -16,7 +16,7 @@ use std::alloc::{AllocError, Global};
 use std::marker::Model;
 use wf_air::time::Rate;
 use wf_io::{Failed, Line, Sink};
-use wf_script::{Unanswered, write_line};
+use wf_trace::script::{Unanswered, write_line};
 use wf_uplink::{LARGE, Up, Uplink};
 
 /// How many stations there may be.

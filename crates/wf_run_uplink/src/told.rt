@@ -10,7 +10,7 @@ ghost use Rattle.wf_run_uplink.specs.Answers.{item_words, old_words, up_line};
 ghost use Rattle.wf_run_uplink.specs.Pieces.{IsBegun, head_text};
 
 use wf_io::{Line, Sink, Word};
-use wf_script::{Unanswered, write_line};
+use wf_trace::script::{Unanswered, write_line};
 use wf_uplink::{Up, UpItem};
 
 /// A line with more octets than this is written, and goes on empty.

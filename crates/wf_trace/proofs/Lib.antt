@@ -1,11 +1,21 @@
 mod ScanLaws
-pub mod Taking
-pub mod CutLaws
+mod Taking
+mod CutLaws
 mod InputLaws
-pub mod WordLaws
+mod WordLaws
 pub mod ArgLaws
 mod ItemLaws
 mod HeadLaws
 mod Parted
 pub mod PlaceLaws
-pub mod PrintLaws
+mod PrintLaws
+-- How commands come to their ends; octets taken and written; a script that is being answered, and its ways
+-- out; that every closed input has an ending.
+pub mod CommandEndings
+mod ScriptFronts
+mod ScriptRoom
+pub mod Conversing
+pub mod Known
+pub mod Complete
+pub mod HistoryLaws
+mod HistoryFronts

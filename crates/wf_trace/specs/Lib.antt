@@ -13,3 +13,9 @@ pub mod Reading
 pub mod Reader
 pub mod Endings
 pub mod Settings
+pub mod Scripts
+pub mod ScriptTexts
+pub mod ScriptReading
+pub mod CommandEnds
+pub mod ScriptOutcome
+pub mod Traces

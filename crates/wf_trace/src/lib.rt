@@ -1,6 +1,9 @@
 //! Traces: `Cut::next` gives the pieces of an input, line by line, and `TraceReader::next` the lines read as
 //! the calls of a machine, however the source cuts its octets; `will_read` says beforehand whether `next` may
 //! read the source. `print_note` writes the line of a call, which is read back as that call.
+//!
+//! The module `script` answers scripts with the same lines, and in it `history` writes the trace of a
+//! history.
 #![tactic(auto)]
 
 mod args;
@@ -9,6 +12,7 @@ mod fault;
 mod meaning;
 mod print;
 mod reader;
+pub mod script;
 mod settings;
 mod values;
 mod words;

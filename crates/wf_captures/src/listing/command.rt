@@ -1,7 +1,7 @@
 //! The command.
 
 ghost use Rattle.std.specs.Prelude.{◌≡◌, ◌≢◌, ℕ, List, Some, length};
-ghost use Rattle.wf_script.specs.Ends.{CommandEnds};
+ghost use Rattle.wf_trace.specs.CommandEnds.{CommandEnds};
 ghost use Rattle.wf_captures.specs.ListedPackets.{behind_head};
 ghost use Rattle.wf_captures.specs.ListingOutcome.{OutcomeOf, AnsweredOf, FramesOutcome, FramesAnswered};
 ghost use Rattle.wf_captures.specs.ListingLaw.{FramesLaw};

@@ -1,7 +1,7 @@
 //! The command.
 
 ghost use Rattle.std.specs.Prelude.{◌≡◌, ℕ, List, Some};
-ghost use Rattle.wf_script.specs.Ends.{CommandEnds};
+ghost use Rattle.wf_trace.specs.CommandEnds.{CommandEnds};
 ghost use Rattle.wf_law_trace.specs.Endings.{TraceAnswered};
 ghost use Rattle.wf_run_replay.specs.CaptureOutcome.{CaptureOutcome, CaptureLaw};
 

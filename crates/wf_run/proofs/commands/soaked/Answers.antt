@@ -1,6 +1,6 @@
 use Rattle.std.proofs.Common.{◌≡◌, ◌∙◌, sym, [], length, refl}
 use Rattle.wf_io.specs.declared.status.Status.TheVariants.{Done, NoMemory}
-use Rattle.wf_script.proofs.Endings.{writes_quiet, writes_failed}
+use Rattle.wf_trace.proofs.CommandEndings.{writes_quiet, writes_failed}
 use Rattle.wf_law_trace.proofs.Octets.{append_known-nil}
 use Rattle.wf_def_world.specs.Run.{Past, world_of}
 use Rattle.wf_def_world.specs.Text.{summary}

@@ -1,7 +1,7 @@
 use Rattle.std.proofs.Common.{[], refl, sym}
 use Rattle.wf_io.specs.declared.status.Status.TheVariants.{NoMemory}
 use Rattle.wf_io.proofs.FrontLaws.{append_known-nil}
-use Rattle.wf_script.proofs.Endings.{writes_quiet}
+use Rattle.wf_trace.proofs.CommandEndings.{writes_quiet}
 use Rattle.wf_run_live.proofs.command.lived.Goals as goal
 
 pub tell-requires-clause-live : goal.tell-requires-clause-live

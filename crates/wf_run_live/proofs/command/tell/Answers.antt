@@ -1,5 +1,5 @@
 use Rattle.wf_io.specs.declared.status.Status.TheVariants.{Done}
-use Rattle.wf_script.proofs.Endings.{writes_quiet, writes_failed}
+use Rattle.wf_trace.proofs.CommandEndings.{writes_quiet, writes_failed}
 use Rattle.wf_run_live.specs.Lives.{live_text}
 use Rattle.wf_run_live.proofs.Printable.{are_printable}
 use Rattle.wf_run_live.proofs.Texts.{tells}

@@ -1,6 +1,6 @@
 use Rattle.std.proofs.Common.{[], true, refl}
 use Rattle.wf_io.specs.declared.status.Status.TheVariants.{NoMemory}
-use Rattle.wf_script.proofs.Endings.{ends_quiet, ends_as}
+use Rattle.wf_trace.proofs.CommandEndings.{ends_quiet, ends_as}
 use Rattle.wf_law_trace.proofs.Endings.{answered}
 use Rattle.wf_law_trace.proofs.Octets.{append_known-nil, prepend_known-nil}
 use Rattle.wf_law_trace.proofs.Ranges.{trace_laws}

@@ -2,7 +2,7 @@ use Rattle.std.proofs.Common.{◌∙◌, refl}
 use Rattle.std.specs.Prelude.{option_map}
 use Rattle.wf_trace.specs.declared.reader.Item.TheVariants.{Entry, Finish, Bad}
 use Rattle.wf_io.specs.declared.status.Status.TheVariants.{Done, BadTrace, ReadFault, WriteFault, NoMemory}
-use Rattle.wf_script.proofs.Endings.{ends_quiet, ends_unread, ends_unwritten}
+use Rattle.wf_trace.proofs.CommandEndings.{ends_quiet, ends_unread, ends_unwritten}
 use Rattle.wf_law_trace.specs.Running.{progress_of}
 use Rattle.wf_law_trace.proofs.Ranges.{line_config, line_sized}
 use Rattle.wf_law_trace.proofs.Tellings.{turned, running_none, none_waits, with_head, with_entry, ended_at_once, ended_ahead, ended_no_memory, ended_no_memory_at, ended_read, ended_write, ended_done, ended_bad}

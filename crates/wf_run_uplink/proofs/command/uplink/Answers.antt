@@ -1,8 +1,8 @@
 use Rattle.std.proofs.Common.{refl}
-use Rattle.wf_script.proofs.Endings.{ends_quiet}
+use Rattle.wf_trace.proofs.CommandEndings.{ends_quiet}
 use Rattle.wf_io.specs.declared.status.Status.TheVariants.{NoMemory}
-use Rattle.wf_script.proofs.Complete.{answered}
-use Rattle.wf_script.proofs.Conversing.{over_at_once}
+use Rattle.wf_trace.proofs.Complete.{answered}
+use Rattle.wf_trace.proofs.Conversing.{over_at_once}
 use Rattle.wf_run_uplink.specs.Lines.{grammar}
 use Rattle.wf_run_uplink.specs.Answers.{manner, first}
 use Rattle.wf_run_uplink.proofs.Scripts.{uplink_law}

@@ -1,5 +1,5 @@
 use Rattle.std.proofs.Common.{refl}
-use Rattle.wf_script.proofs.Endings as endings
+use Rattle.wf_trace.proofs.CommandEndings as endings
 use Rattle.wf_io.specs.declared.status.Status.TheVariants.{NoMemory}
 use Rattle.wf_captures.specs.ListedPackets.{listing}
 use Rattle.wf_captures.proofs.Openings.{ends_memory}

@@ -1,8 +1,8 @@
 use Rattle.std.proofs.Common.{◌∙◌, refl, ap, arith, take, subst}
 use Rattle.std.specs.Io.KnownBytes.{prepend_known}
 use Rattle.std.proofs.lemmas.List.{length-take-le}
-use Rattle.wf_script.proofs.Endings as endings
-use Rattle.wf_script.specs.Ends.{TellsFault}
+use Rattle.wf_trace.proofs.CommandEndings as endings
+use Rattle.wf_trace.specs.CommandEnds.{TellsFault}
 use Rattle.wf_io.specs.declared.status.Status.TheVariants.{BadTrace, ReadFault}
 use Rattle.wf_captures.specs.ListedPackets.{listing}
 use Rattle.wf_captures.proofs.Complete.{answered}

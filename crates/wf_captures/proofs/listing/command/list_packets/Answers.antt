@@ -1,5 +1,5 @@
 use Rattle.std.proofs.Common.{◌∙◌, refl, ap, arith}
-use Rattle.wf_script.proofs.Endings as endings
+use Rattle.wf_trace.proofs.CommandEndings as endings
 use Rattle.wf_io.specs.declared.status.Status.TheVariants.{Done, BadTrace}
 use Rattle.wf_io.specs.declared.pcap.reading.Packet.{Packet}
 use Rattle.wf_captures.specs.declared.listing.reader.Next.TheVariants as next

@@ -1,4 +1,4 @@
-use Rattle.wf_script.proofs.Endings.{ends_as}
+use Rattle.wf_trace.proofs.CommandEndings.{ends_as}
 use Rattle.wf_run_replay.proofs.CaptureLaw.{capture_law}
 use Rattle.wf_run_replay.proofs.Told.{said}
 use Rattle.wf_run_replay.proofs.capture.command.capture.Goals as goal

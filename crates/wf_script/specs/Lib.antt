@@ -1,6 +1,0 @@
-pub mod Scripts
-pub mod Texts
-pub mod Reading
-pub mod Ends
-pub mod Outcome
-pub mod Traces

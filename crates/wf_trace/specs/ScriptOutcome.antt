@@ -1,0 +1,62 @@
+-- What the status of a command over a script says.
+use Rattle.std.specs.Prelude.{◌≡◌, ◌⊎◌, ℕ, List, [], ◌∷◌, ◌++◌, true, false, Option, Some, None}
+use Rattle.wf_trace.specs.declared.fault.Fault.{Fault}
+use Rattle.wf_io.specs.declared.status.Status.{Status}
+use Rattle.wf_io.specs.declared.status.Status.TheVariants.{Done, Usage, BadTrace, ReadFault, WriteFault, NoMemory}
+use Rattle.wf_io.specs.Fronts.{IsFrontOf}
+use Rattle.wf_trace.specs.declared.script.ending.Ending.{Ending}
+use Rattle.wf_trace.specs.declared.script.ending.Ending.TheVariants.{Finish, Bad}
+use Rattle.wf_trace.specs.Scripts.{Grammar, script}
+use Rattle.wf_trace.specs.ScriptTexts.{Manner, answers, state_behind, text}
+
+-- the `end` line lies within the octets taken with its octet 10, or the input ends there
+abbrev pub ReachesEnd : {E : Type 0} → Grammar E → List ℕ → List ℕ → Type 0
+ReachesEnd g input taken = ((script g false taken).ending ≡ Some Finish) ⊎ (taken ≡ input)
+
+-- Memory was wanting at one of these events, at which it may be: the answers to those before it were written
+-- whole, and some of its own.
+pub record StopsAt {E W : Type 0} (m : Manner E W) (w : W) (events : List E) (written : List ℕ) : Type 0 where
+  pub before : List E
+  pub event : E
+  pub later : List E
+  pub is : events ≡ before ++ event ∷ later
+  pub wants : m.wants (state_behind m w before) event ≡ true
+  pub least : IsFrontOf (answers m w before) written
+  pub most : IsFrontOf written (answers m w (before ++ event ∷ []))
+
+-- memory was wanting at the start, where nothing is taken and nothing written, or at such an event
+abbrev pub WantsMemory : {E W : Type 0} → Manner E W → W → List E → List ℕ → List ℕ → Type 0
+WantsMemory m w events taken written = ((taken ≡ []) × (written ≡ [])) ⊎ StopsAt m w events written
+
+-- by the grammar, the manner of answering and the state at first; and the octets of the input, those of them
+-- that were taken, and those that were written
+abbrev pub ScriptOutcome : {E W : Type 0} → Grammar E → Manner E W → W → Status → List ℕ → List ℕ → List ℕ →
+    Type 0
+-- the script ends, what was taken reaches to the end of its last line, and its text was written
+ScriptOutcome g m w Done input taken written = ((script g true input).ending ≡ Some Finish) ×
+    ReachesEnd g input taken × (written ≡ text m w (script g true input))
+-- the script has a fault, and its text was written
+ScriptOutcome g m w BadTrace input taken written = (fault : Fault) ×
+    ((script g true input).ending ≡ Some (Bad fault)) × (written ≡ text m w (script g true input))
+-- the answers to the events whose lines, each with its octet 10, lie within the octets taken; the ending's
+-- line does not
+ScriptOutcome g m w ReadFault input taken written =
+    ((script g false taken).ending ≡ None) × (written ≡ answers m w (script g false taken).events) ×
+    IsFrontOf written (text m w (script g true input))
+-- some of the text was written
+ScriptOutcome g m w WriteFault input taken written = IsFrontOf written (text m w (script g true input))
+-- memory was wanting where it may be, and some of the text was written
+ScriptOutcome g m w NoMemory input taken written = IsFrontOf written (text m w (script g true input)) ×
+    WantsMemory m w (script g true input).events taken written
+-- no script has this status
+ScriptOutcome g m w Usage input taken written = ⊥
+
+-- how a command without faults of its source and sink ends
+abbrev pub Answered : Option Ending → Status → Type 0
+Answered (Some Finish) status = (status ≡ Done) ⊎ (status ≡ NoMemory)
+Answered (Some (Bad fault)) status = (status ≡ BadTrace) ⊎ (status ≡ NoMemory)
+Answered None status = ⊥
+
+-- how a command over a script ends without faults of its source and sink
+abbrev pub ScriptAnswered : {E : Type 0} → Grammar E → List ℕ → Status → Type 0
+ScriptAnswered g input status = Answered (script g true input).ending status

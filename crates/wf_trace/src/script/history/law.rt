@@ -1,0 +1,16 @@
+//! What a trace that was written says.
+
+ghost use Rattle.std.specs.Prelude.{◌≡◌, ◌≤◌, ◌++◌, ℕ, List, Bool, length};
+ghost use Rattle.wf_frame.specs.Settings.{standard};
+ghost use Rattle.wf_trace.specs.Traces.{CanBeNamed, trace_items, trace_of};
+ghost use Rattle.wf_trace.specs.Reading.{reading};
+ghost use Rattle.wf_def_world.specs.Run.{Entry};
+
+/// The trace of a history is read as the standard settings, the entries in their order, and the end, whatever
+/// stands behind it. The history has at most as many entries as the settings allow, and a line can name each
+/// of them.
+pub fn trace_law()
+    ensures read { (history : List Entry) (closed : Bool) (behind : List ℕ) → CanBeNamed history →
+        length history ≤ standard.calls →
+        reading closed (trace_of history ++ behind) ≡ trace_items history }
+{}
