@@ -2,8 +2,8 @@
 use Rattle.std.proofs.Common.{ℕ, List, true}
 use Rattle.std.specs.Prelude.{Option}
 use Rattle.wf_law_trace.proofs.Ranges.{trace_laws}
-use Rattle.wf_run_session.proofs.Law.{session_law}
-use Rattle.wf_run_uplink.proofs.Scripts.{uplink_law}
+use Rattle.wf_run_scripts.proofs.SessionLaw.{session_law}
+use Rattle.wf_run_scripts.proofs.UplinkScripts.{uplink_law}
 use Rattle.wf_captures.proofs.Captures.{frames_law}
 use Rattle.wf_run_replay.proofs.CaptureLaw.{capture_law}
 use Rattle.wf_run.specs.Outcome.{ProgramLaws}

@@ -9,8 +9,8 @@ ghost use Rattle.wf_help.specs.declared.topic.Topic.{Topic};
 ghost use Rattle.wf_law_trace.specs.Endings.{TraceAnswered};
 ghost use Rattle.wf_run_replay.specs.Outcome.{StatusSays};
 ghost use Rattle.wf_run_replay.specs.CaptureOutcome.{CaptureOutcome};
-ghost use Rattle.wf_run_session.specs.Outcome.{SessionOutcome, SessionAnswered};
-ghost use Rattle.wf_run_uplink.specs.Outcome.{UplinkOutcome, UplinkAnswered};
+ghost use Rattle.wf_run_scripts.specs.SessionOutcome.{SessionOutcome, SessionAnswered};
+ghost use Rattle.wf_run_scripts.specs.UplinkOutcome.{UplinkOutcome, UplinkAnswered};
 ghost use Rattle.wf_captures.specs.ListingOutcome.{FramesOutcome, FramesAnswered};
 ghost use Rattle.wf_run_live.specs.Lives.{LiveStatusSays};
 ghost use Rattle.wf_run.specs.Outcome.{SoakStatusSays, ProgramLaws};
@@ -26,9 +26,9 @@ use wf_report::summary;
 use wf_run_live::lived;
 use wf_run_replay::capture::capture;
 use wf_run_replay::replay;
-use wf_run_session::session;
+use wf_run_scripts::session::session;
+use wf_run_scripts::uplink::uplink;
 use wf_run_soak::soak;
-use wf_run_uplink::uplink;
 
 /// Writes the summary of the soak of a seed and a number of calls, 1 to 1,000,000.
 pub fn soaked<K: Sink>(alloc: Global, seed: u64, calls: u32, sink: &mut K) -> Status

@@ -8,8 +8,8 @@ use wf_captures::listing::frames;
 use wf_io::{Given, Kept, Status};
 use wf_run_replay::capture::capture;
 use wf_run_replay::replay;
-use wf_run_session::session;
-use wf_run_uplink::uplink;
+use wf_run_scripts::session::session;
+use wf_run_scripts::uplink::uplink;
 
 /// A command that reads one input and writes one text.
 #[derive(Clone, Copy)]

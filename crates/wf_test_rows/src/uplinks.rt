@@ -4,7 +4,7 @@
 use crate::alike::same;
 use crate::commands::{Command, Row, reads_fail, writes_fail};
 use std::test::Fail;
-use wf_run_uplink::event_from;
+use wf_run_scripts::uplink::event_from;
 use wf_trace::FaultKind;
 
 /// A hole that is given up.

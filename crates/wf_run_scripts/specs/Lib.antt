@@ -1,0 +1,12 @@
+pub mod SessionLines
+pub mod SessionAnswers
+pub mod Wires
+pub mod SessionLaws
+pub mod SessionOutcome
+pub mod UplinkOctets
+pub mod UplinkLines
+pub mod UplinkRoom
+pub mod UplinkAnswers
+pub mod UplinkPieces
+pub mod UplinkLaws
+pub mod UplinkOutcome

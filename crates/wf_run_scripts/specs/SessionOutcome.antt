@@ -1,0 +1,19 @@
+-- What the status of `session` says, by the octets of the input, those of them that were taken, and those
+-- that were written.
+use Rattle.std.specs.Prelude.{ℕ, List, true}
+use Rattle.wf_io.specs.declared.status.Status.{Status}
+use Rattle.wf_trace.specs.ScriptOutcome.{ScriptOutcome, Answered}
+use Rattle.wf_run_scripts.specs.SessionLines.{grammar, reading}
+use Rattle.wf_run_scripts.specs.SessionAnswers.{manner, first}
+use Rattle.wf_run_scripts.specs.SessionLaws.{HasLaw}
+
+abbrev pub SessionOutcome : Status → List ℕ → List ℕ → List ℕ → Type 0
+SessionOutcome status input taken written = ScriptOutcome grammar manner first status input taken written
+
+-- how a session without faults of its source and sink ends
+abbrev pub SessionAnswered : List ℕ → Status → Type 0
+SessionAnswered input status = Answered (reading true input).ending status
+
+-- the law of agreements over the script of an input
+abbrev pub SessionLaw : List ℕ → Type 0
+SessionLaw input = HasLaw (reading true input)

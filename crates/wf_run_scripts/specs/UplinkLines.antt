@@ -1,0 +1,125 @@
+-- The lines of a script of `uplink`: a word and arguments for each event.
+use Rattle.std.specs.Prelude.{◌≡◌, ◌⊎◌, ℕ, ◌≤◌, List, [], ◌∷◌, codes, find, slice_get, not, ◌||◌, Bool, false, if◌then◌else◌, Option, Some, None, Result, Ok, Err}
+use Rattle.std.specs.Str.{bytes_eq}
+use Rattle.wf_frame.specs.declared.calls.Arg.{Arg}
+use Rattle.wf_frame.specs.declared.calls.Arg.TheVariants.{Number, Guard}
+use Rattle.wf_frame.specs.declared.calls.Value.{Value}
+use Rattle.wf_trace.specs.declared.fault.FaultKind.{FaultKind}
+use Rattle.wf_trace.specs.declared.fault.FaultKind.TheVariants as kind
+use Rattle.wf_trace.specs.Grammar.{read_args, result_seen, short_most}
+use Rattle.wf_trace.specs.Notes.{long_at, guard_at}
+use Rattle.wf_def_lists.specs.Bounds.{greatest_mcs, greatest_tick}
+use Rattle.wf_def_air.specs.Airtime.{Ht}
+use Rattle.wf_trace.specs.Scripts.{Grammar, Script, script}
+use Rattle.wf_run_scripts.specs.declared.uplink.event.Event.{Event}
+use Rattle.wf_run_scripts.specs.declared.uplink.event.Event.TheVariants as event
+use Rattle.wf_run_scripts.specs.declared.uplink.verb.Verb.{Verb}
+use Rattle.wf_run_scripts.specs.declared.uplink.verb.Verb.TheVariants.{Open, Rate, Tick, Frame}
+use Rattle.wf_run_scripts.specs.UplinkOctets.{octets_of_word}
+
+-- the word of an event
+abbrev pub uplink_word : Verb → List ℕ
+uplink_word Open = codes "open"
+uplink_word Rate = codes "rate"
+uplink_word Tick = codes "tick"
+uplink_word Frame = codes "frame"
+
+abbrev pub verbs : List Verb
+verbs = Open ∷ Rate ∷ Tick ∷ Frame ∷ []
+
+abbrev pub verb_named : List ℕ → Option Verb
+verb_named word = find (λ verb. bytes_eq (uplink_word verb) word) verbs
+
+-- ---- a station is opened: its number, its window and its first number
+
+abbrev pub opening_of : List Value → Event
+opening_of values = event.Open (long_at values 0) (long_at values 1) (long_at values 2)
+
+abbrev pub open_args : List Arg
+open_args = Number 0 short_most ∷ Number 0 short_most ∷ Number 0 short_most ∷ []
+
+abbrev pub open_meant : List (List ℕ) → Result Event FaultKind
+open_meant words = result_seen opening_of (read_args open_args words)
+
+-- ---- a rate is set: the number of a station, an MCS, the channel's width, and the guard interval
+
+abbrev pub rate_of : List Value → Event
+rate_of values = event.Rate (long_at values 0)
+    (Ht (long_at values 1) (long_at values 2) (guard_at values 3))
+
+-- the channel's width is a word, `20` or `40`, and is judged as one
+abbrev pub rate_args : List Arg
+rate_args = Number 0 short_most ∷ Number 0 greatest_mcs ∷ Number 20 40 ∷ Guard ∷ []
+
+abbrev pub is_other_width : Option (List ℕ) → Bool
+is_other_width None = false
+is_other_width (Some word) = not (bytes_eq word (codes "20") || bytes_eq word (codes "40"))
+
+abbrev pub has_no_width : List (List ℕ) → Bool
+has_no_width words = is_other_width (slice_get words 2)
+
+abbrev pub rate_meant : List (List ℕ) → Result Event FaultKind
+rate_meant words = if has_no_width words then Err kind.Word
+    else result_seen rate_of (read_args rate_args words)
+
+-- ---- time passes
+
+abbrev pub tick_of : List Value → Event
+tick_of values = event.Tick (long_at values 0)
+
+abbrev pub tick_args : List Arg
+tick_args = Number 0 greatest_tick ∷ []
+
+abbrev pub tick_meant : List (List ℕ) → Result Event FaultKind
+tick_meant words = result_seen tick_of (read_args tick_args words)
+
+-- ---- octets come in
+
+abbrev pub octets_meant : Option (List ℕ) → Result Event FaultKind
+octets_meant None = Err kind.Number
+octets_meant (Some octets) = Ok (event.Frame octets)
+
+abbrev pub frame_meant : List (List ℕ) → Result Event FaultKind
+frame_meant [] = Err kind.Count
+frame_meant (word ∷ []) = octets_meant (octets_of_word word)
+frame_meant (word ∷ other ∷ words) = Err kind.Count
+
+-- ---- any line
+
+abbrev pub named : Option Verb → List (List ℕ) → Result Event FaultKind
+named None words = Err kind.Word
+named (Some Open) words = open_meant words
+named (Some Rate) words = rate_meant words
+named (Some Tick) words = tick_meant words
+named (Some Frame) words = frame_meant words
+
+abbrev pub meant : List (List ℕ) → Result Event FaultKind
+meant [] = Err kind.Word
+meant (word ∷ words) = named (verb_named word) words
+
+-- there is no limit to how many events a script may have
+abbrev pub grammar : Grammar Event
+grammar = record { meant = meant; most = None }
+
+-- the events of a script and how it ends
+abbrev pub reading : Bool → List ℕ → Script Event
+reading closed octets = script grammar closed octets
+
+-- ---- what is known of arguments that were read, and of an event
+
+pub record AreOpening (values : List Value) : Type 0 where
+  pub station : long_at values 0 ≤ short_most
+  pub window : long_at values 1 ≤ short_most
+  pub start : long_at values 2 ≤ short_most
+
+pub record AreRate (values : List Value) : Type 0 where
+  pub station : long_at values 0 ≤ short_most
+  pub mcs : long_at values 1 ≤ greatest_mcs
+  pub mhz : (long_at values 2 ≡ 20) ⊎ (long_at values 2 ≡ 40)
+
+-- the clock goes on by at most 10,000,000 microseconds in one step
+abbrev pub IsValid : Event → Type 0
+IsValid (event.Open station window start) = Unit {0}
+IsValid (event.Rate station rate) = Unit {0}
+IsValid (event.Tick by) = by ≤ greatest_tick
+IsValid (event.Frame octets) = Unit {0}

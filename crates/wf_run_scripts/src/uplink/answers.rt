@@ -1,0 +1,106 @@
+//! The lines of one length: what is answered to a station's opening, to its rate, to the time and to a frame
+//! that is refused, and what is written behind the line `end`.
+
+ghost use Rattle.std.specs.Prelude.{◌≡◌, ◌≤◌, [], length, is_ok, if◌then◌else◌};
+ghost use Rattle.std.specs.Result.{result_err};
+ghost use Rattle.wf_uplink.specs.World.{open_answer, RateSet, NotSet, Now, NotReceived};
+ghost use Rattle.wf_run_scripts.specs.UplinkAnswers.{open_word, fault_word, refused_line, answer_text, totals_line};
+
+use wf_io::{Line, Word};
+use wf_uplink::{Closed, OpenFault, Totals, UplinkFault};
+
+// Why a station is not opened, as a word.
+fn open_word(fault: OpenFault) -> &'static [u8]
+    ensures word { result.now ≡ open_word fault }
+    ensures short { length result.now ≤ 11 }
+{
+    match fault {
+        OpenFault::BadStation => b"bad-station",
+        OpenFault::BadWindow => b"bad-window",
+        OpenFault::BadStart => b"bad-start",
+        OpenFault::Live => b"live",
+    }
+}
+
+// Why octets are no data frame of an opened station, as a word.
+fn fault_word(fault: UplinkFault) -> &'static [u8]
+    ensures word { result.now ≡ fault_word fault }
+    ensures short { length result.now ≤ 11 }
+{
+    match fault {
+        UplinkFault::Header(_) => b"header",
+        UplinkFault::Kind(_) => b"kind",
+        UplinkFault::NotMine => b"not-mine",
+        UplinkFault::Tid(_) => b"tid",
+        UplinkFault::Length { .. } => b"length",
+    }
+}
+
+// Writes a refusal to an empty line.
+fn print_refused(word: &'static [u8], out: &mut Line)
+    requires empty { out.old ≡ [] }
+    requires short { length word.now ≤ 11 }
+    ensures { out.new ≡ refused_line word.now }
+{
+    out.push_line(b"refused", &[Word::Text(word)]);
+}
+
+/// Writes to an empty line whether a station was opened.
+pub fn print_opened(opened: Result<(), OpenFault>, out: &mut Line)
+    requires { out.old ≡ [] }
+    ensures { out.new ≡ answer_text (open_answer (result_err opened)) }
+{
+    match opened {
+        Ok(()) => out.push_all(b"opened\n"),
+        Err(fault) => print_refused(open_word(fault), out),
+    }
+}
+
+/// Writes to an empty line whether a rate was set.
+pub fn print_set(set: Result<(), Closed>, out: &mut Line)
+    requires { out.old ≡ [] }
+    ensures { out.new ≡ answer_text (if is_ok set then RateSet else NotSet) }
+{
+    match set {
+        Ok(()) => out.push_all(b"set\n"),
+        Err(Closed) => print_refused(b"closed", out),
+    }
+}
+
+/// Writes the clock to an empty line.
+pub fn print_now(now: u64, out: &mut Line)
+    requires { out.old ≡ [] }
+    ensures { out.new ≡ answer_text (Now now) }
+{
+    out.push_line(b"now", &[Word::Number(now)]);
+}
+
+/// Writes to an empty line why octets are not received.
+pub fn print_fault(fault: UplinkFault, out: &mut Line)
+    requires { out.old ≡ [] }
+    ensures { out.new ≡ answer_text (NotReceived fault) }
+{
+    print_refused(fault_word(fault), out);
+}
+
+/// Writes to an empty line what stands behind the line `end`: how many frames there were, and what became of
+/// them.
+pub fn print_totals(totals: Totals, out: &mut Line)
+    requires { out.old ≡ [] }
+    ensures { out.new ≡ totals_line totals }
+{
+    out.push_line(
+        b"frames",
+        &[
+            Word::Number(totals.frames),
+            Word::Text(b"up"),
+            Word::Number(totals.up),
+            Word::Text(b"old"),
+            Word::Number(totals.old),
+            Word::Text(b"held"),
+            Word::Number(totals.held),
+            Word::Text(b"missing"),
+            Word::Number(totals.missing),
+        ],
+    );
+}

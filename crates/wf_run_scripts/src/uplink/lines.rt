@@ -1,0 +1,155 @@
+//! What a line of a script says.
+
+ghost use Rattle.std.specs.Prelude.{◌≡◌, IfOk, slice_get, option_copied};
+ghost use Rattle.wf_trace.specs.Notes.{guard_at};
+ghost use Rattle.wf_trace.specs.Words.{words};
+ghost use Rattle.wf_run_scripts.specs.UplinkLines.{IsValid, AreOpening, AreRate, opening_of, rate_of, has_no_width, open_meant, rate_meant, tick_meant, frame_meant, meant};
+
+use crate::uplink::event::Event;
+use crate::uplink::frame::Frame;
+use crate::uplink::verb::Verb;
+use wf_air::time::Rate;
+use wf_trace::{Arg, FaultKind, Value, long_at, next_word, read_all};
+
+/// The number of a station, of a window, or a sequence number: each is judged by the uplink.
+const SHORT: Arg = Arg::Number {
+    low: 0,
+    high: 65_535,
+};
+
+const MCS: Arg = Arg::Number { low: 0, high: 15 };
+
+/// The width of a channel, in MHz.
+const MHZ: Arg = Arg::Number { low: 20, high: 40 };
+
+/// How far the clock goes on, in microseconds.
+const TICK: Arg = Arg::Number {
+    low: 0,
+    high: 10_000_000,
+};
+
+// The opening of a station with these arguments.
+fn opening(values: &[Value]) -> Event
+    requires { AreOpening values.now }
+    ensures { result ≡ opening_of values.now }
+{
+    Event::Open {
+        station: long_at(values, 0) as u16,
+        window: long_at(values, 1) as u16,
+        start: long_at(values, 2) as u16,
+    }
+}
+
+fn open_from(line: &[u8]) -> Result<Event, FaultKind>
+    ensures says { result ≡ open_meant (words line.now) }
+    ensures valid { IfOk result IsValid }
+{
+    match read_all(&[SHORT, SHORT, SHORT], line) {
+        Ok(values) => Ok(opening(values.as_slice())),
+        Err(kind) => Err(kind),
+    }
+}
+
+// Whether the guard interval is the short one.
+fn is_short(values: &[Value]) -> bool
+    ensures { result ≡ guard_at values.now 3 }
+{
+    match values.get(3) {
+        Some(Value::Guard(short)) => *short,
+        _ => false,
+    }
+}
+
+// The rate of a station with these arguments.
+fn rate(values: &[Value]) -> Event
+    requires { AreRate values.now }
+    ensures { result ≡ rate_of values.now }
+{
+    let mcs = long_at(values, 1) as u8;
+    let mhz = long_at(values, 2) as u8;
+    let rate = Rate::ht(mcs, mhz, is_short(values)).unwrap_or(Rate::lowest());
+    Event::Rate {
+        station: long_at(values, 0) as u16,
+        rate,
+    }
+}
+
+// The third word of a line.
+fn third_word(line: &[u8]) -> Option<&[u8]>
+    ensures { option_copied result ≡ slice_get (words line.now) 2 }
+{
+    let (_, rest) = next_word(line)?;
+    let (_, rest) = next_word(rest)?;
+    let (word, _) = next_word(rest)?;
+    Some(word)
+}
+
+// Whether the word of the channel's width is there and is none of its words.
+fn is_no_width(line: &[u8]) -> bool
+    ensures { result ≡ has_no_width (words line.now) }
+{
+    match third_word(line) {
+        Some(word) => word != b"20".as_slice() && word != b"40".as_slice(),
+        None => false,
+    }
+}
+
+fn rate_from(line: &[u8]) -> Result<Event, FaultKind>
+    ensures says { result ≡ rate_meant (words line.now) }
+    ensures valid { IfOk result IsValid }
+{
+    if is_no_width(line) {
+        return Err(FaultKind::Word);
+    }
+    match read_all(&[SHORT, MCS, MHZ, Arg::Guard], line) {
+        Ok(values) => Ok(rate(values.as_slice())),
+        Err(kind) => Err(kind),
+    }
+}
+
+fn tick_from(line: &[u8]) -> Result<Event, FaultKind>
+    ensures says { result ≡ tick_meant (words line.now) }
+    ensures valid { IfOk result IsValid }
+{
+    match read_all(&[TICK], line) {
+        Ok(values) => Ok(Event::Tick {
+            by: long_at(values.as_slice(), 0),
+        }),
+        Err(kind) => Err(kind),
+    }
+}
+
+fn frame_from(line: &[u8]) -> Result<Event, FaultKind>
+    ensures says { result ≡ frame_meant (words line.now) }
+    ensures valid { IfOk result IsValid }
+{
+    let Some((word, rest)) = next_word(line) else {
+        return Err(FaultKind::Count);
+    };
+    if next_word(rest).is_some() {
+        return Err(FaultKind::Count);
+    }
+    match Frame::read(word) {
+        Some(frame) => Ok(Event::Frame(frame)),
+        None => Err(FaultKind::Number),
+    }
+}
+
+/// The event that a line is, or the first that is wrong with it: that its first word names no event, or that
+/// a word of a rate is none of its words; that the number of its words is wrong; that a number or the octets
+/// of a frame are none; that a number is out of its range.
+pub fn event_from(line: &[u8]) -> Result<Event, FaultKind>
+    ensures says { result ≡ meant (words line.now) }
+    ensures valid { IfOk result IsValid }
+{
+    let Some((word, rest)) = next_word(line) else {
+        return Err(FaultKind::Word);
+    };
+    match Verb::named(word) {
+        Some(Verb::Open) => open_from(rest),
+        Some(Verb::Rate) => rate_from(rest),
+        Some(Verb::Tick) => tick_from(rest),
+        Some(Verb::Frame) => frame_from(rest),
+        None => Err(FaultKind::Word),
+    }
+}

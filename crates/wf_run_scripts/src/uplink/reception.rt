@@ -1,0 +1,229 @@
+//! The uplink of 256 stations, as a script sees it.
+
+ghost use Rattle.std.specs.Prelude.{◌≡◌, ◌≢◌, ◌+◌, ◌*◌, ◌^◌, ◌<◌, ◌≤◌, ◌∷◌, [], true, replicate, IfOk, OnOk, OnErr, Err};
+ghost use Rattle.std.specs.Io.KnownBytes.{append_known};
+ghost use Rattle.wf_io.specs.Faults.{HasRisen, CountsFaults};
+ghost use Rattle.wf_io.specs.Fronts.{HoldsFront};
+ghost use Rattle.wf_def_lists.specs.Bounds.{greatest_tick};
+ghost use Rattle.wf_uplink.specs.Shown.{totals_of};
+ghost use Rattle.wf_uplink.specs.World.{Open, SetRate, Receive, Tick, Expire, tids_of_station, after_call, after_calls};
+ghost use Rattle.wf_run_scripts.specs.UplinkAnswers.{stations, first, calls_text, totals_line};
+ghost use Rattle.wf_run_scripts.specs.UplinkRoom.{can_count, lacks_room};
+
+use crate::uplink::answers::{print_fault, print_now, print_opened, print_set, print_totals};
+use crate::uplink::told::write_up;
+use std::alloc::{AllocError, Global};
+use std::marker::Model;
+use wf_air::time::Rate;
+use wf_io::{Failed, Line, Sink};
+use wf_trace::script::{Unanswered, write_line};
+use wf_uplink::{LARGE, Up, Uplink};
+
+/// How many stations there may be.
+const STATIONS: u32 = 256;
+
+/// As many holes as can be due at once: one of each traffic identifier of each station.
+const MOST_DUE: u32 = 8 * STATIONS;
+
+/// What stations send to the access point, and the clock.
+#[derive(Drop)]
+pub struct Reception {
+    uplink: Uplink,
+    clock: u64,
+    up: Up,
+}
+
+impl Model for Reception {
+    ghost use Rattle.std.specs.Prelude.{◌≡◌};
+    ghost use Rattle.wf_uplink.specs.World.{World};
+
+    ghost Value = { World };
+
+    ghost view = { λ r. r.uplink };
+
+    ghost invariant = { λ r. r.clock ≡ r.uplink.clock };
+}
+
+impl Reception {
+    /// No station is opened, and the clock is at 0.
+    pub fn new(alloc: Global) -> Result<Reception, AllocError>
+        ensures { IfOk result (λ r. r ≡ first) }
+    {
+        let uplink = Uplink::new(alloc, STATIONS)?;
+        Ok(Reception {
+            uplink,
+            clock: 0,
+            up: Up::new(),
+        })
+    }
+
+    // Whether one frame more, or one hole, can be counted.
+    fn has_room(&self) -> bool
+        ensures exactly { result ≡ can_count self.now }
+        ensures small { result ≡ true → (self.now.frames < 2 ^ 62) × (self.now.missing < 2 ^ 62) }
+    {
+        let totals = self.uplink.totals();
+        totals.frames < LARGE && totals.missing < LARGE
+    }
+
+    // The clock goes on by so many microseconds, at most 10,000,000, and is told. Fails where it would come
+    // to 2^62.
+    fn pass(&mut self, by: u32) -> Result<u64, Unanswered>
+        requires { by ≤ greatest_tick }
+        ensures now { IfOk result (λ now. now ≡ self.old.clock + by) }
+        ensures after { OnOk result (self.new ≡ after_call (Tick by) self.old) }
+        ensures fails { OnErr result (2 ^ 62 ≤ self.old.clock + by) }
+        ensures memory { OnErr result (result ≡ Err Unanswered.Memory) }
+    {
+        if self.clock >= LARGE - u64::from(by) {
+            return Err(Unanswered::Memory);
+        }
+        self.uplink.tick(by);
+        self.clock += u64::from(by);
+        Ok(self.clock)
+    }
+
+    /// A station is opened, and whether it was is written.
+    #[tactic(auto, using(crate::proofs::UplinkCalls::text_single, crate::proofs::UplinkCalls::after_single))]
+    pub fn open<K: Sink>(
+        &mut self,
+        station: u16,
+        window: u16,
+        start: u16,
+        sink: &mut K,
+    ) -> Result<(), Unanswered>
+        ensures written { OnOk result
+            (K.held sink.new ≡ append_known (K.held sink.old)
+            (calls_text self.old (Open station window start ∷ []))) }
+        ensures after { OnOk result (self.new ≡ after_calls self.old (Open station window start ∷ [])) }
+        ensures front { OnErr result
+            (HoldsFront (K.held sink.old) (K.held sink.new)
+            (calls_text self.old (Open station window start ∷ []))) }
+        ensures memory { result ≢ Err Unanswered.Memory }
+        ensures counted { K.faults sink.old ≤ K.faults sink.new }
+        ensures cause { result ≡ Err Unanswered.Sink → HasRisen (K.faults sink.old) (K.faults sink.new) }
+        ensures quiet { result ≢ Err Unanswered.Sink → K.faults sink.new ≡ K.faults sink.old }
+    {
+        let mut line = Line::new();
+        print_opened(self.uplink.open(station, window, start), &mut line);
+        write_line(sink, &line)
+    }
+
+    /// The rate of a station is set, and whether it was is written.
+    #[tactic(auto, using(crate::proofs::UplinkCalls::text_single, crate::proofs::UplinkCalls::after_single))]
+    pub fn set_rate<K: Sink>(
+        &mut self,
+        station: u16,
+        rate: Rate,
+        sink: &mut K,
+    ) -> Result<(), Unanswered>
+        ensures written { OnOk result
+            (K.held sink.new ≡ append_known (K.held sink.old)
+            (calls_text self.old (SetRate station rate ∷ []))) }
+        ensures after { OnOk result (self.new ≡ after_calls self.old (SetRate station rate ∷ [])) }
+        ensures front { OnErr result
+            (HoldsFront (K.held sink.old) (K.held sink.new)
+            (calls_text self.old (SetRate station rate ∷ []))) }
+        ensures memory { result ≢ Err Unanswered.Memory }
+        ensures counted { K.faults sink.old ≤ K.faults sink.new }
+        ensures cause { result ≡ Err Unanswered.Sink → HasRisen (K.faults sink.old) (K.faults sink.new) }
+        ensures quiet { result ≢ Err Unanswered.Sink → K.faults sink.new ≡ K.faults sink.old }
+    {
+        let mut line = Line::new();
+        print_set(self.uplink.set_rate(station, rate), &mut line);
+        write_line(sink, &line)
+    }
+
+    /// Octets come in, and what goes up of them, or why they are refused, is written.
+    #[tactic(auto, using(crate::proofs::UplinkCalls::text_single, crate::proofs::UplinkCalls::after_single))]
+    pub fn receive<K: Sink>(&mut self, octets: &[u8], sink: &mut K) -> Result<(), Unanswered>
+        ensures written { OnOk result
+            (K.held sink.new ≡ append_known (K.held sink.old)
+            (calls_text self.old (Receive octets.now ∷ []))) }
+        ensures after { OnOk result (self.new ≡ after_calls self.old (Receive octets.now ∷ [])) }
+        ensures front { OnErr result
+            (HoldsFront (K.held sink.old) (K.held sink.new) (calls_text self.old (Receive octets.now ∷ []))) }
+        ensures memory { result ≡ Err Unanswered.Memory →
+            lacks_room self.old (Receive octets.now ∷ []) ≡ true }
+        ensures counted { K.faults sink.old ≤ K.faults sink.new }
+        ensures cause { result ≡ Err Unanswered.Sink → HasRisen (K.faults sink.old) (K.faults sink.new) }
+        ensures quiet { result ≢ Err Unanswered.Sink → K.faults sink.new ≡ K.faults sink.old }
+    {
+        if !self.has_room() {
+            return Err(Unanswered::Memory);
+        }
+        match self.uplink.receive(octets, &mut self.up) {
+            Ok(()) => write_up(&self.up, true, sink),
+            Err(fault) => {
+                let mut line = Line::new();
+                print_fault(fault, &mut line);
+                write_line(sink, &line)
+            }
+        }
+    }
+
+    // Each hole that is due is given up, one after another, and what goes up is written.
+    fn give_up<K: Sink>(&mut self, sink: &mut K) -> Result<(), Unanswered>
+        ensures written { OnOk result
+            (K.held sink.new ≡ append_known (K.held sink.old)
+            (calls_text self.old (replicate (tids_of_station * stations) Expire))) }
+        ensures after { OnOk result
+            (self.new ≡ after_calls self.old (replicate (tids_of_station * stations) Expire)) }
+        ensures front { OnErr result
+            (HoldsFront (K.held sink.old) (K.held sink.new)
+            (calls_text self.old (replicate (tids_of_station * stations) Expire))) }
+        ensures memory { result ≡ Err Unanswered.Memory →
+            lacks_room self.old (replicate (tids_of_station * stations) Expire) ≡ true }
+        ensures counted { K.faults sink.old ≤ K.faults sink.new }
+        ensures cause { result ≡ Err Unanswered.Sink → HasRisen (K.faults sink.old) (K.faults sink.new) }
+        ensures quiet { result ≢ Err Unanswered.Sink → K.faults sink.new ≡ K.faults sink.old }
+    {
+        for _ in 0..MOST_DUE {
+            if !self.has_room() {
+                return Err(Unanswered::Memory);
+            }
+            if !self.uplink.expired(&mut self.up) {
+                return Ok(());
+            }
+            write_up(&self.up, false, sink)?;
+        }
+        Ok(())
+    }
+
+    /// So many microseconds pass, at most 10,000,000: the clock is written, and then what goes up of each
+    /// hole that is due.
+    pub fn tick<K: Sink>(&mut self, by: u32, sink: &mut K) -> Result<(), Unanswered>
+        requires { by ≤ greatest_tick }
+        ensures written { OnOk result
+            (K.held sink.new ≡ append_known (K.held sink.old)
+            (calls_text self.old (Tick by ∷ replicate (tids_of_station * stations) Expire))) }
+        ensures after { OnOk result
+            (self.new ≡ after_calls self.old (Tick by ∷ replicate (tids_of_station * stations) Expire)) }
+        ensures front { OnErr result
+            (HoldsFront (K.held sink.old) (K.held sink.new)
+            (calls_text self.old (Tick by ∷ replicate (tids_of_station * stations) Expire))) }
+        ensures memory { result ≡ Err Unanswered.Memory →
+            lacks_room self.old (Tick by ∷ replicate (tids_of_station * stations) Expire) ≡ true }
+        ensures counted { K.faults sink.old ≤ K.faults sink.new }
+        ensures cause { result ≡ Err Unanswered.Sink → HasRisen (K.faults sink.old) (K.faults sink.new) }
+        ensures quiet { result ≢ Err Unanswered.Sink → K.faults sink.new ≡ K.faults sink.old }
+    {
+        let now = self.pass(by)?;
+        let mut line = Line::new();
+        print_now(now, &mut line);
+        write_line(sink, &line)?;
+        self.give_up(sink)
+    }
+
+    /// How many frames there were, and what became of them, is written.
+    pub fn tell<K: Sink>(&self, sink: &mut K) -> Result<(), Failed>
+        ensures written { OnOk result
+            (K.held sink.new ≡ append_known (K.held sink.old) (totals_line (totals_of self.now))) }
+        ensures front { HoldsFront (K.held sink.old) (K.held sink.new) (totals_line (totals_of self.now)) }
+        ensures cause { CountsFaults (K.faults sink.old) (K.faults sink.new) result }
+    {
+        let mut line = Line::new();
+        print_totals(self.uplink.totals(), &mut line);
+        wf_io::write_line(sink, &line)
+    }
+}

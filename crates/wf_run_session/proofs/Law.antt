@@ -1,8 +1,0 @@
--- The law of agreements holds over every list of events, so over those of a script.
-use Rattle.std.proofs.Common.{ℕ, List, true, take}
-use Rattle.wf_session.proofs.Agreements.{agreements}
-use Rattle.wf_run_session.specs.Lines.{reading}
-use Rattle.wf_run_session.specs.Outcome.{SessionLaw}
-
-pub session_law : (input : List ℕ) → SessionLaw input
-session_law input n = agreements 0 64 (take n (reading true input).events)

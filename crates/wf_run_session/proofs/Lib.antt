@@ -1,3 +1,0 @@
--- Octets that are read as an action, and the law.
-mod Wires
-pub mod Law

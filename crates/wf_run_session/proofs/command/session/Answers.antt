@@ -1,5 +1,0 @@
-use Rattle.wf_run_session.proofs.Law.{session_law}
-use Rattle.wf_run_session.proofs.command.session.Goals as goal
-
-pub returns-clause-law : goal.returns-clause-law
-returns-clause-law g c = λ input told. session_law input

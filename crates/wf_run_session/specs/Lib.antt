@@ -1,5 +1,0 @@
-pub mod Lines
-pub mod Answers
-pub mod Wires
-pub mod Laws
-pub mod Outcome
