@@ -6,7 +6,7 @@ import tempfile
 import unittest
 
 TOP = pathlib.Path(__file__).resolve().parent.parent.parent
-TEXTS = pathlib.Path("crates/wf_help/src/texts.rt")
+TEXTS = pathlib.Path("crates/wf_run/src/help/texts.rt")
 # A tool of Python that prints the words which it is given.
 TOLD = "import sys\nprint('install', *[word.rpartition('/')[2] for word in sys.argv[1:]])\n"
 PROGRAM = "#!/bin/sh\necho program \"$@\"\n"

@@ -7,8 +7,8 @@ use std::env;
 use std::io::ErrorKind;
 use std::process::ExitCode;
 use wf_gate::Free;
-use wf_help::{NotedSink, NotedSource, advice, command_from, explain, usage};
 use wf_io::{Line, Source, StdSink, StdSource, write_line};
+use wf_run::help::{NotedSink, NotedSource, advice, command_from, explain, usage};
 use wf_run::{Status, run};
 
 // The words after the program's name. One that is not UTF-8 is no word of a command.

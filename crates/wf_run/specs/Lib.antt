@@ -1,1 +1,5 @@
 pub mod Outcome
+pub mod Commands
+pub mod Slips
+pub mod Telling
+pub mod Topics

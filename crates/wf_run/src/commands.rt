@@ -2,10 +2,10 @@
 
 ghost use Rattle.std.specs.Prelude.{◌≡◌, ◌≤◌, ◌↔◌, ℕ, Some, None, map, string_bytes};
 ghost use Rattle.wf_trace.specs.CommandEnds.{CommandEnds, CommandWrites, TellsFault};
-ghost use Rattle.wf_help.specs.Commands.{command_of};
-ghost use Rattle.wf_help.specs.Telling.{TellingStatusSays};
-ghost use Rattle.wf_help.specs.Topics.{help_text, version_text};
-ghost use Rattle.wf_help.specs.declared.topic.Topic.{Topic};
+ghost use Rattle.wf_run.specs.Commands.{command_of};
+ghost use Rattle.wf_run.specs.Telling.{TellingStatusSays};
+ghost use Rattle.wf_run.specs.Topics.{help_text, version_text};
+ghost use Rattle.wf_run.specs.declared.help.topic.Topic.{Topic};
 ghost use Rattle.wf_law_trace.specs.Endings.{TraceAnswered};
 ghost use Rattle.wf_run_replay.specs.Outcome.{StatusSays};
 ghost use Rattle.wf_run_replay.specs.CaptureOutcome.{CaptureOutcome};
@@ -15,12 +15,12 @@ ghost use Rattle.wf_captures.specs.ListingOutcome.{FramesOutcome, FramesAnswered
 ghost use Rattle.wf_run_live.specs.Lives.{LiveStatusSays};
 ghost use Rattle.wf_run.specs.Outcome.{SoakStatusSays, ProgramLaws};
 
+use crate::help::{Command, command_from, help, version};
 use std::alloc::Global;
 use std::sync::Wait;
 use std::thread::Threads;
 use wf_captures::listing::frames;
 use wf_gate::Turnstile;
-use wf_help::{Command, command_from, help, version};
 use wf_io::{Sink, Source, Status};
 use wf_report::summary;
 use wf_run_live::lived;

@@ -1,5 +1,0 @@
-use Rattle.std.proofs.Common.{length}
-use Rattle.wf_help.proofs.words.+any_asks_help.Given as goal
-
-abbrev pub decreases-any_asks_help : goal.decreases-any_asks_help
-decreases-any_asks_help l = length l.words.now

@@ -1,5 +1,0 @@
-use Rattle.std.proofs.Common.{length}
-use Rattle.wf_help.proofs.words.+topic_among.Given as goal
-
-abbrev pub decreases-topic_among : goal.decreases-topic_among
-decreases-topic_among l = length l.words.now

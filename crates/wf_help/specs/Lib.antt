@@ -1,4 +1,0 @@
-pub mod Commands
-pub mod Slips
-pub mod Telling
-pub mod Topics

@@ -1,0 +1,139 @@
+//! What is said of words that are no command.
+
+ghost use Rattle.std.specs.Prelude.{◌≡◌};
+ghost use Rattle.wf_run.specs.Slips.{is_slip_of, is_swap_of};
+
+use crate::help::Topic;
+use crate::help::texts::USAGE;
+
+// Whether two words differ by two neighbours that changed places, at their front.
+fn is_swap_of(word: &[u8], known: &[u8]) -> bool
+    ensures { result ≡ is_swap_of word.now known.now }
+{
+    match (word, known) {
+        ([one, two, rest @ ..], [first, second, others @ ..]) => {
+            one == second && two == first && rest == others
+        }
+        _ => false,
+    }
+}
+
+// Whether a word is a known one but for one slip: an octet too many, one left out, one for another, or two
+// neighbours that changed places.
+fn is_slip_of(word: &[u8], known: &[u8]) -> bool
+    ensures { result ≡ is_slip_of word.now known.now }
+{
+    match (word, known) {
+        ([], _) => known.len() <= 1,
+        ([_, rest @ ..], []) => rest.is_empty(),
+        ([one, rest @ ..], [first, others @ ..]) => {
+            if one == first {
+                is_slip_of(rest, others)
+            } else {
+                rest == known || word == others || rest == others || is_swap_of(word, known)
+            }
+        }
+    }
+}
+
+// A letter as a small one.
+fn small(octet: u8) -> u8 {
+    if b'A' <= octet && octet <= b'Z' {
+        octet + 32
+    } else {
+        octet
+    }
+}
+
+// Whether a word is a known one but for capital letters.
+fn is_in_capitals(word: &[u8], known: &[u8]) -> bool {
+    for (i, octet) in word.iter().enumerate() {
+        match known.get(i) {
+            Some(other) if *other == small(*octet) => {}
+            _ => return false,
+        }
+    }
+    word.len() == known.len()
+}
+
+/// Whether a word is a known one but for one slip, or for capital letters.
+pub fn is_near(word: &[u8], known: &[u8]) -> bool {
+    is_slip_of(word, known) || is_in_capitals(word, known)
+}
+
+const WORDS: [Topic; 7] = [
+    Topic::Replay,
+    Topic::Soak,
+    Topic::Live,
+    Topic::Session,
+    Topic::Uplink,
+    Topic::Frames,
+    Topic::Overview,
+];
+
+// The first command that a word is but for one slip.
+fn meant(word: &[u8]) -> Option<Topic> {
+    WORDS
+        .iter()
+        .copied()
+        .find(|topic| is_slip_of(word, topic.word()))
+}
+
+// What is said of a slip.
+fn question(topic: Topic) -> &'static str {
+    match topic {
+        Topic::Overview => "wf: no such command; did you mean help?\n",
+        Topic::Replay => "wf: no such command; did you mean replay?\n",
+        Topic::Soak => "wf: no such command; did you mean soak?\n",
+        Topic::Live => "wf: no such command; did you mean live?\n",
+        Topic::Session => "wf: no such command; did you mean session?\n",
+        Topic::Uplink => "wf: no such command; did you mean uplink?\n",
+        Topic::Frames => "wf: no such command; did you mean frames?\n",
+        Topic::Faults => "wf: no such command; did you mean help faults?\n",
+    }
+}
+
+// What is said where a command has other words behind it than its own.
+fn correction(topic: Topic) -> &'static str {
+    match topic {
+        Topic::Overview => {
+            "wf: there is help on replay, frames, session, uplink, soak, live and faults\n"
+        }
+        Topic::Replay => {
+            "wf: replay takes no name of a file, and --pcap as its one option: wf replay < FILE\n"
+        }
+        Topic::Soak => "wf: soak takes SEED, 0..18446744073709551615, and CALLS, 1..1000000\n",
+        Topic::Live => {
+            "wf: live takes SEED, 0..18446744073709551615, SENDERS, 1..8, and FRAMES, 1..10000\n"
+        }
+        Topic::Session => "wf: session takes no name of a file: wf session < FILE\n",
+        Topic::Uplink => "wf: uplink takes no name of a file: wf uplink < FILE\n",
+        Topic::Frames => "wf: frames takes no name of a file: wf frames < FILE\n",
+        Topic::Faults => "wf: no such command; did you mean help faults?\n",
+    }
+}
+
+// What is said of the first word.
+fn said_of(word: &[u8]) -> &'static str {
+    if word == b"help".as_slice() {
+        return correction(Topic::Overview);
+    }
+    match (Topic::named(word), meant(word)) {
+        (Some(topic), _) => correction(topic),
+        (None, Some(topic)) => question(topic),
+        (None, None) => "wf: no such command\n",
+    }
+}
+
+/// What is said of words that are no command, before the usage: a line, or nothing where there are no words.
+pub fn advice(words: &[String]) -> &'static str {
+    match words {
+        [] => "",
+        [word, ..] => said_of(word.as_bytes()),
+    }
+}
+
+/// The ways to call the program, a line each.
+pub fn usage() -> &'static str {
+    USAGE
+}

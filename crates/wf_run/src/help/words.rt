@@ -1,0 +1,236 @@
+//! The commands, by the words of the command line.
+
+ghost use Rattle.std.specs.Prelude.{◌≡◌, ◌≤◌, IfSome, map, string_bytes};
+ghost use Rattle.std.specs.List.{list_any};
+ghost use Rattle.wf_run.specs.Commands.{number_within, soak_of, live_of, asks_help, topic_among, help_on, word_command, two_words_command, soak_command, live_command, played_command_of, command_of, HasCallsInRange};
+
+use crate::help::Topic;
+use wf_io::value_of;
+use wf_trace::is_plain_number;
+
+/// What the words of the command line ask for.
+#[derive(Clone, Copy)]
+pub enum Command {
+    /// Replay the trace on standard input.
+    Replay,
+    /// Replay the trace on standard input as a capture file.
+    Capture,
+    /// Play the soak of this seed, and of so many calls: 1 to 1,000,000.
+    Soak {
+        seed: u64,
+        calls: u32,
+    },
+    /// Run so many senders on threads, 1 to 8, each with so many frames: 1 to 10,000; and four drivers.
+    Live {
+        seed: u64,
+        senders: u32,
+        frames: u32,
+    },
+    /// Play the script on standard input on two ends of an agreement.
+    Session,
+    /// Play the script on standard input on the uplink of 256 stations.
+    Uplink,
+    /// List the packets of the capture file on standard input.
+    Frames,
+    /// Tell of a command, or of all.
+    Help(Topic),
+    /// Tell the version.
+    Version,
+}
+
+/// The number that a word is, where it lies between two.
+#[tactic(auto, unfolding(crate::specs::Commands::number_within))]
+fn number_within(low: u64, high: u64, word: &[u8]) -> Option<u64>
+    ensures value { result ≡ number_within low high word.now }
+    ensures within { IfSome result (λ n. (low ≤ n) × (n ≤ high)) }
+{
+    if !is_plain_number(word) {
+        return None;
+    }
+    match value_of(word) {
+        None => None,
+        Some(value) => {
+            if low <= value && value <= high {
+                Some(value)
+            } else {
+                None
+            }
+        }
+    }
+}
+
+#[tactic(auto, unfolding(crate::specs::Commands::soak_of))]
+fn soak_of(seed: Option<u64>, calls: Option<u64>) -> Option<Command>
+    requires { IfSome calls (λ n. (1 ≤ n) × (n ≤ 1000000)) }
+    ensures command { result ≡ soak_of seed calls }
+    ensures calls { IfSome result HasCallsInRange }
+{
+    match (seed, calls) {
+        (Some(seed), Some(calls)) => Some(Command::Soak {
+            seed,
+            calls: calls as u32,
+        }),
+        _ => None,
+    }
+}
+
+#[tactic(auto, unfolding(crate::specs::Commands::live_of))]
+fn live_of(seed: Option<u64>, senders: Option<u64>, frames: Option<u64>) -> Option<Command>
+    requires senders { IfSome senders (λ n. (1 ≤ n) × (n ≤ 8)) }
+    requires frames { IfSome frames (λ n. (1 ≤ n) × (n ≤ 10000)) }
+    ensures command { result ≡ live_of seed senders frames }
+    ensures calls { IfSome result HasCallsInRange }
+{
+    match (seed, senders, frames) {
+        (Some(seed), Some(senders), Some(frames)) => Some(Command::Live {
+            seed,
+            senders: senders as u32,
+            frames: frames as u32,
+        }),
+        _ => None,
+    }
+}
+
+// Whether a word asks for help wherever it stands.
+fn asks_help(word: &[u8]) -> bool
+    ensures { result ≡ asks_help word.now }
+{
+    word == b"--help".as_slice() || word == b"-h".as_slice()
+}
+
+// Whether one of the words does.
+fn any_asks_help(words: &[String]) -> bool
+    ensures { result ≡ list_any asks_help (map string_bytes words.now) }
+{
+    match words {
+        [] => false,
+        [word, rest @ ..] => asks_help(word.as_bytes()) || any_asks_help(rest),
+    }
+}
+
+// The command of which words that ask for help want to know: the first that one of them names, or all.
+fn topic_among(words: &[String]) -> Topic
+    ensures { result ≡ topic_among (map string_bytes words.now) }
+{
+    match words {
+        [] => Topic::Overview,
+        [word, rest @ ..] => match Topic::named(word.as_bytes()) {
+            Some(topic) => topic,
+            None => topic_among(rest),
+        },
+    }
+}
+
+// The help on the command that a word names.
+#[tactic(auto, unfolding(crate::specs::Commands::help_on))]
+fn help_on(word: &[u8]) -> Option<Command>
+    ensures command { result ≡ help_on word.now }
+    ensures calls { IfSome result HasCallsInRange }
+{
+    match Topic::named(word) {
+        Some(topic) => Some(Command::Help(topic)),
+        None => None,
+    }
+}
+
+/// The command that the words are, if they are one.
+pub fn command_from(words: &[String]) -> Option<Command>
+    ensures command { result ≡ command_of (map string_bytes words.now) }
+    ensures calls { IfSome result HasCallsInRange }
+{
+    if any_asks_help(words) {
+        Some(Command::Help(topic_among(words)))
+    } else {
+        played_command_from(words)
+    }
+}
+
+// The same, where no word asks for help wherever it stands.
+fn played_command_from(words: &[String]) -> Option<Command>
+    ensures command { result ≡ played_command_of (map string_bytes words.now) }
+    ensures calls { IfSome result HasCallsInRange }
+{
+    match words {
+        [word] => word_command(word.as_bytes()),
+        [word, option] => two_words_command(word.as_bytes(), option.as_bytes()),
+        [word, seed, calls] => soak_command(word.as_bytes(), seed.as_bytes(), calls.as_bytes()),
+        [word, seed, senders, frames] => live_command(
+            word.as_bytes(),
+            seed.as_bytes(),
+            senders.as_bytes(),
+            frames.as_bytes(),
+        ),
+        _ => None,
+    }
+}
+
+// A command of one word.
+#[tactic(auto, unfolding(crate::specs::Commands::word_command))]
+fn word_command(word: &[u8]) -> Option<Command>
+    ensures command { result ≡ word_command word.now }
+    ensures calls { IfSome result HasCallsInRange }
+{
+    if word == b"replay".as_slice() {
+        Some(Command::Replay)
+    } else if word == b"session".as_slice() {
+        Some(Command::Session)
+    } else if word == b"uplink".as_slice() {
+        Some(Command::Uplink)
+    } else if word == b"frames".as_slice() {
+        Some(Command::Frames)
+    } else if word == b"help".as_slice() {
+        Some(Command::Help(Topic::Overview))
+    } else if word == b"--version".as_slice() {
+        Some(Command::Version)
+    } else {
+        None
+    }
+}
+
+// A command of two words.
+#[tactic(auto, unfolding(crate::specs::Commands::two_words_command))]
+fn two_words_command(word: &[u8], option: &[u8]) -> Option<Command>
+    ensures command { result ≡ two_words_command word.now option.now }
+    ensures calls { IfSome result HasCallsInRange }
+{
+    if word == b"replay".as_slice() && option == b"--pcap".as_slice() {
+        Some(Command::Capture)
+    } else if word == b"help".as_slice() {
+        help_on(option)
+    } else {
+        None
+    }
+}
+
+// A command of three words.
+#[tactic(auto, unfolding(crate::specs::Commands::soak_command))]
+fn soak_command(word: &[u8], seed: &[u8], calls: &[u8]) -> Option<Command>
+    ensures command { result ≡ soak_command word.now seed.now calls.now }
+    ensures calls { IfSome result HasCallsInRange }
+{
+    if word == b"soak".as_slice() {
+        soak_of(
+            number_within(0, u64::MAX, seed),
+            number_within(1, 1_000_000, calls),
+        )
+    } else {
+        None
+    }
+}
+
+// A command of four words.
+#[tactic(auto, unfolding(crate::specs::Commands::live_command))]
+fn live_command(word: &[u8], seed: &[u8], senders: &[u8], frames: &[u8]) -> Option<Command>
+    ensures command { result ≡ live_command word.now seed.now senders.now frames.now }
+    ensures calls { IfSome result HasCallsInRange }
+{
+    if word == b"live".as_slice() {
+        live_of(
+            number_within(0, u64::MAX, seed),
+            number_within(1, 8, senders),
+            number_within(1, 10_000, frames),
+        )
+    } else {
+        None
+    }
+}
