@@ -1,2 +1,12 @@
 pub mod Replies
 pub mod Parts
+pub mod Frames
+pub mod ListedPackets
+pub mod ListingLines
+pub mod ListingReading
+pub mod ListingOutcome
+pub mod ListingLaw
+pub mod BlockAcks
+pub mod Packets
+pub mod Captures
+pub mod Samples

@@ -4,7 +4,7 @@ use Rattle.std.specs.Prelude.{Option}
 use Rattle.wf_law_trace.proofs.Ranges.{trace_laws}
 use Rattle.wf_run_scripts.proofs.SessionLaw.{session_law}
 use Rattle.wf_run_scripts.proofs.UplinkScripts.{uplink_law}
-use Rattle.wf_captures.proofs.Captures.{frames_law}
+use Rattle.wf_report.proofs.WrittenCaptures.{frames_law}
 use Rattle.wf_run_replay.proofs.CaptureLaw.{capture_law}
 use Rattle.wf_run.specs.Outcome.{ProgramLaws}
 use Rattle.wf_run.proofs.SoakText.{soak_laws, soak_lengths}

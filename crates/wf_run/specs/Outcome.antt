@@ -15,7 +15,7 @@ use Rattle.wf_run_replay.specs.Texts.{text}
 use Rattle.wf_run_replay.specs.CaptureOutcome.{CaptureLaw}
 use Rattle.wf_run_scripts.specs.SessionOutcome.{SessionLaw}
 use Rattle.wf_run_scripts.specs.UplinkOutcome.{UplinkLaw}
-use Rattle.wf_captures.specs.ListingLaw.{FramesLaw}
+use Rattle.wf_report.specs.ListingLaw.{FramesLaw}
 use Rattle.wf_run_soak.specs.Soak.{soak_history}
 use Rattle.wf_run_live.specs.Lives.{IsLiveHistory, TellsOf}
 

@@ -2,11 +2,11 @@
 use Rattle.std.proofs.Common.{◌≡◌, ℕ, ◌≤◌, List, [], length, Option, Some, None, true, refl, sym, subst}
 use Rattle.wf_frame.specs.declared.settings.Config.{Config}
 use Rattle.wf_trace.specs.Reading.{reading}
-use Rattle.wf_captures.specs.ListedPackets.{most_octets_read}
-use Rattle.wf_captures.specs.ListingLaw.{IsListed, capture_of_packets}
-use Rattle.wf_captures.proofs.Captures.{written_law}
-use Rattle.wf_captures.specs.Captures.{most_calls_timed}
-use Rattle.wf_captures.proofs.Listed.{run_listed}
+use Rattle.wf_report.specs.ListedPackets.{most_octets_read}
+use Rattle.wf_report.specs.ListingLaw.{IsListed, capture_of_packets}
+use Rattle.wf_report.proofs.WrittenCaptures.{written_law}
+use Rattle.wf_report.specs.Captures.{most_calls_timed}
+use Rattle.wf_report.proofs.Listed.{run_listed}
 use Rattle.wf_law_trace.specs.Histories.{settings_among, history_among}
 use Rattle.wf_law_trace.proofs.Ranges.{reading_in, trace_laws}
 use Rattle.wf_run_replay.specs.Captured.{packets_with}

@@ -4,8 +4,8 @@ use Rattle.std.specs.Prelude.{Option, Some, None, Ok, IfSome, IsSomeAnd, option_
 use Rattle.std.proofs.lemmas.List.{length-append}
 use Rattle.wf_cell.specs.Cells.{room_in, with_entry}
 use Rattle.wf_frame.specs.declared.settings.Config.{Config}
-use Rattle.wf_captures.specs.Samples.{IsSample}
-use Rattle.wf_captures.proofs.Sampled.{is_sample, length_sample}
+use Rattle.wf_report.specs.Samples.{IsSample}
+use Rattle.wf_report.proofs.Sampled.{is_sample, length_sample}
 use Rattle.wf_frame.specs.Frames.{FrameValue, new_frame, sample_body}
 use Rattle.wf_frame.specs.declared.notes.Note.{Note}
 use Rattle.wf_frame.specs.declared.notes.Note.TheVariants.{Enqueue}

@@ -8,10 +8,10 @@ use Rattle.wf_io.specs.Capture.{file_head_octets}
 use Rattle.wf_def_world.specs.World.{World, opening}
 use Rattle.wf_def_world.specs.Run.{Entry}
 use Rattle.wf_def_world.specs.Step.{step}
-use Rattle.wf_captures.specs.ListingLaw.{capture_of_packets}
-use Rattle.wf_captures.specs.Captures.{packets_by, packets_of, packets_from}
-use Rattle.wf_captures.specs.Packets.{octets_of_packets}
-use Rattle.wf_captures.proofs.Entries.{octets_of-append}
+use Rattle.wf_report.specs.ListingLaw.{capture_of_packets}
+use Rattle.wf_report.specs.Captures.{packets_by, packets_of, packets_from}
+use Rattle.wf_report.specs.Packets.{octets_of_packets}
+use Rattle.wf_report.proofs.Entries.{octets_of-append}
 use Rattle.wf_law_trace.specs.Histories.{settings_among, history_among}
 use Rattle.wf_law_trace.specs.Tellings.{told_calls, begun, told_so_far, told_whole}
 use Rattle.wf_law_trace.specs.Outcomes.{TraceOutcome}

@@ -2,11 +2,11 @@
 use Rattle.std.specs.Prelude.{◌≤◌, ℕ, List, length, true}
 use Rattle.wf_trace.specs.Reading.{reading}
 use Rattle.wf_io.specs.declared.status.Status.{Status}
-use Rattle.wf_captures.specs.ListedPackets.{most_octets_read}
-use Rattle.wf_captures.specs.ListingLaw.{IsListed}
+use Rattle.wf_report.specs.ListedPackets.{most_octets_read}
+use Rattle.wf_report.specs.ListingLaw.{IsListed}
 use Rattle.wf_law_trace.specs.Histories.{history_among}
 use Rattle.wf_law_trace.specs.Outcomes.{TraceOutcome}
-use Rattle.wf_captures.specs.Captures.{most_calls_timed}
+use Rattle.wf_report.specs.Captures.{most_calls_timed}
 use Rattle.wf_run_replay.specs.Captured.{packets_captured, captured}
 
 -- By the octets of the input, those of them that were taken, and those that were written: the capture of the

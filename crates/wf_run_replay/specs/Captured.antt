@@ -3,11 +3,11 @@ use Rattle.std.specs.Prelude.{ℕ, List, [], Option, Some, None}
 use Rattle.wf_frame.specs.declared.settings.Config.{Config}
 use Rattle.wf_trace.specs.Reading.{Reading}
 use Rattle.wf_io.specs.Capture.{file_head_octets}
-use Rattle.wf_captures.specs.ListingLaw.{Sent, capture_of_packets}
+use Rattle.wf_report.specs.ListingLaw.{Sent, capture_of_packets}
 use Rattle.wf_def_world.specs.Run.{Entry}
 use Rattle.wf_law_trace.specs.Histories.{settings_among, history_among}
 use Rattle.wf_law_trace.specs.Tellings.{Telling}
-use Rattle.wf_captures.specs.Captures.{packets_of, packets_in}
+use Rattle.wf_report.specs.Captures.{packets_of, packets_in}
 
 -- the packets of a history; without a head there are none
 abbrev pub packets_with : Option Config → List Entry → List Sent

@@ -1,7 +1,7 @@
 //! What a trace is played on.
 
 ghost use Rattle.std.specs.Prelude.{◌≡◌, ◌<◌, [], IfOk, OnOk};
-ghost use Rattle.wf_captures.specs.Samples.{IsSampled};
+ghost use Rattle.wf_report.specs.Samples.{IsSampled};
 ghost use Rattle.wf_cell.specs.Cells.{room_in, with_entry};
 ghost use Rattle.wf_frame.specs.Answers.{reply_of};
 ghost use Rattle.wf_frame.specs.Settings.{IsInRange};
@@ -52,7 +52,7 @@ pub struct Stage {
 }
 
 impl Model for Stage {
-    ghost use Rattle.wf_captures.specs.Samples.{IsSampled};
+    ghost use Rattle.wf_report.specs.Samples.{IsSampled};
     ghost use Rattle.wf_def_world.specs.Run.{Past};
 
     ghost Value = { Past };

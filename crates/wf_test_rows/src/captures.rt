@@ -5,8 +5,8 @@ use crate::alike::same;
 use crate::commands::{Command, Row, played, reads_fail, writes_fail};
 use crate::replays::ONE_FRAME;
 use std::test::Fail;
-use wf_captures::captured_run_is_listed;
 use wf_io::Status;
+use wf_report::captures::captured_run_is_listed;
 
 /// The headers of the file and of a packet are written apart, and 24 and 16 octets; the frame has 1526 octets
 /// in six pieces of 300, and its BlockAck 28.

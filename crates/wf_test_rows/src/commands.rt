@@ -4,8 +4,8 @@
 use crate::alike::same;
 use std::alloc::{AllocError, Global};
 use std::process::Abort;
-use wf_captures::listing::frames;
 use wf_io::{Given, Kept, Status};
+use wf_report::captures::listing::frames;
 use wf_run_replay::capture::capture;
 use wf_run_replay::replay;
 use wf_run_scripts::session::session;

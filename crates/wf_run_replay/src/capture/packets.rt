@@ -1,9 +1,9 @@
 //! What a capture tells of a trace.
 
 use crate::{Plays, Tells};
-use wf_captures::{write_head, write_packets};
 use wf_frame::Answer;
 use wf_io::{Failed, Sink};
+use wf_report::captures::{write_head, write_packets};
 use wf_trace::Fault;
 
 /// The file header and the packets of each call, which are written as they are told. Of the end of a trace a

@@ -1,5 +1,5 @@
 use Rattle.wf_frame.proofs.Ranges.{checked}
-use Rattle.wf_captures.proofs.Cells.{new_sampled}
+use Rattle.wf_report.proofs.Cells.{new_sampled}
 use Rattle.wf_run_replay.proofs.stage.cell_for.Goals as goal
 
 pub of-requires : goal.of-requires

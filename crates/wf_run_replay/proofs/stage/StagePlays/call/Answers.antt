@@ -1,6 +1,6 @@
 use Rattle.std.proofs.Common.{◌≡◌, IfSome, ◌∙◌, refl}
-use Rattle.wf_captures.specs.Samples.{IsSample}
-use Rattle.wf_captures.proofs.Cells.{then_sampled}
+use Rattle.wf_report.specs.Samples.{IsSample}
+use Rattle.wf_report.proofs.Cells.{then_sampled}
 use Rattle.wf_path.specs.Jobs.{frame_of, note_of}
 use Rattle.wf_run_replay.proofs.Cells.{some_is, call_named}
 use Rattle.wf_run_replay.proofs.stage.StagePlays.call.Goals as goal

@@ -1,5 +1,0 @@
-use Rattle.wf_captures.proofs.Listed.{run_listed}
-use Rattle.wf_captures.proofs.law.captured_run_is_listed.Goals as goal
-
-pub returns : goal.returns
-returns c = run_listed

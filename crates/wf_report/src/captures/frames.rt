@@ -1,0 +1,95 @@
+//! The octets of one frame on the air.
+
+ghost use Rattle.std.specs.Prelude.{◌≡◌, ◌<◌, ◌≤◌, [], ◌∷◌, Some, take, true, false};
+ghost use Rattle.wf_path.specs.Addresses.{made_up};
+ghost use Rattle.wf_path.specs.Transmissions.{octets_sent};
+ghost use Rattle.wf_report.specs.BlockAcks.{block_ack_frame};
+ghost use Rattle.wf_report.specs.Captures.{samples};
+ghost use Rattle.wf_report.specs.Samples.{IsSampled, HasTransmission, world_behind};
+
+use wf_cell::Cell;
+use wf_octets_frames::block::{Ba, WideBa, encode_ba, encode_wide};
+use wf_octets_frames::header::{base_address, station_address};
+use wf_octets_parts::bits::{Bits64, Bits256};
+use wf_octets_parts::fields::put;
+use wf_octets_parts::seq12::Seq12;
+use wf_path::Sent;
+
+/// The most octets of a frame: a header of 26 and a body of 2304.
+pub(crate) const LONGEST: usize = 2330;
+
+/// Where the bitmap of a BlockAck begins.
+const BITMAP: usize = 20;
+
+/// Writes a transmission of an open exchange, and gives how many octets it has.
+pub(crate) fn transmission(
+    cell: &Cell,
+    exchange: u64,
+    index: u16,
+    octets: &mut [u8; LONGEST],
+) -> usize
+    requires samples { IsSampled cell.now }
+    requires sending { HasTransmission (world_behind cell.now) exchange index }
+    ensures within { result ≤ 2330 }
+    ensures some { 0 < result }
+    ensures octets { octets_sent made_up (world_behind cell.now) (samples (world_behind cell.now)) exchange
+        index ≡ Some (take result octets.new) }
+{
+    match cell.path().mpdu(exchange, index, octets) {
+        Ok(len) => len,
+        Err(_) => unreachable!(),
+    }
+}
+
+/// What a BlockAck shows: its start, 0 to 4095, and the words of its bitmap, the lowest offsets in the first.
+/// One of 64 numbers has the first word alone.
+#[derive(Clone, Copy)]
+pub(crate) struct Shown {
+    pub(crate) start: u16,
+    pub(crate) b0: u64,
+    pub(crate) b1: u64,
+    pub(crate) b2: u64,
+    pub(crate) b3: u64,
+}
+
+/// The BlockAck of 64 numbers to what was sent.
+pub(crate) fn narrow_ack(sent: Sent, shown: Shown) -> [u8; 28]
+    requires { sent.tid < 8 }
+    ensures { result ≡ block_ack_frame sent.station sent.tid shown.start (shown.b0 ∷ []) false }
+{
+    let head = Ba {
+        ra: base_address(),
+        ta: station_address(sent.station),
+        duration: 0,
+        tid: sent.tid,
+        start: Seq12::of(u64::from(shown.start)),
+        bits: Bits64::empty(),
+    };
+    let mut octets = [0; 28];
+    encode_ba(&head, &mut octets);
+    put(&mut octets, BITMAP, &shown.b0.to_le_bytes());
+    octets
+}
+
+/// The BlockAck of 256 numbers to what was sent.
+pub(crate) fn wide_ack(sent: Sent, shown: Shown) -> [u8; 52]
+    requires { sent.tid < 8 }
+    ensures { result ≡ block_ack_frame sent.station sent.tid shown.start
+        (shown.b0 ∷ shown.b1 ∷ shown.b2 ∷ shown.b3 ∷ []) true }
+{
+    let head = WideBa {
+        ra: base_address(),
+        ta: station_address(sent.station),
+        duration: 0,
+        tid: sent.tid,
+        start: Seq12::of(u64::from(shown.start)),
+        bits: Bits256::empty(),
+    };
+    let mut octets = [0; 52];
+    encode_wide(&head, &mut octets);
+    put(&mut octets, BITMAP, &shown.b0.to_le_bytes());
+    put(&mut octets, BITMAP + 8, &shown.b1.to_le_bytes());
+    put(&mut octets, BITMAP + 16, &shown.b2.to_le_bytes());
+    put(&mut octets, BITMAP + 24, &shown.b3.to_le_bytes());
+    octets
+}

@@ -1,0 +1,33 @@
+//! What a capture asks of a cell.
+
+ghost use Rattle.std.specs.Prelude.{◌≡◌, ◌<◌, ℕ, Some, option_map, IfSome};
+ghost use Rattle.wf_cell.specs.Cells.{with_entry};
+ghost use Rattle.wf_frame.specs.declared.notes.Note.{Note as Call};
+ghost use Rattle.wf_path.specs.Transmissions.{sent_of};
+ghost use Rattle.wf_def_world.specs.Run.{Past, by};
+ghost use Rattle.wf_def_world.specs.World.{exchange as exchange_in};
+ghost use Rattle.wf_report.specs.Samples.{world_behind};
+
+use wf_cell::Cell;
+use wf_frame::Note;
+use wf_path::Sent;
+
+/// What an open exchange sends, and to whom.
+pub(crate) fn sent(cell: &Cell, exchange: u64) -> Option<Sent>
+    ensures told { result ≡ option_map sent_of (exchange_in (world_behind cell.now) exchange) }
+    ensures tid { IfSome result (λ sent. sent.tid < 8) }
+{
+    cell.path().sent(exchange)
+}
+
+/// The call that was made last.
+#[tactic(auto, using(crate::proofs::Cells::last_entry))]
+pub(crate) fn last_call(cell: &Cell) -> Option<Note>
+    ensures { (past : Past) (caller : ℕ) (note : Call) → cell.now.past ≡ with_entry (by caller note) past →
+        result ≡ Some note }
+{
+    match cell.last() {
+        Some((_, note)) => Some(note),
+        None => None,
+    }
+}

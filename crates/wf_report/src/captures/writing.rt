@@ -1,0 +1,125 @@
+//! What goes on the air with a call, as packets, by the cell behind it and its answer.
+
+ghost use Rattle.std.specs.Prelude.{◌≡◌, [], ◌∷◌, OnOk};
+ghost use Rattle.std.specs.Io.KnownBytes.{append_known};
+ghost use Rattle.wf_frame.specs.Answers.{reply_of};
+ghost use Rattle.wf_io.specs.Faults.{CountsFaults};
+ghost use Rattle.wf_io.specs.Fronts.{HoldsFront};
+ghost use Rattle.wf_def_world.specs.World.{exchange as exchange_in};
+ghost use Rattle.wf_report.specs.Captures.{samples};
+ghost use Rattle.wf_report.specs.Packets.{frames_sent, block_acks, exchange_answered, frames_by, packets_at, octets_of_packets};
+ghost use Rattle.wf_report.specs.Samples.{IsSampled, world_behind};
+
+use crate::captures::frames::{LONGEST, Shown, narrow_ack, transmission, wide_ack};
+use crate::captures::standing::sent;
+use wf_cell::Cell;
+use wf_frame::{Answer, Ask, Brief, Note};
+use wf_io::pcap::write_packet;
+use wf_io::{Failed, Sink};
+
+/// The exchange that a call asks its station to answer.
+fn exchange_answered(note: &Note) -> Option<u64>
+    ensures { result ≡ exchange_answered note.now }
+{
+    match note {
+        Note::Asked(Ask::Answer { exchange }) => Some(*exchange),
+        _ => None,
+    }
+}
+
+/// Writes a packet for each transmission of an exchange, in order; none where it is not open.
+fn write_sent<K: Sink>(cell: &Cell, exchange: u64, sink: &mut K) -> Result<(), Failed>
+    requires { IsSampled cell.now }
+    ensures written { OnOk result (K.held sink.new ≡ append_known (K.held sink.old)
+        (octets_of_packets (packets_at (world_behind cell.now).clock
+        (frames_sent (world_behind cell.now) (samples (world_behind cell.now)) exchange)))) }
+    ensures front { HoldsFront (K.held sink.old) (K.held sink.new)
+        (octets_of_packets (packets_at (world_behind cell.now).clock
+        (frames_sent (world_behind cell.now) (samples (world_behind cell.now)) exchange))) }
+    ensures cause { CountsFaults (K.faults sink.old) (K.faults sink.new) result }
+{
+    let Some(sent) = sent(cell, exchange) else {
+        return Ok(());
+    };
+    let at = cell.clock();
+    let mut octets = [0; LONGEST];
+    for index in 0..sent.count {
+        let len = transmission(cell, exchange, index, &mut octets);
+        write_packet(sink, at, &octets[..len])?;
+    }
+    Ok(())
+}
+
+/// Writes a packet for the BlockAck to an exchange, of 64 numbers or of 256 (`wide`); none where the exchange
+/// is not open.
+fn write_block_ack<K: Sink>(
+    cell: &Cell,
+    exchange: u64,
+    shown: Shown,
+    wide: bool,
+    sink: &mut K,
+) -> Result<(), Failed>
+    ensures written { OnOk result (K.held sink.new ≡ append_known (K.held sink.old)
+        (octets_of_packets (packets_at (world_behind cell.now).clock
+        (block_acks shown.start (shown.b0 ∷ shown.b1 ∷ shown.b2 ∷ shown.b3 ∷ []) wide
+        (exchange_in (world_behind cell.now) exchange))))) }
+    ensures front { HoldsFront (K.held sink.old) (K.held sink.new)
+        (octets_of_packets (packets_at (world_behind cell.now).clock
+        (block_acks shown.start (shown.b0 ∷ shown.b1 ∷ shown.b2 ∷ shown.b3 ∷ []) wide
+        (exchange_in (world_behind cell.now) exchange)))) }
+    ensures cause { CountsFaults (K.faults sink.old) (K.faults sink.new) result }
+{
+    let Some(sent) = sent(cell, exchange) else {
+        return Ok(());
+    };
+    let at = cell.clock();
+    if wide {
+        write_packet(sink, at, &wide_ack(sent, shown))
+    } else {
+        write_packet(sink, at, &narrow_ack(sent, shown))
+    }
+}
+
+/// Writes the packets of a call, by the cell behind it and its answer.
+pub(crate) fn write_frames<K: Sink>(
+    cell: &Cell,
+    note: &Note,
+    answer: &Answer,
+    sink: &mut K,
+) -> Result<(), Failed>
+    requires { IsSampled cell.now }
+    ensures written { OnOk result (K.held sink.new ≡ append_known (K.held sink.old)
+        (octets_of_packets (packets_at (world_behind cell.now).clock
+        (frames_by (world_behind cell.now) (samples (world_behind cell.now)) note.now
+        (reply_of answer.now))))) }
+    ensures front { HoldsFront (K.held sink.old) (K.held sink.new)
+        (octets_of_packets (packets_at (world_behind cell.now).clock
+        (frames_by (world_behind cell.now) (samples (world_behind cell.now)) note.now
+        (reply_of answer.now)))) }
+    ensures cause { CountsFaults (K.faults sink.old) (K.faults sink.new) result }
+{
+    match answer.brief {
+        Brief::Send { exchange, .. } => write_sent(cell, exchange, sink),
+        Brief::Ba {
+            start,
+            b0,
+            b1,
+            b2,
+            b3,
+            wide,
+        } => match exchange_answered(note) {
+            None => Ok(()),
+            Some(exchange) => {
+                let shown = Shown {
+                    start,
+                    b0,
+                    b1,
+                    b2,
+                    b3,
+                };
+                write_block_ack(cell, exchange, shown, wide, sink)
+            }
+        },
+        _ => Ok(()),
+    }
+}
