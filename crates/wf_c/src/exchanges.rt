@@ -4,7 +4,7 @@ ghost use Rattle.std.specs.Prelude.{◌≡◌, ◌≤◌, ◌⊎◌, ℕ, ◌%�
 ghost use Rattle.wf_frame.specs.Frames.{FrameValue};
 ghost use Rattle.wf_def_world.specs.Refusals.{is_bad_air};
 ghost use Rattle.wf_def_world.specs.World.{World, exchange as exchange_in};
-ghost use Rattle.wf_octets_parts.specs.Offsets.{offsets_in};
+ghost use Rattle.wf_octets.specs.Offsets.{offsets_in};
 ghost use Rattle.wf_send_half_refines.specs.Standing.{StandsFor};
 ghost use Rattle.std.specs.Result.{result_err};
 ghost use Rattle.wf_path.specs.Answers.{block_ack_in};
@@ -19,9 +19,9 @@ ghost use Rattle.wf_c.specs.Numbers.{named_air};
 use crate::held::Held;
 use crate::reply::Reply;
 use crate::slot::PathSlot;
-use wf_octets_frames::block::BlockFault;
-use wf_octets_parts::bits::Bits256;
-use wf_octets_parts::seq12::Seq12;
+use wf_octets::bits::Bits256;
+use wf_octets::block::BlockFault;
+use wf_octets::seq12::Seq12;
 use wf_path::{DoneFault, PathFault};
 
 /// No such exchange, and no such transmission.

@@ -21,7 +21,7 @@ use Rattle.wf_def_world.specs.Step.{Outcome, outcome_of, outcome_where_open, joi
 use Rattle.wf_law_runs.proofs.Deficits.KeptStep.{no_row}
 use Rattle.wf_send_parts.specs.declared.exchanges.marks.Mark.{Mark}
 use Rattle.wf_send_parts.specs.Marks.{new_mark}
-use Rattle.wf_octets_frames.specs.Addresses.{base}
+use Rattle.wf_octets.specs.Addresses.{base}
 use Rattle.wf_recv_peer.specs.Agreements.{PeerValue, new_peer}
 use Rattle.wf_send_half_refines.specs.Half.{TransmitValue}
 use Rattle.wf_send_half_refines.specs.Standing.{StandsFor, IsReached, Meets as PathMeets}

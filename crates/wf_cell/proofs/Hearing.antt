@@ -3,9 +3,9 @@ use Rattle.std.proofs.Common.{◌≡◌, refl, ap, sym, ◌∙◌, subst, ℕ, �
 use Rattle.std.specs.Prelude.{IsOk, OnOk, slice_index_or, slice_set, ◌%◌}
 use Rattle.std.proofs.lemmas.Bool.{cases_lt}
 use Rattle.std.specs.Result.{is_err}
-use Rattle.wf_octets_frames.specs.Addresses.{base, address_of_station}
-use Rattle.wf_octets_frames.specs.declared.header.header.Header.{Header}
-use Rattle.wf_octets_frames.specs.declared.block.frames.Bar.{Bar}
+use Rattle.wf_octets.specs.Addresses.{base, address_of_station}
+use Rattle.wf_octets.specs.declared.header.header.Header.{Header}
+use Rattle.wf_octets.specs.declared.block.frames.Bar.{Bar}
 use Rattle.wf_recv_peer.specs.declared.fault.PeerFault.{PeerFault}
 use Rattle.wf_def_lists.specs.Table.{at}
 use Rattle.wf_def_world.specs.World.{Content, Frames, Request}

@@ -12,12 +12,12 @@ use Rattle.wf_def_world.specs.World.{World, Exchange, Mpdu, Content, Frames, Req
 use Rattle.wf_def_world.specs.Exchanges.{mpdus_of, transmissions, no_mpdu, after_charge, charge_of}
 use Rattle.wf_law_runs.specs.Windows.{EachMpdu}
 use Rattle.wf_law_runs.proofs.Sent.Lengths.{IsStocked, stocked}
-use Rattle.wf_octets_parts.specs.Fields.{number_at, two_octets}
-use Rattle.wf_octets_frames.specs.declared.header.header.Header.{Header}
-use Rattle.wf_octets_frames.specs.HeaderLayout.{first_octet, flags_octet, header_as_octets}
-use Rattle.wf_octets_frames.proofs.HeaderWritten.{qos_begins, qos_long}
-use Rattle.wf_octets_frames.specs.BlockLayout.{request, narrow_form}
-use Rattle.wf_octets_frames.proofs.BlockWritten.{head_begins}
+use Rattle.wf_octets.specs.Fields.{number_at, two_octets}
+use Rattle.wf_octets.specs.declared.header.header.Header.{Header}
+use Rattle.wf_octets.specs.HeaderLayout.{first_octet, flags_octet, header_as_octets}
+use Rattle.wf_octets.proofs.HeaderWritten.{qos_begins, qos_long}
+use Rattle.wf_octets.specs.BlockLayout.{request, narrow_form}
+use Rattle.wf_octets.proofs.BlockWritten.{head_begins}
 use Rattle.wf_send_parts.specs.declared.exchanges.opened.Sending.TheVariants.{Data}
 use Rattle.wf_send_half_refines.specs.Half.{TransmitValue}
 use Rattle.wf_send_half_refines.specs.Standing.{StandsFor, IsReached, sending_of, numbers_on_air}

@@ -3,9 +3,9 @@ use Rattle.std.specs.Prelude.{◌≡◌, ℕ, ◌%◌, List}
 use Rattle.wf_def_lists.specs.Table.{at}
 use Rattle.wf_def_world.specs.World.{Content, Frames, Request}
 use Rattle.wf_def_world.specs.Exchanges.{no_mpdu}
-use Rattle.wf_octets_frames.specs.Addresses.{base, address_of_station}
-use Rattle.wf_octets_frames.specs.declared.header.header.Header.{Header}
-use Rattle.wf_octets_frames.specs.declared.block.frames.Bar.{Bar}
+use Rattle.wf_octets.specs.Addresses.{base, address_of_station}
+use Rattle.wf_octets.specs.declared.header.header.Header.{Header}
+use Rattle.wf_octets.specs.declared.block.frames.Bar.{Bar}
 use Rattle.wf_recv_peer.specs.Frames.{IsDataFor, IsRequestFor}
 
 -- data for station s, of this TID and this number

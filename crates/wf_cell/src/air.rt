@@ -26,8 +26,8 @@ ghost use Rattle.wf_cell.specs.Octets.{IsSentTo};
 
 use crate::engine::{Engine, LONGEST};
 use wf_frame::{Answer, Brief, Config, Ids, Refusal};
-use wf_octets_parts::bits::Bits256;
-use wf_octets_parts::seq12::Seq12;
+use wf_octets::bits::Bits256;
+use wf_octets::seq12::Seq12;
 use wf_path::{Path, Sent};
 use wf_send_parts::exchanges::Mark;
 

@@ -17,7 +17,7 @@ use crate::peers::Peers;
 use std::alloc::{AllocError, Global};
 use std::marker::Model;
 use wf_frame::{Answer, Ask, Brief, Class, Config};
-use wf_octets_parts::seq12::Seq12;
+use wf_octets::seq12::Seq12;
 use wf_path::{Job, Path};
 use wf_queue_chain::Parcel;
 use wf_send_parts::exchanges::Marks;

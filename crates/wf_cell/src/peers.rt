@@ -10,10 +10,10 @@ ghost use Rattle.wf_cell.specs.Octets.{IsForStation, IsSentTo};
 use std::alloc::{AllocError, Global};
 use std::marker::Model;
 use wf_frame::Ids;
-use wf_octets_frames::block::{decode_ba, decode_wide};
-use wf_octets_frames::header::{base_address, station_address};
-use wf_octets_parts::bits::Bits256;
-use wf_octets_parts::seq12::Seq12;
+use wf_octets::bits::Bits256;
+use wf_octets::block::{decode_ba, decode_wide};
+use wf_octets::header::{base_address, station_address};
+use wf_octets::seq12::Seq12;
 use wf_recv_peer::Peer;
 use wf_send_parts::exchanges::widened;
 

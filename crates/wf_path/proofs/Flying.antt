@@ -25,13 +25,13 @@ use Rattle.wf_send_half_refines.proofs.Endings.{closed_agreements}
 use Rattle.wf_send_half.specs.Half.{HasWorld}
 use Rattle.wf_send_half.proofs.Dones.{IsKnown, known_of, none_open, low_tid as low}
 use Rattle.wf_send_half.proofs.Ends.{IsData, sends as data_sent, begun}
-use Rattle.wf_octets_frames.specs.HeaderLayout.{header_as_octets}
+use Rattle.wf_octets.specs.HeaderLayout.{header_as_octets}
 use Rattle.wf_path.specs.Addresses.{Addresses}
 use Rattle.wf_path.specs.Transmissions.{transmission_id, transmission_tag, transmission_header, id_sent, tag_sent, header_of, header_sent}
 use Rattle.wf_path.specs.Writing.{no_data_fault, write_header_fault}
 use Rattle.std.specs.Option.{option_map_or}
 use Rattle.wf_path.specs.declared.faults.PathFault.TheVariants.{NoExchange, BadIndex}
-use Rattle.wf_octets_frames.specs.declared.header.header.Header.{Header}
+use Rattle.wf_octets.specs.declared.header.header.Header.{Header}
 use Rattle.wf_path.specs.Flights.{IsInFlight, Flies}
 use Rattle.wf_path.proofs.Opened.{live, within}
 

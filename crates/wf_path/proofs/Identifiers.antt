@@ -10,8 +10,8 @@ use Rattle.wf_frame.specs.Frames.{FrameValue}
 use Rattle.wf_def_world.specs.World.{World, station, is_live}
 use Rattle.wf_def_world.specs.Exchanges.{has_more}
 use Rattle.wf_def_world.specs.Text.{with_traffic}
-use Rattle.wf_octets_frames.specs.Tim.{aids_of}
-use Rattle.wf_octets_frames.specs.Sleepers.{sleeper}
+use Rattle.wf_octets.specs.Tim.{aids_of}
+use Rattle.wf_octets.specs.Sleepers.{sleeper}
 use Rattle.wf_send_half_refines.specs.Half.{TransmitValue}
 use Rattle.wf_send_half_refines.specs.Pulling.{has_more_of}
 use Rattle.wf_send_half_refines.specs.Standing.{StandsFor}

@@ -7,11 +7,11 @@ use Rattle.std.proofs.lemmas.Bool.{cases_lt}
 use Rattle.std.proofs.lemmas.List.{get_or_past}
 use Rattle.std.proofs.lemmas.List.FromFn.{get_or-map-range_with_len, length-map-range_with_len}
 use Rattle.wf_frame.specs.Frames.{FrameValue}
-use Rattle.wf_octets_frames.specs.BlockLayout.{head_octets, request, narrow_form}
-use Rattle.wf_octets_frames.specs.declared.block.frames.Bar.{Bar}
-use Rattle.wf_octets_frames.specs.Addresses.{base, address_of_station}
-use Rattle.wf_octets_frames.specs.HeaderLayout.{header_as_octets}
-use Rattle.wf_octets_frames.specs.declared.header.header.Header.{Header}
+use Rattle.wf_octets.specs.BlockLayout.{head_octets, request, narrow_form}
+use Rattle.wf_octets.specs.declared.block.frames.Bar.{Bar}
+use Rattle.wf_octets.specs.Addresses.{base, address_of_station}
+use Rattle.wf_octets.specs.HeaderLayout.{header_as_octets}
+use Rattle.wf_octets.specs.declared.header.header.Header.{Header}
 use Rattle.wf_def_world.specs.World.{World, Exchange, Mpdu, Content, Frames, Request, exchange}
 use Rattle.wf_path.specs.Addresses.{Addresses, made_up, address_in, station_numbers}
 use Rattle.wf_path.specs.Transmissions.{header_of, data_octets, bar_of, octets_of_content, frames_on_air, transmission_octets, octets_sent}

@@ -5,10 +5,10 @@ use Rattle.std.specs.Option.{option_map_or}
 use Rattle.std.proofs.lemmas.Option.{slice_get-map, slice_get_past}
 use Rattle.std.proofs.lemmas.List.{length-map}
 use Rattle.wf_frame.specs.Frames.{FrameValue}
-use Rattle.wf_octets_frames.specs.HeaderLayout.{header_as_octets}
-use Rattle.wf_octets_frames.specs.declared.header.header.Header.{Header}
-use Rattle.wf_octets_frames.specs.BlockLayout.{head_octets, request, narrow_form}
-use Rattle.wf_octets_frames.specs.declared.block.frames.Bar.{Bar}
+use Rattle.wf_octets.specs.HeaderLayout.{header_as_octets}
+use Rattle.wf_octets.specs.declared.header.header.Header.{Header}
+use Rattle.wf_octets.specs.BlockLayout.{head_octets, request, narrow_form}
+use Rattle.wf_octets.specs.declared.block.frames.Bar.{Bar}
 use Rattle.wf_def_world.specs.World.{World, Exchange, Mpdu, Content, Frames, Request, exchange}
 use Rattle.wf_def_world.specs.Exchanges.{mpdus_of}
 use Rattle.wf_send_parts.specs.declared.exchanges.opened.Open.{Open}

@@ -1,7 +1,7 @@
 -- The addresses of a path: the access point's, and one for each station number.
 use Rattle.std.specs.Prelude.{ℕ, ◌%◌, ◌==◌, nat_le, nat_lt, Bool, List, map, slice_index, slice_index_or, slice_set, Option, Some, None, if◌then◌else◌}
 use Rattle.std.specs.List.{range_with_len}
-use Rattle.wf_octets_frames.specs.Addresses.{base as made_up_base, address_of_station}
+use Rattle.wf_octets.specs.Addresses.{base as made_up_base, address_of_station}
 use Rattle.wf_path.specs.declared.faults.BadAddress.{BadAddress}
 use Rattle.wf_path.specs.declared.faults.BadAddress.TheVariants.{NoStation, Group}
 

@@ -4,11 +4,11 @@ use Rattle.std.specs.Prelude.{ℕ, ◌/◌, ◌==◌, Bool, ◌&&◌, List, drop
 use Rattle.std.specs.Option.{option_map, option_map_or, option_or}
 use Rattle.std.specs.Str.{bytes_eq}
 use Rattle.wf_def_air.specs.Airtime.{block_ack_octets}
-use Rattle.wf_octets_parts.specs.Offsets.{offsets_in}
-use Rattle.wf_octets_parts.specs.Fields.{number_at, part}
-use Rattle.wf_octets_frames.specs.HeaderLayout.{address_1_at, address_2_at, address_octets}
-use Rattle.wf_octets_frames.specs.BlockLayout.{answer}
-use Rattle.wf_octets_frames.specs.BlockFaults.{first_block_fault}
+use Rattle.wf_octets.specs.Offsets.{offsets_in}
+use Rattle.wf_octets.specs.Fields.{number_at, part}
+use Rattle.wf_octets.specs.HeaderLayout.{address_1_at, address_2_at, address_octets}
+use Rattle.wf_octets.specs.BlockLayout.{answer}
+use Rattle.wf_octets.specs.BlockFaults.{first_block_fault}
 use Rattle.wf_def_world.specs.World.{World, exchange, is_wide}
 use Rattle.wf_path.specs.Addresses.{Addresses, address_in}
 use Rattle.wf_path.specs.declared.faults.DoneFault.{DoneFault}

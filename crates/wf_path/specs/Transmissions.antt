@@ -5,11 +5,11 @@ use Rattle.std.specs.Prelude.{ℕ, ◌+◌, nat_lt, Bool, true, false, List, [],
 use Rattle.wf_frame.specs.Frames.{FrameValue}
 use Rattle.wf_def_air.specs.Airtime.{sifs, answer_time}
 use Rattle.wf_def_agreement.specs.Session.{slot}
-use Rattle.wf_octets_frames.specs.HeaderLayout.{header_as_octets}
-use Rattle.wf_octets_frames.specs.declared.header.header.Header.{Header}
-use Rattle.wf_octets_frames.specs.declared.header.header.Kind.TheVariants.{QosData}
-use Rattle.wf_octets_frames.specs.BlockLayout.{head_octets, request, narrow_form}
-use Rattle.wf_octets_frames.specs.declared.block.frames.Bar.{Bar}
+use Rattle.wf_octets.specs.HeaderLayout.{header_as_octets}
+use Rattle.wf_octets.specs.declared.header.header.Header.{Header}
+use Rattle.wf_octets.specs.declared.header.header.Kind.TheVariants.{QosData}
+use Rattle.wf_octets.specs.BlockLayout.{head_octets, request, narrow_form}
+use Rattle.wf_octets.specs.declared.block.frames.Bar.{Bar}
 use Rattle.wf_send_parts.specs.Window.{on_air}
 use Rattle.wf_def_world.specs.World.{World, Mpdu, Content, Frames, Request, Exchange, session, exchange}
 use Rattle.wf_def_world.specs.CanSend.{is_request}

@@ -7,7 +7,7 @@ ghost use Rattle.wf_path.specs.Addresses.{made_up, address_in, with_base, with_a
 use crate::{BadAddress, Path};
 use std::alloc::{AllocError, Global};
 use std::marker::Model;
-use wf_octets_frames::header::{base_address, station_address};
+use wf_octets::header::{base_address, station_address};
 
 /// The station numbers, 0 to 255.
 const NUMBERS: u16 = 256;

@@ -7,18 +7,18 @@ ghost use Rattle.wf_def_world.specs.World.{World};
 ghost use Rattle.wf_send_half.specs.Half.{HasWorld};
 ghost use Rattle.wf_send_half_refines.specs.Standing.{StandsFor};
 ghost use Rattle.wf_def_air.specs.Airtime.{block_ack_octets};
-ghost use Rattle.wf_octets_frames.specs.BlockLayout.{answer};
+ghost use Rattle.wf_octets.specs.BlockLayout.{answer};
 ghost use Rattle.std.specs.Result.{result_err};
-ghost use Rattle.wf_octets_frames.specs.BlockFaults.{first_block_fault};
+ghost use Rattle.wf_octets.specs.BlockFaults.{first_block_fault};
 ghost use Rattle.std.specs.Result.{result_err};
 ghost use Rattle.wf_path.specs.Addresses.{address_in};
 ghost use Rattle.wf_path.specs.Answers.{recipient_in, transmitter_in, tid_in, answer_fault, read_fault, block_ack_in};
 
 use crate::DoneFault;
 use crate::addresses::AddressBook;
-use wf_octets_frames::block::{Ba, BlockFault, WideBa, decode_ba, decode_wide};
-use wf_octets_parts::bits::Bits256;
-use wf_octets_parts::seq12::Seq12;
+use wf_octets::bits::Bits256;
+use wf_octets::block::{Ba, BlockFault, WideBa, decode_ba, decode_wide};
+use wf_octets::seq12::Seq12;
 use wf_send_half::Transmit;
 use wf_send_parts::exchanges::widened;
 

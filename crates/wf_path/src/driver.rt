@@ -16,8 +16,8 @@ use crate::answers::read_block_ack;
 use crate::writing::{write_header, write_transmission};
 use crate::{DoneFault, Path, PathFault, Sent};
 use wf_frame::{Brief, Class, Refusal};
-use wf_octets_parts::bits::Bits256;
-use wf_octets_parts::seq12::Seq12;
+use wf_octets::bits::Bits256;
+use wf_octets::seq12::Seq12;
 
 impl Path {
     /// An exchange ends: its station pays for it, and what it sent is settled. `heard` is what was heard in

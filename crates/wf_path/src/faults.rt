@@ -7,7 +7,7 @@ ghost use Rattle.wf_path.specs.declared.faults.NewFault.TheVariants.{NoMemory};
 use std::alloc::AllocError;
 use thiserror::Error;
 use wf_frame::Field;
-use wf_octets_frames::block::BlockFault;
+use wf_octets::block::BlockFault;
 
 /// Why there is no new path.
 #[derive(Clone, Copy, Debug, PartialEq, Eq, Error)]

@@ -2,16 +2,16 @@
 
 ghost use Rattle.std.specs.Prelude.{◌≡◌, ℕ, true};
 ghost use Rattle.wf_frame.specs.Frames.{FrameValue};
-ghost use Rattle.wf_octets_frames.specs.HeaderLayout.{IsPlain};
-ghost use Rattle.wf_octets_frames.specs.declared.header.header.Kind.TheVariants.{QosData};
+ghost use Rattle.wf_octets.specs.HeaderLayout.{IsPlain};
+ghost use Rattle.wf_octets.specs.declared.header.header.Kind.TheVariants.{QosData};
 ghost use Rattle.wf_def_world.specs.World.{World, Exchange, Mpdu};
 ghost use Rattle.wf_path.specs.Transmissions.{header_of};
 ghost use Rattle.wf_path.specs.Flights.{IsInFlight, Flies};
 
 use crate::addresses::AddressBook;
 use wf_frame::Frame;
-use wf_octets_frames::header::{Header, Kind};
-use wf_octets_parts::seq12::Seq12;
+use wf_octets::header::{Header, Kind};
+use wf_octets::seq12::Seq12;
 use wf_send_half::Transmit;
 use wf_send_parts::exchanges::Open;
 

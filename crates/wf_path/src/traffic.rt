@@ -8,7 +8,7 @@ ghost use Rattle.wf_send_half.specs.Half.{HasWorld};
 ghost use Rattle.wf_send_half_refines.specs.Standing.{StandsFor};
 ghost use Rattle.wf_path.specs.Traffic.{has_traffic_of, ArePresent};
 
-use wf_octets_frames::tim::encode_tim;
+use wf_octets::tim::encode_tim;
 use wf_send_half::Transmit;
 
 /// How many association identifiers there are: 0, and one for each of at most 256 stations.

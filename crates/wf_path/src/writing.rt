@@ -12,9 +12,9 @@ ghost use Rattle.wf_path.specs.Writing.{write_fault, room_fault, write_header_fa
 use crate::PathFault;
 use crate::addresses::AddressBook;
 use crate::flights::{DURATION, frame_of, header_of};
-use wf_octets_frames::block::{Bar, encode_bar};
-use wf_octets_frames::header::encode;
-use wf_octets_parts::fields::put;
+use wf_octets::block::{Bar, encode_bar};
+use wf_octets::fields::put;
+use wf_octets::header::encode;
 use wf_send_half::Transmit;
 use wf_send_parts::exchanges::Sending;
 

@@ -2,9 +2,9 @@
 use Rattle.std.proofs.Common.{◌≡◌, ℕ, ◌+◌, ◌-◌, ◌%◌, ◌<◌, ◌≤◌, ◌↔◌, IsTrue, Bool, true, false, cond, min, List, [], ◌∷◌, refl, ap, ap₂, ◌∙◌, sym, inl, inr, arith}
 use Rattle.std.proofs.lemmas.Bool.{cases_lt, lt-leb, le-leb}
 use Rattle.wf_def_lists.specs.Table.{with_member}
-use Rattle.wf_octets_parts.specs.Offsets.{RisesBetween, IsOffsets, moved_down}
-use Rattle.wf_octets_parts.proofs.Sets.{has_not_above, has-moved_down, rises-moved_down, rises_wider, rises-with_member, same_members}
-use Rattle.wf_octets_parts.specs.Distance.{distance}
+use Rattle.wf_octets.specs.Offsets.{RisesBetween, IsOffsets, moved_down}
+use Rattle.wf_octets.proofs.Sets.{has_not_above, has-moved_down, rises-moved_down, rises_wider, rises-with_member, same_members}
+use Rattle.wf_octets.specs.Distance.{distance}
 use Rattle.wf_recv_peer.specs.Board.{Board, with_start_moved, after_start, after_start_at}
 
 -- a move by nothing leaves each offset as it is

@@ -4,9 +4,9 @@ use Rattle.std.proofs.lemmas.Bool.{cases_lt}
 use Rattle.std.proofs.lemmas.List.{get_or-take, get_or-replicate, length-replicate, length-take-le, same_lists, take_all}
 use Rattle.std.specs.Int.{bit_at}
 use Rattle.wf_def_lists.specs.Table.{has}
-use Rattle.wf_octets_parts.specs.Offsets.{IsOffsets, offsets_in}
-use Rattle.wf_octets_parts.proofs.Sets.{has_not_above, rises_wider, same_members}
-use Rattle.wf_octets_parts.proofs.Words.{offsets_in_are_offsets, has-offsets_in}
+use Rattle.wf_octets.specs.Offsets.{IsOffsets, offsets_in}
+use Rattle.wf_octets.proofs.Sets.{has_not_above, rises_wider, same_members}
+use Rattle.wf_octets.proofs.Words.{offsets_in_are_offsets, has-offsets_in}
 use Rattle.wf_recv_peer.specs.Board.{Board}
 use Rattle.wf_recv_peer.specs.Answering.{IsAnswer, IsWritten, IsWrittenWide, narrow_answer, wide_answer}
 

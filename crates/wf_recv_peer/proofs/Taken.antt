@@ -5,16 +5,16 @@ use Rattle.std.specs.Str.{bytes_eq}
 use Rattle.std.specs.Option.{option_map, option_or}
 use Rattle.std.proofs.lemmas.Bool.{lt-ltb, le-ltb}
 use Rattle.std.proofs.lemmas.Slice.Eq.{bytes_eq-Decides}
-use Rattle.wf_octets_parts.specs.Fields.{is_set, number_at, part}
-use Rattle.wf_octets_frames.specs.HeaderLayout.{flags_at, address_1_at, address_2_at, sequence_at, qos_at, address_octets, first_octet, size_of, is_qos, BeginsWithHeader, HasQosFields, HasShortFields}
-use Rattle.wf_octets_frames.specs.HeaderFaults.{is_malformed, first_header_fault as first_header_fault}
-use Rattle.wf_octets_frames.specs.declared.header.header.Kind.TheVariants.{QosData, BlockAckReq}
-use Rattle.wf_octets_frames.specs.declared.header.decoding.HeaderFault.TheVariants.{Short, Form}
-use Rattle.wf_octets_frames.specs.BlockLayout.{request, IsBar}
-use Rattle.wf_octets_frames.specs.BlockFaults.{first_block_fault as first_block_fault}
-use Rattle.wf_octets_frames.specs.declared.header.header.Kind.{Kind as KindOf}
-use Rattle.wf_octets_frames.specs.declared.header.header.Header.{Header as HeaderOf}
-use Rattle.wf_octets_frames.specs.declared.block.frames.Bar.{Bar}
+use Rattle.wf_octets.specs.Fields.{is_set, number_at, part}
+use Rattle.wf_octets.specs.HeaderLayout.{flags_at, address_1_at, address_2_at, sequence_at, qos_at, address_octets, first_octet, size_of, is_qos, BeginsWithHeader, HasQosFields, HasShortFields}
+use Rattle.wf_octets.specs.HeaderFaults.{is_malformed, first_header_fault as first_header_fault}
+use Rattle.wf_octets.specs.declared.header.header.Kind.TheVariants.{QosData, BlockAckReq}
+use Rattle.wf_octets.specs.declared.header.decoding.HeaderFault.TheVariants.{Short, Form}
+use Rattle.wf_octets.specs.BlockLayout.{request, IsBar}
+use Rattle.wf_octets.specs.BlockFaults.{first_block_fault as first_block_fault}
+use Rattle.wf_octets.specs.declared.header.header.Kind.{Kind as KindOf}
+use Rattle.wf_octets.specs.declared.header.header.Header.{Header as HeaderOf}
+use Rattle.wf_octets.specs.declared.block.frames.Bar.{Bar}
 use Rattle.wf_recv_peer.specs.declared.fault.PeerFault.{PeerFault}
 use Rattle.wf_recv_peer.specs.declared.fault.PeerFault.TheVariants.{Header, Kind, Block, NotMine, Tid}
 use Rattle.wf_recv_peer.specs.declared.reading.Reading.TheVariants.{Data, Request}

@@ -2,9 +2,9 @@
 -- is `base`, with Duration 0 and what the scoreboard of the TID shows.
 use Rattle.std.specs.Prelude.{◌≡◌, ℕ, nat_lt, List, take, MatchBool, if◌then◌else◌}
 use Rattle.wf_recv_peer.specs.Board.{Board}
-use Rattle.wf_octets_frames.specs.declared.block.frames.Ba.{Ba}
-use Rattle.wf_octets_frames.specs.declared.block.frames.WideBa.{WideBa}
-use Rattle.wf_octets_frames.specs.BlockLayout.{IsBlockAck, IsWideBa, answer, narrow_form, wide_form, head_octets, head_of_ba, head_of_wide}
+use Rattle.wf_octets.specs.declared.block.frames.Ba.{Ba}
+use Rattle.wf_octets.specs.declared.block.frames.WideBa.{WideBa}
+use Rattle.wf_octets.specs.BlockLayout.{IsBlockAck, IsWideBa, answer, narrow_form, wide_form, head_octets, head_of_ba, head_of_wide}
 
 abbrev pub narrow_answer : List ℕ → List ℕ → ℕ → Board → Ba
 narrow_answer own base tid b = record {

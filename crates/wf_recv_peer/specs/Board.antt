@@ -3,8 +3,8 @@
 -- start as `distance` says, and one that is more than 2047 past it stands behind it.
 use Rattle.std.specs.Prelude.{ℕ, ◌+◌, ◌-◌, ◌%◌, nat_lt, nat_le, List, [], if◌then◌else◌}
 use Rattle.wf_def_lists.specs.Table.{with_member}
-use Rattle.wf_octets_parts.specs.Offsets.{moved_down}
-use Rattle.wf_octets_parts.specs.Distance.{distance}
+use Rattle.wf_octets.specs.Offsets.{moved_down}
+use Rattle.wf_octets.specs.Distance.{distance}
 
 pub record Board : Type 0 where
   pub start : ℕ  -- 0 to 4095

@@ -3,7 +3,7 @@
 -- start as `distance` says, and one that is more than 2047 past it stands behind it.
 use Rattle.std.specs.Prelude.{◌≡◌, ◌≤◌, length, ℕ, suc, ◌+◌, ◌-◌, ◌%◌, min, nat_lt, nat_le, ◌&&◌, List, [], ◌∷◌, ◌++◌, take, drop, replicate, slice_set, slice_index_or, Option, None, Some, is_some, if◌then◌else◌}
 use Rattle.std.specs.Option.{option_map}
-use Rattle.wf_octets_parts.specs.Distance.{distance}
+use Rattle.wf_octets.specs.Distance.{distance}
 
 -- a window of `size` numbers from the start on, and the item that is stored of each
 pub record Buffer : Type 0 where

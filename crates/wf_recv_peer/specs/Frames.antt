@@ -1,11 +1,11 @@
 -- The frames that a station with the address `own` takes: from the access point, whose address is `base`, to
 -- it, of a traffic identifier below 8.
 use Rattle.std.specs.Prelude.{◌≡◌, ℕ, ◌<◌, List}
-use Rattle.wf_octets_frames.specs.HeaderLayout.{BeginsWithHeader}
-use Rattle.wf_octets_frames.specs.declared.header.header.Kind.TheVariants.{QosData}
-use Rattle.wf_octets_frames.specs.declared.header.header.Header.{Header}
-use Rattle.wf_octets_frames.specs.BlockLayout.{IsBar}
-use Rattle.wf_octets_frames.specs.declared.block.frames.Bar.{Bar}
+use Rattle.wf_octets.specs.HeaderLayout.{BeginsWithHeader}
+use Rattle.wf_octets.specs.declared.header.header.Kind.TheVariants.{QosData}
+use Rattle.wf_octets.specs.declared.header.header.Header.{Header}
+use Rattle.wf_octets.specs.BlockLayout.{IsBar}
+use Rattle.wf_octets.specs.declared.block.frames.Bar.{Bar}
 
 -- data with this header
 pub record IsDataFor (own base : List ℕ) (octets : List ℕ) (h : Header) : Type 0 where

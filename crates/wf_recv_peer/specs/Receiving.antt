@@ -3,12 +3,12 @@
 use Rattle.std.specs.Prelude.{ℕ, ◌/◌, ◌%◌, ◌==◌, nat_lt, Bool, false, ◌&&◌, ◌||◌, List, slice_index, Option, Some, None, if◌then◌else◌}
 use Rattle.std.specs.Option.{option_map, option_or}
 use Rattle.std.specs.Str.{bytes_eq}
-use Rattle.wf_octets_parts.specs.Fields.{number_at, part}
-use Rattle.wf_octets_frames.specs.HeaderLayout.{address_1_at, address_2_at, sequence_at, qos_at, address_octets, first_octet}
-use Rattle.wf_octets_frames.specs.HeaderFaults.{first_header_fault as first_header_fault}
-use Rattle.wf_octets_frames.specs.declared.header.header.Kind.TheVariants.{QosData, BlockAckReq}
-use Rattle.wf_octets_frames.specs.BlockLayout.{request}
-use Rattle.wf_octets_frames.specs.BlockFaults.{first_block_fault as first_block_fault}
+use Rattle.wf_octets.specs.Fields.{number_at, part}
+use Rattle.wf_octets.specs.HeaderLayout.{address_1_at, address_2_at, sequence_at, qos_at, address_octets, first_octet}
+use Rattle.wf_octets.specs.HeaderFaults.{first_header_fault as first_header_fault}
+use Rattle.wf_octets.specs.declared.header.header.Kind.TheVariants.{QosData, BlockAckReq}
+use Rattle.wf_octets.specs.BlockLayout.{request}
+use Rattle.wf_octets.specs.BlockFaults.{first_block_fault as first_block_fault}
 use Rattle.wf_recv_peer.specs.declared.fault.PeerFault.{PeerFault}
 use Rattle.wf_recv_peer.specs.declared.fault.PeerFault.TheVariants.{Header, Kind, Block, NotMine, Tid}
 use Rattle.wf_recv_peer.specs.declared.reading.Reading.{Reading}

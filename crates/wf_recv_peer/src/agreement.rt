@@ -1,7 +1,7 @@
 //! The recipient's side of one block acknowledgement agreement.
 
 ghost use Rattle.std.specs.Prelude.{◌≡◌, ◌≤◌, ◌<◌, [], nat_lt, IfOk, take, drop};
-ghost use Rattle.wf_octets_parts.specs.Offsets.{IsOffsets};
+ghost use Rattle.wf_octets.specs.Offsets.{IsOffsets};
 ghost use Rattle.wf_recv_peer.specs.Agreements.{new_agreement, agreement_after, buffer_outcome, IsEachOnce};
 ghost use Rattle.wf_recv_peer.specs.Answering.{answer_size, narrow_answer, wide_answer, IsWritten, IsWrittenWide, IsAnswer};
 
@@ -10,10 +10,10 @@ use crate::recipient::{Reorder, Score};
 use std::alloc::{AllocError, Global};
 use std::marker::Model;
 use wf_frame::Ids;
-use wf_octets_frames::block::{Ba, WideBa, encode_ba, encode_wide};
-use wf_octets_parts::bits::{Bits64, Bits256};
-use wf_octets_parts::fields::put;
-use wf_octets_parts::seq12::Seq12;
+use wf_octets::bits::{Bits64, Bits256};
+use wf_octets::block::{Ba, WideBa, encode_ba, encode_wide};
+use wf_octets::fields::put;
+use wf_octets::seq12::Seq12;
 
 /// The greatest size of a window.
 const LARGEST: u16 = 256;

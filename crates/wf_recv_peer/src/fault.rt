@@ -1,6 +1,6 @@
 use thiserror::Error;
-use wf_octets_frames::block::BlockFault;
-use wf_octets_frames::header::HeaderFault;
+use wf_octets::block::BlockFault;
+use wf_octets::header::HeaderFault;
 
 /// Why octets off the air are no frame for the station. The variants stand in the order of the checks, and
 /// the first check that fails is told.

@@ -1,8 +1,8 @@
 //! The receive half of one station.
 
 ghost use Rattle.std.specs.Prelude.{◌≡◌, ◌≤◌, ◌<◌, [], IfOk, IsOk, OnOk, OnErr, length, replicate, take, drop};
-ghost use Rattle.wf_octets_frames.specs.declared.header.header.Header.{Header};
-ghost use Rattle.wf_octets_frames.specs.declared.block.frames.Bar.{Bar};
+ghost use Rattle.wf_octets.specs.declared.header.header.Header.{Header};
+ghost use Rattle.wf_octets.specs.declared.block.frames.Bar.{Bar};
 ghost use Rattle.wf_recv_peer.specs.declared.reading.Reading.TheVariants.{Data, Request};
 ghost use Rattle.wf_recv_peer.specs.Frames.{IsDataFor, IsRequestFor};
 ghost use Rattle.std.specs.Result.{result_err};
@@ -16,7 +16,7 @@ use crate::reading::read;
 use std::alloc::{AllocError, Global};
 use std::marker::Model;
 use wf_frame::Ids;
-use wf_octets_parts::seq12::Seq12;
+use wf_octets::seq12::Seq12;
 
 /// How many traffic identifiers have an agreement.
 const TIDS: usize = 8;

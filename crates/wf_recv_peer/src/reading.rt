@@ -3,15 +3,15 @@
 ghost use Rattle.std.specs.Prelude.{◌≡◌, ◌<◌, ◌&&◌, IfOk, OnOk};
 ghost use Rattle.std.specs.Option.{option_or};
 ghost use Rattle.std.specs.Str.{bytes_eq};
-ghost use Rattle.wf_octets_parts.specs.Fields.{part};
-ghost use Rattle.wf_octets_frames.specs.HeaderLayout.{BeginsWithHeader};
+ghost use Rattle.wf_octets.specs.Fields.{part};
+ghost use Rattle.wf_octets.specs.HeaderLayout.{BeginsWithHeader};
 ghost use Rattle.std.specs.Result.{result_err};
 ghost use Rattle.wf_recv_peer.specs.Receiving.{tid_read, reading_of, peer_kind_fault, block_fault, first_peer_fault};
 
 use crate::PeerFault;
-use wf_octets_frames::block::decode_bar;
-use wf_octets_frames::header::{Header, Kind, decode};
-use wf_octets_parts::seq12::Seq12;
+use wf_octets::block::decode_bar;
+use wf_octets::header::{Header, Kind, decode};
+use wf_octets::seq12::Seq12;
 
 /// A frame for the station, as far as its agreements go.
 #[derive(Clone, Copy)]

@@ -3,9 +3,9 @@ use Rattle.std.proofs.Common.{◌≡◌, ℕ, suc, ◌+◌, ◌-◌, ◌%◌, �
 use Rattle.std.proofs.lemmas.Bool.{cases_eq, cases_lt, eq-eqb, ne_eqb, le-leb, lt-leb, lt-ltb, le-ltb}
 use Rattle.wf_def_lists.specs.Table.{has, with_member}
 use Rattle.wf_def_agreement.specs.Receiver.{Receiver, with_arrived, with_start, score_start, score}
-use Rattle.wf_octets_parts.specs.Distance.{distance}
-use Rattle.wf_octets_parts.specs.Offsets.{RisesBetween, moved_down}
-use Rattle.wf_octets_parts.proofs.Sets.{same_members, has-with_member, rises-with_member, has-moved_down, rises-moved_down, rises_wider}
+use Rattle.wf_octets.specs.Distance.{distance}
+use Rattle.wf_octets.specs.Offsets.{RisesBetween, moved_down}
+use Rattle.wf_octets.proofs.Sets.{same_members, has-with_member, rises-with_member, has-moved_down, rises-moved_down, rises_wider}
 use Rattle.wf_recv_peer.specs.Board.{Board, with_arrived_at as board_with, with_start_moved, after_number_at, after_number, after_start_at, after_start}
 use Rattle.wf_recv_peer_refines.specs.Half.{board_of, IsOrderly, IsInReach, IsRequestInReach}
 use Rattle.wf_recv_peer_refines.proofs.Comparisons.{distance_ahead, distance_back, moved_start}

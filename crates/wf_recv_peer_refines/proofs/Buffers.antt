@@ -3,7 +3,7 @@ use Rattle.std.proofs.Common.{◌≡◌, ℕ, ◌+◌, ◌-◌, ◌%◌, ◌<◌
 use Rattle.std.proofs.lemmas.Bool.{cases_Bool, cases_eq, cases_lt, le-leb, lt-leb, lt-ltb, le-ltb, both_ways}
 use Rattle.wf_def_lists.specs.Table.{has, with_member, count_from}
 use Rattle.wf_def_agreement.specs.Receiver.{Receiver, with_arrived, with_start, release_start, score_start, released_between}
-use Rattle.wf_octets_parts.specs.Distance.{distance}
+use Rattle.wf_octets.specs.Distance.{distance}
 use Rattle.wf_recv_peer.specs.Buffer.{Buffer, BufferOutcome, items_of, run_of, with_stored_item, items_below, with_start_moved, release_outcome, give_back_outcome, store_outcome, number_outcome_at, number_outcome, request_outcome_at, request_outcome}
 use Rattle.wf_recv_peer.proofs.Places.{items_append}
 use Rattle.wf_recv_peer_refines.specs.Half.{stored_of, buffer_of, IsOrderly, IsInReach, IsRequestInReach}

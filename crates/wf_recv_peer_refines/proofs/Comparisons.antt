@@ -1,6 +1,6 @@
 -- Two numbers that are at most 2047 apart, and the 12-bit numbers that stand for them.
 use Rattle.std.proofs.Common.{◌≡◌, ℕ, ◌+◌, ◌-◌, ◌%◌, ◌<◌, ◌≤◌, arith}
-use Rattle.wf_octets_parts.specs.Distance.{distance}
+use Rattle.wf_octets.specs.Distance.{distance}
 use Rattle.wf_recv_peer_refines.specs.Half.{ComparesRight}
 
 -- as far ahead

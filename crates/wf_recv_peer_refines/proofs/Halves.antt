@@ -3,8 +3,8 @@ use Rattle.std.proofs.Common.{◌≡◌, ℕ, ◌+◌, ◌-◌, ◌%◌, ◌≤�
 use Rattle.std.proofs.lemmas.Bool.{cases_Bool}
 use Rattle.wf_def_lists.specs.Table.{has, bits_word}
 use Rattle.wf_def_agreement.specs.Receiver.{Receiver, new_receiver, with_arrived, with_start, release_start, score_start, released_between, score, bitmap_word}
-use Rattle.wf_octets_parts.specs.Distance.{distance}
-use Rattle.wf_octets_parts.proofs.Sets.{has-moved_down}
+use Rattle.wf_octets.specs.Distance.{distance}
+use Rattle.wf_octets.proofs.Sets.{has-moved_down}
 use Rattle.wf_recv_peer.specs.Board.{Board, empty_board}
 use Rattle.wf_recv_peer.specs.Board.{after_number as board_arrived}
 use Rattle.wf_recv_peer.specs.Board.{after_start as board_requested}

@@ -2,8 +2,8 @@
 use Rattle.std.proofs.Common.{◌≡◌, ℕ, zero, suc, ◌+◌, ◌-◌, ◌<◌, ◌≤◌, ◌==◌, nat_lt, nat_le, Bool, true, false, cond, ◌&&◌, ◌||◌, List, [], ◌∷◌, map, filter, refl, sym, ◌∙◌, ap, subst, inl, inr, arith}
 use Rattle.std.proofs.lemmas.Bool.{cases_eq, cases_lt, or_left, or_right, eq-eqb, ne_eqb, eqb-true, le-leb, lt-leb, lt-ltb, le-ltb, both_ways}
 use Rattle.wf_def_lists.specs.Table.{has, with_member, count_from}
-use Rattle.wf_octets_parts.specs.Offsets.{RisesBetween, moved_down}
-use Rattle.wf_octets_parts.proofs.Sets.{has_from, has_not_below, has_not_above, rises_wider, same_members, has-with_member, rises-with_member}
+use Rattle.wf_octets.specs.Offsets.{RisesBetween, moved_down}
+use Rattle.wf_octets.proofs.Sets.{has_from, has_not_below, has_not_above, rises_wider, same_members, has-with_member, rises-with_member}
 
 -- ---- a member more
 

@@ -3,8 +3,8 @@ use Rattle.std.proofs.Common.{◌≡◌, ℕ, suc, ◌+◌, ◌-◌, ◌<◌, �
 use Rattle.std.proofs.lemmas.Bool.{cases_eq, cases_lt, or_left, or_right, eq-eqb, ne_eqb, eqb-true, both_ways}
 use Rattle.wf_def_lists.specs.Table.{has, with_member}
 use Rattle.wf_def_agreement.specs.Receiver.{Receiver, with_arrived, with_start, greatest, first_missing, release_start, score_start}
-use Rattle.wf_octets_parts.specs.Offsets.{RisesBetween}
-use Rattle.wf_octets_parts.proofs.Sets.{has_from, has_not_below, has_not_above, has_later, rises_wider}
+use Rattle.wf_octets.specs.Offsets.{RisesBetween}
+use Rattle.wf_octets.proofs.Sets.{has_from, has_not_below, has_not_above, has_later, rises_wider}
 use Rattle.wf_recv_peer_refines.specs.Half.{IsOrderly, IsInReach}
 use Rattle.wf_recv_peer_refines.proofs.Rising.{has_old, rises-with}
 

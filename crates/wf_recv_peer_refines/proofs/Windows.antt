@@ -1,7 +1,7 @@
 -- A window of numbers, as the list of what is stored of each, when its places turn.
 use Rattle.std.proofs.Common.{◌≡◌, ℕ, zero, suc, ◌+◌, ◌-◌, ◌<◌, ◌≤◌, min, nat_lt, nat_le, Bool, true, false, cond, ◌&&◌, List, ◌∷◌, ◌++◌, length, take, drop, replicate, map, filter, get_or, set, Option, None, Some, refl, sym, ◌∙◌, ap, ap₂, arith}
 use Rattle.wf_def_lists.specs.Table.{has, count_from}
-use Rattle.wf_octets_parts.specs.Offsets.{RisesBetween}
+use Rattle.wf_octets.specs.Offsets.{RisesBetween}
 use Rattle.wf_recv_peer.specs.Buffer.{items_of, run_of}
 use Rattle.wf_recv_peer_refines.specs.Half.{stored_of}
 use Rattle.wf_recv_peer_refines.proofs.Rising.{stretch_of}

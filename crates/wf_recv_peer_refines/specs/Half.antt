@@ -6,8 +6,8 @@
 use Rattle.std.specs.Prelude.{◌≡◌, ℕ, ◌+◌, ◌%◌, ◌<◌, ◌≤◌, List, map, Option, Some, None, if◌then◌else◌}
 use Rattle.wf_def_lists.specs.Table.{has, count_from}
 use Rattle.wf_def_agreement.specs.Receiver.{Receiver, release_start, score_start, score}
-use Rattle.wf_octets_parts.specs.Offsets.{RisesBetween}
-use Rattle.wf_octets_parts.specs.Distance.{distance}
+use Rattle.wf_octets.specs.Offsets.{RisesBetween}
+use Rattle.wf_octets.specs.Distance.{distance}
 use Rattle.wf_recv_peer.specs.Board.{Board}
 use Rattle.wf_recv_peer.specs.Buffer.{Buffer}
 

@@ -10,7 +10,7 @@
 ghost use Rattle.std.specs.Prelude.{◌≡◌, ℕ, ◌+◌, ◌%◌, ◌≤◌, true, map, Some, None, if◌then◌else◌};
 ghost use Rattle.wf_def_lists.specs.Table.{has, bits_word};
 ghost use Rattle.wf_def_agreement.specs.Receiver.{Receiver, new_receiver, with_arrived, with_start, score_start, released_between, score, bitmap_word};
-ghost use Rattle.wf_octets_parts.specs.Distance.{distance};
+ghost use Rattle.wf_octets.specs.Distance.{distance};
 ghost use Rattle.wf_recv_peer.specs.Board.{Board, empty_board, after_number as board_arrived, after_start as board_requested};
 ghost use Rattle.wf_recv_peer.specs.Buffer.{Buffer, empty_buffer, number_outcome as buffer_arrived, request_outcome as buffer_requested};
 ghost use Rattle.wf_recv_peer_refines.specs.Half.{ReceiveHalfStandsFor, IsInReach, IsRequestInReach, ComparesRight, ComparesBoth};

@@ -24,7 +24,7 @@ use Rattle.wf_law_runs.proofs.Windows.Agreed.{IsLawful, IsOpenIn, each_map_if, l
 use Rattle.wf_law_runs.proofs.Frames.Delivered.{IsPrepared, opened_ended}
 use Rattle.wf_law_driver.proofs.Opened.{step_done, some_at}
 use Rattle.wf_law_driver.proofs.Indices.{each_mpdu}
-use Rattle.wf_octets_parts.specs.Distance.{distance}
+use Rattle.wf_octets.specs.Distance.{distance}
 use Rattle.wf_send_half.specs.Bits.{span_of, is_shown, AreShown}
 use Rattle.wf_send_half_refines.specs.Standing.{IsReached}
 use Rattle.wf_recv_refines.specs.Hearing.{kept_of, mark_of, Hears}

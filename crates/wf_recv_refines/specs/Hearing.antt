@@ -5,7 +5,7 @@ use Rattle.std.specs.Option.{option_map}
 use Rattle.wf_def_agreement.specs.Session.{Session, slot}
 use Rattle.wf_def_agreement.specs.Receiver.{Score}
 use Rattle.wf_def_world.specs.World.{World, Exchange, is_live, session, receiver}
-use Rattle.wf_octets_frames.specs.Addresses.{base, address_of_station}
+use Rattle.wf_octets.specs.Addresses.{base, address_of_station}
 use Rattle.wf_recv_peer.specs.Agreements.{PeerValue, AgreementValue, agreement, new_peer}
 use Rattle.wf_recv_peer_refines.specs.Half.{ReceiveHalfStandsFor}
 use Rattle.wf_send_parts.specs.declared.exchanges.marks.Mark.{Mark}

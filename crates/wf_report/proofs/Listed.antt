@@ -11,7 +11,7 @@ use Rattle.wf_def_lists.specs.Lengths.{greatest_body}
 use Rattle.wf_report.specs.ListedPackets.{most_octets_read}
 use Rattle.wf_report.specs.ListingLaw.{Sent, AreWritable, IsListed}
 use Rattle.wf_report.proofs.WrittenCaptures.{written_law}
-use Rattle.wf_octets_frames.specs.HeaderLayout.{header_as_octets}
+use Rattle.wf_octets.specs.HeaderLayout.{header_as_octets}
 use Rattle.wf_def_world.specs.World.{World, Mpdu, Exchange, Content, Frames, Request, exchange, frame, len_of, opening}
 use Rattle.wf_def_world.specs.Run.{Entry, world_after}
 use Rattle.wf_def_world.specs.Step.{step}

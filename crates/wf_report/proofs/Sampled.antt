@@ -10,7 +10,7 @@ use Rattle.wf_frame.specs.declared.notes.ReplyNote.{ReplyNote}
 use Rattle.wf_frame.specs.declared.notes.ReplyNote.TheVariants as reply
 use Rattle.wf_def_world.specs.World.{World, Mpdu, Exchange, Content, Frames, Request, exchange}
 use Rattle.wf_def_world.specs.Exchanges.{mpdus_of}
-use Rattle.wf_octets_frames.specs.HeaderLayout.{header_as_octets}
+use Rattle.wf_octets.specs.HeaderLayout.{header_as_octets}
 use Rattle.wf_queue_flows_refines.specs.Frames.{with_body}
 use Rattle.wf_send_parts.specs.Sent.{with_one_sent, with_all_sent}
 use Rattle.wf_send_half.specs.Enqueues.{as_accepted}

@@ -4,7 +4,7 @@ use Rattle.std.specs.Prelude.{slice_get, option_map, option_and_then}
 use Rattle.std.specs.Io.KnownBytes.{append_known}
 use Rattle.std.proofs.lemmas.List.{take_all, take-append-drop}
 use Rattle.wf_frame.specs.Frames.{FrameValue}
-use Rattle.wf_octets_frames.specs.HeaderLayout.{header_as_octets as header_octets}
+use Rattle.wf_octets.specs.HeaderLayout.{header_as_octets as header_octets}
 use Rattle.wf_io.specs.Capture.{packet_octets}
 use Rattle.wf_io.specs.Fronts.{HoldsFront}
 use Rattle.wf_io.proofs.FrontLaws.{front_partly, front_first, front_next, two_written}

@@ -1,9 +1,9 @@
 -- The octets of a BlockAck that a reply tells (IEEE 802.11-2012, 8.3.1.9).
 use Rattle.std.specs.Prelude.{ℕ, Bool, List, ◌++◌, flat_map, if◌then◌else◌}
 use Rattle.byteorder.specs.Endian.{little_bytes}
-use Rattle.wf_octets_frames.specs.Addresses.{base, address_of_station}
-use Rattle.wf_octets_frames.specs.BlockLayout.{head_octets, answer, narrow_form, wide_form}
-use Rattle.wf_octets_frames.specs.declared.block.frames.Bar.{Bar}
+use Rattle.wf_octets.specs.Addresses.{base, address_of_station}
+use Rattle.wf_octets.specs.BlockLayout.{head_octets, answer, narrow_form, wide_form}
+use Rattle.wf_octets.specs.declared.block.frames.Bar.{Bar}
 use Rattle.wf_send_parts.specs.Window.{on_air}
 
 -- all but its bitmap: to the access point, from station s, with Duration 0, of TID t, with this start

@@ -1,11 +1,11 @@
 -- What octets are as a frame.
 use Rattle.std.specs.Prelude.{ℕ, ◌/◌, ◌%◌, ◌==◌, ◌&&◌, ◌||◌, Bool, true, false, is_none, List, slice_index, if◌then◌else◌}
-use Rattle.wf_octets_parts.specs.Fields.{number_at}
-use Rattle.wf_octets_frames.specs.declared.header.header.Kind.TheVariants.{QosData}
-use Rattle.wf_octets_frames.specs.HeaderLayout.{first_octet, sequence_at, qos_at}
-use Rattle.wf_octets_frames.specs.HeaderFaults.{first_header_fault as header_fault}
-use Rattle.wf_octets_frames.specs.BlockLayout.{request, answer}
-use Rattle.wf_octets_frames.specs.BlockFaults.{first_block_fault as block_fault}
+use Rattle.wf_octets.specs.Fields.{number_at}
+use Rattle.wf_octets.specs.declared.header.header.Kind.TheVariants.{QosData}
+use Rattle.wf_octets.specs.HeaderLayout.{first_octet, sequence_at, qos_at}
+use Rattle.wf_octets.specs.HeaderFaults.{first_header_fault as header_fault}
+use Rattle.wf_octets.specs.BlockLayout.{request, answer}
+use Rattle.wf_octets.specs.BlockFaults.{first_block_fault as block_fault}
 use Rattle.wf_report.specs.declared.captures.listing.frame.Frame.{Frame}
 use Rattle.wf_report.specs.declared.captures.listing.frame.Frame.TheVariants.{Data, Bar, Ba, Other}
 

@@ -26,8 +26,8 @@ use Rattle.wf_sched_refines.proofs.Charges.{debt_same}
 use Rattle.wf_send_parts.specs.Window.{WindowValue}
 use Rattle.wf_send_parts.specs.declared.stations.members.Member.{Member}
 use Rattle.wf_send_parts.specs.Members.{member, on_member, new_member, with_rate, with_receipt}
-use Rattle.wf_octets_frames.specs.declared.tim.sleepers.Sleeper.{Sleeper}
-use Rattle.wf_octets_frames.specs.Sleepers.{sleeper, with_sleeper, awake}
+use Rattle.wf_octets.specs.declared.tim.sleepers.Sleeper.{Sleeper}
+use Rattle.wf_octets.specs.Sleepers.{sleeper, with_sleeper, awake}
 use Rattle.wf_send_half_refines.specs.Half.{TransmitValue}
 use Rattle.wf_send_half_refines.specs.Standing.{StandsFor, Meets}
 use Rattle.wf_send_half_refines.specs.Changes.{after_listing, AreReset}

@@ -27,7 +27,7 @@ use Rattle.wf_queue_flows_refines.proofs.Readers.{same_total}
 use Rattle.wf_send_parts.proofs.Numbers.{open_number}
 use Rattle.wf_send_parts.proofs.Callers.{heard_near}
 use Rattle.wf_send_parts.specs.Window.{WindowValue, WindowStandsFor as WindowStandsFor}
-use Rattle.wf_octets_parts.specs.Distance.{distance}
+use Rattle.wf_octets.specs.Distance.{distance}
 use Rattle.wf_send_parts.specs.Windows.{WindowsHaveRoom, window_of, with_window}
 use Rattle.wf_send_parts.specs.Ending.{Ending, IsFlyingIn, AreFlying}
 use Rattle.wf_send_parts.proofs.Ends.{still_fly}

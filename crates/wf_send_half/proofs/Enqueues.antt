@@ -21,7 +21,7 @@ use Rattle.wf_queue_flows.specs.Flows.{FlowsValue, SettingsValue, tid_rotation, 
 use Rattle.wf_queue_flows.proofs.Waiting.{waiting_few}
 use Rattle.wf_queue_flows_refines.specs.Frames.{with_body}
 use Rattle.wf_queue_flows_refines.proofs.Readers.{same_total}
-use Rattle.wf_octets_frames.specs.Sleepers.{sleeper}
+use Rattle.wf_octets.specs.Sleepers.{sleeper}
 use Rattle.wf_send_half_refines.specs.Half.{TransmitValue}
 use Rattle.wf_send_half_refines.specs.Standing.{StandsFor, Meets}
 use Rattle.wf_send_half_refines.specs.Changes.{after_listing_in, after_enqueue}

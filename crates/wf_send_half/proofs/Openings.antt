@@ -12,8 +12,8 @@ use Rattle.wf_send_parts.specs.Window.{WindowValue}
 use Rattle.wf_send_parts.specs.Windows.{new_window}
 use Rattle.wf_send_parts.specs.declared.exchanges.opened.Open.{Open}
 use Rattle.wf_send_parts.specs.declared.stations.members.Member.{Member}
-use Rattle.wf_octets_frames.specs.declared.tim.sleepers.Sleeper.{Sleeper}
-use Rattle.wf_octets_frames.specs.Sleepers.{awake}
+use Rattle.wf_octets.specs.declared.tim.sleepers.Sleeper.{Sleeper}
+use Rattle.wf_octets.specs.Sleepers.{awake}
 use Rattle.wf_send_half_refines.specs.Half.{TransmitValue, opening_half}
 use Rattle.wf_send_half_refines.specs.Standing.{StandsFor}
 use Rattle.wf_send_half_refines.proofs.Opening.{new_stands}

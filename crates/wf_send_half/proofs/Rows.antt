@@ -15,7 +15,7 @@ use Rattle.wf_frame.specs.declared.notes.ReplyNote.TheVariants.{Refused}
 use Rattle.wf_def_world.specs.World.{World, is_live, station, share}
 use Rattle.wf_def_world.specs.Refusals.{first_refusal, is_bad_station, is_within, refusals, refusal}
 use Rattle.wf_send_parts.specs.Members.{member}
-use Rattle.wf_octets_frames.specs.Sleepers.{sleeper}
+use Rattle.wf_octets.specs.Sleepers.{sleeper}
 use Rattle.wf_send_half_refines.specs.Half.{TransmitValue}
 use Rattle.wf_send_half_refines.specs.Standing.{StandsFor, Meets}
 use Rattle.wf_send_half_refines.proofs.Readers.{live_same}

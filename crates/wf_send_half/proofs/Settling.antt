@@ -16,7 +16,7 @@ use Rattle.wf_def_world.specs.World.{World, Mpdu, session}
 use Rattle.wf_def_world.specs.Exchanges.{with_settled}
 use Rattle.wf_frame.specs.Classes.{tid_number}
 use Rattle.wf_send_parts.specs.Tally.{held_in, settled_as}
-use Rattle.wf_octets_parts.specs.Distance.{distance}
+use Rattle.wf_octets.specs.Distance.{distance}
 use Rattle.wf_send_parts.specs.Answers.{settling_answer, with_fate}
 use Rattle.wf_send_parts.specs.declared.window.window.Settled.{Settled}
 use Rattle.wf_send_parts.specs.declared.window.window.Settled.TheVariants.{Acked, Waiting, Failed}

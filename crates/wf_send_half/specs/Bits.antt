@@ -13,7 +13,7 @@ use Rattle.wf_def_world.specs.Exchanges.{mpdus_of, is_acked, charge_of}
 use Rattle.wf_law_runs.specs.Windows.{EachMpdu}
 use Rattle.wf_send_parts.specs.Tally.{held_in}
 use Rattle.wf_queue_flows.specs.Backlog.{held_in_backlog}
-use Rattle.wf_octets_parts.specs.Distance.{distance}
+use Rattle.wf_octets.specs.Distance.{distance}
 use Rattle.wf_send_parts.specs.declared.window.window.Settled.{Settled}
 use Rattle.wf_send_parts.specs.declared.window.window.Settled.TheVariants.{Acked, Waiting, Failed}
 use Rattle.wf_send_parts.specs.declared.exchanges.opened.Open.{Open}

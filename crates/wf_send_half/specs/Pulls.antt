@@ -22,7 +22,7 @@ use Rattle.wf_air.specs.Rooms.{RoomValue, RoomStandsFor as RoomStandsFor}
 use Rattle.wf_frame.specs.Classes.{tid_number}
 use Rattle.wf_queue_flows.specs.Flows.{taken_for_tid}
 use Rattle.wf_send_parts.specs.Members.{member}
-use Rattle.wf_octets_frames.specs.Sleepers.{sleeper}
+use Rattle.wf_octets.specs.Sleepers.{sleeper}
 use Rattle.wf_send_parts.specs.Window.{WindowValue, WindowStandsFor as WindowStandsFor}
 use Rattle.wf_send_parts.specs.Sent.{with_all_sent}
 use Rattle.wf_send_parts.specs.Windows.{WindowsHaveRoom, window_of, with_window}

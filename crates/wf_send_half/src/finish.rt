@@ -21,8 +21,8 @@ ghost use Rattle.wf_send_half.specs.Counts.{AreCounted, HasFate};
 
 use crate::Transmit;
 use wf_frame::{Class, Refusal};
-use wf_octets_parts::bits::Bits256;
-use wf_octets_parts::seq12::Seq12;
+use wf_octets::bits::Bits256;
+use wf_octets::seq12::Seq12;
 use wf_queue_chain::Parcel;
 use wf_send_parts::exchanges::{Numbers, Open, Sending};
 use wf_send_parts::window::Settled;

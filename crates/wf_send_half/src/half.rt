@@ -13,7 +13,7 @@ ghost use Rattle.wf_send_half.specs.Half.{HasWorld, IsLive};
 use std::alloc::{AllocError, Global};
 use std::marker::Model;
 use wf_frame::{Class, Config};
-use wf_octets_frames::tim::Sleepers;
+use wf_octets::tim::Sleepers;
 use wf_queue_flows::Flows;
 use wf_sched::stations::Sched;
 use wf_send_parts::exchanges::Opened;

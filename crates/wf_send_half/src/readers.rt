@@ -4,7 +4,7 @@ ghost use Rattle.std.specs.Prelude.{◌≡◌, ◌<◌, ◌==◌, ◌&&◌, not,
 ghost use Rattle.wf_queue_flows.specs.Flows.{frames_of_tid};
 ghost use Rattle.wf_frame.specs.Classes.{same_class, tid_number};
 ghost use Rattle.wf_send_parts.specs.Members.{member};
-ghost use Rattle.wf_octets_frames.specs.Sleepers.{sleeper};
+ghost use Rattle.wf_octets.specs.Sleepers.{sleeper};
 ghost use Rattle.wf_send_parts.specs.Windows.{window_of};
 ghost use Rattle.wf_send_half_refines.specs.Pulling.{has_more_of};
 

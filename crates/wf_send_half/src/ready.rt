@@ -4,7 +4,7 @@ ghost use Rattle.std.specs.Prelude.{◌≡◌, ◌<◌, ℕ};
 ghost use Rattle.wf_frame.specs.Frames.{FrameValue};
 ghost use Rattle.wf_def_world.specs.World.{World};
 ghost use Rattle.wf_def_world.specs.CanSend.{is_ready, has_credit};
-ghost use Rattle.wf_octets_frames.specs.Sleepers.{sleeper};
+ghost use Rattle.wf_octets.specs.Sleepers.{sleeper};
 ghost use Rattle.wf_send_half_refines.specs.Half.{can_send_of, is_ready_of};
 ghost use Rattle.wf_send_half_refines.specs.Standing.{StandsFor};
 ghost use Rattle.wf_send_half_refines.specs.Changes.{after_listing, after_listing_in};

@@ -12,7 +12,7 @@ ghost use Rattle.wf_def_world.specs.Rates.{rate_asked};
 ghost use Rattle.wf_def_world.specs.World.{World, share};
 ghost use Rattle.wf_def_world.specs.Refusals.{refusal, is_within};
 ghost use Rattle.wf_def_world.specs.Step.{class_to_send};
-ghost use Rattle.wf_octets_frames.specs.Sleepers.{sleeper};
+ghost use Rattle.wf_octets.specs.Sleepers.{sleeper};
 ghost use Rattle.wf_send_half_refines.specs.Standing.{StandsFor};
 ghost use Rattle.wf_send_parts.specs.Members.{member};
 ghost use Rattle.wf_send_half.specs.Half.{IsLive, can_send_in_of};

@@ -13,7 +13,7 @@ ghost use Rattle.wf_send_half.specs.Replies.{reply_of_result};
 use crate::Transmit;
 use crate::refuse::check_tick;
 use wf_frame::{AskedRate, Class, Refusal};
-use wf_octets_parts::seq12::Seq12;
+use wf_octets::seq12::Seq12;
 
 impl Transmit {
     /// A station joins: its window in frames, 1 to 256, and its first sequence number, 0 to 4095, on each

@@ -25,7 +25,7 @@ use Rattle.wf_queue_flows_refines.specs.Standing.{flows_part}
 use Rattle.wf_queue_flows_refines.proofs.Heads.{drops_counted}
 use Rattle.wf_send_parts.specs.declared.stations.members.Member.{Member}
 use Rattle.wf_send_parts.specs.Members.{member}
-use Rattle.wf_octets_frames.specs.Sleepers.{sleeper}
+use Rattle.wf_octets.specs.Sleepers.{sleeper}
 use Rattle.wf_send_half_refines.specs.Half.{TransmitValue, can_send_of}
 use Rattle.wf_send_half_refines.specs.Standing.{IsMember, AreBoth, Parts, StandsFor}
 use Rattle.wf_send_half_refines.specs.Pulling.{sending_tid_of, is_wide_of}

@@ -17,7 +17,7 @@ use Rattle.wf_queue_flows_refines.specs.Frames.{IsBodySettled}
 use Rattle.wf_queue_flows_refines.proofs.Ends.{stands_reaped}
 use Rattle.wf_queue_flows_refines.proofs.Elsewhere.{rest_reaped}
 use Rattle.wf_send_parts.specs.Members.{on_member, with_rate, with_receipt}
-use Rattle.wf_octets_frames.specs.Sleepers.{sleeper, with_sleeper, awake}
+use Rattle.wf_octets.specs.Sleepers.{sleeper, with_sleeper, awake}
 use Rattle.wf_send_half_refines.specs.Half.{TransmitValue}
 use Rattle.wf_send_half_refines.specs.Standing.{Parts}
 use Rattle.wf_send_half_refines.specs.Views.{view_of, Roster, roster, ledger}

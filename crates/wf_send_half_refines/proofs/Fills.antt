@@ -9,7 +9,7 @@ use Rattle.wf_def_air.specs.Fit.{fits}
 use Rattle.wf_def_lists.specs.Lists.{IsRising}
 use Rattle.wf_def_agreement.specs.Session.{Session, State, slot, start_of, waiting_numbers}
 use Rattle.wf_def_lists.specs.Table.{has}
-use Rattle.wf_octets_parts.specs.Distance.{distance}
+use Rattle.wf_octets.specs.Distance.{distance}
 use Rattle.wf_def_world.specs.World.{World, Mpdu, station, session, len_of, accepted_count}
 use Rattle.wf_def_world.specs.Exchanges.{most_frames, lens_of, fits_in, mpdu_of, waiting_mpdus, longest_fitting, with_fresh, aggregate_of}
 use Rattle.wf_def_world.proofs.Fitting.{IsBegun, chosen_all, chosen_ends}

@@ -30,8 +30,8 @@ use Rattle.wf_sched_refines.proofs.Members.{gone_stands}
 use Rattle.wf_send_parts.specs.Window.{WindowValue}
 use Rattle.wf_send_parts.specs.Windows.{WindowsHaveRoom}
 use Rattle.wf_send_parts.proofs.Changes.{station_goes}
-use Rattle.wf_octets_frames.specs.declared.tim.sleepers.Sleeper.{Sleeper}
-use Rattle.wf_octets_frames.specs.Sleepers.{awake, sleeper}
+use Rattle.wf_octets.specs.declared.tim.sleepers.Sleeper.{Sleeper}
+use Rattle.wf_octets.specs.Sleepers.{awake, sleeper}
 use Rattle.wf_send_half_refines.specs.Half.{TransmitValue}
 use Rattle.wf_send_half_refines.specs.Standing.{counts_in, Parts, StandsFor, Meets}
 use Rattle.wf_send_half_refines.specs.Leaving.{after_leave, with_left, AreEmptied, IsLeaving}

@@ -18,7 +18,7 @@ use Rattle.wf_send_parts.specs.Window.{WindowValue, WindowStandsFor as WindowSta
 use Rattle.wf_send_parts.specs.Windows.{window_of}
 use Rattle.wf_send_parts.proofs.Changes.{station_joins}
 use Rattle.wf_send_parts.specs.Members.{new_member, upper_in, charged_in, received_in}
-use Rattle.wf_octets_frames.specs.Sleepers.{awake, with_sleeper}
+use Rattle.wf_octets.specs.Sleepers.{awake, with_sleeper}
 use Rattle.wf_send_half_refines.specs.Half.{TransmitValue}
 use Rattle.wf_send_half_refines.specs.Standing.{Parts}
 use Rattle.wf_send_half_refines.specs.Changes.{AreReset}

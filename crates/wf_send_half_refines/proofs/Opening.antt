@@ -18,7 +18,7 @@ use Rattle.wf_send_parts.specs.Window.{WindowValue}
 use Rattle.wf_send_parts.specs.Windows.{new_window, no_window}
 use Rattle.wf_send_parts.specs.declared.stations.members.Member.{Member}
 use Rattle.wf_send_parts.specs.Members.{member}
-use Rattle.wf_octets_frames.specs.Sleepers.{awake}
+use Rattle.wf_octets.specs.Sleepers.{awake}
 use Rattle.wf_send_half_refines.specs.Half.{opening_half}
 use Rattle.wf_send_half_refines.specs.Standing.{StandsFor, HasWindows, AreBoth, IsMember}
 

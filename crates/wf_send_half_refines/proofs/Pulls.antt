@@ -33,7 +33,7 @@ use Rattle.wf_send_parts.specs.declared.exchanges.opened.Open.{Open}
 use Rattle.wf_send_parts.specs.Exchanges.{sending_is_request}
 use Rattle.wf_send_parts.specs.declared.stations.members.Member.{Member}
 use Rattle.wf_send_parts.specs.Members.{member, on_member, upper_in, with_upper}
-use Rattle.wf_octets_frames.specs.Sleepers.{sleeper, with_sleeper}
+use Rattle.wf_octets.specs.Sleepers.{sleeper, with_sleeper}
 use Rattle.wf_send_half_refines.specs.Half.{TransmitValue, can_send_of, some_wait}
 use Rattle.wf_send_half_refines.specs.Standing.{IsMember, AreBoth, sending_of, open_of, Parts, StandsFor, Meets}
 use Rattle.wf_send_half_refines.specs.Pulling.{has_upper_turn, sending_tid_of, after_turn, is_wide_of, has_more_of, open_next, after_opening, after_spending, after_sending}

@@ -25,7 +25,7 @@ use Rattle.wf_send_parts.specs.declared.exchanges.opened.Open.{Open}
 use Rattle.wf_send_parts.specs.Exchanges.{sending_is_request, asks}
 use Rattle.wf_send_parts.specs.declared.stations.members.Member.{Member}
 use Rattle.wf_send_parts.specs.Members.{member}
-use Rattle.wf_octets_frames.specs.Sleepers.{sleeper}
+use Rattle.wf_octets.specs.Sleepers.{sleeper}
 use Rattle.wf_send_half_refines.specs.Half.{TransmitValue, some_wait, can_send_of, is_ready_of}
 use Rattle.wf_send_half_refines.specs.Standing.{sending_of, open_of, IsMember, AreBoth, Parts}
 

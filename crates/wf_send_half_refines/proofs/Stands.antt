@@ -10,8 +10,8 @@ use Rattle.wf_send_parts.specs.Windows.{WindowsHaveRoom}
 use Rattle.wf_send_parts.specs.Many.{AllStand}
 use Rattle.wf_send_parts.specs.declared.stations.members.Member.{Member}
 use Rattle.wf_send_parts.specs.Members.{member, upper_in, charged_in, received_in}
-use Rattle.wf_octets_frames.specs.declared.tim.sleepers.Sleeper.{Sleeper}
-use Rattle.wf_octets_frames.specs.Sleepers.{sleeper}
+use Rattle.wf_octets.specs.declared.tim.sleepers.Sleeper.{Sleeper}
+use Rattle.wf_octets.specs.Sleepers.{sleeper}
 use Rattle.wf_queue_flows_refines.specs.Standing.{FlowsStandFor as FlowsStandFor}
 use Rattle.wf_queue_flows_refines.specs.Frames.{HasFrames, IsAccepted}
 use Rattle.wf_queue_flows_refines.proofs.Leaves.{stands_same}

@@ -14,8 +14,8 @@ use Rattle.wf_sched_refines.proofs.Stands.{each_other, each_other_class}
 use Rattle.wf_queue_flows_refines.proofs.Leaves.{stands_same, station_alone}
 use Rattle.wf_send_parts.specs.declared.stations.members.Member.{Member}
 use Rattle.wf_send_parts.specs.Members.{member, on_member, with_rate, with_upper, charged_in, with_charge, received_in, with_receipt}
-use Rattle.wf_octets_frames.specs.declared.tim.sleepers.Sleeper.{Sleeper}
-use Rattle.wf_octets_frames.specs.Sleepers.{sleeper, with_sleeper, awake}
+use Rattle.wf_octets.specs.declared.tim.sleepers.Sleeper.{Sleeper}
+use Rattle.wf_octets.specs.Sleepers.{sleeper, with_sleeper, awake}
 use Rattle.wf_send_half_refines.specs.Half.{TransmitValue}
 use Rattle.wf_send_half_refines.specs.Standing.{AreBoth, Parts}
 use Rattle.wf_send_half_refines.specs.Views.{StationView, view_of, Roster, roster}

@@ -31,7 +31,7 @@ use Rattle.wf_queue_flows_refines.proofs.Ends.{reply_reaped}
 use Rattle.wf_send_parts.specs.Window.{WindowValue}
 use Rattle.wf_send_parts.specs.declared.stations.members.Member.{Member}
 use Rattle.wf_send_parts.specs.Members.{member, on_member, new_member, with_rate, with_receipt}
-use Rattle.wf_octets_frames.specs.Sleepers.{sleeper, with_sleeper, awake}
+use Rattle.wf_octets.specs.Sleepers.{sleeper, with_sleeper, awake}
 use Rattle.wf_send_half_refines.specs.Half.{TransmitValue, can_send_of, is_ready_of}
 use Rattle.wf_send_half_refines.specs.Standing.{Parts, IsReached, StandsFor, Meets}
 use Rattle.wf_send_half_refines.specs.Changes.{after_listing, AreReset}

@@ -17,8 +17,8 @@ use Rattle.wf_send_parts.specs.declared.exchanges.opened.Open.{Open}
 use Rattle.wf_send_parts.specs.Exchanges.{asks}
 use Rattle.wf_send_parts.specs.declared.stations.members.Member.{Member}
 use Rattle.wf_send_parts.specs.Members.{member}
-use Rattle.wf_octets_frames.specs.declared.tim.sleepers.Sleeper.{Sleeper}
-use Rattle.wf_octets_frames.specs.Sleepers.{awake, sleeper}
+use Rattle.wf_octets.specs.declared.tim.sleepers.Sleeper.{Sleeper}
+use Rattle.wf_octets.specs.Sleepers.{awake, sleeper}
 use Rattle.wf_send_parts.specs.Tally.{Counts, no_counts}
 
 -- what the transmit half keeps

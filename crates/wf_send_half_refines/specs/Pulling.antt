@@ -11,7 +11,7 @@ use Rattle.wf_send_parts.specs.declared.exchanges.opened.Open.{Open}
 use Rattle.wf_send_parts.specs.declared.exchanges.opened.Sending.{Sending}
 use Rattle.wf_send_parts.specs.Exchanges.{sending_is_request}
 use Rattle.wf_send_parts.specs.Members.{member, on_member, upper_in, with_upper}
-use Rattle.wf_octets_frames.specs.Sleepers.{sleeper, with_sleeper}
+use Rattle.wf_octets.specs.Sleepers.{sleeper, with_sleeper}
 use Rattle.wf_send_half_refines.specs.Half.{TransmitValue, some_wait, can_send_of}
 
 -- ---- whose turn it is

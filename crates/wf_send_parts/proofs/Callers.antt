@@ -6,7 +6,7 @@ use Rattle.wf_def_agreement.specs.Session.{Session, Slot, State, no_slot, slot, 
 use Rattle.wf_def_lists.specs.Table.{at, change}
 use Rattle.wf_send_parts.specs.declared.window.place.Place.{Place}
 use Rattle.wf_send_parts.specs.Places.{state_of_place, slot_place, slot_state, front, settled_first}
-use Rattle.wf_octets_parts.specs.Distance.{distance}
+use Rattle.wf_octets.specs.Distance.{distance}
 use Rattle.wf_send_parts.specs.Window.{WindowValue, WindowStandsFor, IsNumber, slots_from_start, place_at, state_at, attempts_of, holds_parcel, HasFrame}
 use Rattle.wf_send_parts.proofs.Fronts.{lengths, front_none, rest_unsettled, front_append, front_push}
 use Rattle.wf_send_parts.proofs.Due.{request_due_is}

@@ -7,7 +7,7 @@ use Rattle.wf_def_agreement.specs.Session.{Session, Slot, State, slot, on_slot, 
 use Rattle.wf_send_parts.specs.declared.window.place.Place.{Place}
 use Rattle.wf_send_parts.specs.declared.window.place.Place.TheVariants.{Waiting as Waits, Flying as Flies, Failed as Fails}
 use Rattle.wf_send_parts.specs.Places.{state_of_place, slot_place, place_as, slot_state, front, settled_first, since_failed, at_most}
-use Rattle.wf_octets_parts.specs.Distance.{distance}
+use Rattle.wf_octets.specs.Distance.{distance}
 use Rattle.wf_send_parts.specs.Window.{WindowValue, WindowStandsFor, IsNumber, slots_from_start, moved_on, place_at, may_give, can_take}
 use Rattle.wf_send_parts.proofs.Fronts.{front_rest, at_most_both}
 use Rattle.wf_send_parts.proofs.Due.{request_due_is}

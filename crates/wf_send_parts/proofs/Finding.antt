@@ -9,7 +9,7 @@ use Rattle.wf_def_agreement.specs.Session.{Session, Slot, State, no_slot, start_
 use Rattle.wf_def_lists.specs.Table.{at}
 use Rattle.wf_send_parts.specs.declared.window.place.Place.{Place}
 use Rattle.wf_send_parts.specs.Places.{slot_place, place_as, slot_state}
-use Rattle.wf_octets_parts.specs.Distance.{distance}
+use Rattle.wf_octets.specs.Distance.{distance}
 use Rattle.wf_send_parts.specs.Window.{WindowValue, WindowStandsFor, slots_from_start, waiting_from, on_air, waits, holds_parcel, attempts_of, HasFrame}
 use Rattle.wf_send_parts.proofs.Fronts.{at_is, at_rest}
 use Rattle.wf_send_parts.proofs.Laws.{state_place, start_of_is, ahead_number}

@@ -6,7 +6,7 @@ use Rattle.wf_def_agreement.specs.Session.{Session, Slot, State, no_slot, slot, 
 use Rattle.wf_def_lists.specs.Table.{change}
 use Rattle.wf_send_parts.specs.declared.window.place.Place.{Place}
 use Rattle.wf_send_parts.specs.Places.{state_of_place, slot_place, slot_state, front, rest, settled_first, since_failed, at_most}
-use Rattle.wf_octets_parts.specs.Distance.{distance}
+use Rattle.wf_octets.specs.Distance.{distance}
 use Rattle.wf_send_parts.specs.Window.{WindowValue, WindowStandsFor, IsNumber, slots_from_start, moved_on, place_at}
 use Rattle.wf_send_parts.proofs.Fronts.{lengths, front_none, rest_none, rest_unsettled, front_append, rest_append, since_append, front_map, rest_map, since_map, at_most_since, start_is, at_is, at_rest, change_is, change_rest}
 

@@ -8,7 +8,7 @@ use Rattle.wf_frame.specs.Frames.{FrameValue}
 use Rattle.wf_def_lists.specs.Lists.{IsRising}
 use Rattle.wf_def_lists.specs.Table.{at, has}
 use Rattle.wf_def_agreement.specs.Session.{Session, Slot, no_slot, slot, start_of, is_settled, is_waiting, first_unsettled, numbers_where, waiting_numbers}
-use Rattle.wf_octets_parts.specs.Distance.{distance}
+use Rattle.wf_octets.specs.Distance.{distance}
 use Rattle.wf_send_parts.specs.Window.{WindowValue, WindowStandsFor, IsNumber, waiting_from, on_air}
 use Rattle.wf_send_parts.specs.Listing.{waiting_since, HasListed, IsListedNext}
 use Rattle.wf_send_parts.proofs.Laws.{ahead_number, next_is, places_length}

@@ -7,7 +7,7 @@ use Rattle.wf_send_parts.specs.declared.window.place.Place.{Place}
 use Rattle.wf_send_parts.specs.declared.window.place.Place.TheVariants.{Waiting as Waits, Flying as Flies, Failed as Fails}
 use Rattle.wf_send_parts.specs.Ring.{RingValue}
 use Rattle.wf_send_parts.specs.Places.{state_of_place, front, rest, settled_first, since_failed, at_most}
-use Rattle.wf_octets_parts.specs.Distance.{distance}
+use Rattle.wf_octets.specs.Distance.{distance}
 use Rattle.wf_send_parts.specs.Window.{WindowValue, WindowStandsFor, IsNumber, IsInOrder, HasOwnFrame, moved_on, session_settled, is_flying, state_at}
 use Rattle.wf_send_parts.specs.Sent.{with_one_sent}
 use Rattle.wf_send_parts.specs.Answers.{settling_answer, with_fate}

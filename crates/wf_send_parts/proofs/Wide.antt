@@ -5,7 +5,7 @@ use Rattle.std.specs.List.{range_with_len}
 use Rattle.std.specs.Int.{bit_at}
 use Rattle.std.proofs.lemmas.Bool.{cases_Bool, ne_eqb}
 use Rattle.std.proofs.lemmas.List.{get_or_append_left, get_or-append_right, length-replicate}
-use Rattle.wf_octets_parts.specs.Offsets.{offsets_in}
+use Rattle.wf_octets.specs.Offsets.{offsets_in}
 
 none_pass : (p : ℕ → Bool) (from n : ℕ) → ((i : ℕ) → from ≤ i → p i ≡ false) →
     filter p (range_with_len from n) ≡ []

@@ -4,7 +4,7 @@ use Rattle.std.specs.List.{list_any}
 use Rattle.wf_frame.specs.Frames.{FrameValue}
 use Rattle.wf_send_parts.specs.declared.window.place.Place.{Place}
 use Rattle.wf_send_parts.specs.declared.window.place.Place.TheVariants.{Waiting as Waits, Flying as Flies}
-use Rattle.wf_octets_parts.specs.Distance.{distance}
+use Rattle.wf_octets.specs.Distance.{distance}
 use Rattle.wf_send_parts.specs.Places.{settled_first, state_of_place, slot_place, slot_state, front, rest, since_failed, at_most}
 use Rattle.wf_def_agreement.specs.Session.{Session, Slot, State, slot, start_of, next_number, request_due, has_room, waiting_numbers, is_waiting, with_state, after_miss}
 

@@ -1,6 +1,6 @@
 -- The checks of an action frame, in their order.
 use Rattle.std.specs.Prelude.{ℕ, ◌/◌, ◌%◌, ◌==◌, not, nat_lt, List, length, slice_index, Option, Some, None, Result, Ok, Err, if◌then◌else◌}
-use Rattle.wf_octets_parts.specs.Fields.{is_set, number_at}
+use Rattle.wf_octets.specs.Fields.{is_set, number_at}
 use Rattle.wf_session.specs.declared.action.Action.{Action}
 use Rattle.wf_session.specs.declared.decoding.ActionFault.{ActionFault}
 use Rattle.wf_session.specs.declared.decoding.ActionFault.TheVariants.{Short, Category, Delayed, Fragment, Tid}

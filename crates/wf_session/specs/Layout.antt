@@ -2,7 +2,7 @@
 -- relation between octets and fields. All numbers are little-endian. Octets after the fields are free, and so
 -- are the timeouts.
 use Rattle.std.specs.Prelude.{◌≡◌, ℕ, ◌+◌, ◌*◌, ◌/◌, ◌%◌, ◌<◌, ◌≤◌, ◌==◌, Bool, true, List, [], ◌∷◌, ◌++◌, length, slice_index, if◌then◌else◌}
-use Rattle.wf_octets_parts.specs.Fields.{is_set, number_at, two_octets}
+use Rattle.wf_octets.specs.Fields.{is_set, number_at, two_octets}
 use Rattle.wf_session.specs.declared.action.Action.{Action}
 use Rattle.wf_session.specs.declared.action.Action.TheVariants.{Request, Response, Teardown}
 

@@ -6,7 +6,7 @@ ghost use Rattle.wf_session.specs.Faults.{decoded_action};
 use crate::agreement::close;
 use crate::{Action, Agreement, decode_action};
 use std::marker::Model;
-use wf_octets_parts::seq12::Seq12;
+use wf_octets::seq12::Seq12;
 
 /// The recipient's end of one TID's agreement.
 #[derive(Drop)]

@@ -1,4 +1,4 @@
-use wf_octets_parts::seq12::Seq12;
+use wf_octets::seq12::Seq12;
 
 /// A message about an agreement: one of the block acknowledgement action frames (IEEE 802.11-2012, 8.5.5).
 #[derive(Clone, Copy, Debug, PartialEq, Eq)]

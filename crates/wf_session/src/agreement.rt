@@ -3,7 +3,7 @@ ghost use Rattle.wf_session.specs.Layout.{CanBeWritten};
 ghost use Rattle.wf_session.specs.Ends.{teardown_of};
 
 use crate::Action;
-use wf_octets_parts::seq12::Seq12;
+use wf_octets::seq12::Seq12;
 
 /// An agreement of one TID as an end has it.
 #[derive(Clone, Copy, Debug, PartialEq, Eq)]

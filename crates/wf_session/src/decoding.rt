@@ -7,8 +7,8 @@ ghost use Rattle.wf_session.specs.declared.action.Action.{Action};
 use crate::Action;
 use crate::encoding::{CATEGORY, REQUEST, RESPONSE, TEARDOWN};
 use thiserror::Error;
-use wf_octets_parts::fields::{is_set, number_at};
-use wf_octets_parts::seq12::Seq12;
+use wf_octets::fields::{is_set, number_at};
+use wf_octets::seq12::Seq12;
 
 /// Why octets are no action frame of an agreement.
 #[derive(Clone, Copy, Debug, PartialEq, Eq, Error)]

@@ -1,12 +1,12 @@
 ghost use Rattle.std.specs.Prelude.{◌≡◌, Ok, ◌+◌, ◌*◌, ◌<◌, length, take, drop};
-ghost use Rattle.wf_octets_parts.specs.Fields.{two_octets};
+ghost use Rattle.wf_octets.specs.Fields.{two_octets};
 ghost use Rattle.wf_session.specs.Layout.{IsAction, IsAddbaRequest, CanBeWritten, action_octets, parameter_set};
 ghost use Rattle.wf_session.specs.Faults.{decoded_action};
 ghost use Rattle.wf_session.specs.declared.action.Action.TheVariants.{Request, Response, Teardown};
 
 use crate::Action;
-use wf_octets_parts::fields::{put, two_octets};
-use wf_octets_parts::seq12::Seq12;
+use wf_octets::fields::{put, two_octets};
+use wf_octets::seq12::Seq12;
 
 /// The category octet of block acknowledgement action frames.
 pub(crate) const CATEGORY: u8 = 3;

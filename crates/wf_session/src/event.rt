@@ -1,4 +1,4 @@
-use wf_octets_parts::seq12::Seq12;
+use wf_octets::seq12::Seq12;
 
 /// What happens to the two ends of an agreement, and to the messages between them. Every message that was
 /// ever sent can arrive at any time, any number of times or never.

@@ -8,7 +8,7 @@ use crate::agreement::close;
 use crate::{Action, Agreement, decode_action};
 use std::marker::Model;
 use thiserror::Error;
-use wf_octets_parts::seq12::Seq12;
+use wf_octets::seq12::Seq12;
 
 /// Why nothing is asked.
 #[derive(Clone, Copy, Debug, PartialEq, Eq, Error)]

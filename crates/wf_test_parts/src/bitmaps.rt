@@ -1,7 +1,7 @@
 //! Bitmaps of block acknowledgements, octet by octet.
 
 use crate::alike::same;
-use wf_octets_parts::bits::{Bits64, Bits256};
+use wf_octets::bits::{Bits64, Bits256};
 
 /// Bitmaps of eight octets, each with its word and two of its offsets.
 const BITMAPS: [([u8; 8], u64, u8, u8); 4] = [

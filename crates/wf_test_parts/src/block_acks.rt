@@ -1,12 +1,12 @@
 //! Octets of block acknowledgements and of requests for them.
 
 use crate::alike::same;
-use wf_octets_frames::block::{
+use wf_octets::bits::{Bits64, Bits256};
+use wf_octets::block::{
     Ba, Bar, BlockFault, WideBa, decode_ba, decode_bar, decode_wide, encode_ba, encode_bar,
     encode_wide,
 };
-use wf_octets_parts::bits::{Bits64, Bits256};
-use wf_octets_parts::seq12::Seq12;
+use wf_octets::seq12::Seq12;
 
 const STATION: [u8; 6] = [2, 0, 0, 1, 0, 0];
 

@@ -5,7 +5,7 @@ ghost use Rattle.std.specs.Prelude.{◌≡◌};
 use crate::alike::same;
 use std::alloc::AllocError;
 use wf_frame::Class;
-use wf_octets_parts::seq12::Seq12;
+use wf_octets::seq12::Seq12;
 use wf_send_parts::exchanges::{Numbers, Open, Opened, Sending};
 
 fn exchange(number: u64, station: u16, sending: Sending) -> Open

@@ -1,7 +1,7 @@
 //! Numbers and addresses at their places in octets.
 
 use crate::alike::same;
-use wf_octets_parts::fields::{address_at, is_set, number_at, put, two_octets};
+use wf_octets::fields::{address_at, is_set, number_at, put, two_octets};
 
 #[test]
 fn fields_stand_at_their_places(rt: HostRuntime) {

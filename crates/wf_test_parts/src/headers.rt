@@ -1,13 +1,11 @@
 //! Headers of frames, octet by octet.
 
-ghost use Rattle.wf_octets_frames.specs.HeaderLayout.{IsPlain};
+ghost use Rattle.wf_octets.specs.HeaderLayout.{IsPlain};
 
 use crate::alike::same;
 use wf_frame::source_address;
-use wf_octets_frames::header::{
-    Header, HeaderFault, Kind, base_address, decode, encode, station_address,
-};
-use wf_octets_parts::seq12::Seq12;
+use wf_octets::header::{Header, HeaderFault, Kind, base_address, decode, encode, station_address};
+use wf_octets::seq12::Seq12;
 
 /// The data frame of sequence number 100, TID 0, to station 0.
 const DATA: [u8; 26] = [

@@ -2,8 +2,8 @@
 
 use crate::alike::same;
 use std::alloc::AllocError;
-use wf_octets_parts::bits::{Bits64, Bits256};
-use wf_octets_parts::seq12::Seq12;
+use wf_octets::bits::{Bits64, Bits256};
+use wf_octets::seq12::Seq12;
 use wf_send_parts::exchanges::{Marks, widened};
 
 #[test]

@@ -5,10 +5,10 @@ ghost use Rattle.std.specs.Prelude.{◌<◌};
 use crate::alike::same;
 use std::alloc::{AllocError, Global};
 use wf_frame::Ids;
-use wf_octets_frames::block::{Ba, BlockFault, WideBa, decode_ba, decode_wide};
-use wf_octets_frames::header::{HeaderFault, base_address, station_address};
-use wf_octets_parts::bits::{Bits64, Bits256};
-use wf_octets_parts::seq12::Seq12;
+use wf_octets::bits::{Bits64, Bits256};
+use wf_octets::block::{Ba, BlockFault, WideBa, decode_ba, decode_wide};
+use wf_octets::header::{HeaderFault, base_address, station_address};
+use wf_octets::seq12::Seq12;
 use wf_recv_peer::{Peer, PeerFault};
 
 /// The header of the data frame with number 100 of TID 0 for station 0.

@@ -3,7 +3,7 @@
 use crate::alike::same;
 use std::alloc::AllocError;
 use wf_frame::Ids;
-use wf_octets_parts::seq12::Seq12;
+use wf_octets::seq12::Seq12;
 use wf_recv_peer::recipient::Reorder;
 
 #[test]

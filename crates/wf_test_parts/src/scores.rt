@@ -1,7 +1,7 @@
 //! A recipient's scoreboard.
 
 use crate::alike::same;
-use wf_octets_parts::seq12::Seq12;
+use wf_octets::seq12::Seq12;
 use wf_recv_peer::recipient::Score;
 
 #[test]

@@ -1,7 +1,7 @@
 //! Sequence numbers round the wrap.
 
 use crate::alike::same;
-use wf_octets_parts::seq12::Seq12;
+use wf_octets::seq12::Seq12;
 
 /// Numbers round the wrap at 4096: self, base, how far ahead, whether newer, whether in the
 /// window of 64 from base.

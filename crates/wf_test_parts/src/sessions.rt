@@ -1,7 +1,7 @@
 ghost use Rattle.wf_session.specs.Layout.{CanBeWritten};
 
 use crate::alike::same;
-use wf_octets_parts::seq12::Seq12;
+use wf_octets::seq12::Seq12;
 use wf_session::{
     Accept, Action, ActionFault, Agreement, Offer, OfferFault, decode_action, encode_action,
 };

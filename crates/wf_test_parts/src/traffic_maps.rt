@@ -3,7 +3,7 @@
 use crate::alike::same;
 use std::test::Fail;
 use wf_frame::Class;
-use wf_octets_frames::tim::{Sleepers, Tim, TimFault, decode_tim, encode_tim};
+use wf_octets::tim::{Sleepers, Tim, TimFault, decode_tim, encode_tim};
 
 /// Association identifiers with the octets of their element, at count 0 and period 1.
 const ELEMENTS: [(&[usize], &[u8]); 9] = [

@@ -3,7 +3,7 @@
 use crate::alike::same;
 use crate::driven::{ACKNOWLEDGED, Driven, JOIN, PULL, Standing};
 use std::test::Fail;
-use wf_octets_frames::block::BlockFault;
+use wf_octets::block::BlockFault;
 use wf_path::{DoneFault, PathFault, Sent};
 
 /// The transmission of a frame (IEEE 802.11-2012, 8.3.2.1): QoS Data, From DS, Duration 48, the station, the

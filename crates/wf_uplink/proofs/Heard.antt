@@ -8,11 +8,11 @@ use Rattle.std.specs.Option.{option_or}
 use Rattle.std.specs.Str.{bytes_eq}
 use Rattle.std.proofs.lemmas.List.{append-nil, take_all, drop_all}
 use Rattle.wf_def_air.specs.Airtime.{Rate}
-use Rattle.wf_octets_parts.specs.Fields.{number_at, part}
-use Rattle.wf_octets_frames.specs.Addresses.{base, address_of_station}
-use Rattle.wf_octets_frames.specs.HeaderLayout.{BeginsWithHeader, HasQosFields, HasShortFields, is_qos}
-use Rattle.wf_octets_frames.specs.declared.header.header.Kind.TheVariants.{QosData}
-use Rattle.wf_octets_frames.specs.declared.header.header.Header.{Header}
+use Rattle.wf_octets.specs.Fields.{number_at, part}
+use Rattle.wf_octets.specs.Addresses.{base, address_of_station}
+use Rattle.wf_octets.specs.HeaderLayout.{BeginsWithHeader, HasQosFields, HasShortFields, is_qos}
+use Rattle.wf_octets.specs.declared.header.header.Kind.TheVariants.{QosData}
+use Rattle.wf_octets.specs.declared.header.header.Header.{Header}
 use Rattle.wf_uplink.specs.declared.fault.UplinkFault.{UplinkFault}
 use Rattle.wf_uplink.specs.declared.fault.UplinkFault.TheVariants.{NotMine, Tid}
 use Rattle.wf_uplink.specs.declared.items.UpItem.{UpItem}

@@ -2,7 +2,7 @@
 -- lost.
 use Rattle.std.proofs.Common.{◌≡◌, ℕ, ◌+◌, ◌-◌, ◌*◌, ◌<◌, ◌≤◌, ◌==◌, ◌||◌, not, nat_lt, nat_le, Bool, true, false, List, [], ◌∷◌, ◌++◌, length, Option, Some, None, refl, ap, arith, length-append, if◌then◌else◌}
 use Rattle.std.proofs.lemmas.Bool.Decides.{nat_tests}
-use Rattle.wf_octets_parts.specs.Distance.{distance}
+use Rattle.wf_octets.specs.Distance.{distance}
 use Rattle.wf_uplink.specs.Reordering.{Reordering, Stored, Passed, Released, GivenUp, ReorderingOutcome, number_read, is_none_stored, is_stored, with_stored, stored_from, least_stored, first_hole, gap, holes_told, moved_to, waiting, then_stored, stored_at, given_back, number_arrived, arrived, timed_out}
 use Rattle.wf_uplink.specs.World.{released_in, count_of}
 use Rattle.wf_uplink.specs.Laws.{Covers}

@@ -1,7 +1,7 @@
 -- Which number twelve bits stand for.
 use Rattle.std.proofs.Common.{◌≡◌, ℕ, ◌+◌, ◌%◌, ◌<◌, ◌≤◌, nat_le, Some, None, refl, ap, arith}
 use Rattle.std.proofs.lemmas.Bool.Decides.{nat_tests}
-use Rattle.wf_octets_parts.specs.Distance.{distance}
+use Rattle.wf_octets.specs.Distance.{distance}
 use Rattle.wf_uplink.specs.Laws.{ReadsRight}
 use Rattle.wf_uplink.proofs.Moves.{choose}
 

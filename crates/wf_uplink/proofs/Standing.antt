@@ -3,7 +3,7 @@ use Rattle.std.proofs.Common.{◌≡◌, ℕ, zero, suc, ◌+◌, ◌-◌, ◌%�
 use Rattle.std.specs.Option.{option_map}
 use Rattle.std.proofs.lemmas.Bool.Decides.{nat_tests}
 use Rattle.std.proofs.lemmas.List.{append-nil, get_or_past}
-use Rattle.wf_octets_parts.specs.Distance.{distance}
+use Rattle.wf_octets.specs.Distance.{distance}
 use Rattle.wf_recv_peer.specs.Buffer.{Buffer, items_of, run_of, first_stored, first_stored_of, with_stored_item, items_below, with_start_moved, release_outcome, give_back_outcome, store_outcome, number_outcome_at, request_outcome_at, request_outcome}
 use Rattle.wf_recv_peer.specs.Buffer.{number_outcome as buffer_arrived, BufferOutcome as BufferOutcome}
 use Rattle.wf_recv_peer.proofs.Places.{IsWindow, window_of, window_moved, window_stored, settled_after, items_within, items_fewer}

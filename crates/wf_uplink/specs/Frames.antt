@@ -1,14 +1,14 @@
 -- The checks of a data frame from a station, in their order, as far as the octets alone decide them. The
--- layout is that of the headers of wf_octets_frames; the body follows.
+-- layout is that of the headers of wf_octets; the body follows.
 use Rattle.std.specs.Prelude.{ℕ, ◌+◌, ◌-◌, ◌*◌, ◌/◌, ◌%◌, ◌==◌, nat_lt, nat_le, ◌&&◌, Bool, List, length, slice_index, Option, Some, None, if◌then◌else◌}
 use Rattle.std.specs.Option.{option_map}
 use Rattle.std.specs.Str.{bytes_eq}
 use Rattle.wf_def_lists.specs.Lengths.{greatest_body}
-use Rattle.wf_octets_parts.specs.Fields.{is_set, number_at, part}
-use Rattle.wf_octets_frames.specs.Addresses.{base, address_of_station}
-use Rattle.wf_octets_frames.specs.HeaderLayout.{first_octet, size_of}
-use Rattle.wf_octets_frames.specs.HeaderFaults.{first_header_fault as first_header_fault}
-use Rattle.wf_octets_frames.specs.declared.header.header.Kind.TheVariants.{QosData}
+use Rattle.wf_octets.specs.Fields.{is_set, number_at, part}
+use Rattle.wf_octets.specs.Addresses.{base, address_of_station}
+use Rattle.wf_octets.specs.HeaderLayout.{first_octet, size_of}
+use Rattle.wf_octets.specs.HeaderFaults.{first_header_fault as first_header_fault}
+use Rattle.wf_octets.specs.declared.header.header.Kind.TheVariants.{QosData}
 use Rattle.wf_uplink.specs.declared.fault.UplinkFault.{UplinkFault}
 use Rattle.wf_uplink.specs.declared.fault.UplinkFault.TheVariants.{Header, Kind, Tid, Length}
 

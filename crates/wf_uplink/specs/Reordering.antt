@@ -1,7 +1,7 @@
 -- The reordering of one traffic identifier (TID) by sequence numbers that have no bound (IEEE 802.11-2012,
 -- 9.21.7.6), with a time limit that is this project's own.
 use Rattle.std.specs.Prelude.{ℕ, ◌+◌, ◌-◌, ◌==◌, nat_lt, nat_le, ◌&&◌, ◌||◌, not, Bool, true, false, List, [], ◌∷◌, ◌++◌, Option, Some, None, if◌then◌else◌}
-use Rattle.wf_octets_parts.specs.Distance.{distance}
+use Rattle.wf_octets.specs.Distance.{distance}
 
 -- a frame that waits for the numbers below its own
 pub record Stored : Type 0 where

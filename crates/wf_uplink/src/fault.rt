@@ -1,7 +1,7 @@
 //! Why the calls of the uplink are refused. The variants stand in the order of the checks, and the first
 //! check that fails is told.
 
-use wf_octets_frames::header::HeaderFault;
+use wf_octets::header::HeaderFault;
 
 /// Why a station is not opened.
 #[derive(Clone, Copy, Debug, PartialEq, Eq)]

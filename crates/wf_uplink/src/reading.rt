@@ -4,15 +4,15 @@ ghost use Rattle.std.specs.Prelude.{◌≡◌, ◌≤◌, ◌+◌, ◌&&◌, nat
 ghost use Rattle.std.specs.Option.{option_or};
 ghost use Rattle.std.specs.Str.{bytes_eq};
 ghost use Rattle.wf_def_lists.specs.Lengths.{greatest_body};
-ghost use Rattle.wf_octets_frames.specs.Addresses.{base, address_of_station};
-ghost use Rattle.wf_octets_frames.specs.HeaderLayout.{BeginsWithHeader};
-ghost use Rattle.wf_octets_frames.specs.declared.header.header.Kind.TheVariants.{QosData};
+ghost use Rattle.wf_octets.specs.Addresses.{base, address_of_station};
+ghost use Rattle.wf_octets.specs.HeaderLayout.{BeginsWithHeader};
+ghost use Rattle.wf_octets.specs.declared.header.header.Kind.TheVariants.{QosData};
 ghost use Rattle.wf_uplink.specs.Frames.{address_number, header_fault, kind_fault, length_fault};
 ghost use Rattle.std.specs.Result.{result_err};
 
 use crate::fault::UplinkFault;
 use wf_frame::GREATEST_BODY;
-use wf_octets_frames::header::{Header, Kind, base_address, decode, station_address};
+use wf_octets::header::{Header, Kind, base_address, decode, station_address};
 
 /// The header of a data frame.
 pub(crate) fn data_header(octets: &[u8]) -> Result<Header, UplinkFault>

@@ -9,7 +9,7 @@ use crate::items::{Items, UpItem};
 use std::alloc::{AllocError, Global};
 use std::marker::Model;
 use wf_frame::Ids;
-use wf_octets_parts::seq12::Seq12;
+use wf_octets::seq12::Seq12;
 use wf_recv_peer::recipient::Reorder;
 
 /// The greatest window, in numbers.

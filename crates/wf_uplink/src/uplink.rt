@@ -16,7 +16,7 @@ use crate::waits::Waits;
 use std::alloc::{AllocError, Global};
 use std::marker::Model;
 use wf_air::time::Rate;
-use wf_octets_parts::seq12::Seq12;
+use wf_octets::seq12::Seq12;
 
 /// How many traffic identifiers a station has.
 const TIDS: u32 = 8;

@@ -10,7 +10,7 @@ use std::alloc::{AllocError, Global};
 use std::collections::VecDeque;
 use std::marker::Model;
 use wf_frame::Ids;
-use wf_octets_parts::seq12::Seq12;
+use wf_octets::seq12::Seq12;
 
 /// A window of numbers from a start on, with what is stored of each.
 #[derive(Drop)]

@@ -3,12 +3,12 @@
 //! It meets its rules for every sequence of numbers whatever, jumps included.
 
 ghost use Rattle.std.specs.Prelude.{◌≡◌, ◌≤◌, ◌<◌};
-ghost use Rattle.wf_octets_parts.specs.Offsets.{IsOffsets};
+ghost use Rattle.wf_octets.specs.Offsets.{IsOffsets};
 ghost use Rattle.wf_recv_peer.specs.Board.{empty_board, with_start_moved, after_number, after_start};
 
 use std::marker::Model;
-use wf_octets_parts::bits::Bits256;
-use wf_octets_parts::seq12::Seq12;
+use wf_octets::bits::Bits256;
+use wf_octets::seq12::Seq12;
 
 /// The scoreboard of one agreement: a window of 1 to 256 numbers from a start on, and which of them arrived.
 #[derive(Drop)]
@@ -20,7 +20,7 @@ pub struct Score {
 
 impl Model for Score {
     ghost use Rattle.std.specs.Prelude.{◌≤◌};
-    ghost use Rattle.wf_octets_parts.specs.Offsets.{IsOffsets};
+    ghost use Rattle.wf_octets.specs.Offsets.{IsOffsets};
     ghost use Rattle.wf_recv_peer.specs.Board.{Board};
 
     ghost Value = { Board };

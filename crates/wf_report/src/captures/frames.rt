@@ -8,11 +8,11 @@ ghost use Rattle.wf_report.specs.Captures.{samples};
 ghost use Rattle.wf_report.specs.Samples.{IsSampled, HasTransmission, world_behind};
 
 use wf_cell::Cell;
-use wf_octets_frames::block::{Ba, WideBa, encode_ba, encode_wide};
-use wf_octets_frames::header::{base_address, station_address};
-use wf_octets_parts::bits::{Bits64, Bits256};
-use wf_octets_parts::fields::put;
-use wf_octets_parts::seq12::Seq12;
+use wf_octets::bits::{Bits64, Bits256};
+use wf_octets::block::{Ba, WideBa, encode_ba, encode_wide};
+use wf_octets::fields::put;
+use wf_octets::header::{base_address, station_address};
+use wf_octets::seq12::Seq12;
 use wf_path::Sent;
 
 /// The most octets of a frame: a header of 26 and a body of 2304.

@@ -5,7 +5,7 @@ ghost use Rattle.wf_trace.specs.Words.{words};
 ghost use Rattle.wf_run_scripts.specs.SessionLines.{AreInRange, IsValidEvent, event_of, by_end, meant};
 
 use crate::session::verb::Verb;
-use wf_octets_parts::seq12::Seq12;
+use wf_octets::seq12::Seq12;
 use wf_session::Event;
 use wf_trace::{FaultKind, Value, end_at, long_at, next_word, read_all};
 

@@ -13,7 +13,7 @@ use crate::session::message::Message;
 use crate::session::refusal::Refusal;
 use std::alloc::{AllocError, Global};
 use std::marker::Model;
-use wf_octets_parts::seq12::Seq12;
+use wf_octets::seq12::Seq12;
 use wf_session::{Accept, Action, Agreement, Event, Offer, OfferFault};
 
 /// The two ends of one TID's agreement, and all the messages that they ever sent, as octets.

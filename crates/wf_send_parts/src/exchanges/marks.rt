@@ -7,8 +7,8 @@ ghost use Rattle.wf_send_parts.specs.declared.exchanges.opened.TheConstants.{MOS
 use crate::exchanges::MOST_OPEN;
 use std::alloc::{AllocError, Global};
 use std::marker::Model;
-use wf_octets_parts::bits::Bits256;
-use wf_octets_parts::seq12::Seq12;
+use wf_octets::bits::Bits256;
+use wf_octets::seq12::Seq12;
 
 /// What is kept of an open exchange.
 #[derive(Clone, Copy)]

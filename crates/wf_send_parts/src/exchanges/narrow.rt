@@ -2,7 +2,7 @@
 
 ghost use Rattle.std.specs.Prelude.{◌≡◌};
 
-use wf_octets_parts::bits::{Bits64, Bits256};
+use wf_octets::bits::{Bits64, Bits256};
 
 /// The same offsets among 256, as a BlockAck of 64 bits tells of them (IEEE 802.11-2012, 8.3.1.9.3).
 pub fn widened(bits: Bits64) -> Bits256

@@ -7,7 +7,7 @@ ghost use Rattle.wf_def_lists.specs.Lists.{IsRising};
 use std::alloc::{AllocError, Global};
 use std::marker::Model;
 use wf_frame::{Class, FixedList};
-use wf_octets_parts::seq12::Seq12;
+use wf_octets::seq12::Seq12;
 
 /// The most open exchanges: eight of each of the four classes.
 pub const MOST_OPEN: usize = 32;

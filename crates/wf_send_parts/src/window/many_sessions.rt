@@ -4,7 +4,7 @@
 ghost use Rattle.std.specs.Prelude.{◌≡◌, ℕ, ◌+◌, ◌%◌, ◌<◌, ◌≤◌, Bool, true, false, is_some, List, [], ◌∷◌, length};
 ghost use Rattle.wf_frame.specs.Frames.{FrameValue};
 ghost use Rattle.wf_def_agreement.specs.Session.{Session, new_session, start_of, next_number, request_due};
-ghost use Rattle.wf_octets_parts.specs.Distance.{distance};
+ghost use Rattle.wf_octets.specs.Distance.{distance};
 ghost use Rattle.wf_send_parts.specs.Window.{WindowValue, fresh_window, WindowStandsFor, IsNumber, session_settled, may_give, can_take};
 ghost use Rattle.wf_frame.specs.Classes.{tid_number};
 ghost use Rattle.wf_send_parts.specs.Windows.{window_of, with_window};

@@ -7,7 +7,7 @@ ghost use Rattle.wf_frame.specs.Frames.{FrameValue};
 ghost use Rattle.wf_def_lists.specs.Lists.{IsRising};
 ghost use Rattle.wf_def_lists.specs.Table.{has};
 ghost use Rattle.wf_def_agreement.specs.Session.{Session, State, slot, start_of, next_number, waiting_numbers, is_settled, is_waiting, with_state};
-ghost use Rattle.wf_octets_parts.specs.Distance.{distance};
+ghost use Rattle.wf_octets.specs.Distance.{distance};
 ghost use Rattle.wf_send_parts.specs.Window.{WindowValue, WindowStandsFor, IsNumber, place_at, state_at, attempts_of, is_flying, holds_parcel, HasFrame, waits, some_fly, waiting_from, on_air};
 ghost use Rattle.wf_send_parts.specs.Listing.{HasListed, IsListedNext};
 ghost use Rattle.wf_send_parts.specs.Expelling.{has_flying, frame_left, frames_left, HasExpelled};

@@ -9,7 +9,7 @@ ghost use Rattle.wf_frame.specs.Frames.{FrameValue};
 ghost use Rattle.wf_frame.specs.declared.classes.Fate.TheVariants.{Dropped};
 ghost use Rattle.wf_frame.specs.declared.classes.Cause.TheVariants.{Left};
 ghost use Rattle.wf_def_agreement.specs.Session.{Session, State, slot, new_session, with_number_given, with_state, start_of, next_number, request_due, is_settled, waiting_numbers};
-ghost use Rattle.wf_octets_parts.specs.Distance.{distance};
+ghost use Rattle.wf_octets.specs.Distance.{distance};
 ghost use Rattle.wf_send_parts.specs.Places.{state_of_place, front, rest, next_since, since_failed};
 ghost use Rattle.wf_send_parts.specs.Window.{fresh_window, WindowStandsFor, IsNumber, may_give, waiting_from, on_air, session_settled, place_at, state_at, attempts_of, is_flying, holds_parcel, HasOwnFrame, waits, some_fly, can_take};
 ghost use Rattle.wf_send_parts.specs.Sent.{with_one_sent};
@@ -20,7 +20,7 @@ use crate::window::ring::Ring;
 use std::alloc::{AllocError, Global};
 use std::marker::Model;
 use wf_frame::{Cause, Fate, Frame};
-use wf_octets_parts::seq12::Seq12;
+use wf_octets::seq12::Seq12;
 use wf_queue_chain::Parcel;
 
 /// What became of a number whose exchange has ended.

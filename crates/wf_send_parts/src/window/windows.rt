@@ -6,7 +6,7 @@ ghost use Rattle.wf_frame.specs.declared.classes.Fate.TheVariants.{Dropped};
 ghost use Rattle.wf_frame.specs.declared.classes.Cause.TheVariants.{Left};
 ghost use Rattle.wf_def_lists.specs.Bounds.{greatest_window};
 ghost use Rattle.wf_def_agreement.specs.Session.{Session, State, slot, new_session, with_number_given, with_state, start_of, next_number};
-ghost use Rattle.wf_octets_parts.specs.Distance.{distance};
+ghost use Rattle.wf_octets.specs.Distance.{distance};
 ghost use Rattle.wf_send_parts.specs.Window.{fresh_window, WindowStandsFor, IsNumber, session_settled, place_at, state_at, attempts_of, is_flying, HasOwnFrame, some_fly, can_take};
 ghost use Rattle.wf_send_parts.specs.Sent.{with_one_sent};
 ghost use Rattle.wf_send_parts.specs.Answers.{settling_answer, with_fate};
@@ -17,7 +17,7 @@ use crate::window::{Settled, Window};
 use std::alloc::{AllocError, Global};
 use std::marker::Model;
 use wf_frame::tid_number;
-use wf_octets_parts::seq12::Seq12;
+use wf_octets::seq12::Seq12;
 use wf_queue_chain::Parcel;
 
 /// How many TIDs a station has.

@@ -1,7 +1,7 @@
 use Rattle.std.proofs.Common.{◌≡◌, ap, ◌∙◌, arith, List, ℕ, length}
 use Rattle.wf_frame.specs.declared.settings.Config.{Config}
 use Rattle.wf_def_tim.specs.Tim.{tim_element}
-use Rattle.wf_octets_frames.specs.Tim.{aids_of}
+use Rattle.wf_octets.specs.Tim.{aids_of}
 use Rattle.wf_def_world.specs.Text.{with_traffic}
 use Rattle.wf_path.proofs.Identifiers.{traffic_are}
 use Rattle.wf_path.proofs.traffic.tim.Goals as goal

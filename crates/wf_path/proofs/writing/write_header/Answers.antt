@@ -1,5 +1,5 @@
 use Rattle.std.proofs.Common.{◌≡◌, sym, ap, ◌∙◌}
-use Rattle.wf_octets_frames.specs.HeaderLayout.{size_of, header_as_octets}
+use Rattle.wf_octets.specs.HeaderLayout.{size_of, header_as_octets}
 use Rattle.wf_path.proofs.Flying.{some_flies, header_is, header_there, no_header, no_data}
 use Rattle.wf_path.proofs.Written.{take_whole}
 use Rattle.wf_path.proofs.writing.write_header.Goals as goal

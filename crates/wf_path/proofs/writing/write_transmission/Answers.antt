@@ -1,8 +1,8 @@
 use Rattle.std.proofs.Common.{◌≡◌, ℕ, sym, ap, ◌∙◌, arith, ◌++◌, [], Some, length, take}
 use Rattle.std.specs.Prelude.{slice_get}
 use Rattle.wf_path.specs.Addresses.{address_in}
-use Rattle.wf_octets_frames.specs.HeaderLayout.{size_of, header_as_octets}
-use Rattle.wf_octets_frames.specs.declared.block.frames.Bar.{Bar}
+use Rattle.wf_octets.specs.HeaderLayout.{size_of, header_as_octets}
+use Rattle.wf_octets.specs.declared.block.frames.Bar.{Bar}
 use Rattle.wf_send_parts.specs.declared.exchanges.opened.Open.{Open}
 use Rattle.wf_send_parts.specs.declared.exchanges.opened.Sending.{Sending}
 use Rattle.wf_send_parts.specs.Exchanges.{number_carried}

@@ -1,5 +1,5 @@
 use Rattle.std.proofs.Common.{sym, subst, ap, arith, ◌∙◌}
-use Rattle.wf_octets_parts.specs.Offsets.{IsOffsets, offsets_in}
+use Rattle.wf_octets.specs.Offsets.{IsOffsets, offsets_in}
 use Rattle.wf_recv_peer.proofs.Parts.{offsets_of_front}
 use Rattle.wf_recv_peer.proofs.agreement.narrowed.Goals as goal
 

@@ -1,17 +1,17 @@
 //! What octets are as a frame.
 
 ghost use Rattle.std.specs.Prelude.{◌≡◌};
-ghost use Rattle.wf_octets_frames.specs.HeaderLayout.{BeginsWithHeader};
-ghost use Rattle.wf_octets_frames.specs.declared.header.header.Header.{Header};
-ghost use Rattle.wf_octets_frames.specs.declared.header.header.Kind.TheVariants.{QosData};
-ghost use Rattle.wf_octets_frames.specs.BlockLayout.{IsBar, IsBlockAck, IsWideBa};
-ghost use Rattle.wf_octets_frames.specs.declared.block.frames.Bar.{Bar};
-ghost use Rattle.wf_octets_frames.specs.declared.block.frames.Ba.{Ba};
-ghost use Rattle.wf_octets_frames.specs.declared.block.frames.WideBa.{WideBa};
+ghost use Rattle.wf_octets.specs.HeaderLayout.{BeginsWithHeader};
+ghost use Rattle.wf_octets.specs.declared.header.header.Header.{Header};
+ghost use Rattle.wf_octets.specs.declared.header.header.Kind.TheVariants.{QosData};
+ghost use Rattle.wf_octets.specs.BlockLayout.{IsBar, IsBlockAck, IsWideBa};
+ghost use Rattle.wf_octets.specs.declared.block.frames.Bar.{Bar};
+ghost use Rattle.wf_octets.specs.declared.block.frames.Ba.{Ba};
+ghost use Rattle.wf_octets.specs.declared.block.frames.WideBa.{WideBa};
 ghost use Rattle.wf_report.specs.Frames.{frame_listed, block_in};
 
-use wf_octets_frames::block::{decode_ba, decode_bar, decode_wide};
-use wf_octets_frames::header::{Kind, decode};
+use wf_octets::block::{decode_ba, decode_bar, decode_wide};
+use wf_octets::header::{Kind, decode};
 
 /// What is told of a frame.
 #[derive(Clone, Copy)]

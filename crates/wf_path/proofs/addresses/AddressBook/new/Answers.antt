@@ -1,7 +1,7 @@
 use Rattle.std.proofs.Common.{◌≡◌, arith, ◌∙◌, sym, ap, ap₂, ℕ, List, ◌++◌, ◌∷◌, [], map, length}
 use Rattle.std.specs.List.{range_with_len}
 use Rattle.std.proofs.lemmas.List.FromFn.{map-range_with_len_more, length-map-range_with_len}
-use Rattle.wf_octets_frames.specs.Addresses.{address_of_station}
+use Rattle.wf_octets.specs.Addresses.{address_of_station}
 use Rattle.wf_path.specs.Addresses.{Addresses, made_up}
 use Rattle.wf_path.proofs.addresses.AddressBook.new.Goals as goal
 

@@ -1,6 +1,6 @@
 use Rattle.std.proofs.Common.{◌≡◌, map}
 use Rattle.std.specs.List.{range_with_len}
-use Rattle.wf_octets_frames.specs.Addresses.{address_of_station}
+use Rattle.wf_octets.specs.Addresses.{address_of_station}
 use Rattle.wf_path.proofs.addresses.AddressBook.new.Given as goal
 
 -- the stations before have their addresses

@@ -3,7 +3,7 @@ use Rattle.wf_send_parts.specs.Window.{WindowValue}
 use Rattle.wf_send_half_refines.specs.Half.{TransmitValue}
 use Rattle.wf_send_half_refines.proofs.Fills.{choosing_near}
 use Rattle.wf_send_half.proofs.Filling.{next_read, waiting_goes_on, waiting_ends, all_waiting, few_most, few_chosen, same_agg}
-use Rattle.wf_octets_parts.specs.Distance.{distance}
+use Rattle.wf_octets.specs.Distance.{distance}
 use Rattle.wf_send_half.proofs.half.Transmit.add_waiting.Goals as goal
 
 pub waiting-requires : goal.waiting-requires

@@ -1,6 +1,6 @@
 use Rattle.std.proofs.Common.{◌∙◌, sym, ap}
 use Rattle.std.proofs.lemmas.Result.{err_from_is_err_and}
-use Rattle.wf_octets_frames.specs.Sleepers.{sleeper}
+use Rattle.wf_octets.specs.Sleepers.{sleeper}
 use Rattle.wf_send_half_refines.specs.Half.{TransmitValue}
 use Rattle.wf_send_half.proofs.Rows.{last_row, out_of_range, in_range, not_there, there, asleep_same, live_of}
 use Rattle.wf_send_half.proofs.half.Transmit.check_sleep.Goals as goal

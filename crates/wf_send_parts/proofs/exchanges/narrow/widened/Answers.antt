@@ -1,5 +1,5 @@
 use Rattle.std.proofs.Common.{ap, ◌∙◌}
-use Rattle.wf_octets_parts.specs.Offsets.{offsets_in}
+use Rattle.wf_octets.specs.Offsets.{offsets_in}
 use Rattle.wf_send_parts.proofs.Wide.{shown_wide}
 use Rattle.wf_send_parts.proofs.exchanges.narrow.widened.Goals as goal
 

@@ -1,5 +1,5 @@
 use Rattle.std.proofs.Common.{◌≡◌, ◌+◌, ◌∙◌, Some, ap, sym, arith}
-use Rattle.wf_octets_parts.specs.Distance.{distance}
+use Rattle.wf_octets.specs.Distance.{distance}
 use Rattle.wf_uplink.specs.Reordering.{first_number}
 use Rattle.wf_uplink.proofs.Standing.{first_of_buffer, none_of_buffer, kept_from, first_past, first_near}
 use Rattle.wf_uplink.proofs.sequencer.Sequencer.first_stored.Goals as goal

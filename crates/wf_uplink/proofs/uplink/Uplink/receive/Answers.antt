@@ -2,7 +2,7 @@ use Rattle.std.proofs.Common.{◌≡◌, ℕ, ◌+◌, ◌≤◌, ◌&&◌, Bool
 use Rattle.std.specs.Prelude.{IfSome}
 use Rattle.std.specs.Str.{bytes_eq}
 use Rattle.std.proofs.lemmas.List.{length-set}
-use Rattle.wf_octets_frames.specs.Addresses.{base, address_of_station}
+use Rattle.wf_octets.specs.Addresses.{base, address_of_station}
 use Rattle.wf_def_air.specs.Airtime.{Rate, data_charge}
 use Rattle.wf_uplink.specs.declared.fault.UplinkFault.TheVariants.{NotMine}
 use Rattle.wf_uplink.specs.declared.items.UpItem.{UpItem}

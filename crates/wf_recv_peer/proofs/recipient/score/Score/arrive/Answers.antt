@@ -1,5 +1,5 @@
 use Rattle.std.proofs.Common.{sym, subst, arith}
-use Rattle.wf_octets_parts.specs.Offsets.{IsOffsets}
+use Rattle.wf_octets.specs.Offsets.{IsOffsets}
 use Rattle.wf_recv_peer.proofs.Boards.{within_marked}
 use Rattle.wf_recv_peer.proofs.recipient.score.Score.arrive.Goals as goal
 

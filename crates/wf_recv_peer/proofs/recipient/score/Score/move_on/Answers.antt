@@ -1,5 +1,5 @@
 use Rattle.std.proofs.Common.{◌∙◌, sym, subst, ap}
-use Rattle.wf_octets_parts.specs.Offsets.{IsOffsets, moved_down}
+use Rattle.wf_octets.specs.Offsets.{IsOffsets, moved_down}
 use Rattle.wf_recv_peer.specs.Board.{with_start_moved}
 use Rattle.wf_recv_peer.proofs.Boards.{moved_least, within_moved, same_board}
 use Rattle.wf_recv_peer.proofs.recipient.score.Score.move_on.Goals as goal

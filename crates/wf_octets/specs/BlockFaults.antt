@@ -1,0 +1,16 @@
+-- The checks of a block frame, in their order.
+use Rattle.std.specs.Prelude.{ℕ, ◌%◌, ◌==◌, ◌&&◌, not, Bool, List, length, slice_index, Option, Some, None, if◌then◌else◌}
+use Rattle.wf_octets.specs.Fields.{is_set, number_at}
+use Rattle.wf_octets.specs.declared.block.decoding.BlockFault.{BlockFault}
+use Rattle.wf_octets.specs.declared.block.decoding.BlockFault.TheVariants.{Length, Kind, NotCompressed, MultiTid, Fragment, NotWide}
+
+-- the first check that fails of a frame of `need` octets that begins with `first`, in the wide form or not
+abbrev pub first_block_fault : ℕ → ℕ → Bool → List ℕ → Option BlockFault
+first_block_fault need first wide octets =
+    if not (length octets == need) then Some (Length need (length octets))
+    else (if not (slice_index octets 0 == first) then Some (Kind (slice_index octets 0))
+    else (if not (is_set (slice_index octets 16) 2) then Some NotCompressed
+    else (if is_set (slice_index octets 16) 1 then Some MultiTid
+    else (if wide && not (is_set (slice_index octets 16) 3) then Some NotWide
+    else (if not (number_at octets 18 % 16 == 0) then Some (Fragment (number_at octets 18 % 16))
+    else None)))))

@@ -1,0 +1,13 @@
+pub mod Distance
+pub mod BitsInverse
+pub mod Offsets
+pub mod BitsView
+pub mod Fields
+pub mod Addresses
+pub mod HeaderLayout
+pub mod HeaderFaults
+pub mod BlockFaults
+pub mod BlockLayout
+pub mod Sleepers
+pub mod Tim
+pub mod TimFaults

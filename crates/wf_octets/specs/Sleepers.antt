@@ -1,0 +1,14 @@
+-- Stations by number: which sleep, and the class that a polled one may be sent a frame of.
+use Rattle.std.specs.Prelude.{ℕ, false, List, None, slice_index_or, slice_set}
+use Rattle.wf_octets.specs.declared.tim.sleepers.Sleeper.{Sleeper}
+
+-- awake, no credit
+abbrev pub awake : Sleeper
+awake = record { asleep = false; credit = None }
+
+abbrev pub sleeper : List Sleeper → ℕ → Sleeper
+sleeper stations k = slice_index_or stations k awake
+
+-- the stations with this one changed
+abbrev pub with_sleeper : List Sleeper → ℕ → Sleeper → List Sleeper
+with_sleeper stations k s = slice_set stations k s

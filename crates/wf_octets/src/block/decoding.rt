@@ -1,0 +1,154 @@
+ghost use Rattle.std.specs.Prelude.{◌≡◌, ◌+◌, ◌<◌, ◌≤◌, IfOk, Ok, true, false, length, drop};
+ghost use Rattle.wf_octets.specs.Offsets.{IsOffsets};
+ghost use Rattle.wf_octets.specs.BlockLayout.{IsBar, IsBlockAck, IsWideBa, head_in, request, answer};
+ghost use Rattle.std.specs.Result.{result_err};
+ghost use Rattle.wf_octets.specs.BlockFaults.{first_block_fault};
+ghost use Rattle.wf_octets.specs.declared.block.frames.Bar.{Bar};
+ghost use Rattle.wf_octets.specs.declared.block.frames.Ba.{Ba};
+ghost use Rattle.wf_octets.specs.declared.block.frames.WideBa.{WideBa};
+
+use crate::bits::{Bits64, Bits256};
+use crate::block::encoding::{ANSWER, REQUEST};
+use crate::block::{Ba, Bar, WideBa};
+use crate::fields::{address_at, is_set, number_at};
+use crate::seq12::Seq12;
+use thiserror::Error;
+
+/// Why octets are no block frame.
+#[derive(Clone, Copy, Debug, PartialEq, Eq, Error)]
+pub enum BlockFault {
+    /// There are more or fewer octets than the frame has.
+    #[error("a block frame of {need} octets in {have}")]
+    Length {
+        /// The octets that the frame has.
+        need: usize,
+        /// The octets that are there.
+        have: usize,
+    },
+    /// The first octet is that of another frame.
+    #[error("a frame of another kind, {0:#04x}")]
+    Kind(u8),
+    /// Compressed Bitmap is 0.
+    #[error("a bitmap that is not compressed")]
+    NotCompressed,
+    /// Multi-TID is 1.
+    #[error("a frame of several traffic identifiers")]
+    MultiTid,
+    /// The fragment number is not 0.
+    #[error("fragment number {0}")]
+    Fragment(u8),
+    /// The bit of the wide form is 0.
+    #[error("a bitmap of 64 numbers where 256 are wanted")]
+    NotWide,
+}
+
+/// Reads a BlockAckReq.
+pub fn decode_bar(octets: &[u8]) -> Result<Bar, BlockFault>
+    ensures read { IfOk result (λ bar. IsBar octets.now bar) }
+    ensures tid { IfOk result (λ bar. bar.tid < 16) }
+    ensures complete { (b : Bar) → IsBar octets.now b → result ≡ Ok b }
+
+    // it is refused for the first check that fails, and for nothing else
+    ensures fault { result_err result ≡ first_block_fault 20 request false octets.now }
+{
+    check(octets, 20, REQUEST, false)?;
+    Ok(head_at(octets))
+}
+
+/// The BlockAck of this form that has this head and this bitmap.
+macro_rules! answer_of {
+    ($form:ident, $head:expr, $bits:expr) => {{
+        let head = $head;
+        $form {
+            ra: head.ra,
+            ta: head.ta,
+            duration: head.duration,
+            tid: head.tid,
+            start: head.start,
+            bits: $bits,
+        }
+    }};
+}
+
+/// Reads a BlockAck of 64 numbers.
+pub fn decode_ba(octets: &[u8]) -> Result<Ba, BlockFault>
+    ensures read { IfOk result (λ ba. IsBlockAck octets.now ba) }
+    ensures tid { IfOk result (λ ba. ba.tid < 16) }
+    ensures offsets { IfOk result (λ ba. IsOffsets 64 ba.bits) }
+    ensures complete { (b : Ba) → IsBlockAck octets.now b → result ≡ Ok b }
+
+    // it is refused for the first check that fails, and for nothing else
+    ensures fault { result_err result ≡ first_block_fault 28 answer false octets.now }
+{
+    check(octets, 28, ANSWER, false)?;
+    let bits = Bits64::of_octets(bitmap_at(octets));
+    Ok(answer_of!(Ba, head_at(octets), bits))
+}
+
+/// Reads a BlockAck of 256 numbers.
+pub fn decode_wide(octets: &[u8]) -> Result<WideBa, BlockFault>
+    ensures read { IfOk result (λ ba. IsWideBa octets.now ba) }
+    ensures tid { IfOk result (λ ba. ba.tid < 16) }
+    ensures offsets { IfOk result (λ ba. IsOffsets 256 ba.bits) }
+    ensures complete { (b : WideBa) → IsWideBa octets.now b → result ≡ Ok b }
+
+    // it is refused for the first check that fails, and for nothing else
+    ensures fault { result_err result ≡ first_block_fault 52 answer true octets.now }
+{
+    check(octets, 52, ANSWER, true)?;
+    let bits = Bits256::of_octets(bitmap_at(octets));
+    Ok(answer_of!(WideBa, head_at(octets), bits))
+}
+
+/// Makes the checks of a frame of `need` octets, in their order.
+fn check(octets: &[u8], need: usize, first: u8, wide: bool) -> Result<(), BlockFault>
+    requires { 20 ≤ need }
+    ensures { result_err result ≡ first_block_fault need first wide octets.now }
+{
+    let have = octets.len();
+    if have != need {
+        return Err(BlockFault::Length { need, have });
+    }
+    if octets[0] != first {
+        return Err(BlockFault::Kind(octets[0]));
+    }
+    let form = octets[16];
+    if !is_set(form, 2) {
+        return Err(BlockFault::NotCompressed);
+    }
+    if is_set(form, 1) {
+        return Err(BlockFault::MultiTid);
+    }
+    if wide && !is_set(form, 3) {
+        return Err(BlockFault::NotWide);
+    }
+    let fragment = number_at(octets, 18) % 16;
+    if fragment != 0 {
+        return Err(BlockFault::Fragment(fragment as u8));
+    }
+    Ok(())
+}
+
+/// The fields before the bitmap.
+fn head_at(octets: &[u8]) -> Bar
+    requires { 20 ≤ length octets.now }
+    ensures { result ≡ head_in octets.now }
+{
+    Bar {
+        ra: address_at(octets, 4),
+        ta: address_at(octets, 10),
+        duration: number_at(octets, 2),
+        tid: octets[17] / 16,
+        start: Seq12::of(u64::from(number_at(octets, 18) / 16)),
+    }
+}
+
+/// The bitmap: all octets past the head.
+fn bitmap_at<const N: usize>(octets: &[u8]) -> [u8; N]
+    requires { length octets.now ≡ 20 + N }
+    ensures { result ≡ drop 20 octets.now }
+{
+    let mut bitmap = [0; N];
+    bitmap.copy_from_slice(&octets[20..]);
+    bitmap
+}

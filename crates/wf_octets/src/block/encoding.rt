@@ -1,0 +1,61 @@
+ghost use Rattle.std.specs.Prelude.{◌≡◌, ◌<◌, ◌≤◌, ◌⊎◌, length, slice_index, take, drop};
+ghost use Rattle.wf_octets.specs.BlockLayout.{IsBar, IsBlockAck, IsWideBa, HasHead, head_octets, head_of_ba, head_of_wide, request, answer, narrow_form, wide_form};
+
+use crate::block::{Ba, Bar, WideBa};
+use crate::fields::{put, two_octets};
+
+/// The first octet of Frame Control of a BlockAckReq.
+pub(crate) const REQUEST: u8 = 0x84;
+/// The first octet of Frame Control of a BlockAck.
+pub(crate) const ANSWER: u8 = 0x94;
+/// The low octet of the control field: Compressed Bitmap.
+const NARROW: u8 = 0x04;
+/// The low octet of the control field of the wide form.
+const WIDE: u8 = 0x0c;
+
+/// Writes a BlockAckReq, every free bit as 0.
+pub fn encode_bar(bar: &Bar, out: &mut [u8; 20])
+    requires { bar.now.tid < 16 }
+    ensures layout { IsBar out.new bar.now }
+    ensures octets { out.new ≡ head_octets request narrow_form bar.now }
+{
+    put_head(bar, REQUEST, NARROW, out);
+}
+
+/// Writes a BlockAck of 64 numbers, every free bit as 0.
+pub fn encode_ba(ba: &Ba, out: &mut [u8; 28])
+    requires { ba.now.tid < 16 }
+    ensures layout { IsBlockAck out.new ba.now }
+    ensures octets { take 20 out.new ≡ head_octets answer narrow_form (head_of_ba ba.now) }
+{
+    put_head(&ba.head(), ANSWER, NARROW, out);
+    put(out, 20, &ba.bits.to_octets());
+}
+
+/// Writes a BlockAck of 256 numbers, every free bit as 0.
+pub fn encode_wide(ba: &WideBa, out: &mut [u8; 52])
+    requires { ba.now.tid < 16 }
+    ensures layout { IsWideBa out.new ba.now }
+    ensures octets { take 20 out.new ≡ head_octets answer wide_form (head_of_wide ba.now) }
+{
+    put_head(&ba.head(), ANSWER, WIDE, out);
+    put(out, 20, &ba.bits.to_octets());
+}
+
+/// Writes the 20 octets before the bitmap.
+fn put_head(head: &Bar, first: u8, form: u8, out: &mut [u8])
+    requires tid { head.now.tid < 16 }
+    requires form { (form ≡ narrow_form) ⊎ (form ≡ wide_form) }
+    requires room { 20 ≤ length out.old }
+    ensures octets { take 20 out.new ≡ head_octets first form head.now }
+    ensures head { HasHead out.new first head.now }
+    ensures form { slice_index out.new 16 ≡ form }
+    ensures rest { drop 20 out.new ≡ drop 20 out.old }
+{
+    let end = put(out, 0, &[first, 0]);
+    let end = put(out, end, &two_octets(head.duration));
+    let end = put(out, end, &head.ra);
+    let end = put(out, end, &head.ta);
+    let end = put(out, end, &[form, 16 * head.tid]);
+    put(out, end, &two_octets(16 * head.start.raw()));
+}

@@ -1,5 +1,0 @@
-pub mod HeaderWritten
-mod BlockChecked
-pub mod BlockWritten
-mod Elements
-mod Maps

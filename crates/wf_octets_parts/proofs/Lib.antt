@@ -1,4 +1,0 @@
-mod Distances
-pub mod Sets
-pub mod Words
-pub mod Places

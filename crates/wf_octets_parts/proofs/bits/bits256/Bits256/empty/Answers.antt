@@ -1,5 +1,0 @@
-use Rattle.wf_octets_parts.proofs.Words.{set_of-zero}
-use Rattle.wf_octets_parts.proofs.bits.bits256.Bits256.empty.Goals as goal
-
-pub returns : goal.returns
-returns c = set_of-zero 256
