@@ -18,7 +18,7 @@ calls=3 0
 cfn=(4) wf_path::Destruct++none::drop::<i8>
 calls=3 0
 fn=(4)
-cfn=(5) wf_queue_chain::chain::Chain::pop_front
+cfn=(5) wf_queue_parts::chain::chain::Chain::pop_front
 calls=3 0
 fn=(3)
 cfn=(6) arrayvec::array_vec::ArrayVec::push::<i8>
@@ -57,7 +57,7 @@ class Walks(unittest.TestCase):
     def test_what_only_drops_is_left_out(self):
         loop = self.walks.root_of(self.edges, self.walks.LOOP)
         kept = self.walks.below(self.edges, loop)
-        self.assertNotIn("wf_queue_chain::chain::Chain::pop_front", kept)
+        self.assertNotIn("wf_queue_parts::chain::chain::Chain::pop_front", kept)
         self.assertEqual(len(kept), 4)
 
     def test_depth_counts_functions_of_this_repository(self):

@@ -21,7 +21,7 @@ use Rattle.wf_c.specs.CellSlots.{cell_slot_owns}
 use Rattle.wf_c.specs.contracts.cell.held.HeldCell.{the_row as Held-row}
 use Rattle.wf_c.specs.contracts.cell.slot.CellSlot as S
 use Rattle.wf_c.proofs.Words.{both}
-use Rattle.wf_queue_chain.proofs.Values.{Bare, handle, bare_out, bare_in}
+use Rattle.wf_queue_parts.proofs.Values.{Bare, handle, bare_out, bare_in}
 
 abbrev pub Slot : RattleType
 Slot = S.the_row

@@ -15,7 +15,7 @@ use crate::slot::PathSlot;
 use std::alloc::{AllocError, Global};
 use wf_frame::{Ask, Frame, GREATEST_BODY, source_address};
 use wf_path::Job;
-use wf_queue_chain::Parcel;
+use wf_queue_parts::chain::Parcel;
 
 /// The body has no octet, or more than 2304.
 pub(crate) const BAD_LENGTH: i32 = 41;

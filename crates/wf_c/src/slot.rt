@@ -9,7 +9,7 @@ use crate::held::Held;
 use std::alloc::Global;
 use std::marker::{Model, Send};
 use std::mem::replace;
-use wf_queue_chain::Unboxed;
+use wf_queue_parts::chain::Unboxed;
 
 /// A path's handle: the caller's own struct, which is empty or holds a path.
 #[repr(C)]

@@ -28,7 +28,7 @@ use std::marker::Model;
 use wf_frame::{Answer, Brief, Config, Note, Refusal};
 use wf_machine::History;
 use wf_path::{Job, NewFault, Path};
-use wf_queue_chain::Parcel;
+use wf_queue_parts::chain::Parcel;
 
 /// A cell: the transmit path of an access point, the receive halves of its stations, and how many calls may
 /// still be made. A contract sees the whole history of the calls and what the path keeps; the type keeps that

@@ -19,7 +19,7 @@ use std::marker::Model;
 use wf_frame::{Answer, Ask, Brief, Class, Config};
 use wf_octets::seq12::Seq12;
 use wf_path::{Job, Path};
-use wf_queue_chain::Parcel;
+use wf_queue_parts::chain::Parcel;
 use wf_send_parts::exchanges::Marks;
 
 /// The most octets of one transmission: a header of 26 and a body of 2304.

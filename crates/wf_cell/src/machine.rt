@@ -10,7 +10,7 @@ use std::alloc::Global;
 use wf_frame::{Answer, Config, Note};
 use wf_machine::Machine;
 use wf_path::Job;
-use wf_queue_chain::Parcel;
+use wf_queue_parts::chain::Parcel;
 
 /// A call of a cell, with the answer that it fills. Who calls makes the answer once, and has it back after
 /// each call.

@@ -18,7 +18,7 @@ ghost use Rattle.wf_path.specs.Paths.{IsPath, IsSmall, RiseLittle, IsToldBriefly
 
 use crate::{Job, Path};
 use wf_frame::{Answer, Ask, AskedRate, Brief, Class, Refusal};
-use wf_queue_chain::Parcel;
+use wf_queue_parts::chain::Parcel;
 use wf_send_half::Admission;
 
 impl Path {

@@ -9,7 +9,7 @@ ghost use Rattle.wf_send_half.specs.Replies.{bodies_sent};
 ghost use Rattle.wf_path.specs.Jobs.{note_of, frame_of, times_sent};
 
 use wf_frame::{Ask, Note};
-use wf_queue_chain::Parcel;
+use wf_queue_parts::chain::Parcel;
 
 /// A call: a frame to accept, or a call that carries none.
 #[derive(Drop)]

@@ -9,8 +9,8 @@ use crate::codel::Codel;
 use std::alloc::{AllocError, Global};
 use std::marker::Model;
 use wf_frame::{Cause, Fate};
-use wf_queue_chain::{Chain, Parcel};
-use wf_queue_counted::Peak;
+use wf_queue_parts::chain::{Chain, Parcel};
+use wf_queue_parts::peak::Peak;
 
 /// Numbered queues of parcels, each with a CoDel state, and the list of the finished parcels. Together they
 /// hold at most `room` parcels. Which queue is the longest, and which have frames, is known at each moment.

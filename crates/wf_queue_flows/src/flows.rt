@@ -13,7 +13,7 @@ use crate::codel::Params;
 use std::alloc::{AllocError, Global};
 use std::marker::Model;
 use wf_frame::{Config, tid_number};
-use wf_queue_chain::Parcel;
+use wf_queue_parts::chain::Parcel;
 use wf_sched::rotation::Rota;
 
 /// A frame that was dropped for the limit, and whose it was.

@@ -7,7 +7,7 @@ ghost use Rattle.wf_queue_flows.specs.Backlog.{frames_at, held_in_backlog, item_
 use crate::backlog::{Backlog, Taken, settle};
 use crate::codel::{Lane, Params, Sight};
 use wf_frame::{Cause, Fate};
-use wf_queue_chain::Parcel;
+use wf_queue_parts::chain::Parcel;
 
 /// One queue of a backlog. What it discards goes last on the finished list, as dropped by CoDel.
 #[derive(Drop)]

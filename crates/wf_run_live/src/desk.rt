@@ -13,7 +13,7 @@ use wf_cell::record::Record;
 use wf_cell::{Asking, Job};
 use wf_frame::{Answer, Ask};
 use wf_gate::{Gate, Seat, Turnstile};
-use wf_queue_chain::Parcel;
+use wf_queue_parts::chain::Parcel;
 use wf_run_soak::workers::{Desk, Spent};
 
 /// Where one worker sits: its seat at a gate, and the answer that goes in with each call and comes back.

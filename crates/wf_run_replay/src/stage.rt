@@ -14,7 +14,7 @@ use std::alloc::{AllocError, Global};
 use std::marker::Model;
 use wf_cell::{Cell, Job};
 use wf_frame::{Answer, Config, Frame, Note};
-use wf_queue_chain::Parcel;
+use wf_queue_parts::chain::Parcel;
 
 /// What the calls of a trace are made to. The commands that play one are proved for whatever has these three
 /// calls, so their proofs see nothing of what a cell is made of.

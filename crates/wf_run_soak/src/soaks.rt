@@ -16,7 +16,7 @@ use std::alloc::{AllocError, Global};
 use std::marker::Model;
 use wf_cell::{Cell, Job};
 use wf_frame::{Answer, Ask, Brief, Class, Config, Frame, Refusal};
-use wf_queue_chain::Parcel;
+use wf_queue_parts::chain::Parcel;
 
 /// A soak under way: the cell, whose history has the calls so far, the words to come, and how many calls are
 /// left.

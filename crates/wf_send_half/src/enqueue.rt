@@ -23,8 +23,8 @@ ghost use Rattle.std.specs.Result.{result_err};
 use crate::Transmit;
 use crate::refuse::refuse_where;
 use wf_frame::{Cause, Class, Fate, Refusal};
-use wf_queue_chain::Parcel;
 use wf_queue_flows::Lost;
+use wf_queue_parts::chain::Parcel;
 use wf_send_parts::stations::Tally;
 
 /// The greatest traffic identifier that has queues (IEEE 802.11-2012, 8.2.4.5.2).

@@ -23,7 +23,7 @@ use crate::Transmit;
 use wf_frame::{Class, Refusal};
 use wf_octets::bits::Bits256;
 use wf_octets::seq12::Seq12;
-use wf_queue_chain::Parcel;
+use wf_queue_parts::chain::Parcel;
 use wf_send_parts::exchanges::{Numbers, Open, Sending};
 use wf_send_parts::window::Settled;
 

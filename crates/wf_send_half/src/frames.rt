@@ -11,7 +11,7 @@ ghost use Rattle.wf_send_half.specs.Half.{HasWorld};
 ghost use Rattle.wf_send_half.specs.Replies.{reaped_reply};
 
 use crate::Transmit;
-use wf_queue_chain::Parcel;
+use wf_queue_parts::chain::Parcel;
 
 impl Transmit {
     /// Takes the first finished frame, which is the accepted one with its fate. None exactly where the

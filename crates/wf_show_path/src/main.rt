@@ -9,7 +9,7 @@ use wf_frame::{Answer, Ask, Brief, Class, Config, Frame, Ids};
 use wf_octets::header::{base_address, station_address};
 use wf_octets::seq12::Seq12;
 use wf_path::{Job, Path};
-use wf_queue_chain::Parcel;
+use wf_queue_parts::chain::Parcel;
 use wf_recv_peer::Peer;
 
 /// The station, the traffic identifier of its frames, its window, and the sequence number of its first frame.

@@ -6,7 +6,7 @@ use crate::alike::same;
 use std::alloc::{AllocError, Global};
 use std::marker::Send;
 use wf_frame::Frame;
-use wf_queue_chain::{Chain, Parcel};
+use wf_queue_parts::chain::{Chain, Parcel};
 
 // Whatever is passed here may go to another thread.
 fn crosses<T: Send>(_value: &T) {}

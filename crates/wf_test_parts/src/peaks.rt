@@ -4,7 +4,7 @@ ghost use Rattle.std.specs.Prelude.{◌≡◌, ◌<◌, length};
 
 use crate::alike::same;
 use std::alloc::AllocError;
-use wf_queue_counted::Peak;
+use wf_queue_parts::peak::Peak;
 
 /// Sets a leaf. Gives the leaf of the greatest value then.
 fn best_after(peak: &mut Peak, leaf: u32, value: u64) -> Option<u32>

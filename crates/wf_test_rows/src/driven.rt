@@ -10,7 +10,7 @@ ghost use Rattle.wf_path.specs.declared.job.Job.TheVariants.{Call};
 use std::alloc::Global;
 use wf_frame::{Answer, Ask, Brief, Class, Config, Fate, Frame};
 use wf_path::{BadAddress, DoneFault, Job, NewFault, Path, PathFault, Sent};
-use wf_queue_chain::Parcel;
+use wf_queue_parts::chain::Parcel;
 
 /// A path of one station.
 pub(crate) struct Driven {

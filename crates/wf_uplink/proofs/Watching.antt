@@ -5,7 +5,7 @@ use Rattle.std.proofs.lemmas.Bool.Decides.{nat_tests}
 use Rattle.std.proofs.lemmas.List.{get_or-set_same, get_or-set_other, get_or_past, get_or-replicate, length-set, length-replicate}
 use Rattle.std.proofs.lemmas.List.Sums.{position_or_len_is, sum_by-cons}
 use Rattle.wf_def_air.specs.Airtime.{Rate, lowest_rate}
-use Rattle.wf_queue_counted.specs.Best.{IsFirstFrom}
+use Rattle.wf_queue_parts.specs.Best.{IsFirstFrom}
 use Rattle.wf_uplink.specs.declared.items.UpItem.{UpItem}
 use Rattle.wf_uplink.specs.Reordering.{Reordering, Stored, Passed, Released, GivenUp, ReorderingOutcome, unopened, new_reordering, number_read, is_none_stored, is_stored, least_stored, moved_to, waiting, with_room_for, stored_at, given_back, number_arrived, arrived, is_due, time_limit, timed_out, waits_since_of}
 use Rattle.wf_uplink.specs.Shown.{item_of, is_frame, missing_of}

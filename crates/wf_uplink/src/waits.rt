@@ -1,13 +1,13 @@
 //! Which traffic identifiers wait, and which of them is due first.
 
 ghost use Rattle.std.specs.Prelude.{◌≡◌, ◌+◌, ◌-◌, ◌<◌, ◌≤◌, ℕ, length, replicate, slice_index, slice_set, IfOk, IfNone, IfSome};
-ghost use Rattle.wf_queue_counted.specs.Best.{IsFirstFrom};
+ghost use Rattle.wf_queue_parts.specs.Best.{IsFirstFrom};
 ghost use Rattle.wf_uplink.specs.Reordering.{time_limit};
 ghost use Rattle.wf_uplink.specs.Soundness.{latest, worth_of};
 
 use std::alloc::{AllocError, Global};
 use std::marker::Model;
-use wf_queue_counted::Peak;
+use wf_queue_parts::peak::Peak;
 
 /// How long a hole is waited for, in microseconds.
 const TIME_LIMIT: u64 = 100_000;

@@ -15,7 +15,7 @@ use crate::reply::Reply;
 use std::alloc::Global;
 use wf_cell::Job;
 use wf_frame::Ask;
-use wf_queue_chain::Parcel;
+use wf_queue_parts::chain::Parcel;
 
 impl HeldCell {
     // A frame comes in. Where it is refused it is freed.

@@ -9,7 +9,7 @@ use crate::cell::held::HeldCell;
 use std::alloc::Global;
 use std::marker::Model;
 use std::mem::replace;
-use wf_queue_chain::Unboxed;
+use wf_queue_parts::chain::Unboxed;
 
 /// A cell's handle: the caller's own struct, which is empty or holds a cell.
 #[repr(C)]

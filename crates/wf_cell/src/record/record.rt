@@ -26,7 +26,7 @@ use crate::{Cell, Job, NewFault, Path};
 use std::alloc::{AllocError, Global};
 use std::marker::Model;
 use wf_frame::{Answer, Config, Note};
-use wf_queue_chain::Parcel;
+use wf_queue_parts::chain::Parcel;
 
 /// A cell, and all entries of its history in memory. A contract sees it as the cell; the type keeps that the
 /// entries are the cell's history. Only `new` and `of` take memory, and there is room for as many entries as

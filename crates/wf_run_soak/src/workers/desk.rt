@@ -8,7 +8,7 @@ ghost use Rattle.wf_run_soak.specs.Workloads.{Made, is_done};
 ghost use Rattle.wf_run_soak.specs.Desks.{Adds, Refuses};
 
 use wf_frame::{Answer, Ask};
-use wf_queue_chain::Parcel;
+use wf_queue_parts::chain::Parcel;
 
 /// No call is left.
 #[derive(Debug, Drop)]

@@ -10,7 +10,7 @@ use rand_core::utils::NextWord;
 use rand_pcg::Lcg64Xsh32;
 use std::alloc::{AllocError, Global};
 use wf_frame::{Ask, Frame};
-use wf_queue_chain::Parcel;
+use wf_queue_parts::chain::Parcel;
 
 // The frame that a sender makes of a word.
 fn frame_from(alloc: Global, sender: u16, word: u32) -> Result<Parcel, AllocError>

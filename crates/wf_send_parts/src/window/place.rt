@@ -3,7 +3,7 @@
 ghost use Rattle.std.specs.Prelude.{◌≡◌};
 ghost use Rattle.wf_send_parts.specs.Window.{waits};
 
-use wf_queue_chain::Parcel;
+use wf_queue_parts::chain::Parcel;
 
 /// What a number carries that was not acknowledged. `attempts` counts its transmissions that were not
 /// acknowledged.

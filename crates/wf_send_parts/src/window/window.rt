@@ -21,7 +21,7 @@ use std::alloc::{AllocError, Global};
 use std::marker::Model;
 use wf_frame::{Cause, Fate, Frame};
 use wf_octets::seq12::Seq12;
-use wf_queue_chain::Parcel;
+use wf_queue_parts::chain::Parcel;
 
 /// What became of a number whose exchange has ended.
 #[derive(Drop)]

@@ -18,7 +18,7 @@ use std::alloc::{AllocError, Global};
 use std::marker::Model;
 use wf_frame::tid_number;
 use wf_octets::seq12::Seq12;
-use wf_queue_chain::Parcel;
+use wf_queue_parts::chain::Parcel;
 
 /// How many TIDs a station has.
 const TIDS: u8 = 8;

@@ -1,5 +1,0 @@
-use Rattle.std.proofs.Common.{length}
-use Rattle.wf_queue_chain.proofs.chain.Chain.drop.Given as goal
-
-abbrev pub decreases-loop-parcel : goal.decreases-loop-parcel
-decreases-loop-parcel l = length l.self

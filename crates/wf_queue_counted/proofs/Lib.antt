@@ -1,3 +1,0 @@
-mod CostLemmas
-mod Descent
-mod TreeLemmas

@@ -1,0 +1,53 @@
+-- `of` keeps the node's block.
+use Rattle.std.proofs.Common.{List, [], ◌∷◌, ◌++◌, refl, sym, subst}
+use mir.Val.{Val}
+use base.Logic.{SProp, ent, id⊢}
+use base.Fml.{ftrue}
+use prog.Wp.{WpFn}
+use types.Kit.{‵, ◌⊛◌, ◌$◌, ◌∵◌, !, qed, move, keep, drop, split, join, fsplit, fjoin, suffices, done}
+use types.Run.{stop, fld, of_opd, no_more, and_then, returns, enter}
+use types.ByLocal.{alloc_all, pass_all, free_all, look_at, get, get_in, sets}
+use types.Part.{agg, sub, whole}
+use contract.Running.{tables}
+use denote.Exit.{yes}
+use denote.RattleType.{owns}
+use denote.Signature.{plain}
+use denote.Steps.{nothing}
+use denote.RawPtr.{ptr_val}
+use denote.Triple.Walked.{says, Stays, stay_dropped, Goes-dropped, walk_of, ends_at}
+use Rattle.std.proofs.raw_atomic.Walks.{proved_at}
+use Rattle.std_alloc.proofs.RcSteps.{Ptr-Good}
+use Rattle.wf_queue_parts.proofs.PointerSteps.{words, both, run_good, run_in}
+use Rattle.wf_queue_parts.proofs.Nodes.{Owned, owned_out, owned_good}
+use Rattle.wf_queue_parts.specs.declared.chain.run.Run.{Run}
+use Rattle.wf_queue_parts.specs.contracts.chain.run.Run.of as f
+use Rattle.wf_queue_parts.proofs.chain.run.Run.of.Statement.{statement}
+use Rattle.wf_queue_parts.proofs.chain.run.Run.of.Code as code
+
+abbrev stayed : Stays f.ended.signature.params f.ended.kept
+stayed = (stay_dropped (plain (λ _. Owned)) yes, tt)
+
+pub of_spec : {M : Type 1} → statement M
+of_spec 𝓤 𝓛 𝓜 𝓡 wired =
+    let c = f.clauses 𝓛 𝓜.mem 𝓡.returns in let 𝓣 = tables 𝓤 𝓛.H 𝓜 𝓡 𝓡.env in
+    proved_at 𝓛 f.ended stayed c 𝓜 𝓡 (Goes-dropped 𝓛 0 (plain (λ _. Owned)) yes (λ κs x w. refl), tt)
+    f.Key.name code.function (code.unfolded 𝓤 𝓛.H 𝓜 𝓡 wired) (λ z are.
+    let v = z.0.3.0 in let p = v.at in
+    let Post : Val → SProp 𝓤 = (walk_of 𝓛 f.ended stayed c).post z in
+    let Goes : List Val → SProp 𝓤 = λ ws. WpFn 𝓤 𝓛.H 𝓣.C 𝓣.Λ code.function ws Post in
+    let new : Run = record { head = p; tail = p; nodes = (p, v.value) ∷ []; linked = ∣ ((refl, tt), refl) ∣₁ }
+    in
+    qed 𝓛 ((‵ ftrue ⊛ ‵ (owns (Owned ∷ []) z.0.3 z.0.4)) ∷ ‵ ftrue ∷ []) ∵ split ! $ drop ! $ fsplit ! $
+    owned_out ! v z.0.4.0 (λ hv e fits. keep ! (0 ∷ []) $
+    let w = both (ptr_val p) hv in
+    suffices ! (Goes (w ∷ [])) (subst (λ (us : List Val). ent 𝓤 (Goes (w ∷ [])) (Goes us))
+    (sym (λ i. e i ++ [])) (id⊢ 𝓤 (Goes (w ∷ [])))) $
+    enter ! 𝓣.C 𝓣.Λ code.function (w ∷ []) Post $ alloc_all !
+    (λ l. pass_all ! refl (owned_good p hv fits, tt) $
+    -- [the node's block]
+    sets ! (of_opd ! (get_in ! (fld ! refl (stop !)) (sub ! 0 refl (whole !)))) refl (Ptr-Good p) $
+    sets ! (agg ! (and_then ! (get ! refl) (and_then ! (get ! refl) (no_more !)))) refl (run_good p p) $
+    nothing ! $ move ! (1 ∷ 0 ∷ []) $ fjoin ! $ run_in ! new $
+    returns ! (look_at ! 0 refl) $ free_all ! refl $
+    suffices ! _ (ends_at 𝓛 f.ended stayed c z (words p p) new (tt, tt) (tt, tt)) $ says ! refl $
+    nothing ! $ nothing ! $ join ! $ nothing ! $ done !)))

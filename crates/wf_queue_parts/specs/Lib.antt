@@ -1,0 +1,4 @@
+pub mod Links
+pub mod OwnedNode
+pub mod Best
+pub mod Tree

@@ -1,0 +1,101 @@
+//! A list of parcels, linked by their nodes.
+
+ghost use Rattle.std.specs.Prelude.{◌≡◌, ◌+◌, ◌^◌, ◌<◌, [], ◌∷◌, ◌++◌, length, MatchOption};
+
+use crate::chain::parcel::Parcel;
+use crate::chain::run::Run;
+use std::marker::Model;
+
+/// A list of parcels. Putting one in and taking one out move its node, and take no memory; a chain that is
+/// dropped frees each of its nodes.
+pub struct Chain {
+    run: Run,
+    len: u32,
+}
+
+impl Model for Chain {
+    ghost use Rattle.std.specs.Prelude.{◌≡◌, List, length};
+    ghost use Rattle.wf_frame.specs.Frames.{FrameValue};
+
+    ghost Value = { List FrameValue };
+
+    ghost use Rattle.wf_queue_parts.specs.Links.{frames_of};
+
+    ghost view = { λ c. frames_of c.run.nodes };
+
+    ghost invariant = { λ c. c.len ≡ length c.run.nodes };
+}
+
+impl Chain {
+    /// The empty list.
+    pub fn new() -> Chain
+        ensures { result ≡ [] }
+    {
+        Chain {
+            run: Run::new(),
+            len: 0,
+        }
+    }
+
+    /// How many parcels it has.
+    pub fn len(&self) -> u32
+        ensures { result ≡ length self.now }
+    {
+        self.len
+    }
+
+    /// Appends a parcel.
+    pub fn push_back(&mut self, parcel: Parcel)
+        requires { length self.old + 1 < 2 ^ 32 }
+        ensures { self.new ≡ self.old ++ parcel ∷ [] }
+    {
+        let one = Run::of(parcel.into_owned());
+        let before = Run::take(&mut self.run);
+        let after = Run::join(self.len == 0, before, one);
+        Run::put(&mut self.run, after);
+        self.len += 1;
+    }
+
+    /// Takes the first parcel out; None exactly where the list is empty.
+    pub fn pop_front(&mut self) -> Option<Parcel>
+        ensures { MatchOption result ((self.old ≡ []) × (self.new ≡ [])) (λ p. self.old ≡ p ∷ self.new) }
+    {
+        if self.len == 0 {
+            return None;
+        }
+        let run = Run::take(&mut self.run);
+        let second = run.second();
+        let alloc = run.first().alloc;
+        let (first, rest) = run.split_first(second, alloc);
+        Run::put(&mut self.run, rest);
+        self.len -= 1;
+        Some(Parcel::of(first))
+    }
+
+    /// Moves all parcels of `other` to the end.
+    pub fn append(&mut self, other: &mut Chain)
+        requires { length self.old + length other.old < 2 ^ 32 }
+        ensures moved { self.new ≡ self.old ++ other.old }
+        ensures emptied { other.new ≡ [] }
+    {
+        if other.len == 0 {
+            return;
+        }
+        let more = Run::take(&mut other.run);
+        let before = Run::take(&mut self.run);
+        let after = Run::join(self.len == 0, before, more);
+        Run::put(&mut self.run, after);
+        self.len += other.len;
+        other.len = 0;
+    }
+}
+
+impl Drop for Chain {
+    fn drop(mut self) {
+        while let Some(parcel) = self.pop_front() {
+            drop(parcel);
+        }
+        let Chain { run, len: _ } = self;
+        run.end();
+    }
+}

@@ -1,0 +1,83 @@
+//! One frame in a node of its own.
+
+ghost use Rattle.std.specs.Prelude.{◌≡◌, MatchResult};
+ghost use Rattle.std.specs.Borrow.{Lends, sem};
+ghost use Rattle.wf_frame.specs.contracts.frames.Frame.{the_row as FrameRow};
+ghost use Rattle.wf_queue_parts.specs.contracts.chain.parcel.Parcel.{the_row};
+
+use crate::chain::node::Node;
+use crate::chain::unboxed::{OwnedNode, Unboxed};
+use std::alloc::{AllocError, Global};
+use std::marker::Model;
+use wf_frame::Frame;
+
+/// A frame in a node of its own, which is linked into a chain with no more memory.
+pub struct Parcel {
+    owned: OwnedNode,
+}
+
+impl Model for Parcel {
+    ghost use Rattle.wf_frame.specs.Frames.{FrameValue};
+
+    ghost Value = { FrameValue };
+
+    ghost view = { λ p. p.owned.value.frame };
+}
+
+impl Parcel {
+    /// Puts a frame into a node. Where there is no memory, the frame is handed back.
+    pub fn new(alloc: Global, frame: Frame) -> Result<Parcel, (AllocError, Frame)>
+        ensures { MatchResult result (λ p. p ≡ frame) (λ e. e.1 ≡ frame) }
+    {
+        match Box::new(alloc, Node::new(alloc, frame)) {
+            Ok(boxed) => Ok(Parcel {
+                owned: Unboxed::of(boxed),
+            }),
+            Err(refused) => Err((AllocError, refused.value.frame)),
+        }
+    }
+
+    /// The frame.
+    pub fn frame(&self) -> &Frame
+        ensures { result.now ≡ self.now }
+    {
+        &self.owned.get().frame
+    }
+
+    /// The frame; what is left behind the reference is the parcel's frame.
+    pub fn frame_mut(&mut self) -> &mut Frame
+        ensures* writes_back { sem 𝓛 (Lends the_row FrameRow self.entry result (λ f. f)) }
+        ensures value { result.now ≡ self.old }
+    {
+        let node = self.owned.get_mut();
+        &mut node.frame
+    }
+
+    /// Takes the frame out; the node's memory is freed. For a driver that goes on with the frame itself once
+    /// a path is done with the parcel.
+    pub fn into_frame(self) -> Frame
+        ensures { result ≡ self }
+    {
+        Box::into_inner(self.into_owned().into_box()).frame
+    }
+
+    pub(crate) fn of(owned: OwnedNode) -> Parcel
+        ensures { result ≡ owned.value.frame }
+    {
+        Parcel { owned }
+    }
+
+    pub(crate) fn into_owned(self) -> OwnedNode
+        ensures { result.value.frame ≡ self }
+    {
+        let Parcel { owned } = self;
+        owned
+    }
+}
+
+impl Drop for Parcel {
+    fn drop(self) {
+        let Parcel { owned } = self;
+        drop(owned.into_box());
+    }
+}
