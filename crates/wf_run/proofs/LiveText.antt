@@ -8,8 +8,8 @@ use Rattle.wf_law_runs.specs.Laws.{Laws}
 use Rattle.wf_law_runs.specs.Lengths.{HasLengths}
 use Rattle.wf_law_runs.specs.Queues.{HasLength, IsAtMost}
 use Rattle.wf_law_runs.proofs.AllLaws.{laws}
-use Rattle.wf_run_live.specs.Lives.{IsLiveHistory, TellsOf}
-use Rattle.wf_run_live.proofs.Printable.{are_printable}
+use Rattle.wf_run_histories.specs.Lives.{IsLiveHistory, TellsOf}
+use Rattle.wf_run_histories.proofs.Printable.{are_printable}
 use Rattle.wf_def_lists.specs.Lengths.{greatest_body}
 use Rattle.wf_trace.specs.Printing.{IsPrintable}
 use Rattle.wf_trace.specs.Reading.{reading}

@@ -7,9 +7,9 @@ use Rattle.wf_frame.specs.Settings.{standard}
 use Rattle.wf_law_runs.specs.Laws.{Laws}
 use Rattle.wf_law_runs.specs.Queues.{HasLength, IsAtMost}
 use Rattle.wf_law_runs.proofs.AllLaws.{laws}
-use Rattle.wf_run_soak.specs.Lengths.{HasSoakLength, HaveSoakLengths}
-use Rattle.wf_run_soak.proofs.SoakLengths.{soak_lengths as of_soak}
-use Rattle.wf_run_soak.specs.Soak.{soak_history}
+use Rattle.wf_run_histories.specs.Lengths.{HasSoakLength, HaveSoakLengths}
+use Rattle.wf_run_histories.proofs.SoakLengths.{soak_lengths as of_soak}
+use Rattle.wf_run_histories.specs.Soak.{soak_history}
 use Rattle.wf_def_world.specs.Run.{Entry, Past, world_of}
 use Rattle.wf_def_world.specs.Text.{summary}
 use Rattle.wf_law_runs.specs.Lengths.{HasLengths}

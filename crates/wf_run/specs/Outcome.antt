@@ -16,8 +16,8 @@ use Rattle.wf_run_replay.specs.CaptureOutcome.{CaptureLaw}
 use Rattle.wf_run_scripts.specs.SessionOutcome.{SessionLaw}
 use Rattle.wf_run_scripts.specs.UplinkOutcome.{UplinkLaw}
 use Rattle.wf_report.specs.ListingLaw.{FramesLaw}
-use Rattle.wf_run_soak.specs.Soak.{soak_history}
-use Rattle.wf_run_live.specs.Lives.{IsLiveHistory, TellsOf}
+use Rattle.wf_run_histories.specs.Soak.{soak_history}
+use Rattle.wf_run_histories.specs.Lives.{IsLiveHistory, TellsOf}
 
 -- what is written of a soak: the summary of its history
 unfoldable pub soak_text : ℕ → ℕ → List ℕ

@@ -12,7 +12,7 @@ ghost use Rattle.wf_run_replay.specs.CaptureOutcome.{CaptureOutcome};
 ghost use Rattle.wf_run_scripts.specs.SessionOutcome.{SessionOutcome, SessionAnswered};
 ghost use Rattle.wf_run_scripts.specs.UplinkOutcome.{UplinkOutcome, UplinkAnswered};
 ghost use Rattle.wf_report.specs.ListingOutcome.{FramesOutcome, FramesAnswered};
-ghost use Rattle.wf_run_live.specs.Lives.{LiveStatusSays};
+ghost use Rattle.wf_run_histories.specs.Lives.{LiveStatusSays};
 ghost use Rattle.wf_run.specs.Outcome.{SoakStatusSays, ProgramLaws};
 
 use crate::help::{Command, command_from, help, version};
@@ -23,12 +23,12 @@ use wf_gate::Turnstile;
 use wf_io::{Sink, Source, Status};
 use wf_report::captures::listing::frames;
 use wf_report::summary;
-use wf_run_live::lived;
+use wf_run_histories::live::lived;
+use wf_run_histories::soak::soak;
 use wf_run_replay::capture::capture;
 use wf_run_replay::replay;
 use wf_run_scripts::session::session;
 use wf_run_scripts::uplink::uplink;
-use wf_run_soak::soak;
 
 /// Writes the summary of the soak of a seed and a number of calls, 1 to 1,000,000.
 pub fn soaked<K: Sink>(alloc: Global, seed: u64, calls: u32, sink: &mut K) -> Status

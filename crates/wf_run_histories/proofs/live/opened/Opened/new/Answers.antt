@@ -1,0 +1,5 @@
+use Rattle.std.proofs.Common.{refl}
+use Rattle.wf_run_histories.proofs.live.opened.Opened.new.Goals as goal
+
+pub of-requires : goal.of-requires
+of-requires c = rw (c.standard.ensures) refl

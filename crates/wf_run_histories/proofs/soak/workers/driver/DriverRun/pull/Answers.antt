@@ -1,0 +1,14 @@
+use Rattle.std.proofs.Common.{refl}
+use Rattle.wf_run_histories.specs.Drivers.{at}
+use Rattle.wf_run_histories.specs.Workloads.Phase.{Pulls}
+use Rattle.wf_run_histories.proofs.Walks.{on_err, walks_one, walks_to, stops_at}
+use Rattle.wf_run_histories.proofs.soak.workers.driver.DriverRun.pull.Goals as goal
+
+pub returns-in_err-ask-clause-spent : goal.returns-in_err-ask-clause-spent
+returns-in_err-ask-clause-spent g c = on_err c.from_residual.result
+    (stops_at c.in_err-ask.ensures.spent (at c.args.self.now (Pulls c.args.clock)))
+
+pub returns-clause-walks : goal.returns-clause-walks
+returns-clause-walks g c =
+    walks_to (walks_one c.in_ok-ask.ensures.made (at c.args.self.now (Pulls c.args.clock)) refl)
+    (rw (c.pulled.ensures, c.answer.ensures) refl)

@@ -1,0 +1,165 @@
+-- The soak: a large history made from a number. A draw is the next 32-bit word of the PCG generator XSH RR
+-- 64/32 with this seed and stream 0. Which calls are made follows from the machine's own replies, so the
+-- history is a function of the seed and of the number of calls.
+use Rattle.std.specs.Prelude.{◌≡◌, ◌≤◌, ℕ, zero, suc, ◌+◌, ◌-◌, ◌/◌, ◌%◌, ◌==◌, Bool, true, false, not, ◌&&◌, ◌||◌, List, [], ◌∷◌, ◌++◌, Option, Some, None, if◌then◌else◌, length}
+use Rattle.rand_pcg.specs.Lcg.{Lcg, started, increment_of}
+use Rattle.rand_pcg.specs.Pcg.{pcg32, multiplier_64}
+use Rattle.wf_frame.specs.Settings.{standard}
+use Rattle.wf_frame.specs.declared.classes.Class.{Class}
+use Rattle.wf_frame.specs.declared.classes.Class.TheVariants.{Bk, Be, Vi, Vo}
+use Rattle.wf_frame.specs.declared.notes.Ask.TheVariants.{Tick, Pull, Arrive, Answer, Done, Sleep, Wake, Poll, Rx, Reap}
+use Rattle.wf_frame.specs.declared.notes.Note.{Note}
+use Rattle.wf_frame.specs.declared.notes.Note.TheVariants.{Enqueue, Asked}
+use Rattle.wf_frame.specs.declared.notes.Part.{Part}
+use Rattle.wf_frame.specs.declared.notes.Part.TheVariants.{Mpdus, Request}
+use Rattle.wf_frame.specs.declared.notes.Refusal.TheVariants.{Nothing}
+use Rattle.wf_frame.specs.declared.notes.ReplyNote.{ReplyNote}
+use Rattle.wf_frame.specs.declared.notes.ReplyNote.TheVariants.{Send, Refused}
+use Rattle.wf_def_lists.specs.Table.{at}
+use Rattle.wf_def_world.specs.World.{World, opening}
+use Rattle.wf_def_world.specs.Step.{step}
+use Rattle.wf_def_world.specs.Run.{Entry, by, world_after}
+use Rattle.wf_run_histories.specs.Stations.{standard_join, standard_rate}
+
+-- a soak under way: the calls so far, the words to come, and how many calls are left
+pub record Soak : Type 0 where
+  pub past : List Entry
+  pub words : Lcg
+  pub left : ℕ
+
+-- the machine, with the standard settings, after the calls so far
+abbrev pub machine_of : Soak → World
+machine_of k = world_after (opening standard) k.past
+
+-- a later state of the same soak: calls were made of those that were left
+abbrev pub IsLater : Soak → Soak → Type 0
+IsLater k later = (length later.past + later.left ≡ length k.past + k.left) × (later.left ≤ k.left)
+
+-- the next word, and the soak without it
+abbrev pub word : Soak → ℕ
+word k = (pcg32 k.words).0
+
+abbrev pub drawn : Soak → Soak
+drawn k = record k { words = (pcg32 k.words).1 }
+
+-- a call is made where one is left, and its reply
+unfoldable pub call : Note → Soak → Soak
+call note k = if k.left == 0 then k else record k { past = k.past ++ by 0 note ∷ []; left = k.left - 1 }
+
+unfoldable pub reply_to : Note → Soak → Option ReplyNote
+reply_to note k = if k.left == 0 then None else Some (step (machine_of k) note).reply
+
+-- ---- the stations
+
+-- a standard station joins, with a window from the number 4080 + s on, and its rate is set
+abbrev pub station_joins : ℕ → Soak → Soak
+station_joins s k = call (Asked (standard_rate s)) (call (Asked (standard_join s (4080 + s))) k)
+
+-- n stations join, from station s on
+unfoldable pub stations_join : ℕ → ℕ → Soak → Soak
+stations_join s zero k = k
+stations_join s (suc n) k = stations_join (suc s) n (station_joins s k)
+
+-- ---- a round
+
+-- the frame that a word names
+abbrev pub frame_for : ℕ → ℕ → Note
+frame_for station w = Enqueue station ((w / 16) % 8) ((w / 128) % 256) (64 + (w / 32768) % 1437)
+
+abbrev pub frame_put : Soak → Soak
+frame_put k = call (frame_for (word k % 16) (word k)) (drawn k)
+
+-- every eighth round a station used some airtime
+abbrev pub air_used : ℕ → Soak → Soak
+air_used r k = if r % 8 == 0 then call (Asked (Rx ((r / 8) % 16) Be 200)) k else k
+
+-- every 64 rounds a station sleeps; it polls 16 rounds later and wakes 32 rounds later
+abbrev pub sleeper_called : ℕ → Soak → Soak
+sleeper_called r k =
+    if r % 64 == 0 then call (Asked (Sleep ((r / 64) % 16))) k
+    else (if r % 64 == 16 then call (Asked (Poll ((r / 64) % 16))) k
+    else (if r % 64 == 32 then call (Asked (Wake ((r / 64) % 16))) k else k))
+
+-- one transmission of an exchange: nine words in ten let it arrive
+abbrev pub lets_arrive : Soak → Bool
+lets_arrive k = not (word k % 10 == 0)
+
+abbrev pub transmission_sent : ℕ → ℕ → Soak → Soak
+transmission_sent e i k = if lets_arrive k then call (Asked (Arrive e i)) (drawn k) else drawn k
+
+-- n transmissions, from index i on; whether one arrived
+unfoldable pub all_sent : ℕ → ℕ → ℕ → Soak → Soak
+all_sent e i zero k = k
+all_sent e i (suc n) k = all_sent e (suc i) n (transmission_sent e i k)
+
+unfoldable pub some_arrive : ℕ → ℕ → ℕ → Soak → Bool
+some_arrive e i zero k = false
+some_arrive e i (suc n) k = lets_arrive k || some_arrive e (suc i) n (transmission_sent e i k)
+
+abbrev pub after_answer_if : Bool → ℕ → Soak → Soak
+after_answer_if answered e k = if answered then call (Asked (Answer e)) k else k
+
+-- an exchange is heard where it was answered, but for one word in twenty
+abbrev pub exchange_ended : Bool → ℕ → Soak → Soak
+exchange_ended answered e k = call (Asked (Done e (answered && not (word k % 20 == 0)) None)) (drawn k)
+
+abbrev pub transmissions_in : Part → ℕ
+transmissions_in (Mpdus pairs) = length pairs
+transmissions_in (Request start) = 1
+
+unfoldable pub exchange_played : ℕ → ℕ → Soak → Soak
+exchange_played e n k =
+    let answered : Bool = some_arrive e 0 n k in
+    exchange_ended answered e (after_answer_if answered e (all_sent e 0 n k))
+
+-- the exchange that a reply begins, and how many transmissions it has
+abbrev pub sending : Option ReplyNote → Option (ℕ × ℕ)
+sending (Some (Send e s t air part more)) = Some (e, transmissions_in part)
+sending _ = None
+
+-- what follows the reply to a pull
+abbrev pub sending_played : Option (ℕ × ℕ) → Soak → Soak
+sending_played None k = k
+sending_played (Some exchange) k = exchange_played exchange.0 exchange.1 k
+
+abbrev pub class_in_round : ℕ → Class
+class_in_round r = at Vo (Bk ∷ Be ∷ Vi ∷ []) (r % 4)
+
+abbrev pub after_pull : Class → Soak → Soak
+after_pull c k = sending_played (sending (reply_to (Asked (Pull c)) k)) (call (Asked (Pull c)) k)
+
+-- reap until nothing is left to reap, or no call is left: at most n times
+abbrev pub is_nothing : Option ReplyNote → Bool
+is_nothing (Some (Refused Nothing)) = true
+is_nothing _ = false
+
+unfoldable pub after_reaps : ℕ → Soak → Soak
+after_reaps zero k = k
+after_reaps (suc n) k = if is_nothing (reply_to (Asked Reap) k) then call (Asked Reap) k
+    else after_reaps n (call (Asked Reap) k)
+
+abbrev pub after_all_reaps : Soak → Soak
+after_all_reaps k = after_reaps k.left k
+
+unfoldable pub round_played : ℕ → Soak → Soak
+round_played r k =
+    after_all_reaps (after_pull (class_in_round r)
+    (sleeper_called r (air_used r (call (Asked (Tick 1000))
+    (frame_put (frame_put (frame_put (frame_put k))))))))
+
+-- rounds from round r on, until no call is left: at most n of them
+unfoldable pub rounds_played : ℕ → ℕ → Soak → Soak
+rounds_played zero r k = k
+rounds_played (suc n) r k = if k.left == 0 then k else rounds_played n (suc r) (round_played r k)
+
+abbrev pub soak_begun : ℕ → ℕ → Soak
+soak_begun seed calls = record {
+  past = [];
+  words = started 64 multiplier_64 seed (increment_of 64 0);
+  left =
+      calls;
+}
+
+-- the history of a seed and a number of calls
+unfoldable pub soak_history : ℕ → ℕ → List Entry
+soak_history seed calls = (rounds_played calls 0 (stations_join 0 16 (soak_begun seed calls))).past

@@ -1,0 +1,381 @@
+//! The soak: a large history made from a number.
+
+ghost use Rattle.std.specs.Prelude.{◌≡◌, ◌-◌, ◌%◌, ◌≤◌, ◌<◌, IfOk, OnOk, Some, None, length, if◌then◌else◌};
+ghost use Rattle.wf_frame.specs.Answers.{reply_of};
+ghost use Rattle.wf_frame.specs.Settings.{standard};
+ghost use Rattle.wf_frame.specs.declared.notes.Ask.TheVariants.{Pull, Reap};
+ghost use Rattle.wf_frame.specs.declared.notes.Note.TheVariants.{Asked};
+ghost use Rattle.wf_path.specs.Jobs.{note_of};
+ghost use Rattle.wf_run_histories.specs.Lengths.{HaveSoakLengths};
+ghost use Rattle.wf_run_histories.specs.Soak.{IsLater, frame_for, soak_begun, call, reply_to, stations_join, station_joins, frame_put, air_used, sleeper_called, transmission_sent, lets_arrive, all_sent, some_arrive, exchange_ended, after_answer_if, exchange_played, sending, sending_played, class_in_round, after_pull, after_all_reaps, round_played, rounds_played, soak_history, drawn, word, is_nothing};
+
+use crate::soak::workers::{standard_join, standard_rate};
+use rand_core::utils::NextWord;
+use rand_pcg::Lcg64Xsh32;
+use std::alloc::{AllocError, Global};
+use std::marker::Model;
+use wf_cell::{Cell, Job};
+use wf_frame::{Answer, Ask, Brief, Class, Config, Frame, Refusal};
+use wf_queue_parts::chain::Parcel;
+
+/// A soak under way: the cell, whose history has the calls so far, the words to come, and how many calls are
+/// left.
+#[derive(Drop)]
+struct SoakRun {
+    alloc: Global,
+    cell: Cell,
+    words: Lcg64Xsh32,
+    left: u32,
+}
+
+impl Model for SoakRun {
+    ghost use Rattle.std.specs.Prelude.{◌≡◌, ◌+◌, ◌≤◌, length};
+    ghost use Rattle.wf_frame.specs.Settings.{standard};
+    ghost use Rattle.wf_run_histories.specs.Soak.{Soak};
+
+    ghost Value = { Soak };
+
+    ghost view = { λ k. record { past = k.cell.past.history; words = k.words; left = k.left } };
+
+    ghost invariant = { λ k. (k.cell.past.config ≡ standard)
+        × (length k.cell.past.history + k.left ≤ 1000000) };
+}
+
+/// The cell after the soak of a seed and a number of calls, 1 to 1,000,000: the standard settings, sixteen
+/// stations, and rounds of enqueues, pulls, losses and reaps until so many calls were made. Fails only for
+/// want of memory.
+#[tactic(auto, unfolding(crate::specs::Soak::soak_history), using(crate::proofs::SoakLengths::soak_lengths))]
+pub fn soak(alloc: Global, seed: u64, calls: u32) -> Result<Cell, AllocError>
+    requires { (1 ≤ calls) × (calls ≤ 1000000) }
+    ensures made { IfOk result
+        (λ c. c.past ≡ record { config = standard; history = soak_history seed calls }) }
+    ensures counted { IfOk result (λ c. length (soak_history seed calls) ≡ calls) }
+    ensures lengths { HaveSoakLengths (soak_history seed calls) }
+{
+    let mut soak = SoakRun::new(alloc, seed, calls)?;
+    let mut answer = Answer::new();
+    soak.stations_join(&mut answer);
+    soak.rounds_played(calls, &mut answer)?;
+    Ok(soak.cell)
+}
+
+impl SoakRun {
+    fn new(alloc: Global, seed: u64, calls: u32) -> Result<SoakRun, AllocError>
+        requires { calls ≤ 1000000 }
+        ensures { IfOk result (λ k. k ≡ soak_begun seed calls) }
+    {
+        let cell = Cell::of(alloc, Config::standard())?;
+        Ok(SoakRun {
+            alloc,
+            cell,
+            words: Lcg64Xsh32::new(seed, 0),
+            left: calls,
+        })
+    }
+
+    /// Makes a call, where one is left, and tells whether it did.
+    fn call(&mut self, job: Job, answer: &mut Answer) -> bool
+        ensures made { self.new ≡ call (note_of job) self.old }
+        ensures reply { (if result then Some (reply_of answer.new) else None)
+            ≡ reply_to (note_of job) self.old }
+        ensures later { IsLater self.old self.new }
+        ensures left { self.new.left ≡ self.old.left - 1 }
+    {
+        if self.left == 0 {
+            return false;
+        }
+        self.left -= 1;
+        let _ = self.cell.step(0, job, answer);
+        true
+    }
+
+    /// Makes a call without a frame, where one is left, and tells whether it did.
+    fn ask(&mut self, ask: Ask, answer: &mut Answer) -> bool
+        ensures made { self.new ≡ call (Asked ask) self.old }
+        ensures reply { (if result then Some (reply_of answer.new) else None)
+            ≡ reply_to (Asked ask) self.old }
+        ensures later { IsLater self.old self.new }
+        ensures left { self.new.left ≡ self.old.left - 1 }
+    {
+        self.call(Job::Call(ask), answer)
+    }
+
+    /// Draws the next word.
+    fn draw(&mut self) -> u32
+        ensures drawn { self.new ≡ drawn self.old }
+        ensures word { result ≡ word self.old }
+    {
+        self.words.next_word()
+    }
+
+    fn station_joins(&mut self, station: u16, answer: &mut Answer)
+        requires { station < 16 }
+        ensures made { self.new ≡ station_joins station self.old }
+        ensures later { IsLater self.old self.new }
+    {
+        self.ask(standard_join(station, 4080 + station), answer);
+        self.ask(standard_rate(station), answer);
+    }
+
+    /// The sixteen stations join, each with its rate.
+    fn stations_join(&mut self, answer: &mut Answer)
+        ensures made { self.new ≡ stations_join 0 16 self.old }
+        ensures later { IsLater self.old self.new }
+    {
+        for station in 0..16u16 {
+            self.station_joins(station, answer);
+        }
+    }
+
+    /// A frame from the next word, for the station that the word names.
+    fn frame_put(&mut self, answer: &mut Answer) -> Result<(), AllocError>
+        ensures made { OnOk result (self.new ≡ frame_put self.old) }
+        ensures later { OnOk result (IsLater self.old self.new) }
+        ensures left { OnOk result (self.new.left ≡ self.old.left - 1) }
+    {
+        let word = self.draw();
+        let job = job_for(self.alloc, word)?;
+        self.call(job, answer);
+        Ok(())
+    }
+
+    /// Every eighth round a station used some airtime.
+    fn air_used(&mut self, round: u32, answer: &mut Answer)
+        ensures made { self.new ≡ air_used round self.old }
+        ensures later { IsLater self.old self.new }
+    {
+        if round % 8 != 0 {
+            return;
+        }
+        self.ask(
+            Ask::Rx {
+                station: (round / 8 % 16) as u16,
+                class: Class::Be,
+                air: 200,
+            },
+            answer,
+        );
+    }
+
+    /// Every 64 rounds a station sleeps; it polls 16 rounds later and wakes 32 rounds later.
+    fn sleeper_called(&mut self, round: u32, answer: &mut Answer)
+        ensures made { self.new ≡ sleeper_called round self.old }
+        ensures later { IsLater self.old self.new }
+    {
+        let station = (round / 64 % 16) as u16;
+        match round % 64 {
+            0 => {
+                self.ask(Ask::Sleep { station }, answer);
+            }
+            16 => {
+                self.ask(Ask::Poll { station }, answer);
+            }
+            32 => {
+                self.ask(Ask::Wake { station }, answer);
+            }
+            _ => {}
+        }
+    }
+
+    /// One transmission: nine words in ten let it arrive. Tells whether it did.
+    fn transmission_sent(&mut self, exchange: u64, index: u16, answer: &mut Answer) -> bool
+        ensures made { self.new ≡ transmission_sent exchange index self.old }
+        ensures arrived { result ≡ lets_arrive self.old }
+        ensures later { IsLater self.old self.new }
+    {
+        if self.draw() % 10 == 0 {
+            return false;
+        }
+        self.ask(Ask::Arrive { exchange, index }, answer);
+        true
+    }
+
+    /// Each transmission of an exchange in turn. Tells whether one arrived.
+    fn all_sent(&mut self, exchange: u64, count: u16, answer: &mut Answer) -> bool
+        ensures made { self.new ≡ all_sent exchange 0 count self.old }
+        ensures arrived { result ≡ some_arrive exchange 0 count self.old }
+        ensures later { IsLater self.old self.new }
+    {
+        let mut some = false;
+        for index in 0..count {
+            let arrived = self.transmission_sent(exchange, index, answer);
+            some |= arrived;
+        }
+        some
+    }
+
+    fn answered_if(&mut self, answered: bool, exchange: u64, answer: &mut Answer)
+        ensures made { self.new ≡ after_answer_if answered exchange self.old }
+        ensures later { IsLater self.old self.new }
+    {
+        if answered {
+            self.ask(Ask::Answer { exchange }, answer);
+        }
+    }
+
+    /// An exchange is heard where it was answered, but for one word in twenty.
+    fn exchange_ended(&mut self, answered: bool, exchange: u64, answer: &mut Answer)
+        ensures made { self.new ≡ exchange_ended answered exchange self.old }
+        ensures later { IsLater self.old self.new }
+    {
+        let word = self.draw();
+        let heard = answered && word % 20 != 0;
+        self.ask(
+            Ask::Done {
+                exchange,
+                heard,
+                air: None,
+            },
+            answer,
+        );
+    }
+
+    #[tactic(auto, unfolding(crate::specs::Soak::exchange_played))]
+    fn exchange_played(&mut self, exchange: u64, count: u16, answer: &mut Answer)
+        ensures made { self.new ≡ exchange_played exchange count self.old }
+        ensures later { IsLater self.old self.new }
+    {
+        let answered = self.all_sent(exchange, count, answer);
+        self.answered_if(answered, exchange, answer);
+        self.exchange_ended(answered, exchange, answer);
+    }
+
+    /// What follows the reply to a pull.
+    fn sending_played(&mut self, sending: Option<(u64, u16)>, answer: &mut Answer)
+        ensures made { self.new ≡ sending_played sending self.old }
+        ensures later { IsLater self.old self.new }
+    {
+        if let Some((exchange, count)) = sending {
+            self.exchange_played(exchange, count, answer);
+        }
+    }
+
+    /// A pull of a class, where a call is left: the exchange that it begins, and how many transmissions that
+    /// has.
+    fn pull(&mut self, class: Class, answer: &mut Answer) -> Option<(u64, u16)>
+        ensures made { self.new ≡ call (Asked (Pull class)) self.old }
+        ensures sending { result ≡ sending (reply_to (Asked (Pull class)) self.old) }
+        ensures later { IsLater self.old self.new }
+    {
+        if self.ask(Ask::Pull { class }, answer) {
+            sending(answer)
+        } else {
+            None
+        }
+    }
+
+    /// A pull of a class, and the exchange that it begins.
+    fn pulled(&mut self, class: Class, answer: &mut Answer)
+        ensures made { self.new ≡ after_pull class self.old }
+        ensures later { IsLater self.old self.new }
+    {
+        let sending = self.pull(class, answer);
+        self.sending_played(sending, answer);
+    }
+
+    /// A reap, where a call is left. Tells whether nothing was left to reap.
+    fn reap(&mut self, answer: &mut Answer) -> bool
+        ensures made { self.new ≡ call (Asked Reap) self.old }
+        ensures nothing { result ≡ is_nothing (reply_to (Asked Reap) self.old) }
+        ensures later { IsLater self.old self.new }
+        ensures left { self.new.left ≡ self.old.left - 1 }
+    {
+        self.ask(Ask::Reap, answer) && is_nothing(answer)
+    }
+
+    /// Reaps until nothing is left to reap, or no call is left.
+    fn all_reaped(&mut self, answer: &mut Answer)
+        ensures made { self.new ≡ after_all_reaps self.old }
+        ensures later { IsLater self.old self.new }
+    {
+        for _ in 0..self.left {
+            if self.reap(answer) {
+                return;
+            }
+        }
+    }
+
+    #[tactic(auto, unfolding(crate::specs::Soak::round_played))]
+    fn round_played(&mut self, round: u32, answer: &mut Answer) -> Result<(), AllocError>
+        ensures made { OnOk result (self.new ≡ round_played round self.old) }
+        ensures later { OnOk result (IsLater self.old self.new) }
+        ensures left { OnOk result (self.new.left ≤ self.old.left - 1) }
+    {
+        self.frame_put(answer)?;
+        self.frame_put(answer)?;
+        self.frame_put(answer)?;
+        self.frame_put(answer)?;
+        self.ask(Ask::Tick { by: 1000 }, answer);
+        self.air_used(round, answer);
+        self.sleeper_called(round, answer);
+        self.pulled(class_in_round(round), answer);
+        self.all_reaped(answer);
+        Ok(())
+    }
+
+    /// Rounds until no call is left, at most `most` of them.
+    fn rounds_played(&mut self, most: u32, answer: &mut Answer) -> Result<(), AllocError>
+        ensures made { OnOk result (self.new ≡ rounds_played most 0 self.old) }
+        ensures later { OnOk result (IsLater self.old self.new) }
+        ensures ended { OnOk result (self.new.left ≤ self.old.left - most) }
+    {
+        for round in 0..most {
+            if self.left == 0 {
+                return Ok(());
+            }
+            self.round_played(round, answer)?;
+        }
+        Ok(())
+    }
+}
+
+/// The frame that a word names, for the station that it names.
+fn job_for(alloc: Global, word: u32) -> Result<Job, AllocError>
+    ensures { IfOk result (λ job. note_of job ≡ frame_for (word % 16) word) }
+{
+    let frame = Frame::sample(
+        alloc,
+        (word % 16) as u16,
+        (word / 16 % 8) as u8,
+        word / 128 % 256,
+        (64 + word / 32768 % 1437) as u16,
+    )?;
+    match Parcel::new(alloc, frame) {
+        Ok(parcel) => Ok(Job::Give(parcel)),
+        Err((refused, _)) => Err(refused),
+    }
+}
+
+fn class_in_round(round: u32) -> Class
+    ensures { result ≡ class_in_round round }
+{
+    match round % 4 {
+        0 => Class::Bk,
+        1 => Class::Be,
+        2 => Class::Vi,
+        _ => Class::Vo,
+    }
+}
+
+/// The exchange that an answer begins, and how many transmissions it has.
+fn sending(answer: &Answer) -> Option<(u64, u16)>
+    ensures { result ≡ sending (Some (reply_of answer.now)) }
+{
+    match answer.brief {
+        Brief::Send {
+            exchange,
+            request,
+            ..
+        } => match request {
+            Some(_) => Some((exchange, 1)),
+            None => Some((exchange, answer.pairs.len() as u16)),
+        },
+        _ => None,
+    }
+}
+
+fn is_nothing(answer: &Answer) -> bool
+    ensures { result ≡ is_nothing (Some (reply_of answer.now)) }
+{
+    matches!(answer.brief, Brief::Refused(Refusal::Nothing))
+}

@@ -1,7 +1,0 @@
-mod Closing
-mod Places
-pub mod Printable
-mod Quotas
-mod Standing
-mod Texts
-mod Workers

@@ -1,5 +1,0 @@
-use Rattle.std.proofs.Common.{refl}
-use Rattle.wf_run_live.proofs.opened.Opened.new.Goals as goal
-
-pub of-requires : goal.of-requires
-of-requires c = rw (c.standard.ensures) refl

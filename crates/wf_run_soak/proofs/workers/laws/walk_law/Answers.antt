@@ -1,5 +1,0 @@
-use Rattle.wf_run_soak.proofs.Prints.{walk_law}
-use Rattle.wf_run_soak.proofs.workers.laws.walk_law.Goals as goal
-
-pub returns : goal.returns
-returns c = walk_law

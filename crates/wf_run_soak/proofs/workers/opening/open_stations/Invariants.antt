@@ -1,8 +1,0 @@
-use Rattle.std.proofs.Common.{◌≡◌, ◌≤◌}
-use Rattle.wf_run_soak.specs.Opening.{with_entries, opening_calls}
-use Rattle.wf_run_soak.proofs.workers.opening.open_stations.Given as goal
-
-abbrev pub invariant-loop-station : goal.invariant-loop-station
-invariant-loop-station g l =
-    (l.station ≤ l.stations) × (g.M.Opens.past l.machine
-    ≡ with_entries (opening_calls l.station) (g.M.Opens.past l.fn.machine))

@@ -1,8 +1,0 @@
-use Rattle.wf_run_soak.proofs.Walks.{makes_one}
-use Rattle.wf_run_soak.proofs.workers.sender.send.Goals as goal
-
-pub returns : goal.returns
-returns g c = record {
-  sent = rw (c.new-words.ensures, c.from.ensures) at
-      (makes_one c.in_ok-send_frames.ensures.sent c.in-Ok.ensures.made);
-}
