@@ -44,7 +44,7 @@ def of_functions(records):
     """The seconds of each function, by crate and name: in the check that told of most functions of the crate."""
     told = collections.defaultdict(list)
     for record in records:
-        if record["kind"] in ("proof", "seed") and record["words"][0] == "check" and record["status"] == 0:
+        if record["functions"] is not None and record["status"] == 0:
             told[record["crate"]].append(record)
     found = {}
     for crate, checks in told.items():
@@ -93,9 +93,9 @@ def row(*cells):
     return f"| {' | '.join(map(str, cells))} |"
 
 
-def by_the_clock(seconds):
-    """How long a run took by the clock, where that is known."""
-    return "" if seconds is None else f", and {seconds / 60:,.0f} by the clock"
+def by_the_clock(seconds, processors):
+    """How long a run took by the clock, and on how many processors, where that is known."""
+    return "" if seconds is None else f", and {seconds / 60:,.0f} by the clock on {processors} processors"
 
 
 def table(kept):
@@ -108,7 +108,7 @@ def table(kept):
     command = " ".join(["rt ci --anew", *kept["names"]])
     lines = [f"Processor seconds of `{command}`, by `bench/gate`, at {kept['commit']}, with {kept['kit']}:",
              f"proofs {sums['proof']:,.0f}, tests {sums['tests']:,.0f}, {tried} tries of must-fail edits {sums['edits']:,.0f}; "
-             f"together {whole / 60:,.0f} minutes{by_the_clock(kept.get('wall'))}.", "", row("Crate", "Lines", "Proof", "Tests", "Edits", "All"), "|---|--:|--:|--:|--:|--:|"]
+             f"together {whole / 60:,.0f} minutes{by_the_clock(kept.get('wall'), kept.get('processors'))}.", "", row("Crate", "Lines", "Proof", "Tests", "Edits", "All"), "|---|--:|--:|--:|--:|--:|"]
     for name, crate in sorted(crates.items(), key=lambda it: -sum(it[1][column] for column in COLUMNS)):
         each = [f"{crate[it]:.0f}" for it in COLUMNS]
         lines.append(row(name, kept["lines"].get(name, ""), *each, f"{sum(crate[it] for it in COLUMNS):.0f}"))

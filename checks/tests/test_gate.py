@@ -25,7 +25,8 @@ gate, watched = load(BENCH / "gate", "gate"), load(BENCH / "gate.d" / "watched",
 
 def record(crate, kind, seconds, functions=(), word="check", status=0):
     """A record as watched makes it."""
-    return {"crate": crate, "kind": kind, "words": [word], "at": "/", "status": status, "seconds": seconds, "functions": [*functions]}
+    told = [*functions] if watched.can_tell([word], kind) else None
+    return {"crate": crate, "kind": kind, "words": [word], "at": "/", "status": status, "seconds": seconds, "functions": told}
 
 
 RUN = [
@@ -66,6 +67,10 @@ class Costs(unittest.TestCase):
         self.assertIn("| low | 9 | 40 | 50 | 45 | 135 |\n| laws |  | 25 | 0 | 0 | 25 |\n| top |", text)
         self.assertTrue(text.endswith("| `top::main` | 18 |\n| `low::g` | 18 |\n"))
 
+    def test_the_clock_is_told_where_it_is_known(self):
+        self.assertEqual(costs.by_the_clock(None, 4), "")
+        self.assertEqual(costs.by_the_clock(1790, 4), ", and 30 by the clock on 4 processors")
+
     def test_the_seconds_of_each_crate(self):
         self.assertEqual(costs.seconds_of(RUN, ["top", "new", "low"]), "top 21\nlow 135\n")
 
@@ -87,10 +92,17 @@ class Words(unittest.TestCase):
 
     def test_a_check_in_place_of_a_build(self):
         words = ["build", "--crate-name", "low", "--statements", "-o", "out/low.rlib", "--toolchain", "kit", "--jobs", "2", "src/lib.rt"]
-        self.assertEqual(gate.check_words(words), ["check", "--crate-name", "low", "--jobs", "2", "src/lib.rt"])
+        self.assertEqual(gate.check_words(words), ["check", "--crate-name", "low", "--jobs", "1", "src/lib.rt"])
 
-    def test_one_job(self):
-        self.assertEqual(watched.with_one_job(["check", "--jobs", "4", "4"]), ["check", "--jobs", "1", "4"])
+    def test_which_calls_tell_of_functions(self):
+        for words, kind, tells in [
+            (["check", "--jobs", "1"], "seed", True),
+            (["check"], "proof", True),
+            (["check", "--jobs", "2"], "seed", False),
+            (["check", "--jobs", "1"], "edits", False),
+            (["build", "--jobs", "1"], "proof", False),
+        ]:
+            self.assertEqual(watched.can_tell(words, kind), tells)
 
     def test_what_a_call_is_for(self):
         for words, at, kind in [
