@@ -153,16 +153,26 @@ with_outcome place o w = record w {
   missing = w.missing + given_up_in o.passed;
 }
 
--- what a frame without fault leads to, at the reordering of its station's TID; its id is the number of frames
--- accepted before
+-- what a frame leads to whose sequence number has these twelve bits, at the reordering of a place; its id is
+-- the number of frames accepted before
+abbrev pub arrival_outcome : ℕ → ℕ → World → ReorderingOutcome
+arrival_outcome place bits w = arrived bits w.frames w.clock (reordering_at w place)
+
+-- the frame is accepted
+abbrev pub arrived_at : ℕ → ℕ → World → World
+arrived_at place bits w =
+    with_outcome place (arrival_outcome place bits w) (record w { frames = w.frames + 1 })
+
+-- where the reordering of a frame's station and TID stands
+abbrev pub place_of_frame : List ℕ → ℕ
+place_of_frame octets = place_of (sender_of octets) (tid_in_control octets)
+
+-- what a frame without fault leads to, at the reordering of its station's TID
 abbrev pub receive_outcome : List ℕ → World → ReorderingOutcome
-receive_outcome octets w = arrived (sequence_of octets) w.frames w.clock
-    (reordering_of w (sender_of octets) (tid_in_control octets))
+receive_outcome octets w = arrival_outcome (place_of_frame octets) (sequence_of octets) w
 
 abbrev pub received : List ℕ → World → World
-received octets w =
-    with_outcome (place_of (sender_of octets) (tid_in_control octets)) (receive_outcome octets w)
-    (record w { frames = w.frames + 1 })
+received octets w = arrived_at (place_of_frame octets) (sequence_of octets) w
 
 abbrev pub delivery_of : List ℕ → World → Delivery
 delivery_of octets w = record {

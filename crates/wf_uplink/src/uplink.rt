@@ -1,11 +1,12 @@
 //! The uplink of all stations.
 
-ghost use Rattle.std.specs.Prelude.{◌≡◌, ◌+◌, ◌*◌, ◌^◌, ◌<◌, ◌≤◌, false, [], length, map, replicate, slice_index_or, slice_set, IfOk, OnOk, OnErr, IfSome, is_some, is_ok, None};
+ghost use Rattle.std.specs.Prelude.{◌≡◌, ◌+◌, ◌*◌, ◌^◌, ◌<◌, ◌≤◌, true, false, [], length, map, replicate, slice_index_or, slice_set, IfOk, OnOk, OnErr, IfSome, is_some, is_ok, None};
 ghost use Rattle.wf_uplink.specs.Reordering.{unopened, arrived, timed_out, is_none_stored, waits_since_of};
 ghost use Rattle.wf_uplink.specs.Shown.{item_of, up_of, totals_of};
 ghost use Rattle.wf_uplink.specs.Soundness.{latest};
 ghost use Rattle.std.specs.Result.{result_err};
-ghost use Rattle.wf_uplink.specs.World.{Open, SetRate, Receive, Tick, Expire, new_world, rate_of, is_open, place_of as place_at, open_fault, begun, receive_fault, delivery_of, first_due, timeout_of, after_call};
+ghost use Rattle.wf_uplink.specs.Frames.{sender_of as sender_in, tid_in_control, sequence_of};
+ghost use Rattle.wf_uplink.specs.World.{Open, SetRate, Receive, Tick, Expire, new_world, rate_of, is_open, place_of as place_at, open_fault, begun, receive_fault, air_of, delivery_of, arrival_outcome, arrived_at, first_due, timeout_of, after_call};
 
 use crate::fault::{Closed, OpenFault, UplinkFault};
 use crate::items::Items;
@@ -54,6 +55,16 @@ impl Model for Uplink {
     ghost invariant = { λ u.
         let w = world_of u.clock u.rates.items u.sequencers.items u.frames u.up u.back u.missing in
         IsSound w × IsWatched w u.waits };
+}
+
+/// A data frame of an opened station: who sent it, its traffic identifier, the bits of its sequence
+/// number, and what it is charged, in microseconds.
+#[derive(Drop)]
+struct Heard {
+    station: u16,
+    tid: u8,
+    seq: Seq12,
+    air: u32,
 }
 
 fn new_sequencers(alloc: Global, count: u32) -> Result<Vec<Sequencer>, AllocError>
@@ -224,6 +235,24 @@ impl Uplink {
         ensures up { OnOk result (up.exit.now ≡ up_of (delivery_of octets.now self.old)) }
         ensures unchanged { OnErr result (up.exit.now ≡ up.entry.now) }
     {
+        let heard = self.heard(octets)?;
+        up.station = heard.station;
+        up.tid = heard.tid;
+        up.air = heard.air;
+        up.old = self.arrive(&heard, &mut up.items);
+        Ok(())
+    }
+
+    /// What is known of octets that are a data frame from an opened station; refused for the first check that
+    /// fails.
+    fn heard(&self, octets: &[u8]) -> Result<Heard, UplinkFault>
+        ensures fault { result_err result ≡ receive_fault octets.now self.now }
+        ensures station { IfOk result (λ heard. heard.station ≡ sender_in octets.now) }
+        ensures tid { IfOk result (λ heard. heard.tid ≡ tid_in_control octets.now) }
+        ensures seq { IfOk result (λ heard. heard.seq ≡ sequence_of octets.now) }
+        ensures air { IfOk result (λ heard. heard.air ≡
+            air_of (rate_of self.now (sender_in octets.now)) (length octets.now)) }
+    {
         let header = data_header(octets)?;
         let station = sender_of(&header);
         let rate = match self.rate_of(station) {
@@ -234,27 +263,46 @@ impl Uplink {
             return Err(UplinkFault::NotMine);
         }
         let length = body_of(header.tid, octets)?;
-        up.station = station;
-        up.tid = header.tid;
-        up.air = rate.data_charge(length + HEADER + AROUND, false);
-        up.items.clear();
-        let place = place_of(station, header.tid);
+        Ok(Heard {
+            station,
+            tid: header.tid,
+            seq: header.seq,
+            air: rate.data_charge(length + HEADER + AROUND, false),
+        })
+    }
+
+    /// A frame arrives at the reordering of its traffic identifier. Whether it is given back; `items`
+    /// tells of the numbers that are passed.
+    fn arrive(&mut self, heard: &Heard, items: &mut Items) -> bool
+        requires frames { self.old.frames < 2 ^ 62 }
+        requires missing { self.old.missing < 2 ^ 62 }
+        requires live { is_open self.old heard.now.station ≡ true }
+        requires tid { heard.now.tid < 8 }
+        ensures after { self.new ≡
+            arrived_at (place_at heard.now.station heard.now.tid) heard.now.seq self.old }
+        ensures old { result ≡
+            (arrival_outcome (place_at heard.now.station heard.now.tid) heard.now.seq self.old).old }
+        ensures items { items.new ≡
+            map item_of
+            (arrival_outcome (place_at heard.now.station heard.now.tid) heard.now.seq self.old).passed }
+    {
+        items.clear();
+        let place = place_of(heard.station, heard.tid);
         let (old, since) = arrive_at(
             &mut self.sequencers,
             place,
-            header.seq,
+            heard.seq,
             self.frames,
             self.clock,
-            &mut up.items,
+            items,
         );
-        up.old = old;
         self.waits.set(place, since);
-        let (released, given_up) = up.items.counts();
+        let (released, given_up) = items.counts();
         self.frames += 1;
         self.up += released;
         self.missing += given_up;
         self.back += u64::from(old);
-        Ok(())
+        old
     }
 
     /// The clock goes on by so many microseconds, at most 10,000,000.
