@@ -147,22 +147,8 @@ impl Backlog {
     }
 
     /// Drops the first frame of a queue for the limit: it goes last on the finished list as
-    /// `Dropped(Overlimit)`. Gives its id; None exactly where the queue is empty, and then nothing changes.
-    pub fn drop_head(&mut self, q: u32) -> Option<u64>
-        requires { q < length self.old.queues }
-        ensures id { result ≡ first_id (frames_at self.old q) }
-        ensures dropped { self.new ≡ after_head_drop self.old q }
-        ensures unchanged { IfNone result (self.new ≡ self.old) }
-        ensures held { held_in_backlog self.new ≡ held_in_backlog self.old }
-    {
-        let parcel = self.pop(q)?;
-        let id = parcel.frame().id();
-        self.finish(settle(parcel, Fate::Dropped(Cause::Overlimit)));
-        Some(id)
-    }
-
-    /// Drops the first frame of a queue for the limit, as `drop_head` does, and then puts a parcel last in a
-    /// queue, the same or another. Gives the id of the frame that is dropped.
+    /// `Dropped(Overlimit)`. Then puts a parcel last in a queue, the same or another. Gives the id of the
+    /// frame that is dropped.
     pub fn exchange(&mut self, from: u32, to: u32, parcel: Parcel) -> u64
         requires from { from < length self.old.queues }
         requires to { to < length self.old.queues }
