@@ -25,10 +25,11 @@ const OVERHEAD: u32 = DELIMITER_OCTETS + HEADER_OCTETS + CHECK_OCTETS;
 /// Each subframe but the last is padded to a multiple of 4 octets (8.6.1).
 const PADDING: u32 = 4;
 
-/// To what a receiver's maximum A-MPDU length exponent is added: for HT (8.4.2.58.3), and for VHT and HE, of
-/// which a receiver states 0 to 7 (that 0 to 3 stand for 4 to 7 there is this project's own rule).
+/// To what a receiver's maximum A-MPDU length exponent is added for HT (8.4.2.58.3).
 const LEAST_HT_EXPONENT: u8 = 13;
 
+/// The same for VHT and HE, of which a receiver states 0 to 7 (that 0 to 3 stand for 4 to 7 there is this
+/// project's own rule).
 const LEAST_EXPONENT: u8 = 17;
 
 /// An aggregate to which frames are added, one at a time: how many it has, and its octets.
