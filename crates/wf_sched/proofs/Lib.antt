@@ -16,6 +16,7 @@ mod RemoveLemmas
 mod RangeLemmas
 mod TurnLemmas
 mod PaidLemmas
+mod CountedTurns
 mod LowestLemmas
 mod Loops
 pub mod Views

@@ -1,8 +1,8 @@
-ghost use Rattle.std.specs.Prelude.{◌≡◌, ℕ, ◌+◌, ◌-◌, ◌*◌, ◌^◌, ◌<◌, ◌≤◌, Bool, true, List, [], ◌∷◌, ◌++◌, length, map, replicate, slice_set, IfOk, IfSome, IfNone, Some, pos, negsuc, ◌+ℤ◌, ◌-ℤ◌, ◌≤ℤ◌};
+ghost use Rattle.std.specs.Prelude.{◌≡◌, ℕ, ◌+◌, ◌-◌, ◌*◌, ◌^◌, ◌<◌, ◌≤◌, Bool, true, List, [], ◌∷◌, ◌++◌, length, map, replicate, slice_set, IfOk, IfSome, IfNone, MatchOption, Some, pos, negsuc, ◌+ℤ◌, ◌-ℤ◌, ◌≤ℤ◌};
 ghost use Rattle.wf_def_rotation.specs.Rotation.{no_keys, with_new_key, without_key, has_key, in_order};
 ghost use Rattle.wf_sched.specs.Rotas.{Rotas, deficit_at, quantum_at, need_at, is_ready, IsUnlisted, picked_at};
 ghost use Rattle.wf_sched.specs.Lists.{lists_at, keys_at, with_keys, has_on, first_of, AreDisjoint};
-ghost use Rattle.wf_sched.specs.Looks.{most_turns};
+ghost use Rattle.wf_sched.specs.Looks.{most_turns, turns_within};
 ghost use Rattle.wf_sched.specs.Turns.{first_turn, HasTurned, EndsAs};
 ghost use Rattle.wf_sched.specs.Scan.{IsFound, IsRoundOn, IsWon};
 ghost use Rattle.wf_sched.specs.declared.rotation.Side.TheVariants.{Old};
@@ -506,6 +506,8 @@ impl Rota {
         ensures at_most { result.looks ≤ 32 + 2 * length (in_order (lists_at self.old.lists list)) + 2 }
         ensures cheap { most_turns self.old ready.now list ≤ 32 →
             result.looks ≤ most_turns self.old ready.now list }
+        ensures turns { MatchOption (turns_within 32 self.old ready.now list) (32 ≤ result.looks)
+            (λ turns. result.looks ≡ turns) }
     {
         let mut looks = 0;
         for _ in 0..MOST_TURNS {

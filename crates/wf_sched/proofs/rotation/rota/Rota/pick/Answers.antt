@@ -1,8 +1,10 @@
-use Rattle.std.proofs.Common.{ℕ, ◌≤◌, List, refl, subst, arith}
+use Rattle.std.proofs.Common.{◌≡◌, ℕ, ◌≤◌, List, None, refl, subst, arith}
 use Rattle.wf_sched.specs.Rotas.{quantum_at}
 use Rattle.wf_sched.specs.Pass.{HasPicked}
+use Rattle.wf_sched.specs.Looks.{turns_within}
 use Rattle.wf_sched.proofs.TurnLemmas.{same_first, same_after, has_ended, at_once, some_listed, some_ready, none_above}
 use Rattle.wf_sched.proofs.PaidLemmas.{paid_first, paid_after, turns_low}
+use Rattle.wf_sched.proofs.CountedTurns.{turns_first, turns_after, turns_ended, turns_left}
 use Rattle.wf_sched.proofs.rotation.rota.Rota.pick.Goals as goal
 use Rattle.wf_sched.proofs.rotation.rota.Rota.pick.Goals.{In-Done, After-pick_at_once-at_once}
 
@@ -24,6 +26,7 @@ loop-init c = record {
   same = same_first c.args.self.now c.args.ready.now c.args.list;
   looks = refl;
   paid = paid_first c.args.self.now c.args.list;
+  turns = turns_first c.args.self.now c.args.ready.now c.args.list;
 }
 
 pub loop-preserved : goal.loop-preserved
@@ -35,6 +38,9 @@ loop-preserved c = record {
   paid = paid_after c.args.self.now c.args.ready.now c.args.list c.loop.self c.turn.new.self
       c.requires.in_lists c.turn.ensures.positive c.loop.invariant.same c.turn.ensures.turned c.loop.counter
       c.loop.invariant.paid c.in_default.ensures.end;
+  turns = turns_after c.args.self.now c.args.ready.now c.args.list c.loop.self c.turn.new.self c.loop.counter
+      c.requires.in_lists c.loop.invariant.same c.turn.ensures.turned c.in_default.ensures.end
+      c.loop.invariant.turns;
 }
 
 pub returns-in-Done-clause-winner : goal.returns-in-Done-clause-winner
@@ -89,3 +95,17 @@ returns-clause-cheap c = λ most.
           c.loop.counter (c.loop.invariant.paid.some (omega (arith, played))) c.loop.invariant.same
           c.loop.invariant.paid,
     ))
+
+pub returns-in-Done-clause-turns : goal.returns-in-Done-clause-turns
+returns-in-Done-clause-turns c =
+    rw (turns_ended c.args.self.now c.args.ready.now c.args.list c.loop.self c.loop.counter 32
+    c.in-Done.winner c.loop.invariant.turns c.in-Done.ensures.end (omega arith))
+    (omega (arith, c.loop.invariant.looks))
+
+pub returns-clause-turns : goal.returns-clause-turns
+returns-clause-turns c =
+    let played : c.loop.counter ≡ 32 = omega arith in
+    let left = turns_left c.args.self.now c.args.ready.now c.args.list c.loop.self c.loop.counter
+    c.loop.invariant.turns in
+    rw (subst (λ (n : ℕ). turns_within n c.args.self.now c.args.ready.now c.args.list ≡ None) played left)
+    (omega (arith, played, c.loop.invariant.looks))
