@@ -1,11 +1,11 @@
 -- Chains of links after a write.
 use Rattle.std.proofs.Common.{◌≡◌, ℕ, zero, suc, ◌+◌, ◌*◌, ◌/◌, ◌%◌, ◌<◌, ◌≤◌, cond, List, [], ◌∷◌, ◌++◌, length, map, get_or, set, Option, Some, refl, sym, ap, ◌∙◌, subst, inl, inr, arith, length-set, eqb, eq-eqb, append_assoc}
 use Rattle.wf_def_rotation.specs.Rotation.{Rotation, no_keys, in_order}
-use Rattle.std.proofs.lemmas.List.{get_or-set_same, get_or-set_other, get_or_past, ext_get_or}
+use Rattle.std.proofs.lemmas.List.{get_or-set_same, get_or-set_other, get_or_past, get_or_read, ext_get_or}
 use Rattle.std.proofs.lemmas.Bool.{cases_eq, cases_lt, lt-ltb, le-ltb, ne_eqb}
 use Rattle.wf_def_lists.specs.Lists.{on}
 use Rattle.wf_sched.specs.Links.{entry_at, walk, Leads, EndsWith, chain, Chains, AreLinks, chain_lists, all_chains, slot_of}
-use Rattle.wf_sched.specs.Lists.{first_of, keys_behind, lists_at, keys_at, with_side, with_keys, on_at, AreDisjoint, IsOff}
+use Rattle.wf_sched.specs.Lists.{AllLists, first_of, keys_behind, lists_at, keys_at, with_side, with_keys, on_at, AreDisjoint, IsOff}
 use Rattle.wf_sched.specs.declared.rotation.Side.{Side}
 use Rattle.wf_sched.specs.declared.rotation.Side.TheVariants.{New, Old}
 use Rattle.std.specs.List.{range_with_len}
@@ -749,3 +749,118 @@ tail_below next heads tails lists l s ok low more =
       on-append front.0 (entry_at tails (slot_of l s) ∷ []) (entry_at tails (slot_of l s)),
       on-cons_same (entry_at tails (slot_of l s)) [],
     ))
+
+-- ---- what a call finds at a list
+
+-- the lists that links stand for
+abbrev pub lists_of : List ℕ → List ℕ → ℕ → ℕ → AllLists
+lists_of next heads lists keys = record { lists = all_chains next heads lists; keys = keys }
+
+-- the lists with other keys on one of them
+abbrev pub with_list : AllLists → ℕ → Side → List ℕ → AllLists
+with_list v list side ys = record v { lists = with_keys v.lists list side ys }
+
+-- By what a call knows of its links: they stand for these lists, one of which has this slot.
+module _ {next heads tails : List ℕ} {lists keys slot : ℕ} {v : AllLists} (list : ℕ) (side : Side)
+    (ok : AreLinks next heads tails lists) (few : keys ≡ length next)
+    (view : lists_of next heads lists keys ≡ v) (low : list < length v.lists)
+    (at : slot ≡ slot_of list side) where
+  in_lists : list < length (all_chains next heads lists)
+  in_lists = subst (λ (w : AllLists). list < length w.lists) (sym view) low
+
+  there : (list < lists) × (slot_of list side < length heads) × (slot_of list side < length tails)
+  there = slots_there next heads tails lists list side ok in_lists
+
+  pub head_there : slot < length heads
+  head_there = rw at there.1
+
+  pub tail_there : slot < length tails
+  tail_there = rw at there.2
+
+  head_read : (head : ℕ) → head ≡ get_or heads slot head → head ≡ entry_at heads (slot_of list side)
+  head_read head is = get_or_read heads slot head head_there is 0 ∙ ap (entry_at heads) at
+
+  tail_read : (last : ℕ) → last ≡ get_or tails slot last → last ≡ entry_at tails (slot_of list side)
+  tail_read last is = get_or_read tails slot last tail_there is 0 ∙ ap (entry_at tails) at
+
+  key_low : (key : ℕ) → key < v.keys → key < length next
+  key_low key below = omega (arith, few, subst (λ (w : AllLists). key < w.keys) (sym view) below)
+
+  -- the head that is read is the list's first key, or the list is empty
+  pub first_read : (head : ℕ) → head ≡ get_or heads slot head →
+      (head < keys → first_of (keys_at v.lists list side) ≡ Some head)
+      × (keys ≤ head → keys_at v.lists list side ≡ [])
+  first_read head is =
+      let read : head ≡ entry_at heads (slot_of list side) = head_read head is in
+      let first = first_chain next heads tails lists list side ok there.0 in
+      rw (← view) (
+        (λ more. first.0 (omega (arith, read, few, more))
+            ∙ ap (λ (k : ℕ). let o : Option ℕ = Some k in o) (sym read)),
+        (λ past. first.1 (omega (arith, read, few, past))),
+      )
+
+  -- the link that is read at a key of the list leads to the key after it, or there is none
+  pub after_read : (key after : ℕ) (before rest : List ℕ) → key < v.keys → after ≡ get_or next key after →
+      keys_at v.lists list side ≡ before ++ key ∷ rest →
+      (after < keys → first_of rest ≡ Some after) × (keys ≤ after → rest ≡ [])
+  after_read key after before rest below is keys_are =
+      let read : after ≡ entry_at next key = get_or_read next key after (key_low key below) is 0 in
+      let both = after_chain next heads tails lists list side key before rest ok there.0
+      (subst (λ (w : AllLists). keys_at w.lists list side ≡ before ++ key ∷ rest) (sym view) keys_are) in (
+        (λ more. both.0 (omega (arith, read, few, more))
+            ∙ ap (λ (k : ℕ). let o : Option ℕ = Some k in o) (sym read)),
+        (λ past. both.1 (omega (arith, read, few, past))),
+      )
+
+  -- the first key is taken off
+  pub take_read : (key after : ℕ) → key ≡ get_or heads slot key → after ≡ get_or next key after →
+      key < keys →
+      (AreLinks next (set heads slot after) tails lists) ×
+      (lists_of next (set heads slot after) lists keys
+      ≡ with_list v list side (keys_behind (keys_at v.lists list side)))
+  take_read key after head_is after_is more =
+      let below : key < length next = omega (arith, few, more) in
+      let done = take_done next heads tails lists list slot key after side ok in_lists at
+      (head_read key head_is) below (get_or_read next key after below after_is 0) in (
+        done.0,
+        rw (← view) (ap (λ (ls : List Rotation). let w : AllLists =
+            record { lists = ls; keys = keys } in w) done.1),
+      )
+
+  -- a key is put last behind others
+  pub put_read : (key head last : ℕ) → key < v.keys → IsOff v.lists key → head ≡ get_or heads slot head →
+      last ≡ get_or tails slot last → head < keys →
+      (AreLinks (set (set next key keys) last key) heads (set tails slot key) lists) ×
+      (lists_of (set (set next key keys) last key) heads lists keys
+      ≡ with_list v list side (keys_at v.lists list side ++ key ∷ [])) × (last < length next)
+  put_read key head last below unlisted head_is last_is more =
+      let off : IsOff (all_chains next heads lists) key =
+      subst (λ (w : AllLists). IsOff w.lists key) (sym view) unlisted in
+      let last_at : last ≡ entry_at tails (slot_of list side) = tail_read last last_is in
+      let some : entry_at heads (slot_of list side) < length next =
+      omega (arith, head_read head head_is, few, more) in
+      let done = put_done next heads tails lists list slot key last keys side ok in_lists at last_at few
+      (key_low key below) off some in (
+        done.0,
+        rw (← view) (ap (λ (ls : List Rotation). let w : AllLists =
+            record { lists = ls; keys = keys } in w) done.1),
+        omega (arith, last_at, tail_below next heads tails lists list side ok there.0 some),
+      )
+
+  -- a key is put on a list that is empty
+  pub put_first_read : (key head : ℕ) → key < v.keys → IsOff v.lists key → head ≡ get_or heads slot head →
+      keys ≤ head →
+      (AreLinks (set next key keys) (set heads slot key) (set tails slot key) lists) ×
+      (lists_of (set next key keys) (set heads slot key) lists keys
+      ≡ with_list v list side (keys_at v.lists list side ++ key ∷ []))
+  put_first_read key head below unlisted head_is past =
+      let off : IsOff (all_chains next heads lists) key =
+      subst (λ (w : AllLists). IsOff w.lists key) (sym view) unlisted in
+      let none : length next ≤ entry_at heads (slot_of list side) =
+      omega (arith, head_read head head_is, few, past) in
+      let done = put_first_done next heads tails lists list slot key keys side ok in_lists at few
+      (key_low key below) off none in (
+        done.0,
+        rw (← view) (ap (λ (ls : List Rotation). let w : AllLists =
+            record { lists = ls; keys = keys } in w) done.1),
+      )

@@ -1,13 +1,14 @@
 -- A chain that begins with another of its keys.
-use Rattle.std.proofs.Common.{◌≡◌, ℕ, ◌+◌, ◌*◌, ◌<◌, List, [], ◌∷◌, ◌++◌, length, set, sym, ap, ◌∙◌, subst, inl, inr, arith, length-set, append_assoc}
-use Rattle.std.proofs.lemmas.List.{get_or-set_same, get_or-set_other}
+use Rattle.std.proofs.Common.{◌≡◌, ℕ, ◌+◌, ◌*◌, ◌<◌, List, [], ◌∷◌, ◌++◌, length, get_or, set, sym, ap, ◌∙◌, subst, inl, inr, arith, length-set, append_assoc}
+use Rattle.std.proofs.lemmas.List.{get_or-set_same, get_or-set_other, get_or_read}
 use Rattle.std.proofs.lemmas.Bool.{cases_eq, cases_lt}
 use Rattle.wf_def_lists.specs.Lists.{on}
-use Rattle.wf_sched.specs.Lists.{keys_at, with_keys}
-use Rattle.wf_sched.specs.Links.{entry_at, Leads, EndsWith, chain, Chains, AreLinks, all_chains}
+use Rattle.wf_def_rotation.specs.Rotation.{Rotation}
+use Rattle.wf_sched.specs.Lists.{AllLists, keys_at, with_keys}
+use Rattle.wf_sched.specs.Links.{entry_at, Leads, EndsWith, chain, Chains, AreLinks, slot_of, all_chains}
 use Rattle.wf_sched.specs.declared.rotation.Side.TheVariants.{Old}
 use Rattle.wf_law_rules.proofs.Lemmas.Counts.{on-first, on-cons_same, on-append}
-use Rattle.wf_sched.proofs.LinkLemmas.{leads-below, leads-set_other, leads-join, leads-cut, leads-from, ends-front, ends-push, ends-rest, view_changed, chains_again, with_slot, with_slot-here, with_slot-other, with_slot-apart, keys_at_chain, length-all_chains}
+use Rattle.wf_sched.proofs.LinkLemmas.{leads-below, leads-set_other, leads-join, leads-cut, leads-from, ends-front, ends-push, ends-rest, view_changed, chains_again, with_slot, with_slot-here, with_slot-other, with_slot-apart, keys_at_chain, length-all_chains, lists_of, with_list, head_there, tail_there}
 
 -- the chain of one rotation's old list is turned
 module _ (next heads tails : List ℕ) (lists l : ℕ) (ok : AreLinks next heads tails lists)
@@ -191,4 +192,28 @@ rotate_at next heads tails lists l old first last none p key ys zs ok in_lists a
                 (entry_at tails (2 * l + 1)),
             on-cons_same (entry_at tails (2 * l + 1)) [],
           )),
+    )
+
+-- by what a call knows of its links, as in LinkLemmas
+pub rotate_read : {next heads tails : List ℕ} {lists keys slot first last : ℕ} {v : AllLists}
+    (list p key : ℕ) →
+    AreLinks next heads tails lists → keys ≡ length next → lists_of next heads lists keys ≡ v →
+    list < length v.lists → slot ≡ slot_of list Old → first ≡ get_or heads slot first →
+    last ≡ get_or tails slot last → (ys zs : List ℕ) → keys_at v.lists list Old ≡ ys ++ p ∷ (key ∷ zs) →
+    (AreLinks (set (set next p keys) last first) (set heads slot key) (set tails slot p) lists) ×
+    (lists_of (set (set next p keys) last first) (set heads slot key) lists keys
+    ≡ with_list v list Old (key ∷ (zs ++ (ys ++ p ∷ [])))) × (p < length next) × (last < length next)
+rotate_read {next} {heads} {tails} {lists} {keys} {slot} {first} {last} list p key ok few view low at
+    first_is last_is ys zs is =
+    let done = rotate_at next heads tails lists list slot first last keys p key ys zs ok
+    (subst (λ (w : AllLists). list < length w.lists) (sym view) low) at
+    (get_or_read heads slot first (head_there list Old ok few view low at) first_is 0 ∙ ap (entry_at
+    heads) at)
+    (get_or_read tails slot last (tail_there list Old ok few view low at) last_is 0 ∙ ap (entry_at tails) at)
+    few (subst (λ (w : AllLists). keys_at w.lists list Old ≡ ys ++ p ∷ (key ∷ zs)) (sym view) is) in (
+      done.0,
+      rw (← view) (ap (λ (ls : List Rotation). let w : AllLists =
+          record { lists = ls; keys = keys } in w) done.1),
+      done.2,
+      done.3,
     )
