@@ -249,11 +249,9 @@ impl Rota {
         ensures disjoint { AreDisjoint (record { lists = self.now.lists; keys = length self.now.deficits }) }
     {
         let mut found = start;
-        let mut seen = 0usize;
         let mut next = self.links.first(list, side);
         while let Some(key) = next {
             found = self.look(side, key, ready, found);
-            seen += 1;
             next = self.links.after(key);
         }
         found

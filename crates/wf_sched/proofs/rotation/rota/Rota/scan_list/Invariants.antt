@@ -1,4 +1,4 @@
-use Rattle.std.proofs.Common.{◌≡◌, ℕ, ◌+◌, ◌-◌, ◌≤◌, List, ◌++◌, length, take, drop}
+use Rattle.std.proofs.Common.{◌≡◌, ℕ, ◌-◌, ◌≤◌, List, ◌++◌, length, take, drop}
 use Rattle.wf_sched.specs.Lists.{keys_at, first_of}
 use Rattle.wf_sched.specs.Rotas.{is_ready, need_at}
 use Rattle.wf_sched.specs.Scan.{IsFound, IsRoundOn}
@@ -6,14 +6,15 @@ use Rattle.wf_sched.proofs.rotation.rota.Rota.scan_list.Given as goal
 
 abbrev pub invariant-loop-next : goal.invariant-loop-next
 invariant-loop-next l = record {
-  within : l.seen ≤ length (keys_at l.self.lists l.list l.fn.side);
-  at : l.next ≡ first_of (drop l.seen (keys_at l.self.lists l.list l.fn.side));
-  count : l.found.count ≡ l.fn.start.count + l.seen;
+  some : l.fn.start.count ≤ l.found.count;
+  within : l.found.count - l.fn.start.count ≤ length (keys_at l.self.lists l.list l.fn.side);
+  at : l.next ≡ first_of (drop (l.found.count - l.fn.start.count) (keys_at l.self.lists l.list l.fn.side));
   found : (order : ℕ → ℕ) (before : List ℕ) → IsFound l.fn.start (is_ready l.ready) order before →
       IsRoundOn order (need_at l.self) l.fn.side (keys_at l.self.lists l.list l.fn.side) →
       IsFound l.found (is_ready l.ready) order (before
-      ++ take l.seen (keys_at l.self.lists l.list l.fn.side));
+      ++ take (l.found.count - l.fn.start.count) (keys_at l.self.lists l.list l.fn.side));
 }
 
 abbrev pub decreases-loop-next : goal.decreases-loop-next
-decreases-loop-next l = length (keys_at l.self.lists l.list l.fn.side) - l.seen
+decreases-loop-next l =
+    length (keys_at l.self.lists l.list l.fn.side) - (l.found.count - l.fn.start.count)
