@@ -316,6 +316,49 @@ pub values_kept : (nodes : List Candidate) (count k : ℕ) (c : Candidate) → k
     values_of (set nodes k c) count ≡ values_of nodes count
 values_kept nodes count k c low = rw (drop-set-lt count nodes k c low) refl
 
+-- ---- how far the value of a leaf has come
+
+-- A leaf of these values got another one, and its winners stand on the nodes up to this one.
+pub record HasClimbed (values : List ℕ) (leaf value : ℕ) (nodes : List Candidate) (count node : ℕ)
+    (winner : Candidate) : Type 0 where
+  pub played : IsPlayedBut nodes count (node / 2)
+  pub stands : winner ≡ node_at nodes node
+  pub some : 0 < node
+  pub within : node < 2 * count
+  pub are : values_of nodes count ≡ slice_set values leaf value
+
+pub leaf_begins : (values : List ℕ) (leaf value : ℕ) (nodes : List Candidate) (count : ℕ) →
+    IsPlayedBut nodes count 0 → values_of nodes count ≡ values → leaf < length values →
+    (count ≡ length values) ×
+    HasClimbed values leaf value (set nodes (count + leaf) (record { value = value; leaf = leaf })) count
+    (count + leaf) (record { value = value; leaf = leaf })
+leaf_begins values leaf value nodes count h is low =
+    let size : length values ≡ count = ap length (sym is) ∙ length_of nodes count h.size in (
+      sym size,
+      record {
+        played = leaf_set nodes count leaf value h (omega (arith, size, low));
+        stands = sym (get_or-set_same nodes (count + leaf) _ no_candidate (omega (arith, h.size, size, low)));
+        some = omega (arith, h.some);
+        within = omega (arith, size, low);
+        are = values_set nodes count leaf _ ∙ ap (λ (xs : List ℕ). slice_set xs leaf value) is;
+      },
+    )
+
+pub climbs : (values : List ℕ) (leaf value : ℕ) (nodes : List Candidate) (count node : ℕ)
+    (winner beside won : Candidate) → HasClimbed values leaf value nodes count node winner → 1 < node →
+    beside ≡ get_or nodes (bit_xor node 1) beside → won ≡ winner_of winner beside →
+    HasClimbed values leaf value (set nodes (node / 2) won) count (node / 2) won
+climbs values leaf value nodes count node winner beside won h more read is =
+    let inner : node / 2 < count = omega (arith, h.within) in
+    record {
+      played = node_played nodes count (node / 2) won h.played (omega (arith, more)) inner
+          (winner_read nodes count node winner beside won h.played.size h.within h.stands read is);
+      stands = sym (get_or-set_same nodes (node / 2) won no_candidate (omega (arith, h.played.size, inner)));
+      some = omega (arith, more);
+      within = omega (arith, inner);
+      are = values_kept nodes count (node / 2) won inner ∙ h.are;
+    }
+
 map-replicate : (c : Candidate) (n : ℕ) → map (λ (x : Candidate). x.value) (replicate n c)
     ≡ replicate n c.value
 map-replicate c zero = refl

@@ -1,14 +1,9 @@
-use Rattle.std.proofs.Common.{◌≡◌, ◌*◌, ◌/◌, ◌<◌, slice_set}
-use Rattle.wf_queue_parts.specs.Tree.{IsPlayedBut, node_at, values_of}
+use Rattle.wf_queue_parts.proofs.TreeLemmas.{HasClimbed}
 use Rattle.wf_queue_parts.proofs.peak.Peak.set_until_kept.Given as goal
 
 abbrev pub invariant-loop-node : goal.invariant-loop-node
 invariant-loop-node l = record {
-  played : IsPlayedBut l.self-inside.nodes.items l.self-inside.count (l.node / 2);
-  winner : l.won ≡ node_at l.self-inside.nodes.items l.node;
-  some : 0 < l.node;
-  within : l.node < 2 * l.self-inside.count;
-  values : values_of l.self-inside.nodes.items l.self-inside.count ≡ slice_set l.fn.self l.leaf l.value;
+  climbed : HasClimbed l.fn.self l.leaf l.value l.self-inside.nodes.items l.self-inside.count l.node l.won;
 }
 
 abbrev pub decreases-loop-node : goal.decreases-loop-node
