@@ -24,6 +24,13 @@ pub struct Lost {
     pub tid: u8,
 }
 
+/// A queue, and the number of the TID that lists it.
+#[derive(Clone, Copy)]
+struct Listed {
+    list: u32,
+    queue: u32,
+}
+
 /// The flow queues of all stations, and the list of the frames that are finished.
 ///
 /// There are `flows` queues for all, and one more for each TID, its overflow queue. A queue belongs to the
@@ -139,7 +146,7 @@ impl Flows {
                 self.append(list, q, parcel);
                 None
             }
-            Some(from) => Some(self.exchange(from, (list, q), parcel)),
+            Some(from) => Some(self.exchange(from, Listed { list, queue: q }, parcel)),
         }
     }
 
@@ -219,53 +226,53 @@ impl Flows {
         self.waiting.reap()
     }
 
-    // Where the queues hold `limit` frames or more: the longest, whose head is to be dropped, behind the TID
-    // that lists it.
-    fn over_limit(&self) -> Option<(u32, u32)>
+    // Where the queues hold `limit` frames or more: the longest, whose head is to be dropped.
+    fn over_limit(&self) -> Option<Listed>
         ensures roomy { IfNone result (flows_at_limit self.now ≡ false) }
         ensures full { IfSome result (λ _. flows_at_limit self.now ≡ true) }
-        ensures longest { IfSome result (λ from. from.1 ≡ longest_queue self.now.backlog) }
-        ensures greatest { IfSome result (λ from. IsLongest self.now.backlog from.1) }
-        ensures frames { IfSome result (λ from. 0 < length (frames_at self.now.backlog from.1)) }
-        ensures queue { IfSome result (λ from. from.1 < queues self.now) }
-        ensures list { IfSome result (λ from. from.0 < tids self.now) }
-        ensures lists { IfSome result (λ from. is_listed self.now from.0 from.1 ≡ true) }
-        ensures only { IfSome result (λ from. (i : ℕ) → is_listed self.now i from.1 ≡ true → i ≡ from.0) }
+        ensures longest { IfSome result (λ from. from.queue ≡ longest_queue self.now.backlog) }
+        ensures greatest { IfSome result (λ from. IsLongest self.now.backlog from.queue) }
+        ensures frames { IfSome result (λ from. 0 < length (frames_at self.now.backlog from.queue)) }
+        ensures queue { IfSome result (λ from. from.queue < queues self.now) }
+        ensures list { IfSome result (λ from. from.list < tids self.now) }
+        ensures lists { IfSome result (λ from. is_listed self.now from.list from.queue ≡ true) }
+        ensures only { IfSome result (λ from. (i : ℕ) → is_listed self.now i from.queue ≡ true →
+            i ≡ from.list) }
     {
         if self.waiting.total() < self.limit {
             return None;
         }
         let q = self.waiting.longest()?;
         let (list, _) = self.rota.where_is(q)?;
-        Some((list, q))
+        Some(Listed { list, queue: q })
     }
 
-    // Drops the head of a queue for the limit and appends a frame to a queue, each a TID and a queue that it
-    // lists. Tells which frame was dropped and whose.
-    fn exchange(&mut self, from: (u32, u32), to: (u32, u32), parcel: Parcel) -> Lost
-        requires loser { from.0 < tids self.old }
-        requires from { from.1 < queues self.old }
-        requires lists { is_listed self.old from.0 from.1 ≡ true }
-        requires frames { 0 < length (frames_at self.old.backlog from.1) }
-        requires list { to.0 < tids self.old }
-        requires to { to.1 < queues self.old }
-        requires listed { is_listed self.old to.0 to.1 ≡ true }
+    // Drops the head of a queue for the limit and appends a frame to a queue. Tells which frame was dropped
+    // and whose.
+    fn exchange(&mut self, from: Listed, to: Listed, parcel: Parcel) -> Lost
+        requires loser { from.list < tids self.old }
+        requires from { from.queue < queues self.old }
+        requires lists { is_listed self.old from.list from.queue ≡ true }
+        requires frames { 0 < length (frames_at self.old.backlog from.queue) }
+        requires list { to.list < tids self.old }
+        requires to { to.queue < queues self.old }
+        requires listed { is_listed self.old to.list to.queue ≡ true }
         requires room { held_in_backlog self.old.backlog < self.old.backlog.room }
         ensures exchanged { self.new ≡ with_appended
-            (record self.old { backlog = after_head_drop self.old.backlog from.1 }) to.1 parcel }
-        ensures id { Some result.id ≡ first_id (frames_at self.old.backlog from.1) }
+            (record self.old { backlog = after_head_drop self.old.backlog from.queue }) to.queue parcel }
+        ensures id { Some result.id ≡ first_id (frames_at self.old.backlog from.queue) }
         ensures station { result.station < self.old.stations }
         ensures tid { result.tid < 8 }
-        ensures whose { tid_number result.station result.tid ≡ from.0 }
+        ensures whose { tid_number result.station result.tid ≡ from.list }
         ensures held { held_in_backlog self.new.backlog ≡ held_in_backlog self.old.backlog + 1 }
     {
-        let id = self.waiting.exchange(from.1, to.1, parcel);
-        self.queued[from.0 as usize] -= 1;
-        self.queued[to.0 as usize] += 1;
+        let id = self.waiting.exchange(from.queue, to.queue, parcel);
+        self.queued[from.list as usize] -= 1;
+        self.queued[to.list as usize] += 1;
         Lost {
             id,
-            station: (from.0 / 8) as u16,
-            tid: (from.0 % 8) as u8,
+            station: (from.list / 8) as u16,
+            tid: (from.list % 8) as u8,
         }
     }
 

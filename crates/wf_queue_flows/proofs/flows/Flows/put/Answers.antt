@@ -35,15 +35,15 @@ returns-in-Some-clause-put c =
     let number : c.tid_number-list.result ≡ tid_number c.args.parcel.station c.args.parcel.tid =
     omega (arith, c.tid_number-list.ensures, c.station.ensures, c.tid.ensures, station, tid) in
     let queue = c.queue_for-q.ensures.queue ∙ ap (queue_for c.args.self.now c.tid_number-list.result) flow in
-    put_full c.args.self.now c.in-Some.ensures.full c.in-Some.from.1 c.in-Some.ensures.longest
+    put_full c.args.self.now c.in-Some.ensures.full c.in-Some.from.queue c.in-Some.ensures.longest
     c.list_queue.new.self c.exchange.new.self c.tid_number-list.result c.queue_for-q.result c.args.parcel
     queue c.list_queue.ensures.listed c.exchange.ensures.exchanged
     ∙ ap (λ n. after_put c.args.self.now n c.args.parcel) number
 
 pub returns-in-Some-clause-dropped : goal.returns-in-Some-clause-dropped
-returns-in-Some-clause-dropped c = full_id c.args.self.now c.in-Some.ensures.full c.in-Some.from.1
+returns-in-Some-clause-dropped c = full_id c.args.self.now c.in-Some.ensures.full c.in-Some.from.queue
     c.in-Some.ensures.longest _
-    (c.exchange.ensures.id ∙ ap (λ (b : BacklogValue). first_id (frames_at b c.in-Some.from.1))
+    (c.exchange.ensures.id ∙ ap (λ (b : BacklogValue). first_id (frames_at b c.in-Some.from.queue))
     c.list_queue.ensures.backlog)
 
 pub returns-in-Some-clause-settings : goal.returns-in-Some-clause-settings
