@@ -22,7 +22,6 @@ use wf_send_parts::window::Windows;
 
 /// The transmit half of a cell. A contract sees its parts, and says of a call what it makes of each world of
 /// a run that the half stands for (`wf_send_half_refines`). Only `new` takes memory.
-#[derive(Drop)]
 pub struct Transmit {
     pub(crate) config: Config,
     pub(crate) clock: u64,
@@ -36,6 +35,25 @@ pub struct Transmit {
     pub(crate) sleepers: Sleepers,
     pub(crate) opened: Opened,
     pub(crate) tally: Tally,
+}
+
+// By hand, so that whoever lets a half go proves one call and not the drop of each part of it.
+impl Drop for Transmit {
+    fn drop(self) {
+        let Transmit {
+            config: _,
+            clock: _,
+            exchanges: _,
+            inside: _,
+            flows: _flows,
+            sched: _sched,
+            windows: _windows,
+            members: _members,
+            sleepers: _sleepers,
+            opened: _opened,
+            tally: _,
+        } = self;
+    }
 }
 
 impl Model for Transmit {

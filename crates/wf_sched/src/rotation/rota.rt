@@ -53,12 +53,23 @@ struct Home {
 }
 
 /// Many disjoint rotations of numbered keys. Each key has a deficit and a quantum of its own.
-#[derive(Drop)]
 pub struct Rota {
     links: Links,
     homes: Vec<Option<Home>>,
     deficits: Vec<i64>,
     quanta: Vec<u32>,
+}
+
+// By hand, so that whoever lets rotations go proves one call and not the drop of each list in them.
+impl Drop for Rota {
+    fn drop(self) {
+        let Rota {
+            links: _links,
+            homes: _homes,
+            deficits: _deficits,
+            quanta: _quanta,
+        } = self;
+    }
 }
 
 impl Model for Rota {

@@ -28,9 +28,15 @@ const GREATEST_WINDOW: u16 = 256;
 
 /// The windows of the TIDs 0 to 7 of each station. A contract sees them as a list, by the number of each TID
 /// among those of all stations. Only `new` takes memory.
-#[derive(Drop)]
 pub struct Windows {
     windows: Vec<Window>,
+}
+
+// By hand, so that whoever lets windows go proves one call and not the drop of each place in them.
+impl Drop for Windows {
+    fn drop(self) {
+        let Windows { windows: _windows } = self;
+    }
 }
 
 impl Model for Windows {
