@@ -125,6 +125,26 @@ fn take_waiting(ring: &mut Ring, i: usize) -> (Parcel, u8)
     (parcel, attempts)
 }
 
+// Takes the parcel of a flying place, which is then settled.
+fn take_flying(ring: &mut Ring, i: usize) -> (Parcel, u8)
+    requires { is_flying (state_of_place (slice_index_or ring.old.items i None)) ≡ true }
+    ensures found { (exchange : ℕ) × (Some (Place.Flying result.0 result.1 exchange)
+        ≡ slice_index_or ring.old.items i None) }
+    ensures changed { ring.new ≡ record ring.old { items = slice_set ring.old.items i None } }
+{
+    let Some(
+        Place::Flying {
+            parcel,
+            attempts,
+            ..
+        },
+    ) = ring.replace(i, None)
+    else {
+        unreachable!()
+    };
+    (parcel, attempts)
+}
+
 // The parcel, once its frame has this fate.
 fn finished(mut parcel: Parcel, fate: Fate) -> Parcel
     ensures { result ≡ with_fate fate parcel }
@@ -261,15 +281,7 @@ impl Window {
         ensures capacity { self.new.capacity ≡ self.old.capacity }
     {
         let i = usize::from(seq.ahead(self.start));
-        let Some(
-            Place::Waiting {
-                mut parcel,
-                attempts,
-            },
-        ) = self.ring.replace(i, None)
-        else {
-            unreachable!()
-        };
+        let (mut parcel, attempts) = take_waiting(&mut self.ring, i);
         let id = parcel.frame().id();
         parcel.frame_mut().send();
         let _ = self.ring.replace(
@@ -295,16 +307,7 @@ impl Window {
         ensures capacity { self.new.capacity ≡ self.old.capacity }
     {
         let i = usize::from(seq.ahead(self.start));
-        let Some(
-            Place::Flying {
-                parcel,
-                attempts,
-                ..
-            },
-        ) = self.ring.replace(i, None)
-        else {
-            unreachable!()
-        };
+        let (parcel, attempts) = take_flying(&mut self.ring, i);
         if acked {
             let (moved, due) = advance(&mut self.ring, self.due);
             self.start = self.start.plus(moved);
