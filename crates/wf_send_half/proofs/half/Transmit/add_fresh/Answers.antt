@@ -13,6 +13,36 @@ use Rattle.wf_send_half.proofs.Calls.{view_of}
 use Rattle.wf_send_half.proofs.Filling.{both_give, takes_none, none_queued, goes_on_fresh, ends_fresh, same_agg, turn_of, same_given}
 use Rattle.wf_send_half.proofs.Giving.{drops_held, gave_fresh}
 use Rattle.wf_send_half.proofs.half.Transmit.add_fresh.Goals as goal
+use Rattle.wf_send_half.proofs.half.Transmit.add_fresh.Goals.{In-Ok}
+
+-- the half once the frame has its number
+abbrev left : In-Ok → TransmitValue
+left c = view_of (record c.fresh.self-inside {
+  flows = c.take.new.self;
+  windows = c.give.new.self;
+  tally = c.settle_all.new.self;
+})
+
+given_fresh : (c : In-Ok) → IsGivenNumber (view_of c.fresh.self-inside) (left c) c.args.station c.args.tid
+    c.in-Ok.number c.len-len.result
+given_fresh c =
+    let h = c.requires.filling in
+    let v : TransmitValue = view_of c.fresh.self-inside in
+    let turn : HasTurn v c.args.station c.args.tid =
+    turn_of v h.bodies c.args.station c.args.tid c.fresh.aggregate.room c.fresh.aggregate.numbers h.after
+    (c.fresh.invariant.on h.bodies h.after h.goes_on) in
+    let F : TransmitValue → Option Rate = λ z. option_map (λ m. m.rate) (member z.members c.args.station) in
+    let read : IsParamsOf v c.args.station (params_of c.of-params.result) = record {
+      rate = c.member.result.now.rate;
+      is_rate = ap F c.fresh.invariant.same ∙ ap F (sym c.self.view_is)
+          ∙ ap (option_map (λ (m : Member). m.rate)) c.member.ensures;
+      is = c.of-params.ensures;
+    } in
+    gave_fresh v v refl c.args.station c.args.tid turn _ read c.take.new.self
+    c.in-Some.taken.parcel c.in-Some.ensures.taken c.in-Some.taken.dropped c.in-Some.ensures.dropped _
+    c.settle_all.ensures.counted c.give.new.self c.in-Ok.ensures.others c.in-Ok.ensures.room c.in-Ok.number
+    c.len-len.result (c.len-len.ensures.exact ∙ ap (λ (g : FrameValue). length g.body) c.frame.ensures)
+    c.in-Ok.ensures.given
 
 pub settle_all-requires-clause-held : goal.settle_all-requires-clause-held
 settle_all-requires-clause-held c =
@@ -36,29 +66,9 @@ push-requires c = (omega arith, omega (arith, c.len.ensures.count, c.fresh-test.
 
 pub returns-then-not-add-clause-filled : goal.returns-then-not-add-clause-filled
 returns-then-not-add-clause-filled c bodies after k =
-    let h = c.requires.filling in
     let v : TransmitValue = view_of c.fresh.self-inside in
-    let turn : HasTurn v c.args.station c.args.tid =
-    turn_of v h.bodies c.args.station c.args.tid c.fresh.aggregate.room c.fresh.aggregate.numbers h.after
-    (c.fresh.invariant.on h.bodies h.after h.goes_on) in
-    let F : TransmitValue → Option Rate = λ z. option_map (λ m. m.rate) (member z.members c.args.station) in
-    let read : IsParamsOf v c.args.station (params_of c.of-params.result) = record {
-      rate = c.member.result.now.rate;
-      is_rate = ap F c.fresh.invariant.same ∙ ap F (sym c.self.view_is)
-          ∙ ap (option_map (λ (m : Member). m.rate)) c.member.ensures;
-      is = c.of-params.ensures;
-    } in
-    let u : TransmitValue = view_of (record c.fresh.self-inside {
-      flows = c.take.new.self;
-      windows = c.give.new.self;
-      tally = c.settle_all.new.self;
-    }) in
-    let given : IsGivenNumber v u c.args.station c.args.tid c.in-Ok.number c.len-len.result =
-    gave_fresh v v refl c.args.station c.args.tid turn _ read c.take.new.self
-    c.in-Some.taken.parcel c.in-Some.ensures.taken c.in-Some.taken.dropped c.in-Some.ensures.dropped _
-    c.settle_all.ensures.counted c.give.new.self c.in-Ok.ensures.others c.in-Ok.ensures.room c.in-Ok.number
-    c.len-len.result (c.len-len.ensures.exact ∙ ap (λ (g : FrameValue). length g.body) c.frame.ensures)
-    c.in-Ok.ensures.given in
+    let u : TransmitValue = left (goal.at.returns-then-not-add-clause-filled c).In-Ok in
+    let given = given_fresh (goal.at.returns-then-not-add-clause-filled c).In-Ok in
     rw (c.if-not-add.ensures.refused refl)
     (ends_fresh v bodies c.args.station c.args.tid c.fresh.aggregate.room c.fresh.aggregate.numbers
     after (c.fresh.invariant.on bodies after k)
@@ -69,29 +79,9 @@ returns-then-not-add-clause-filled c bodies after k =
 
 pub returns-then-not-add-clause-same : goal.returns-then-not-add-clause-same
 returns-then-not-add-clause-same c =
-    let h = c.requires.filling in
     let v : TransmitValue = view_of c.fresh.self-inside in
-    let turn : HasTurn v c.args.station c.args.tid =
-    turn_of v h.bodies c.args.station c.args.tid c.fresh.aggregate.room c.fresh.aggregate.numbers h.after
-    (c.fresh.invariant.on h.bodies h.after h.goes_on) in
-    let F : TransmitValue → Option Rate = λ z. option_map (λ m. m.rate) (member z.members c.args.station) in
-    let read : IsParamsOf v c.args.station (params_of c.of-params.result) = record {
-      rate = c.member.result.now.rate;
-      is_rate = ap F c.fresh.invariant.same ∙ ap F (sym c.self.view_is)
-          ∙ ap (option_map (λ (m : Member). m.rate)) c.member.ensures;
-      is = c.of-params.ensures;
-    } in
-    let u : TransmitValue = view_of (record c.fresh.self-inside {
-      flows = c.take.new.self;
-      windows = c.give.new.self;
-      tally = c.settle_all.new.self;
-    }) in
-    let given : IsGivenNumber v u c.args.station c.args.tid c.in-Ok.number c.len-len.result =
-    gave_fresh v v refl c.args.station c.args.tid turn _ read c.take.new.self
-    c.in-Some.taken.parcel c.in-Some.ensures.taken c.in-Some.taken.dropped c.in-Some.ensures.dropped _
-    c.settle_all.ensures.counted c.give.new.self c.in-Ok.ensures.others c.in-Ok.ensures.room c.in-Ok.number
-    c.len-len.result (c.len-len.ensures.exact ∙ ap (λ (g : FrameValue). length g.body) c.frame.ensures)
-    c.in-Ok.ensures.given in
+    let u : TransmitValue = left (goal.at.returns-then-not-add-clause-same c).In-Ok in
+    let given = given_fresh (goal.at.returns-then-not-add-clause-same c).In-Ok in
     same_given c.args.self.now v u c.args.station c.args.tid c.in-Ok.number c.len-len.result
     c.fresh.invariant.same given
 
@@ -108,29 +98,9 @@ fresh-smaller c =
 
 pub fresh-preserved : goal.fresh-preserved
 fresh-preserved c =
-    let h = c.requires.filling in
     let v : TransmitValue = view_of c.fresh.self-inside in
-    let turn : HasTurn v c.args.station c.args.tid =
-    turn_of v h.bodies c.args.station c.args.tid c.fresh.aggregate.room c.fresh.aggregate.numbers h.after
-    (c.fresh.invariant.on h.bodies h.after h.goes_on) in
-    let F : TransmitValue → Option Rate = λ z. option_map (λ m. m.rate) (member z.members c.args.station) in
-    let read : IsParamsOf v c.args.station (params_of c.of-params.result) = record {
-      rate = c.member.result.now.rate;
-      is_rate = ap F c.fresh.invariant.same ∙ ap F (sym c.self.view_is)
-          ∙ ap (option_map (λ (m : Member). m.rate)) c.member.ensures;
-      is = c.of-params.ensures;
-    } in
-    let u : TransmitValue = view_of (record c.fresh.self-inside {
-      flows = c.take.new.self;
-      windows = c.give.new.self;
-      tally = c.settle_all.new.self;
-    }) in
-    let given : IsGivenNumber v u c.args.station c.args.tid c.in-Ok.number c.len-len.result =
-    gave_fresh v v refl c.args.station c.args.tid turn _ read c.take.new.self
-    c.in-Some.taken.parcel c.in-Some.ensures.taken c.in-Some.taken.dropped c.in-Some.ensures.dropped _
-    c.settle_all.ensures.counted c.give.new.self c.in-Ok.ensures.others c.in-Ok.ensures.room c.in-Ok.number
-    c.len-len.result (c.len-len.ensures.exact ∙ ap (λ (g : FrameValue). length g.body) c.frame.ensures)
-    c.in-Ok.ensures.given in
+    let u : TransmitValue = left (goal.at.fresh-preserved c).In-Ok in
+    let given = given_fresh (goal.at.fresh-preserved c).In-Ok in
     record {
       on = λ bodies after k.
           rw (c.push.ensures)
