@@ -72,9 +72,9 @@ pub(crate) fn settle(mut parcel: Parcel, fate: Fate) -> Parcel
 fn empty_queues(alloc: Global, queues: u32) -> Result<Vec<Chain>, AllocError>
     ensures { IfOk result (λ made. made.items ≡ replicate queues []) }
 {
-    let mut made = Vec::new(alloc);
+    let mut made = Vec::with_capacity(alloc, queues as usize)?;
     for _ in 0..queues {
-        made.push(Chain::new())?;
+        made.push_reserved(Chain::new());
     }
     Ok(made)
 }
