@@ -174,8 +174,14 @@ impl Flows {
             return None;
         }
         let waiting = &self.waiting;
-        let q = self.rota.pick(list, waiting.ready.as_slice()).winner?;
-        let taken = self.waiting.take(q, now, params)?;
+        let q = self
+            .rota
+            .pick(list, waiting.ready.as_slice())
+            .winner
+            .unwrap();
+        let Some(taken) = self.waiting.take(q, now, params) else {
+            unreachable!()
+        };
         let left = self.queued[list as usize] - taken.dropped - 1;
         self.queued[list as usize] = left;
         self.rota.charge(q, u32::from(taken.parcel.frame().len()));

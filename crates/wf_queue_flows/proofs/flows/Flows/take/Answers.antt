@@ -1,5 +1,5 @@
 use Rattle.std.proofs.Common.{◌≡◌, ℕ, ◌+◌, ◌*◌, ◌<◌, ◌≤◌, ◌∙◌, true, Option, Some, None, length, refl, sym, ap, subst, arith}
-use Rattle.std.specs.Prelude.{pos, ◌<ℤ◌, IfSome, IfNone}
+use Rattle.std.specs.Prelude.{pos, ◌<ℤ◌, IfSome, IfNone, IsSome}
 use Rattle.std.proofs.lemmas.List.{get_or_read}
 use Rattle.wf_queue_flows.specs.CodelParams.{params_of}
 use Rattle.wf_sched.specs.Rotas.{Rotas, deficit_at}
@@ -93,57 +93,49 @@ none_waits c was = subst (λ (w : FlowsValue). frames_of_tid w c.tid_number-list
     (pick_none (before c) _ c.self.invariant c.as_slice.result.now (ready_is c) c.tid_number-list.result
     (low c) c.pick.new.self c.pick.result.winner (as_pick c)))
 
-if_none : {X P : Type 0} (o : Option X) → P → IfNone o P
-if_none None p = p
-if_none (Some x) p = tt
+some_if : (o : Option ℕ) → (o ≡ None → ⊥) → IsSome o
+some_if None none = absurd (none refl)
+some_if (Some q) none = refl
 
-pub invariant_of-self : goal.invariant_of-self
-invariant_of-self c = kept_picked (goal.at.invariant_of-self c).After-pick
-
-pub returns-in_err-q-clause-none : goal.returns-in_err-q-clause-none
-returns-in_err-q-clause-none c = if_none _
-    (subst (λ (i : ℕ). frames_of_tid c.args.self.now i ≡ 0) c.tid_number-list.ensures
-    (none_waits (goal.at.returns-in_err-q-clause-none c).After-pick c.in_err-q.was))
-
-pub returns-in_err-q-clause-unchanged : goal.returns-in_err-q-clause-unchanged
-returns-in_err-q-clause-unchanged c =
-    let at = (goal.at.returns-in_err-q-clause-unchanged c).After-pick in
-    absurd (omega (
+pub unwrap-q-requires : goal.unwrap-q-requires
+unwrap-q-requires c =
+    let at = (goal.at.unwrap-q-requires c).After-pick in
+    some_if c.pick.result.winner (λ none. absurd (omega (
       arith,
       c.if-index-eq0.false,
       get_or_read c.self.inside.queued.items c.tid_number-list.result c.index.result.now
           (omega (arith, c.self.invariant.sized.tids, low at)) c.index.ensures 0,
       frames_counted _ _ _ c.tid_number-list.result c.self.view_is c.self.invariant (low_now at),
-      none_waits at c.in_err-q.was,
-    ))
+      none_waits at none,
+    )))
 
 pub overflow_sub-left : goal.overflow_sub-left
 overflow_sub-left c =
     let at = (goal.at.overflow_sub-left c).After-pick in
-    let most = take_fits (picked at) _ _ refl (kept_picked at) c.tid_number-list.result c.in_ok-q.q
-    c.index-2.result.now c.in_ok-taken.taken.dropped c.args.now (params_of c.args.params)
-    c.in_ok-taken.taken.parcel (low at) (listed at c.in_ok-q.q c.in_ok-q.was) c.index-2.ensures
-    c.in_ok-taken.ensures.dropped c.in_ok-taken.ensures.given in
+    let most = take_fits (picked at) _ _ refl (kept_picked at) c.tid_number-list.result c.unwrap-q.result
+    c.index-2.result.now c.in-Some.taken.dropped c.args.now (params_of c.args.params)
+    c.in-Some.taken.parcel (low at) (listed at c.unwrap-q.result c.unwrap-q.ensures) c.index-2.ensures
+    c.in-Some.ensures.dropped c.in-Some.ensures.given in
     omega arith
 
 pub overflow_sub-left-2 : goal.overflow_sub-left-2
 overflow_sub-left-2 c =
     let at = (goal.at.overflow_sub-left-2 c).After-pick in
-    let most = take_fits (picked at) _ _ refl (kept_picked at) c.tid_number-list.result c.in_ok-q.q
-    c.index-2.result.now c.in_ok-taken.taken.dropped c.args.now (params_of c.args.params)
-    c.in_ok-taken.taken.parcel (low at) (listed at c.in_ok-q.q c.in_ok-q.was) c.index-2.ensures
-    c.in_ok-taken.ensures.dropped c.in_ok-taken.ensures.given in
+    let most = take_fits (picked at) _ _ refl (kept_picked at) c.tid_number-list.result c.unwrap-q.result
+    c.index-2.result.now c.in-Some.taken.dropped c.args.now (params_of c.args.params)
+    c.in-Some.taken.parcel (low at) (listed at c.unwrap-q.result c.unwrap-q.ensures) c.index-2.ensures
+    c.in-Some.ensures.dropped c.in-Some.ensures.given in
     omega arith
 
-pub invariant_of-self-2 : goal.invariant_of-self-2
-invariant_of-self-2 c =
-    let at = (goal.at.invariant_of-self-2 c).After-pick in
+pub invariant_of-self : goal.invariant_of-self
+invariant_of-self c =
+    let at = (goal.at.invariant_of-self c).After-pick in
     let few : c.from.result ≤ 2304 = omega (arith, c.from.ensures, c.len.ensures.most) in
-    take_keeps (picked at) _ _ refl (kept_picked at) c.tid_number-list.result c.in_ok-q.q
-    c.index-2.result.now c.in_ok-taken.taken.dropped c.from.result c.args.now (params_of c.args.params)
-    c.in_ok-taken.taken.parcel c.take.new.self c.charge.new.self (low at)
-    (listed at c.in_ok-q.q c.in_ok-q.was) c.index-2.ensures c.in_ok-taken.ensures.dropped
-    c.in_ok-taken.ensures.given c.in_ok-taken.ensures.taken (positive at c.in_ok-q.q c.in_ok-q.was) few
+    take_keeps (picked at) _ _ refl (kept_picked at) c.tid_number-list.result c.unwrap-q.result
+    c.index-2.result.now c.in-Some.taken.dropped c.from.result c.args.now (params_of c.args.params)
+    c.in-Some.taken.parcel c.take.new.self c.charge.new.self (low at)
+    (listed at c.unwrap-q.result c.unwrap-q.ensures) c.index-2.ensures c.in-Some.ensures.dropped
+    c.in-Some.ensures.given c.in-Some.ensures.taken (positive at c.unwrap-q.result c.unwrap-q.ensures) few
     c.charge.ensures
 
 pub returns-clause-taken : goal.returns-clause-taken
@@ -151,14 +143,14 @@ returns-clause-taken c =
     let at = (goal.at.returns-clause-taken c).After-pick in
     subst (λ (t : TakenFromFlows). TakeGives
     (record (before at) { backlog = c.take.new.self; rotas = c.charge.new.self })
-    c.in_ok-taken.taken.parcel t)
-    (take_parts c.args.self.now (picked at) c.tid_number-list.result c.in_ok-q.q c.args.now
-    (params_of c.args.params) (picked_is at) (winner_is at c.in_ok-q.q c.in_ok-q.was)
+    c.in-Some.taken.parcel t)
+    (take_parts c.args.self.now (picked at) c.tid_number-list.result c.unwrap-q.result c.args.now
+    (params_of c.args.params) (picked_is at) (winner_is at c.unwrap-q.result c.unwrap-q.ensures)
     ∙ ap (λ n. taken_for_tid c.args.self.now n c.args.now (params_of c.args.params))
     c.tid_number-list.ensures)
-    (picked_gives (picked at) c.in_ok-q.q c.from.result c.args.now (params_of c.args.params)
-    c.in_ok-taken.taken.parcel c.take.new.self c.charge.new.self c.in_ok-taken.ensures.given
-    c.in_ok-taken.ensures.taken
+    (picked_gives (picked at) c.unwrap-q.result c.from.result c.args.now (params_of c.args.params)
+    c.in-Some.taken.parcel c.take.new.self c.charge.new.self c.in-Some.ensures.given
+    c.in-Some.ensures.taken
     (c.from.ensures ∙ c.len.ensures.exact ∙ ap (λ f. length f.body) c.frame.ensures) c.charge.ensures)
 
 pub returns-clause-dropped : goal.returns-clause-dropped
@@ -166,9 +158,9 @@ returns-clause-dropped c =
     let at = (goal.at.returns-clause-dropped c).After-pick in
     subst (λ (i : ℕ). frames_of_tid
     (record (before at) { backlog = c.take.new.self; rotas = c.charge.new.self }) i
-    + c.in_ok-taken.taken.dropped + 1 ≡ frames_of_tid c.args.self.now i) c.tid_number-list.ensures
-    (take_counts (picked at) _ _ refl (kept_picked at) c.tid_number-list.result c.in_ok-q.q
-    c.in_ok-taken.taken.dropped c.args.now (params_of c.args.params) c.in_ok-taken.taken.parcel
-    c.take.new.self c.charge.new.self (low at) (listed at c.in_ok-q.q c.in_ok-q.was)
-    c.in_ok-taken.ensures.dropped c.in_ok-taken.ensures.given c.in_ok-taken.ensures.taken
+    + c.in-Some.taken.dropped + 1 ≡ frames_of_tid c.args.self.now i) c.tid_number-list.ensures
+    (take_counts (picked at) _ _ refl (kept_picked at) c.tid_number-list.result c.unwrap-q.result
+    c.in-Some.taken.dropped c.args.now (params_of c.args.params) c.in-Some.taken.parcel
+    c.take.new.self c.charge.new.self (low at) (listed at c.unwrap-q.result c.unwrap-q.ensures)
+    c.in-Some.ensures.dropped c.in-Some.ensures.given c.in-Some.ensures.taken
     (ap (λ (r : Rotas). r.lists) c.charge.ensures) ∙ counted at)
