@@ -1,15 +1,15 @@
 //! The arguments of a line.
 
-ghost use Rattle.std.specs.Prelude.{◌≡◌, ◌+◌, ◌<◌, ◌≤◌, ◌∷◌, List, length};
+ghost use Rattle.std.specs.Prelude.{◌≡◌, ◌+◌, ◌<◌, ◌≤◌, ◌∷◌, List, length, map};
 ghost use Rattle.wf_trace.specs.Words.{words};
 ghost use Rattle.wf_frame.specs.declared.calls.Arg.{Arg as Kind};
-ghost use Rattle.wf_frame.specs.Calls.{args_of};
+ghost use Rattle.wf_frame.specs.Calls.{argument_kind};
 ghost use Rattle.wf_trace.specs.Grammar.{known_value, read_arg, result_seen, behind as behind_fault, read_args};
 
 use crate::fault::{FaultKind, first_of};
 use crate::words::{in_range, next_word};
 use arrayvec::ArrayVec;
-use wf_frame::{Arg, CallForm, Class, GREATEST_BODY, RateFormat, Value};
+use wf_frame::{Arg, Argument, Class, GREATEST_BODY, RateFormat, Value};
 
 // One of the words that an argument may be.
 fn known(arg: Arg, word: &[u8]) -> Option<Value>
@@ -95,14 +95,16 @@ pub fn read_all(args: &[Arg], line: &[u8]) -> Result<ArrayVec<Value, 6>, FaultKi
     }
 }
 
-/// The values of the arguments of a call's line in this form, or the fault that it is judged by.
-pub fn read_form(form: CallForm, line: &[u8]) -> Result<ArrayVec<Value, 6>, FaultKind>
-    ensures { result_seen (λ values. values.items) result ≡ read_args (args_of form) (words line.now) }
+/// The same of a call's arguments, by their names.
+pub fn read_named(arguments: &[Argument], line: &[u8]) -> Result<ArrayVec<Value, 6>, FaultKind>
+    requires { length arguments.now ≤ 6 }
+    ensures { result_seen (λ values. values.items) result ≡
+        read_args (map argument_kind arguments.now) (words line.now) }
 {
     let mut values = ArrayVec::new();
     let mut fault = None;
     let mut rest = line;
-    for argument in form.arguments() {
+    for argument in arguments {
         rest = take(argument.kind(), rest, &mut values, &mut fault);
     }
     match (next_word(rest), fault) {

@@ -5,7 +5,7 @@ ghost use Rattle.wf_trace.specs.Words.{words};
 ghost use Rattle.wf_trace.specs.Grammar.{call_form};
 ghost use Rattle.wf_trace.specs.Meanings.{entry_of, caller_of, caller_first, meant, HasRoomForLine};
 
-use crate::args::read_form;
+use crate::args::read_named;
 use crate::fault::FaultKind;
 use crate::settings::read_head;
 use crate::words::{in_range, next_word};
@@ -80,7 +80,7 @@ fn call(caller: u32, place: Option<Place>, name: &[u8], line: &[u8]) -> Result<M
         CallForm::Done => done_form(line),
         _ => call,
     };
-    let values = read_form(form, line)?;
+    let values = read_named(form.arguments(), line)?;
     let Some(note) = Note::of_values(form, values.as_slice()) else {
         return Err(FaultKind::Word);
     };

@@ -6,11 +6,11 @@ use Rattle.wf_frame.specs.declared.calls.Argument.TheVariants.{Station}
 use Rattle.wf_frame.specs.Calls.{argument_kind}
 use Rattle.wf_trace.specs.Words.{words}
 use Rattle.wf_trace.specs.Grammar.{behind, read_args}
-use Rattle.wf_trace.proofs.args.read_form.Goals as goal
+use Rattle.wf_trace.proofs.args.read_named.Goals as goal
 
 pub loop-argument-preserved : goal.loop-argument-preserved
 loop-argument-preserved c =
-    let items : List Argument = c.arguments-argument-items.result.now in
+    let items : List Argument = c.args.arguments.now in
     let others = map argument_kind (drop (c.loop-argument.argument-index + 1) items) in (
       c.loop-argument.invariant.0
           ∙ ap (λ (a : List Argument). behind c.loop-argument.fault c.loop-argument.values.items
