@@ -40,6 +40,8 @@ ALL = [
     Check("sim", quick=True),
     Check("install", quick=True),
     Check("c-library", quick=True),
+    Check("part-trials", quick=True),
+    Check("command-trials", quick=True),
     Check("durations"),
     Check("agreement-frames"),
     Check("sessions"),

@@ -1,0 +1,6 @@
+//! Gates of two seats, and threads that call through one.
+
+mod busy;
+mod clock;
+mod pair;
+mod threads;
