@@ -10,7 +10,6 @@ ghost use Rattle.wf_def_air.specs.Airtime.{block_ack_octets};
 ghost use Rattle.wf_octets.specs.BlockLayout.{answer};
 ghost use Rattle.std.specs.Result.{result_err};
 ghost use Rattle.wf_octets.specs.BlockFaults.{first_block_fault};
-ghost use Rattle.std.specs.Result.{result_err};
 ghost use Rattle.wf_path.specs.Addresses.{address_in};
 ghost use Rattle.wf_path.specs.Answers.{recipient_in, transmitter_in, tid_in, answer_fault, read_fault, block_ack_in};
 
@@ -60,7 +59,7 @@ fn read_answer(
     ensures fault { result_err result ≡ answer_fault addresses.now wide station tid octets.now }
     ensures read { IfOk result (λ read. read ≡ block_ack_in octets.now) }
 {
-    let answer = decode(wide, octets).map_err(DoneFault::Block)?;
+    let answer = decode(wide, octets)?;
     if !is_from(addresses, station, &answer) {
         return Err(DoneFault::NotMine);
     }

@@ -3,6 +3,7 @@
 
 ghost use Rattle.std.specs.Prelude.{◌≡◌};
 ghost use Rattle.wf_path.specs.declared.faults.NewFault.TheVariants.{NoMemory};
+ghost use Rattle.wf_path.specs.declared.faults.DoneFault.TheVariants.{Block};
 
 use std::alloc::AllocError;
 use thiserror::Error;
@@ -77,4 +78,12 @@ pub enum DoneFault {
         /// The traffic identifier that it names.
         found: u8,
     },
+}
+
+impl From<BlockFault> for DoneFault {
+    ghost from_gives = { λ fault e. e ≡ Block fault };
+
+    fn from(fault: BlockFault) -> DoneFault {
+        DoneFault::Block(fault)
+    }
 }

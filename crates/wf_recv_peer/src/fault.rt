@@ -1,3 +1,6 @@
+ghost use Rattle.std.specs.Prelude.{◌≡◌};
+ghost use Rattle.wf_recv_peer.specs.declared.fault.PeerFault.TheVariants.{Header, Block};
+
 use thiserror::Error;
 use wf_octets::block::BlockFault;
 use wf_octets::header::HeaderFault;
@@ -21,4 +24,20 @@ pub enum PeerFault {
     /// The traffic identifier is above 7.
     #[error("traffic identifier {0}, past 7")]
     Tid(u8),
+}
+
+impl From<HeaderFault> for PeerFault {
+    ghost from_gives = { λ fault e. e ≡ Header fault };
+
+    fn from(fault: HeaderFault) -> PeerFault {
+        PeerFault::Header(fault)
+    }
+}
+
+impl From<BlockFault> for PeerFault {
+    ghost from_gives = { λ fault e. e ≡ Block fault };
+
+    fn from(fault: BlockFault) -> PeerFault {
+        PeerFault::Block(fault)
+    }
 }

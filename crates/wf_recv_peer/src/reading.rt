@@ -39,7 +39,7 @@ pub(crate) fn read(own: [u8; 6], base: [u8; 6], octets: &[u8]) -> Result<Reading
     ensures reading { IfOk result (λ reading. reading ≡ reading_of octets.now) }
     ensures tid { IfOk result (λ reading. tid_read reading < 8) }
 {
-    let (header, _) = decode(octets).map_err(PeerFault::Header)?;
+    let (header, _) = decode(octets)?;
     let reading = carried(&header, octets)?;
     if !is_mine(own, base, &header) {
         return Err(PeerFault::NotMine);
@@ -65,7 +65,7 @@ fn carried(header: &Header, octets: &[u8]) -> Result<Reading, PeerFault>
             number: header.seq,
         }),
         Kind::BlockAckReq => {
-            let bar = decode_bar(octets).map_err(PeerFault::Block)?;
+            let bar = decode_bar(octets)?;
             Ok(Reading::Request {
                 tid: bar.tid,
                 start: bar.start,
