@@ -1,14 +1,27 @@
 //! The program: `main` has the words, the real source and sink, the status, and what it says on standard
-//! error.
+//! error. Of words that are no command that is `advice`, and of a fault of a trace or a script what `explain`
+//! makes of the lines that `NotedSource` and `NotedSink` have noted.
 #![tactic(auto)]
 
+mod calls;
+mod explained;
+mod forms;
+mod heads;
+mod noted;
+mod octets;
+mod saying;
+mod unknown;
+
+use crate::explained::explain;
+use crate::noted::{NotedSink, NotedSource};
+use crate::unknown::advice;
 use std::alloc::AllocError;
 use std::env;
 use std::io::ErrorKind;
 use std::process::ExitCode;
 use wf_gate::Free;
 use wf_io::{Line, Source, StdSink, StdSource, write_line};
-use wf_run::help::{NotedSink, NotedSource, advice, command_from, explain, usage};
+use wf_run::help::{command_from, usage};
 use wf_run::{Status, run};
 
 // The words after the program's name. One that is not UTF-8 is no word of a command.

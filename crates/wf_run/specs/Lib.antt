@@ -1,5 +1,4 @@
 pub mod Outcome
 pub mod Commands
-pub mod Slips
 pub mod Telling
 pub mod Topics

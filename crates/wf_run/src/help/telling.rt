@@ -7,7 +7,7 @@ ghost use Rattle.wf_run.specs.Telling.{TellingStatusSays};
 ghost use Rattle.wf_run.specs.Topics.{help_text, version_text};
 
 use crate::help::Topic;
-use crate::help::texts::VERSION;
+use crate::help::texts::{USAGE, VERSION};
 use wf_io::{Sink, Status, write_all};
 
 // Writes a text.
@@ -41,4 +41,9 @@ pub fn version<K: Sink>(sink: &mut K) -> Status
     ensures sink_quiet { result ≢ Status.WriteFault → K.faults sink.new ≡ K.faults sink.old }
 {
     told(VERSION, sink)
+}
+
+/// The ways to call the program, a line each.
+pub fn usage() -> &'static str {
+    USAGE
 }

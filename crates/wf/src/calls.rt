@@ -1,10 +1,10 @@
 //! What is said of the words of a call or an event.
 
-use crate::help::Command;
-use crate::help::forms::{args, form_named, forms, name_of, say_wanted, third_word, word_of};
-use crate::help::saying::{say, say_number};
-use crate::help::unknown::is_near;
+use crate::forms::{args, form_named, forms, name_of, say_wanted, third_word, word_of};
+use crate::saying::{say, say_number};
+use crate::unknown::is_near;
 use wf_io::Line;
+use wf_run::help::Command;
 use wf_trace::{Arg, FaultKind, next_word, read_all};
 
 // The first argument that is judged so: its place, what it may be, and its word.

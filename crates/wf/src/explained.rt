@@ -1,11 +1,12 @@
 //! What is said of a fault of a trace or a script, besides its line on standard output.
 
-use crate::help::calls::say_call;
-use crate::help::heads::say_head;
-use crate::help::octets::say_octets;
-use crate::help::saying::{say, say_number};
-use crate::help::{Command, NotedSource};
+use crate::calls::say_call;
+use crate::heads::say_head;
+use crate::noted::NotedSource;
+use crate::octets::say_octets;
+use crate::saying::{say, say_number};
 use wf_io::{Line, Source, value_of};
+use wf_run::help::Command;
 use wf_trace::{Fault, FaultKind, in_range, is_plain_number, next_word};
 
 /// The greatest number of a caller.
@@ -26,12 +27,7 @@ const KINDS: [FaultKind; 10] = [
 
 // The kind of this word.
 fn kind_named(word: &[u8]) -> Option<FaultKind> {
-    for kind in &KINDS {
-        if kind.word() == word {
-            return Some(*kind);
-        }
-    }
-    None
+    KINDS.iter().copied().find(|kind| kind.word() == word)
 }
 
 // The fault that a line tells, without its octet 10: `fault line N KIND`.

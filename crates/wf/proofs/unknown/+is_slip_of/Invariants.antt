@@ -1,5 +1,5 @@
 use Rattle.std.proofs.Common.{length}
-use Rattle.wf_run.proofs.help.unknown.+is_slip_of.Given as goal
+use Rattle.wf.proofs.unknown.+is_slip_of.Given as goal
 
 abbrev pub decreases-is_slip_of : goal.decreases-is_slip_of
 decreases-is_slip_of l = length l.word.now

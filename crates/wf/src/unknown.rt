@@ -1,10 +1,9 @@
 //! What is said of words that are no command.
 
 ghost use Rattle.std.specs.Prelude.{◌≡◌};
-ghost use Rattle.wf_run.specs.Slips.{is_slip_of, is_swap_of};
+ghost use Rattle.wf.specs.Slips.{is_slip_of, is_swap_of};
 
-use crate::help::Topic;
-use crate::help::texts::USAGE;
+use wf_run::help::Topic;
 
 // Whether two words differ by two neighbours that changed places, at their front.
 fn is_swap_of(word: &[u8], known: &[u8]) -> bool
@@ -131,9 +130,4 @@ pub fn advice(words: &[String]) -> &'static str {
         [] => "",
         [word, ..] => said_of(word.as_bytes()),
     }
-}
-
-/// The ways to call the program, a line each.
-pub fn usage() -> &'static str {
-    USAGE
 }

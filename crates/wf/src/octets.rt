@@ -1,6 +1,6 @@
 //! What is said of an octet that is no printable ASCII character.
 
-use crate::help::saying::{say, say_number};
+use crate::saying::{say, say_number};
 use wf_io::Line;
 
 // Whether an octet is a character of a word.

@@ -1,9 +1,9 @@
 //! The lines of a trace and of the scripts as their help shows them, and what their words are to be.
 //! checks/help compares the forms with the help, and the ranges with docs/TRACE.md.
 
-use crate::help::Command;
-use crate::help::saying::{say, say_number};
+use crate::saying::{say, say_number};
 use wf_io::Line;
+use wf_run::help::Command;
 use wf_trace::{Arg, next_word};
 
 const TRACE: [&[u8]; 19] = [

@@ -1,8 +1,8 @@
 //! What is said of a word of a head.
 
-use crate::help::forms::say_range;
-use crate::help::saying::say;
-use crate::help::unknown::is_near;
+use crate::forms::say_range;
+use crate::saying::say;
+use crate::unknown::is_near;
 use wf_io::Line;
 use wf_trace::{FaultKind, in_range, next_word};
 
