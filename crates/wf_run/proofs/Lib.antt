@@ -1,3 +1,4 @@
 mod LiveText
 mod ProgramLaws
+mod Runs
 mod SoakText

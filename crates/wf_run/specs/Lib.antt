@@ -1,4 +1,5 @@
 pub mod Outcome
 pub mod Commands
+pub mod Runs
 pub mod Telling
 pub mod Topics

@@ -1,8 +1,8 @@
 //! The commands, by their words.
 
-ghost use Rattle.std.specs.Prelude.{◌≡◌, ◌≤◌, ◌↔◌, ℕ, Some, None, map, string_bytes};
+ghost use Rattle.std.specs.Prelude.{◌≡◌, ◌≤◌, ◌↔◌, ℕ, IfSome, Some, None, map, string_bytes};
 ghost use Rattle.wf_trace.specs.CommandEnds.{CommandEnds, CommandWrites, TellsFault};
-ghost use Rattle.wf_run.specs.Commands.{command_of};
+ghost use Rattle.wf_run.specs.Commands.{command_of, HasCallsInRange};
 ghost use Rattle.wf_run.specs.Telling.{TellingStatusSays};
 ghost use Rattle.wf_run.specs.Topics.{help_text, version_text};
 ghost use Rattle.wf_run.specs.declared.help.topic.Topic.{Topic};
@@ -14,6 +14,7 @@ ghost use Rattle.wf_run_scripts.specs.UplinkOutcome.{UplinkOutcome, UplinkAnswer
 ghost use Rattle.wf_report.specs.ListingOutcome.{FramesOutcome, FramesAnswered};
 ghost use Rattle.wf_run_histories.specs.Lives.{LiveStatusSays};
 ghost use Rattle.wf_run.specs.Outcome.{SoakStatusSays, ProgramLaws};
+ghost use Rattle.wf_run.specs.Runs.{RunEnds};
 
 use crate::help::{Command, command_from, help, version};
 use std::alloc::Global;
@@ -98,7 +99,23 @@ pub fn run<R: Threads + Wait + Sync, S: Source, K: Sink, T: Turnstile + Sync>(
     ensures read { TellsFault Status.ReadFault (S.faults source.old) (S.faults source.new) result }
     ensures write { TellsFault Status.WriteFault (K.faults sink.old) (K.faults sink.new) result }
 {
-    match command_from(words) {
+    carry_out(rt, alloc, command_from(words), source, sink, turnstile)
+}
+
+// Carries out a command, or does nothing where there is none.
+fn carry_out<R: Threads + Wait + Sync, S: Source, K: Sink, T: Turnstile + Sync>(
+    rt: &R,
+    alloc: Global,
+    command: Option<Command>,
+    source: &mut S,
+    sink: &mut K,
+    turnstile: &T,
+) -> Status
+    requires { IfSome command HasCallsInRange }
+    ensures ends { RunEnds command S.left S.faults K.held K.faults
+        source.old source.new sink.old sink.new result }
+{
+    match command {
         None => Status::Usage,
         Some(Command::Replay) => replay(alloc, source, sink),
         Some(Command::Capture) => capture(alloc, source, sink),

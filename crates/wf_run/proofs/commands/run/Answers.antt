@@ -1,32 +1,25 @@
 use Rattle.wf_run.proofs.ProgramLaws.{program_laws}
+use Rattle.wf_run.proofs.Runs.{run_says, ends_as_asked, of_same}
 use Rattle.wf_run.proofs.commands.run.Goals as goal
 
-pub returns-in-None-clause-laws : goal.returns-in-None-clause-laws
-returns-in-None-clause-laws g c = program_laws _
-
-pub returns-in-Some-Replay-clause-laws : goal.returns-in-Some-Replay-clause-laws
-returns-in-Some-Replay-clause-laws g c = program_laws _
-
-pub returns-in-Some-Capture-clause-laws : goal.returns-in-Some-Capture-clause-laws
-returns-in-Some-Capture-clause-laws g c = program_laws _
-
-pub returns-in-Some-Soak-clause-laws : goal.returns-in-Some-Soak-clause-laws
-returns-in-Some-Soak-clause-laws g c = program_laws _
-
-pub returns-in-Some-Live-clause-laws : goal.returns-in-Some-Live-clause-laws
-returns-in-Some-Live-clause-laws g c = program_laws _
-
-pub returns-in-Some-Session-clause-laws : goal.returns-in-Some-Session-clause-laws
-returns-in-Some-Session-clause-laws g c = program_laws _
-
-pub returns-in-Some-Uplink-clause-laws : goal.returns-in-Some-Uplink-clause-laws
-returns-in-Some-Uplink-clause-laws g c = program_laws _
-
-pub returns-in-Some-Frames-clause-laws : goal.returns-in-Some-Frames-clause-laws
-returns-in-Some-Frames-clause-laws g c = program_laws _
-
-pub returns-in-Some-Help-clause-laws : goal.returns-in-Some-Help-clause-laws
-returns-in-Some-Help-clause-laws g c = program_laws _
-
-pub returns-in-Some-Version-clause-laws : goal.returns-in-Some-Version-clause-laws
-returns-in-Some-Version-clause-laws g c = program_laws _
+pub returns : goal.returns
+returns g c =
+    let run = of_same _ _ _ _ _ _ _ _ _ _ _ c.command_from.ensures.command c.carry_out.ensures.ends in
+    let says = run_says _ _ _ _ _ _ _ _ _ _ run in
+    let asked = ends_as_asked _ _ _ _ _ _ _ _ _ _ run in
+    record {
+      usage = (says.usage, says.none);
+      untouched = λ is. (says.source_kept is, says.sink_kept is);
+      replay = asked.replay;
+      capture = asked.capture;
+      session = asked.session;
+      uplink = asked.uplink;
+      frames = asked.frames;
+      soak = asked.soak;
+      live = asked.live;
+      help = asked.help;
+      version = asked.version;
+      laws = program_laws _;
+      read = says.read;
+      write = says.write;
+    }
