@@ -1,251 +1,346 @@
 """The loop in time: frames come, the path is asked what to send, the air takes its time, and transmissions arrive or are lost.
 
-The same scenario makes the same arrivals and the same losses for each path: each flow and each station has its own random numbers.
+The same scenario makes the same arrivals and losses for each path, because each flow and each station has its own random numbers.
 """
-import heapq
+from __future__ import annotations
+
+import functools
 import random
+from collections import deque
+from collections.abc import Callable
+from dataclasses import dataclass
 
-from .frames import CLASS_OF_TID, CLASSES
+from .clock import Clock
+from .frames import CLASS_OF_TID, CLASSES, Exchange, Frame, Path
+from .medium import AccessPoint, Contender, Medium, Uplink, UplinkExchange
 from .program import OutOfCalls
-from .traffic import Responsive, Saturated, Timed
+from .rates import Rate
+from .receivers import Receivers
+from .scenario import Flow, Scenario, Station
+from .traffic import Backlog, Eager, Source, Tcp, Timed
+from .web import Browser
+
+TIMER = 50_000  # microseconds between looks at timeouts
+Progress = Callable[[int], None]
 
 
-class Air:
-    """The medium: one exchange at a time, the most urgent class first, each behind a time of access."""
-
-    def __init__(self, access):
-        self.access = access
-        self.waiting = {frame_class: [] for frame_class in CLASSES}
-        self.current = None
-
-    def start(self):
-        """Begins the next exchange if the air is free and one waits. Gives the microseconds until its end, or None."""
-        if self.current is None:
-            for waiting in self.waiting.values():
-                if waiting:
-                    self.current = waiting.pop(0)
-                    return self.access + self.current.air
-        return None
-
-
+@dataclass
 class Served:
-    """What a station got: microseconds charged, exchanges, those of data, transmissions, and of these repeated ones."""
+    """The airtime and the frames of a station, after the warm-up."""
 
-    def __init__(self):
-        self.airtime = 0
-        self.exchanges = 0
-        self.aggregates = 0
-        self.transmissions = 0
-        self.retries = 0
+    airtime: int = 0  # microseconds that exchanges to it were charged
+    uplink: int = 0  # microseconds of what it sent
+    access: int = 0  # microseconds of access before either
+    aggregates: int = 0
+    transmissions: int = 0
+    retries: int = 0
 
 
 class Bench:
     """One run of a scenario over one path."""
 
-    def __init__(self, scenario, path, progress=None):
+    def __init__(self, scenario: Scenario, path: Path, progress: Progress | None = None) -> None:
         self.scenario = scenario
         self.path = path
         self.progress = progress
-        self.now = 0
-        self.events = []
-        self.order = 0
-        self.air = Air(scenario.access)
+        self.clock = Clock()
+        self.warmup = round(scenario.warmup * 1e6)
+        self.medium = Medium(scenario.air, scenario.seed)
+        self.access_point = AccessPoint()
+        self.uplinks = [Uplink(station, scenario.setting("cap")) for station in scenario.stations]
         self.open = dict.fromkeys(CLASSES, 0)
         self.may_send = dict.fromkeys(CLASSES, False)  # whether a pull of the class might find something
         self.here = [False] * len(scenario.stations)
         self.open_of = [0] * len(scenario.stations)
-        self.leaving = set()
-        self.frames = [[] for _ in scenario.flows]
+        self.leaving: set[int] = set()
+        self.frames: list[list[Frame]] = [[] for _ in scenario.flows]
         self.served = [Served() for _ in scenario.stations]
-        self.losses = [random.Random(f"{scenario.seed} losses {station.name}") for station in scenario.stations]
-        for station in scenario.stations:  # before the flows: what comes when a station joins is for it
+        self.losses = [random.Random(f"{scenario.seed} losses {one.number} {one.name}") for one in scenario.stations]
+        self.meters = [random.Random(f"{scenario.seed} meter {one.number} {one.name}") for one in scenario.stations]
+        self.uplink_losses = [random.Random(f"{scenario.seed} uplink {one.number} {one.name}") for one in scenario.stations]
+        self.eager: deque[Eager] = deque()  # flows that might send now
+        self.blocked: list[Eager] = []  # flows that wait for room
+        for station in scenario.stations:  # before the flows, so that a frame of the same time finds its station
             self.plan(station)
         self.sources = [self.source(flow) for flow in scenario.flows]
-        self.held = [source for source in self.sources if not isinstance(source, Timed)]  # they send when the path has room
-        self.next_held = 0
+        self.receivers = Receivers(self.clock, self.sources, self.uplinks, self.enqueue_control, self.ask)
+        self.loads: list[list[tuple[int, int]]] = [[] for _ in scenario.flows]  # when each transfer began, and how long it took
+        self.plan_transfers()
 
-    def source(self, flow):
-        """What makes the frames of a flow, with its first event."""
-        if flow.kind == "timed":
-            source = Timed(flow, self.scenario.seed)
-            self.at(source.next_time(), self.arrive, source)
-            return source
-        self.at(flow.start, self.start_flow, None)
-        return Saturated(flow) if flow.kind == "saturated" else Responsive(flow)
+    # Time
 
-    def at(self, time, action, argument):
-        if time is not None:
-            self.order += 1
-            heapq.heappush(self.events, (time, self.order, action, argument))
-
-    def run(self, until):
-        """Runs to a time, or until the program takes no more calls. Gives the time that was reached."""
+    def run(self, until: int) -> int:
+        """Runs to a time, or until the program takes no more calls. Returns the time that was reached."""
         try:
-            while self.events and self.events[0][0] <= until:
-                self.step(self.events[0][0])
-            self.now = until
+            while self.clock.has_event(until):
+                self.step()
+            self.clock.now = until
+            self.path.advance(until)
         except OutOfCalls:
             pass
         self.path.close()
-        return self.now
+        self.note_ended()
+        return self.clock.now
 
-    def plan(self, station):
-        """The events of a station."""
-        self.at(station.join, self.join, station)
-        for time, rate in station.rates:
-            self.at(time, self.change_rate, (station, rate))
-        for start, stop in station.sleeps:
-            self.at(start, self.sleep, station)
-            for time in range(start + station.poll, stop, station.poll) if station.poll else ():
-                self.at(time, self.poll, station)
-            self.at(stop, self.wake, station)
-        if station.leave < self.scenario.seconds * 1e6:
-            self.at(station.leave, self.leave, station)
-
-    def step(self, now):
+    def step(self) -> None:
         """All that happens at one time: the events, then what flows send, then what the path sends."""
-        self.now = now
-        self.path.advance(now)
-        while self.events and self.events[0][0] == now:
-            _, _, action, argument = heapq.heappop(self.events)
-            action(argument)
-        self.note_ended()
-        self.refill()
+        self.path.advance(self.clock.advance())
+        self.clock.act()
+        if self.path.ended:
+            self.note_ended()
+        if self.eager:
+            self.refill()
         self.pull()
-        self.note_ended()
+        if self.path.ended:
+            self.note_ended()
         if self.progress:
-            self.progress(now)
+            self.progress(self.clock.now)
 
-    def enqueue(self, frame):
-        self.frames[frame.flow.number - 1].append(frame)
-        self.may_send[CLASS_OF_TID[frame.tid]] = True
-        self.path.enqueue(frame)
+    # Stations
 
-    def arrive(self, source):
-        """A frame of a timed flow comes. Where its station is not there it is nobody's, and not counted."""
-        frame = source.frame(self.now)
-        if self.here[frame.station]:
-            self.enqueue(frame)
-        self.at(source.next_time(), self.arrive, source)
+    def plan(self, station: Station) -> None:
+        """The events of a station."""
+        self.clock.at(station.join, lambda: self.join(station))
+        for time, rate in station.rates:
+            self.clock.at(time, functools.partial(self.change_rate, station, rate))
+        for start, stop in station.sleeps:
+            self.clock.at(start, lambda: self.path.sleep(station))
+            for time in range(start + station.poll, stop, station.poll) if station.poll else ():
+                self.clock.at(time, lambda: self.poll(station))
+            self.clock.at(stop, lambda: self.wake(station))
+        if station.leave < self.scenario.seconds * 1e6:
+            self.clock.at(round(station.leave), lambda: self.leave(station))
 
-    def start_flow(self, _):
-        """A flow that sends when it may begins now: `step` asks it."""
-
-    def refill(self):
-        """Lets flows that send when they may put frames in, one each in turn; a saturated one only while the path has room."""
-        silent = 0
-        while self.held and silent < len(self.held):
-            source = self.held[self.next_held]
-            self.next_held = (self.next_held + 1) % len(self.held)
-            if self.here[source.flow.station.number] and source.wants(self.now, self.path):
-                self.enqueue(source.frame(self.now))
-                silent = 0
-            else:
-                silent += 1
-
-    def pull(self):
-        """Takes exchanges from the path while the driver has room for them, and starts the air. None while a station is leaving."""
-        for frame_class in () if self.leaving else CLASSES:
-            while self.may_send[frame_class] and self.open[frame_class] < self.scenario.inflight:
-                exchange = self.path.pull(frame_class)
-                if exchange is None:
-                    self.may_send[frame_class] = False
-                else:
-                    self.open[frame_class] += 1
-                    self.open_of[exchange.station] += 1
-                    self.air.waiting[frame_class].append(exchange)
-        self.start_air()
-
-    def start_air(self):
-        time = self.air.start()
-        if time is not None:
-            self.at(self.now + time, self.finish, self.air.current)
-
-    def finish(self, exchange):
-        """The air's exchange ends: what of it arrived, and whether that was heard, is drawn."""
-        station = self.scenario.stations[exchange.station]
-        draw = self.losses[exchange.station].random
-        arrived = [not station.loss or draw() >= station.loss for _ in exchange.frames or (None,)]
-        heard = any(arrived) and (not station.ack_loss or draw() >= station.ack_loss)
-        self.air.current = None
-        frame_class = CLASS_OF_TID[exchange.tid]
-        self.open[frame_class] -= 1
-        self.open_of[exchange.station] -= 1
-        self.may_send[frame_class] = True
-        self.count(exchange)
-        for frame in self.path.finish(exchange, arrived, heard):
-            frame.released = self.now
-            if frame.fate != "retries":
-                self.learn(frame)
-        if exchange.station in self.leaving and not self.open_of[exchange.station]:
-            self.go(station)
-
-    def count(self, exchange):
-        """Counts an exchange for its station, if it ended behind the warm-up."""
-        again = sum(1 for frame in exchange.frames if frame.sent)
-        for frame in exchange.frames:
-            frame.sent += 1
-        if self.now > self.scenario.warmup * 1e6:
-            served = self.served[exchange.station]
-            served.airtime += exchange.air
-            served.exchanges += 1
-            if exchange.frames:
-                served.aggregates += 1
-                served.transmissions += len(exchange.frames)
-                served.retries += again
-
-    def note_ended(self):
-        """Notes frames that ended, and lets their flows know."""
-        for frame, fate in self.path.take_ended():
-            frame.ended = self.now
-            frame.fate = fate
-            source = self.sources[frame.flow.number - 1]
-            if isinstance(source, Saturated):
-                source.ended()
-            elif fate != "acked" and frame.released is None:
-                self.learn(frame)
-
-    def learn(self, frame):
-        """The sender of a responsive flow learns of a frame later, that it was released or lost."""
-        source = self.sources[frame.flow.number - 1]
-        if isinstance(source, Responsive):
-            self.at(self.now + frame.flow.delay, self.learnt, (source, frame))
-
-    def learnt(self, about):
-        source, frame = about
-        if frame.released is not None:
-            source.acknowledged()
-        else:
-            source.lost(frame.came, self.now)
-
-    def join(self, station):
+    def join(self, station: Station) -> None:
         self.path.join(station)
         self.path.set_rate(station, station.rate)
         self.here[station.number] = True
 
-    def leave(self, station):
-        """A station goes when its last open exchange ended; nothing more comes in for it."""
+    def leave(self, station: Station) -> None:
+        """A station leaves when its last open exchange has ended; nothing more comes in for it."""
         self.here[station.number] = False
+        self.uplinks[station.number].leave()
         if self.open_of[station.number]:
             self.leaving.add(station.number)
         else:
-            self.go(station)
+            self.remove(station)
 
-    def go(self, station):
+    def remove(self, station: Station) -> None:
         self.leaving.discard(station.number)
         self.path.leave(station)
 
-    def change_rate(self, change):
-        self.path.set_rate(*change)
+    def change_rate(self, station: Station, rate: Rate) -> None:
+        self.path.set_rate(station, rate)
+        self.uplinks[station.number].rate = rate
 
-    def sleep(self, station):
-        self.path.sleep(station)
-
-    def wake(self, station):
+    def wake(self, station: Station) -> None:
         self.path.wake(station)
         self.may_send = dict.fromkeys(CLASSES, True)
+        self.unblock()
 
-    def poll(self, station):
+    def poll(self, station: Station) -> None:
         frame_class = self.path.poll(station)
         if frame_class:
             self.may_send[frame_class] = True
+
+    # Flows
+
+    def source(self, flow: Flow) -> Source:
+        """The source of a flow, with its first event."""
+        if flow.kind == "backlog":
+            return self.eager_source(Backlog(flow, self.scenario.seed))
+        if flow.kind in ("tcp", "web"):
+            tcp = Tcp(flow, self.scenario.seed)
+            self.clock.at(tcp.start + TIMER, lambda: self.check(tcp))
+            return self.eager_source(tcp)
+        timed = Timed(flow, self.scenario.seed)
+        self.start_timed(timed)
+        return timed
+
+    def plan_transfers(self) -> None:
+        """Has the ends of transfers noted: flows of TCP that have a size, and pages."""
+        for source in self.sources:
+            if not isinstance(source, Tcp):
+                continue
+            flow = source.flow
+            loads = self.loads[flow.number - 1]
+            if flow.octets is not None:
+                source.finished = functools.partial(self.note_load, loads, source.start)
+            elif flow.page is not None and flow.connection == 1:
+                own = self.sources[flow.number - 1 : flow.number - 1 + flow.page.connections]
+                connections = [one for one in own if isinstance(one, Tcp)]
+                self.loads[flow.number - 1] = Browser(self.clock, flow.page, connections, self.receivers.send, self.ask).loads
+
+    def note_load(self, loads: list[tuple[int, int]], began: int, now: int) -> None:
+        """Notes that a transfer has ended."""
+        loads.append((began, now - began))
+
+    def check(self, source: Tcp) -> None:
+        """Looks at the timeout of a sender of TCP, now and again."""
+        source.check(self.clock.now)
+        self.ask(source)
+        if self.clock.now < source.flow.stop:
+            self.clock.at(self.clock.now + TIMER, lambda: self.check(source))
+
+    def eager_source(self, source: Eager) -> Eager:
+        self.clock.at(source.start, lambda: self.ask(source))
+        return source
+
+    def start_timed(self, source: Timed) -> None:
+        """Has the frames of a timed flow come, each event planning the next. While the station is absent they are not counted."""
+
+        def plan() -> None:
+            time = source.next_time()
+            if time is not None:
+                self.clock.at(time, arrive)
+
+        def arrive() -> None:
+            frame = source.frame(self.clock.now)
+            if self.here[frame.station]:
+                self.enqueue(frame)
+            plan()
+
+        plan()
+
+    def enqueue(self, frame: Frame) -> None:
+        """Puts a frame of a flow into the path, or into the queue of the station that sends it."""
+        self.frames[frame.flow.number - 1].append(frame)
+        if frame.flow.is_up:
+            self.receivers.send_up(frame)
+        else:
+            self.may_send[CLASS_OF_TID[frame.tid]] = True
+            self.path.enqueue(frame)
+
+    def enqueue_control(self, frame: Frame) -> None:
+        """Puts a frame into the path that is no data of its flow. It does not count as offered."""
+        if self.here[frame.station]:
+            self.may_send[CLASS_OF_TID[frame.tid]] = True
+            self.path.enqueue(frame)
+
+    def ask(self, source: Eager) -> None:
+        """Has a flow asked whether it sends."""
+        if not source.is_queued:
+            source.is_queued = True
+            self.eager.append(source)
+
+    def unblock(self) -> None:
+        """Has flows asked that waited for room."""
+        for source in self.blocked:
+            self.ask(source)
+        self.blocked.clear()
+
+    def refill(self) -> None:
+        """Lets flows that send when they may put frames in, one each in turn."""
+        while self.eager:
+            source = self.eager.popleft()
+            source.is_queued = False
+            if not self.here[source.flow.station.number] or not source.wants(self.clock.now):
+                continue
+            if source.waits_for_room and not self.path.has_room(source.flow):
+                self.blocked.append(source)
+            else:
+                self.enqueue(source.frame(self.clock.now))
+                self.ask(source)
+
+    def note_ended(self) -> None:
+        """Notes frames that ended, and asks flows that wait for that."""
+        for frame, fate, time in self.path.take_ended():
+            frame.ended = time
+            frame.fate = fate
+            source = self.sources[frame.flow.number - 1]
+            source.ended(frame)
+            if isinstance(source, Backlog):
+                self.ask(source)
+        self.unblock()
+
+    # Exchanges
+
+    def pull(self) -> None:
+        """Takes exchanges from the path while the driver has room for them, and starts the air. None while a station is leaving."""
+        for frame_class, may_send in self.may_send.items():
+            if may_send and self.open[frame_class] < self.scenario.air.inflight and not self.leaving:
+                self.pull_class(frame_class)
+        if not self.medium.is_busy:
+            self.start_air()
+
+    def pull_class(self, frame_class: str) -> None:
+        """Takes exchanges of one class."""
+        while self.open[frame_class] < self.scenario.air.inflight:
+            exchange = self.path.pull(frame_class)
+            if exchange is None:
+                self.may_send[frame_class] = False
+                break
+            self.open[frame_class] += 1
+            self.open_of[exchange.station] += 1
+            self.access_point.add(exchange)
+
+    def start_air(self) -> None:
+        """Begins the next exchange, of the access point or of a station, if there is one."""
+        everyone: list[Contender] = [self.access_point, *self.uplinks]
+        contenders = [one for one in everyone if one.has_something()]
+        if not contenders:
+            return
+        winner, access = self.medium.next(contenders)
+        if isinstance(winner, Uplink):
+            upward = winner.take()
+            self.clock.at(self.clock.now + access + upward.air, lambda: self.finish_uplink(upward, access))
+        else:
+            exchange = self.access_point.take()
+            self.clock.at(self.clock.now + access + exchange.air, lambda: self.finish(exchange, access))
+
+    def draw(self, station: Station, numbers: random.Random, count: int) -> list[bool]:
+        """Which of this many transmissions arrive."""
+        return [not station.loss or numbers.random() >= station.loss for _ in range(count)]
+
+    def finish(self, exchange: Exchange, access: int) -> None:
+        """The access point's exchange ends: draws what arrived and whether the BlockAck was heard."""
+        station = self.scenario.stations[exchange.station]
+        numbers = self.losses[exchange.station]
+        arrived = self.draw(station, numbers, max(len(exchange.frames), 1))
+        heard = any(arrived) and (not station.ack_loss or numbers.random() >= station.ack_loss)
+        self.medium.is_busy = False
+        frame_class = CLASS_OF_TID[exchange.tid]
+        self.open[frame_class] -= 1
+        self.open_of[exchange.station] -= 1
+        self.may_send[frame_class] = True
+        used = exchange.air + (access if self.scenario.air.charge_access else 0)
+        if used != exchange.air or station.is_measured:
+            exchange.charge = self.measured(station, used)
+        self.count(exchange, access, used)
+        for frame in self.path.finish(exchange, arrived, heard):
+            self.receivers.receive(frame)
+        if exchange.station in self.leaving and not self.open_of[exchange.station]:
+            self.remove(station)
+
+    def measured(self, station: Station, used: int) -> int:
+        """The airtime that the driver measures for an exchange that used this much."""
+        if not station.is_measured:
+            return used
+        share = 1 + station.charge_bias + self.meters[station.number].gauss(0, station.charge_error)
+        return min(max(round(used * share), 1), self.scenario.setting("charge"))
+
+    def count(self, exchange: Exchange, access: int, used: int) -> None:
+        """Counts an exchange for its station, if it ended after the warm-up: the airtime that it used, whatever was measured."""
+        again = sum(1 for frame in exchange.frames if frame.sent)
+        for frame in exchange.frames:
+            frame.sent += 1
+        if self.clock.now > self.warmup:
+            served = self.served[exchange.station]
+            served.airtime += used
+            served.access += exchange.air + access - used
+            served.aggregates += 1 if exchange.frames else 0
+            served.transmissions += len(exchange.frames)
+            served.retries += again
+
+    def finish_uplink(self, exchange: UplinkExchange, access: int) -> None:
+        """A station's exchange ends. Frames that arrived are passed on; the others are sent again."""
+        station = exchange.station
+        self.medium.is_busy = False
+        arrived = self.draw(station, self.uplink_losses[station.number], len(exchange.frames))
+        for frame in self.uplinks[station.number].finish(exchange, arrived):
+            frame.arrived(self.clock.now)
+        if self.here[station.number] and self.scenario.air.charge_uplink:
+            self.path.received(station, exchange.frame_class, exchange.air)
+        if self.clock.now > self.warmup:
+            self.served[station.number].uplink += exchange.air
+            self.served[station.number].access += access

@@ -1,76 +1,114 @@
-"""Results as JSON, with each frame's times, and as CSV, a row for each flow. Times are microseconds."""
+"""Results as JSON, and as tidy CSV with a row for each station and each flow of each run. Names have their units."""
+from __future__ import annotations
+
 import csv
 import json
 import math
+from collections.abc import Mapping, Sequence
+from typing import Any, TextIO
 
 from .frames import CAUSES
-from .measure import PERCENTILES
+from .measure import PERCENTILES, FlowResult, Result, StationResult, nearest_rank
+from .scenario import Scenario
+
+Numbers = dict[str, Any]
+STATION_COLUMNS = (
+    *("rate", "weight", "airtime_us", "uplink_us", "airtime_share", "throughput_mbit_per_s", "throughput_up_mbit_per_s"),
+    *("aggregate_frames", "retries_frames"),
+)
+FLOW_COLUMNS = (
+    *("tid", "delay", "offered_frames", "delivered_frames"),
+    *(f"dropped_{cause}_frames" for cause in CAUSES),
+    *("delay_mean_us", *(f"delay_p{percent}_us" for percent in PERCENTILES)),
+    *("direction", "mos", "transfers", "transfer_mean_us", *(f"transfer_p{percent}_us" for percent in PERCENTILES)),
+)
 
 
-def whole_or_none(value):
+def finite_or_none(value: float) -> float | None:
     """A number as JSON can have it."""
-    return None if isinstance(value, float) and not math.isfinite(value) else value
+    return value if math.isfinite(value) else None
 
 
-def flow_numbers(one):
-    """What a row or an object of a flow has."""
+def flow_numbers(one: FlowResult) -> Numbers:
+    """The numbers of a flow, for a row or an object."""
     flow = one.flow
     return {
         "flow": flow.name,
         "station": flow.station.name,
         "tid": flow.tid,
-        "size": flow.size,
-        "offered": one.offered,
-        "delivered": one.delivered,
-        **one.dropped,
-        "mean": whole_or_none(one.mean),
-        **{f"p{percent}": whole_or_none(one.percentile(percent)) for percent in PERCENTILES},
+        "delay": "round-trip" if flow.echo else "one-way",
+        "offered_frames": one.offered,
+        "delivered_frames": one.delivered,
+        **{f"dropped_{cause}_frames": count for cause, count in one.dropped.items()},
+        "delay_mean_us": finite_or_none(one.mean),
+        **{f"delay_p{percent}_us": finite_or_none(one.percentile(percent)) for percent in PERCENTILES},
+        "direction": "up" if flow.is_up else "down",
+        "connection": flow.connection,
+        "mos": finite_or_none(one.mos),
+        "transfers": len(one.loads),
+        "transfer_mean_us": sum(one.loads) / len(one.loads) if one.loads else None,
+        **{f"transfer_p{percent}_us": finite_or_none(nearest_rank(one.loads, percent)) for percent in PERCENTILES},
     }
 
 
-def station_numbers(one):
+def station_numbers(one: StationResult) -> Numbers:
     return {
         "station": one.station.name,
         "rate": str(one.station.rate),
         "weight": one.station.weight,
-        "airtime": one.airtime,
-        "share": one.share,
-        "mbit": one.mbit,
-        "aggregate": one.aggregate,
-        "retries": one.retries,
+        "airtime_us": one.airtime,
+        "uplink_us": one.uplink,
+        "airtime_share": one.share,
+        "throughput_mbit_per_s": one.mbit,
+        "throughput_up_mbit_per_s": one.mbit_up,
+        "aggregate_frames": one.aggregate,
+        "retries_frames": one.retries,
     }
 
 
-def run_numbers(result):
-    """One run: each frame is when it came, when it was released, when it ended, and its fate; null is not yet."""
+def frame_times(one: FlowResult) -> list[Sequence[int | str | None]]:
+    """The times at which each frame came, was released and ended, and its fate; with replies also the time of that."""
+    if one.flow.echo:
+        return [(came, released, ended, fate, answered) for came, released, answered, ended, fate in one.frames]
+    return [(came, released, ended, fate) for came, released, _, ended, fate in one.frames]
+
+
+def run_numbers(result: Result, parameters: Mapping[str, str] | None = None, frames: bool = False) -> Numbers:
+    """One run, with the parameters of a sweep."""
+    flows = [flow_numbers(one) for one in result.flows]
+    if frames:
+        for numbers, one in zip(flows, result.flows):
+            numbers["frames"] = frame_times(one)
     return {
         "path": result.label,
-        "seconds": result.seconds,
+        "seed": result.seed,
+        "parameters": dict(parameters or {}),
+        "simulated_s": result.seconds,
         "cut": result.cut,
-        "jain": whole_or_none(result.jain),
-        "mbit": result.total,
-        "busy": result.busy,
-        "took": result.took,
+        "jain": finite_or_none(result.jain),
+        "throughput_mbit_per_s": result.total,
+        "air_in_use_share": result.busy,
+        "took_s": result.took,
         "calls": result.calls,
         "summary": result.summary,
         "stations": [station_numbers(one) for one in result.stations],
-        "flows": [
-            {**flow_numbers(one), "frames": [[frame.came, frame.released, frame.ended, frame.fate] for frame in one.frames]}
-            for one in result.flows
-        ],
+        "flows": flows,
     }
 
 
-def write_json(file, scenario, results, program):
-    whole = {"scenario": scenario.name, "title": scenario.title, "seed": scenario.seed, "program": program}
-    json.dump({**whole, "runs": [run_numbers(result) for result in results]}, file)
+def write_json(file: TextIO, scenario: Scenario, runs: Sequence[Numbers], program: str) -> None:
+    whole: Numbers = {"scenario": scenario.name, "title": scenario.title, "program": program}
+    json.dump({**whole, "runs": runs}, file)
     file.write("\n")
 
 
-def write_csv(file, results):
-    head = ["path", "flow", "station", "tid", "size", "offered", "delivered", *CAUSES, "mean", *(f"p{percent}" for percent in PERCENTILES)]
-    writer = csv.DictWriter(file, head, lineterminator="\n")
+def write_csv(file: TextIO, runs: Sequence[Numbers]) -> None:
+    """Writes a row for each station and each flow of each run. Cells that have no meaning for a row are empty."""
+    parameters = list(runs[0]["parameters"])
+    head = ["path", "seed", *parameters, "simulated_s", "row", "station", "flow", *STATION_COLUMNS, *FLOW_COLUMNS]
+    writer = csv.DictWriter(file, head, lineterminator="\n", extrasaction="ignore")
     writer.writeheader()
-    for result in results:
-        for one in result.flows:
-            writer.writerow({"path": result.label, **flow_numbers(one)})
+    for run in runs:
+        common = {"path": run["path"], "seed": run["seed"], "simulated_s": run["simulated_s"], **run["parameters"]}
+        for kind in ("station", "flow"):
+            writer.writerows({**common, "row": kind, **numbers} for numbers in run[f"{kind}s"])

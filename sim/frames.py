@@ -1,85 +1,134 @@
-"""Frames, exchanges, and what every path does with them: the machine's and the models'."""
+"""Frames, exchanges, and the interface of a transmit path, which the machine and every model implement."""
+from __future__ import annotations
 
-CLASSES = ("vo", "vi", "be", "bk")  # from the most urgent down: the order in which they get the air
+from abc import ABC, abstractmethod
+from collections.abc import Callable, Sequence
+from dataclasses import dataclass, field
+from typing import NamedTuple
+
+from .rates import Rate
+from .scenario import Flow, Station
+
+CLASSES = ("vo", "vi", "be", "bk")  # the most urgent first: the order in which they get the air
 CLASS_OF_TID = ("be", "bk", "bk", "be", "vi", "vi", "vo", "vo")
 CAUSES = ("overlimit", "codel", "retries", "left", "refused")  # why a frame was dropped
 
 
 class Frame:
-    """One frame: what it is, and when it came, was released in order by its receiver, and ended. Times are microseconds."""
+    """One frame. Times are microseconds: when it came, was released in order by its receiver, was answered, and ended."""
 
-    __slots__ = ("flow", "station", "tid", "octets", "came", "sent", "number", "released", "ended", "fate")
+    __slots__ = ("flow", "station", "tid", "octets", "came", "order", "sent", "number", "released", "answered", "ended", "fate", "action")
 
-    def __init__(self, flow, came):
+    def __init__(self, flow: Flow, came: int, octets: int, order: int = 0) -> None:
         self.flow = flow
         self.station = flow.station.number
         self.tid = flow.tid
-        self.octets = flow.size
+        self.octets = octets
         self.came = came
+        self.order = order  # its place among the frames of its flow
         self.sent = 0  # transmissions so far
-        self.number = None  # the sequence number that a model gave it
-        self.released = None
-        self.ended = None
-        self.fate = None
+        self.number = -1  # the sequence number that a model gave it
+        self.released: int | None = None
+        self.answered: int | None = None  # when the station's reply to it arrived
+        self.ended: int | None = None
+        self.fate: str | None = None
+        self.action: Callable[[], None] | None = None  # what its release does, if it is no data of its flow
 
 
+@dataclass(slots=True)
 class Exchange:
-    """An aggregate of data frames, or a BlockAckReq where it has none, and the microseconds that it is charged."""
+    """An aggregate of data frames, or a BlockAckReq if it has none."""
 
-    __slots__ = ("number", "station", "tid", "air", "frames")
+    number: int
+    station: int
+    tid: int
+    air: int  # microseconds on the air, without channel access
+    frames: list[Frame]
+    charge: int | None = None  # the airtime that the driver measured, if it charges that
 
-    def __init__(self, number, station, tid, air, frames):
-        self.number = number
-        self.station = station
-        self.tid = tid
-        self.air = air
-        self.frames = frames
+    @property
+    def charged(self) -> int:
+        """Microseconds that the exchange is charged."""
+        return self.air if self.charge is None else self.charge
 
 
-class Path:
-    """What the bench asks of a transmit path. The machine is one, each model another.
+class Ended(NamedTuple):
+    """A frame that left the path, why, and when, in microseconds."""
 
-    Calls come in the order of time; `advance` says the time before them. Frames that ended, acknowledged or dropped, stand in
-    `ended` as pairs of a frame and its fate until the bench takes them.
-    """
+    frame: Frame
+    fate: str
+    time: int
 
-    def __init__(self):
-        self.ended = []
-        self.calls = 0  # that the machine was asked, and its summary; a model has none
-        self.summary = []
 
-    def take_ended(self):
+@dataclass
+class Path(ABC):
+    """A transmit path. Calls come in the order of time; `advance` says the time of the calls that follow."""
+
+    now: int = 0
+    ended: list[Ended] = field(default_factory=list)  # frames that ended since `take_ended`
+    calls: int = 0  # calls that the machine was asked; 0 for a model
+    summary: list[str] = field(default_factory=list)  # the machine's summary
+
+    def take_ended(self) -> list[Ended]:
         """The frames that ended since this was asked last."""
         ended, self.ended = self.ended, []
         return ended
 
-    def advance(self, now):
-        raise NotImplementedError
+    def end(self, frame: Frame, fate: str) -> None:
+        """Notes that a frame ended now."""
+        self.ended.append(Ended(frame, fate, self.now))
 
-    def join(self, station):
-        raise NotImplementedError
+    def end_at(self, frame: Frame, fate: str, time: int) -> None:
+        """Notes that a frame ended earlier."""
+        self.ended.append(Ended(frame, fate, time))
 
-    def leave(self, station):
-        """Drops all that is held for a station. No exchange of it is open."""
-        raise NotImplementedError
+    def advance(self, now: int) -> None:
+        self.now = now
 
-    def set_rate(self, station, rate):
-        raise NotImplementedError
+    @abstractmethod
+    def join(self, station: Station) -> None:
+        """Adds a station."""
 
-    def has_room(self, flow):
-        """Whether a saturated flow may put one more frame in: there is room for it, and for some of other flows too."""
-        raise NotImplementedError
+    @abstractmethod
+    def leave(self, station: Station) -> None:
+        """Drops all frames held for a station. No exchange of it is open."""
 
-    def enqueue(self, frame):
-        raise NotImplementedError
+    @abstractmethod
+    def set_rate(self, station: Station, rate: Rate) -> None:
+        """Changes the rate of a station."""
 
-    def pull(self, frame_class):
-        """The next exchange of a class, or None where there is none."""
-        raise NotImplementedError
+    @abstractmethod
+    def has_room(self, flow: Flow) -> bool:
+        """Whether a flow with a backlog may put in one more frame, so that some room is left for other flows."""
 
-    def finish(self, exchange, arrived, heard):
-        """Ends an exchange: which of its transmissions arrived, and whether the BlockAck did. Gives the frames released in order."""
-        raise NotImplementedError
+    @abstractmethod
+    def enqueue(self, frame: Frame) -> None:
+        """Takes a frame, or drops it."""
 
-    def close(self):
-        """Ends the path; nothing is asked of it afterwards."""
+    @abstractmethod
+    def pull(self, frame_class: str) -> Exchange | None:
+        """The next exchange of a class, if there is one."""
+
+    @abstractmethod
+    def finish(self, exchange: Exchange, arrived: Sequence[bool], heard: bool) -> list[Frame]:
+        """Ends an exchange: which transmissions arrived, and whether the BlockAck was heard. Returns the frames released in order."""
+
+    def received(self, station: Station, frame_class: str, air: int) -> None:
+        """Charges a station for airtime that it used to send. A path without an airtime scheduler ignores it."""
+
+    def can_sleep(self) -> bool:
+        """Whether the path has power save. A model has none."""
+        return False
+
+    def sleep(self, station: Station) -> None:
+        """Notes that a station sleeps."""
+
+    def wake(self, station: Station) -> None:
+        """Notes that a station is awake."""
+
+    def poll(self, station: Station) -> str | None:
+        """The class that a sleeping station's poll got a credit for, if any."""
+        return None
+
+    def close(self) -> None:
+        """Ends the path; it is asked nothing afterwards."""

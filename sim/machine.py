@@ -1,115 +1,127 @@
 """The machine: a path whose every decision is an answer of `wf replay`.
 
-No call is made that is not needed: one tick for all that happens at one time, and as many reaps as frames ended. A frame costs
-its enqueue, each arrival and its reap; an exchange a tick, a pull, an answer and a done. That a frame was dropped by CoDel shows at
-the next reap, so at the end of the exchange behind it.
+Calls are collected and written together, as soon as one of them needs its answer: frames that come while the driver is full cost no
+round trip on the pipe. No call is made that is not needed: one tick for all that happens at one time, and as many reaps as frames ended.
+That CoDel dropped a frame is known at the next reap, at the end of the exchange after it.
 """
+from __future__ import annotations
+
+from collections.abc import Sequence
+from typing import TextIO
+
 from .fields import Fault
-from .frames import Exchange, Path
+from .frames import Exchange, Frame, Path
 from .program import Pipe
+from .rates import Rate
+from .scenario import Flow, Scenario, Station
 
 LONGEST_TICK = 10_000_000
+MOST_WAITING = 256  # calls that wait to be written
 
 
 class Machine(Path):
-    def __init__(self, scenario, program, calls, copy=None):
+    """A cell of `wf replay`, call by call."""
+
+    def __init__(self, scenario: Scenario, program: str, calls: int, copy: TextIO | None = None) -> None:
         super().__init__()
         self.room = min(scenario.setting("limit"), scenario.setting("room"))
         self.room_asleep = scenario.setting("sleeping")
-        settings = {**scenario.settings, "inflight": scenario.inflight, "calls": min(calls, scenario.settings.get("calls", calls))}
+        most = min(calls, scenario.settings.get("calls", calls))
+        settings = {**scenario.settings, "inflight": scenario.air.inflight, "calls": most}
         head = " ".join(["cell", *(f"{name}={value}" for name, value in settings.items())])
-        self.pipe = Pipe(program, head, settings["calls"], copy)
-        self.now = 0
-        self.told = 0  # the machine's clock
-        self.waiting = []  # frames whose enqueue lines are not written yet
-        self.lines = []  # these lines
-        self.inside = {}  # frames by id, from their acceptance to their reaping
-        self.unreleased = {}  # frames by id that may still be released
-        self.of_station = [0] * len(scenario.stations)  # frames inside, and those whose lines are not written yet
-        self.asleep = set()
-        self.unreaped = 0  # frames on the machine's finished list, as far as answers told
+        self.pipe = Pipe(program, head, most, copy)
+        self.told = 0  # the machine's clock, after the calls that wait
+        self.lines: list[str] = []  # calls that wait
+        self.notes: list[tuple[int, Frame, int]] = []  # for each enqueue among them its place, the frame, and the time
+        self.coming = 0  # enqueues among them
+        self.inside: dict[int, Frame] = {}  # frames by id, from their acceptance to their reaping
+        self.unreleased: dict[int, Frame] = {}  # frames by id that may still be released
+        self.of_station = [0] * len(scenario.stations)  # frames inside, and those that wait to be written
+        self.asleep: set[int] = set()
+        self.unreaped = 0  # frames on the machine's finished list, as far as answers have shown
 
-    def advance(self, now):
-        if now != self.now:
-            self.settle()
-            self.now = now
-
-    def tick(self):
-        """The ticks to the present, of which one is enough unless much time went by."""
-        ticks = []
+    def add(self, line: str) -> None:
+        """Adds a call that waits, after the ticks to the present."""
         while self.told < self.now:
             step = min(self.now - self.told, LONGEST_TICK)
             self.told += step
-            ticks.append(f"tick {step}")
-        return ticks
+            self.lines.append(f"tick {step}")
+        self.lines.append(line)
 
-    def ask(self, lines):
-        """The answers to these calls, at the present; the enqueues that wait go before them."""
-        ticks = self.tick()
-        before = len(ticks) + len(self.lines)
-        answers = self.pipe.ask(ticks + self.lines + lines)
-        for frame, answer in zip(self.waiting, answers[len(ticks) : before]):
-            self.entered(frame, answer.split())
-        self.waiting, self.lines = [], []
-        return answers[before:]
+    def ask(self, lines: Sequence[str]) -> list[str]:
+        """The answers to these calls; calls that wait go before them."""
+        for line in lines:
+            self.add(line)
+        asked, notes = self.lines, self.notes
+        self.lines, self.notes, self.coming = [], [], 0
+        answers = self.pipe.ask(asked)
+        for place, frame, came in notes:
+            self.entered(frame, came, answers[place].split())
+        return answers[len(answers) - len(lines) :]
 
-    def settle(self):
-        if self.lines:
-            self.ask([])
-
-    def entered(self, frame, answer):
-        """Notes what became of an enqueue: accepted, and what was dropped for it, or refused."""
+    def entered(self, frame: Frame, came: int, answer: list[str]) -> None:
+        """Notes the answer to an enqueue: accepted, with the frame that was dropped for it, or refused."""
         if answer[0] != "accepted":
             self.of_station[frame.station] -= 1
-            self.ended.append((frame, "refused"))
+            self.end_at(frame, "refused", came)
             return
-        self.inside[int(answer[1])] = self.unreleased[int(answer[1])] = frame
+        number = int(answer[1])
+        self.inside[number] = self.unreleased[number] = frame
         if len(answer) > 2:
             self.unreaped += 1
-            self.ended.append((self.inside[int(answer[3])], "overlimit"))
+            self.end_at(self.inside[int(answer[3])], "overlimit", came)
 
-    def must(self, line, wanted):
-        """Makes a call that the machine cannot refuse here."""
+    def must(self, line: str, expected: str) -> str:
+        """The answer to a call that the machine cannot refuse here."""
         answer = self.ask([line])[0]
-        if answer.split()[0] != wanted:
-            raise Fault(f"the machine answers '{line}' by '{answer}'")
+        if answer.split()[0] != expected:
+            raise Fault(f"the machine answers '{line}' with '{answer}': expected '{expected}'")
         return answer
 
-    def join(self, station):
+    def join(self, station: Station) -> None:
         self.must(f"join {station.number} {station.window} 0 3 {station.weight}", "joined")
 
-    def leave(self, station):
+    def leave(self, station: Station) -> None:
         self.unreaped += int(self.must(f"leave {station.number}", "left").split()[1])
         self.reap()
 
-    def set_rate(self, station, rate):
+    def set_rate(self, station: Station, rate: Rate) -> None:
         self.must(f"rate {station.number} {rate}", "set")
 
-    def sleep(self, station):
+    def can_sleep(self) -> bool:
+        return True
+
+    def sleep(self, station: Station) -> None:
         self.must(f"sleep {station.number}", "slept")
         self.asleep.add(station.number)
 
-    def wake(self, station):
+    def wake(self, station: Station) -> None:
         self.must(f"wake {station.number}", "woken")
         self.asleep.discard(station.number)
 
-    def poll(self, station):
-        """Whether the machine gave a credit: the class that it is for, or None."""
+    def poll(self, station: Station) -> str | None:
         answer = self.ask([f"poll {station.number}"])[0].split()
         return answer[1] if answer[0] == "polled" else None
 
-    def has_room(self, flow):
+    def received(self, station: Station, frame_class: str, air: int) -> None:
+        """Charges a station for what it sent. The machine refuses that to a station whose deficit is as low as it can be."""
+        self.add(f"rx {station.number} {frame_class} {air}")
+
+    def has_room(self, flow: Flow) -> bool:
         station = flow.station.number
         if station in self.asleep and self.of_station[station] >= self.room_asleep:
             return False
-        return len(self.inside) + len(self.waiting) < self.room
+        return len(self.inside) + self.coming < self.room
 
-    def enqueue(self, frame):
+    def enqueue(self, frame: Frame) -> None:
         self.of_station[frame.station] += 1
-        self.waiting.append(frame)
-        self.lines.append(f"enq {frame.station} {frame.tid} {frame.flow.number} {frame.octets}")
+        self.coming += 1
+        self.add(f"enq {frame.station} {frame.tid} {frame.flow.number} {frame.octets}")
+        self.notes.append((len(self.lines) - 1, frame, self.now))
+        if len(self.lines) >= MOST_WAITING:
+            self.ask([])
 
-    def pull(self, frame_class):
+    def pull(self, frame_class: str) -> Exchange | None:
         words = self.ask([f"pull {frame_class}"])[0].split()
         if words[0] != "send":
             return None
@@ -117,26 +129,33 @@ class Machine(Path):
         frames = [self.inside[int(word.partition(":")[0])] for word in listed if word != "more"]
         return Exchange(int(words[1]), int(words[3]), int(words[5]), int(words[7]), frames)
 
-    def finish(self, exchange, arrived, heard):
+    def finish(self, exchange: Exchange, arrived: Sequence[bool], heard: bool) -> list[Frame]:
         number = exchange.number
         indices = [index for index, has_arrived in enumerate(arrived) if has_arrived]
         lines = [f"arrive {number} {index}" for index in indices]
         if indices:
             lines.append(f"answer {number}")
-        lines.append(f"done {number} {'heard' if heard else 'lost'}")
+        measured = "" if exchange.charge is None else f" air {exchange.charge}"
+        lines.append(f"done {number} {'heard' if heard else 'lost'}{measured}")
         done = len(lines)
         if heard and exchange.frames:
-            lines += ["reap"] * len(indices)  # at least so many are acknowledged now
+            lines += ["reap"] * len(indices)  # at least this many are acknowledged now
         answers = self.ask(lines)
         released = [self.unreleased.pop(int(word)) for answer in answers[: len(indices)] for word in answer.split()[1:]]
-        _, _, acknowledged, _, _, _, failed = answers[done - 1].split()
-        self.unreaped += int(acknowledged) + int(failed)
+        self.count_done(lines[done - 1], answers[done - 1])
         self.reaped(answers[done:])
         self.reap()
         return released
 
-    def reaped(self, answers):
-        """Notes frames that ended. CoDel's drops were not counted when they came on the list; they are the only ones."""
+    def count_done(self, line: str, answer: str) -> None:
+        """Counts the frames that a `done` put on the finished list."""
+        words = answer.split()
+        if words[0] != "done":
+            raise Fault(f"the machine answers '{line}' with '{answer}': expected 'done'")
+        self.unreaped += int(words[2]) + int(words[6])
+
+    def reaped(self, answers: Sequence[str]) -> None:
+        """Notes frames that ended. CoDel's drops, and only these, were not counted when they came on the list."""
         for answer in answers:
             _, number, fate = answer.split()
             frame = self.inside.pop(int(number))
@@ -146,13 +165,16 @@ class Machine(Path):
             if fate != "codel":
                 self.unreaped -= 1
             if fate != "overlimit":
-                self.ended.append((frame, fate))
+                self.end(frame, fate)
 
-    def reap(self):
-        """Reaps what is known to be on the finished list."""
+    def reap(self) -> None:
+        """Reaps the frames that are known to be on the finished list."""
         while self.unreaped > 0:
             self.reaped(self.ask(["reap"] * self.unreaped))
 
-    def close(self):
+    def close(self) -> None:
+        """Writes the calls that wait, if the program takes them, and ends the trace."""
+        if len(self.lines) <= self.pipe.calls_left:
+            self.ask([])
         self.calls = self.pipe.calls
         self.summary = self.pipe.end()

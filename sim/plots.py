@@ -1,37 +1,42 @@
-"""The pictures of a scenario's runs: airtime shares, throughputs, delays as distributions, and delays in time."""
-from .svg import Axis, Picture, linear, logarithmic
+"""The pictures of a scenario's runs: airtime shares, throughputs, distributions of delays, and delays in time."""
+from __future__ import annotations
 
-COLOURS = {"fifo": "#c44e52", "fq_codel": "#dd8452", "fq_mac": "#8172b3", "one_list": "#937860", "airtime": "#4c72b0"}
-OTHERS = ["#55a868", "#64b5cd", "#da8bc3", "#8c8c8c"]  # for a path that is run once more with other settings
-SERIES = ["#4c72b0", "#dd8452", "#55a868", "#c44e52", "#8172b3", "#937860"]  # where colours stand for flows
+from collections.abc import Callable, Sequence
+
+from .measure import FlowResult, Result, StationResult
+from .scenario import Scenario
+from .svg import Axis, Entry, Picture, linear, logarithmic
+
+# The colours of Okabe and Ito, which people with each kind of colour vision can tell apart.
+COLOURS = {"fifo": "#d55e00", "fq_codel": "#e69f00", "fq_mac": "#cc79a7", "one_list": "#56b4e9", "airtime": "#0072b2"}
+OTHERS = ["#009e73", "#000000", "#f0e442", "#999999"]  # for a path that runs once more with other settings
+SERIES = ["#0072b2", "#e69f00", "#009e73", "#d55e00", "#cc79a7", "#56b4e9"]  # for flows, if colours tell these apart
 DASHES = ["", "6 3", "2 2", "8 3 2 3"]  # one for each flow
 MOST_POINTS = 200  # of a curve
 MOST_MARKS = 600  # points of a flow in time
 MOST_LABELS = 16  # groups of bars that get labels
 
+Drawn = tuple[Result, str, FlowResult, str]  # a run and its colour, one of its flows and the dash of that
 
-def colours(results):
-    """A colour for each run: its model's, or one of the others where the model had a run before."""
-    chosen, others = [], list(OTHERS)
+
+def colours(results: Sequence[Result]) -> list[str]:
+    """A colour for each run: its model's, or another if the model had a run before."""
+    chosen: list[str] = []
+    others = list(OTHERS)
     for result in results:
         own = COLOURS[result.model]
         chosen.append(own if own not in chosen else others.pop(0) if others else "#444444")
     return chosen
 
 
-def bars(scenario, results, up_name, value):
+def bars(scenario: Scenario, results: Sequence[Result], up_name: str, value: Callable[[StationResult], float]) -> str:
     """A group of bars for each station, a bar for each run."""
     names = [station.name for station in scenario.stations]
     values = [[value(one) for one in result.stations] for result in results]
-    legend = [(result.label, colour, None) for result, colour in zip(results, colours(results))]
+    legend: list[Entry] = [(result.label, colour, None) for result, colour in zip(results, colours(results))]
     few = len(names) <= MOST_LABELS
-    picture = Picture(
-        scenario.title,
-        scenario.note,
-        Axis("" if few else "stations, by number", 0, len(names), []),
-        linear(up_name, 1.05 * max(max(one) for one in values)),
-        legend,
-    )
+    across = Axis("" if few else "station, by number", 0, len(names), [])
+    picture = Picture(scenario.title, scenario.note, across, linear(up_name, 1.05 * max(max(one) for one in values)), legend)
     for group, name in enumerate(names):
         if few or group % 5 == 0:
             picture.text(picture.x(group + 0.5), picture.y(0) + 16, name if few else str(group))
@@ -43,77 +48,95 @@ def bars(scenario, results, up_name, value):
     return picture.svg()
 
 
-def airtime(scenario, results):
-    return bars(scenario, results, "share of the airtime, per cent", lambda one: 100 * one.share)
+def airtime(scenario: Scenario, results: Sequence[Result]) -> str:
+    return bars(scenario, results, "share of the airtime, %", lambda one: 100 * one.share)
 
 
-def throughput(scenario, results):
-    return bars(scenario, results, "delivered, Mbit/s", lambda one: one.mbit)
+def throughput(scenario: Scenario, results: Sequence[Result]) -> str:
+    return bars(scenario, results, "throughput, Mbit/s", lambda one: one.mbit)
 
 
-def shown_flows(scenario, result):
-    """The flows of a run that pictures of delays show and that have some."""
-    return [one for one in result.flows if one.delays and scenario.shows(one.flow)]
-
-
-def delay_legend(scenario, results):
-    """An entry for each run and flow: the run gives the colour, the flow the dash."""
-    several = any(len(shown_flows(scenario, result)) > 1 for result in results)
+def drawn_flows(scenario: Scenario, results: Sequence[Result]) -> list[Drawn]:
+    """The flows that pictures of delays show and that have some: the run gives the colour, the flow the dash."""
+    drawn = []
     for result, colour in zip(results, colours(results)):
-        for nth, one in enumerate(shown_flows(scenario, result)):
-            yield f"{result.label}: {one.flow.label}" if several else result.label, colour, DASHES[nth % len(DASHES)], one
+        flows = [one for one in result.flows if one.delays and scenario.shows(one.flow)]
+        drawn += [(result, colour, one, DASHES[nth % len(DASHES)]) for nth, one in enumerate(flows)]
+    return drawn
 
 
-def distribution(delays):
-    """Steps of the share of delays that are at most so many milliseconds, thinned out."""
+def label(result: Result, flow: FlowResult, drawn: Sequence[Drawn]) -> str:
+    """The words of a legend's entry: the run, and the flow if pictures show several of one run."""
+    several = len({one.flow.number for _, _, one, _ in drawn}) > 1
+    return f"{result.label}: {flow.flow.label}" if several else result.label
+
+
+def delay_name(drawn: Sequence[Drawn]) -> str:
+    """The name of an axis of delays."""
+    kinds = {"round-trip time, ms" if one.flow.echo else "one-way delay, ms" for _, _, one, _ in drawn}
+    return kinds.pop() if len(kinds) == 1 else "delay, ms"
+
+
+def distribution(delays: Sequence[int]) -> list[tuple[float, float]]:
+    """Steps of the share of delays that are at most this many milliseconds, thinned out."""
     count = len(delays)
     step = max(1, count // MOST_POINTS)
     ranks = [*range(0, count - 1, step), count - 1]
     return [(max(delays[rank], 1) / 1000, (rank + 1) / count) for rank in ranks]
 
 
-def delay(scenario, results):
+def delay(scenario: Scenario, results: Sequence[Result]) -> str:
     """The distribution of each flow's delay, on a logarithmic axis from the least first percentile to the greatest delay."""
-    entries = list(delay_legend(scenario, results))
-    least = min((one.percentile(1) for *_, one in entries), default=1000)
-    most = max((one.delays[-1] for *_, one in entries), default=1000)
+    drawn = drawn_flows(scenario, results)
+    least = min((one.percentile(1) for _, _, one, _ in drawn), default=1000)
+    most = max((one.delays[-1] for _, _, one, _ in drawn), default=1000)
     picture = Picture(
         scenario.title,
         scenario.note,
-        logarithmic("from its coming to its release, ms", max(least, 100) / 1000, max(most, 100) / 1000),
+        logarithmic(delay_name(drawn), max(least, 100) / 1000, max(most, 100) / 1000),
         Axis("share of the frames", 0, 1, [0, 0.25, 0.5, 0.75, 1]),
-        [(words, colour, dash) for words, colour, dash, _ in entries],
+        [(label(result, one, drawn), colour, dash) for result, colour, one, dash in drawn],
     )
-    for _, colour, dash, one in entries:
+    for _, colour, one, dash in drawn:
         picture.curve(distribution(one.delays), colour, dash)
     return picture.svg()
 
 
-def in_time(scenario, results):
+def in_time(scenario: Scenario, results: Sequence[Result]) -> str:
     """The delay of each frame by when it came; each run and flow has its own colour."""
-    entries = list(delay_legend(scenario, results))
-    palette = [colour for _, colour, _, _ in entries]
+    drawn = drawn_flows(scenario, results)
+    palette = [colour for _, colour, _, _ in drawn]
     if len(set(palette)) < len(palette):
-        palette = [SERIES[nth % len(SERIES)] for nth in range(len(entries))]
-    longest = max((one.delays[-1] for *_, one in entries), default=1000)
-    seconds = max(result.seconds for result in results)
+        palette = [SERIES[nth % len(SERIES)] for nth in range(len(drawn))]
+    longest = max((one.delays[-1] for _, _, one, _ in drawn), default=1000)
+    legend: list[Entry] = [(label(result, one, drawn), colour, None) for (result, _, one, _), colour in zip(drawn, palette)]
     picture = Picture(
         scenario.title,
         scenario.note,
-        linear("when the frame came, s", seconds),
-        linear("from its coming to its release, ms", 1.05 * longest / 1000),
-        [(words, colour, None) for (words, *_), colour in zip(entries, palette)],
+        linear("time at which the frame came, s", max(result.seconds for result in results)),
+        linear(delay_name(drawn), 1.05 * longest / 1000),
+        legend,
     )
-    for (*_, one), colour in zip(entries, palette):
-        released = [frame for frame in one.frames if frame.released is not None]
-        released = released[:: max(1, len(released) // MOST_MARKS)]
-        picture.points([(frame.came / 1e6, (frame.released - frame.came) / 1000) for frame in released], colour)
+    for (_, _, one, _), colour in zip(drawn, palette):
+        points = one.points()
+        points = points[:: max(1, len(points) // MOST_MARKS)]
+        picture.points([(came / 1e6, waited / 1000) for came, waited in points], colour)
     return picture.svg()
 
 
-PICTURES = {"airtime": airtime, "throughput": throughput, "delay": delay, "time": in_time}
+PICTURES: dict[str, Callable[[Scenario, Sequence[Result]], str]] = {
+    "airtime": airtime,
+    "throughput": throughput,
+    "delay": delay,
+    "time": in_time,
+}
 
 
-def pictures(scenario, results):
-    """The pictures that a scenario asks for, as pairs of a file's name and its text."""
-    return [(f"{scenario.name}-{kind}.svg", PICTURES[kind](scenario, results)) for kind in scenario.pictures]
+def file_name(scenario: Scenario, kind: str) -> str:
+    """The name of a picture's file."""
+    return f"{scenario.name}-{kind}.svg"
+
+
+def pictures(scenario: Scenario, results: Sequence[Result]) -> dict[str, str]:
+    """The pictures that a scenario asks for, by kind."""
+    return {kind: PICTURES[kind](scenario, results) for kind in scenario.pictures}

@@ -1,7 +1,12 @@
 """Which program decides, and a pipe to its `replay`."""
+from __future__ import annotations
+
+import contextlib
 import os
 import pathlib
 import subprocess
+from collections.abc import Sequence
+from typing import IO, TextIO
 
 from .fields import Fault
 
@@ -14,79 +19,99 @@ class OutOfCalls(Exception):
     """The program takes no more calls in this trace."""
 
 
-def find():
-    """How the program is known (proved, unproved or named) and its path, as `./wf which` says; None where there is none."""
+def find() -> tuple[str, str] | None:
+    """The kind of the program (proved, unproved or named) and its path, as `./wf which` says; None if there is none."""
     done = subprocess.run([TOP / "wf", "which"], stdout=subprocess.PIPE, stderr=subprocess.DEVNULL, text=True, check=False)
     kind, _, path = done.stdout.strip().partition(" ")
     return (kind, path) if done.returncode == 0 else None
 
 
-def build():
-    """Has the unproved program built, and gives what `find` then does."""
+def build() -> tuple[str, str] | None:
+    """Has the unproved program built, and returns what `find` then does."""
     subprocess.run([TOP / "wf", "build", "--unproved"], check=False)
     return find()
 
 
-def describe(kind, path):
-    """How a table names the program: under the repository's top without the way to it."""
+def describe(kind: str, path: str) -> str:
+    """How a table names the program: below the repository's top by its path there."""
     return f"the {kind} program {os.path.relpath(path, TOP) if pathlib.Path(path).is_relative_to(TOP) else path}"
 
 
-def most_calls(path):
-    """How many calls one trace may have by this program."""
+def most_calls(path: str) -> int:
+    """The most calls of one trace that this program takes."""
+    said = ""
     for calls in MOST_CALLS:
         text = f"cell calls={calls}\nend\n"
-        done = subprocess.run([path, "replay"], input=text, capture_output=True, text=True, check=False)
+        try:
+            done = subprocess.run([path, "replay"], input=text, capture_output=True, text=True, check=False)
+        except OSError as error:
+            raise Fault(f"{path}: {error.strerror}") from None
         if done.returncode == 0:
             return calls
-    raise Fault(f"{path} replay: refuses a trace without calls: {(done.stdout + done.stderr).strip()}")
+        said = (done.stdout + done.stderr).strip()
+    raise Fault(f"{path} replay: refuses a trace without calls: {said}")
 
 
 class Pipe:
-    """A trace that is written while its answers are read: `ask` never writes a batch before it has read all answers before it."""
+    """A trace that is written while its answers are read: `ask` writes no batch before it has read all earlier answers."""
 
-    def __init__(self, path, head, calls, copy=None):
+    def __init__(self, path: str, head: str, calls: int, copy: TextIO | None = None) -> None:
+        self.path = path
         self.calls_left = calls
         self.calls = 0
         self.copy = copy
         try:
-            self.process = subprocess.Popen([path, "replay"], stdin=subprocess.PIPE, stdout=subprocess.PIPE)
+            pipe = subprocess.PIPE  # in a session of its own, so that Ctrl-C at a terminal ends the bench first
+            self.process = subprocess.Popen([path, "replay"], stdin=pipe, stdout=pipe, start_new_session=True)
         except OSError as error:
             raise Fault(f"{path}: {error.strerror}") from None
+        assert self.process.stdin and self.process.stdout
+        self.stdin: IO[bytes] = self.process.stdin
+        self.stdout: IO[bytes] = self.process.stdout
         self.write([head])
 
-    def write(self, lines):
+    def write(self, lines: Sequence[str]) -> None:
         text = "\n".join(lines) + "\n"
         if self.copy:
             self.copy.write(text)
         try:
-            self.process.stdin.write(text.encode())
-            self.process.stdin.flush()
+            self.stdin.write(text.encode())
+            self.stdin.flush()
         except BrokenPipeError:
-            raise Fault(f"{self.process.args[0]} replay: ended behind call {self.calls}") from None
+            raise Fault(f"{self.path} replay: ended after call {self.calls}") from None
 
-    def ask(self, lines):
+    def ask(self, lines: Sequence[str]) -> list[str]:
         """The answers to these calls, one each."""
         if len(lines) > self.calls_left:
             raise OutOfCalls
         self.calls_left -= len(lines)
         self.calls += len(lines)
-        answers = []
-        readline = self.process.stdout.readline
+        answers: list[str] = []
+        readline = self.stdout.readline
         for first in range(0, len(lines), BATCH):
             batch = lines[first : first + BATCH]
             self.write(batch)
-            answers += [readline().decode().rstrip("\n") for _ in batch]
-        if answers and (not answers[-1] or answers[-1].startswith("fault")):
-            raise Fault(f"wf replay: stopped behind call {self.calls}: {answers[-1] or 'no answer'}")
+            answers += b"".join([readline() for _ in batch]).decode().split("\n")
+            answers.pop()  # the text after the last end of a line
+        if len(answers) < len(lines) or (answers and answers[-1].startswith("fault")):
+            fault = answers[-1] if answers and answers[-1].startswith("fault") else "no answer"
+            raise Fault(f"wf replay: stopped after call {self.calls}: {fault}")
         return answers
 
-    def end(self):
-        """Ends the trace, and gives the summary's lines."""
+    def end(self) -> list[str]:
+        """Ends the trace, and returns the summary's lines."""
         self.write(["end"])
-        self.process.stdin.close()
-        with self.process.stdout as answers:
+        self.stdin.close()
+        with self.stdout as answers:
             summary = answers.read().decode().splitlines()
         if self.process.wait() != 0:
             raise Fault(f"wf replay: status {self.process.returncode}")
         return summary
+
+    def abandon(self) -> None:
+        """Stops the program, whatever it does."""
+        self.process.kill()
+        for end in (self.stdin, self.stdout):
+            with contextlib.suppress(OSError):
+                end.close()
+        self.process.wait()

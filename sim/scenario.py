@@ -1,48 +1,48 @@
-"""A scenario: what is in its file, read and checked. docs/SIM.md has the grammar."""
+"""The parts of a scenario: its air, stations and flows. `reading` makes them of a file; docs/SIM.md has the grammar."""
+from __future__ import annotations
+
 import math
-import tomllib
+from collections.abc import Mapping
 from dataclasses import dataclass, field, replace
 
-from .fields import Fault, Table
-from .rates import Rate, parse_rate
+from .rates import Rate
+from .settings import settings
 
-SETTINGS = {  # the machine's settings, as docs/TRACE.md has them, without `inflight`, which stands in [air]
-    "stations": (1, 256),
-    "flows": (1, 4096),
-    "limit": (1, 65535),
-    "room": (1, 131072),
-    "flow_quantum": (64, 65535),
-    "quantum": (100, 10000),
-    "attempts": (1, 64),
-    "agg": (1, 256),
-    "cap": (3000, 5400),
-    "sleeping": (1, 65535),
-    "calls": (1, 4294967295),
-}
-STANDARD = {  # of those that the bench or a model goes by
-    "limit": 8192,
-    "room": 65536,
-    "flow_quantum": 300,
-    "quantum": 300,
-    "attempts": 10,
-    "agg": 32,
-    "cap": 4000,
-    "sleeping": 64,
-}
 MACHINE = "airtime"  # the path that is no model
-PICTURES = ("airtime", "throughput", "delay", "time")
-KINDS = ("saturated", "mbit", "every_ms", "poisson_per_s", "responsive")
-RATE_WANTED = 'a rate is, as in a trace: "15 20 short", "vht 9 80 short 2" or "he 11 80 800 2"'
-LONGEST = 86_400
+MODEL_SETTINGS = {  # settings of the models: least, greatest and standard value
+    "queue": (1, 1_000_000, 1000),  # packets in the queue of `fifo`
+    "buffer": (1, 1_000_000, 123),  # frames of a class in the driver below `fifo` and `fq_codel`
+    "fq_limit": (1, 1_000_000, 10_240),  # packets in the queues of `fq_codel`
+}
+Sizes = tuple[tuple[int, float], ...]  # pairs of octets and a weight
+STANDARD_SIZES: Sizes = ((1500, 8), (576, 1), (100, 1))
+
+
+@dataclass
+class Air:
+    """The medium. Times are microseconds."""
+
+    difs: int = 34
+    slot: int = 9
+    cw: int = 15  # the backoff before an exchange is 0 to `cw` slots, drawn
+    access: int | None = None  # a fixed time before each exchange instead of DIFS and a drawn backoff
+    charge_access: bool = False  # whether an exchange is charged the access before it
+    charge_uplink: bool = True  # whether a station is charged for what it sends
+    inflight: int = 2  # exchanges of a class that the driver holds
+
+    @property
+    def longest_access(self) -> int:
+        """The longest time before an exchange of the access point when no station contends."""
+        return self.difs + self.slot * self.cw if self.access is None else self.access
 
 
 @dataclass
 class Station:
-    """A station; times are microseconds of the run."""
+    """A station. Times are microseconds of the run."""
 
     number: int
     name: str
-    group: str
+    group: str  # the name in the file, which stations of one table share
     rate: Rate
     weight: int
     window: int
@@ -50,32 +50,61 @@ class Station:
     ack_loss: float
     join: int
     leave: float
-    rates: list  # pairs of a time and a rate
-    sleeps: list  # pairs of the times from and to
-    poll: int  # how often it polls while it sleeps; 0 is never
+    rates: list[tuple[int, Rate]]  # changes of the rate: when, and to which
+    sleeps: list[tuple[int, int]]  # from when to when it sleeps
+    poll: int  # time between polls while it sleeps; 0 for none
+    charge_bias: float = 0.0  # of the airtime that the driver measures: its mean error, and the standard deviation, as shares
+    charge_error: float = 0.0
+
+    @property
+    def is_measured(self) -> bool:
+        """Whether the driver's measure of its airtime has an error."""
+        return bool(self.charge_bias or self.charge_error)
+
+
+@dataclass
+class Page:
+    """A page that a browser loads again and again, with a pause in microseconds between two loads."""
+
+    octets: int
+    requests: int
+    connections: int
+    pause: int
 
 
 @dataclass
 class Flow:
-    """A flow of frames to a station."""
+    """A flow of frames to or from a station. Times are microseconds."""
 
     number: int
     name: str
     station: Station
-    tid: int
-    size: int
-    kind: str  # timed, saturated or responsive
-    every: float = 0.0  # microseconds between frames of a timed flow
-    poisson_per_s: float = 0.0
-    burst: int = 1  # frames that come at once where a timed flow starts
-    backlog: int = 0
-    delay: int = 0  # microseconds until the sender of a responsive flow learns of a frame
+    kind: str  # the key that says what makes it send
+    tid: int = 0
+    sizes: Sizes = STANDARD_SIZES
     start: int = 0
     stop: float = math.inf
+    offset: int = 0  # the most by which its start is late, drawn
+    echo: bool = False  # whether the station answers each frame
+    is_up: bool = False  # whether the station sends it
+    every: float = 0.0  # time between frames; their mean, if they come at random times
+    burst: int = 1  # frames that come at once at the start
+    backlog: int = 0
+    delay: int = 0  # the part of a round trip that is neither queue nor air
+    congestion: str = "cubic"
+    octets: int | None = None  # of data in all; None for no end
+    page: Page | None = None
+    connection: int = 0  # which of the connections of its page, from 1; 0 for a flow without a page
 
     @property
-    def label(self):
-        return f"{self.name} to {self.station.name}"
+    def label(self) -> str:
+        ends = f"{self.name} {'from' if self.is_up else 'to'} {self.station.name}"
+        return f"{ends}, connection {self.connection}" if self.connection > 1 else ends
+
+    @property
+    def wants_all(self) -> bool:
+        """Whether the flow wants all airtime that it can get."""
+        return self.kind in ("flood_mbit", "backlog", "tcp") and self.octets is None
 
 
 @dataclass
@@ -88,195 +117,29 @@ class Scenario:
     seconds: float
     warmup: float
     seed: int
-    settings: dict
-    access: int
-    inflight: int
-    stations: list
-    flows: list
-    pictures: list = field(default_factory=list)
-    shown: list = field(default_factory=list)  # flows whose delays pictures show, by name or label; none are all
-    compare: list = field(default_factory=list)
+    settings: dict[str, int]  # of the machine, as far as the file gives them
+    models: dict[str, int]  # of the models
+    air: Air
+    stations: list[Station]
+    flows: list[Flow]
+    pictures: list[str] = field(default_factory=list)
+    shown: list[str] = field(default_factory=list)  # names or labels of flows whose delays are shown; empty for all
+    compare: list[str] = field(default_factory=list)
 
-    def setting(self, name):
-        """A setting; the standard one, where the scenario does not say otherwise."""
-        return self.settings.get(name, STANDARD[name])
+    def setting(self, name: str) -> int:
+        """A setting of the machine, or its standard value."""
+        return self.settings.get(name, settings()[name].standard)
 
-    def shows(self, flow):
-        """Whether pictures show the delays of a flow."""
+    def model(self, name: str) -> int:
+        """A setting of the models, or its standard value."""
+        return self.models.get(name, MODEL_SETTINGS[name][2])
+
+    def shows(self, flow: Flow) -> bool:
+        """Whether pictures and the comparison show the delays of a flow."""
         return not self.shown or flow.name in self.shown or flow.label in self.shown
 
-    def with_settings(self, settings):
-        """The same scenario with other settings of the machine."""
-        return replace(self, settings={**self.settings, **settings})
-
-
-def read(path):
-    """The scenario of a file. Raises Fault where something in it is not as wanted."""
-    try:
-        with open(path, "rb") as file:
-            values = tomllib.load(file)
-    except OSError as error:
-        raise Fault(f"{path}: {error.strerror}") from None
-    except (tomllib.TOMLDecodeError, UnicodeDecodeError) as error:
-        raise Fault(f"{path}: is no TOML: {error}") from None
-    return from_table(Table(str(path), "top", values), name=str(path).rsplit("/", 1)[-1].removesuffix(".toml"))
-
-
-def from_table(top, name):
-    """The scenario of a file's outermost table."""
-    seconds = top.number("seconds", 0.001, LONGEST)
-    air = top.table("air")
-    plot = top.table("plot")
-    stations = read_stations(top, seconds)
-    scenario = Scenario(
-        name=name,
-        title=top.text("title", name),
-        note=top.text("note", ""),
-        seconds=seconds,
-        warmup=top.number("warmup", 0, seconds, 0),
-        seed=top.whole("seed", 0, 2**63 - 1, 1),
-        settings=read_settings(top.table("machine"), len(stations)),
-        access=air.whole("access", 0, 10_000, 102),
-        inflight=air.whole("inflight", 1, 8, 2),
-        stations=stations,
-        flows=read_flows(top, seconds, stations),
-        pictures=plot.texts("pictures", ["airtime", "throughput", "delay"], PICTURES),
-        compare=top.texts("compare", [MACHINE]),
-    )
-    names = [name for flow in scenario.flows for name in (flow.name, flow.label)]
-    scenario.shown = plot.texts("flows", [], list(dict.fromkeys(names)))
-    for table in (air, plot, top):
-        table.finish()
-    return scenario
-
-
-def read_settings(table, stations):
-    """The machine's settings; as many stations as there are, where the file does not say how many."""
-    settings = {name: table.whole(name, *bounds) for name, bounds in SETTINGS.items() if table.has(name)}
-    if table.has("inflight"):
-        raise table.fault("inflight", "is not wanted here; it stands in [air]")
-    if settings.setdefault("stations", max(stations, 1)) < stations:
-        raise table.fault("stations", f"{settings['stations']} is less than the {stations} stations of this file")
-    table.finish()
-    return settings
-
-
-def read_stations(top, seconds):
-    stations = []
-    groups = set()
-    for table in top.tables("station", needed=True):
-        group = table.text("name", f"station {len(stations)}")
-        if group in groups:
-            raise table.fault("name", f"{group!r} is another station's; a name of its own is wanted")
-        groups.add(group)
-        count = table.whole("count", 1, 256, 1)
-        first = read_station(table, len(stations), group, seconds)
-        for copy in range(count):
-            name = group if count == 1 else f"{group} {copy + 1}"
-            stations.append(replace(first, number=len(stations), name=name))
-    if not 1 <= len(stations) <= 256:
-        raise top.fault("station", f"{len(stations)} stations are not wanted; 1 to 256 are")
-    return stations
-
-
-def read_station(table, number, group, seconds):
-    """One table of a station, or of several that are alike."""
-    join = table.number("join", 0, seconds, 0)
-    leave = table.number("leave", join, seconds) if table.has("leave") else math.inf
-    last = min(seconds, leave)
-    station = Station(
-        number=number,
-        name=group,
-        group=group,
-        rate=read_rate(table, "rate", "0 20 long"),
-        weight=table.whole("weight", 1, 16, 1),
-        window=table.whole("window", 1, 256, 64),
-        loss=table.number("loss", 0, 1, 0),
-        ack_loss=table.number("ack_loss", 0, 1, 0),
-        join=micros(join),
-        leave=micros(leave),
-        rates=[],
-        sleeps=[],
-        poll=round(1000 * table.number("poll_ms", 1, 60_000)) if table.has("poll_ms") else 0,
-    )
-    for change in table.tables("rates"):
-        station.rates.append((micros(change.number("at", join, last)), read_rate(change, "rate")))
-        change.finish()
-    for sleep in table.tables("sleeps"):
-        start = sleep.number("from", join, last)
-        station.sleeps.append((micros(start), micros(sleep.number("to", start, last))))
-        sleep.finish()
-    if any(later[0] < earlier[1] for earlier, later in zip(station.sleeps, station.sleeps[1:])):
-        raise table.fault("sleeps", "one begins before the one above it ends; sleeps in order of time are wanted")
-    table.finish()
-    return station
-
-
-def read_rate(table, key, default=None):
-    text = table.text(key, default)
-    rate = parse_rate(text)
-    if rate is None:
-        raise table.fault(key, f"{text!r} is not wanted; {RATE_WANTED}")
-    return rate
-
-
-def read_flows(top, seconds, stations):
-    flows = []
-    for table in top.tables("flow", needed=True):
-        group = table.text("station")
-        members = [station for station in stations if group in (station.group, station.name)]
-        if not members:
-            known = ", ".join(dict.fromkeys(station.group for station in stations))
-            raise table.fault("station", f"{group!r} is no station of this file; {known} are")
-        first = read_flow(table, members[0], seconds)
-        for station in members:
-            flows.append(replace(first, number=len(flows) + 1, station=station))
-    if not flows:
-        raise top.fault("flow", "there is none; a table [[flow]] is wanted")
-    return flows
-
-
-def read_flow(table, station, seconds):
-    """One table of a flow, or of one to each station of a group."""
-    kinds = [kind for kind in KINDS if table.has(kind)]
-    if len(kinds) != 1:
-        raise table.fault(" ".join(kinds) or "kind", f"exactly one of {', '.join(KINDS)} is wanted")
-    start = table.number("start", 0, seconds, 0)
-    flow = Flow(
-        number=0,
-        name=table.text("name", kinds[0]),
-        station=station,
-        tid=table.whole("tid", 0, 7, 0),
-        size=table.whole("size", 1, 2304, 1500),
-        kind="timed",
-        start=max(micros(start), station.join),
-        stop=min(micros(table.number("stop", start, seconds) if table.has("stop") else math.inf), station.leave),
-    )
-    read_kind(table, kinds[0], flow)
-    table.finish()
-    return flow
-
-
-def read_kind(table, kind, flow):
-    """What makes a flow of this kind send, and the keys that go with it."""
-    if kind == "saturated":
-        table.yes(kind)
-        flow.kind = kind
-        flow.backlog = table.whole("backlog", 1, 65535, 300)
-    elif kind == "responsive":
-        table.yes(kind)
-        flow.kind = kind
-        flow.delay = round(1000 * table.number("delay_ms", 0, 10_000, 20))
-    elif kind == "poisson_per_s":
-        flow.poisson_per_s = table.number(kind, 0.001, 1_000_000)
-    else:
-        if kind == "mbit":
-            flow.every = 8 * flow.size / table.number(kind, 0.001, 1000)
-        else:
-            flow.every = 1000 * table.number(kind, 0.001, 3_600_000)
-        flow.burst = table.whole("burst", 1, 65535, 1)
-
-
-def micros(seconds):
-    """Whole microseconds; for ever stays so."""
-    return seconds if seconds == math.inf else round(seconds * 1_000_000)
+    def with_settings(self, changed: Mapping[str, int]) -> Scenario:
+        """The same scenario with other settings of the machine or of the models."""
+        models = {name: value for name, value in changed.items() if name in MODEL_SETTINGS}
+        machine = {name: value for name, value in changed.items() if name not in MODEL_SETTINGS}
+        return replace(self, settings={**self.settings, **machine}, models={**self.models, **models})

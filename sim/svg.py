@@ -1,47 +1,59 @@
-"""One picture as SVG: a frame with axes, bars, curves and points. The text is the same for the same numbers."""
+"""One picture as SVG: a frame with axes, bars, curves and points. The same numbers make the same text."""
+from __future__ import annotations
+
 import math
+from collections.abc import Iterable, Sequence
+from dataclasses import dataclass, field
 from xml.sax.saxutils import escape
 
 WIDTH, HEIGHT = 680, 400
-LEFT, RIGHT, TOP = 64, 20, 56
+LEFT, RIGHT, TOP = 64, 20, 60
 AXIS = 44  # below the frame: the names of steps, and of the axis
 LEGEND_ROW = 20
-CHARACTER = 6.2  # about the width of one at size 12
+CHARACTER = 6.4  # about the width of one at size 12
+LINE = 106  # characters of a note in one line
+
+Pairs = Iterable[tuple[float, float]]
+Entry = tuple[str, str, str | None]  # a legend's words, its colour, and its dash; None for a square
+Placed = tuple[float, str, str, str | None]
 
 
-def number(value):
-    """A coordinate or a label with at most one digit behind the point."""
+def number(value: float) -> str:
+    """A coordinate or a label with at most one digit after the point."""
     return f"{value:.1f}".removesuffix(".0")
 
 
+@dataclass
 class Axis:
-    """From a low to a high value, in equal steps or, where `log`, in equal ratios."""
+    """From a low to a high value, in equal steps or, with `log`, in equal ratios."""
 
-    def __init__(self, name, low, high, steps, log=False):
-        self.name = name
-        self.low = low
-        self.high = high
-        self.steps = steps
-        self.log = log
+    name: str
+    low: float
+    high: float
+    steps: list[float]
+    log: bool = False
 
-    def part(self, value):
-        """Where a value stands, from 0 to 1; values beyond an end stand at it."""
+    def part(self, value: float) -> float:
+        """The place of a value, from 0 to 1; values beyond an end are at that end."""
         value = min(max(value, self.low), self.high)
         if self.log:
             return math.log(value / self.low) / math.log(self.high / self.low)
         return (value - self.low) / (self.high - self.low)
 
 
-def linear(name, high):
+def linear(name: str, high: float) -> Axis:
     """An axis from 0 to at least a value, in round steps."""
-    size = 10 ** math.floor(math.log10(high / 4)) if high > 0 else 1
-    step = next(size * factor for factor in (1, 2, 2.5, 5, 10) if size * factor * 5 >= high) if high > 0 else 1
+    if high <= 0:
+        return Axis(name, 0, 1, [0, 1])
+    size = 10.0 ** math.floor(math.log10(high / 4))
+    step = next(size * factor for factor in (1, 2, 2.5, 5, 10) if size * factor * 5 >= high)
     count = max(1, math.ceil(high / step - 1e-9))
     return Axis(name, 0, count * step, [index * step for index in range(count + 1)])
 
 
-def logarithmic(name, low, high):
-    """An axis between the round values (1, 2 or 5 times a power of ten) around two values; far apart, powers of ten alone are named."""
+def logarithmic(name: str, low: float, high: float) -> Axis:
+    """An axis between the round values (1, 2 or 5 times a power of ten) around two values; if these are far apart, it names powers of
+    ten alone."""
     powers = range(math.floor(math.log10(low)), math.ceil(math.log10(high)) + 1)
     steps = [factor * 10.0**power for power in powers for factor in (1, 2, 5)]
     first = max(step for step in steps if step <= low)
@@ -52,63 +64,65 @@ def logarithmic(name, low, high):
     return Axis(name, first, last, steps, log=True)
 
 
-class Picture:
-    """A picture: its title with a note below it, its legend, and what is drawn between the two axes."""
+def tag(name: str, text: str | None = None, **attributes: object) -> str:
+    """An element with attributes; `_` in their names is `-`."""
+    words = "".join(f' {key.replace("_", "-")}="{escape(str(value), {chr(34): "&quot;"})}"' for key, value in attributes.items())
+    return f"<{name}{words}/>" if text is None else f"<{name}{words}>{escape(text)}</{name}>"
 
-    def __init__(self, title, note, across, up, legend):
-        """The legend is a list of words with a colour and a dash (or None) each."""
-        rows = self.legend_rows(legend)
+
+@dataclass
+class Picture:
+    """A picture: its title with a note below it, its legend, and the shapes between the two axes."""
+
+    title: str
+    note: str
+    across: Axis
+    up: Axis
+    legend: Sequence[Entry]
+    parts: list[str] = field(default_factory=list)
+
+    def __post_init__(self) -> None:
+        rows = self.legend_rows()
         self.bottom = AXIS + LEGEND_ROW * len(rows) + 6
-        self.across = across
-        self.up = up
-        self.parts = [
-            f'<svg xmlns="http://www.w3.org/2000/svg" viewBox="0 0 {WIDTH} {HEIGHT}" font-family="sans-serif" font-size="12">',
-            f'<rect width="{WIDTH}" height="{HEIGHT}" fill="white"/>',
-        ]
-        self.text(WIDTH / 2, 22, title, size=16)
-        self.text(WIDTH / 2, 40, note, size=11, fill="#555")
+        self.parts.append(f'<svg xmlns="http://www.w3.org/2000/svg" viewBox="0 0 {WIDTH} {HEIGHT}" font-family="sans-serif" font-size="12">')
+        self.parts.append(tag("rect", width=WIDTH, height=HEIGHT, fill="white"))
+        self.text(WIDTH / 2, 22, self.title, size=16)
+        self.text(WIDTH / 2, 42, self.note, size=11 if len(self.note) <= LINE else 11 * LINE / len(self.note), fill="#555")
         self.draw_up()
         self.draw_across()
-        for number_of_row, row in enumerate(rows):
-            self.draw_legend(row, HEIGHT - LEGEND_ROW * (len(rows) - number_of_row) + 8)
+        for nth, row in enumerate(rows):
+            self.draw_legend(row, HEIGHT - LEGEND_ROW * (len(rows) - nth) + 8)
 
-    def legend_rows(self, legend):
-        """The legend's entries in rows that are not wider than the picture, each with its place across."""
-        rows, x = [], WIDTH
-        for words, colour, dash in legend:
-            wide = 42 + CHARACTER * len(words)
-            if x + wide > WIDTH - RIGHT:
-                rows.append([])
-                x = LEFT
-            rows[-1].append((x, words, colour, dash))
-            x += wide
-        return rows
+    def legend_rows(self) -> list[list[Placed]]:
+        """The legend's entries in rows that fit the picture, in columns of one width, each with its place across."""
+        wide = max((46 + CHARACTER * len(words) for words, _, _ in self.legend), default=float(WIDTH))
+        columns = max(1, int((WIDTH - LEFT - RIGHT) / wide))
+        placed = [(LEFT + wide * (nth % columns), *entry) for nth, entry in enumerate(self.legend)]
+        return [placed[first : first + columns] for first in range(0, len(placed), columns)]
 
-    def x(self, value):
+    def x(self, value: float) -> float:
         return LEFT + (WIDTH - LEFT - RIGHT) * self.across.part(value)
 
-    def y(self, value):
+    def y(self, value: float) -> float:
         return HEIGHT - self.bottom - (HEIGHT - TOP - self.bottom) * self.up.part(value)
 
-    def text(self, x, y, words, size=12, anchor="middle", fill="black"):
-        self.parts.append(
-            f'<text x="{number(x)}" y="{number(y)}" font-size="{size}" text-anchor="{anchor}" fill="{fill}">{escape(words)}</text>'
-        )
+    def text(self, x: float, y: float, words: str, size: float = 12, anchor: str = "middle", fill: str = "black") -> None:
+        places = {"x": number(x), "y": number(y), "font_size": number(size)}
+        self.parts.append(tag("text", words, **places, text_anchor=anchor, fill=fill))
 
-    def line(self, x1, y1, x2, y2, colour="black", width=1, dash=None):
-        dashes = f' stroke-dasharray="{dash}"' if dash else ""
-        ends = f'x1="{number(x1)}" y1="{number(y1)}" x2="{number(x2)}" y2="{number(y2)}"'
-        self.parts.append(f'<line {ends} stroke="{colour}" stroke-width="{width}"{dashes}/>')
+    def line(self, x1: float, y1: float, x2: float, y2: float, colour: str = "black", width: float = 1, dash: str = "") -> None:
+        ends = {"x1": number(x1), "y1": number(y1), "x2": number(x2), "y2": number(y2)}
+        dashes = {"stroke_dasharray": dash} if dash else {}
+        self.parts.append(tag("line", **ends, stroke=colour, stroke_width=width, **dashes))
 
-    def draw_up(self):
+    def draw_up(self) -> None:
         for step in self.up.steps:
             self.line(LEFT, self.y(step), WIDTH - RIGHT, self.y(step), "#ddd")
             self.text(LEFT - 6, self.y(step) + 4, f"{step:g}", anchor="end")
         middle = (self.y(self.up.low) + self.y(self.up.high)) / 2
-        turned = f'transform="translate(16 {number(middle)}) rotate(-90)"'
-        self.parts.append(f'<text {turned} text-anchor="middle">{escape(self.up.name)}</text>')
+        self.parts.append(tag("text", self.up.name, transform=f"translate(16 {number(middle)}) rotate(-90)", text_anchor="middle"))
 
-    def draw_across(self):
+    def draw_across(self) -> None:
         base = self.y(self.up.low)
         self.line(LEFT, base, WIDTH - RIGHT, base)
         for step in self.across.steps:
@@ -117,33 +131,31 @@ class Picture:
             self.text(self.x(step), base + 16, f"{step:g}")
         self.text((WIDTH + LEFT - RIGHT) / 2, base + 34, self.across.name)
 
-    def draw_legend(self, row, y):
+    def draw_legend(self, row: Sequence[Placed], y: float) -> None:
         for x, words, colour, dash in row:
             if dash is None:
-                self.parts.append(f'<rect x="{number(x)}" y="{y - 9}" width="14" height="10" fill="{colour}"/>')
+                self.parts.append(tag("rect", x=number(x), y=number(y - 9), width=14, height=10, fill=colour))
             else:
-                self.line(x, y - 4, x + 18, y - 4, colour, 2, dash)
-            self.text(x + 22, y, words, anchor="start")
+                self.line(x, y - 4, x + 22, y - 4, colour, 2, dash)
+            self.text(x + 26, y, words, anchor="start")
 
-    def bar(self, left, right, value, colour, label=None):
-        """A bar between two places across, with its value above it where there is room for one."""
+    def bar(self, left: float, right: float, value: float, colour: str, label: str | None = None) -> None:
+        """A bar between two places across, with its value above it if a label is given."""
         x, y, base = self.x(left), self.y(value), self.y(self.up.low)
-        self.parts.append(
-            f'<rect x="{number(x)}" y="{number(y)}" width="{number(self.x(right) - x)}" height="{number(base - y)}" fill="{colour}"/>'
-        )
+        self.parts.append(tag("rect", x=number(x), y=number(y), width=number(self.x(right) - x), height=number(base - y), fill=colour))
         if label:
             self.text((x + self.x(right)) / 2, y - 4, label, size=10)
 
-    def curve(self, pairs, colour, dash=""):
-        dashes = f' stroke-dasharray="{dash}"' if dash else ""
+    def curve(self, pairs: Pairs, colour: str, dash: str = "") -> None:
+        dashes = {"stroke_dasharray": dash} if dash else {}
         path = " ".join(f"{number(self.x(x))},{number(self.y(y))}" for x, y in pairs)
-        self.parts.append(f'<polyline points="{path}" fill="none" stroke="{colour}" stroke-width="1.8"{dashes}/>')
+        self.parts.append(tag("polyline", points=path, fill="none", stroke=colour, stroke_width=1.8, **dashes))
 
-    def points(self, pairs, colour):
-        """A mark at each place, once."""
+    def points(self, pairs: Pairs, colour: str) -> None:
+        """A mark at each place, each place once."""
         places = dict.fromkeys(f"{number(self.x(x))} {number(self.y(y))}" for x, y in pairs)
         path = "".join(f"M{place}h0" for place in places)
-        self.parts.append(f'<path d="{path}" stroke="{colour}" stroke-width="3.2" stroke-linecap="round"/>')
+        self.parts.append(tag("path", d=path, stroke=colour, stroke_width=3.2, stroke_linecap="round"))
 
-    def svg(self):
+    def svg(self) -> str:
         return "\n".join([*self.parts, "</svg>", ""])

@@ -1,46 +1,130 @@
-"""What docs/SIM.md says of the scenarios that come with the bench, on shorter runs of them."""
+"""The statements of docs/SIM.md about the scenarios that come with the bench, on shorter runs."""
+from __future__ import annotations
+
 import unittest
 
 from sim.baselines.fifo import Fifo
+from sim.frames import Path
+from sim.models import MODELS
 from sim.program import TOP
-from sim.scenario import read
+from sim.reading import read
+from sim.scenario import Scenario
 
-from .support import machine, run
+from .support import fates, machine, run, scenario, shortened
 
-PAPER = (42.2, 42.3, 2.2)  # "Ending the Anomaly", table 1: Mbit/s with airtime fairness
+PAPER = (42.2, 42.3, 2.2)  # "Ending the Anomaly", table 1: Mbit/s with airtime fairness, as calculated
+SCENARIOS = sorted(path.stem for path in TOP.glob("sim/scenarios/*.toml"))
+
+TCP = """
+seconds = {seconds}
+warmup = {warmup}
+[[station]]
+name = "fast"
+count = 2
+rate = "15 20 short"
+[[station]]
+name = "slow"
+rate = "0 20 short"
+[[flow]]
+station = "fast"
+tcp = "cubic"
+[[flow]]
+station = "slow"
+tcp = "cubic"
+"""
 
 
-def shortened(name, seconds):
-    chosen = read(TOP / f"sim/scenarios/{name}.toml")
-    chosen.seconds = seconds
-    return chosen
+def path_of(chosen: Scenario) -> Path | None:
+    """A model to run a scenario over, or None if it needs the machine."""
+    first = next((name for name in chosen.compare if name in MODELS), None)
+    return MODELS[first](chosen) if first else None
 
 
 class Claims(unittest.TestCase):
-    def test_the_anomaly(self):
-        chosen = shortened("anomaly", 5)
+    def test_the_anomaly(self) -> None:
+        chosen = shortened("anomaly", 4, 1)
         _, airtime = run(chosen, machine(chosen))
         for one, mbit in zip(airtime.stations, PAPER):
             self.assertAlmostEqual(one.share, 1 / 3, delta=0.01)
             self.assertAlmostEqual(one.mbit, mbit, delta=0.05 * mbit)
         self.assertGreater(airtime.jain, 0.999)
-        _, fifo = run(chosen, Fifo(chosen))
-        self.assertGreater(fifo.stations[2].share, 0.75)
-        self.assertGreater(airtime.total, 3 * fifo.total)
 
-    def test_delays(self):
-        chosen = shortened("latency", 4)
+    def test_fifo_with_floods(self) -> None:
+        """No station gets more than another, so the slow one has most of the air."""
+        chosen = shortened("anomaly", 6, 2)
+        _, fifo = run(chosen, Fifo(chosen))
+        for one in fifo.stations:
+            self.assertAlmostEqual(one.mbit, 5.6, delta=0.4)
+        self.assertAlmostEqual(fifo.stations[2].share, 0.87, delta=0.015)
+
+    def test_no_headline_depends_on_a_backlog(self) -> None:
+        for name in SCENARIOS:
+            for flow in read(TOP / f"sim/scenarios/{name}.toml").flows:
+                self.assertNotEqual(flow.kind, "backlog", name)
+
+    def test_floods_exceed_their_links(self) -> None:
+        for name in ("anomaly", "weights", "turns", "lossy"):
+            chosen = shortened(name, 2.5, 1)
+            _, result = run(chosen, machine(chosen))
+            self.assertEqual(result.below_the_link(), [], name)
+
+    def test_delays(self) -> None:
+        chosen = shortened("latency", 4, 2)
         _, airtime = run(chosen, machine(chosen))
         _, fifo = run(chosen, Fifo(chosen))
         for ours, theirs in zip(airtime.flows, fifo.flows):
             if ours.flow.name == "ping":
                 self.assertGreater(theirs.percentile(50), 10 * ours.percentile(50))
 
-    def test_weights(self):
-        chosen = shortened("weights", 3)
+    def test_stations_do_not_stay_in_phase(self) -> None:
+        """With deficits in lockstep a ping next to 29 busy stations takes 31 ms."""
+        chosen = shortened("thirty", 3, 1)
+        _, result = run(chosen, machine(chosen))
+        self.assertLess(result.flows[-1].percentile(50), 20_000)
+
+    def test_weights(self) -> None:
+        chosen = shortened("weights", 3, 1)
         _, airtime = run(chosen, machine(chosen))
         for one in airtime.stations:
             self.assertAlmostEqual(one.share, one.station.weight / 7, delta=0.01)
+
+    def test_tcp_over_fifo_does_not_depend_on_the_length_of_a_run(self) -> None:
+        totals = []
+        for warmup, seconds in ((8, 18), (18, 38)):
+            chosen = scenario(TCP.format(warmup=warmup, seconds=seconds))
+            totals.append(run(chosen, Fifo(chosen))[1].total)
+        self.assertAlmostEqual(totals[0], totals[1], delta=0.1 * totals[1])
+
+
+class Seeds(unittest.TestCase):
+    def test_each_scenario_depends_on_the_seed(self) -> None:
+        self.assertGreaterEqual(len(SCENARIOS), 11)
+        for name in SCENARIOS:
+            runs = []
+            for seed in (1, 2):
+                chosen = shortened(name, 0.5, 0, seed)
+                runs.append(fates(run(chosen, path_of(chosen) or machine(chosen))[0]))
+            self.assertNotEqual(runs[0], runs[1], name)
+
+    def test_identical_stations_come_out_alike(self) -> None:
+        for name, over_fifo in (("anomaly", True), ("thirty", False)):
+            chosen = shortened(name, 4, 1)
+            paths: list[Path] = [machine(chosen), *([Fifo(chosen)] if over_fifo else [])]
+            for path in paths:
+                _, result = run(chosen, path)
+                alike = [one.mbit for one in result.stations if one.station.group == "fast"]
+                mean = sum(alike) / len(alike)
+                for mbit in alike:
+                    self.assertAlmostEqual(mbit, mean, delta=0.12 * mean, msg=name)
+
+    def test_random_numbers_are_the_standard(self) -> None:
+        """A scenario that fixes the access before each exchange says so by `access`, and none of ours does."""
+        for name in SCENARIOS:
+            self.assertIsNone(read(TOP / f"sim/scenarios/{name}.toml").air.access)
+        chosen = scenario('seconds = 1\n[[station]]\n[[flow]]\nstation = "station 0"\nflood_mbit = 1\n')
+        self.assertGreater(chosen.stations[0].loss, 0)
+        self.assertGreater(chosen.flows[0].offset, 0)
+        self.assertGreater(len(chosen.flows[0].sizes), 1)
 
 
 if __name__ == "__main__":

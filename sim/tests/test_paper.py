@@ -1,0 +1,76 @@
+"""The experiments of the paper, and the page of their numbers."""
+from __future__ import annotations
+
+import contextlib
+import io
+import pathlib
+import tempfile
+import unittest
+import unittest.mock
+from typing import Any
+
+from sim import paper
+from sim.cli import main
+from sim.runs import Job, Program
+
+NONE = Program("/bin/true", "", 1)
+
+
+def numbers(job: Job) -> dict[str, Any]:
+    """The result of a run: each number is the seed."""
+    seed = job.scenario.seed
+    stations = [{"station": one.name, **dict.fromkeys(("airtime_share", "throughput_mbit_per_s", "aggregate_frames"), seed)} for one in job.scenario.stations]
+    names = ("delay_p50_us", "delay_p95_us", "mos", "transfers", "transfer_mean_us", "transfer_p95_us")
+    flows = [{"flow": one.name, "station": one.station.name, **dict.fromkeys(names, seed)} for one in job.scenario.flows]
+    whole = {"path": job.choice.label, "seed": seed, "simulated_s": 20, "jain": seed, "throughput_mbit_per_s": seed}
+    return {**whole, "parameters": job.parameters, "stations": stations, "flows": flows}
+
+
+def page(seeds: int) -> str:
+    groups = paper.all_groups(NONE, seeds, None)
+    return paper.page([[numbers(job) for group in of_one for job in group] for of_one in groups], seeds)
+
+
+class Pages(unittest.TestCase):
+    def test_each_experiment_has_its_table(self) -> None:
+        written = page(3)
+        for experiment in paper.EXPERIMENTS:
+            self.assertIn(f"## {experiment.title}\n", written)
+        self.assertIn("| `fifo` | slow | 79 | 200.0 ±248.4 | 5.1 | 5.3 | 2.0 ±2.5 | 2.0 ±2.5 |", written)
+        self.assertIn("| `airtime agg=18` | fast 1 |  | 200.0", written)
+        self.assertEqual(written.count("| large | `"), 4)
+        self.assertIn("mean over 3 seeds", " ".join(written.split()))
+        self.assertLessEqual(max(len(line) for line in written.splitlines() if not line.startswith("|")), 110)
+
+    def test_each_row_has_as_many_cells_as_its_head(self) -> None:
+        table = 0
+        for line in page(1).splitlines():
+            if line.startswith("|"):
+                table = table or line.count("|")
+                self.assertEqual(line.count("|"), table, line)
+            else:
+                table = 0
+
+
+class Command(unittest.TestCase):
+    def call(self, *words: str) -> tuple[int, str]:
+        with contextlib.redirect_stderr(io.StringIO()) as err:
+            return main(["--paper", *words]), err.getvalue()
+
+    def test_refusals(self) -> None:
+        self.assertEqual(self.call("x", "--csv", "y"), (2, "wf sim: --paper: expected no --csv next to it\n"))
+        with contextlib.redirect_stderr(io.StringIO()), self.assertRaises(SystemExit):
+            main([])
+
+    def test_the_page_is_written(self) -> None:
+        with tempfile.TemporaryDirectory() as folder:
+            file = pathlib.Path(folder, "PAPER.md")
+            run = unittest.mock.patch("sim.cli.side_by_side", side_effect=lambda given, groups: [numbers(job) for group in groups for job in group])
+            with run, unittest.mock.patch("sim.cli.find_program", return_value=NONE):
+                self.assertEqual(self.call(str(file), "--seeds", "1"), (0, ""))
+                self.assertEqual(self.call(str(file), "--seeds", "1", "--seconds", "1")[0], 2)
+            self.assertIn("## Pages", file.read_text(encoding="utf-8"))
+
+
+if __name__ == "__main__":
+    unittest.main()
