@@ -54,6 +54,7 @@ static int read_path(const struct wf_path *path) {
          wf_path_share(path, 0, WF_BE, &share) == WF_OK && wf_path_sent(path, exchange, &sent) == WF_OK && sent.count == 1 &&
          wf_path_frame_id(path, exchange, 0, &id) == WF_OK && wf_path_mpdu(path, exchange, 0, out, sizeof out, &size) == WF_OK &&
          size == 1526 && wf_path_tim(path, tim) == 6 && tally.accepted == 1 && wf_path_can_pull(path, WF_BE) == 0 &&
+         wf_path_listed(path, 0, WF_BE) > 0 && wf_path_listed(path, 1, WF_BE) == 0 && wf_path_has_small_counts(path) == 1 &&
          wf_path_queued(path, 0, 0, &queued) == WF_OK && queued == 0 && wf_path_waiting(path, 0, 0, &waiting) == WF_OK && waiting == 0;
 }
 

@@ -1,5 +1,6 @@
-# find_package(wf) gives wf::wf, the shared library, and wf::wf_static, the static one. Both stand beside this file, wherever the prefix was
-# moved to, and neither needs more than the C library.
+# find_package(wf) provides wf::wf, the shared library, and wf::wf_static, the static one. Both are found from the place of this file, so the
+# prefix may be moved. They need only the C library. wf_PROVED says whether the library is proved: yes or no.
+set(wf_PROVED @PROVED@)
 get_filename_component(_wf_prefix "${CMAKE_CURRENT_LIST_DIR}/../../.." ABSOLUTE)
 
 foreach(_wf_file "lib/libwf.so.@VERSION@" "lib/libwf.a" "include/wf.h")

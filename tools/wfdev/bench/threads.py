@@ -1,0 +1,195 @@
+"""Measures how many calls a second threads make that share one cell, what a turn at a gate costs, and what plain locks cost.
+
+It is no test. Without --turn and --locks it prints all figures.
+
+Each run of `live` has 10,000 frames for each of 1, 2, 4 and 8 senders, and four drivers besides. Its seconds include the writing of the
+trace; a soak writes none. Each figure is the best of five runs.
+
+The turn is measured by wf_show_gate: processor seconds of the same calls through the gate and without it, less those of a run
+without calls.
+
+The locks are in threads.d/locks.c: a mutex of POSIX, a ticket lock whose waiters spin, and one whose waiters yield. Each guards
+the same work as the gate of wf_show_gate. A figure is the time by the clock of the median of five runs, less that of a run without
+calls, over the calls of all threads: in the fastest run the threads may have come one after another. A run that takes too long is cut
+off: a lock that spins may take long if there are more threads than processors.
+"""
+import os
+import re
+import statistics
+import subprocess
+import sys
+import threading
+import time
+from collections.abc import Mapping, Sequence
+from dataclasses import dataclass
+from pathlib import Path
+
+from wfdev.harness.script import NO_PROGRAM, Script
+from wfdev.repo import paths, programs
+
+SCRIPT = Script("threads", paths.BENCH)
+RUNS = 5
+COUNTER = paths.CRATES / "wf_show_gate" / "out" / "wf_show_gate"
+TURNS = 2_000_000
+THREADS = (2, 4, 8, 12)
+GATE = "gate"
+LOCKS = ("mutex", "spin", "yield")
+WAYS = (GATE, *LOCKS)
+CALLS, CALLS_OF_MANY = 1_200_000, 48_000  # for threads up to the number of processors, and above
+LONGEST = 10  # seconds of a run
+SOAK = ["soak", "1", "1000000"]
+
+
+@dataclass(frozen=True)
+class Ran:
+    """The output of a run, its seconds by the clock, and those on the processors."""
+
+    text: bytes
+    seconds: float
+    used: float
+
+    @property
+    def calls(self) -> int:
+        """The calls that the summary counts."""
+        return int(re.findall(rb"^calls (\d+)$", self.text, re.M)[-1])
+
+
+def processors() -> int:
+    """Returns the number of processors."""
+    return os.cpu_count() or 1
+
+
+def run(program: Path, words: Sequence[str]) -> Ran:
+    """Runs a program."""
+    began = time.monotonic()
+    child = subprocess.Popen([program, *words], stdin=subprocess.DEVNULL, stdout=subprocess.PIPE)
+    assert child.stdout is not None
+    text = child.stdout.read()
+    _, status, usage = os.wait4(child.pid, 0)
+    seconds = time.monotonic() - began
+    if status:
+        SCRIPT.fail(f"{program.name} {' '.join(words)} ended with {os.waitstatus_to_exitcode(status)}")
+    return Ran(text, seconds, usage.ru_utime + usage.ru_stime)
+
+
+def print_table(program: Path) -> None:
+    """Prints how many calls a second threads make."""
+    print(f"{processors()} processors")
+    print("| run | threads | calls | calls a second | processor seconds |")
+    print("|---|---|---|---|---|")
+    runs = [(1, SOAK)] + [(senders + 4, ["live", "1", str(senders), "10000"]) for senders in (1, 2, 4, 8)]
+    for threads, words in runs:
+        best = min((run(program, words) for _ in range(RUNS)), key=lambda it: it.seconds / it.calls)
+        print(f"| `wf {' '.join(words)}` | {threads} | {best.calls} | {best.calls / best.seconds:.0f} | {best.used:.2f} |", flush=True)
+
+
+def each(counter: Path, way: str) -> tuple[bytes, float]:
+    """Returns what the calls of wf_show_gate print, and the nanoseconds of each of them."""
+    text = run(counter, [way, str(TURNS)]).text
+    full, empty = (min(run(counter, [way, str(calls)]).used for _ in range(RUNS)) for calls in (TURNS, 0))
+    return text, (full - empty) / TURNS * 1e9
+
+
+def print_turn(counter: Path) -> None:
+    """Prints what a turn at a gate costs."""
+    (text, gate), (same, bare) = each(counter, GATE), each(counter, "bare")
+    if text != same:
+        SCRIPT.fail("wf_show_gate gives another sum through the gate")
+    costs = f"{gate:.1f} ns each through the gate and {bare:.1f} ns without"
+    print(f"{TURNS} calls of wf_show_gate: {costs}, so a turn takes {gate - bare:.1f} ns")
+
+
+def built_locks() -> Path:
+    """Builds the program of the locks."""
+    program, source = paths.BENCH_OUT / "locks", SCRIPT.folder / "locks.c"
+    program.parent.mkdir(exist_ok=True)
+    subprocess.run(["cc", "-std=c11", "-O2", "-Wall", "-Wextra", "-pthread", source, "-o", program], check=True)
+    return program
+
+
+@dataclass(frozen=True)
+class Meeting:
+    """The programs in which threads meet: at the gate of wf_show_gate, and at locks."""
+
+    counter: Path
+    locks: Path
+
+    def seconds(self, way: str, threads: int, calls: int) -> float | None:
+        """Returns the seconds of a run of this many threads with this many calls each, or None if it took too long."""
+        at_gate = [str(self.counter), GATE, str(calls), str(threads)]
+        words = at_gate if way == GATE else [str(self.locks), way, str(threads), str(calls)]
+        began = time.monotonic()
+        child = subprocess.Popen(words, stdin=subprocess.DEVNULL, stdout=subprocess.DEVNULL)
+        # (the timeout of `wait` would look only every 50 ms)
+        guard = threading.Timer(LONGEST, child.kill)
+        guard.start()
+        status = child.wait()
+        seconds = time.monotonic() - began
+        guard.cancel()
+        return None if status else seconds
+
+    def medians(self, threads: int, calls: int) -> dict[str, float | None]:
+        """Returns the nanoseconds of a call in each way, of the median run. The ways alternate."""
+        found: dict[str, list[float]] = {way: [] for way in WAYS}
+        for _ in range(RUNS):
+            for way in WAYS:
+                full, empty = self.seconds(way, threads, calls), self.seconds(way, threads, 0)
+                if full and empty:
+                    found[way].append((full - empty) / (threads * calls) * 1e9)
+        return {way: statistics.median(times) if len(times) == RUNS else None for way, times in found.items()}
+
+
+def ratios(cost: Mapping[str, float | None]) -> list[str]:
+    """Returns what the gate costs in relation to each lock."""
+    gate = cost[GATE]
+    return [f"{gate / lock:.2f}" if gate and (lock := cost[way]) else "-" for way in LOCKS]
+
+
+def print_locks(counter: Path) -> None:
+    """Prints what a call costs through a gate and through locks."""
+    meeting = Meeting(counter, built_locks())
+    print(f"{processors()} processors, a load of {os.getloadavg()[0]:.1f} before")
+    print("| threads | calls | " + " | ".join(f"{way}, ns" for way in WAYS) + " | " + " | ".join(f"gate / {way}" for way in LOCKS) + " |")
+    print("|---" * (2 + len(WAYS) + len(LOCKS)) + "|")
+    for threads in THREADS:
+        calls = (CALLS if threads <= processors() else CALLS_OF_MANY) // threads
+        cost = meeting.medians(threads, calls)
+        shown = [f"{nanoseconds:.0f}" if nanoseconds else "cut off" for nanoseconds in cost.values()]
+        print(f"| {threads} | {threads * calls} | {' | '.join(shown + ratios(cost))} |", flush=True)
+
+
+def program_of(named: Path | None) -> Path:
+    """Returns the program that is given, or the one that `./wf which` names."""
+    found = programs.find() if named is None else None
+    if named is None and found is None:
+        SCRIPT.fail(NO_PROGRAM)
+    if found is not None:
+        print(f"threads: uses {found}", file=sys.stderr)
+        return found.path
+    assert named is not None
+    return named
+
+
+def main(words: Sequence[str] | None = None) -> int:
+    """Measures, prints the figures, and returns the exit status."""
+    parser = SCRIPT.parser(__doc__)
+    parser.add_argument("--program", type=Path, help="the program (default: the one that ./wf which names)")
+    parser.add_argument("--counter", default=COUNTER, type=Path, help="the program wf_show_gate")
+    parser.add_argument("--turn", action="store_true", help="print only what a turn costs")
+    parser.add_argument("--locks", action="store_true", help="print only what locks cost")
+    asked = parser.parse_args(words)
+    is_whole = not (asked.turn or asked.locks)
+    if is_whole:
+        print_table(program_of(asked.program))
+    if not asked.counter.exists():
+        unproved = "tools/unproved wf_show_gate FILE builds an unproved one for --counter FILE"
+        SCRIPT.fail(f"there is no {paths.shown(asked.counter)}: rt run in crates/wf_show_gate proves and builds it; {unproved}")
+    if asked.turn or is_whole:
+        print_turn(asked.counter)
+    if asked.locks or is_whole:
+        print_locks(asked.counter)
+    return 0
+
+
+if __name__ == "__main__":
+    sys.exit(main())

@@ -1,0 +1,189 @@
+"""The words `build` and `lib`: the products, the copy of the sources that each is built from, and the place of each."""
+# ruff: noqa: PTH
+from __future__ import annotations
+
+import contextlib
+import dataclasses
+import os
+import pathlib
+import shlex
+import shutil
+import time
+
+from . import fresh, proved, snapshot, unproved
+from .children import noted_signals
+from .files import lock, place, reason, temporary_folder, write_whole
+from .kit import need_rt
+from .report import Failure, Notes
+
+TOP = pathlib.Path(fresh.TOP)
+PROGRAM_CRATE = "wf"
+LIBRARY_CRATE = "wf_c"
+# Octets of temporary files that a build needs, with some to spare.
+UNPROVED_NEEDS = 200 << 20
+PROVED_NEEDS = 3 << 30
+# A second copy of each built file: `rt ci` removes all that is in the folders of the crates.
+KEPT = "out/built"
+
+
+@dataclasses.dataclass(frozen=True)
+class Product:
+    """A file that is built: its name below the top, its crate, and whether it is proved."""
+
+    name: str
+    crate: str
+    is_proved: bool
+
+    @property
+    def path(self) -> pathlib.Path:
+        """The path of the file."""
+        return TOP / self.name
+
+    @property
+    def kept_name(self) -> str:
+        """The name of the second copy, below the top."""
+        return f"{KEPT}/{os.path.basename(self.name)}"
+
+    @property
+    def log(self) -> pathlib.Path:
+        """The path of the log of a build that failed."""
+        return self.path.parent / "build.log"
+
+    @property
+    def is_library(self) -> bool:
+        """Whether it is the static library."""
+        return self.crate == LIBRARY_CRATE
+
+    def is_fresh(self) -> bool:
+        """Returns whether the file is made from the sources as they are."""
+        return fresh.Sources(str(TOP)).is_fresh(self.name, may_adopt=self == PROGRAM)
+
+
+PROGRAM = Product(fresh.PROGRAM, PROGRAM_CRATE, True)
+UNPROVED_PROGRAM = Product(fresh.UNPROVED_PROGRAM, PROGRAM_CRATE, False)
+LIBRARY = Product(fresh.LIBRARY, LIBRARY_CRATE, True)
+UNPROVED_LIBRARY = Product(fresh.UNPROVED_LIBRARY, LIBRARY_CRATE, False)
+
+
+def build(product: Product) -> None:
+    """Builds a file unless it is fresh. It is replaced only if the build succeeds."""
+    if product.is_fresh():
+        Notes.say(f"{product.name} is built from these sources already")
+        return
+    need_rt()
+    try:
+        with noted_signals(), lock(product.path.parent):
+            if not product.is_fresh() and not _take_kept(product):
+                _build_anew(product)
+    except OSError as fault:
+        raise Failure(reason(fault)) from None
+
+
+def _build_anew(product: Product) -> None:
+    """Builds a file from a copy of the sources, puts it in place, and writes its record."""
+    how = "every crate below it is proved first" if product.is_proved else "this takes about a minute; nothing is proved of it"
+    Notes.say(f"building {product.name}: {how}")
+    with temporary_folder(PROVED_NEEDS if product.is_proved else UNPROVED_NEEDS) as room:
+        copy = room / "tree"
+        log = room / "log" if product.is_proved else room / "watched" / "said"
+        began = time.time()
+        sources = snapshot.copy_sources(TOP, copy)
+        kit = fresh.kit_identity()
+        try:
+            made = _make(product, copy, room, log)
+        except Failure as why:
+            raise Failure(f"{why.why}\n{product.name} is not built{_kept_log(log, product.log)}", why.said) from None
+        record = fresh.Record(sources, kit, fresh.file_checksum(str(made)))
+        _put(made, product.path, record, began)
+        _keep(made, TOP / product.kept_name, record, began)
+
+
+def _put(made: pathlib.Path, target: pathlib.Path, record: fresh.Record, when: float) -> None:
+    """Puts a file in place, with its record. In between it has none, so it does not count as fresh.
+
+    Its date is the time at which the sources were copied.
+    """
+    target.with_name(target.name + fresh.RECORD).unlink(missing_ok=True)
+    place(made, target, when)
+    fresh.write_record(str(target), record)
+
+
+def _keep(made: pathlib.Path, target: pathlib.Path, record: fresh.Record, when: float) -> None:
+    """Keeps a second copy, if there is room for it."""
+    with contextlib.suppress(OSError, Failure):
+        target.parent.mkdir(parents=True, exist_ok=True)
+        _put(made, target, record, when)
+
+
+def _take_kept(product: Product) -> bool:
+    """Puts the second copy in place if it is made from the sources as they are, and returns whether it is."""
+    kept = TOP / product.kept_name
+    if not fresh.Sources(str(TOP)).is_fresh(product.kept_name):
+        return False
+    record = fresh.read_record(str(kept))
+    if record is None:
+        return False
+    _put(kept, product.path, fresh.Record(record.sources, record.kit, record.made), kept.stat().st_mtime)
+    Notes.say(f"{product.name}: an earlier build from the same sources is taken from {product.kept_name}")
+    return True
+
+
+def _make(product: Product, copy: pathlib.Path, room: pathlib.Path, log: pathlib.Path) -> pathlib.Path:
+    """Makes the file from a copy of the sources, and returns its path."""
+    if product.is_proved and product.is_library:
+        return proved.build_library(copy, product.crate, log)
+    if product.is_proved:
+        return proved.build_program(copy, product.crate, TOP, log)
+    watched, made = room / "watched", room / "made"
+    watched.mkdir()
+    crate = copy / "crates" / product.crate
+    if product.is_library:
+        unproved.build_library(crate, made, watched)
+    else:
+        unproved.build_program(crate, made, watched)
+    return made
+
+
+def _kept_log(log: pathlib.Path, target: pathlib.Path) -> str:
+    """Keeps the log of a build that failed, and returns the words that name it."""
+    try:
+        shutil.copyfile(log, target)
+    except OSError:
+        return ""
+    return f" (log: {os.path.relpath(target, TOP)})"
+
+
+def program(is_proved: bool) -> None:
+    """The word `build`."""
+    build(PROGRAM if is_proved else UNPROVED_PROGRAM)
+
+
+def library(is_proved: bool) -> None:
+    """The word `lib`: prints the library's path, and writes a file for pkg-config next to it."""
+    product = LIBRARY if is_proved else UNPROVED_LIBRARY
+    build(product)
+    write_whole(product.path.parent / "wf.pc", pkg_config(product))
+    print(product.path, flush=True)
+    Notes.say(f"cc -std=c99 -I{shlex.quote(str(TOP / 'include'))} examples/c/driver.c {shlex.quote(str(product.path))}")
+
+
+def pkg_config(product: Product) -> str:
+    """Returns the text of the file for pkg-config that names a library of this checkout."""
+    version = (TOP / "VERSION").read_text(encoding="utf-8").strip()
+    lines = [
+        f"archive={_escaped(product.path)}",
+        f"includedir={_escaped(TOP / 'include')}",
+        f"proved={'yes' if product.is_proved else 'no'}",
+        "",
+        "Name: wf",
+        "Description: The transmit path of a Wi-Fi access point",
+        f"Version: {version}",
+        "Cflags: -I${includedir}",
+        "Libs: ${archive}",
+    ]
+    return "\n".join(lines) + "\n"
+
+
+def _escaped(path: pathlib.Path) -> str:
+    """Returns a path as pkg-config reads it."""
+    return str(path).replace("\\", "\\\\").replace(" ", "\\ ")

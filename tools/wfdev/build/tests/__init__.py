@@ -1,0 +1,1 @@
+"""Tests of the script ./wf and of its package."""

@@ -1,0 +1,121 @@
+"""The packets on the air in the run of a trace, by the trace's calls and the answers that `wf replay` gives."""
+import random
+from collections.abc import Iterator, Sequence
+from dataclasses import dataclass, field
+
+from wfdev.checks.captures.model import BLOCK_ACK_KIND, DATA_KIND, REQUEST_KIND, WIDE_OCTETS, Packet
+
+BASE, SOURCE = bytes.fromhex("020000000000"), bytes.fromhex("020000020000")
+MICROSECONDS = 10**6
+
+
+def station(number: int) -> bytes:
+    """Returns the address of a station."""
+    return bytes.fromhex("02000001") + number.to_bytes(2, "big")
+
+
+@dataclass(frozen=True)
+class Frame:
+    """A frame that was accepted: its flow and its length."""
+
+    flow: int
+    length: int
+
+
+def data(number: int, tid: int, seq: int, is_retry: bool, has_more: bool, frame: Frame) -> bytes:
+    """Returns the octets of a data frame to a station."""
+    head = bytes([DATA_KIND, 2 | 8 * is_retry | 32 * has_more, 48, 0]) + station(number) + BASE + SOURCE
+    head += (16 * seq).to_bytes(2, "little") + bytes([tid, 0])
+    return head + bytes((frame.flow + at) % 256 for at in range(frame.length))
+
+
+def request(number: int, tid: int, start: int) -> bytes:
+    """Returns the octets of a BlockAckReq to a station."""
+    return bytes([REQUEST_KIND, 0, 48, 0]) + station(number) + BASE + bytes([4, 16 * tid]) + (16 * start).to_bytes(2, "little")
+
+
+def block_ack(number: int, tid: int, start: int, digits: str) -> bytes:
+    """Returns the octets of a BlockAck of a station."""
+    bits = int(digits, 16).to_bytes(len(digits) // 2, "little")
+    head = bytes([BLOCK_ACK_KIND, 0, 0, 0]) + BASE + station(number) + bytes([12 if len(bits) > 8 else 4, 16 * tid])
+    return head + (16 * start).to_bytes(2, "little") + bits
+
+
+def is_wide(packets: Sequence[Packet]) -> bool:
+    """Returns whether a BlockAck of 256 numbers is among the packets."""
+    return any(len(packet.octets) == WIDE_OCTETS for packet in packets)
+
+
+def calls_of(trace: str) -> list[list[str]]:
+    """Returns the words of each call, without its caller."""
+    lines = [line.split() for line in trace.splitlines() if line.strip() and not line.lstrip().startswith("#")]
+    return [words[1:] if words[0].startswith("@") else words for words in lines if words[0] not in ("cell", "end")]
+
+
+@dataclass
+class Air:
+    """The run of a trace: the clock, the accepted frames, the open exchanges, and the packets so far."""
+
+    clock: int = 0
+    frames: dict[str, Frame] = field(default_factory=dict)
+    opened: dict[str, tuple[int, int]] = field(default_factory=dict)
+    tried: set[str] = field(default_factory=set)
+    packets: list[Packet] = field(default_factory=list)
+
+    def put(self, octets: bytes) -> None:
+        """Adds a packet at the time of the clock."""
+        self.packets.append(Packet(self.clock // MICROSECONDS, self.clock % MICROSECONDS, octets, missing=0))
+
+    def send(self, answer: Sequence[str]) -> None:
+        """Adds the packets of an answer `send`."""
+        number, tid, has_more = int(answer[3]), int(answer[5]), answer[-1] == "more"
+        self.opened[answer[1]] = number, tid
+        if answer[8] == "bar":
+            self.put(request(number, tid, int(answer[9])))
+        for pair in answer[9 : len(answer) - has_more] if answer[8] == "data" else []:
+            frame, seq = pair.split(":")
+            self.put(data(number, tid, int(seq), frame in self.tried, has_more, self.frames[frame]))
+            self.tried.add(frame)
+
+    def take(self, call: Sequence[str], answer: Sequence[str]) -> None:
+        """Takes a call and its answer."""
+        if answer[0] == "now" and call[0] == "tick":
+            self.clock = int(answer[1])
+        elif answer[0] == "accepted":
+            self.frames[answer[1]] = Frame(int(call[3]), int(call[4]))
+        elif answer[0] == "send":
+            self.send(answer)
+        elif answer[0] == "ba":
+            self.put(block_ack(*self.opened[call[1]], int(answer[1]), answer[2]))
+
+
+def on_air(trace: str, answers: str) -> list[Packet]:
+    """Returns the packets that go on the air."""
+    air = Air()
+    # (the answers end before the calls do after a fault, and go on with the summary)
+    for call, answer in zip(calls_of(trace), map(str.split, answers.splitlines()), strict=False):
+        air.take(call, answer)
+    return air.packets
+
+
+def exchanges(draw: random.Random, count: int) -> Iterator[str]:
+    """Yields the calls of this many exchanges, which go out, arrive in part, are answered and end."""
+    for exchange in range(count):
+        for _ in range(draw.randint(exchange < 2, 4)):
+            yield f"enq {draw.randint(0, 2)} {draw.choice((0, 0, 3, 5))} {draw.randint(0, 999)} {draw.randint(1, 90)}"
+        yield draw.choice(("tick 7", "tick 999999", f"sleep {draw.randint(0, 2)}", f"wake {draw.randint(0, 2)}", "reap"))
+        yield draw.choice(("pull be", "pull be", "pull vi"))
+        for number in range(max(0, exchange - 1), exchange + 1):
+            yield from [f"arrive {number} {index}" for index in range(4) if draw.random() < 0.6]
+            yield f"answer {number}"
+            yield f"done {number} {draw.choice(('heard', 'lost'))}"
+
+
+def made_trace(seed: int) -> str:
+    """Returns a generated trace of a few calls: stations join, frames come, and exchanges take place."""
+    draw = random.Random(seed)
+    lines = [f"cell attempts={draw.randint(1, 3)} agg={draw.choice((1, 4, 64))}"]
+    for number in range(draw.randint(1, 3)):
+        lines.append(f"join {number} {draw.choice((1, 2, 8, 64, 65, 256))} {draw.randint(0, 4095)} 3")
+    lines += exchanges(draw, draw.randint(1, 5))
+    return "\n".join([*lines, draw.choice(("end", "end", "stop"))]) + "\n"

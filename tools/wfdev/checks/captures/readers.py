@@ -1,0 +1,118 @@
+"""Has tshark and scapy read captures, and text2pcap, editcap and scapy write some."""
+import importlib.util
+import logging
+import shutil
+import subprocess
+from collections.abc import Sequence
+from dataclasses import dataclass
+from pathlib import Path
+
+from wfdev.checks.captures.air import MICROSECONDS, is_wide
+from wfdev.checks.captures.model import ACK, BLOCK_ACK_KIND, DATA_KIND, REQUEST, REQUEST_KIND, Packet, name_of
+from wfdev.harness.script import Difference, expect
+
+# The time and the fields of every frame, of data frames, of block frames and of BlockAcks, and tshark's complaints.
+HEAD_FIELDS = "frame.time_epoch wlan.fc.type_subtype wlan.fc.retry wlan.fc.moredata _ws.malformed _ws.expert.severity"
+FIELDS = (HEAD_FIELDS + " wlan.qos.tid wlan.seq wlan.ba.basic.tidinfo wlan.fixed.ssc.sequence wlan.ba.bm").split()
+ERROR = 0x800000
+KINDS = {DATA_KIND: 0x28, REQUEST_KIND: 0x18, BLOCK_ACK_KIND: 0x19}
+WORDS = {"": None, "True": 1, "False": 0}
+
+
+@dataclass(frozen=True)
+class Capture:
+    """A capture with its packets."""
+
+    name: str
+    octets: bytes
+    packets: Sequence[Packet]
+
+
+def has_scapy() -> bool:
+    """Returns whether scapy is installed."""
+    logging.getLogger("scapy").setLevel(logging.ERROR)
+    return importlib.util.find_spec("scapy") is not None
+
+
+def number_in(text: str) -> int | None:
+    """Returns a field of tshark's as a number, or None if it is missing."""
+    return WORDS[text] if text in WORDS else int(text, 0)
+
+
+def expect_line(where: str, line: str, packet: Packet) -> None:
+    """Compares a line of tshark with its packet."""
+    octets = packet.octets
+    time, *fields, bitmap = line.split(";")
+    expect(f"{where}, time", round(float(time) * MICROSECONDS), packet.seconds * MICROSECONDS + packet.fraction)
+    kind, retry, more, malformed, severity, *numbers = [number_in(field) for field in fields]
+    if malformed is not None or (severity or 0) >= ERROR:
+        raise Difference(f"{where}: tshark reports an error: {line}")
+    expect(f"{where}, bits Retry and More Data", (retry, more), (octets[1] >> 3 & 1, octets[1] >> 5 & 1))
+    expect(f"{where}, kind", kind, KINDS[octets[0]])
+    listed = [int(word) for word in name_of(octets).split() if word.isdigit()]
+    expect(f"{where}, numbers", numbers, [*listed, None, None] if octets[0] == DATA_KIND else [None, None, *listed])
+    if octets[0] == BLOCK_ACK_KIND:
+        expect(f"{where}, bitmap", bytes.fromhex(bitmap.replace(":", "")), octets[20:])
+
+
+def read_by_tshark(capture: Capture, path: Path) -> None:
+    """Has tshark read a capture. It does not know BlockAcks of 256 numbers, so of these it only counts packets."""
+    words = ["tshark", "-r", str(path), "--disable-protocol", "llc", "-T", "fields", "-E", "separator=;", "-E", "occurrence=f"]
+    words += [word for name in FIELDS for word in ("-e", name)]
+    lines = subprocess.run(words, capture_output=True, check=True, text=True).stdout.splitlines()
+    expect(f"{capture.name}: packets read by tshark", len(lines), len(capture.packets))
+    if not is_wide(capture.packets):
+        for number, (line, packet) in enumerate(zip(lines, capture.packets, strict=True), 1):
+            expect_line(f"{capture.name}, packet {number}", line, packet)
+
+
+def read_by_scapy(capture: Capture, path: Path) -> None:
+    """Has scapy read a capture."""
+    from scapy.all import Dot11, Dot11QoS, rdpcap
+
+    for read, packet in zip(rdpcap(str(path)), capture.packets, strict=True):
+        octets = packet.octets
+        expect(f"{capture.name}: octets", bytes(read), octets)
+        expect(f"{capture.name}: time", read.time * MICROSECONDS, packet.seconds * MICROSECONDS + packet.fraction)
+        expect(f"{capture.name}: bit Retry", int(bool(read[Dot11].FCfield.retry)), octets[1] >> 3 & 1)
+        if octets[0] == DATA_KIND:
+            numbers = int.from_bytes(octets[22:24], "little") >> 4, octets[24] & 15
+            expect(f"{capture.name}: sequence number and TID", (read[Dot11].SC >> 4, read[Dot11QoS].TID), numbers)
+
+
+def dump(packets: Sequence[Packet]) -> str:
+    """Returns packets in the form that text2pcap reads."""
+    lines = [f"{at:06x} {packet.octets[at:at + 16].hex(' ')}" for packet in packets for at in range(0, len(packet.octets), 16)]
+    return "".join(line + "\n" for line in lines)
+
+
+def by_text2pcap(packets: Sequence[Packet], folder: Path) -> Path | None:
+    """Returns a capture of these packets that text2pcap wrote, or None if it is missing."""
+    if shutil.which("text2pcap") is None:
+        return None
+    text, made = folder / "dump.txt", folder / "made.pcap"
+    text.write_text(dump(packets), encoding="ascii")
+    subprocess.run(["text2pcap", "-q", "-F", "pcap", "-l", "105", text, made], capture_output=True, check=True)
+    return made
+
+
+def by_editcap(made: Path, folder: Path) -> Path | None:
+    """Returns a capture turned to nanoseconds by editcap, or None if it is missing."""
+    if shutil.which("editcap") is None:
+        return None
+    turned = folder / "turned.pcap"
+    subprocess.run(["editcap", "-F", "nsecpcap", made, turned], capture_output=True, check=True)
+    return turned
+
+
+def by_scapy(folder: Path) -> Path | None:
+    """Returns a capture that scapy wrote, of a data frame, a request and an Ack, or None if it is missing."""
+    if not has_scapy():
+        return None
+    from scapy.all import Dot11, Dot11QoS, Raw, wrpcap
+
+    made = folder / "scapy.pcap"
+    addresses = {"addr1": "02:00:00:01:00:00", "addr2": "02:00:00:00:00:00", "addr3": "02:00:00:02:00:00"}
+    frame = Dot11(type=2, subtype=8, FCfield="from-DS", SC=16 * 777, **addresses)
+    wrpcap(str(made), [frame / Dot11QoS(TID=6) / Raw(b"hello"), Raw(REQUEST), Raw(ACK)], linktype=105)
+    return made

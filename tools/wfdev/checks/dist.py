@@ -1,0 +1,171 @@
+"""Makes the archives of `./wf dist` twice, unpacks them in empty folders, and runs the commands of README.md
+there.
+
+Both runs have to make the same octets, and all checksums have to be right. The unpacked sources run by the
+unpacked program, without the kit. A program in C is built with the unpacked library, if there are a compiler
+and pkg-config. The check is skipped if the program or the library that is built from these sources is not
+proved; with --unproved it takes those that are not proved. """
+import hashlib
+import os
+import re
+import shutil
+import subprocess
+import sys
+import tarfile
+import tempfile
+from collections.abc import Iterator, Mapping, Sequence
+from pathlib import Path
+
+from wfdev.checks import pages
+from wfdev.harness.script import Difference, Script, expect
+from wfdev.repo import paths, programs
+
+SCRIPT = Script("dist")
+SUMS = "SHA256SUMS"
+SECONDS = 1200
+# Folders with tools of the system: the kit is not among them.
+TOOLS = "/usr/local/bin:/usr/bin:/bin"
+# Commands of the page that need more than was unpacked, or minutes.
+LEFT_OUT = re.compile(r"^rt |\./wf (?:build|lib|install|dist|sim)\b")
+SMALL = paths.CHECKS / "install.d"
+
+
+def run(words: Sequence[str | Path], folder: Path, variables: Mapping[str, str]) -> str:
+    """Returns the output of a command. Raises Difference if it fails."""
+    done = subprocess.run(
+        list(
+            map(str, words)
+        ), cwd=folder, env=variables, capture_output=True, text=True, timeout=SECONDS, check=False
+    )
+    if done.returncode:
+        raise Difference(
+            f"{' '.join(map(str, words))} ended with {done.returncode}:\n{done.stdout}{done.stderr}"[:4000]
+        )
+    return done.stdout
+
+
+def require_built(kinds: Sequence[str]) -> None:
+    """Skips the check if the program or the library is not of one of these kinds."""
+    for words, what in ((["which"], "program"), (["which", "--library"], "library")):
+        done = subprocess.run(
+            [paths.SCRIPT, *words], env=programs.environment(), capture_output=True, text=True, check=False
+        )
+        kind = done.stdout.partition(" ")[0]
+        if kind not in kinds:
+            SCRIPT.skip(
+                f"no {'proved ' if kinds == ['proved'] else ''}{what} is built from these sources (./wf "
+                "build and ./wf lib)"
+            )
+
+
+def make(folder: Path, flags: Sequence[str]) -> dict[str, bytes]:
+    """Makes the archives in a folder, and returns the octets of all files by their names."""
+    run([paths.SCRIPT, "--quiet", "dist", folder, *flags], paths.TOP, programs.environment())
+    return {path.name: path.read_bytes() for path in folder.iterdir()}
+
+
+def check_sums(folder: Path) -> int:
+    """Checks the checksums that a folder lists, and returns how many they are."""
+    lines = paths.read(folder / SUMS).splitlines()
+    for line in lines:
+        total, _, name = line.partition("  ")
+        expect(f"the checksum of {name}", hashlib.sha256((folder / name).read_bytes()).hexdigest(), total)
+    return len(lines)
+
+
+def unpack(archive: Path, folder: Path) -> Path:
+    """Unpacks an archive in an empty folder, and returns the one folder that it has."""
+    with tarfile.open(archive) as tar:
+        tar.extractall(folder, filter="data")
+    (top,) = folder.iterdir()
+    return top
+
+
+def commands(page: str) -> Iterator[pages.Example]:
+    """Yields the commands of a page: those with their output, and those in other blocks, whose output may be
+    any."""
+    yield from pages.examples(page)
+    for block in re.findall(r"^```\n(.*?)^```", page, re.M | re.S):
+        yield from (pages.Example(line, [pages.ANY]) for line in block.splitlines() if line)
+
+
+def run_page(source: Path, variables: Mapping[str, str]) -> int:
+    """Runs the commands of README.md at the top of the unpacked sources, and returns how many there are."""
+    count = 0
+    for example in commands(paths.read(source / "README.md")):
+        if LEFT_OUT.search(example.command):
+            continue
+        written = run(["bash", "-c", example.command], source, variables)
+        if not pages.fits(example.wanted, written.splitlines()):
+            raise Difference(f"{example.command}: another output than README.md shows:\n{written}"[:4000])
+        count += 1
+    return count
+
+
+def build_in_c(prefix: Path, room: Path, variables: Mapping[str, str]) -> str:
+    """Builds and runs a small program with the unpacked library, and returns a message about it."""
+    missing = [tool for tool in ("cc", "pkg-config") if shutil.which(tool, path=TOOLS) is None]
+    if missing:
+        return f"nothing was built in C, since there is no {missing[0]}"
+    known = {
+        **variables,
+        "PKG_CONFIG_PATH": str(prefix / "lib" / "pkgconfig"),
+        "LD_LIBRARY_PATH": str(prefix / "lib"),
+    }
+    line = (
+        f"cc -std=c99 $(pkg-config --cflags wf) '{SMALL / 'small.c'}' $(pkg-config --libs wf) -o small && "
+        "./small"
+    )
+    expect(
+        "what a program in C writes", run(["bash", "-c", line], room, known), paths.read(SMALL / "small.out")
+    )
+    return "a program in C was built and run"
+
+
+def try_archives(room: Path, flags: Sequence[str]) -> None:
+    """Makes the archives, and tries what they have."""
+    first = make(room / "first", flags)
+    second = make(room / "second", flags)
+    expect("the files that differ in a second run", [name for name in first if second.get(name) != first[name]], [])
+    check_sums(room / "first")
+    source, binary = sorted((name for name in first if name != SUMS), key=len)
+    prefix, sources = unpack(room / "first" / binary, room / "root"), unpack(
+        room / "first" / source, room / "sources"
+    )
+    count = check_sums(prefix)
+    program = prefix / "bin" / "wf"
+    variables = {
+        "PATH": f"{program.parent}:{os.path.dirname(sys.executable)}:{TOOLS}",
+        "HOME": str(room),
+        "WF_PROGRAM": str(program),
+    }
+    example = paths.EXAMPLES / "one-frame"
+    wanted = paths.read(example.with_suffix(".out"))
+    expect(
+        "the installed program", run(["bash", "-c", f"wf replay <'{example}.trace'"], room, variables), wanted
+    )
+    ran = run_page(sources, variables)
+    SCRIPT.say(
+        f"{binary}: {count} checksums, {ran} commands of README.md; {build_in_c(prefix, room, variables)}"
+    )
+
+
+def main(words: Sequence[str] | None = None) -> int:
+    """Makes and tries the archives, and returns the exit status."""
+    parser = SCRIPT.parser(__doc__)
+    parser.add_argument(
+        "--unproved", action="store_true", help="take a program and a library that are not proved, too"
+    )
+    flags = ["--unproved"] if parser.parse_args(words).unproved else []
+    SCRIPT.require("readelf", "cc")
+    require_built(["proved", "unproved", "named"] if flags else ["proved"])
+    try:
+        with tempfile.TemporaryDirectory(prefix="wf-dist-") as folder:
+            try_archives(Path(folder), flags)
+    except Difference as difference:
+        SCRIPT.fail(difference)
+    return 0
+
+
+if __name__ == "__main__":
+    sys.exit(main())

@@ -1,0 +1,306 @@
+"""Draws valid traces of all calls, with settings and arguments at their edges. Most calls are not refused."""
+import itertools
+import random
+from collections.abc import Iterator, Mapping, Sequence
+from dataclasses import dataclass, field
+
+from wfdev.model.calls import FORMS
+from wfdev.model.codel import SLOW, USUAL
+from wfdev.model.frames import Class
+from wfdev.model.grammar import LONGEST_LINE, Argument, NumberIn, OneOf
+from wfdev.model.machine import LEAST_DEFICIT, MOST_AIR, MOST_TICK, Machine
+from wfdev.model.rates import CARRIERS, MOST_MCS, SYMBOL, Format
+from wfdev.model.settings import RANGES
+from wfdev.model.text import Player
+
+GUARDS = {800: "long", 400: "short"}
+# Values of a setting that are drawn often, besides its least, its most, and any.
+LIKELY = {
+    "stations": (2, 4, 17),
+    "flows": (1, 2, 3, 8),
+    "limit": (1, 2, 5, 20, 60),
+    "room": (1, 3, 20, 100),
+    "inflight": (2, 3, 8),
+    "attempts": (1, 2, 3),
+    "agg": (1, 2, 4, 64),
+    "sleeping": (1, 2, 3),
+    "charge": (1, 3000, 65_535),
+}
+# How often a setting is in a head, if not three times in ten. With little room most calls do nothing.
+CHANCE = {"stations": 0.6, "room": 0.06, "limit": 0.25, "calls": 0.0}
+WAITING = {"stations": 0.6, "room": 0.0, "limit": 0.0, "calls": 0.0, "agg": 0.8}
+WINDOWS = (1, 2, 3, 8, 63, 64, 65, 100, 255, 256)
+BAD_WINDOWS = (0, 257, 65_535)
+STARTS = (0, 1, 100, 4000, 4090, 4094, 4095)
+TICKS = (0, 1, 1000, 5000, 19_999, 20_000, 20_001, 50_000, 99_999, 100_000, 300_000, 1_600_000, 10_000_000)
+SOME = (*range(10), 16, 17, 20, 40, 64, 80, 160, 256, 257, 800, 1600, 4095, 4096, 10_000_000, 10_000_001)
+LENGTHS = (1, 2, 64, 100, 700, 1500, 1500, 2303, 2304)
+AIRS = (1, 100, 5000, 65_535)
+KINDS = "join leave rate tick burst pull arrive answer done play sleep wake poll rx reap wild".split()
+
+
+def head(draw: random.Random, chances: Mapping[str, float]) -> str:
+    """Returns a head with some settings, by the chance of each."""
+    line = "cell"
+    for name, values in draw.sample(list(RANGES.items()), len(RANGES)):
+        if draw.random() < chances.get(name, 0.3):
+            edge = draw.choice((values[0], values[-1], draw.choice(values)))
+            value = draw.choice((*LIKELY.get(name, ()), edge))
+            if len(f"{line} {name}={value}") <= LONGEST_LINE:
+                line += f" {name}={value}"
+    return line
+
+
+def rate_words(draw: random.Random) -> str:
+    """Returns the words of a rate, or of numbers that are none."""
+    form = draw.choice(list(Format))
+    is_good = draw.random() < 0.9
+    mcs = draw.choice((0, 0, 7, draw.randint(0, MOST_MCS[form]), MOST_MCS[form] + (not is_good)))
+    width = draw.choice((20, 20, *CARRIERS[form]) if is_good else (0, 20, 30, 80, 160, 255))
+    guard = draw.choice(list(SYMBOL[form] if is_good else SYMBOL[Format.VHT]))
+    streams = draw.choice((1, 1, 2, draw.randint(1, 8)) if is_good else (0, 1, 9, 255))
+    if form is Format.HT:
+        return f"{mcs} {width} {GUARDS[guard]}"
+    return f"{form.value} {mcs} {width} {guard if form is Format.HE else GUARDS[guard]} {streams}"
+
+
+def word_for(draw: random.Random, argument: Argument, usual: Sequence[int]) -> str:
+    """Returns a word that the grammar takes for an argument: often a usual one, or one at an edge."""
+    if isinstance(argument, OneOf):
+        return draw.choice(argument.words)
+    assert isinstance(argument, NumberIn)
+    least, most = argument.values[0], argument.values[-1]
+    taken = [number for number in usual if number in argument.values]
+    return str(draw.choice((*taken, *taken, least, least + 1, most, draw.randint(least, most))))
+
+
+def wild(draw: random.Random, usual: Sequence[int]) -> str:
+    """Returns any call with any words that its grammar takes."""
+    name, forms = draw.choice(list(FORMS.items()))
+    form = draw.choice(list(forms))
+    count = len(form.arguments) - draw.randint(0, form.optional)
+    return " ".join([name, *(word_for(draw, argument, usual) for argument in form.arguments[:count])])
+
+
+@dataclass
+class Maker:
+    """Makes a trace. It plays the trace on the model, so that it knows which calls are of use."""
+
+    draw: random.Random
+    player: Player = field(default_factory=Player)
+    lines: list[str] = field(default_factory=list)
+    weights: list[float] = field(init=False)
+
+    def __post_init__(self) -> None:
+        draw = self.draw
+        does_wait = draw.random() < 0.35
+        self.write(head(draw, WAITING if does_wait else CHANCE))
+        self.weights = [draw.choice((0.05, 0.3, 1, 1, 3)) for _ in KINDS]
+        self.set_weights(join=0.1, leave=0.05, rate=0.2, sleep=0.15, wake=0.3, poll=0.4)
+        self.set_weights(play=3.0, answer=0.4, rx=0.1, reap=0.3, wild=0.05)
+        count = self.machine.settings.stations
+        drawn = [draw.randrange(count) for _ in range(draw.choice((1, 2, 3, 6)))]
+        self.stations = sorted({*drawn, count - 1})
+        self.flows = draw.choice((1, 3, 20))
+        self.tids = draw.choice(([0], [0, 3], [0, 1, 2], list(range(8))))
+        self.lengths = draw.choice(((1500,), LENGTHS, (1, 60), (2304,)))
+        self.ticks = draw.choice((TICKS, TICKS[:4], TICKS[2:9]))
+        self.arrives, self.hears = draw.choice((1.0, 0.9, 0.5, 0.1)), draw.choice((1.0, 0.9, 0.5, 0.1))
+        self.windows = draw.choice((WINDOWS, (64,), (1, 2, 3), (256, 65)))
+        self.exponent = draw.choice((None, 3))
+        self.bursts: Sequence[int] = (1, 1, 2, 5, 20)
+        self.most_queued = 10_000
+        if does_wait:
+            self.wait_long()
+
+    def wait_long(self) -> None:
+        """Has frames of few flows wait so long that CoDel drops some."""
+        self.weights = [0.05] * len(KINDS)
+        self.set_weights(tick=40, burst=20, play=60, leave=4, sleep=0.1, wild=0.2)
+        self.stations = self.stations[: self.draw.randint(1, 2)]
+        self.bursts, self.most_queued = (1, 2, 5, 20), self.draw.choice((4, 10, 40))
+        self.flows, self.tids = self.draw.choice((1, 2)), self.draw.choice(([0], [0, 3]))
+        self.lengths = self.draw.choice(((1500,), (1152,), (2304, 1), (768, 1536)))
+        self.ticks = self.draw.choice(((1, 1000, 5000), (5000, 20_000, 50_000), (50_000, 100_000)))
+        self.arrives = self.hears = 1.0
+
+    def set_weights(self, **factors: float) -> None:
+        """Multiplies the weights of some kinds."""
+        for kind, factor in factors.items():
+            self.weights[KINDS.index(kind)] *= factor
+
+    @property
+    def machine(self) -> Machine:
+        """The model's machine."""
+        assert self.player.machine is not None
+        return self.player.machine
+
+    def write(self, line: str) -> str:
+        """Adds a line, and returns the model's answer."""
+        self.lines.append(line)
+        return self.player.play(line.encode())
+
+    def station(self) -> int:
+        """Returns mostly a station that is live."""
+        live = list(self.machine.stations)
+        return self.draw.choice(live if live and self.draw.random() < 0.97 else self.stations)
+
+    def exchange(self) -> int:
+        """Returns mostly an open exchange."""
+        opened = list(self.machine.exchanges)
+        is_open = bool(opened) and self.draw.random() < 0.97
+        return self.draw.choice(opened) if is_open else max(0, self.machine.pulled - 1)
+
+    def access(self) -> Class:
+        """Returns a class, mostly one that lists a station."""
+        listed = [one for one, rotation in self.machine.rotations.items() if rotation.keys()]
+        return self.draw.choice(listed if listed and self.draw.random() < 0.9 else list(Class))
+
+    def event(self) -> Iterator[str]:
+        """Yields the lines of the next event."""
+        (kind,) = self.draw.choices(KINDS, self.weights)
+        if not self.machine.stations and self.draw.random() < 0.7:
+            kind = "join"
+        yield from getattr(self, f"make_{kind}")()
+
+    def make_join(self) -> Iterator[str]:
+        """Yields a join, mostly of a station that is not live."""
+        out = [one for one in self.stations if one not in self.machine.stations]
+        station = self.draw.choice(out if out and self.draw.random() < 0.95 else self.stations)
+        window = self.draw.choice(self.windows if self.draw.random() < 0.97 else BAD_WINDOWS)
+        exponent = self.draw.randint(0, 3) if self.exponent is None else self.exponent
+        weight = self.draw.choice(("", "", " 1", " 2", " 3", " 16"))
+        yield f"join {station} {window} {self.draw.choice(STARTS)} {exponent}{weight}"
+
+    def make_leave(self) -> Iterator[str]:
+        """Yields a leave, often after the open exchanges are over."""
+        station = self.station()
+        if self.draw.random() < 0.8:
+            for number, one in list(self.machine.exchanges.items()):
+                if one.station == station:
+                    yield f"done {number} lost"
+        yield f"leave {station}"
+
+    def make_rate(self) -> Iterator[str]:
+        """Yields a rate."""
+        yield f"rate {self.station()} {rate_words(self.draw)}"
+
+    def make_tick(self) -> Iterator[str]:
+        """Yields a tick: often one after which CoDel decides otherwise, or one less."""
+        ends = [end - before - self.machine.now for end in self.codel_ends() for before in (0, 1)]
+        good = [by for by in ends if 0 <= by <= MOST_TICK]
+        yield f"tick {self.draw.choice(good if good and self.draw.random() < 0.5 else self.ticks)}"
+
+    def codel_ends(self) -> Iterator[int]:
+        """Yields the times at which CoDel's tests of a queue change."""
+        for queue in self.machine.queues.queues.values():
+            for frame in itertools.islice(queue.frames, 2):
+                yield from (frame.stamp + one.target for one in (USUAL, SLOW))
+            state = queue.codel
+            if queue.frames and state.first_above:
+                yield state.first_above
+            if queue.frames and state.dropping:
+                yield state.drop_next
+            if state.first_above and not state.dropping and state.count > state.last_count + 1:
+                # (the only ends that matter now; several, so that one of them is likely)
+                ends = [state.drop_next + 16 * one.interval for one in (USUAL, SLOW)]
+                yield from [end for end in ends if end >= state.first_above] * 3
+
+    def make_burst(self) -> Iterator[str]:
+        """Yields frames of one station, and often of one flow, if not too many are queued."""
+        if self.machine.queues.held > self.most_queued:
+            return
+        station, tid, flow = self.station(), self.draw.choice(self.tids), self.draw.randrange(self.flows)
+        for _ in range(self.draw.choice(self.bursts)):
+            if self.draw.random() < 0.2:
+                tid, flow = self.draw.choice(self.tids), self.draw.randrange(self.flows)
+            yield f"enq {station} {tid} {flow} {self.draw.choice(self.lengths)}"
+
+    def make_pull(self) -> Iterator[str]:
+        """Yields a pull."""
+        yield f"pull {self.access()}"
+
+    def make_arrive(self) -> Iterator[str]:
+        """Yields an arrival."""
+        number = self.exchange()
+        opened = self.machine.exchanges.get(number)
+        count = opened.transmissions if opened else 0
+        yield f"arrive {number} {self.draw.randrange(max(1, count + (self.draw.random() < 0.1)))}"
+
+    def make_answer(self) -> Iterator[str]:
+        """Yields an answer."""
+        yield f"answer {self.exchange()}"
+
+    def make_done(self) -> Iterator[str]:
+        """Yields the end of an exchange, sometimes with an airtime."""
+        number = self.exchange()
+        opened = self.machine.exchanges.get(number)
+        is_heard = opened is not None and opened.answer is not None and self.draw.random() < self.hears
+        most = self.machine.settings.charge
+        has_air = self.draw.random() < (0.5 if most else 0.02)
+        air = f" air {self.draw.choice((1, most, most + 1, 1 + most // 2))}" if has_air else ""
+        yield f"done {number} {'heard' if is_heard or self.draw.random() < 0.02 else 'lost'}{air}"
+
+    def make_play(self) -> Iterator[str]:
+        """Yields a pull, and mostly the whole exchange."""
+        before = self.machine.pulled
+        yield f"pull {self.access()}"
+        for number in list(self.machine.exchanges) if self.machine.pulled > before else ():
+            if self.draw.random() < 0.8:
+                opened = self.machine.exchanges[number]
+                for index in range(opened.transmissions):
+                    if self.draw.random() < self.arrives:
+                        yield f"arrive {number} {index}"
+                yield f"answer {number}"
+                is_heard = opened.answer is not None and self.draw.random() < self.hears
+                yield f"done {number} {'heard' if is_heard else 'lost'}"
+
+    def make_sleep(self) -> Iterator[str]:
+        """Yields a sleep."""
+        yield f"sleep {self.station()}"
+
+    def make_wake(self) -> Iterator[str]:
+        """Yields a wake, mostly of a station that sleeps."""
+        asleep = [held.number for held in self.machine.stations.values() if held.asleep]
+        yield f"wake {self.draw.choice(asleep) if asleep and self.draw.random() < 0.9 else self.station()}"
+
+    def make_poll(self) -> Iterator[str]:
+        """Yields a poll, mostly of a station that sleeps, and often the pull that it is for."""
+        asleep = [held.number for held in self.machine.stations.values() if held.asleep]
+        station = self.draw.choice(asleep) if asleep and self.draw.random() < 0.9 else self.station()
+        yield f"poll {station}"
+        held = self.machine.stations.get(station)
+        if held is not None and held.credit is not None:
+            kind = self.draw.random()
+            if kind < 0.5:
+                yield f"pull {held.credit}"
+            elif kind < 0.75:
+                yield from (f"wake {station}", f"sleep {station}", f"poll {station}")
+
+    def make_rx(self) -> Iterator[str]:
+        """Yields a receive charge, or charges down to the greatest debt."""
+        station, access = self.station(), self.draw.choice(list(Class))
+        yield f"rx {station} {access} {self.draw.choice(AIRS)}"
+        if self.draw.random() < 0.1 and station in self.machine.stations:
+            deficits = self.machine.rotations[access].deficits
+            while (left := deficits[station] - LEAST_DEFICIT) >= MOST_AIR:
+                yield f"rx {station} {access} {MOST_AIR}"
+            yield from (f"rx {station} {access} {air}" for air in (left + 1, left, 1) if air > 0)
+
+    def make_reap(self) -> Iterator[str]:
+        """Yields a few reaps."""
+        yield from ["reap"] * self.draw.choice((1, 3, 10))
+
+    def make_wild(self) -> Iterator[str]:
+        """Yields any call."""
+        yield wild(self.draw, (*self.stations, *SOME))
+
+
+def made(draw: random.Random, size: int) -> bytes:
+    """Returns a trace of this many calls."""
+    maker = Maker(draw)
+    while maker.machine.calls < size:
+        for line in maker.event():
+            maker.write(f"@{draw.randint(0, 65_535)} {line}" if draw.random() < 0.02 else line)
+    maker.write("end")
+    return ("\n".join(maker.lines) + "\n").encode()

@@ -1,0 +1,41 @@
+"""Runs the built program against a hostile outside, and prints a table.
+
+Each command runs with standard output full, closed early and a terminal; with standard input closed, a directory, given octet
+by octet, cut after each octet, and without an end; with a signal in mid-run; and with limits of memory (`ulimit -v`), in steps
+of 2 kB around the least that is enough, and of stack (`ulimit -s`, from 128 kB). A run is good if its status and its line on
+standard error are those that docs/TRACE.md gives, and the output is a prefix of the whole text.
+"""
+import sys
+from collections.abc import Sequence
+
+from wfdev.checks.hostile import limits, outside
+from wfdev.checks.hostile.case import subject_of
+from wfdev.harness import commands
+from wfdev.harness.script import Script
+
+SCRIPT = Script("hostile")
+SIZES = {"soak": ["1", "2000"], "live": ["7", "4", "50"]}
+
+
+def main(words: Sequence[str] | None = None) -> int:
+    """Runs all cases and returns the exit status."""
+    parser = SCRIPT.parser(__doc__)
+    parser.add_argument("names", nargs="*", metavar="COMMAND", help="the commands to run (default: all)")
+    parser.add_argument("--limits", action="store_true", help="only those with limits of memory and stack")
+    asked = parser.parse_args(words)
+    program, bad = SCRIPT.program().path, 0
+    print("| Command | Against | Runs | Status (runs) | Result |\n|---|---|---|---|---|")
+    for command in commands.all_of(program, SIZES):
+        if asked.names and command.name not in asked.names:
+            continue
+        subject = subject_of(program, command)
+        kinds = [*outside.ALWAYS, *(outside.WITH_INPUT if subject.reads else [])]
+        for kind in [*([] if asked.limits else kinds), *limits.ALL]:
+            case = kind(subject)
+            bad += case.bad
+            print(case.row(), flush=True)
+    return SCRIPT.ended(bad)
+
+
+if __name__ == "__main__":
+    sys.exit(main())

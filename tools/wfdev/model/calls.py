@@ -1,0 +1,62 @@
+"""The lines of calls: TRACE.md, the table of Lines."""
+from wfdev.model.frames import Class
+from wfdev.model.grammar import Form, NumberIn, OneOf
+from wfdev.model.rates import LONG, SHORT, Format, Rate, ht
+
+OCTET, SHORT_NUMBER, LONG_NUMBER = NumberIn(range(2**8)), NumberIn(range(2**16)), NumberIn(range(2**32))
+STATION, EXCHANGE = SHORT_NUMBER, LONG_NUMBER
+CLASS = OneOf(tuple(Class))
+GUARD = OneOf(("long", "short"))
+HEARD = OneOf(("heard", "lost"))
+LENGTH = NumberIn(range(1, 2305))
+NANOSECONDS = {"long": LONG, "short": SHORT}
+
+
+def ht_values(station: int, mcs: int, mhz: int, guard: str) -> tuple[object, ...]:
+    """Returns the values of a rate of HT."""
+    return station, ht(mcs, mhz, NANOSECONDS[guard])
+
+
+def vht_values(station: int, _: str, mcs: int, mhz: int, guard: str, streams: int) -> tuple[object, ...]:
+    """Returns the values of a rate of VHT."""
+    return station, Rate(Format.VHT, mcs, mhz, NANOSECONDS[guard], streams)
+
+
+def he_values(station: int, _: str, mcs: int, mhz: int, guard: int, streams: int) -> tuple[object, ...]:
+    """Returns the values of a rate of HE."""
+    return station, Rate(Format.HE, mcs, mhz, guard, streams)
+
+
+def done_values(exchange: int, heard: str, _: str, air: int) -> tuple[object, ...]:
+    """Returns the values of a done with its airtime."""
+    return exchange, heard, air
+
+
+VHT = (STATION, OneOf(("vht",)), OCTET, OCTET, GUARD, OCTET)
+HE = (STATION, OneOf(("he",)), OCTET, OCTET, SHORT_NUMBER, OCTET)
+
+# The forms of each line; a line has the first that is meant by its words.
+FORMS = {
+    "join": [Form((STATION, SHORT_NUMBER, SHORT_NUMBER, OCTET, OCTET), optional=1)],
+    "leave": [Form((STATION,))],
+    "rate": [
+        Form(VHT, mark=(1, "vht"), values=vht_values),
+        Form(HE, mark=(1, "he"), values=he_values),
+        Form((STATION, OCTET, OCTET, GUARD), values=ht_values),
+    ],
+    "tick": [Form((LONG_NUMBER,))],
+    "enq": [Form((STATION, OCTET, LONG_NUMBER, LENGTH))],
+    "pull": [Form((CLASS,))],
+    "arrive": [Form((EXCHANGE, SHORT_NUMBER))],
+    "answer": [Form((EXCHANGE,))],
+    "done": [
+        Form((EXCHANGE, HEARD, OneOf(("air",)), LONG_NUMBER), mark=(2, "air"), values=done_values),
+        Form((EXCHANGE, HEARD)),
+    ],
+    "sleep": [Form((STATION,))],
+    "wake": [Form((STATION,))],
+    "poll": [Form((STATION,))],
+    "rx": [Form((STATION, CLASS, LONG_NUMBER))],
+    "reap": [Form()],
+}
+LINES = {**FORMS, "end": [Form()]}

@@ -1,0 +1,361 @@
+"""The fourteen calls: MACHINE.md, from the table of calls to Power save.
+
+The method of a call begins with its refusals in the order of the table. A refused call raises `Refused`. It
+changes nothing, except if it is `idle`.
+"""
+from collections import deque
+from dataclasses import dataclass, field
+
+from wfdev.model import rates
+from wfdev.model.answers import (
+    Accepted,
+    Answer,
+    Ba,
+    Done,
+    Number,
+    Polled,
+    Reaped,
+    Refused,
+    Released,
+    Send,
+    Word,
+    refuse,
+)
+from wfdev.model.grammar import Call
+from wfdev.model.codel import SLOW, USUAL
+from wfdev.model.frames import CLASS_OF, CLASS_TIDS, NUMBERS, TIDS, Class, Fate, Frame
+from wfdev.model.queues import Queues
+from wfdev.model.rates import Bounds, Rate
+from wfdev.model.rotation import Rotation
+from wfdev.model.session import Ended
+from wfdev.model.settings import Settings
+from wfdev.model.stations import Exchange, Station
+
+MOST_TICK = 10_000_000
+MOST_WINDOW, MOST_EXPONENT, MOST_WEIGHT, MOST_AIR = 256, 3, 16, 65_535
+LEAST_DEFICIT = -1_000_000
+POLL_ORDER = (Class.VO, Class.VI, Class.BE, Class.BK)
+
+
+@dataclass
+class Machine:
+    """The whole machine: the clock, stations, queues, rotations, exchanges and frames."""
+
+    settings: Settings
+    now: int = 0
+    calls: int = 0
+    stations: dict[int, Station] = field(default_factory=dict)
+    queues: Queues = field(init=False)
+    rotations: dict[Class, Rotation] = field(default_factory=lambda: {one: Rotation() for one in Class})
+    exchanges: dict[int, Exchange] = field(default_factory=dict)
+    pulled: int = 0
+    frames: list[Frame] = field(default_factory=list)
+    finished: deque[Frame] = field(default_factory=deque)
+    reaped: int = 0
+
+    def __post_init__(self) -> None:
+        self.queues = Queues(self.settings)
+
+    def step(self, call: Call) -> Answer:
+        """Makes a call. Refused or not, it is one entry of the history."""
+        self.calls += 1
+        try:
+            answer: Answer = getattr(self, call.name)(*call.values)
+        except Refused as refused:
+            return refused
+        return answer
+
+    # Refusals that several calls have.
+
+    def numbered(self, station: int) -> None:
+        """Refuses a station number that is too high."""
+        refuse("bad-station", station >= self.settings.stations)
+
+    def live(self, station: int) -> Station:
+        """Returns a live station, or refuses the call."""
+        refuse("no-station", station not in self.stations)
+        return self.stations[station]
+
+    def opened(self, exchange: int) -> Exchange:
+        """Returns an open exchange, or refuses the call."""
+        refuse("no-exchange", exchange not in self.exchanges)
+        return self.exchanges[exchange]
+
+    # Stations and clock.
+
+    def join(self, station: int, window: int, start: int, exponent: int, weight: int = 1) -> Answer:
+        """A station joins."""
+        self.numbered(station)
+        refuse("bad-window", not 1 <= window <= MOST_WINDOW)
+        refuse("bad-start", start >= NUMBERS)
+        refuse("bad-exponent", exponent > MOST_EXPONENT)
+        refuse("bad-weight", not 1 <= weight <= MOST_WEIGHT)
+        refuse("live", station in self.stations)
+        self.stations[station] = Station(station, window, start, exponent, weight)
+        for rotation in self.rotations.values():
+            rotation.deficits[station] = self.quantum(station)
+        self.list_ready(station)
+        return Word("joined")
+
+    def leave(self, station: int) -> Answer:
+        """A station leaves."""
+        self.numbered(station)
+        held = self.live(station)
+        count = sum(one.station == station for one in self.exchanges.values())
+        refuse("open", count > 0, count)
+        frames: list[Frame] = []
+        for tid, session in enumerate(held.sessions):
+            frames += [session.slots[number].frame for number in session.waiting()]
+            frames += self.queues.purge((station, tid))
+        self.finish(frames, Fate.LEFT)
+        for rotation in self.rotations.values():
+            rotation.remove(station)
+        del self.stations[station]
+        return Number("left", len(frames))
+
+    def rate(self, station: int, rate: Rate) -> Answer:
+        """A station is sent to at this rate from now on."""
+        self.numbered(station)
+        refuse("bad-rate", not rate.exists())
+        self.live(station).rate = rate
+        self.list_ready(station)
+        return Word("set")
+
+    def tick(self, by: int) -> Answer:
+        """The clock moves on."""
+        refuse("bad-tick", by > MOST_TICK)
+        self.now += by
+        return Number("now", self.now)
+
+    # Enqueueing a frame.
+
+    def enq(self, station: int, tid: int, flow: int, length: int) -> Answer:
+        """A frame comes for a station."""
+        self.numbered(station)
+        refuse("bad-tid", tid >= TIDS)
+        held = self.live(station)
+        inside = len(self.frames) - self.reaped
+        refuse("room", inside >= self.settings.room, inside)
+        queued = sum(self.queues.frames((station, one)) for one in CLASS_TIDS[CLASS_OF[tid]])
+        refuse("sleeping", held.asleep and queued >= self.settings.sleeping, queued)
+        frame = Frame(len(self.frames), length, self.now)
+        self.frames.append(frame)
+        dropped = self.queues.put((station, tid), flow, frame)
+        if dropped is not None:
+            self.finish([dropped], Fate.OVERLIMIT)
+        self.list_ready(station)
+        return Accepted(frame.id, None if dropped is None else dropped.id)
+
+    def finish(self, frames: list[Frame], fate: Fate) -> None:
+        """Gives frames their fate, and puts them last on the finished list."""
+        for frame in frames:
+            frame.fate = fate
+            self.finished.append(frame)
+
+    # The pick, and who is ready.
+
+    def quantum(self, station: int) -> int:
+        """Returns the quantum of a station."""
+        return self.settings.quantum * self.stations[station].weight
+
+    def can_send(self, station: int, tid: int) -> bool:
+        """Returns whether a TID can send."""
+        session = self.stations[station].sessions[tid]
+        if session.request_is_due():
+            of_tid = [one for one in self.exchanges.values() if (one.station, one.tid) == (station, tid)]
+            return all(one.request is None for one in of_tid)
+        return bool(session.waiting()) or (self.queues.frames((station, tid)) > 0 and session.has_room())
+
+    def is_ready(self, station: int, access: Class) -> bool:
+        """Returns whether a station is ready in a class."""
+        held = self.stations.get(station)
+        if held is None or not (not held.asleep or held.credit is access):
+            return False
+        return any(self.can_send(station, tid) for tid in CLASS_TIDS[access])
+
+    def list_ready(self, station: int) -> None:
+        """Lists the station that a call concerned in each class in which it is ready and unlisted."""
+        for access, rotation in self.rotations.items():
+            if self.is_ready(station, access) and not rotation.lists(station):
+                rotation.add(station)
+
+    # Pull.
+
+    def pull(self, access: str) -> Answer:
+        """The driver asks for the next exchange of a class."""
+        one = Class(access)
+        count = sum(CLASS_OF[exchange.tid] is one for exchange in self.exchanges.values())
+        refuse("full", count >= self.settings.inflight, count)
+        winner = self.rotations[one].pick(self.quantum, lambda station: self.is_ready(station, one))
+        if winner is None:
+            raise Refused("idle")
+        held = self.stations[winner]
+        tid = held.turns[one]
+        other = next(other for other in CLASS_TIDS[one] if other != tid)
+        if not self.can_send(winner, tid):
+            tid, other = other, tid
+        held.turns[one] = other
+        return self.send(held, tid)
+
+    def send(self, held: Station, tid: int) -> Answer:
+        """Makes the exchange of a TID that can send."""
+        session = held.sessions[tid]
+        number, self.pulled = self.pulled, self.pulled + 1
+        if session.request_is_due():
+            exchange = Exchange(held.number, tid, rates.request_charge(held.window), [], session.start)
+        else:
+            numbers = self.aggregate(held, tid)
+            charge = rates.data_charge(held.rate, [session.length(one) for one in numbers], held.window)
+            exchange = Exchange(held.number, tid, charge, numbers)
+        self.exchanges[number] = exchange
+        held.credit = None
+        pairs = tuple((session.slots[one].frame.id, one) for one in exchange.numbers)
+        more = held.asleep and exchange.request is None and self.holds_more(held)
+        self.list_ready(held.number)
+        return Send(number, held.number, tid, exchange.charge, pairs, exchange.request, more)
+
+    def aggregate(self, held: Station, tid: int) -> list[int]:
+        """Makes an aggregate of waiting numbers and fresh frames, and returns its numbers."""
+        session, owner = held.sessions[tid], (held.number, tid)
+        bounds = Bounds(1 if held.asleep else self.settings.agg, held.exponent, held.rate, self.settings.cap)
+        numbers: list[int] = []
+        all_fit = True
+        for number in session.waiting():
+            all_fit = all_fit and bounds.fits([session.length(one) for one in [*numbers, number]])
+            if all_fit:
+                numbers.append(number)
+        while all_fit and len(numbers) < bounds.agg and self.queues.frames(owner) and session.has_room():
+            number = session.add(self.take(held, tid))
+            all_fit = bounds.fits([session.length(one) for one in [*numbers, number]])
+            if all_fit:
+                numbers.append(number)
+        for number in numbers:
+            session.fly(number)
+        return numbers
+
+    def take(self, held: Station, tid: int) -> Frame:
+        """Takes the next frame of a TID."""
+        parameters = SLOW if held.rate.is_slow else USUAL
+        frame, dropped = self.queues.take((held.number, tid), self.now, parameters)
+        self.finish(dropped, Fate.CODEL)
+        return frame
+
+    # Exchanges.
+
+    def arrive(self, exchange: int, index: int) -> Answer:
+        """One transmission of an exchange reached its station."""
+        one = self.opened(exchange)
+        refuse("bad-index", index >= one.transmissions)
+        refuse("answered", one.answer is not None)
+        refuse("arrived", index in one.arrived)
+        one.arrived.add(index)
+        held = self.stations[one.station]
+        receiver = held.receivers[one.tid]
+        if one.request is not None:
+            passed = receiver.request(one.request)
+        else:
+            number = one.numbers[index]
+            passed = receiver.data(number, held.sessions[one.tid].slots[number].frame.id)
+        self.list_ready(one.station)
+        return Released(tuple(passed))
+
+    def answer(self, exchange: int) -> Answer:
+        """The station answers an exchange with a BlockAck."""
+        one = self.opened(exchange)
+        refuse("answered", one.answer is not None)
+        refuse("nothing", not one.arrived)
+        held = self.stations[one.station]
+        one.answer = held.receivers[one.tid].answer()
+        self.list_ready(one.station)
+        return Ba(one.answer, held.is_wide)
+
+    def done(self, exchange: int, heard: str, air: int | None = None) -> Answer:
+        """An exchange ends, with its answer heard or lost."""
+        one = self.opened(exchange)
+        refuse("no-answer", heard == "heard" and one.answer is None)
+        refuse("bad-air", air is not None and not 1 <= air <= self.settings.charge)
+        del self.exchanges[exchange]
+        self.charge(one, one.charge if air is None else air)
+        session = self.stations[one.station].sessions[one.tid]
+        answer = one.answer if heard == "heard" else None
+        if one.request is not None and answer is not None:
+            session.hear_request(one.request)
+        ended = {Ended.ACKED: 0, Ended.WAITING: 0, Ended.FAILED: 0}
+        for number in one.numbers:
+            frame, is_shown = session.slots[number].frame, answer is not None and number in answer.shown
+            how = session.end(number, is_shown, self.settings.attempts)
+            ended[how] += 1
+            if how is not Ended.WAITING:
+                self.finish([frame], Fate.ACKED if how is Ended.ACKED else Fate.RETRIES)
+        self.list_ready(one.station)
+        return Done(ended[Ended.ACKED], ended[Ended.WAITING], ended[Ended.FAILED])
+
+    def charge(self, one: Exchange, air: int) -> None:
+        """Charges the airtime of an exchange."""
+        access = CLASS_OF[one.tid]
+        self.rotations[access].deficits[one.station] -= air
+        self.stations[one.station].charged[access] += air
+
+    # Receive charges.
+
+    def rx(self, station: int, access: str, air: int) -> Answer:
+        """A station used airtime to send in a class."""
+        self.numbered(station)
+        refuse("bad-air", not 1 <= air <= MOST_AIR)
+        held = self.live(station)
+        one = Class(access)
+        deficits = self.rotations[one].deficits
+        refuse("debt", deficits[station] - air < LEAST_DEFICIT, deficits[station])
+        deficits[station] -= air
+        held.received[one] += air
+        self.list_ready(station)
+        return Number("charged", deficits[station])
+
+    # Power save.
+
+    def sleep(self, station: int) -> Answer:
+        """A station goes to sleep."""
+        self.numbered(station)
+        held = self.live(station)
+        refuse("asleep", held.asleep)
+        held.asleep = True
+        self.list_ready(station)
+        return Word("slept")
+
+    def wake(self, station: int) -> Answer:
+        """A station wakes."""
+        self.numbered(station)
+        held = self.live(station)
+        refuse("awake", not held.asleep)
+        held.asleep, held.credit = False, None
+        self.list_ready(station)
+        return Word("woken")
+
+    def poll(self, station: int) -> Answer:
+        """A sleeping station asks for one frame."""
+        self.numbered(station)
+        held = self.live(station)
+        refuse("awake", not held.asleep)
+        refuse("polled", held.credit is not None)
+        can = [one for one in POLL_ORDER if any(self.can_send(station, tid) for tid in CLASS_TIDS[one])]
+        refuse("nothing", not can)
+        held.credit = can[0]
+        self.list_ready(station)
+        return Polled(can[0])
+
+    def holds_more(self, held: Station) -> bool:
+        """Returns whether a station has a waiting number or a queued frame on some TID."""
+        of_queues = (self.queues.frames((held.number, tid)) for tid in range(TIDS))
+        return any(session.waiting() for session in held.sessions) or any(of_queues)
+
+    def announced(self) -> list[int]:
+        """Returns the AIDs whose bits the TIM has set."""
+        asleep = [held for held in self.stations.values() if held.asleep]
+        return [held.number + 1 for held in asleep if self.holds_more(held)]
+
+    def reap(self) -> Answer:
+        """The caller takes the next finished frame."""
+        refuse("nothing", not self.finished)
+        frame = self.finished.popleft()
+        self.reaped += 1
+        return Reaped(frame.id, frame.fate)

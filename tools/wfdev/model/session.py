@@ -1,0 +1,98 @@
+"""The access point's side of one TID's block acknowledgement: MACHINE.md, Windows and numbers, and Exchanges.
+
+Numbers grow without bound; on the air they are modulo 4096.
+"""
+import enum
+from dataclasses import dataclass, field
+
+from wfdev.model.frames import Frame
+
+
+class State(enum.Enum):
+    """The state of a number that is not settled."""
+
+    WAITING = "waiting"
+    FLYING = "flying"
+
+
+class Ended(enum.Enum):
+    """The outcome of a transmission for its number."""
+
+    ACKED = "acked"
+    WAITING = "waiting"
+    FAILED = "failed"
+
+
+@dataclass
+class Slot:
+    """A number that is not settled: its frame, and how often it was sent in vain."""
+
+    frame: Frame
+    state: State
+    attempts: int = 0
+
+
+@dataclass
+class Session:
+    """The window of a TID. `next` is N, and `asked` is R in MACHINE.md."""
+
+    window: int
+    first: int
+    slots: dict[int, Slot] = field(default_factory=dict)
+    failed: set[int] = field(default_factory=set)
+    next: int = field(init=False)
+    asked: int = field(init=False)
+
+    def __post_init__(self) -> None:
+        self.next = self.asked = self.first
+
+    @property
+    def start(self) -> int:
+        """F: the first number that is neither acknowledged nor failed."""
+        return min(self.slots, default=self.next)
+
+    def has_room(self) -> bool:
+        """Returns whether a fresh number is inside the window."""
+        return self.next < self.start + self.window
+
+    def request_is_due(self) -> bool:
+        """Returns whether the receiver may wait for a number that failed."""
+        start = self.start
+        return any(self.asked <= number < start for number in self.failed)
+
+    def waiting(self) -> list[int]:
+        """Returns the numbers that wait, from the lowest up."""
+        return sorted(number for number, slot in self.slots.items() if slot.state is State.WAITING)
+
+    def length(self, number: int) -> int:
+        """Returns the length of a number's body."""
+        return self.slots[number].frame.length
+
+    def add(self, frame: Frame) -> int:
+        """Gives a fresh frame the next number, which waits."""
+        number, self.next = self.next, self.next + 1
+        self.slots[number] = Slot(frame, State.WAITING)
+        return number
+
+    def fly(self, number: int) -> None:
+        """Sends a number."""
+        self.slots[number].state = State.FLYING
+
+    def end(self, number: int, is_shown: bool, attempts: int) -> Ended:
+        """Ends a transmission of a number; it fails with this many attempts in vain."""
+        slot = self.slots[number]
+        if is_shown:
+            del self.slots[number]
+            return Ended.ACKED
+        slot.attempts += 1
+        if slot.attempts >= attempts:
+            del self.slots[number]
+            self.failed.add(number)
+            return Ended.FAILED
+        slot.state = State.WAITING
+        return Ended.WAITING
+
+    def hear_request(self, start: int) -> None:
+        """Ends a request with this start as heard."""
+        self.asked = max(self.asked, start)
+        self.failed = {number for number in self.failed if number >= self.asked}

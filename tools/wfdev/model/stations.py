@@ -1,0 +1,63 @@
+"""A live station, and the exchanges with it: MACHINE.md, Stations and clock, and Exchanges."""
+from dataclasses import dataclass, field
+
+from wfdev.model.frames import CLASS_TIDS, TIDS, Class
+from wfdev.model.rates import LOWEST, NARROW_WINDOW, Rate
+from wfdev.model.receiver import BlockAck, Receiver
+from wfdev.model.session import Session
+
+
+def zeros() -> dict[Class, int]:
+    """Returns a 0 for each class."""
+    return dict.fromkeys(Class, 0)
+
+
+def first_turns() -> dict[Class, int]:
+    """Returns the lower TID of each class."""
+    return {one: min(tids) for one, tids in CLASS_TIDS.items()}
+
+
+@dataclass
+class Station:
+    """A live station. `turns` has the TID whose turn it is in each class; `credit` is the class of a poll."""
+
+    number: int
+    window: int
+    first: int
+    exponent: int
+    weight: int
+    rate: Rate = LOWEST
+    asleep: bool = False
+    credit: Class | None = None
+    turns: dict[Class, int] = field(default_factory=first_turns)
+    charged: dict[Class, int] = field(default_factory=zeros)
+    received: dict[Class, int] = field(default_factory=zeros)
+    sessions: list[Session] = field(init=False)
+    receivers: list[Receiver] = field(init=False)
+
+    def __post_init__(self) -> None:
+        self.sessions = [Session(self.window, self.first) for _ in range(TIDS)]
+        self.receivers = [Receiver(self.window, self.first) for _ in range(TIDS)]
+
+    @property
+    def is_wide(self) -> bool:
+        """Whether the sessions are wide."""
+        return self.window > NARROW_WINDOW
+
+
+@dataclass
+class Exchange:
+    """An open exchange: numbers of data, or a request if it has a start; what arrived, and its BlockAck."""
+
+    station: int
+    tid: int
+    charge: int
+    numbers: list[int]
+    request: int | None = None
+    arrived: set[int] = field(default_factory=set)
+    answer: BlockAck | None = None
+
+    @property
+    def transmissions(self) -> int:
+        """The number of transmissions."""
+        return len(self.numbers) if self.request is None else 1

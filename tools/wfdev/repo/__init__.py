@@ -1,0 +1,1 @@
+"""The repository as the scripts know it: folders, crates, sources, programs and generated pages."""

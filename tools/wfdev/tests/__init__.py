@@ -1,0 +1,1 @@
+"""Tests of this package. checks/self-tests runs them."""

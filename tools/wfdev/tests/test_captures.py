@@ -1,0 +1,48 @@
+"""Tests of the model in checks/captures."""
+import unittest
+
+from wfdev.checks.captures import air, model
+
+
+class Listing(unittest.TestCase):
+    def test_five_packets(self) -> None:
+        self.assertEqual(
+            model.listing(model.capture(model.FIVE)),
+            [
+                "0 0 len 40 data tid 7 seq 100",
+                "0 1976 len 28 ba tid 0 start 100",
+                "2 100 len 20 bar tid 5 start 4095",
+                "2 148 len 52 ba tid 3 start 100",
+                "3 0 len 10 other",
+                "packets 5",
+            ],
+        )
+
+    def test_faults_of_the_header(self) -> None:
+        whole = model.header()
+        cases = {
+            whole[:23]: "short",
+            b"\0" + whole[1:]: "magic",
+            whole[:4] + b"\3" + whole[5:]: "version",
+            whole[:20] + b"\1" + whole[21:]: "link",
+        }
+        for octets, fault in cases.items():
+            self.assertEqual(model.listing(octets), [f"fault packet 0 {fault}"])
+
+    def test_faults_of_packets(self) -> None:
+        whole = model.capture(model.FIVE[:1])
+        self.assertEqual(model.listing(whole[:-1]), ["fault packet 1 short"])
+        self.assertEqual(model.listing(whole + bytes(15), 7)[-1], "fault packet 8 short")
+        long = model.Packet(0, 0, bytes(model.LONGEST + 1)).packed("<")
+        self.assertEqual(model.listing(model.header() + long), ["fault packet 1 long"])
+
+    def test_a_trace_goes_on_the_air(self) -> None:
+        trace = "cell\njoin 0 64 7 3\nenq 0 0 5 2\ntick 1000001\npull be\nend\n"
+        answers = "joined\naccepted 0\nnow 1000001\nsend 0 sta 0 tid 0 air 100 data 0:7\n"
+        (packet,) = air.on_air(trace, answers)
+        self.assertEqual((packet.seconds, packet.fraction, packet.octets[-2:]), (1, 1, b"\5\6"))
+        self.assertEqual(model.name_of(packet.octets), "data tid 0 seq 7")
+
+
+if __name__ == "__main__":
+    unittest.main()

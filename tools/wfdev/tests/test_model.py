@@ -1,0 +1,85 @@
+"""Tests of wfdev.model on the worked rows, on the traces of examples, and on the rows of durations."""
+import csv
+import unittest
+from collections.abc import Callable
+
+from wfdev.checks import worked
+from wfdev.checks.fuzz import scripts, subjects
+from wfdev.checks.fuzz.subjects import Ended
+from wfdev.model.rates import LOWEST, Bounds, Format, Rate
+from wfdev.model.settings import RANGES, Settings
+from wfdev.model.text import replay
+from wfdev.model.tim import tim
+from wfdev.repo import paths
+
+COMMANDS: dict[tuple[str, ...], Callable[[bytes], Ended]] = {
+    ("replay",): subjects.replay,
+    ("replay", "--pcap"): subjects.replay_pcap,
+    ("frames",): subjects.frames,
+    ("session",): scripts.session,
+    ("uplink",): scripts.uplink,
+}
+LEAST_ROWS = 200
+MOST_HT_MCS = 15
+
+
+class Worked(unittest.TestCase):
+    def test_rows_are_as_worked_out(self) -> None:
+        count = 0
+        for row in worked.rows():
+            answer = COMMANDS.get(tuple(row.command))
+            if answer:
+                with self.subTest(row.name):
+                    written, status = answer(worked.octets_of(worked.ROWS / f"{row.name}.in"))
+                    self.assertEqual(status, row.status)
+                    self.assertTrue(worked.is_as_wanted(row, written), written[-500:])
+                    count += 1
+        self.assertGreater(count, LEAST_ROWS)
+
+    def test_examples_are_as_they_say(self) -> None:
+        for trace in sorted(paths.EXAMPLES.glob("*.trace")):
+            with self.subTest(trace.name):
+                written, status = replay(trace.read_bytes())
+                self.assertEqual(written, paths.read(trace.with_suffix(".out")))
+                self.assertEqual(status, int(worked.octets_of(trace.with_suffix(".status")) or 0))
+
+
+class Rates(unittest.TestCase):
+    def test_times_are_those_of_the_rows(self) -> None:
+        for path in sorted((paths.CHECKS / "durations.d").glob("*.csv")):
+            for row in csv.DictReader(paths.read(path).splitlines()):
+                mcs, mhz, guard, streams = (int(row[name]) for name in ("mcs", "mhz", "guard_ns", "streams"))
+                rate = Rate(Format(row["format"]), mcs, mhz, guard, streams)
+                if rate.form is not Format.HT or mcs <= MOST_HT_MCS:
+                    self.assertTrue(rate.exists(), rate)
+                    self.assertEqual(rate.kbps, int(row["kbps"]), rate)
+                    self.assertEqual(rate.time(int(row["octets"])), int(row["us"]), rate)
+
+    def test_a_frame_of_any_length_fits_alone(self) -> None:
+        self.assertTrue(Bounds(agg=1, exponent=0, rate=LOWEST, cap=3000).fits([2304]))
+
+
+class Settled(unittest.TestCase):
+    def test_standard_values_are_in_their_ranges(self) -> None:
+        self.assertTrue(all(getattr(Settings(), name) in values for name, values in RANGES.items()))
+
+    def test_the_table_of_the_page_has_the_same_settings(self) -> None:
+        told: dict[str, list[str]] = {}
+        for line in paths.read(paths.DOCS / "TRACE.md").splitlines():
+            name, *cells = (cell.strip(" `") for cell in line.strip("|").split("|"))
+            if name in RANGES:
+                told[name] = cells[:2]
+        for name, values in RANGES.items():
+            self.assertEqual(told[name], [str(getattr(Settings(), name)), f"{values[0]}..{values[-1]}"], name)
+
+
+class Announced(unittest.TestCase):
+    def test_the_bitmap_is_cut_at_both_ends(self) -> None:
+        self.assertEqual(tim([]).hex(), "050400010000")
+        self.assertEqual(tim([1]).hex(), "050400010002")
+        self.assertEqual(tim([31, 33]).hex(), "0506000102" + "008002")
+        self.assertEqual(tim([256]).hex(), "05040001" + "20" + "01")
+
+
+if __name__ == "__main__":
+    unittest.main()

@@ -1,0 +1,298 @@
+"""Tests of the package traces: lines, pairs, answers, what follows from them, and the pictures. No program
+runs."""
+import re
+import unittest
+import xml.etree.ElementTree
+
+from wfdev.repo import paths
+from wfdev.traces import calls, captures, explain, lines, replies, rules, runs, shown, timeline
+from wfdev.traces.ledger import Ledger
+
+EXAMPLES = sorted(path.stem for path in paths.EXAMPLES.glob("*.trace"))
+
+
+def events(name: str, size: int = 1000) -> list[runs.Event]:
+    """Returns the events of an example, read in blocks of this size."""
+    pairs, cutter, trace = runs.Pairs(), lines.Cutter(), lines.Trace()
+    octets = (paths.EXAMPLES / f"{name}.trace").read_bytes()
+    for at in range(0, len(octets), size):
+        pairs.add([trace.line(line) for line in cutter.cut(octets[at : at + size])])
+    pairs.add([trace.line(line) for line in cutter.rest()])
+    written = (paths.EXAMPLES / f"{name}.out").read_bytes().splitlines()
+    return [event for line in written for event in pairs.events(line)]
+
+
+def booked(name: str) -> Ledger:
+    """Returns what follows from the answers of an example."""
+    book = Ledger({})
+    for event in events(name):
+        if isinstance(event, runs.Headed):
+            book = Ledger(calls.read_head(event.line.text))
+        if isinstance(event, runs.Answered):
+            book.take(calls.read(event.line.text), replies.read(event.answer))
+    return book
+
+
+def explained(name: str) -> str:
+    """Returns the explanation of an example."""
+    how = explain.Explain()
+    return how.shown(events(name)) + how.ended()
+
+
+class Lines(unittest.TestCase):
+    def test_blocks_of_each_size_have_the_same_lines(self) -> None:
+        octets = b"cell\n\n  # comment\n @3 tick 5 \nend\nafter\nlast"
+        wanted = [b"cell", b"", b"  # comment", b" @3 tick 5 ", b"end", b"after", b"last"]
+        for size in range(1, len(octets) + 1):
+            cutter = lines.Cutter()
+            found = [
+                line for at in range(0, len(octets), size) for line in cutter.cut(octets[at : at + size])
+            ]
+            self.assertEqual(found + cutter.rest(), wanted, size)
+
+    def test_parts(self) -> None:
+        trace = lines.Trace()
+        found = [
+            trace.line(line).part.name for line in (b"#", b"", b"cell", b" #x", b"@1 end", b"  end ", b"reap")
+        ]
+        self.assertEqual(found, ["SKIPPED", "SKIPPED", "HEAD", "SKIPPED", "CALL", "END", "AFTER"])
+
+    def test_octets_that_a_terminal_would_obey_are_escapes(self) -> None:
+        line = lines.Trace().line(b"cell \x1b[2J\r\xff~")
+        self.assertEqual(line.text, "cell \\x1b[2J\\x0d\\xff~")
+
+    def test_a_long_line_is_kept_in_part(self) -> None:
+        cutter = lines.Cutter()
+        for _ in range(1000):
+            self.assertEqual(cutter.cut(b"x" * 1000), [])
+        self.assertEqual(cutter.cut(b"\ny\n"), [b"x" * lines.KEPT, b"y"])
+        self.assertEqual(cutter.rest(), [])
+
+
+class Pairs(unittest.TestCase):
+    def test_each_answer_has_its_call_in_every_example(self) -> None:
+        for name in EXAMPLES:
+            for size in (1, 7, 100_000):
+                found = events(name, size)
+                for event in found:
+                    if isinstance(event, runs.Answered):
+                        kinds = {"refused", replies_of(calls.read(event.line.text).kind)}
+                        self.assertIn(event.answer.split()[0], kinds, (name, event))
+                text = shown.Echo().shown(found)
+                self.assertEqual(
+                    re.sub(r"^> .*\n", "", text, flags=re.M), paths.read(paths.EXAMPLES / f"{name}.out")
+                )
+
+    def test_a_fault_after_the_last_line_has_no_line(self) -> None:
+        pairs, trace = runs.Pairs(), lines.Trace()
+        pairs.add([trace.line(b"cell")])
+        found = list(pairs.events(b"fault line 2 no-end"))
+        self.assertEqual([type(event) for event in found], [runs.Headed, runs.Faulted])
+        self.assertEqual(found[1], runs.Faulted(None, "fault line 2 no-end"))
+
+    def test_a_fault_of_the_head_and_of_a_comment(self) -> None:
+        for bad in (b"cell flows=0", b"# \xff"):
+            pairs, trace = runs.Pairs(), lines.Trace()
+            pairs.add([trace.line(line) for line in (b"# good", bad, b"end")])
+            (found,) = pairs.events(b"fault line 2 range")
+            assert isinstance(found, runs.Faulted) and found.line
+            self.assertEqual(found.line.octets, bad)
+
+
+def replies_of(kind: str) -> str:
+    """Returns the kind of the answers to a kind of call."""
+    names = "join leave rate tick enq pull arrive answer done sleep wake poll rx reap".split()
+    answers = "joined left set now accepted send released ba done slept woken polled charged reaped".split()
+    return dict(zip(names, answers))[kind]
+
+
+class Fields(unittest.TestCase):
+    """The header has the names of the fields."""
+
+    def struct(self, name: str) -> set[str]:
+        """Returns the fields of a struct of the header."""
+        text = paths.read(paths.HEADER)
+        body = re.search(rf"^struct {name} \{{\n(.*?)^\}};", text, re.M | re.S)
+        assert body
+        return set(
+            re.findall(r"^\s*\w+ (\w+)(?:\[\d+\])?;", re.sub(r"/\*.*?\*/", "", body[1], flags=re.S), re.M)
+        )
+
+    def test_answers(self) -> None:
+        texts = ["joined", "left 3", "set", "now 5", "accepted 1", "accepted 4 dropped 2", "released 1 2"]
+        texts += ["send 0 sta 1 tid 2 air 3 data 4:5 6:7 more", "send 0 sta 1 tid 2 air 80 bar 9"]
+        texts += ["ba 100 00000000000000ff", "ba 1 " + "0" * 63 + "5", "done acked 1 waiting 2 failed 3"]
+        texts += ["slept", "woken", "polled be", "charged -5", "reaped 3 codel"]
+        texts += ["refused open 2", "refused debt -7", "refused idle"]
+        nested = {"frames": "wf_frames", "passed_up": "wf_passed_up", "block": "wf_block"}
+        for text in texts:
+            reply = replies.read(text)
+            self.assertLessEqual(set(reply.fields) - set(nested), self.struct("wf_reply"), text)
+            for name in set(nested) & set(reply.fields):
+                self.assertEqual(set(reply.fields[name]), self.struct(nested[name]), text)
+        kinds = set(re.findall(r"WF_KIND_(\w+) = ", paths.read(paths.HEADER)))
+        self.assertEqual({replies.read(text).kind.upper() for text in texts}, kinds)
+
+    def test_values(self) -> None:
+        found = replies.read("send 9 sta 1 tid 2 air 3 data 4:5 6:7 more")
+        self.assertEqual(found.frames, [(4, 5), (6, 7)])
+        self.assertTrue(found.fields["more"])
+        self.assertEqual(replies.read("refused debt -7").fields, {"refusal": "debt", "deficit": -7})
+        block = replies.read("ba 1 " + "0" * 15 + "3" + "0" * 47 + "5").fields["block"]
+        self.assertEqual(
+            block, {"bits": ["0" * 15 + "5", "0" * 16, "0" * 16, "0" * 15 + "3"], "start": 1, "wide": True}
+        )
+
+    def test_calls(self) -> None:
+        texts = ["join 1 64 0 3", "join 1 64 0 3 2", "leave 1", "rate 1 7 20 short", "rate 1 vht 9 80 long 2"]
+        texts += ["rate 1 he 11 160 800 2", "tick 5", "@7 enq 1 0 3 100", "pull be", "arrive 0 1", "answer 0"]
+        texts += ["done 0 heard", "done 0 lost air 90", "sleep 1", "wake 1", "poll 1", "rx 1 vo 9", "reap"]
+        for text in texts:
+            self.assertLessEqual(set(calls.read(text).fields), self.struct("wf_call"), text)
+        self.assertEqual(calls.read("join 1 64 0 3").fields["weight"], 1)
+        self.assertEqual(calls.read("rate 1 he 11 160 800 2").fields["guard"], 800)
+        self.assertEqual(calls.read("done 0 lost air 90").fields, {"exchange": 0, "heard": False, "air": 90})
+        self.assertEqual(calls.read("@7 reap").caller, 7)
+
+    def test_summary_of_every_example(self) -> None:
+        for name in EXAMPLES:
+            texts = [event.text for event in events(name) if isinstance(event, runs.Summed)]
+            found = replies.read_summary(texts)
+            if name != "fault":
+                self.assertEqual(
+                    set(found),
+                    {"kind", "shares", "calls", "now", "tally", "held", "exchanges", "open", "tim"},
+                    name,
+                )
+                self.assertEqual(set(found["tally"]), self.struct("wf_tally"))
+                for share in found["shares"]:
+                    self.assertEqual(set(share) - {"station", "class_"}, self.struct("wf_share"))
+
+
+class Follows(unittest.TestCase):
+    def test_the_deficits_of_every_summary(self) -> None:
+        for name in EXAMPLES:
+            book = booked(name)
+            texts = [event.text for event in events(name) if isinstance(event, runs.Summed)]
+            for share in replies.read_summary(texts)["shares"]:
+                station = book.stations[share["station"]]
+                self.assertEqual(station.used[share["class_"]], share["charged"] + share["rx"], name)
+                quantum = book.quantum(station)
+                self.assertEqual(
+                    book.deficit_when_picked(station, share["class_"]),
+                    (share["deficit"] - 1) % quantum + 1,
+                    name,
+                )
+
+    def test_the_frames_of_every_summary(self) -> None:
+        for name in EXAMPLES:
+            texts = [event.text for event in events(name) if isinstance(event, runs.Summed)]
+            if name != "fault":
+                found, book = replies.read_summary(texts), booked(name)
+                held = sum(1 for frame in book.frames.values() if not frame.fate)
+                self.assertEqual((held, len(book.open)), (found["held"], found["open"]), name)
+
+
+class Explained(unittest.TestCase):
+    def test_a_pull_says_how_the_deficit_came_about(self) -> None:
+        told = " ".join(explained("lost-acknowledgement").split())
+        self.assertIn(
+            "That of station 0 was 124 us: 300 at the join, less 1976 charged, plus 6 quanta of 300.", told
+        )
+        self.assertIn("sent again: frame 0 (transmission 2)", told)
+        self.assertIn("without the answer the sender does not know", told)
+
+    def test_a_pull_says_what_else_could_be_picked(self) -> None:
+        told = " ".join(explained("two-rates").split())
+        self.assertIn("Station 0 also holds 2 frames of the class, and 1976 us were charged to it", told)
+
+    def test_a_refusal_has_its_rule_with_its_numbers(self) -> None:
+        told = " ".join(explained("leaving-station").split())
+        self.assertIn("Call: Station 3 leaves. Refused: The station has 1 open exchanges. Nothing has changed.", told)
+        told = " ".join(explained("sleeping-station").split())
+        self.assertIn("Station 0 holds 2 frames of the class, but sleeps and has no credit for it.", told)
+
+    def test_the_page_has_each_refusal(self) -> None:
+        self.assertEqual(len(rules.table()), 27)
+        said = rules.rule("room", 9, {"room": 9})
+        self.assertEqual(said, "9 frames are accepted and not yet reaped: as many as room (9).")
+
+    def test_each_call_of_each_example_has_a_paragraph(self) -> None:
+        for name in EXAMPLES:
+            count = sum(isinstance(event, runs.Answered) for event in events(name))
+            self.assertGreaterEqual(len(re.findall(r"^line \d+: ", explained(name), re.M)), count)
+
+
+class Pictures(unittest.TestCase):
+    def drawn(self, name: str) -> tuple[timeline.Timeline, xml.etree.ElementTree.Element]:
+        """Returns the timeline of an example and its picture."""
+        made = timeline.Timeline()
+        made.take(events(name))
+        return made, xml.etree.ElementTree.fromstring(made.text())
+
+    def test_a_bar_for_each_exchange_and_marks_for_losses(self) -> None:
+        made, root = self.drawn("lost-requests")
+        looks = [
+            part.get("class") for part in root.iter("{http://www.w3.org/2000/svg}rect") if part.get("class")
+        ]
+        self.assertEqual(
+            looks[len(timeline.LOOKS) :], ["part", "unheard", "unheard", "unheard", "request", "open"]
+        )
+        marks = [
+            part.get("class") for part in root.iter("{http://www.w3.org/2000/svg}path") if part.get("class")
+        ]
+        self.assertEqual(marks[2:], ["lost"] * 4)
+        self.assertEqual([bar.begin for bar in made.bars], [0, 3868, 3948, 4028, 4108, 4188])
+
+    def test_a_frame_that_is_sent_again_is_marked(self) -> None:
+        _, root = self.drawn("lost-acknowledgement")
+        marks = [
+            part.get("class") for part in root.iter("{http://www.w3.org/2000/svg}path") if part.get("class")
+        ]
+        self.assertEqual(marks[2:], ["again"])
+
+    def test_axes_have_titles_and_grey_looks_differ(self) -> None:
+        _, root = self.drawn("weights")
+        texts = [part.text for part in root.iter("{http://www.w3.org/2000/svg}text")]
+        for title in ("time, ms", "station", *timeline.LOOKS.values()):
+            self.assertIn(title, texts)
+        self.assertEqual(len(list(root.iter("{http://www.w3.org/2000/svg}pattern"))), 3)
+
+    def test_a_trace_without_calls(self) -> None:
+        xml.etree.ElementTree.fromstring(timeline.Timeline().text())
+
+    def test_ticks(self) -> None:
+        for last, wanted in ((1, 0.2), (8000, 1000), (8001, 2000), (33_000, 5000), (1_000_000, 200_000)):
+            self.assertAlmostEqual(timeline.step(last), wanted)
+
+
+class Captures(unittest.TestCase):
+    HEAD = bytes.fromhex("d4c3b2a1 02000400 00000000 00000000 ffff0000 7f000000")
+
+    def test_each_kind_says_what_was_found(self) -> None:
+        packet = bytes(16) + bytes.fromhex("00001200")
+        big = bytes.fromhex("a1b2c3d4 00020003 00000000 00000000 0000ffff 00000001")
+        for kind, number, head, wanted in (
+            ("link", 0, self.HEAD + packet, "'editcap -F pcap -C 18 -T ieee-802-11 IN OUT'"),
+            ("link", 0, self.HEAD, "-C LENGTH"),
+            ("link", 0, big, "the link type is 1, packets of Ethernet: expected 105"),
+            ("version", 0, big, "version 2.3: expected 2.4; convert it with"),
+            (
+                "magic",
+                0,
+                b"\x0a\x0d\x0d\x0a",
+                "pcapng; convert it with 'editcap -F pcap IN OUT' or 'tshark -r IN -F pcap -w OUT'",
+            ),
+            ("magic", 0, b"\x1f\x8b\x08\x00", "gunzip"),
+            ("magic", 0, b"# a trace\ncell\n", "it is a text: expected a capture"),
+            ("magic", 0, b"\x00\x01\x02\x03", "begins with the octets 00 01 02 03"),
+            ("short", 0, b"\xd4\xc3", "the input has 2 octets"),
+            ("short", 3, self.HEAD, "ends inside packet 3"),
+            ("long", 3, self.HEAD, "the header of packet 3"),
+            ("too-big", 3, self.HEAD, "packet 3 does not end"),
+        ):
+            self.assertIn(wanted, captures.explained(kind, number, head), kind)
+
+
+if __name__ == "__main__":
+    unittest.main()

@@ -1,0 +1,355 @@
+"""The output of `./wf explain`: a paragraph for each call, with the question, the answer and the reason.
+
+It says only what follows from the text of the calls and answers and from the rules of docs/MACHINE.md.
+"""
+from __future__ import annotations
+
+import textwrap
+from collections.abc import Callable, Iterable
+
+from . import calls, replies, rules
+from .calls import Call
+from .ledger import Exchange, Ledger, Station
+from .replies import Reply
+from .runs import Answered, Event, Faulted, Headed, Summed
+
+WIDTH = 100
+INDENT = "    "
+OTHERS = 4
+INTRODUCTION = """The script ./wf says this from the text of the calls and answers; it is not proved. No
+answer shows when CoDel drops a frame, so such a frame counts as held here until it is reaped.
+
+"""
+CLASS_NAMES = {"bk": "background", "be": "best effort", "vi": "video", "vo": "voice"}
+FAULTY = "The line has a fault, so the run ends before it. './wf help faults' lists the kinds."
+FATES = {
+    "acked": "it was acknowledged",
+    "overlimit": "it was dropped because the flow queues held `limit` frames",
+    "codel": "CoDel dropped it",
+    "retries": "it was sent `attempts` times and never acknowledged",
+    "left": "it was dropped when its station left",
+}
+
+
+def count(number: int, thing: str) -> str:
+    """Returns a number of things."""
+    return f"{number} {thing}" if number == 1 else f"{number} {thing}s"
+
+
+def listed(items: Iterable[str]) -> str:
+    """Returns items as a list in a sentence."""
+    *first, last = items
+    return f"{', '.join(first)} and {last}" if first else last
+
+
+class Explain:
+    """Explains the events of a run."""
+
+    def __init__(self) -> None:
+        self._book = Ledger({})
+        self._summary: list[str] = []
+
+    def shown(self, events: Iterable[Event]) -> str:
+        """Returns the text for the next events."""
+        return "".join(self._event(event) for event in events)
+
+    def ended(self) -> str:
+        """Returns the text that follows the last event."""
+        return paragraph("summary", self._summary, said_of_summary(self._summary)) if self._summary else ""
+
+    def _event(self, event: Event) -> str:
+        match event:
+            case Headed(line):
+                self._book = Ledger(calls.read_head(line.text))
+                return INTRODUCTION
+            case Answered(line, answer):
+                call, reply = calls.read(line.text), replies.read(answer)
+                head = f"line {line.number}: {line.text.strip()}"
+                return paragraph(head, [answer], f"Call: {ASKED[call.kind](call)}", self._answer(call, reply))
+            case Faulted(line, text):
+                head = f"line {line.number}: {line.text.strip()}" if line else "the end of the trace"
+                return paragraph(head, [text], FAULTY)
+            case Summed(text):
+                self._summary.append(text)
+                return ""
+
+    def _answer(self, call: Call, reply: Reply) -> str:
+        if reply.refusal:
+            return refused(call, reply, self._book)
+        exchange = self._book.take(call, reply)
+        return f"Answer: {ANSWERED[call.kind](call, reply, self._book, exchange)}"
+
+
+def paragraph(head: str, answers: list[str], *texts: str) -> str:
+    """Returns a paragraph: the call, its answer, and texts about them."""
+    lines = [head, *(f"  {answer}" for answer in answers)]
+    for text in texts:
+        lines += textwrap.wrap(text, WIDTH, initial_indent=INDENT, subsequent_indent=INDENT)
+    return "\n".join(lines) + "\n\n"
+
+
+def station_of(call: Call) -> str:
+    """Returns the name of a call's station."""
+    return f"station {call.number('station')}"
+
+
+def rate_of(call: Call) -> str:
+    """Returns a rate in words."""
+    form = call.word("form")
+    guard = f"{call.number('guard')} ns" if form == "he" else "short" if call.fields[
+        "short_guard"
+    ] else "long"
+    streams = f", {count(call.number('streams'), 'stream')}" if form != "ht" else ""
+    return (
+        f"{form.upper()}, MCS {call.number('mcs')}, {call.number('mhz')} MHz, guard interval {guard}{streams}"
+    )
+
+
+def asked_done(call: Call) -> str:
+    """Returns what a done asks."""
+    heard = "was heard" if call.fields["heard"] else "was not heard"
+    air = f", and the exchange took {call.number('air')} us" if "air" in call.fields else ""
+    return f"Exchange {call.number('exchange')} ends: its answer {heard}{air}."
+
+
+ASKED: dict[str, Callable[[Call], str]] = {
+    "join": lambda call: (
+        f"{station_of(call).capitalize()} joins with a window of {call.number('window')}, the first number "
+        f"{call.number('start')}, the exponent {call.number('exponent')} and the weight "
+        f"{call.number('weight')}."
+    ),
+    "leave": lambda call: f"{station_of(call).capitalize()} leaves.",
+    "rate": lambda call: f"{station_of(call).capitalize()} is to be sent to at this rate: {rate_of(call)}.",
+    "tick": lambda call: f"The clock is to move on by {call.number('by')} us.",
+    "enq": lambda call: (
+        f"A frame of {call.number('length')} octets comes for {station_of(call)}, TID {call.number('tid')}, "
+        f"of flow {call.number('flow')}."
+    ),
+    "pull": lambda call: f"The driver asks for the next exchange of class {call.word('class_')}.",
+    "arrive": lambda call: (
+        f"Transmission {call.number('index')} of exchange {call.number('exchange')} reached its station."
+    ),
+    "answer": lambda call: f"The station answers exchange {call.number('exchange')}.",
+    "done": asked_done,
+    "sleep": lambda call: f"{station_of(call).capitalize()} goes to sleep.",
+    "wake": lambda call: f"{station_of(call).capitalize()} wakes.",
+    "poll": lambda call: f"{station_of(call).capitalize()} sleeps and asks for a frame.",
+    "rx": lambda call: (
+        f"{station_of(call).capitalize()} used {call.number('air')} us of class {call.word('class_')} to "
+        "send."
+    ),
+    "reap": lambda _: "The caller asks for the next finished frame.",
+}
+
+
+def refused(call: Call, reply: Reply, book: Ledger) -> str:
+    """Returns why a call was refused."""
+    number = reply.fields.get("count", reply.fields.get("deficit"))
+    text = f"Refused: {rules.rule(reply.refusal, number, book.settings)}"
+    if reply.refusal == "idle":
+        class_ = call.word("class_")
+        known = [said for one in book.stations.values() if (said := why_not_ready(one, class_, book))]
+        return f"{text} {some(known) or f'No live station holds a frame of class {class_}.'}"
+    return f"{text} Nothing has changed."
+
+
+def some(sentences: list[str]) -> str:
+    """Returns the first of these sentences, and how many more there are."""
+    more = len(sentences) - OTHERS
+    return " ".join(sentences[:OTHERS] + ([f"{more} more are not shown."] if more > 0 else []))
+
+
+def why_not_ready(station: Station, class_: str, book: Ledger) -> str:
+    """Returns what the answers show of a station that holds frames of a class and cannot be picked."""
+    held = book.held(station.number, class_)
+    if not held:
+        return ""
+    on_air = sum(
+        one.sent for one in book.exchanges_of(station.number) if one.class_ == class_ and one.start is None
+    )
+    text = f"Station {station.number} holds {count(held, 'frame')} of the class"
+    if station.is_asleep and station.credit != class_:
+        return f"{text}, but sleeps and has no credit for it."
+    return f"{text}, {on_air} of them in open exchanges."
+
+
+def said_of_accepted(_: Call, reply: Reply, book: Ledger, __: Exchange | None) -> str:
+    """Says what an enqueue was answered."""
+    text = f"It is accepted as frame {reply.number('id')} at {book.now} us."
+    if reply.fields["has_dropped"]:
+        limit = book.settings["limit"]
+        text += (
+            f" The flow queues held limit ({limit}) frames, so frame {reply.number('dropped')} was dropped: "
+            "it was the head of"
+        )
+        text += " the queue with the most octets."
+    return text
+
+
+def said_of_send(_: Call, reply: Reply, book: Ledger, exchange: Exchange | None) -> str:
+    """Says what a pull sends, and why its station was picked."""
+    assert exchange is not None
+    station = book.stations[exchange.station]
+    to = (
+        f"Exchange {exchange.number} goes to station {station.number}, TID {exchange.tid}, and takes "
+        f"{exchange.air} us of air."
+    )
+    known = (other(one, exchange.class_, book) for one in book.stations.values() if one is not station)
+    others = some([said for said in known if said])
+    return " ".join(
+        filter(None, [to, contents(exchange, book), why_picked(station, exchange.class_, book), others])
+    )
+
+
+def contents(exchange: Exchange, book: Ledger) -> str:
+    """Says what an exchange sends."""
+    if exchange.start is not None:
+        return (
+            f"It is a BlockAckReq with start {exchange.start}: a frame of the TID failed, and the receiver "
+            "does not know yet that it "
+            "will never come."
+        )
+    text = f"It is an aggregate of {count(exchange.sent, 'frame')}"
+    frames = [book.frames[id_] for id_, _ in exchange.frames]
+    again = [f"{frame.id} (transmission {frame.sent})" for frame in frames if frame.sent > 1]
+    text += f"; sent again: frame {listed(again)}." if again else ", not sent before."
+    return text + (" The station has more to be sent." if exchange.more else "")
+
+
+def why_picked(station: Station, class_: str, book: Ledger) -> str:
+    """Says with which deficit the scheduler picked a station."""
+    quantum, used, quanta = book.quantum(station), station.used.get(class_, 0), station.quanta[class_]
+    credit = "It sleeps, so this spends its credit. " if station.is_asleep else ""
+    return (
+        f"{credit}The scheduler picks the first ready station with a deficit above 0. That of station "
+        f"{station.number} was "
+        f"{book.deficit_when_picked(station, class_)} us: {quantum} at the join, less {used} charged, plus "
+        f"{count(quanta, 'quantum')} "
+        f"of {quantum}.".replace("quantums", "quanta")
+    )
+
+
+def other(station: Station, class_: str, book: Ledger) -> str:
+    """Says what the answers show of a station that was not picked."""
+    held = book.held(station.number, class_)
+    if not held:
+        return ""
+    if station.is_asleep and station.credit != class_:
+        return f"Station {station.number} sleeps and has no credit, so it was not ready."
+    left = book.quantum(station) - station.used.get(class_, 0)
+    due = book.deficit_when_picked(station, class_)
+    return (
+        f"Station {station.number} also holds {count(held, 'frame')} of the class, and "
+        f"{station.used.get(class_, 0)} us were charged "
+        f"to it" + (
+            f"; it can be picked with a deficit of {due} us." if left <= 0 else f": its deficit is {left} us."
+        )
+    )
+
+
+def said_of_done(_: Call, reply: Reply, book: Ledger, exchange: Exchange | None) -> str:
+    """Says how an exchange ended."""
+    assert exchange is not None
+    charge = f"{exchange.air} us are charged to station {exchange.station} in class {exchange.class_}."
+    if exchange.start is not None:
+        after = "The receiver now goes on from its start." if exchange.heard else "It is still due."
+        return f"It was a BlockAckReq. {after} {charge}"
+    acked, waiting, failed = (reply.number(name) for name in ("acked", "waiting", "failed"))
+    text = f"{count(acked, 'frame')} acknowledged, {waiting} to be sent again, {failed} failed. {charge}"
+    if failed:
+        text += f" A frame fails after attempts ({book.settings['attempts']}) transmissions."
+    if not exchange.heard and exchange.arrived:
+        text += (
+            f" {count(len(exchange.arrived), 'transmission')} had arrived: without the answer the sender "
+            "does not know."
+        )
+    return text
+
+
+def said_of_released(_: Call, reply: Reply, __: Ledger, exchange: Exchange | None) -> str:
+    """Says what a receiver passes up."""
+    ids = reply.fields["passed_up"]["ids"]
+    if ids:
+        return f"The receiver passes up {'frame' if len(ids) == 1 else 'frames'} {listed(map(str, ids))}."
+    assert exchange is not None
+    if exchange.start is not None:
+        return "The receiver moves on to the request's start, and has nothing to pass up."
+    return "The receiver passes nothing up: it has this number already, or an earlier number is missing."
+
+
+def said_of_ba(_: Call, __: Reply, ___: Ledger, exchange: Exchange | None) -> str:
+    """Says what a BlockAck shows."""
+    assert exchange is not None and exchange.block is not None
+    shown = [number for _, number in exchange.frames if exchange.shows(number)]
+    text = f"The BlockAck starts at {exchange.block[0]}"
+    if not exchange.frames:
+        return f"{text}."
+    return f"{text}, and shows {len(shown)} of {exchange.sent} numbers of the exchange."
+
+
+def said_of_charged(call: Call, reply: Reply, _: Ledger, __: Exchange | None) -> str:
+    """Says what a charge leaves."""
+    return f"Its deficit of class {call.word('class_')} is {reply.number('deficit')} us now."
+
+
+def said_of_reaped(_: Call, reply: Reply, book: Ledger, __: Exchange | None) -> str:
+    """Says what became of a frame."""
+    why = FATES[str(reply.fields["fate"])]
+    for name in ("limit", "attempts"):
+        why = why.replace(f"`{name}`", f"{name} ({book.settings[name]})")
+    return f"Frame {reply.number('id')} is finished: {why}."
+
+
+ANSWERED: dict[str, Callable[[Call, Reply, Ledger, Exchange | None], str]] = {
+    "join": lambda call, _, book, __: (
+        f"It is live; its deficit of each class is {book.quantum(book.stations[call.number('station')])} us."
+    ),
+    "leave": lambda _, reply, __, ___: (
+        f"It is gone. Frames that it held and that are dropped: {reply.number('count')}."
+    ),
+    "rate": lambda *_: "The rate is set.",
+    "tick": lambda _, reply, __, ___: f"It is at {reply.number('now')} us.",
+    "enq": said_of_accepted,
+    "pull": said_of_send,
+    "arrive": said_of_released,
+    "answer": said_of_ba,
+    "done": said_of_done,
+    "sleep": lambda *_: "It sleeps: a frame goes to it only after a poll.",
+    "wake": lambda *_: "It is awake.",
+    "poll": lambda _, reply, __, ___: f"It gets a credit for one frame of class {reply.fields['class_']}.",
+    "rx": said_of_charged,
+    "reap": said_of_reaped,
+}
+
+
+def said_of_summary(texts: list[str]) -> str:
+    """Says what the summary says."""
+    found = replies.read_summary(texts)
+    if "tally" not in found or "exchanges" not in found:
+        return ""
+    tally = found["tally"]
+    fates = [f"{tally[name]} {words}" for name, words in SUMMED.items() if tally[name]]
+    held = f"{found['held']} still held"
+    text = (
+        f"{count(found['calls'], 'call')}, and the clock is at {found['now']} us. "
+        f"{count(tally['accepted'], 'frame')} accepted: "
+    )
+    text += (
+        f"{listed([*fates, held])}. {count(found['exchanges'], 'exchange')}, {found['open']} of them open."
+    )
+    for share in found["shares"]:
+        text += (
+            f" Station {share['station']} was charged {share['charged']} us in class {share['class_']}, used "
+            f"{share['rx']} us to"
+        )
+        text += f" send, and has a deficit of {share['deficit']} us."
+    return text
+
+
+SUMMED = {
+    "acked": "acknowledged",
+    "overlimit": "dropped for the limit",
+    "codel": "dropped by CoDel",
+    "retries": "dropped after their last transmission",
+    "left": "dropped when their station left",
+}

@@ -1,0 +1,227 @@
+"""The facts about stations, frames and exchanges that follow from the calls and answers of a trace.
+
+Two things are not in the answers, and so not here: which frames CoDel dropped before they are reaped, and the
+order of the rotation. """
+from __future__ import annotations
+
+import collections
+import dataclasses
+
+from .calls import Call
+from .replies import Reply
+
+# The standard settings that explanations name.
+STANDARD = {
+    "stations": 16,
+    "limit": 8192,
+    "room": 65536,
+    "quantum": 300,
+    "inflight": 2,
+    "attempts": 10,
+    "sleeping": 64,
+    "calls": 1048576,
+    "charge": 0,
+}
+CLASSES = ("be", "bk", "bk", "be", "vi", "vi", "vo", "vo")
+NUMBERS = 4096
+
+
+@dataclasses.dataclass
+class Frame:
+    """An accepted frame: `sent` counts its transmissions, and `fate` is empty while it is held."""
+
+    id: int
+    station: int
+    tid: int
+    length: int
+    sent: int = 0
+    fate: str = ""
+
+
+@dataclasses.dataclass
+class Exchange:
+    """An exchange: what the pull answered, what arrived, the BlockAck, and how it ended."""
+
+    number: int
+    station: int
+    tid: int
+    air: int
+    began: int
+    frames: list[tuple[int, int]]
+    start: int | None
+    more: bool
+    again: int = 0
+    arrived: set[int] = dataclasses.field(default_factory=set)
+    block: tuple[int, int] | None = None
+    heard: bool | None = None
+
+    @property
+    def class_(self) -> str:
+        """The class of its TID."""
+        return CLASSES[self.tid]
+
+    @property
+    def sent(self) -> int:
+        """How many transmissions it has."""
+        return 1 if self.start is not None else len(self.frames)
+
+    @property
+    def lost(self) -> int:
+        """How many transmissions did not arrive."""
+        return self.sent - len(self.arrived)
+
+    def shows(self, number: int) -> bool:
+        """Returns whether the BlockAck shows this sequence number."""
+        if self.block is None:
+            return False
+        start, bits = self.block
+        return bool(bits >> ((number - start) % NUMBERS) & 1)
+
+
+@dataclasses.dataclass
+class Station:
+    """A live station: `used` is the airtime of each class that left its deficit since its join; `quanta`
+    counts those of the rotation."""
+
+    number: int
+    weight: int
+    is_asleep: bool = False
+    credit: str = ""
+    used: dict[str, int] = dataclasses.field(default_factory=dict)
+    quanta: dict[str, int] = dataclasses.field(default_factory=dict)
+
+
+class Ledger:
+    """All of it, call by call."""
+
+    def __init__(self, settings: dict[str, int]) -> None:
+        self.settings = {**STANDARD, **settings}
+        self.now = 0
+        self.stations: dict[int, Station] = {}
+        self.frames: dict[int, Frame] = {}
+        self.open: dict[int, Exchange] = {}
+        self._held: collections.Counter[tuple[int, str]] = collections.Counter()
+
+    def quantum(self, station: Station) -> int:
+        """Returns what one visit of the rotation adds to a station's deficit."""
+        return self.settings["quantum"] * station.weight
+
+    def deficit_when_picked(self, station: Station, class_: str) -> int:
+        """Returns the deficit with which the rotation picks a station.
+
+        It begins with one quantum, charges only lower it, and a quantum is added only to one that is 0 or
+        less. So it never exceeds a quantum, and the pick has the only number from 1 to a quantum that differs
+        from it by whole quanta. """
+        quantum = self.quantum(station)
+        return (-station.used.get(class_, 0) - 1) % quantum + 1
+
+    def quanta_when_picked(self, station: Station, class_: str) -> int:
+        """Returns how many quanta the rotation has added since the station's join when it picks it."""
+        quantum = self.quantum(station)
+        return (self.deficit_when_picked(station, class_) - quantum + station.used.get(class_, 0)) // quantum
+
+    def held(self, station: int, class_: str) -> int:
+        """Returns how many frames of a station and class are not finished, by the answers up to now."""
+        return self._held[station, class_]
+
+    def _finish(self, frame: Frame, fate: str) -> None:
+        """Notes the fate of a frame."""
+        if not frame.fate:
+            self._held[frame.station, CLASSES[frame.tid]] -= 1
+        frame.fate = fate
+
+    def exchanges_of(self, station: int) -> list[Exchange]:
+        """Returns a station's open exchanges."""
+        return [one for one in self.open.values() if one.station == station]
+
+    def take(self, call: Call, reply: Reply) -> Exchange | None:
+        """Notes a call and its answer. Returns the exchange that the call began or ended, or that it
+        concerns."""
+        if reply.refusal:
+            return None
+        noter = getattr(self, f"_{call.kind}", None)
+        found: Exchange | None = noter(call, reply) if noter else None
+        return found
+
+    def _join(self, call: Call, _: Reply) -> None:
+        number = call.number("station")
+        self.stations[number] = Station(number, call.number("weight"))
+
+    def _leave(self, call: Call, _: Reply) -> None:
+        number = call.number("station")
+        del self.stations[number]
+        for frame in self.frames.values():
+            if frame.station == number and not frame.fate:
+                self._finish(frame, "left")
+
+    def _tick(self, _: Call, reply: Reply) -> None:
+        self.now = reply.number("now")
+
+    def _enq(self, call: Call, reply: Reply) -> None:
+        number = reply.number("id")
+        frame = Frame(number, call.number("station"), call.number("tid"), call.number("length"))
+        self.frames[number] = frame
+        self._held[frame.station, CLASSES[frame.tid]] += 1
+        if reply.fields["has_dropped"]:
+            self._finish(self.frames[reply.number("dropped")], "overlimit")
+
+    def _pull(self, _: Call, reply: Reply) -> Exchange:
+        start = reply.number("start") if reply.fields["request"] else None
+        numbers = (
+            reply.number("exchange"), reply.number("station"), reply.number("tid"), reply.number("air")
+        )
+        exchange = Exchange(*numbers, self.now, reply.frames, start, bool(reply.fields["more"]))
+        for id_, _number in exchange.frames:
+            exchange.again += self.frames[id_].sent > 0
+            self.frames[id_].sent += 1
+        self.open[exchange.number] = exchange
+        station = self.stations[exchange.station]
+        station.quanta[exchange.class_] = self.quanta_when_picked(station, exchange.class_)
+        if station.is_asleep:
+            station.credit = ""
+        return exchange
+
+    def _arrive(self, call: Call, _: Reply) -> Exchange:
+        exchange = self.open[call.number("exchange")]
+        exchange.arrived.add(call.number("index"))
+        return exchange
+
+    def _answer(self, call: Call, reply: Reply) -> Exchange:
+        exchange, block = self.open[call.number("exchange")], reply.fields["block"]
+        exchange.block = block["start"], int("".join(block["bits"][::-1]), 16)
+        return exchange
+
+    def _done(self, call: Call, _: Reply) -> Exchange:
+        exchange = self.open.pop(call.number("exchange"))
+        exchange.heard = bool(call.fields["heard"])
+        exchange.air = call.number("air") or exchange.air
+        self._charge(exchange.station, exchange.class_, exchange.air)
+        for id_, number in exchange.frames:
+            self._settle(self.frames[id_], exchange.heard and exchange.shows(number))
+        return exchange
+
+    def _settle(self, frame: Frame, is_shown: bool) -> None:
+        if is_shown:
+            self._finish(frame, "acked")
+        elif frame.sent >= self.settings["attempts"]:
+            self._finish(frame, "retries")
+
+    def _charge(self, station: int, class_: str, air: int) -> None:
+        used = self.stations[station].used
+        used[class_] = used.get(class_, 0) + air
+
+    def _sleep(self, call: Call, _: Reply) -> None:
+        self.stations[call.number("station")].is_asleep = True
+
+    def _wake(self, call: Call, _: Reply) -> None:
+        station = self.stations[call.number("station")]
+        station.is_asleep, station.credit = False, ""
+
+    def _poll(self, call: Call, reply: Reply) -> None:
+        self.stations[call.number("station")].credit = str(reply.fields["class_"])
+
+    def _rx(self, call: Call, _: Reply) -> None:
+        self._charge(call.number("station"), call.word("class_"), call.number("air"))
+
+    def _reap(self, _: Call, reply: Reply) -> None:
+        self._finish(self.frames.pop(reply.number("id")), str(reply.fields["fate"]))
